@@ -1,0 +1,45 @@
+# The project's commands. Everything is proved, built and run by `rt`, the command of the Rattle kit.
+PREFIX ?= /usr/local
+
+# The first line of a scan: a page of one gray sample, 200, at 26 dots per inch.
+DEMO_INPUT := flatbed 0 26 hex:50350a3220310a3235350a0ac8
+DEMO_WORDS := --config - --resolution 26 --br-x 1 --br-y 1
+
+.PHONY: demo build test failing-allocations peer-check install need-rt
+
+# One scan from source, before any proof.
+demo: need-rt
+	@echo 'This run is not proved yet: rt try interprets the source as it is. make build proves it first.'
+	@echo 'command: scanimage $(DEMO_WORDS)'
+	@echo 'input:   $(DEMO_INPUT)'
+	@echo 'output, byte by byte:'
+	@cd crates/scanimage && echo '$(DEMO_INPUT)' | rt try -- $(DEMO_WORDS) 2>../../demo.log >../../demo.pgm || { cat ../../demo.log >&2; exit 1; }
+	@od -A d -t x1z demo.pgm
+	@rm -f demo.log demo.pgm
+
+# Proves every crate that scanimage stands on, and builds it: crates/scanimage/out/scanimage.
+build: need-rt
+	cd crates/scanimage && rt run -- $(DEMO_WORDS) < stdin > /dev/null
+
+# The gate: every proof from nothing, the must-fail edits, the tests, the stored runs, and what stands beside it.
+test: need-rt
+	rt ci
+	[ -x crates/scanimage/out/scanimage ] || $(MAKE) build
+	tests/run-scanimage
+
+# Runs the scan with each allocation refused in turn. It takes some minutes, so the gate leaves it out.
+failing-allocations: need-rt
+	tests/failing-allocations
+
+# Compares the files of the tests with what netpbm's programs read in them, where netpbm is installed. The gate leaves
+# it out.
+peer-check:
+	tests/peer-check
+
+# Puts the proved program at $(PREFIX)/bin/scanimage.
+install: build
+	install -d $(PREFIX)/bin
+	install -m 755 crates/scanimage/out/scanimage $(PREFIX)/bin/scanimage
+
+need-rt:
+	@command -v rt > /dev/null || { echo 'jufteard: the command rt of the Rattle kit is not on the PATH' >&2; exit 1; }

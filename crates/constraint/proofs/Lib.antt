@@ -1,0 +1,4 @@
+pub mod RangeLaws
+pub mod ListLaws
+pub mod EntryLaws
+pub mod PlaceLaws

@@ -1,0 +1,4 @@
+pub mod Admitted
+pub mod Nearest
+pub mod NearestComputed
+pub mod Beginning

@@ -1,0 +1,5 @@
+pub mod Reasons
+pub mod UserLines
+pub mod Allowed
+pub mod ChallengeReading
+pub mod Challenges

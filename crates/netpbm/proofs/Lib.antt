@@ -1,0 +1,3 @@
+pub mod HeaderLaws
+pub mod PnmLaws
+pub mod WritingLaws

@@ -1,0 +1,62 @@
+ghost use Rattle.std.specs.Prelude.{◌≡◌, ◌≤◌, ◌<◌, ◌*◌, ◌^◌, length, MatchBool};
+ghost use Rattle.netpbm.specs.Pnm.{number_in, sample_bytes};
+ghost use Rattle.netpbm.specs.Raster.{SomeAbove, NoneAbove, sample_count, raster_size};
+
+use crate::format::{Format, Header};
+
+/// The number at place `i` of a raster of `count` numbers up to `maxval`: a byte, or two, the more
+/// significant first.
+pub fn number_at(maxval: u32, raster: &[u8], i: usize, count: usize) -> u32
+    requires size { length raster.now ≡ count * sample_bytes maxval }
+    requires inside { i < count }
+    ensures value { result ≡ number_in maxval raster.now i }
+    ensures limit { result < 2 ^ 16 }
+{
+    if maxval < 256 {
+        u32::from(raster[i])
+    } else {
+        256 * u32::from(raster[2 * i]) + u32::from(raster[2 * i + 1])
+    }
+}
+
+/// Whether no number of the raster is above the greatest.
+pub fn none_above(maxval: u32, raster: &[u8], count: usize) -> bool
+    requires { length raster.now ≡ count * sample_bytes maxval }
+    ensures { MatchBool result (NoneAbove maxval raster.now count) (SomeAbove maxval raster.now count) }
+{
+    for i in 0..count {
+        if number_at(maxval, raster, i, count) > maxval {
+            return false;
+        }
+    }
+    true
+}
+
+/// How many samples a header of grays or colors tells of.
+pub fn sample_count(header: &Header) -> usize
+    requires width { header.now.width ≤ 65536 }
+    requires height { header.now.height ≤ 65536 }
+    ensures { result ≡ sample_count header.now }
+{
+    let places = header.width as usize * header.height as usize;
+    match header.format {
+        Format::Pbm | Format::Pgm => places,
+        Format::Ppm => places * 3,
+    }
+}
+
+/// How many bytes the raster has after a header.
+pub fn raster_size(header: &Header) -> usize
+    requires width { header.now.width ≤ 65536 }
+    requires height { header.now.height ≤ 65536 }
+    ensures { result ≡ raster_size header.now }
+{
+    let width = header.width as usize;
+    let height = header.height as usize;
+    let bytes = if header.maxval < 256 { 1 } else { 2 };
+    match header.format {
+        Format::Pbm => width.div_ceil(8) * height,
+        Format::Pgm => width * height * bytes,
+        Format::Ppm => width * height * 3 * bytes,
+    }
+}

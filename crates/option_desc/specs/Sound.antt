@@ -1,0 +1,12 @@
+-- What every constraint keeps.
+use Rattle.std.specs.Prelude.{ℕ, length}
+use Rattle.constraint.specs.Admitted.{IsRange, HasRoom}
+use Rattle.option_desc.specs.declared.descriptor.Constraint.{Constraint}
+use Rattle.option_desc.specs.declared.descriptor.Constraint.TheVariants.{Free, Span, Words, Strings}
+
+-- a range goes up from min to max, and a list has 1 to 1,023 entries
+abbrev pub IsSound : Constraint → Type 0
+IsSound Free = Unit {0}
+IsSound (Span range) = IsRange range
+IsSound (Words words) = HasRoom (length words)
+IsSound (Strings texts) = HasRoom (length texts)

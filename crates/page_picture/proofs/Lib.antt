@@ -1,0 +1,5 @@
+pub mod MeaningLemmas
+pub mod PageLemmas
+pub mod ScanLemmas
+pub mod RowLemmas
+pub mod ShownLemmas

@@ -1,0 +1,152 @@
+-- Rows of a raster: reading them one by one agrees with the whole raster.
+use Rattle.std.proofs.Common.{◌≡◌, ℕ, ◌+◌, ◌-◌, ◌*◌, ◌<◌, ◌≤◌, ◌⊎◌, inl, inr, List, ◌++◌, arith, length, take, drop, slice_range, get_or, sym, ap, ◌∙◌, subst, refl, drop_at, length-take-le, length-append, Bool, true, false, cond, suc}
+use Rattle.std.specs.Prelude.{slice_index, nat_lt, ◌&&◌, MatchBool}
+use Rattle.std.proofs.Math.Seq.{take-add, take-append-le, drop-append_seam}
+use Rattle.std.proofs.lemmas.List.{drop-drop, length-drop, get_or-drop, get_or_append_left}
+use Rattle.std.proofs.Math.Nat.{mul-le-mul_right}
+use Rattle.std.proofs.lemmas.Bool.Decides.{nat_tests}
+use borrow.Rule.Slice.PartMut.{put_mid, post_of}
+use Rattle.std.specs.Prelude.{Some}
+use Rattle.netpbm.specs.declared.format.Format.{Format}
+use Rattle.netpbm.specs.declared.format.Format.TheVariants.{Pbm, Pgm, Ppm}
+use Rattle.netpbm.specs.declared.format.Header.{Header}
+use Rattle.netpbm.specs.Pnm.{number_in, sample_bytes, raster_length, channels_of}
+use Rattle.netpbm.specs.Raster.{NoneAbove, SomeAbove, raster_size, sample_count}
+use Rattle.page_picture.specs.PageFile.{IsPageFormat}
+use Rattle.page_picture.specs.PageRows.{row_size, row_count, ReadsRaster}
+
+-- ---- a piece that was read into a buffer
+
+pub take_split : (a b : ℕ) (old new : List ℕ) → a ≤ b → take a new ≡ take a old → take a old ++ slice_range new a b ≡ take b new
+take_split a b old new h front =
+    let same : a + (b - a) ≡ b = omega arith in
+    ap (λ l. l ++ slice_range new a b) (sym front) ∙ sym (take-add a (b - a) new) ∙ ap (λ n. take n new) same
+
+pub slice_range-put_mid : (a k n : ℕ) (xs ys : List ℕ) → a ≤ length xs → n ≤ length ys → slice_range (put_mid a k xs ys) a (a + n) ≡ take n ys
+slice_range-put_mid a k n xs ys within fits =
+    let same : (a + n) - a ≡ n = omega arith in
+    let after = post_of a k xs in
+    ap (take ((a + n) - a)) (drop_at (take a xs) (ys ++ after) a (length-take-le a xs within)) ∙ ap (λ m. take m (ys ++ after)) same ∙ take-append-le n ys after fits
+
+-- ---- one row on
+
+pub drop-row : (at size : ℕ) (raster bytes more : List ℕ) → drop at raster ≡ bytes ++ more → length bytes ≡ size → drop (at + size) raster ≡ more
+drop-row at size raster bytes more e h =
+    sym (drop-drop size at raster) ∙ ap (drop size) e ∙ ap (λ n. drop n (bytes ++ more)) (sym h) ∙ drop-append_seam bytes more
+
+-- a byte of the row stands in the raster at the row's place
+row_byte : (at : ℕ) (raster bytes more : List ℕ) (j : ℕ) → drop at raster ≡ bytes ++ more → j < length bytes → slice_index raster (at + j) ≡ slice_index bytes j
+row_byte at raster bytes more j e h =
+    sym (get_or-drop at raster j 0) ∙ ap (λ l. get_or l j 0) e ∙ get_or_append_left bytes more 0 j h
+
+pub number_in_row : (m y n at i : ℕ) (raster bytes more : List ℕ) → drop at raster ≡ bytes ++ more → at ≡ y * (n * sample_bytes m) → length bytes ≡ n * sample_bytes m → i < n → number_in m raster (y * n + i) ≡ number_in m bytes i
+number_in_row m y n at i raster bytes more e place size inside =
+    let P : Bool → Type 0 = λ t. at ≡ y * (n * cond t 1 2) → length bytes ≡ n * cond t 1 2 →
+    cond t (slice_index raster (y * n + i)) (256 * slice_index raster (2 * (y * n + i)) + slice_index raster (2 * (y * n + i) + 1))
+    ≡ cond t (slice_index bytes i) (256 * slice_index bytes (2 * i) + slice_index bytes (2 * i + 1)) in
+    elim (nat_lt m 256) as P [
+      | true ↦ λ one count.
+          let same : y * n + i ≡ at + i = omega arith in
+          ap (slice_index raster) same ∙ row_byte at raster bytes more i e (omega arith)
+      | false ↦ λ two count.
+          let high : 2 * (y * n + i) ≡ at + 2 * i = omega arith in
+          let low : 2 * (y * n + i) + 1 ≡ at + (2 * i + 1) = omega arith in
+          ap (λ v. 256 * v + slice_index raster (2 * (y * n + i) + 1)) (ap (slice_index raster) high ∙ row_byte at raster bytes more (2 * i) e (omega arith))
+          ∙ ap (λ v. 256 * slice_index bytes (2 * i) + v) (ap (slice_index raster) low ∙ row_byte at raster bytes more (2 * i + 1) e (omega arith))
+    ] place size
+
+lt_or_ge : (a b : ℕ) → (a < b) ⊎ (b ≤ a)
+lt_or_ge a b =
+    let P : Bool → Type 0 = λ t. nat_lt a b ≡ t → (a < b) ⊎ (b ≤ a) in
+    elim (nat_lt a b) as P [ true ↦ λ e. inl (grind (arith, nat_tests)) | false ↦ λ e. inr (grind (arith, nat_tests)) ] refl
+
+pub none_more : (m y n at : ℕ) (raster bytes more : List ℕ) → drop at raster ≡ bytes ++ more → at ≡ y * (n * sample_bytes m) → length bytes ≡ n * sample_bytes m → NoneAbove m raster (y * n) → NoneAbove m bytes n → NoneAbove m raster ((y + 1) * n)
+none_more m y n at raster bytes more e place size before here = λ i h.
+    elim (lt_or_ge i (y * n)) as (λ _. number_in m raster i ≤ m) [
+      | inl low ↦ before i low
+      | inr high ↦
+          let same : y * n + (i - y * n) ≡ i = omega arith in
+          let inside : i - y * n < n = omega arith in
+          subst (λ j. number_in m raster j ≤ m) same (rw (number_in_row m y n at (i - y * n) raster bytes more e place size inside) (here (i - y * n) inside))
+    ]
+
+pub some_before : (m y n : ℕ) (raster : List ℕ) → SomeAbove m raster (y * n) → SomeAbove m raster ((y + 1) * n)
+some_before m y n raster (i, inside, above) = (i, omega arith, above)
+
+pub some_here : (m y n at : ℕ) (raster bytes more : List ℕ) → drop at raster ≡ bytes ++ more → at ≡ y * (n * sample_bytes m) → length bytes ≡ n * sample_bytes m → SomeAbove m bytes n → SomeAbove m raster ((y + 1) * n)
+some_here m y n at raster bytes more e place size (i, inside, above) =
+    (y * n + i, omega arith, rw (number_in_row m y n at i raster bytes more e place size inside) above)
+
+-- ---- the whole raster
+
+pub row_size-count : (h : Header) → IsPageFormat (Some h.format) → row_size h ≡ row_count h * sample_bytes h.maxval
+row_size-count h is = by_format h.format h.width h.maxval is
+  where
+    by_format : (f : Format) (w m : ℕ) → IsPageFormat (Some f) → raster_length f w 1 m ≡ w * 1 * channels_of f * sample_bytes m
+    by_format Pbm w m is = absurd is
+    by_format Pgm w m is = omega arith
+    by_format Ppm w m is = refl
+
+pub raster_size-rows : (h : Header) → IsPageFormat (Some h.format) → raster_size h ≡ h.height * row_size h
+raster_size-rows h is = by_format h.format h.width h.height h.maxval is
+  where
+    by_format : (f : Format) (w y m : ℕ) → IsPageFormat (Some f) → raster_length f w y m ≡ y * raster_length f w 1 m
+    by_format Pbm w y m is = absurd is
+    by_format Pgm w y m is = omega arith
+    by_format Ppm w y m is = omega arith
+
+pub sample_count-rows : (h : Header) → sample_count h ≡ h.height * row_count h
+sample_count-rows h = omega arith
+
+-- y rows of the raster were read, and the others are left
+pub record RowsRead (h : Header) (raster left : List ℕ) (y : ℕ) : Type 0 where
+  pub page : IsPageFormat (Some h.format)
+  pub left_is : left ≡ drop (y * row_size h) raster
+  pub within : y * row_size h ≤ length raster
+
+rows_left : (h : Header) (raster left : List ℕ) (y : ℕ) → RowsRead h raster left y → length left + y * row_size h ≡ length raster
+rows_left h raster left y r = let size = length-drop (y * row_size h) raster in let same = ap length r.left_is in let low = r.within in omega arith
+
+pub rows_short : (h : Header) (raster left : List ℕ) (y : ℕ) → RowsRead h raster left y → y < h.height → length left < row_size h → length raster < raster_size h
+rows_short h raster left y r less short =
+    let up : suc y * row_size h ≤ h.height * row_size h = mul-le-mul_right (row_size h) less in
+    omega (arith, rows_left h raster left y r, raster_size-rows h r.page)
+
+pub rows_next : (h : Header) (raster left bytes more : List ℕ) (y : ℕ) → RowsRead h raster left y → left ≡ bytes ++ more → length bytes ≡ row_size h → RowsRead h raster more (y + 1)
+rows_next h raster left bytes more y r e size =
+    let place : y * row_size h + row_size h ≡ (y + 1) * row_size h = omega arith in
+    record {
+      page = r.page;
+      left_is = sym (drop-row (y * row_size h) (row_size h) raster bytes more (sym r.left_is ∙ e) size) ∙ ap (λ k. drop k raster) place;
+      within = let all = rows_left h raster left y r in let both = ap length e ∙ length-append bytes more in omega arith;
+    }
+
+row_place : (h : Header) (y : ℕ) → IsPageFormat (Some h.format) → y * row_size h ≡ y * (row_count h * sample_bytes h.maxval)
+row_place h y is = ap (λ k. y * k) (row_size-count h is)
+
+pub none_step : (h : Header) (raster left bytes more : List ℕ) (y : ℕ) (fit fits : Bool) → RowsRead h raster left y → left ≡ bytes ++ more → length bytes ≡ row_size h → (fit ≡ true → NoneAbove h.maxval raster (y * row_count h)) → MatchBool fits (NoneAbove h.maxval bytes (row_count h)) (SomeAbove h.maxval bytes (row_count h)) → (fit && fits) ≡ true → NoneAbove h.maxval raster ((y + 1) * row_count h)
+none_step h raster left bytes more y true true r e size before here both =
+    none_more h.maxval y (row_count h) (y * row_size h) raster bytes more (sym r.left_is ∙ e) (row_place h y r.page) (size ∙ row_size-count h r.page) (before refl) here
+none_step h raster left bytes more y true false r e size before here both = cc both
+none_step h raster left bytes more y false fits r e size before here both = cc both
+
+pub some_step : (h : Header) (raster left bytes more : List ℕ) (y : ℕ) (fit fits : Bool) → RowsRead h raster left y → left ≡ bytes ++ more → length bytes ≡ row_size h → (fit ≡ false → SomeAbove h.maxval raster (y * row_count h)) → MatchBool fits (NoneAbove h.maxval bytes (row_count h)) (SomeAbove h.maxval bytes (row_count h)) → (fit && fits) ≡ false → SomeAbove h.maxval raster ((y + 1) * row_count h)
+some_step h raster left bytes more y true true r e size before here both = cc both
+some_step h raster left bytes more y true false r e size before here both =
+    some_here h.maxval y (row_count h) (y * row_size h) raster bytes more (sym r.left_is ∙ e) (row_place h y r.page) (size ∙ row_size-count h r.page) here
+some_step h raster left bytes more y false fits r e size before here both = some_before h.maxval y (row_count h) raster (before refl)
+
+pub rows_all : (h : Header) (raster left : List ℕ) (y : ℕ) → RowsRead h raster left y → y ≡ h.height → ReadsRaster h raster left
+rows_all h raster left y r all =
+    let size : y * row_size h ≡ raster_size h = ap (λ k. k * row_size h) all ∙ sym (raster_size-rows h r.page) in
+    let within = r.within in
+    record { size = omega arith; left_is = r.left_is ∙ ap (λ k. drop k raster) size }
+
+pub rows_fit : (h : Header) (raster : List ℕ) (y : ℕ) (fit : Bool) → y ≡ h.height → (fit ≡ true → NoneAbove h.maxval raster (y * row_count h)) → (fit ≡ false → SomeAbove h.maxval raster (y * row_count h)) → MatchBool fit (NoneAbove h.maxval raster (sample_count h)) (SomeAbove h.maxval raster (sample_count h))
+rows_fit h raster y fit all none some =
+    let count : y * row_count h ≡ sample_count h = ap (λ k. k * row_count h) all ∙ sym (sample_count-rows h) in
+    by_fit fit none some count
+  where
+    by_fit : (fit : Bool) → (fit ≡ true → NoneAbove h.maxval raster (y * row_count h)) → (fit ≡ false → SomeAbove h.maxval raster (y * row_count h)) → y * row_count h ≡ sample_count h → MatchBool fit (NoneAbove h.maxval raster (sample_count h)) (SomeAbove h.maxval raster (sample_count h))
+    by_fit true none some count = subst (NoneAbove h.maxval raster) count (none refl)
+    by_fit false none some count = subst (SomeAbove h.maxval raster) count (some refl)

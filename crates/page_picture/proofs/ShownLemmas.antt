@@ -1,0 +1,126 @@
+-- The page that is shown row by row is the page of the whole file.
+use Rattle.std.proofs.Common.{◌≡◌, ℕ, ◌+◌, ◌*◌, ◌/◌, ◌<◌, List, [], ◌∷◌, ◌++◌, arith, length, take, drop, refl, sym, ap, ◌∙◌, subst}
+use Rattle.std.specs.Prelude.{slice_index, Some}
+use Rattle.std.proofs.Math.Seq.{take-append_seam}
+use Rattle.std.proofs.lemmas.Nat.{div-mul-add, mul-add-lt}
+use Rattle.netpbm.specs.declared.format.Format.{Format}
+use Rattle.netpbm.specs.declared.format.Format.TheVariants.{Pbm, Pgm, Ppm}
+use Rattle.netpbm.specs.declared.format.Header.{Header}
+use Rattle.netpbm.specs.Pnm.{number_in, channels_of}
+use Rattle.netpbm.specs.FileText.{joined}
+use Rattle.netpbm.proofs.WritingLaws.{length-joined, joined_at}
+use Rattle.page_picture.specs.declared.page_file.PageFault.TheVariants.{BadMagic, BadHeader, SampleTooLarge, Short, Trailing, BadDpi, NoMem}
+use Rattle.page_picture.specs.declared.sources.open_fault.OpenFault.{OpenFault}
+use Rattle.page_picture.specs.declared.sources.open_fault.OpenFault.TheVariants.{Page, Device}
+use Rattle.page_picture.specs.Page.{IsShaped, IsRow}
+use Rattle.page_picture.specs.PageFile.{BeginsPage, IsDpi, IsPageFormat, TellsPage}
+use Rattle.page_picture.specs.PageReading.{ArePageSamples, page_number, source}
+use Rattle.page_picture.specs.PageRows.{IsPageHeader, IsRaster, ShowsRow, page_shown, samples_shown, row_count, row_size}
+use Rattle.page_picture.specs.Opening.{HasHeaderFault, HasOpenFault, HasOpenFaultAfter}
+use Rattle.page_picture.proofs.PageLemmas.{tells_page}
+use Rattle.page_picture.proofs.RowLemmas.{drop-row, number_in_row, row_size-count}
+
+numbers_length : (f : ℕ → ℕ) (n : ℕ) → length (joined (λ j. f j ∷ []) n) ≡ n
+numbers_length f n = let all = length-joined (λ j. f j ∷ []) 1 n (λ i. refl) in omega arith
+
+numbers_at : (f : ℕ → ℕ) (n i : ℕ) → i < n → slice_index (joined (λ j. f j ∷ []) n) i ≡ f i
+numbers_at f n i h =
+    let place : i ≡ i * 1 + 0 = omega arith in
+    ap (slice_index (joined (λ j. f j ∷ []) n)) place ∙ joined_at (λ j. f j ∷ []) 1 n i 0 (λ i. refl) h (omega arith)
+
+pub shown_shaped : (h : Header) (dpi : ℕ) (raster : List ℕ) → IsPageHeader h → IsDpi dpi → IsShaped (page_shown h dpi raster)
+unfolding samples_shown
+shown_shaped h dpi raster page dots = record {
+  width_some = page.width_some;
+  width_most = page.width_most;
+  height_some = page.height_some;
+  height_most = page.height_most;
+  dpi_some = dots.0;
+  dpi_most = dots.1;
+  size = numbers_length (page_number h raster) (h.width * h.height * 3);
+}
+
+pub shown_tells : (text raster : List ℕ) (h : Header) (dpi : ℕ) → BeginsPage text h raster → IsRaster h raster → TellsPage text dpi (page_shown h dpi raster)
+unfolding samples_shown
+shown_tells text raster h dpi begins is =
+    let are : ArePageSamples h raster (joined (λ j. page_number h raster j ∷ []) (h.width * h.height * 3)) = record {
+      size = numbers_length (page_number h raster) (h.width * h.height * 3);
+      each = numbers_at (page_number h raster) (h.width * h.height * 3);
+    } in
+    tells_page text h raster dpi (joined (λ j. page_number h raster j ∷ []) (h.width * h.height * 3)) begins is.size is.none_above are
+
+-- ---- a row
+
+source_row : (f : Format) (w x y k : ℕ) → IsPageFormat (Some f) → k < 3 → source f ((y * w + x) * 3 + k) ≡ y * (w * 1 * channels_of f) + source f (3 * x + k)
+source_row Pbm w x y k is h = absurd is
+source_row Pgm w x y k is h =
+    let place : 3 * x + k ≡ x * 3 + k = omega arith in
+    let at : source Pgm (3 * x + k) ≡ x = ap (λ n. n / 3) place ∙ div-mul-add x 3 k h in
+    let far : source Pgm ((y * w + x) * 3 + k) ≡ y * w + x = div-mul-add (y * w + x) 3 k h in
+    omega arith
+source_row Ppm w x y k is h = omega arith
+
+source_inside : (f : Format) (w x k : ℕ) → IsPageFormat (Some f) → x < w → k < 3 → source f (3 * x + k) < w * 1 * channels_of f
+source_inside Pbm w x k is a h = absurd is
+source_inside Pgm w x k is a h =
+    let place : 3 * x + k ≡ x * 3 + k = omega arith in
+    let at : source Pgm (3 * x + k) ≡ x = ap (λ n. n / 3) place ∙ div-mul-add x 3 k h in
+    omega arith
+source_inside Ppm w x k is a h = omega arith
+
+pub shown_row : (h : Header) (dpi y : ℕ) (raster bytes more row : List ℕ) → IsPageHeader h → y < h.height → drop (y * row_size h) raster ≡ bytes ++ more → length bytes ≡ row_size h → ShowsRow h bytes row → IsRow (page_shown h dpi raster) y row
+unfolding samples_shown
+shown_row h dpi y raster bytes more row page less e size shows = record {
+  each = λ x k column channel.
+      let j = 3 * x + k in
+      let far = (y * h.width + x) * 3 + k in
+      let inside : far < h.width * h.height * 3 = let place = mul-add-lt y h.width x h.height less column in omega arith in
+      let count = row_size-count h page.format in
+      let number : number_in h.maxval raster (source h.format far) ≡ number_in h.maxval bytes (source h.format j) =
+      ap (number_in h.maxval raster) (source_row h.format h.width x y k page.format channel)
+      ∙ number_in_row h.maxval y (row_count h) (y * row_size h) (source h.format j) raster bytes more e (ap (λ n. y * n) count) (size ∙ count) (source_inside h.format h.width x k page.format column channel) in
+      shows.each j (omega arith) ∙ ap (λ n. n * 65535 / h.maxval) (sym number) ∙ sym (numbers_at (page_number h raster) (h.width * h.height * 3) far inside);
+}
+
+-- the next row begins where the one before ended
+pub rest_after_row : (given size : ℕ) (raster bytes more : List ℕ) → drop (given * size) raster ≡ bytes ++ more → length bytes ≡ size → more ≡ drop ((given + 1) * size) raster
+rest_after_row given size raster bytes more e h =
+    let place : given * size + size ≡ (given + 1) * size = omega arith in
+    sym (drop-row (given * size) size raster bytes more e h) ∙ ap (λ n. drop n raster) place
+
+-- a buffer that was filled in a vector of that length
+pub put_back : (n : ℕ) (xs new : List ℕ) → length xs ≡ n → length new ≡ length xs → take n (new ++ drop (length new) xs) ≡ new
+put_back n xs new size same =
+    let all : n ≡ length new = omega arith in
+    ap (λ k. take k (new ++ drop (length new) xs)) all ∙ take-append_seam new (drop (length new) xs)
+
+-- ---- faults
+
+pub header_fault : (fault : OpenFault) (text : List ℕ) (dpi : ℕ) → IsDpi dpi → HasHeaderFault fault text → HasOpenFault fault text dpi
+header_fault (Page BadMagic) text dpi dots h = (dots, h)
+header_fault (Page BadHeader) text dpi dots h = (dots, h.0, h.1)
+header_fault (Page BadDpi) text dpi dots h = absurd h
+header_fault (Page Short) text dpi dots h = absurd h
+header_fault (Page Trailing) text dpi dots h = absurd h
+header_fault (Page SampleTooLarge) text dpi dots h = absurd h
+header_fault (Page NoMem) text dpi dots h = tt
+header_fault Device text dpi dots h = tt
+
+pub raster_fault : (fault : OpenFault) (text raster : List ℕ) (h : Header) (dpi : ℕ) → IsDpi dpi → BeginsPage text h raster → HasOpenFaultAfter fault h raster → HasOpenFault fault text dpi
+raster_fault (Page Short) text raster h dpi dots begins has = (dots, (h, raster, begins, has))
+raster_fault (Page Trailing) text raster h dpi dots begins has = (dots, (h, raster, begins, has))
+raster_fault (Page SampleTooLarge) text raster h dpi dots begins has = (dots, (h, raster, begins, has.0, has.1))
+raster_fault (Page NoMem) text raster h dpi dots begins has = tt
+raster_fault (Page BadDpi) text raster h dpi dots begins has = absurd has
+raster_fault (Page BadMagic) text raster h dpi dots begins has = absurd has
+raster_fault (Page BadHeader) text raster h dpi dots begins has = absurd has
+raster_fault Device text raster h dpi dots begins has = tt
+
+-- ---- a page that was opened
+
+pub opened : (text after rest : List ℕ) (h : Header) (dpi at : ℕ) → BeginsPage text h rest → drop at after ≡ rest → IsRaster h (drop at after) → TellsPage text dpi (page_shown h dpi (drop at after))
+opened text after rest h dpi at begins same is =
+    shown_tells text (drop at after) h dpi (subst (BeginsPage text h) (sym same) begins) is
+
+pub from_first : (size : ℕ) (left raster : List ℕ) → left ≡ raster → left ≡ drop (0 * size) raster
+from_first size left raster e = let none : 0 ≡ 0 * size = omega arith in e ∙ ap (λ n. drop n raster) none

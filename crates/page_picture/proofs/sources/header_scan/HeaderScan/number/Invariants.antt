@@ -1,0 +1,10 @@
+use Rattle.std.proofs.Common.{◌≡◌, ◌<◌, ◌^◌, true}
+use Rattle.page_picture.specs.HeaderScan.{rest_of, from_hand, more_digits}
+use Rattle.page_picture.proofs.sources.header_scan.HeaderScan.number.Given as goal
+
+abbrev pub invariant-loop-count : goal.invariant-loop-count
+invariant-loop-count g l = record {
+  same : l.self ≡ record l.fn.self { at = l.self.at };
+  small : l.value < 10 ^ l.count;
+  digits : l.fn.self.kept ≡ true → more_digits l.count l.value (from_hand l.hand (rest_of l.self)) ≡ more_digits 0 0 (from_hand l.fn.hand (rest_of l.fn.self));
+}

@@ -1,0 +1,21 @@
+use Rattle.std.proofs.Common.{rules, arith, drop}
+use Rattle.page_picture.specs.PageRows.{row_size}
+use Rattle.page_picture.specs.HeaderScan.{rest_of}
+use Rattle.page_picture.proofs.ShownLemmas.{header_fault, opened, from_first}
+use Rattle.page_picture.proofs.sources.pnm_page.PnmPage.open.Goals as goal
+
+pub returns-in-Err-page_header-clause-fault : goal.returns-in-Err-page_header-clause-fault
+returns-in-Err-page_header-clause-fault g c = λ kept. header_fault c.in-Err-page_header.fault (g.R.Rereadable.text c.args.reader) c.args.dpi (search rules) (search rules)
+
+pub invariant_of-result : goal.invariant_of-result
+invariant_of-result g c = (
+  search rules,
+  (omega arith, omega arith),
+  omega arith,
+  search rules,
+  λ kept found. from_first (row_size c.in-Ok-page_header.header) (g.R.Rereadable.left c.check_file.new.reader) (drop c.end-reader.result.1 (g.R.Rereadable.text c.check_file.new.reader)) (search rules),
+)
+
+pub returns-in-Ok-check_file-clause-found : goal.returns-in-Ok-check_file-clause-found
+returns-in-Ok-check_file-clause-found g c = λ kept.
+    opened (g.R.Rereadable.text c.args.reader) (g.R.Rereadable.text c.check_file.new.reader) (rest_of c.page_header.new.self) c.in-Ok-page_header.header c.args.dpi c.end-reader.result.1 (search rules) (search rules) (search rules)

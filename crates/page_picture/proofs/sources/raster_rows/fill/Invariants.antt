@@ -1,0 +1,11 @@
+use Rattle.std.proofs.Common.{◌≡◌, ◌≤◌, ◌++◌, length, take, true}
+use Rattle.page_picture.proofs.sources.raster_rows.fill.Given as goal
+
+abbrev pub invariant-loop-made : goal.invariant-loop-made
+invariant-loop-made g l = record {
+  size : length l.bytes ≡ length l.fn.bytes;
+  within : l.at ≤ length l.bytes;
+  kept : g.R.Rereadable.is_kept l.reader ≡ g.R.Rereadable.is_kept l.fn.reader;
+  text : g.R.Rereadable.text l.reader ≡ g.R.Rereadable.text l.fn.reader;
+  consumed : g.R.Rereadable.is_kept l.fn.reader ≡ true → g.R.Rereadable.left l.fn.reader ≡ take l.at l.bytes ++ g.R.Rereadable.left l.reader;
+}

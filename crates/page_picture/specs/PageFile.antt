@@ -1,0 +1,57 @@
+-- The page that a page file (a Netpbm text of grays or colors) shows, and the faults that a text may have in place
+-- of one.
+use Rattle.std.specs.Prelude.{ℕ, ◌*◌, ◌/◌, ◌<◌, ◌≤◌, ◌≡◌, Option, Some, None, if◌then◌else◌, ◌==◌, List, length}
+use Rattle.netpbm.specs.declared.format.Format.{Format}
+use Rattle.netpbm.specs.declared.format.Format.TheVariants.{Pbm, Pgm, Ppm}
+use Rattle.netpbm.specs.declared.format.Header.{Header}
+use Rattle.page_picture.specs.declared.page_file.PageFault.{PageFault}
+use Rattle.page_picture.specs.declared.page_file.PageFault.TheVariants.{BadMagic, BadHeader, SampleTooLarge, Short, Trailing, BadDpi, NoMem}
+use Rattle.netpbm.specs.Picture.{Picture}
+use Rattle.page_picture.specs.Page.{Sheet, sheet_at}
+use Rattle.netpbm.specs.Pnm.{Begins, Denotes}
+use Rattle.netpbm.specs.Raster.{raster_size, sample_count, SomeAbove}
+use Rattle.netpbm.specs.HeaderReading.{format_of}
+
+-- the channel of the file that stands for channel k of the page: a gray stands for all three
+abbrev pub file_channel : ℕ → ℕ → ℕ
+file_channel channels k = if channels == 1 then 0 else k
+
+-- the page at that many dots per inch shows the picture, each sample v of greatest value m as floor(v * 65535 / m)
+pub record IsPageOf (p : Picture) (dpi : ℕ) (sheet : Sheet) : Type 0 where
+  pub width : sheet.width ≡ p.width
+  pub height : sheet.height ≡ p.height
+  pub dots : sheet.dpi ≡ dpi
+  pub samples : (x y k : ℕ) → x < p.width → y < p.height → k < 3 → sheet_at sheet x y k ≡ p.at x y (file_channel p.channels k) * 65535 / p.greatest
+
+-- the text denotes the picture that the page shows
+pub record TellsPage (text : List ℕ) (dpi : ℕ) (sheet : Sheet) : Type 0 where
+  pub picture : Picture
+  pub denotes : Denotes text picture
+  pub is_page : IsPageOf picture dpi sheet
+
+abbrev pub IsDpi : ℕ → Type 0
+IsDpi dpi = (1 ≤ dpi) × (dpi ≤ 1200)
+
+-- a page is a file of grays or of colors
+abbrev pub IsPageFormat : Option Format → Type 0
+IsPageFormat None = ⊥
+IsPageFormat (Some Pbm) = ⊥
+IsPageFormat (Some Pgm) = Unit {0}
+IsPageFormat (Some Ppm) = Unit {0}
+
+-- the text begins with the header of a page
+pub record BeginsPage (text : List ℕ) (h : Header) (raster : List ℕ) : Type 0 where
+  pub begins : Begins text h raster
+  pub format : IsPageFormat (Some h.format)
+  pub width_most : h.width ≤ 16384
+  pub height_most : h.height ≤ 16384
+
+-- A text has a fault only where it has none of those that are tested before it.
+abbrev pub HasFault : PageFault → List ℕ → ℕ → Type 0
+HasFault BadDpi text dpi = ¬ IsDpi dpi
+HasFault BadMagic text dpi = IsDpi dpi × (¬ IsPageFormat (format_of text))
+HasFault BadHeader text dpi = IsDpi dpi × IsPageFormat (format_of text) × ((h : Header) (raster : List ℕ) → BeginsPage text h raster → ⊥)
+HasFault Short text dpi = IsDpi dpi × ((h : Header) × (raster : List ℕ) × BeginsPage text h raster × (length raster < raster_size h))
+HasFault Trailing text dpi = IsDpi dpi × ((h : Header) × (raster : List ℕ) × BeginsPage text h raster × (raster_size h < length raster))
+HasFault SampleTooLarge text dpi = IsDpi dpi × ((h : Header) × (raster : List ℕ) × BeginsPage text h raster × (length raster ≡ raster_size h) × SomeAbove h.maxval raster (sample_count h))
+HasFault NoMem text dpi = Unit {0}

@@ -1,0 +1,56 @@
+-- The rows of a page file: what its raster has for each row of the page.
+use Rattle.std.specs.Prelude.{ℕ, ◌*◌, ◌<◌, ◌≤◌, ◌≡◌, Some, List, [], ◌∷◌, length, drop, slice_index}
+use Rattle.netpbm.specs.declared.format.Header.{Header}
+use Rattle.netpbm.specs.Raster.{raster_size, sample_count, NoneAbove}
+use Rattle.netpbm.specs.FileText.{joined}
+use Rattle.page_picture.specs.Page.{Sheet}
+use Rattle.page_picture.specs.PageFile.{IsPageFormat}
+use Rattle.page_picture.specs.PageReading.{page_number}
+
+-- the header of the page's first row alone: its raster and its samples are those of one row
+abbrev pub row_header : Header → Header
+row_header h = record { format = h.format; width = h.width; height = 1; maxval = h.maxval }
+
+-- the bytes and the numbers of one row
+abbrev pub row_size : Header → ℕ
+row_size h = raster_size (row_header h)
+
+abbrev pub row_count : Header → ℕ
+row_count h = sample_count (row_header h)
+
+-- a header that a page may have
+pub record IsPageHeader (h : Header) : Type 0 where
+  pub format : IsPageFormat (Some h.format)
+  pub width_some : 1 ≤ h.width
+  pub width_most : h.width ≤ 16384
+  pub height_some : 1 ≤ h.height
+  pub height_most : h.height ≤ 16384
+  pub maxval_some : 1 ≤ h.maxval
+  pub maxval_most : h.maxval ≤ 65535
+
+-- these are the samples that the bytes of one row show
+pub record ShowsRow (h : Header) (bytes row : List ℕ) : Type 0 where
+  pub each : (j : ℕ) → j < 3 * h.width → slice_index row j ≡ page_number h bytes j
+
+-- the samples of the page that a raster shows
+unfoldable pub samples_shown : Header → List ℕ → List ℕ
+samples_shown h raster = joined (λ j. page_number h raster j ∷ []) (h.width * h.height * 3)
+
+-- the page that a raster shows at so many dots per inch
+abbrev pub page_shown : Header → ℕ → List ℕ → Sheet
+page_shown h dpi raster = record {
+  width = h.width;
+  height = h.height;
+  dpi = dpi;
+  samples = samples_shown h raster;
+}
+
+-- the raster has as many bytes as the header tells, and no number above the greatest
+pub record IsRaster (h : Header) (raster : List ℕ) : Type 0 where
+  pub size : length raster ≡ raster_size h
+  pub none_above : NoneAbove h.maxval raster (sample_count h)
+
+-- so many bytes as the header tells were read, and the others are left
+pub record ReadsRaster (h : Header) (raster left : List ℕ) : Type 0 where
+  pub size : raster_size h ≤ length raster
+  pub left_is : left ≡ drop (raster_size h) raster

@@ -1,0 +1,38 @@
+-- A source of a page's rows, as contracts see it, and what each of its calls does.
+use Rattle.std.specs.Prelude.{ℕ, ◌+◌, ◌-◌, ◌^◌, ◌<◌, ◌≡◌, ◌⊎◌, Bool, true, false, List, Result, Ok, Err}
+use Rattle.page_picture.specs.Page.{Sheet, IsRow}
+use Rattle.page_picture.specs.declared.sources.SourceFault.{SourceFault}
+
+-- the page, how many of its rows were given since the last rewind, whether the source gives the page's rows at each
+-- pass, and how often it failed
+pub record SourceState : Type 0 where
+  pub page : Sheet
+  pub given : ℕ
+  pub steady : Bool
+  pub failures : ℕ
+
+-- one failure was counted, or the count stands at its greatest
+abbrev pub CountsFailure : ℕ → ℕ → Type 0
+CountsFailure old new = (new ≡ old + 1) ⊎ ((old ≡ 2 ^ 64 - 1) × (new ≡ old))
+
+-- the call failed: that was counted, and nothing else is changed
+pub record Fails (old new : SourceState) : Type 0 where
+  pub counted : CountsFailure old.failures new.failures
+  pub rest : new ≡ record old { failures = new.failures }
+
+-- the next row was given: it is the page's where the source is steady
+pub record GivesNext (old new : SourceState) (row : List ℕ) : Type 0 where
+  pub more : old.given < old.page.height
+  pub after : new ≡ record old { given = old.given + 1 }
+  pub is_row : old.steady ≡ true → IsRow old.page old.given row
+
+-- the next row, or none after the last, or a failure
+abbrev pub GivesRow : SourceState → Result Bool SourceFault → SourceState → List ℕ → Type 0
+GivesRow old (Ok true) new row = GivesNext old new row
+GivesRow old (Ok false) new row = (old.given ≡ old.page.height) × (new ≡ old)
+GivesRow old (Err _) new row = Fails old new
+
+-- from the top again, or a failure
+abbrev pub Rewinds : {Done : Type 0} → SourceState → Result Done SourceFault → SourceState → Type 0
+Rewinds old (Ok _) new = new ≡ record old { given = 0 }
+Rewinds old (Err _) new = Fails old new

@@ -1,0 +1,25 @@
+//! Pages, scenes, and the pictures that scenes mean on pages.
+#![tactic(auto)]
+
+mod column_map;
+mod extents;
+mod laws;
+mod page;
+mod page_file;
+mod rereadable;
+mod scene;
+mod sources;
+mod tones;
+
+pub use column_map::ColumnMap;
+pub use extents::{extent, extent_at};
+pub use laws::lines_show_the_page;
+pub use page::Page;
+pub use page_file::{PageFault, read_page};
+pub use rereadable::Rereadable;
+pub use scene::{DeviceKind, HAND_WIDTH, Mode, Scene};
+pub use sources::{FailingPage, MemoryPage, OpenFault, PageSource, PnmPage, Source, SourceFault};
+pub use tones::sample;
+
+#[cfg(test)]
+mod tests;

@@ -1,0 +1,57 @@
+//! Where a virtual scanner reads the rows of its page from.
+
+ghost use Rattle.std.specs.Prelude.{◌≡◌, ◌*◌, length};
+ghost use Rattle.page_picture.specs.Page.{IsShaped};
+ghost use Rattle.page_picture.specs.Source.{SourceState, GivesRow, Rewinds};
+
+mod failing_page;
+mod header_scan;
+mod kinds;
+mod memory_page;
+mod open_fault;
+mod pnm_page;
+mod raster_rows;
+mod read_fault;
+mod read_room;
+
+pub use failing_page::FailingPage;
+pub use kinds::Source;
+pub use memory_page::MemoryPage;
+pub use open_fault::OpenFault;
+pub use pnm_page::PnmPage;
+
+/// A source failed to give a row or to go back to the first; its count of failures tells so.
+#[derive(Clone, Copy, Debug, PartialEq, Eq)]
+pub struct SourceFault;
+
+/// A page, row by row from the top.
+pub trait PageSource: Drop {
+    // The page, how many rows were given since the last rewind, whether they are the page's, and the failures.
+    ghost source: { Self → SourceState };
+
+    /// The columns and the rows of the page, 1 to 16,384 each. They never change.
+    fn size(&self) -> (u32, u32)
+        ensures value { result ≡ ((source self.now).page.width, (source self.now).page.height) }
+        ensures limits { IsShaped (source self.now).page };
+
+    /// The dots per inch of the page, 1 to 1,200. They never change.
+    fn dpi(&self) -> u32
+        ensures value { result ≡ (source self.now).page.dpi }
+        ensures limits { IsShaped (source self.now).page };
+
+    /// How often a call failed; the count stops at `u64::MAX`.
+    fn failures(&self) -> u64
+        ensures { result ≡ (source self.now).failures };
+
+    /// Writes the next row, three samples for each place; false after the last row.
+    fn next_row(&mut self, row: &mut [u16]) -> Result<bool, SourceFault>
+        requires { length row.old ≡ 3 * (source self.old).page.width }
+        ensures { GivesRow (source self.old) result (source self.new) row.new };
+
+    /// Starts the rows anew from the top, also after a fault.
+    fn rewind(&mut self) -> Result<(), SourceFault>
+        ensures { Rewinds (source self.old) result (source self.new) };
+}
+
+#[cfg(test)]
+mod tests;

@@ -1,0 +1,193 @@
+ghost use Rattle.std.specs.Prelude.{◌≡◌, ◌≤◌, ◌↔◌, true, drop, length, IfOk, IfErr};
+ghost use Rattle.page_picture.specs.PageRows.{IsPageHeader, IsRaster, row_size};
+ghost use Rattle.page_picture.specs.Opening.{HasOpenFaultAfter, IsOfFile};
+
+use crate::page_file::PageFault;
+use crate::rereadable::Rereadable;
+use crate::sources::header_scan::HeaderScan;
+use crate::sources::open_fault::OpenFault;
+use crate::sources::raster_rows::{check_raster, read_row, row_header};
+use crate::sources::{PageSource, SourceFault};
+use netpbm::{Header, raster_size};
+use std::alloc::{AllocError, Global};
+use std::marker::Model;
+
+/// A page file (`P5` or `P6`), of which one row at a time is in memory.
+#[derive(Drop)]
+pub struct PnmPage<R: Rereadable> {
+    reader: R,
+    header: Header,
+    dpi: u32,
+    // The place of the raster's first byte.
+    start: u64,
+    given: u32,
+    // After a fault it is not known where the reader stands.
+    is_lost: bool,
+    failures: u64,
+    // Room for the bytes of one row.
+    bytes: Vec<u8>,
+}
+
+impl<R: Rereadable> Model for PnmPage<R> {
+    ghost use Rattle.std.specs.Prelude.{◌≡◌, ◌≤◌, ◌*◌, true, false, drop, length};
+    ghost use Rattle.page_picture.specs.PageFile.{IsDpi};
+    ghost use Rattle.page_picture.specs.PageRows.{IsPageHeader, page_shown, row_size};
+    ghost use Rattle.page_picture.specs.Source.{SourceState};
+
+    ghost Value = { SourceState };
+
+    ghost view = { λ p. record {
+      page = page_shown p.header p.dpi (drop p.start (R.text p.reader));
+      given = p.given;
+      steady = R.is_kept p.reader;
+      failures = p.failures;
+    } };
+
+    ghost invariant = { λ p. IsPageHeader p.header × IsDpi p.dpi × (p.given ≤ p.header.height) × (length p.bytes.items ≡ row_size p.header)
+        × (R.is_kept p.reader ≡ true → p.is_lost ≡ false → R.left p.reader ≡ drop (p.given * row_size p.header) (drop p.start (R.text p.reader))) };
+}
+
+/// Room for the bytes of one row.
+fn row_bytes(alloc: Global, header: &Header) -> Result<Vec<u8>, AllocError>
+    requires { IsPageHeader header.now }
+    ensures { IfOk result (λ bytes. length bytes.items ≡ row_size header.now) }
+{
+    let size = raster_size(&row_header(header));
+    vec![in alloc; 0u8; size]
+}
+
+/// Reads the raster once through and goes back to its first byte. It gives room for one row.
+fn check_file<R: Rereadable>(
+    alloc: Global,
+    reader: &mut R,
+    header: &Header,
+    start: u64,
+    reads: u64,
+) -> Result<Vec<u8>, OpenFault>
+    requires { IsPageHeader header.now }
+    ensures kept { R.is_kept reader.new ≡ R.is_kept reader.old }
+    ensures text { R.text reader.new ≡ R.text reader.old }
+    ensures room { IfOk result (λ bytes. length bytes.items ≡ row_size header.now) }
+    ensures start { IfOk result (λ _. R.is_kept reader.old ≡ true → R.left reader.new ≡ drop start (R.text reader.old)) }
+    ensures raster { IfOk result (λ _. R.is_kept reader.old ≡ true → IsRaster header.now (drop start (R.text reader.old))) }
+    ensures file { IfErr result (λ fault. IsOfFile fault) }
+    ensures fault { IfErr result (λ fault. R.is_kept reader.old ≡ true → HasOpenFaultAfter fault header.now (drop start (R.text reader.old))) }
+{
+    let Ok(mut bytes) = row_bytes(alloc, header) else {
+        return Err(OpenFault::Page(PageFault::NoMem));
+    };
+    if reader.start_from(start).is_err() {
+        return Err(OpenFault::Device);
+    }
+    let mut reads = reads;
+    check_raster(reader, header, &mut bytes, &mut reads)?;
+    if reader.start_from(start).is_err() {
+        return Err(OpenFault::Device);
+    }
+    Ok(bytes)
+}
+
+impl<R: Rereadable> PnmPage<R> {
+    ghost use Rattle.std.specs.Prelude.{◌≡◌, ◌↔◌, true, IfOk, IfErr};
+    ghost use Rattle.page_picture.specs.PageFile.{TellsPage, IsDpi};
+    ghost use Rattle.page_picture.specs.Opening.{HasOpenFault};
+
+    /// Reads a page file once through, from its start, with room for one row, and takes it as a page of `dpi` dots per
+    /// inch. It refuses as `read_page` does, or with `Device` where the reader failed or 2^40 reads were made, and then
+    /// gives the reader back.
+    pub fn open(alloc: Global, reader: R, dpi: u32) -> Result<Self, (OpenFault, R)>
+        // The page is that of the text, where the reader keeps it.
+        ensures found { IfOk result (λ source. R.is_kept reader ≡ true → TellsPage (R.text reader) dpi source.page) }
+        // It stands before its first row, without a failure.
+        ensures begun { IfOk result (λ source. source ≡ record { page = source.page; given = 0; steady = R.is_kept reader; failures = 0 }) }
+        ensures fault { IfErr result (λ refused. R.is_kept reader ≡ true → HasOpenFault refused.0 (R.text reader) dpi) }
+        // What holds of every reader.
+        ensures dots { IfOk result (λ source. source.page.dpi ≡ dpi) }
+        ensures bad_dots { IfErr result (λ refused. (refused.0 ≡ OpenFault.Page PageFault.BadDpi) ↔ ¬ IsDpi dpi) }
+        ensures kept { IfErr result (λ refused. R.is_kept refused.1 ≡ R.is_kept reader) }
+        ensures text { IfErr result (λ refused. R.text refused.1 ≡ R.text reader) }
+    {
+        if dpi < 1 || dpi > 1200 {
+            return Err((OpenFault::Page(PageFault::BadDpi), reader));
+        }
+        let mut scan = match HeaderScan::begin(reader) {
+            Ok(scan) => scan,
+            Err(reader) => return Err((OpenFault::Device, reader)),
+        };
+        let header = match scan.page_header() {
+            Ok(header) => header,
+            Err(fault) => return Err((fault, scan.end().0)),
+        };
+        let (mut reader, start, reads) = scan.end();
+        match check_file(alloc, &mut reader, &header, start, reads) {
+            Ok(bytes) => Ok(PnmPage {
+                reader,
+                header,
+                dpi,
+                start,
+                given: 0,
+                is_lost: false,
+                failures: 0,
+                bytes,
+            }),
+            Err(fault) => Err((fault, reader)),
+        }
+    }
+}
+
+impl<R: Rereadable> PnmPage<R> {
+    ghost use Rattle.page_picture.specs.Source.{Fails};
+
+    /// Counts a failure; the rows are lost until a rewind.
+    fn fail(&mut self) -> SourceFault
+        ensures { Fails self.old self.new }
+    {
+        self.is_lost = true;
+        self.failures = self.failures.saturating_add(1);
+        SourceFault
+    }
+}
+
+impl<R: Rereadable + Drop> PageSource for PnmPage<R> {
+    ghost source = { λ s. s };
+
+    fn size(&self) -> (u32, u32) {
+        (self.header.width, self.header.height)
+    }
+
+    fn dpi(&self) -> u32 {
+        self.dpi
+    }
+
+    fn failures(&self) -> u64 {
+        self.failures
+    }
+
+    fn next_row(&mut self, row: &mut [u16]) -> Result<bool, SourceFault> {
+        if self.is_lost {
+            return Err(self.fail());
+        }
+        if self.given >= self.header.height {
+            return Ok(false);
+        }
+        self.is_lost = true;
+        match read_row(&mut self.reader, &self.header, &mut self.bytes, row) {
+            Ok(()) => {
+                self.is_lost = false;
+                self.given += 1;
+                Ok(true)
+            }
+            Err(_) => Err(self.fail()),
+        }
+    }
+
+    fn rewind(&mut self) -> Result<(), SourceFault> {
+        self.is_lost = true;
+        if self.reader.start_from(self.start).is_err() {
+            return Err(self.fail());
+        }
+        self.is_lost = false;
+        self.given = 0;
+        Ok(())
+    }
+}

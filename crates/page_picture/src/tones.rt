@@ -1,0 +1,81 @@
+ghost use Rattle.std.specs.Prelude.{◌≡◌, ◌≤◌, ◌<◌, ◌^◌};
+ghost use Rattle.page_picture.specs.Extent.{IsInside};
+ghost use Rattle.page_picture.specs.Seen.{dot_at, seen_at};
+ghost use Rattle.page_picture.specs.Tone.{brightness, tone};
+ghost use Rattle.page_picture.specs.Meaning.{sample_of, channels_in, greatest_at};
+
+use crate::page::Page;
+use crate::scene::{Mode, Scene};
+
+/// The page's sample at a dot, or white off the page.
+fn dot(page: &Page, column: u64, row: u64, k: u32) -> u16
+    requires { k < 3 }
+    ensures { result ≡ dot_at page.now column row k }
+{
+    if column < u64::from(page.width()) && row < u64::from(page.height()) {
+        page.at(column as u32, row as u32, k)
+    } else {
+        u16::MAX
+    }
+}
+
+/// The page's sample that a place of the picture shows.
+fn seen(page: &Page, scene: &Scene, x: u32, y: u32, k: u32) -> u16
+    requires some_dots { 1 ≤ scene.now.resolution }
+    requires known { scene.now.resolution ≤ 1200 }
+    requires channel { k < 3 }
+    ensures { result ≡ seen_at page.now scene.now x y k }
+{
+    let dpi = u64::from(page.dpi());
+    let resolution = u64::from(scene.resolution);
+    let column = (u64::from(scene.left()) + u64::from(x)) * dpi / resolution;
+    let row = (u64::from(scene.top()) + u64::from(y)) * dpi / resolution;
+    dot(page, column, row, k)
+}
+
+/// The brightness that the scene sees at a place.
+fn light(page: &Page, scene: &Scene, x: u32, y: u32, k: u32) -> u16
+    requires some_dots { 1 ≤ scene.now.resolution }
+    requires known { scene.now.resolution ≤ 1200 }
+    requires channel { k < channels_in scene.now.mode }
+    ensures { result ≡ brightness scene.now.mode (seen_at page.now scene.now x y) k }
+{
+    match scene.mode {
+        Mode::Gray => {
+            let red = u32::from(seen(page, scene, x, y, 0));
+            let green = u32::from(seen(page, scene, x, y, 1));
+            let blue = u32::from(seen(page, scene, x, y, 2));
+            ((299 * red + 587 * green + 114 * blue) / 1000) as u16
+        }
+        Mode::Color => seen(page, scene, x, y, k),
+    }
+}
+
+/// What a brightness becomes at a depth.
+fn toned(depth: u32, table: &[u8; 256], light: u16) -> u16
+    ensures value { result ≡ tone depth table.now light }
+    ensures limit { result ≤ greatest_at depth }
+{
+    let entry = table[light as usize / 256];
+    if depth == 16 {
+        light
+    } else if depth == 8 {
+        u16::from(entry)
+    } else if entry < 128 {
+        1
+    } else {
+        0
+    }
+}
+
+/// The sample of the picture at column `x` of row `y` in channel `k`.
+#[tactic(auto, unfolding(crate::specs::Meaning::sample_of))]
+pub fn sample(page: &Page, scene: &Scene, x: u32, y: u32, k: u32) -> u16
+    requires known { scene.now.resolution ≤ 1200 }
+    requires inside { IsInside page.now scene.now x y }
+    requires channel { k < channels_in scene.now.mode }
+    ensures value { result ≡ sample_of page.now scene.now x y k }
+    ensures limit { result ≤ greatest_at scene.now.depth }
+{
+    toned(scene.depth, &scene.gamma, light(page, scene, x, y, k))
+}

@@ -1,0 +1,5 @@
+use Rattle.pnm_writer.proofs.JoinLaws.{not_whole}
+use Rattle.pnm_writer.proofs.laws.not_whole_before.Goals as goal
+
+pub returns : goal.returns
+returns c = not_whole

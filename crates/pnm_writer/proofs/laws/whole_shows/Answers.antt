@@ -1,0 +1,5 @@
+use Rattle.pnm_writer.proofs.JoinLaws.{joined_shows}
+use Rattle.pnm_writer.proofs.laws.whole_shows.Goals as goal
+
+pub returns : goal.returns
+returns c = joined_shows

@@ -1,0 +1,31 @@
+ghost use Rattle.std.specs.Prelude.{◌≡◌, ◌<◌, ◌++◌, Some, true, ℕ, [], slice_index};
+ghost use Rattle.netpbm.specs.Picture.{Picture};
+ghost use Rattle.netpbm.specs.Pnm.{IsWhole};
+ghost use Rattle.netpbm.specs.FileText.{header_text, row_text, joined};
+ghost use Rattle.page_picture.specs.Shows.{Frame, ShowsAlone, ShowsFrames, frame_sample, channels_within};
+ghost use Rattle.pnm_writer.specs.AloneFrame.{is_alone};
+ghost use Rattle.pnm_writer.specs.FrameFile.{header_alone, file_front};
+ghost use Rattle.pnm_writer.specs.FrameHistory.{Past, IsJoined, is_accepted};
+ghost use Rattle.pnm_writer.specs.Joining.{Joining, Stands};
+
+/// Before the picture is whole, what was given in all is no whole text.
+pub fn not_whole_before()
+    ensures { (past : Past) (join : Joining) → Stands past join → (IsJoined past → ⊥) → IsWhole past.given → ⊥ }
+{}
+
+/// A whole picture's frames show one.
+pub fn whole_shows()
+    ensures { (past : Past) (join : Joining) → Stands past join → IsJoined past → (p : Picture) × ShowsFrames past.ended p }
+{}
+
+/// A frame of known height that shows a picture is accepted.
+pub fn shown_frame_is_accepted()
+    ensures { (frame : Frame) (p : Picture) (lines : ℕ) → ShowsAlone frame p → frame.params.lines ≡ Some lines → is_accepted [] frame.params frame.order ≡ true }
+{}
+
+/// The header and the first rows that a frame gives for its file are those of the writer's text for the picture that
+/// the frame shows: the comment in the second line, and the bits past a row's end 0.
+pub fn frame_file_is_the_writers_text()
+    ensures { (f : Frame) (n : ℕ) → is_alone f.params ≡ true → ((i : ℕ) → slice_index f.payload i < 256) → file_front f n
+        ≡ header_text (header_alone f.params) ++ joined (λ y. row_text (header_alone f.params).format (header_alone f.params).maxval (header_alone f.params).width (λ x k. frame_sample (channels_within f.params.format) f x y k)) n }
+{}

@@ -1,0 +1,22 @@
+//! Netpbm files: the pictures of scenes and of frames, written, and files read.
+#![tactic(auto)]
+
+mod alone_frame;
+mod frame_join;
+mod join_stage;
+mod laws;
+mod plain;
+mod pnm_out;
+mod read;
+
+pub use frame_join::FrameJoin;
+pub use join_stage::JoinFault;
+pub use laws::{
+    frame_file_is_the_writers_text, not_whole_before, shown_frame_is_accepted, whole_shows,
+};
+pub use plain::{PlainFault, scan_plain};
+pub use pnm_out::PnmOut;
+pub use read::{Picture, PnmFault, Samples, read_pnm};
+
+#[cfg(test)]
+mod tests;

@@ -1,0 +1,4 @@
+pub mod DigitLemmas
+pub mod DecimalLaws
+pub mod ExactDecimalLaws
+pub mod TextLaws

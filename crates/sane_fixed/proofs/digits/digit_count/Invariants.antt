@@ -1,0 +1,6 @@
+use Rattle.std.proofs.Common.{◌≡◌, ◌+◌, drop}
+use Rattle.sane_fixed.specs.Digits.{digit_count}
+use Rattle.sane_fixed.proofs.digits.digit_count.Given as goal
+
+abbrev pub invariant-loop-i : goal.invariant-loop-i
+invariant-loop-i l = l.i + digit_count (drop l.i l.bytes) ≡ digit_count l.bytes

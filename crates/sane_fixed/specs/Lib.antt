@@ -1,0 +1,10 @@
+pub mod Text
+pub mod Length
+pub mod Digits
+pub mod Decimal
+pub mod DecimalReading
+pub mod ExactDecimal
+pub mod Status
+pub mod Kind
+pub mod Unit
+pub mod FrameFormat

@@ -1,0 +1,12 @@
+/// What became of a value that was set: the sum of these bits (SANE Standard 1.06, "Option Control").
+#[derive(Clone, Copy, Debug, PartialEq, Eq)]
+pub struct Info(pub u32);
+
+impl Info {
+    /// The value in force differs from the one given.
+    pub const INEXACT: u32 = 1;
+    /// The descriptors changed.
+    pub const RELOAD_OPTIONS: u32 = 2;
+    /// The parameters of the scan may have changed.
+    pub const RELOAD_PARAMS: u32 = 4;
+}

@@ -1,0 +1,43 @@
+-- The values that the program's words, which have long names and values behind `=`, give the options.
+use Rattle.std.specs.Prelude.{ℕ, ◌+◌, ◌≡◌, Bool, false, ◌||◌, ◌&&◌, ◌==◌, if◌then◌else◌, Option, Some, None, is_some, List, [], ◌∷◌, length, take, drop, slice_index}
+use Rattle.std.specs.Str.{bytes_eq}
+use Rattle.scanimage_cli.specs.WordCut.{long_word}
+use Rattle.scanimage_cli.specs.declared.options.Options.{Options}
+use Rattle.scanimage_cli.specs.declared.program_option.ProgramOption.{ProgramOption}
+use Rattle.scanimage_cli.specs.declared.program_option.ProgramOption.TheVariants.{ListDevices, AllOptions, DontScan, DeviceName, OutputFile, Config, Net, Port, User, PasswordFile}
+
+-- what follows `=`, where the bytes begin with it
+abbrev pub after_equals : List ℕ → Option (List ℕ)
+after_equals [] = None
+after_equals (b ∷ value) = if b == 61 then Some value else None
+
+-- the value, where the word is the name, `=` and a value
+unfoldable pub value_after : List ℕ → List ℕ → Option (List ℕ)
+value_after name word = if bytes_eq (take (length name) word) name then after_equals (drop (length name) word) else None
+
+abbrev pub first_of : Option (List ℕ) → Option (List ℕ) → Option (List ℕ)
+first_of (Some value) _ = Some value
+first_of None other = other
+
+-- the value of the first word that gives the option one
+abbrev pub option_value : ProgramOption → List (List ℕ) → Option (List ℕ)
+option_value option [] = None
+option_value option (word ∷ words) = first_of (value_after (long_word option) word) (option_value option words)
+
+-- the flag is among the words
+abbrev pub has_flag : ProgramOption → List (List ℕ) → Bool
+has_flag option [] = false
+has_flag option (word ∷ words) = bytes_eq word (long_word option) || has_flag option words
+
+-- each option has the value that the words give it
+pub record IsOptionsOf (words : List (List ℕ)) (options : Options) : Type 0 where
+  pub list_devices : options.list_devices ≡ has_flag ListDevices words
+  pub all_options : options.all_options ≡ has_flag AllOptions words
+  pub dont_scan : options.dont_scan ≡ has_flag DontScan words
+  pub device_name : options.device_name ≡ option_value DeviceName words
+  pub output_file : options.output_file ≡ option_value OutputFile words
+  pub config : options.config ≡ option_value Config words
+  pub net : options.net ≡ option_value Net words
+  pub port : options.port ≡ option_value Port words
+  pub user : options.user ≡ option_value User words
+  pub password_file : options.password_file ≡ option_value PasswordFile words

@@ -1,0 +1,248 @@
+-- The words of scanimage's command line, and the one way to cut them from the left: into options of the program with
+-- their values, measures of the window with their values, and settings.
+use Rattle.std.specs.Prelude.{ℕ, ◌+◌, ◌^◌, ℤ, pos, negsuc, ◌+ℤ◌, nat_lt, Bool, true, false, not, ◌||◌, ◌&&◌, ◌==◌, if◌then◌else◌, Option, Some, None, is_some, is_none, option_map, option_and_then, List, [], ◌∷◌, ◌++◌, length, take, drop, find, position, codes, nat_eq}
+use Rattle.std.specs.Option.{option_map_or}
+use Rattle.std.specs.List.{starts_with, filter_map}
+use Rattle.std.specs.Str.{bytes_eq}
+use Rattle.sane_fixed.specs.DecimalReading.{◌>>=◌, fixed_of}
+use Rattle.sane_fixed.specs.ExactDecimal.{exact_decimal}
+use Rattle.scanimage_cli.specs.declared.program_option.ProgramOption.{ProgramOption}
+use Rattle.scanimage_cli.specs.declared.program_option.ProgramOption.TheVariants.{ListDevices, AllOptions, DontScan, DeviceName, OutputFile, Config, Net, Port, User, PasswordFile}
+use Rattle.scanimage_cli.specs.declared.geometry.Geometry.{Geometry}
+use Rattle.scanimage_cli.specs.declared.geometry.Geometry.TheVariants.{Left, Top, Width, Height}
+use Rattle.scanimage_cli.specs.declared.split.Measures.{Measures}
+use Rattle.scanimage_cli.specs.declared.word_cut.Item.{Item}
+use Rattle.scanimage_cli.specs.declared.word_cut.Item.TheVariants.{Flag, Valued, Measured, Setting}
+use Rattle.scanimage_cli.specs.declared.word_cut.Awaited.{Awaited}
+use Rattle.scanimage_cli.specs.declared.word_cut.Awaited.TheVariants.{ForOption, ForMeasure, ForSetting}
+use Rattle.scanimage_cli.specs.declared.word_cut.Told.{Told}
+use Rattle.scanimage_cli.specs.declared.word_cut.Told.TheVariants.{Whole, Awaits, Refused}
+
+-- ---- names
+
+abbrev pub long_word : ProgramOption → List ℕ
+long_word ListDevices = codes "--list-devices"
+long_word AllOptions = codes "--all-options"
+long_word DontScan = codes "--dont-scan"
+long_word DeviceName = codes "--device-name"
+long_word OutputFile = codes "--output-file"
+long_word Config = codes "--config"
+long_word Net = codes "--net"
+long_word Port = codes "--port"
+long_word User = codes "--user"
+long_word PasswordFile = codes "--password-file"
+
+abbrev pub short_word : ProgramOption → Option (List ℕ)
+short_word ListDevices = Some (codes "-L")
+short_word AllOptions = Some (codes "-A")
+short_word DontScan = Some (codes "-n")
+short_word DeviceName = Some (codes "-d")
+short_word OutputFile = Some (codes "-o")
+short_word Config = None
+short_word Net = None
+short_word Port = None
+short_word User = None
+short_word PasswordFile = None
+
+-- it stands alone
+abbrev pub is_flag : ProgramOption → Bool
+is_flag ListDevices = true
+is_flag AllOptions = true
+is_flag DontScan = true
+is_flag DeviceName = false
+is_flag OutputFile = false
+is_flag Config = false
+is_flag Net = false
+is_flag Port = false
+is_flag User = false
+is_flag PasswordFile = false
+
+abbrev pub all_options : List ProgramOption
+all_options = ListDevices ∷ AllOptions ∷ DontScan ∷ DeviceName ∷ OutputFile ∷ Config ∷ Net ∷ Port ∷ User ∷ PasswordFile ∷ []
+
+abbrev pub is_named : ProgramOption → List ℕ → Bool
+is_named option word = bytes_eq word (long_word option) || option_map_or (bytes_eq word) (short_word option) false
+
+-- the option that a word names
+unfoldable pub option_named : List ℕ → Option ProgramOption
+option_named word = find (λ option. is_named option word) all_options
+
+-- the measure that a word names
+abbrev pub geometry_named : List ℕ → Option Geometry
+geometry_named word =
+    if bytes_eq word (codes "-l") then Some Left
+    else (if bytes_eq word (codes "-t") then Some Top
+    else (if bytes_eq word (codes "-x") then Some Width
+    else (if bytes_eq word (codes "-y") then Some Height else None)))
+
+-- ---- one word
+
+-- `=` and what comes with it
+abbrev pub is_equals : ℕ → Bool
+is_equals b = b == 61
+
+abbrev pub is_empty : List ℕ → Bool
+is_empty [] = true
+is_empty (_ ∷ _) = false
+
+-- `--NAME=VALUE`: an option with its value, which is not empty, or a setting, whose name is not
+abbrev pub told_pair : Option ProgramOption → List ℕ → List ℕ → Told
+told_pair (Some option) name value = if is_flag option || is_empty value then Refused else Whole (Valued option value)
+told_pair None name value = if is_empty name then Refused else Whole (Setting name value)
+
+-- a word that begins with `--` and names no option, by the place of its first `=`: a name and a value, or a name
+abbrev pub told_at : Option ℕ → List ℕ → Told
+told_at (Some at) word = told_pair (option_named (take at word)) (drop 2 (take at word)) (drop (at + 1) word)
+told_at None word = if is_empty (drop 2 word) then Refused else Awaits (ForSetting (drop 2 word))
+
+unfoldable pub told_long : List ℕ → Told
+told_long word = told_at (position is_equals word) word
+
+abbrev pub told_other : Option Geometry → List ℕ → Told
+told_other (Some geometry) word = Awaits (ForMeasure geometry)
+told_other None word = if starts_with nat_eq word (codes "--") then told_long word else Refused
+
+abbrev pub told_option : Option ProgramOption → List ℕ → Told
+told_option (Some option) word = if is_flag option then Whole (Flag option) else Awaits (ForOption option)
+told_option None word = told_other (geometry_named word) word
+
+-- what a word is that is no value: an item, the first half of one, or refused
+unfoldable pub told_by : List ℕ → Told
+told_by word = told_option (option_named word) word
+
+-- ---- two words, and all of them
+
+-- the item that a value completes, whatever it begins with
+unfoldable pub item_with : Awaited → List ℕ → Option Item
+item_with (ForOption option) value = if is_empty value then None else Some (Valued option value)
+item_with (ForMeasure geometry) value = if is_some (fixed_of value) then Some (Measured geometry value) else None
+item_with (ForSetting name) value = Some (Setting name value)
+
+abbrev pub told_step : Told → Option (List Item × Option Awaited)
+told_step (Whole item) = Some (item ∷ [], None)
+told_step (Awaits awaited) = Some ([], Some awaited)
+told_step Refused = None
+
+-- one word, where a value is awaited or not: the items that it completes, and what is awaited then
+unfoldable pub cut_step : Option Awaited → List ℕ → Option (List Item × Option Awaited)
+cut_step (Some awaited) word = option_map (λ item. (item ∷ [], None)) (item_with awaited word)
+cut_step None word = told_step (told_by word)
+
+-- all of the words; none where one is refused, or where a value is missing at the end
+abbrev pub cut_from : Option Awaited → List (List ℕ) → Option (List Item)
+cut_from awaited [] = if is_none awaited then Some [] else None
+cut_from awaited (word ∷ words) = option_and_then (λ step. option_map (λ more. step.0 ++ more) (cut_from step.1 words)) (cut_step awaited word)
+
+abbrev pub cut : List (List ℕ) → Option (List Item)
+cut words = cut_from None words
+
+-- the items with those that a step completes behind them, and what is awaited then
+abbrev pub with_step : List Item → Option (List Item × Option Awaited) → Option (List Item × Option Awaited)
+with_step items step = option_map (λ s. (items ++ s.0, s.1)) step
+
+-- ---- what the pieces are
+
+-- the option of the program that a piece is of
+abbrev pub option_of : Item → Option ProgramOption
+option_of (Flag option) = Some option
+option_of (Valued option value) = Some option
+option_of (Measured geometry value) = None
+option_of (Setting name value) = None
+
+abbrev pub is_option : ProgramOption → Option ProgramOption → Bool
+is_option option None = false
+is_option option (Some other) = bytes_eq (long_word option) (long_word other)
+
+abbrev pub names_option : ProgramOption → List Item → Bool
+names_option option [] = false
+names_option option (item ∷ items) = is_option option (option_of item) || names_option option items
+
+abbrev pub named_again : Option ProgramOption → List Item → Bool
+named_again None items = false
+named_again (Some option) items = names_option option items
+
+-- an option of the program stands twice
+abbrev pub repeats : List Item → Bool
+repeats [] = false
+repeats (item ∷ items) = named_again (option_of item) items || repeats items
+
+-- the program's word of a piece, with a long name, a value behind `=`
+abbrev pub program_word : Item → Option (List ℕ)
+program_word (Flag option) = Some (long_word option)
+program_word (Valued option value) = Some (long_word option ++ 61 ∷ value)
+program_word (Measured geometry value) = None
+program_word (Setting name value) = None
+
+-- the setting that a piece names
+abbrev pub named_setting : Item → Option (List ℕ × List ℕ)
+named_setting (Flag option) = None
+named_setting (Valued option value) = None
+named_setting (Measured geometry value) = None
+named_setting (Setting name value) = Some (name, value)
+
+-- ---- the window's measures
+
+-- the last of each is what counts
+abbrev pub with_measure : Measures → Geometry → List ℕ → Measures
+with_measure measures Left value = record measures { left = Some value }
+with_measure measures Top value = record measures { top = Some value }
+with_measure measures Width value = record measures { width = Some value }
+with_measure measures Height value = record measures { height = Some value }
+
+abbrev pub measures_with : Measures → Item → Measures
+measures_with measures (Flag option) = measures
+measures_with measures (Valued option value) = measures
+measures_with measures (Measured geometry value) = with_measure measures geometry value
+measures_with measures (Setting name value) = measures
+
+abbrev pub measures_from : Measures → List Item → Measures
+measures_from measures [] = measures
+measures_from measures (item ∷ items) = measures_from (measures_with measures item) items
+
+abbrev pub no_measures : Measures
+no_measures = record { left = None; top = None; width = None; height = None }
+
+-- a word of 32 bits
+abbrev pub fits_word : ℤ → Bool
+fits_word (pos n) = nat_lt n (2 ^ 31)
+fits_word (negsuc n) = nat_lt n (2 ^ 31)
+
+-- the text of a length, where it is a word
+abbrev pub length_text : ℤ → Option (List ℕ)
+length_text word = if fits_word word then Some (exact_decimal word) else None
+
+-- where the window begins: at 0 unless it is said
+abbrev pub start_word : Option (List ℕ) → Option ℤ
+start_word None = Some (pos 0)
+start_word (Some text) = fixed_of text
+
+-- the far side: the start and the extent from there; none where a sum is no word
+unfoldable pub far_text : Option (List ℕ) → List ℕ → Option (List ℕ)
+far_text start extent = option_and_then (λ from. option_and_then (λ size. length_text (from +ℤ size)) (fixed_of extent)) (start_word start)
+
+-- a far side, where its extent is said
+abbrev pub far_side : Option (List ℕ) → Option (List ℕ) → Option (Option (List ℕ))
+far_side start None = Some None
+far_side start (Some extent) = option_map (λ text. Some text) (far_text start extent)
+
+-- a setting, where it has a value
+abbrev pub setting_of : List ℕ → Option (List ℕ) → List (List ℕ × List ℕ)
+setting_of name None = []
+setting_of name (Some value) = (name, value) ∷ []
+
+-- the settings that the measures make, in the order of the corners
+unfoldable pub window_settings : Measures → Option (List (List ℕ × List ℕ))
+window_settings measures = do
+  right ← far_side measures.left measures.width
+  bottom ← far_side measures.top measures.height
+  Some (setting_of (codes "tl-x") measures.left ++ (setting_of (codes "tl-y") measures.top ++ (setting_of (codes "br-x") right ++ setting_of (codes "br-y") bottom)))
+
+-- ---- the split
+
+-- the program's words and the settings: the named ones, and behind them the window's; none where the words cannot be
+-- cut, where an option of the program stands twice, or where a far side is no word
+unfoldable pub split_of : List (List ℕ) → Option (List (List ℕ) × List (List ℕ × List ℕ))
+split_of words = do
+  items ← cut words
+  window ← window_settings (measures_from no_measures items)
+  if repeats items then None else Some (filter_map program_word items, filter_map named_setting items ++ window)

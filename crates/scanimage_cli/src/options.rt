@@ -1,0 +1,247 @@
+ghost use Rattle.std.specs.Prelude.{◌≡◌, IfOk, List, ℕ, option_map};
+ghost use Rattle.scanimage_cli.specs.WordCut.{long_word};
+ghost use Rattle.scanimage_cli.specs.Options.{value_after, option_value, has_flag, IsOptionsOf};
+
+use crate::program_option::ProgramOption;
+use clap::error::ErrorKind;
+use clap::{Arg, ArgAction, ArgMatches, Command};
+use sane_fixed::{NoMem, Text};
+use std::alloc::{AllocError, Global};
+
+/// The options of the program, as scanimage(1) has them.
+#[derive(Drop)]
+pub struct Options {
+    pub list_devices: bool,
+    pub all_options: bool,
+    pub dont_scan: bool,
+    pub device_name: Option<Text>,
+    pub output_file: Option<Text>,
+    pub config: Option<Text>,
+    pub net: Option<Text>,
+    /// A decimal number, 1 to 65,535.
+    pub port: Option<Text>,
+    pub user: Option<Text>,
+    pub password_file: Option<Text>,
+}
+
+/// Why the words of the program are no options.
+#[derive(Clone, Copy, Debug, PartialEq, Eq)]
+pub enum OptionsFault {
+    /// `clap` refuses them, or reads another value than the word has.
+    Bad = 1,
+    NoMem = 2,
+}
+
+impl From<AllocError> for OptionsFault {
+    fn from(_: AllocError) -> Self {
+        OptionsFault::NoMem
+    }
+}
+
+impl From<NoMem> for OptionsFault {
+    fn from(_: NoMem) -> Self {
+        OptionsFault::NoMem
+    }
+}
+
+impl From<clap::Error> for OptionsFault {
+    fn from(e: clap::Error) -> Self {
+        if e.kind() == ErrorKind::OutOfMemory {
+            OptionsFault::NoMem
+        } else {
+            OptionsFault::Bad
+        }
+    }
+}
+
+/// The value in `--NAME=VALUE`, where the word is that.
+#[tactic(auto, unfolding(crate::specs::Options::value_after))]
+fn value_after<'a>(option: ProgramOption, word: &'a [u8]) -> Option<&'a [u8]>
+    ensures { option_map (λ value. value.now) result ≡ value_after (long_word option) word.now }
+{
+    let rest = word.strip_prefix(option.long_word().as_bytes())?;
+    match rest {
+        [b'=', value @ ..] => Some(value),
+        _ => None,
+    }
+}
+
+/// The value that the words give an option.
+fn option_value<'a>(option: ProgramOption, words: &'a [Text]) -> Option<&'a [u8]>
+    ensures { option_map (λ value. value.now) result ≡ option_value option words.now }
+{
+    for word in words {
+        if let Some(value) = value_after(option, word.as_bytes()) {
+            return Some(value);
+        }
+    }
+    None
+}
+
+/// Whether the flag is among the words.
+fn has_flag(option: ProgramOption, words: &[Text]) -> bool
+    ensures { result ≡ has_flag option words.now }
+{
+    for word in words {
+        if word.as_bytes() == option.long_word().as_bytes() {
+            return true;
+        }
+    }
+    false
+}
+
+fn value<'a>(alloc: Global, name: &'a str) -> Arg<'a> {
+    Arg::new(alloc, name).long(name).action(ArgAction::Set)
+}
+
+fn flag<'a>(alloc: Global, name: &'a str) -> Arg<'a> {
+    Arg::new(alloc, name).long(name).action(ArgAction::SetTrue)
+}
+
+fn command<'a>(alloc: Global) -> Result<Command<'a>, AllocError> {
+    Command::new(alloc, "scanimage")
+        .arg(flag(alloc, "list-devices"))?
+        .arg(flag(alloc, "all-options"))?
+        .arg(flag(alloc, "dont-scan"))?
+        .arg(value(alloc, "device-name"))?
+        .arg(value(alloc, "output-file"))?
+        .arg(value(alloc, "config"))?
+        .arg(value(alloc, "net"))?
+        .arg(value(alloc, "port").value_parser(clap::value_parser!(u16).range(1..)))?
+        .arg(value(alloc, "user"))?
+        .arg(value(alloc, "password-file"))
+}
+
+/// What `clap` reads of the words.
+fn parse<'a>(alloc: Global, words: &'a [&'a str]) -> Result<ArgMatches<'a>, OptionsFault> {
+    let found = command(alloc)?.try_get_matches_from(words)?;
+    Ok(found)
+}
+
+/// The words as `clap` wants them, the program's name first; none where one is not UTF-8.
+fn as_strs<'a>(alloc: Global, words: &'a [Text]) -> Result<Vec<&'a str>, OptionsFault> {
+    let mut strs = Vec::new(alloc);
+    strs.push("scanimage").map_err(|_| OptionsFault::NoMem)?;
+    for word in words {
+        let Ok(word) = std::str::from_utf8(word.as_bytes()) else {
+            return Err(OptionsFault::Bad);
+        };
+        strs.push(word).map_err(|_| OptionsFault::NoMem)?;
+    }
+    Ok(strs)
+}
+
+/// The value that the words give an option, where `clap` reads the same.
+fn agreed_value(
+    alloc: Global,
+    found: Option<&str>,
+    option: ProgramOption,
+    words: &[Text],
+) -> Result<Option<Text>, OptionsFault>
+    ensures { IfOk result (λ value. value ≡ option_value option words.now) }
+{
+    match (found, option_value(option, words)) {
+        (None, None) => Ok(None),
+        (Some(found), Some(value)) if found.as_bytes() == value => {
+            match Text::new(alloc, value) {
+                Ok(text) => Ok(Some(text)),
+                Err(_) => Err(OptionsFault::NoMem),
+            }
+        }
+        _ => Err(OptionsFault::Bad),
+    }
+}
+
+/// Whether a flag is among the words, where `clap` reads the same.
+fn agreed_flag(found: bool, option: ProgramOption, words: &[Text]) -> Result<bool, OptionsFault>
+    ensures { IfOk result (λ flag. flag ≡ has_flag option words.now) }
+{
+    if found == has_flag(option, words) {
+        Ok(found)
+    } else {
+        Err(OptionsFault::Bad)
+    }
+}
+
+/// The port, which `clap` has read as a number.
+fn agreed_port(
+    alloc: Global,
+    found: &ArgMatches,
+    words: &[Text],
+) -> Result<Option<Text>, OptionsFault>
+    ensures { IfOk result (λ value. value ≡ option_value ProgramOption.Port words.now) }
+{
+    match (
+        found.get_one::<u16>("port"),
+        option_value(ProgramOption::Port, words),
+    ) {
+        (None, None) => Ok(None),
+        (Some(_), Some(value)) => match Text::new(alloc, value) {
+            Ok(text) => Ok(Some(text)),
+            Err(_) => Err(OptionsFault::NoMem),
+        },
+        _ => Err(OptionsFault::Bad),
+    }
+}
+
+/// Each option with the value that its word has, where `clap` reads the same.
+fn options_found(alloc: Global, found: &ArgMatches, words: &[Text]) -> Result<Options, OptionsFault>
+    ensures { IfOk result (IsOptionsOf words.now) }
+{
+    let list_devices = agreed_flag(
+        found.get_flag("list-devices"),
+        ProgramOption::ListDevices,
+        words,
+    )?;
+    let all_options = agreed_flag(
+        found.get_flag("all-options"),
+        ProgramOption::AllOptions,
+        words,
+    )?;
+    let dont_scan = agreed_flag(found.get_flag("dont-scan"), ProgramOption::DontScan, words)?;
+    let device_name = agreed_value(
+        alloc,
+        found.get_str("device-name"),
+        ProgramOption::DeviceName,
+        words,
+    )?;
+    let output_file = agreed_value(
+        alloc,
+        found.get_str("output-file"),
+        ProgramOption::OutputFile,
+        words,
+    )?;
+    let config = agreed_value(alloc, found.get_str("config"), ProgramOption::Config, words)?;
+    let net = agreed_value(alloc, found.get_str("net"), ProgramOption::Net, words)?;
+    let port = agreed_port(alloc, found, words)?;
+    let user = agreed_value(alloc, found.get_str("user"), ProgramOption::User, words)?;
+    let password_file = agreed_value(
+        alloc,
+        found.get_str("password-file"),
+        ProgramOption::PasswordFile,
+        words,
+    )?;
+    Ok(Options {
+        list_devices,
+        all_options,
+        dont_scan,
+        device_name,
+        output_file,
+        config,
+        net,
+        port,
+        user,
+        password_file,
+    })
+}
+
+/// The options that the program's words give, as `clap` reads them, each with the value that its word
+/// has. `Bad` where `clap` refuses the words (a port that is not 1 to 65,535, a word that is not UTF-8)
+/// or reads another value; `NoMem` where there is no memory.
+pub fn read_options(alloc: Global, words: &[Text]) -> Result<Options, OptionsFault>
+    ensures { IfOk result (IsOptionsOf words.now) }
+{
+    let strs = as_strs(alloc, words)?;
+    let found = parse(alloc, strs.as_slice())?;
+    options_found(alloc, &found, words)
+}
