@@ -1,0 +1,3 @@
+pub mod ConfigReasons
+pub mod ConfigLines
+pub mod FieldCounts
