@@ -1,2 +1,4 @@
 pub mod FieldLemmas
+pub mod Tables
+pub mod Upto
 pub mod ReadingLemmas

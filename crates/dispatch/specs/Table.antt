@@ -1,0 +1,145 @@
+use Rattle.std.specs.Prelude.{◌≡◌, ◌≢◌, ℕ, zero, suc, ◌+◌, ◌<◌, ◌≤◌, nat_eq, ◌&&◌, ◌||◌, List, [], ◌∷◌, ◌++◌, map, length, Option, Some, None, Bool, true, false, Result, Ok, Err, position, slice_get, slice_set, if◌then◌else◌}
+use Rattle.std.specs.Cmp.Lexicographic.{pointwise}
+use Rattle.device_api.specs.State.{DeviceState, after_reset, after_cancel}
+use Rattle.sane_fixed.specs.declared.status.Status.{Status}
+use Rattle.sane_fixed.specs.declared.status.Status.TheVariants.{DeviceBusy, Inval}
+use Rattle.dispatch.specs.declared.table.place.Slot.{Slot}
+use Rattle.dispatch.specs.declared.table.place.Slot.TheVariants.{In, Out, Gone}
+use Rattle.dispatch.specs.declared.table.place.Place.{Place}
+use Rattle.dispatch.specs.declared.table.place.Lease.{Lease}
+
+-- a slot, place, table or lease, with each device seen as its state
+abbrev pub seen_slot : {D S : Type 0} → (D → S) → Slot D → Slot S
+seen_slot f (In d) = In (f d)
+seen_slot f Out = Out
+seen_slot f Gone = Gone
+
+abbrev pub seen_place : {D S : Type 0} → (D → S) → Place D → Place S
+seen_place f p = record { info = p.info; slot = seen_slot f p.slot }
+
+unfoldable pub table : {D S : Type 0} → (D → S) → List (Place D) → List (Place S)
+table f ps = map (seen_place f) ps
+
+abbrev pub seen_lease : {D S : Type 0} → (D → S) → Lease D → Lease S
+seen_lease f l = record { device = f l.device; place = l.place }
+
+abbrev pub seen_take : {D S : Type 0} → (D → S) → Result (Lease D) Status → Result (Lease S) Status
+seen_take f (Ok l) = Ok (seen_lease f l)
+seen_take f (Err e) = Err e
+
+abbrev pub seen_unplug : {D S : Type 0} → (D → S) → Result D Status → Result S Status
+seen_unplug f (Ok d) = Ok (f d)
+seen_unplug f (Err e) = Err e
+
+-- a table of device states
+abbrev pub Table : Type 0
+Table = List (Place DeviceState)
+
+abbrev pub is_gone : {D : Type 0} → Slot D → Bool
+is_gone (In d) = false
+is_gone Out = false
+is_gone Gone = true
+
+-- whether a place is listed under a name
+abbrev pub is_named : {D : Type 0} → List ℕ → Place D → Bool
+is_named name p = elim p.slot [ In d ↦ pointwise nat_eq p.info.name name | Out ↦ pointwise nat_eq p.info.name name | Gone ↦ false ]
+
+-- the place that is listed under a name
+abbrev pub find_name : {D : Type 0} → List ℕ → List (Place D) → Option ℕ
+find_name name ps = position (is_named name) ps
+
+-- what a slot holds
+abbrev pub held : {D : Type 0} → Slot D → Option D
+held (In d) = Some d
+held Out = None
+held Gone = None
+
+unfoldable pub held_at : {D : Type 0} → List (Place D) → ℕ → Option D
+held_at ps k = elim (slice_get ps k) [ Some p ↦ held p.slot | None ↦ None ]
+
+-- the table with another slot at a place
+unfoldable pub with_slot : {D : Type 0} → List (Place D) → ℕ → Slot D → List (Place D)
+with_slot [] k slot = []
+with_slot (p ∷ ps) zero slot = record p { slot = slot } ∷ ps
+with_slot (p ∷ ps) (suc k) slot = p ∷ with_slot ps k slot
+
+-- what a take answers, by the place that has the name and what is there
+abbrev pub take_of : ℕ → Option DeviceState → Result (Lease DeviceState) Status
+take_of k (Some s) = Ok (record { device = after_reset s; place = k })
+take_of k None = Err DeviceBusy
+
+abbrev pub take_at : Table → Option ℕ → Result (Lease DeviceState) Status
+take_at t (Some k) = take_of k (held_at t k)
+take_at t None = Err Inval
+
+unfoldable pub take_answer : Table → List ℕ → Result (Lease DeviceState) Status
+take_answer t name = take_at t (find_name name t)
+
+-- the table after that answer
+abbrev pub leased : Table → Result (Lease DeviceState) Status → Table
+leased t (Ok l) = with_slot t l.place Out
+leased t (Err e) = t
+
+unfoldable pub after_take : Table → List ℕ → Table
+after_take t name = leased t (take_answer t name)
+
+-- the table after a lease is given back
+unfoldable pub after_give_back : Table → Lease DeviceState → Table
+after_give_back t l = with_slot t l.place (In (after_cancel l.device))
+
+-- a lease of this table: its place is out
+abbrev pub IsLeaseOf : {D : Type 0} → Lease D → List (Place D) → Type 0
+IsLeaseOf l ps = (p : Place _) × ((slice_get ps l.place ≡ Some p) × (p.slot ≡ Out))
+
+-- what an unplug answers, and the table after it
+abbrev pub unplug_of : Option DeviceState → Result DeviceState Status
+unplug_of (Some s) = Ok s
+unplug_of None = Err DeviceBusy
+
+abbrev pub unplug_at : Table → Option ℕ → Result DeviceState Status
+unplug_at t (Some k) = unplug_of (held_at t k)
+unplug_at t None = Err Inval
+
+unfoldable pub unplug_answer : Table → List ℕ → Result DeviceState Status
+unplug_answer t name = unplug_at t (find_name name t)
+
+abbrev pub unplugged_of : Table → ℕ → Option DeviceState → Table
+unplugged_of t k (Some s) = with_slot t k Gone
+unplugged_of t k None = t
+
+abbrev pub unplugged_at : Table → Option ℕ → Table
+unplugged_at t (Some k) = unplugged_of t k (held_at t k)
+unplugged_at t None = t
+
+unfoldable pub after_unplug : Table → List ℕ → Table
+after_unplug t name = unplugged_at t (find_name name t)
+
+-- a registry refuses devices of one name, and more than sixteen
+abbrev pub is_called : List ℕ → DeviceState → Bool
+is_called name s = pointwise nat_eq s.info.name name
+
+abbrev pub has_name : List ℕ → List DeviceState → Bool
+has_name name [] = false
+has_name name (s ∷ ss) = is_called name s || has_name name ss
+
+abbrev pub repeats : List DeviceState → Bool
+repeats [] = false
+repeats (s ∷ ss) = has_name s.info.name ss || repeats ss
+
+-- the table of a new registry: each device is in, and was reset
+abbrev pub fresh_place : DeviceState → Place DeviceState
+fresh_place s = record { info = s.info; slot = In (after_reset s) }
+
+abbrev pub fresh_table : List DeviceState → Table
+fresh_table ss = map fresh_place ss
+
+-- a place for each device, with nothing in it
+abbrev pub vacant_table : {D : Type 0} → List DeviceState → List (Place D)
+vacant_table [] = []
+vacant_table (s ∷ ss) = record { info = s.info; slot = Gone } ∷ vacant_table ss
+
+-- each device in its place
+abbrev pub filled : {D : Type 0} → List (Place D) → List D → List (Place D)
+filled [] ds = []
+filled (p ∷ ps) [] = p ∷ ps
+filled (p ∷ ps) (d ∷ ds) = record { info = p.info; slot = In d } ∷ filled ps ds

@@ -1,0 +1,104 @@
+ghost use Rattle.std.specs.Prelude.{◌≡◌, ◌≢◌, ◌≤◌, ◌<◌, length, [], List, map, IfOk, IfErr, OnErr, OnOk, IsOk, IsTrue};
+ghost use Rattle.device_api.specs.State.{after_reset, DeviceState};
+ghost use Rattle.dispatch.specs.RegistryFault.{fault_of};
+ghost use Rattle.dispatch.specs.Table.{fresh_table, table, seen_take, seen_unplug, seen_lease, take_answer, after_take, after_give_back, unplug_answer, after_unplug, IsLeaseOf};
+
+use crate::table::fresh::{fill, repeats, vacant};
+use crate::table::place::{Lease, Place, Slot};
+use crate::table::reset::reset_all;
+use crate::table::slot::{find_name, put_into, take_from};
+use device_api::Device;
+use sane_fixed::Status;
+use std::alloc::Global;
+use std::marker::Model;
+use std::mem;
+
+#[derive(Drop)]
+pub struct Registry<D = Box<dyn Device>> {
+    places: Vec<Place<D>>,
+}
+
+impl<D> Model for Registry<D> {
+    ghost use Rattle.std.specs.Prelude.{List, ◌≤◌, length};
+    ghost use Rattle.dispatch.specs.declared.table.place.Place.{Place};
+
+    ghost Value = { List (Place D) };
+
+    ghost view = { λ r. r.places.items };
+
+    ghost invariant = { λ r. length r.places.items ≤ 16 };
+}
+
+#[derive(Clone, Copy, Debug, PartialEq, Eq)]
+pub enum RegistryFault {
+    SameName,
+    TooMany,
+    NoMem,
+}
+
+impl<D: Device> Registry<D> {
+    /// The devices in order, each of them reset. Refused devices are given back as they were.
+    pub fn new(alloc: Global, devices: Vec<D>) -> Result<Registry<D>, (RegistryFault, Vec<D>)>
+        ensures ok { IfOk result (λ r. table D.state r ≡ fresh_table (map D.state devices.items)) }
+        ensures accepted { IsOk result → fault_of (map D.state devices.items) ≡ None }
+        ensures fault { IfErr result (λ e. e.0 ≢ RegistryFault.NoMem → fault_of (map D.state devices.items) ≡ Some e.0) }
+        ensures given_back { IfErr result (λ e. e.1 ≡ devices) }
+    {
+        if repeats(&devices) {
+            return Err((RegistryFault::SameName, devices));
+        }
+        if devices.len() > 16 {
+            return Err((RegistryFault::TooMany, devices));
+        }
+        let Ok(mut places) = vacant(alloc, &devices) else {
+            return Err((RegistryFault::NoMem, devices));
+        };
+        let mut devices = devices;
+        reset_all(&mut devices);
+        fill(&mut places, devices);
+        Ok(Registry { places })
+    }
+}
+
+impl<D: Device> Registry<D> {
+    pub fn take(&mut self, name: &[u8]) -> Result<Lease<D>, Status>
+        ensures answer { seen_take D.state result ≡ take_answer (table D.state self.old) name.now }
+        ensures after { table D.state self.new ≡ after_take (table D.state self.old) name.now }
+        ensures leased { IfOk result (λ l. IsLeaseOf l self.new) }
+    {
+        let Some(k) = find_name(&self.places, name) else {
+            return Err(Status::Inval);
+        };
+        let Some(mut device) = take_from(&mut self.places, k) else {
+            return Err(Status::DeviceBusy);
+        };
+        device.reset();
+        Ok(Lease { device, place: k })
+    }
+}
+
+impl<D: Device> Registry<D> {
+    /// The device is cancelled, and its place is in again.
+    pub fn give_back(&mut self, lease: Lease<D>)
+        requires { IsLeaseOf lease self.old }
+        ensures { table D.state self.new ≡ after_give_back (table D.state self.old) (seen_lease D.state lease) }
+    {
+        let Lease { mut device, place } = lease;
+        device.cancel();
+        put_into(&mut self.places, place, Slot::In(device));
+    }
+
+    pub fn unplug(&mut self, name: &[u8]) -> Result<D, Status>
+        ensures answer { seen_unplug D.state result ≡ unplug_answer (table D.state self.old) name.now }
+        ensures after { table D.state self.new ≡ after_unplug (table D.state self.old) name.now }
+    {
+        let Some(k) = find_name(&self.places, name) else {
+            return Err(Status::Inval);
+        };
+        let Some(device) = take_from(&mut self.places, k) else {
+            return Err(Status::DeviceBusy);
+        };
+        put_into(&mut self.places, k, Slot::Gone);
+        Ok(device)
+    }
+}
