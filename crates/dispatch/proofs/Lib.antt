@@ -1,4 +1,6 @@
 pub mod FieldLemmas
 pub mod Tables
+pub mod Names
+pub mod Leases
 pub mod Upto
 pub mod ReadingLemmas

@@ -1,16 +1,14 @@
-use Rattle.std.proofs.Common.{◌≡◌, ℕ, ◌+◌, ◌<◌, List, [], ◌∷◌, ◌++◌, map, take, drop, length, Option, Some, None, Bool, true, false, cond, refl, ap, ◌∙◌, sym, rules, arith, not, zero, suc, slice_get, slice_set, slice_index_or, position, Result, Ok, Err}
-use Rattle.std.specs.List.{position_or_len, prefix_len}
+use Rattle.std.proofs.Common.{◌≡◌, ℕ, ◌<◌, List, [], ◌∷◌, ◌++◌, map, take, drop, length, Option, Some, None, Bool, refl, ap, ◌∙◌, sym, arith, not, zero, suc, slice_get, slice_set, slice_index_or, Ok, Err}
+use Rattle.std.specs.List.{prefix_len}
 use Rattle.std.specs.Option.{option_map, OnSome}
 use Rattle.std.proofs.lemmas.List.{length-map}
 use Rattle.std.proofs.Math.Seq.{take-append_seam}
 use Rattle.device_api.specs.State.{DeviceState, after_reset, after_cancel}
-use Rattle.sane_fixed.specs.declared.status.Status.{Status}
 use Rattle.sane_fixed.specs.declared.status.Status.TheVariants.{DeviceBusy, Inval}
 use Rattle.dispatch.specs.declared.table.place.Slot.{Slot}
 use Rattle.dispatch.specs.declared.table.place.Slot.TheVariants.{In, Out, Gone}
 use Rattle.dispatch.specs.declared.table.place.Place.{Place}
-use Rattle.dispatch.specs.Table.{seen_slot, seen_place, table, is_named, find_name, held, held_at, with_slot, take_answer, after_take, unplug_answer, after_unplug, after_give_back, seen_lease, IsLeaseOf, filled, vacant_table, fresh_table, fresh_place, Table, take_at, take_of, leased, unplug_at, unplug_of, unplugged_at, unplugged_of}
-use Rattle.dispatch.specs.declared.table.place.Lease.{Lease}
+use Rattle.dispatch.specs.Table.{seen_slot, seen_place, table, is_named, find_name, held, held_at, with_slot, take_answer, after_take, unplug_answer, after_unplug, after_give_back, filled, vacant_table, fresh_table, fresh_place, Table, take_at, take_of, leased, unplug_at, unplug_of, unplugged_at, unplugged_of}
 use Rattle.device_api.specs.declared.device_info.DeviceInfo.{DeviceInfo}
 
 prefix_len-map : {X Y : Type 0} (f : X → Y) (p : Y → Bool) (q : X → Bool) → ((x : X) → p (f x) ≡ q x) → (xs : List X) → prefix_len p (map f xs) ≡ prefix_len q xs
@@ -175,8 +173,6 @@ fresh_is f (s ∷ ss) (d ∷ ds) h =
 pub put_back : {X : Type 0} (n : ℕ) (xs new : List X) → n ≡ length xs → length new ≡ length xs → take n (new ++ drop (length new) xs) ≡ new
 put_back n xs new e h = rw (e, ← h) (take-append_seam new _)
 
-pub leased_after : {D : Type 0} (ps : List (Place D)) (k : ℕ) (d : D) → k < length ps → IsLeaseOf (record { device = d; place = k }) (with_slot ps k Out)
-unfolding with_slot
-leased_after [] k d h = absurd (omega arith)
-leased_after (p ∷ ps) zero d h = (record p { slot = Out }, (refl, refl))
-leased_after (p ∷ ps) (suc k) d h = leased_after ps k d (omega arith)
+pub length-table : {D S : Type 0} (f : D → S) (ps : List (Place D)) → length (table f ps) ≡ length ps
+unfolding table
+length-table f ps = length-map ps (seen_place f)

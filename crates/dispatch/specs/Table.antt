@@ -1,6 +1,7 @@
-use Rattle.std.specs.Prelude.{◌≡◌, ◌≢◌, ℕ, zero, suc, ◌+◌, ◌<◌, ◌≤◌, nat_eq, ◌&&◌, ◌||◌, List, [], ◌∷◌, ◌++◌, map, length, Option, Some, None, Bool, true, false, Result, Ok, Err, position, slice_get, slice_set, if◌then◌else◌}
+use Rattle.std.specs.Prelude.{◌≡◌, ℕ, zero, suc, nat_eq, ◌||◌, List, [], ◌∷◌, map, Option, Some, None, Bool, true, false, Result, Ok, Err, position, slice_get, if◌then◌else◌}
 use Rattle.std.specs.Cmp.Lexicographic.{pointwise}
 use Rattle.device_api.specs.State.{DeviceState, after_reset, after_cancel}
+use Rattle.device_api.specs.declared.device_info.DeviceInfo.{DeviceInfo}
 use Rattle.sane_fixed.specs.declared.status.Status.{Status}
 use Rattle.sane_fixed.specs.declared.status.Status.TheVariants.{DeviceBusy, Inval}
 use Rattle.dispatch.specs.declared.table.place.Slot.{Slot}
@@ -87,9 +88,27 @@ after_take t name = leased t (take_answer t name)
 unfoldable pub after_give_back : Table → Lease DeviceState → Table
 after_give_back t l = with_slot t l.place (In (after_cancel l.device))
 
--- a lease of this table: its place is out
-abbrev pub IsLeaseOf : {D : Type 0} → Lease D → List (Place D) → Type 0
-IsLeaseOf l ps = (p : Place _) × ((slice_get ps l.place ≡ Some p) × (p.slot ≡ Out))
+-- a lease of this table: its place is out, and its device has that place's name
+pub record IsLeaseOf (lease : Lease DeviceState) (t : Table) : Type 0 where
+  pub place : Place DeviceState
+  pub at : slice_get t lease.place ≡ Some place
+  pub out : place.slot ≡ Out
+  pub name : lease.device.info.name ≡ place.info.name
+
+-- what stands in a place has that place's name
+abbrev pub HasName : DeviceInfo → Slot DeviceState → Type 0
+HasName info (In s) = s.info.name ≡ info.name
+HasName info Out = Unit {0}
+HasName info Gone = Unit {0}
+
+abbrev pub IsSound : Table → Type 0
+IsSound [] = Unit {0}
+IsSound (p ∷ ps) = HasName p.info p.slot × IsSound ps
+
+-- what the devices are that are not unplugged, in their order
+abbrev pub listed : {D : Type 0} → List (Place D) → List DeviceInfo
+listed [] = []
+listed (p ∷ ps) = if is_gone p.slot then listed ps else p.info ∷ listed ps
 
 -- what an unplug answers, and the table after it
 abbrev pub unplug_of : Option DeviceState → Result DeviceState Status

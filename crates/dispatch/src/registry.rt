@@ -1,14 +1,15 @@
 ghost use Rattle.std.specs.Prelude.{◌≡◌, ◌≢◌, ◌≤◌, ◌<◌, length, [], List, map, IfOk, IfErr, OnErr, OnOk, IsOk, IsTrue};
 ghost use Rattle.device_api.specs.State.{after_reset, DeviceState};
-ghost use Rattle.dispatch.specs.RegistryFault.{fault_of};
-ghost use Rattle.dispatch.specs.Table.{fresh_table, table, seen_take, seen_unplug, seen_lease, take_answer, after_take, after_give_back, unplug_answer, after_unplug, IsLeaseOf};
+ghost use Rattle.dispatch.specs.RegistryFault.{HasFault, MayStand};
+ghost use Rattle.dispatch.specs.Table.{fresh_table, table, seen_take, seen_unplug, seen_lease, take_answer, after_take, after_give_back, unplug_answer, after_unplug, IsLeaseOf, listed};
 
 use crate::table::fresh::{fill, repeats, vacant};
+use crate::table::listing::listed;
 use crate::table::place::{Lease, Place, Slot};
 use crate::table::reset::reset_all;
 use crate::table::slot::{find_name, put_into, take_from};
-use device_api::Device;
-use sane_fixed::Status;
+use device_api::{Device, DeviceInfo};
+use sane_fixed::{NoMem, Status};
 use std::alloc::Global;
 use std::marker::Model;
 use std::mem;
@@ -40,8 +41,8 @@ impl<D: Device> Registry<D> {
     /// The devices in order, each of them reset. Refused devices are given back as they were.
     pub fn new(alloc: Global, devices: Vec<D>) -> Result<Registry<D>, (RegistryFault, Vec<D>)>
         ensures ok { IfOk result (λ r. table D.state r ≡ fresh_table (map D.state devices.items)) }
-        ensures accepted { IsOk result → fault_of (map D.state devices.items) ≡ None }
-        ensures fault { IfErr result (λ e. e.0 ≢ RegistryFault.NoMem → fault_of (map D.state devices.items) ≡ Some e.0) }
+        ensures accepted { OnOk result (MayStand (map D.state devices.items)) }
+        ensures fault { IfErr result (λ e. HasFault e.0 (map D.state devices.items)) }
         ensures given_back { IfErr result (λ e. e.1 ≡ devices) }
     {
         if repeats(&devices) {
@@ -64,7 +65,6 @@ impl<D: Device> Registry<D> {
     pub fn take(&mut self, name: &[u8]) -> Result<Lease<D>, Status>
         ensures answer { seen_take D.state result ≡ take_answer (table D.state self.old) name.now }
         ensures after { table D.state self.new ≡ after_take (table D.state self.old) name.now }
-        ensures leased { IfOk result (λ l. IsLeaseOf l self.new) }
     {
         let Some(k) = find_name(&self.places, name) else {
             return Err(Status::Inval);
@@ -78,9 +78,19 @@ impl<D: Device> Registry<D> {
 }
 
 impl<D: Device> Registry<D> {
+    /// What the devices are, in the order in which they were handed in: leased ones too, unplugged ones
+    /// not. The only error is want of memory.
+    pub fn list(&self, alloc: Global) -> Result<Vec<DeviceInfo>, NoMem>
+        ensures { IfOk result (λ infos. infos.items ≡ listed (table D.state self.now)) }
+    {
+        listed(alloc, self.places.as_slice())
+    }
+}
+
+impl<D: Device> Registry<D> {
     /// The device is cancelled, and its place is in again.
     pub fn give_back(&mut self, lease: Lease<D>)
-        requires { IsLeaseOf lease self.old }
+        requires { IsLeaseOf (seen_lease D.state lease) (table D.state self.old) }
         ensures { table D.state self.new ≡ after_give_back (table D.state self.old) (seen_lease D.state lease) }
     {
         let Lease { mut device, place } = lease;
