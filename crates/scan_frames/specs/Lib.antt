@@ -1,2 +1,7 @@
 pub mod Line
 pub mod Frames
+pub mod Samples
+pub mod Rows
+pub mod Reading
+pub mod Buffers
+pub mod Answered
