@@ -2,3 +2,5 @@ pub mod Lines
 pub mod Seen
 pub mod Scans
 pub mod Frames
+pub mod Shown
+pub mod Zeros

@@ -1,5 +1,6 @@
 pub mod Line
 pub mod Frames
+pub mod Filler
 pub mod Samples
 pub mod Rows
 pub mod Reading
