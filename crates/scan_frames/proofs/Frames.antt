@@ -1,10 +1,9 @@
 -- A frame from its beginning to its end.
-use Rattle.std.proofs.Common.{◌≡◌, ℕ, zero, suc, ◌<◌, ◌≤◌, ◌+◌, ◌-◌, ◌*◌, ◌/◌, ◌%◌, inl, inr, Bool, true, false, List, length, take, drop, arith, refl, sym, ap, ◌∙◌, subst}
-use Rattle.std.specs.Prelude.{min, ◌==◌, ◌&&◌, nat_le, Result, Ok, Err}
+use Rattle.std.proofs.Common.{◌≡◌, ℕ, ◌<◌, ◌≤◌, ◌+◌, ◌-◌, ◌*◌, inl, inr, Bool, true, false, List, length, take, drop, arith, refl, sym, ap, ◌∙◌, subst}
+use Rattle.std.specs.Prelude.{min, ◌==◌, ◌&&◌, nat_le}
 use Rattle.std.proofs.lemmas.Bool.{cases_lt}
 use Rattle.std.proofs.lemmas.Bool.Decides.{nat_tests}
 use Rattle.std.proofs.lemmas.Nat.{mul-le}
-use Rattle.netpbm.specs.FileText.{joined}
 use Rattle.sane_fixed.specs.declared.frame_format.FrameFormat.{FrameFormat}
 use Rattle.sane_fixed.specs.declared.frame_format.FrameFormat.TheVariants.{Gray as GrayFrame, Rgb as RgbFrame, Red as RedFrame, Green as GreenFrame, Blue as BlueFrame}
 use Rattle.page_picture.specs.Page.{Sheet}
@@ -17,8 +16,7 @@ use Rattle.scan_frames.specs.declared.setup.Setup.{Setup}
 use Rattle.scan_frames.specs.Line.{packing_of, line_size}
 use Rattle.scan_frames.specs.Frames.{has_picture, height_of, width_of, format_at, bytes_per_line, line_bytes, payload, pass_length}
 use Rattle.scan_frames.specs.Samples.{HasZeros, IsZeroFrom}
-use Rattle.scan_frames.specs.Rows.{TakesRows, StopsFailing}
-use Rattle.scan_frames.specs.Reading.{FrameState, IsFrame, IsCounted, GivesBytes, HasBegun, given_in, left_of_line}
+use Rattle.scan_frames.specs.Reading.{FrameState, IsFrame, IsCounted, GivesBytes, HasBegun, given_in}
 use Rattle.scan_frames.specs.Buffers.{IsFresh, MakesLine, KeepsCount, HasBytes, GivesLine}
 use Rattle.scan_frames.proofs.Scans.{length-line_bytes, joined_part, mul-split, lines_and_front, left_in_line, left_whole, made_not_given}
 

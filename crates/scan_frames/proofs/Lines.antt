@@ -1,16 +1,16 @@
 -- From the samples of a line to its bytes.
-use Rattle.std.proofs.Common.{◌≡◌, ℕ, zero, suc, ◌<◌, ◌≤◌, ◌+◌, ◌-◌, ◌*◌, ◌/◌, ◌%◌, ◌^◌, inl, inr, Bool, true, false, List, [], ◌∷◌, ◌++◌, length, get_or, arith, refl, sym, ap, ◌∙◌, subst}
+use Rattle.std.proofs.Common.{◌≡◌, ℕ, zero, suc, ◌<◌, ◌+◌, ◌*◌, ◌/◌, ◌%◌, inl, inr, Bool, true, false, List, [], ◌∷◌, length, arith, refl, sym, ap, ◌∙◌, subst}
 use Rattle.std.specs.Prelude.{nat_lt, ◌==◌, slice_index, if◌then◌else◌}
 use Rattle.std.proofs.lemmas.Bool.{cases_lt}
 use Rattle.std.proofs.lemmas.Bool.Decides.{nat_tests}
 use Rattle.std.proofs.lemmas.List.{ext_get_or}
-use Rattle.netpbm.specs.FileText.{joined, bits_byte, binary}
+use Rattle.netpbm.specs.FileText.{binary}
 use Rattle.netpbm.proofs.WritingLaws.{joined_at, length-joined}
 use Rattle.page_picture.specs.Shows.{channels_within}
 use Rattle.page_picture.specs.Tone.{tone, brightness}
 use Rattle.page_picture.specs.Columns.{Columns, place_at}
 use Rattle.page_picture.specs.declared.scene.Mode.{Mode}
-use Rattle.page_picture.specs.declared.scene.Mode.TheVariants.{Gray, Color}
+use Rattle.page_picture.specs.declared.scene.Mode.TheVariants.{Gray}
 use Rattle.page_picture.specs.declared.scene.Scene.{Scene}
 use Rattle.sane_fixed.specs.declared.byte_order.ByteOrder.{ByteOrder}
 use Rattle.sane_fixed.specs.declared.frame_format.FrameFormat.{FrameFormat}
@@ -22,7 +22,7 @@ use Rattle.page_picture.specs.declared.scene.DeviceKind.TheVariants.{Flatbed, Ha
 use Rattle.scan_frames.specs.declared.setup.Setup.{Setup}
 use Rattle.scan_frames.specs.Line.{packing_of, line_byte, numbers, line_of, half}
 use Rattle.scan_frames.specs.Frames.{channel_in, color_at, format_at, format_of, takes_colors}
-use Rattle.scan_frames.specs.Samples.{HasSample, end_of, HasZeros, value_in, value_at, gray_in, bit_in, bits_in}
+use Rattle.scan_frames.specs.Samples.{HasSample, HasZeros, value_in, value_at, gray_in, bit_in, bits_in}
 
 pub length-numbers : (f : ℕ → ℕ) (n : ℕ) → length (numbers f n) ≡ n
 length-numbers f n = omega (arith, length-joined (λ i. f i ∷ []) 1 n (λ i. refl))

@@ -1,19 +1,19 @@
 -- A frame from line to line.
-use Rattle.std.proofs.Common.{◌≡◌, ℕ, zero, suc, ◌<◌, ◌≤◌, ◌+◌, ◌-◌, ◌*◌, ◌/◌, ◌%◌, inl, inr, Bool, true, false, List, [], ◌∷◌, ◌++◌, length, take, drop, get_or, arith, refl, sym, ap, ◌∙◌, subst, length-append, length-drop}
-use Rattle.std.specs.Prelude.{nat_lt, ◌&&◌, ◌==◌, slice_index, if◌then◌else◌, min}
+use Rattle.std.proofs.Common.{◌≡◌, ℕ, ◌<◌, ◌≤◌, ◌+◌, ◌-◌, ◌*◌, ◌/◌, ◌%◌, inl, inr, Bool, true, false, List, ◌++◌, length, take, drop, get_or, arith, refl, sym, ap, ◌∙◌, subst, length-drop}
+use Rattle.std.specs.Prelude.{nat_lt, slice_index, if◌then◌else◌}
 use Rattle.std.proofs.lemmas.Bool.{cases_lt}
 use Rattle.std.proofs.lemmas.Bool.Decides.{nat_tests}
 use Rattle.std.proofs.lemmas.List.{ext_get_or, get_or-take, get_or-drop, length-take-le}
 use Rattle.std.proofs.lemmas.Nat.{le-div, mul-le, mod-mul-add}
 use Rattle.std.proofs.Math.Nat.{div-mul-le_self}
 use Rattle.std.proofs.Math.Seq.{take-append_seam}
-use Rattle.netpbm.specs.FileText.{joined, bits_byte, binary}
+use Rattle.netpbm.specs.FileText.{joined}
 use Rattle.netpbm.proofs.WritingLaws.{joined_at, length-joined}
 use Rattle.sane_fixed.specs.declared.byte_order.ByteOrder.{ByteOrder}
 use Rattle.sane_fixed.specs.declared.frame_format.FrameFormat.{FrameFormat}
 use Rattle.sane_fixed.specs.declared.frame_format.FrameFormat.TheVariants.{Gray as GrayFrame, Rgb as RgbFrame, Red as RedFrame, Green as GreenFrame, Blue as BlueFrame}
 use Rattle.page_picture.specs.Page.{Sheet, IsRow}
-use Rattle.page_picture.specs.Extent.{left_of, top_of}
+use Rattle.page_picture.specs.Extent.{top_of}
 use Rattle.page_picture.specs.Seen.{dot_at, seen_at, row_seen, column_seen}
 use Rattle.page_picture.specs.Tone.{tone, brightness}
 use Rattle.page_picture.specs.Meaning.{sample_of}
@@ -27,11 +27,11 @@ use Rattle.scan_frames.specs.declared.setup.Packing.{Packing}
 use Rattle.scan_frames.specs.declared.setup.Packing.TheVariants.{Bits, Bytes, Words}
 use Rattle.scan_frames.specs.declared.setup.Setup.{Setup}
 use Rattle.scan_frames.specs.Line.{packing_of, line_byte, numbers, line_of, half}
-use Rattle.scan_frames.specs.Frames.{has_picture, height_of, width_of, channel_in, format_at, bytes_per_line, line_bytes, payload, pass_length}
-use Rattle.scan_frames.specs.Samples.{HasZeros, IsZeroFrom, value_in, value_at}
-use Rattle.scan_frames.specs.Rows.{IsSeen, Sees, HasRow, IsWhiteBehind, TakesRows, StopsFailing}
-use Rattle.scan_frames.specs.Reading.{FrameState, IsFrame, IsCounted, GivesBytes, HasBegun, given_in, left_of_line, row_of}
-use Rattle.scan_frames.specs.Buffers.{IsFresh, MakesLine, KeepsCount, HasBytes, GivesLine}
+use Rattle.scan_frames.specs.Frames.{width_of, channel_in, format_at, bytes_per_line, line_bytes}
+use Rattle.scan_frames.specs.Samples.{HasZeros, value_at}
+use Rattle.scan_frames.specs.Rows.{IsSeen, Sees, HasRow, IsWhiteBehind, TakesRows}
+use Rattle.scan_frames.specs.Reading.{FrameState, IsFrame, IsCounted, given_in, left_of_line, row_of}
+use Rattle.scan_frames.specs.Buffers.{MakesLine}
 use Rattle.scan_frames.proofs.Lines.{length-numbers, numbers_at, sample_place, binary-same}
 use Rattle.scan_frames.proofs.Seen.{off_page}
 

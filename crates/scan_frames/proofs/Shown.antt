@@ -1,11 +1,10 @@
 -- The frames show the picture.
-use Rattle.std.proofs.Common.{◌≡◌, ◌⊎◌, ℕ, zero, suc, ◌<◌, ◌≤◌, ◌+◌, ◌-◌, ◌*◌, ◌/◌, ◌%◌, inl, inr, Bool, true, false, List, [], ◌∷◌, length, get_or, arith, refl, sym, ap, ◌∙◌, subst}
-use Rattle.std.specs.Prelude.{nat_lt, nat_le, ◌&&◌, ◌==◌, slice_index, if◌then◌else◌, Option, Some, None, not, ◌^◌, ◌≢◌}
-use Rattle.std.proofs.lemmas.Bool.{cases_lt}
+use Rattle.std.proofs.Common.{◌≡◌, ◌⊎◌, ℕ, ◌<◌, ◌≤◌, ◌+◌, ◌-◌, ◌*◌, ◌/◌, ◌%◌, inl, inr, Bool, true, false, List, [], ◌∷◌, arith, refl, sym, ap, ◌∙◌, subst}
+use Rattle.std.specs.Prelude.{nat_lt, ◌==◌, slice_index, if◌then◌else◌, Some, None, not, ◌^◌, ◌≢◌}
 use Rattle.std.proofs.lemmas.Bool.Decides.{nat_tests}
-use Rattle.netpbm.specs.Picture.{Picture, IsPlace, IsPicture}
+use Rattle.netpbm.specs.Picture.{Picture, IsPicture}
 use Rattle.netpbm.specs.Pnm.{bit_row}
-use Rattle.netpbm.specs.FileText.{joined, bits_byte}
+use Rattle.netpbm.specs.FileText.{bits_byte}
 use Rattle.netpbm.proofs.WritingLaws.{joined_at, length-joined, binary_bit}
 use Rattle.sane_fixed.specs.declared.byte_order.ByteOrder.{ByteOrder}
 use Rattle.sane_fixed.specs.declared.byte_order.ByteOrder.TheVariants.{Little, Big}
@@ -14,8 +13,8 @@ use Rattle.sane_fixed.specs.declared.frame_format.FrameFormat.TheVariants.{Gray 
 use Rattle.page_picture.specs.Page.{Sheet, IsSheet}
 use Rattle.page_picture.specs.Seen.{seen_at}
 use Rattle.page_picture.specs.Tone.{tone, brightness}
-use Rattle.page_picture.specs.Meaning.{channels_in, sample_of, picture_of, greatest_at}
-use Rattle.page_picture.specs.Extent.{is_side, shows_depth, extent_of}
+use Rattle.page_picture.specs.Meaning.{channels_in, sample_of, picture_of}
+use Rattle.page_picture.specs.Extent.{shows_depth}
 use Rattle.page_picture.specs.Shows.{Frame, two_bytes, frame_sample, channels_within, channels_alone, color_of, row_size, IsDepth, HasLineShape, HasLines, FitsPicture, ShowsAlone, ShowsColor, ShowsColors, ShowsFrames}
 use Rattle.page_picture.specs.declared.scene.DeviceKind.{DeviceKind}
 use Rattle.page_picture.specs.declared.scene.DeviceKind.TheVariants.{Flatbed, Hand, ThreePass}
@@ -28,11 +27,11 @@ use Rattle.scan_frames.specs.declared.setup.Packing.TheVariants.{Bits, Bytes, Wo
 use Rattle.scan_frames.specs.declared.setup.PassOrder.{PassOrder}
 use Rattle.scan_frames.specs.declared.setup.PassOrder.TheVariants.{Rgb, Rbg, Gbr, Grb, Brg, Bgr}
 use Rattle.scan_frames.specs.declared.setup.Setup.{Setup}
-use Rattle.scan_frames.specs.Line.{packing_of, line_size, line_byte, line_of, half, numbers}
-use Rattle.scan_frames.specs.Frames.{IsSetup, has_picture, height_of, width_of, takes_colors, last_pass, color_at, format_of, format_at, channel_in, bytes_per_line, line_bytes, payload, pass_length, lines_told, if_picture, params_at, frame_of, frames_of}
+use Rattle.scan_frames.specs.Line.{packing_of, line_size, line_byte, line_of, half}
+use Rattle.scan_frames.specs.Frames.{IsSetup, has_picture, height_of, width_of, takes_colors, color_at, format_of, format_at, channel_in, bytes_per_line, line_bytes, payload, lines_told, if_picture, params_at, frame_of, frames_of}
 use Rattle.scan_frames.proofs.Lines.{numbers_at, gray_format}
-use Rattle.scan_frames.proofs.Scans.{length-line_of, length-line_bytes}
-use Rattle.scan_frames.proofs.Frames.{Picturesque, has_sides, line_most}
+use Rattle.scan_frames.proofs.Scans.{length-line_bytes}
+use Rattle.scan_frames.proofs.Frames.{has_sides, line_most}
 
 -- ---- a byte of the payload
 

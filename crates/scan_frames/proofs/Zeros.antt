@@ -1,18 +1,17 @@
 -- What follows the pixels of a line is zero.
-use Rattle.std.proofs.Common.{◌≡◌, ◌⊎◌, ℕ, ◌<◌, ◌≤◌, ◌+◌, ◌-◌, ◌*◌, ◌/◌, ◌%◌, inl, inr, Bool, true, false, arith, refl, sym, ap, ◌∙◌, subst}
+use Rattle.std.proofs.Common.{◌≡◌, ◌⊎◌, ℕ, ◌<◌, ◌≤◌, ◌+◌, ◌-◌, ◌*◌, ◌/◌, ◌%◌, inl, inr, Bool, false, arith, refl, sym, ap, ◌∙◌, subst}
 use Rattle.std.specs.Prelude.{nat_lt, ◌==◌, ◌^◌, slice_index, if◌then◌else◌}
 use Rattle.std.proofs.lemmas.Bool.Decides.{nat_tests}
-use Rattle.netpbm.specs.FileText.{binary, bits_byte}
+use Rattle.netpbm.specs.FileText.{bits_byte}
 use Rattle.netpbm.proofs.WritingLaws.{binary_bit}
 use Rattle.netpbm.specs.Pnm.{bit_row}
 use Rattle.sane_fixed.specs.declared.byte_order.ByteOrder.{ByteOrder}
 use Rattle.page_picture.specs.Page.{Sheet}
 use Rattle.page_picture.specs.Shows.{channels_within}
-use Rattle.scan_frames.specs.declared.setup.Packing.{Packing}
 use Rattle.scan_frames.specs.declared.setup.Packing.TheVariants.{Bits, Bytes, Words}
 use Rattle.scan_frames.specs.declared.setup.Setup.{Setup}
 use Rattle.scan_frames.specs.Line.{packing_of, line_byte, half}
-use Rattle.scan_frames.specs.Frames.{IsSetup, bytes_per_line, channel_in, format_at, has_picture, height_of, payload, width_of}
+use Rattle.scan_frames.specs.Frames.{IsSetup, bytes_per_line, channel_in, format_at, height_of, payload, width_of}
 use Rattle.scan_frames.specs.Filler.{EndsInZeros}
 use Rattle.scan_frames.proofs.Lines.{binary-same}
 use Rattle.scan_frames.proofs.Shown.{samples_at, payload_at, bit_sample, bit_under}

@@ -1,9 +1,9 @@
 -- The buffers of a frame, step by step.
-use Rattle.std.specs.Prelude.{ℕ, ◌+◌, ◌-◌, ◌<◌, ◌≤◌, ◌≡◌, List, length, take, drop, min, Result, Ok, Err}
+use Rattle.std.specs.Prelude.{ℕ, ◌+◌, ◌-◌, ◌<◌, ◌≡◌, List, length, take, drop, min, Result, Ok, Err}
 use Rattle.page_picture.specs.Page.{Sheet}
 use Rattle.page_picture.specs.Columns.{columns_of}
 use Rattle.page_picture.specs.Source.{SourceState}
-use Rattle.scan_frames.specs.Frames.{bytes_per_line, height_of, pass_length}
+use Rattle.scan_frames.specs.Frames.{bytes_per_line, pass_length}
 use Rattle.scan_frames.specs.Samples.{IsZeroFrom}
 use Rattle.scan_frames.specs.Rows.{IsWhiteBehind, TakesRows, StopsFailing}
 use Rattle.scan_frames.specs.Reading.{FrameState, IsFrame, IsCounted, given_in, left_of_line}

@@ -1,5 +1,5 @@
 -- A frame that is read, line by line, from a source that gives its page row by row.
-use Rattle.std.specs.Prelude.{ℕ, ◌+◌, ◌-◌, ◌*◌, ◌/◌, ◌%◌, ◌<◌, ◌≤◌, ◌≡◌, true, false, List, length, take, drop, min, Result, Ok, Err}
+use Rattle.std.specs.Prelude.{ℕ, ◌+◌, ◌-◌, ◌*◌, ◌%◌, ◌<◌, ◌≤◌, ◌≡◌, true, false, List, length, take, drop, min, Result, Ok, Err}
 use Rattle.page_picture.specs.Page.{Sheet, IsRow}
 use Rattle.page_picture.specs.Seen.{row_seen}
 use Rattle.page_picture.specs.Columns.{Columns, columns_of}

@@ -20,6 +20,6 @@ pub fn lines_end_in_zeros()
 {}
 
 /// The entries of a gamma table are bytes, as `frames_show_the_picture` wants them.
-pub fn gamma_entries_are_bytes(table: &[u8; 256])
+pub fn gamma_entries_are_bytes(table: &[u8])
     ensures { (i : ℕ) → slice_index table.now i < 2 ^ 8 }
 {}

@@ -13,9 +13,7 @@ mod setup;
 pub use faults::{BeginFault, ReadEnd};
 pub use frame_rows::FrameRows;
 pub use laws::{frames_show_the_picture, gamma_entries_are_bytes, lines_end_in_zeros};
-pub use pass::{
-    bytes_per_line, channel_in, channels_within, format_at, has_picture, last_pass, params, sides,
-};
+pub use pass::{has_picture, last_pass, params};
 pub use setup::{Packing, PassOrder, Setup, packing_of};
 
 #[cfg(test)]

@@ -25,11 +25,8 @@ fn takes_colors(kind: DeviceKind, mode: Mode) -> bool
 pub fn last_pass(setup: &Setup) -> u32
     ensures { result ≡ last_pass setup.now }
 {
-    if takes_colors(setup.scene.kind, setup.scene.mode) {
-        2
-    } else {
-        0
-    }
+    let three = takes_colors(setup.scene.kind, setup.scene.mode);
+    if three { 2 } else { 0 }
 }
 
 /// The first, second or third of three.

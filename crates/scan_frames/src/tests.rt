@@ -1,13 +1,13 @@
-ghost use Rattle.std.specs.Prelude.{◌≡◌, ◌<◌, ◌≤◌};
+ghost use Rattle.std.specs.Prelude.{◌≡◌, ◌⊎◌};
 ghost use Rattle.scan_frames.specs.Frames.{IsSetup};
 
+use crate::pass::{bytes_per_line, format_at};
 use crate::{
-    BeginFault, FrameRows, PassOrder, ReadEnd, Setup, bytes_per_line, format_at,
-    frames_show_the_picture, gamma_entries_are_bytes, has_picture, last_pass, lines_end_in_zeros,
-    params,
+    BeginFault, FrameRows, Packing, PassOrder, ReadEnd, Setup, frames_show_the_picture,
+    gamma_entries_are_bytes, has_picture, last_pass, lines_end_in_zeros, packing_of, params,
 };
 use page_picture::{DeviceKind, FailingPage, MemoryPage, Mode, Page, PageSource, Scene, read_page};
-use sane_fixed::{ByteOrder, Fixed, FrameFormat, Params};
+use sane_fixed::{ByteOrder, Fixed, FrameFormat, Params, Status};
 use std::alloc::Global;
 use std::process::Abort;
 
@@ -172,63 +172,72 @@ fn reads_end_with_the_line(rt: HostRuntime) {
 fn one_red_place(rt: HostRuntime) {
     let red = b"P6\n1 1\n255\n\xFF\x00\x00";
     let alloc = rt.alloc();
+    shows(
+        &rt,
+        alloc,
+        &setup(DeviceKind::Flatbed, Mode::Gray, 8, 1, 1),
+        red,
+        26,
+        &[0x4C],
+    );
+    shows(
+        &rt,
+        alloc,
+        &setup(DeviceKind::Flatbed, Mode::Gray, 16, 1, 1),
+        red,
+        26,
+        &[0x4C, 0x8A],
+    );
+    shows(
+        &rt,
+        alloc,
+        &setup(DeviceKind::Flatbed, Mode::Gray, 1, 1, 1),
+        red,
+        26,
+        &[0x80],
+    );
     let mut little = setup(DeviceKind::Flatbed, Mode::Gray, 16, 1, 1);
     little.order = ByteOrder::Little;
-    for (setup, want) in [
-        (setup(DeviceKind::Flatbed, Mode::Gray, 8, 1, 1), &[0x4C][..]),
-        (
-            setup(DeviceKind::Flatbed, Mode::Gray, 16, 1, 1),
-            &[0x4C, 0x8A][..],
-        ),
-        (little, &[0x8A, 0x4C][..]),
-        (setup(DeviceKind::Flatbed, Mode::Gray, 1, 1, 1), &[0x80][..]),
-        (
-            setup(DeviceKind::Flatbed, Mode::Color, 16, 1, 1),
-            &[0xFF, 0xFF, 0, 0, 0, 0][..],
-        ),
-    ] {
-        shows(&rt, alloc, &setup, red, 26, want);
+    shows(&rt, alloc, &little, red, 26, &[0x8A, 0x4C]);
+    let color = setup(DeviceKind::Flatbed, Mode::Color, 16, 1, 1);
+    shows(&rt, alloc, &color, red, 26, &[0xFF, 0xFF, 0, 0, 0, 0]);
+}
+
+/// The passes of a three-pass scanner take the colors so.
+fn passes_are(rt: &impl Abort, alloc: Global, passes: PassOrder, formats: [FrameFormat; 3]) {
+    let text = b"P6\n2 1\n255\n\x01\x02\x03\x04\x05\x06";
+    let mut source = MemoryPage::new(page(rt, alloc, text, 26));
+    let color = Setup {
+        passes,
+        ..setup(DeviceKind::ThreePass, Mode::Color, 8, 2, 1)
+    };
+    assert_eq!(rt; last_pass(&color), 2);
+    for pass in 0..3u32 {
+        let format = formats[pass as usize];
+        assert_eq!(rt; format_at(&color, pass), format);
+        let want = match format {
+            FrameFormat::Red => [1, 4],
+            FrameFormat::Green => [2, 5],
+            _ => [3, 6],
+        };
+        let told = params(&source, &color, pass);
+        assert_eq!(rt; (told.format, told.last_frame), (format, pass == 2));
+        assert_eq!(rt; (told.bytes_per_line, told.lines), (2, Some(1)));
+        let (got, _, _) = frame_bytes(rt, alloc, &mut source, &color, pass).expect(rt, "a frame");
+        assert_eq!(rt; got.as_slice(), &want[..]);
     }
 }
 
 #[test]
 fn three_passes_in_their_order(rt: HostRuntime) {
     let alloc = rt.alloc();
-    let mut source = MemoryPage::new(page(
-        &rt,
-        alloc,
-        b"P6\n2 1\n255\n\x01\x02\x03\x04\x05\x06",
-        26,
-    ));
-    let mut color = setup(DeviceKind::ThreePass, Mode::Color, 8, 2, 1);
-    assert_eq!(&rt; last_pass(&color), 2);
     let (red, green, blue) = (FrameFormat::Red, FrameFormat::Green, FrameFormat::Blue);
-    for (order, formats) in [
-        (PassOrder::Rgb, [red, green, blue]),
-        (PassOrder::Rbg, [red, blue, green]),
-        (PassOrder::Gbr, [green, blue, red]),
-        (PassOrder::Grb, [green, red, blue]),
-        (PassOrder::Brg, [blue, red, green]),
-        (PassOrder::Bgr, [blue, green, red]),
-    ] {
-        color.passes = order;
-        for pass in 0..3u32 {
-            let format = formats[pass as usize];
-            assert_eq!(&rt; format_at(&color, pass), format);
-            let want = match format {
-                FrameFormat::Red => [1, 4],
-                FrameFormat::Green => [2, 5],
-                _ => [3, 6],
-            };
-            let told = params(&source, &color, pass);
-            assert_eq!(&rt; (told.format, told.last_frame), (format, pass == 2));
-            assert_eq!(&rt; (told.bytes_per_line, told.lines), (2, Some(1)));
-            let (got, _, _) = frame_bytes(&rt, alloc, &mut source, &color, pass).expect(
-                &rt, "a frame",
-            );
-            assert_eq!(&rt; got.as_slice(), &want[..]);
-        }
-    }
+    passes_are(&rt, alloc, PassOrder::Rgb, [red, green, blue]);
+    passes_are(&rt, alloc, PassOrder::Rbg, [red, blue, green]);
+    passes_are(&rt, alloc, PassOrder::Gbr, [green, blue, red]);
+    passes_are(&rt, alloc, PassOrder::Grb, [green, red, blue]);
+    passes_are(&rt, alloc, PassOrder::Brg, [blue, red, green]);
+    passes_are(&rt, alloc, PassOrder::Bgr, [blue, green, red]);
 }
 
 #[test]
@@ -304,6 +313,22 @@ fn a_source_fails_at_each_call(rt: HostRuntime) {
             assert_eq!(&rt; got.as_slice(), &[7, 9][..]);
         }
     }
+}
+
+#[test]
+fn samples_of_each_depth(rt: HostRuntime) {
+    assert_eq!(rt; packing_of(1), Packing::Bits);
+    assert_eq!(rt; packing_of(8), Packing::Bytes);
+    assert_eq!(rt; packing_of(16), Packing::Words);
+}
+
+#[test]
+fn refusals_as_statuses(rt: HostRuntime) {
+    assert_eq!(rt; Status::from(BeginFault::NoPicture), Status::Inval);
+    assert_eq!(rt; Status::from(BeginFault::SourceFailed), Status::IoError);
+    assert_eq!(rt; Status::from(BeginFault::NoMem), Status::NoMem);
+    assert_eq!(rt; Status::from(ReadEnd::End), Status::Eof);
+    assert_eq!(rt; Status::from(ReadEnd::SourceFailed), Status::IoError);
 }
 
 #[test]

@@ -1,5 +1,4 @@
 use Rattle.std.proofs.Common.{arith}
-use Rattle.scan_frames.specs.Buffers.{state_of}
 use Rattle.scan_frames.proofs.Frames.{ready_left, ready_made, more_left, same_count}
 use Rattle.scan_frames.proofs.buffers.make_ready.Goals as goal
 

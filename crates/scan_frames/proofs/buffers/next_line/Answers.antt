@@ -1,9 +1,9 @@
-use Rattle.std.proofs.Common.{◌≡◌, ℕ, ◌+◌, ◌++◌, take, drop, List, length, rules, refl, arith, sym, ap, ◌∙◌, subst}
+use Rattle.std.proofs.Common.{◌≡◌, ℕ, ◌+◌, ◌++◌, take, drop, List, length, refl, arith, sym, ap, ◌∙◌, subst}
 use Rattle.page_picture.specs.Shows.{channels_within}
 use Rattle.scan_frames.specs.Line.{packing_of, line_of}
 use Rattle.scan_frames.specs.Frames.{format_at}
 use Rattle.scan_frames.specs.Samples.{value_at}
-use Rattle.scan_frames.specs.Rows.{IsWhiteBehind, Sees, HasRow}
+use Rattle.scan_frames.specs.Rows.{Sees, HasRow}
 use Rattle.scan_frames.specs.Reading.{FrameState}
 use Rattle.scan_frames.specs.Buffers.{MakesLine, state_of}
 use Rattle.scan_frames.proofs.Scans.{next_frame, put_back}

@@ -1,4 +1,4 @@
-use Rattle.std.proofs.Common.{arith, ap, length}
+use Rattle.std.proofs.Common.{arith}
 use Rattle.scan_frames.proofs.Frames.{gives_bytes}
 use Rattle.scan_frames.proofs.buffers.read_on.Goals as goal
 

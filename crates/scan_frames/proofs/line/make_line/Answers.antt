@@ -1,4 +1,4 @@
-use Rattle.std.proofs.Common.{rules, arith, ap, sym, ◌∙◌, refl}
+use Rattle.std.proofs.Common.{rules, ap, ◌∙◌, refl}
 use Rattle.sane_fixed.specs.declared.frame_format.FrameFormat.{FrameFormat}
 use Rattle.scan_frames.specs.Frames.{channel_in, format_at}
 use Rattle.scan_frames.proofs.Lines.{bits_line, samples_line_by, grays_line, gray_format}

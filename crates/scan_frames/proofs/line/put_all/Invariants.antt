@@ -1,4 +1,4 @@
-use Rattle.std.proofs.Common.{◌≡◌, ℕ, ◌<◌, ◌≤◌, ◌+◌, ◌*◌, length}
+use Rattle.std.proofs.Common.{◌≡◌, ℕ, ◌<◌, ◌≤◌, ◌+◌, ◌*◌}
 use Rattle.std.specs.Prelude.{slice_index}
 use Rattle.page_picture.specs.Shows.{channels_within}
 use Rattle.scan_frames.specs.Frames.{channel_in}

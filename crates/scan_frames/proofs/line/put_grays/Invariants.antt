@@ -1,4 +1,4 @@
-use Rattle.std.proofs.Common.{◌≡◌, ℕ, ◌<◌, ◌≤◌, ◌/◌, length}
+use Rattle.std.proofs.Common.{◌≡◌, ℕ, ◌<◌, ◌≤◌, ◌/◌}
 use Rattle.std.specs.Prelude.{slice_index}
 use Rattle.scan_frames.specs.Samples.{gray_in}
 use Rattle.scan_frames.proofs.line.put_grays.Given as goal

@@ -1,7 +1,6 @@
-use Rattle.std.proofs.Common.{◌≡◌, ℕ, ◌<◌, ◌≤◌, ◌+◌, ◌*◌, length, true}
+use Rattle.std.proofs.Common.{◌≡◌, ℕ, ◌≤◌, ◌+◌, true}
 use Rattle.std.specs.Prelude.{slice_index}
 use Rattle.page_picture.specs.Page.{IsRow}
-use Rattle.page_picture.specs.Source.{SourceState}
 use Rattle.scan_frames.proofs.rows.advance.Given as goal
 
 abbrev pub invariant-loop-y : goal.invariant-loop-y

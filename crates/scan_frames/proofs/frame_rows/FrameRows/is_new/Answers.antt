@@ -1,4 +1,4 @@
-use Rattle.std.proofs.Common.{◌≡◌, ◌==◌, ap, sym, ◌∙◌}
+use Rattle.std.proofs.Common.{◌==◌, ap, ◌∙◌}
 use Rattle.scan_frames.specs.Reading.{FrameState, given_in}
 use Rattle.scan_frames.proofs.Frames.{given_none}
 use Rattle.scan_frames.proofs.frame_rows.FrameRows.is_new.Goals as goal
