@@ -1,0 +1,5 @@
+pub mod Options
+pub mod Values
+pub mod State
+pub mod InForce
+pub mod Allowed

@@ -1,0 +1,18 @@
+//! A scanner as its callers see it: its options, its frames, and where it is in a scan.
+#![tactic(auto)]
+
+mod boxed;
+mod choice;
+mod tables;
+mod values;
+mod device;
+mod device_info;
+mod matching;
+mod scan_option;
+
+pub use choice::Choice;
+pub use tables::{descriptor, descriptors, is_active};
+pub use values::{defaults, get_option, option_value, reset_setup};
+pub use device::Device;
+pub use device_info::DeviceInfo;
+pub use scan_option::{ScanOption, option_at, options_of};
