@@ -11,5 +11,5 @@ unfolding identity
 is_identity table size each =
     ext_get_or 0 table (range_with_len 0 256) (size ∙ sym (length-range_with_len 0 256))
     (λ i h. let within : i < 256 = omega arith in
-            let same : 0 + i ≡ i = omega arith in
-            each i within ∙ sym (get_or-range_with_len 0 256 i 0 within ∙ same))
+    let same : 0 + i ≡ i = omega arith in
+    each i within ∙ sym (get_or-range_with_len 0 256 i 0 within ∙ same))

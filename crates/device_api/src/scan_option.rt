@@ -118,6 +118,7 @@ pub fn option_at(kind: DeviceKind, n: u32) -> Option<ScanOption>
 }
 
 impl ScanOption {
+    ghost use Rattle.device_api.specs.Values.{bears_on_params};
     ghost use Rattle.device_api.specs.Options.{option_name, option_title, option_kind, option_unit, option_size, option_caps, choices_of};
 
     /// The name; the number of options has none.
@@ -229,5 +230,19 @@ impl ScanOption {
             ScanOption::ReadReturnValue => &TOLD,
             _ => &[],
         }
+    }
+
+    /// Whether the parameters of a scan depend on it.
+    pub fn bears_on_params(self) -> bool
+        ensures { result ≡ bears_on_params self }
+    {
+        !matches!(
+            self,
+            ScanOption::NumOptions
+                | ScanOption::GammaTable
+                | ScanOption::ReadLimitSize
+                | ScanOption::ReadReturnValue
+                | ScanOption::HandScanner
+        )
     }
 }

@@ -16,6 +16,7 @@ const INACTIVE: u32 = Cap::INACTIVE;
 
 /// 200 mm, and 1 mm, as words of a length.
 const BED: i32 = 200 * MM;
+
 const MM: i32 = 65536;
 
 /// Whether the option has a meaning at present: the gamma table but at depth 16, and the order of passes
@@ -105,11 +106,7 @@ fn resolutions(alloc: Global, kind: DeviceKind) -> Result<Constraint, NoMem>
     }
 }
 
-fn constraint(
-    alloc: Global,
-    kind: DeviceKind,
-    option: ScanOption,
-) -> Result<Constraint, NoMem>
+fn constraint(alloc: Global, kind: DeviceKind, option: ScanOption) -> Result<Constraint, NoMem>
     ensures { IfOk result (λ constraint. constraint ≡ option_constraint kind option) }
 {
     match option {
@@ -132,11 +129,7 @@ fn constraint(
 
 /// The descriptor of an option. The only error is want of memory.
 #[tactic(auto, unfolding(crate::specs::Options::descriptor_of))]
-pub fn descriptor(
-    alloc: Global,
-    setup: &Setup,
-    option: ScanOption,
-) -> Result<Descriptor, NoMem>
+pub fn descriptor(alloc: Global, setup: &Setup, option: ScanOption) -> Result<Descriptor, NoMem>
     ensures { IfOk result (λ desc. desc ≡ descriptor_of setup.now option) }
 {
     Ok(Descriptor {

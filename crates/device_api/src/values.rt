@@ -34,9 +34,10 @@ fn default_resolution(kind: DeviceKind) -> u32
 }
 
 /// What the options of a new scanner say: gray, 8 bits, a window of 80 by 100 mm.
-#[tactic(auto, unfolding(crate::specs::Values::defaults))]
+#[tactic(auto, using(crate::proofs::AllowedLaws::defaults_allowed), unfolding(crate::specs::Values::defaults))]
 pub fn defaults(kind: DeviceKind, order: ByteOrder) -> Setup
-    ensures { result ≡ defaults kind order }
+    ensures value { result ≡ defaults kind order }
+    ensures allowed { IsAllowed result }
 {
     Setup {
         scene: Scene {
@@ -60,7 +61,8 @@ pub fn defaults(kind: DeviceKind, order: ByteOrder) -> Setup
 
 /// Puts all options to their defaults. The kind of scanner and the byte order stay.
 pub fn reset_setup(setup: &mut Setup)
-    ensures { setup.new ≡ defaults setup.old.scene.kind setup.old.order }
+    ensures value { setup.new ≡ defaults setup.old.scene.kind setup.old.order }
+    ensures allowed { IsAllowed setup.new }
 {
     *setup = defaults(setup.scene.kind, setup.order);
 }
@@ -74,7 +76,7 @@ fn has_cap(caps: u32, bit: u32) -> bool
 }
 
 /// The option of a number, where it is active and has the capability.
-fn option_with(setup: &Setup, n: u32, bit: u32) -> Option<ScanOption>
+pub fn option_with(setup: &Setup, n: u32, bit: u32) -> Option<ScanOption>
     requires { 1 ≤ bit }
     ensures { result ≡ passing (λ o. is_active setup.now o && has_cap (option_caps o) bit) (option_at setup.now.scene.kind n) }
 {

@@ -1,4 +1,4 @@
-use Rattle.std.proofs.Common.{◌≡◌, ◌||◌, ◌==◌, ◌∙◌, ap, sym, refl}
+use Rattle.std.proofs.Common.{◌∙◌, sym, refl}
 use Rattle.device_api.specs.Options.{choice_text}
 use Rattle.device_api.proofs.MatchLaws.{matched}
 use Rattle.device_api.proofs.matching.is_matched.Goals as goal

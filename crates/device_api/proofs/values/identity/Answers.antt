@@ -1,4 +1,4 @@
-use Rattle.std.proofs.Common.{◌<◌, ℕ, arith}
+use Rattle.std.proofs.Common.{arith}
 use Rattle.device_api.proofs.ValueLaws.{is_identity}
 use Rattle.device_api.proofs.values.identity.Goals as goal
 
