@@ -1,5 +1,5 @@
 -- What the options of every scanner say, at any time.
-use Rattle.std.specs.Prelude.{◌≢◌, ◌≤◌, ◌*◌, ℕ, pos, ◌≤ℤ◌, Some}
+use Rattle.std.specs.Prelude.{◌≡◌, ◌≢◌, ◌≤◌, ◌*◌, ℕ, ℤ, pos, Some}
 use Rattle.sane_fixed.specs.declared.fixed.Fixed.{Fixed as Length}
 use Rattle.sane_fixed.specs.declared.status.Status.TheVariants.{Good}
 use Rattle.page_picture.specs.Page.{IsShaped}
@@ -9,10 +9,16 @@ use Rattle.scan_frames.specs.Frames.{IsSetup}
 use Rattle.scan_frames.specs.declared.setup.Setup.{Setup}
 use Rattle.device_api.specs.State.{DeviceState}
 
+-- a whole number in these bounds
+pub record IsBetween (low high : ℕ) (word : ℤ) : Type 0 where
+  pub number : ℕ
+  pub is : word ≡ pos number
+  pub low_is : low ≤ number
+  pub high_is : number ≤ high
+
 -- 0 to 200 mm
-pub record IsOnBed (length : Length) : Type 0 where
-  pub some : pos 0 ≤ℤ length.0
-  pub most : length.0 ≤ℤ pos (200 * 65536)
+abbrev pub IsOnBed : Length → Type 0
+IsOnBed length = IsBetween 0 (200 * 65536) length.0
 
 -- dots per inch
 abbrev pub greatest_resolution : DeviceKind → ℕ

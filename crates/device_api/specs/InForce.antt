@@ -25,9 +25,10 @@ may_be_set desc = has_cap desc.caps.0 1 && not (has_cap desc.caps.0 32)
 abbrev pub given_for : Descriptor → List ℕ → Option (Value × Value)
 given_for desc text =
     if may_be_set desc
-    then (do asked ← read desc text
-             given ← resolve desc asked
-             Some (asked, given))
+    then (do
+      asked ← read desc text
+      given ← resolve desc asked
+      Some (asked, given))
     else None
 
 -- what a setting asked for and was given, and the setup that it leaves

@@ -3,3 +3,4 @@ pub mod Values
 pub mod State
 pub mod InForce
 pub mod Allowed
+pub mod Admitted

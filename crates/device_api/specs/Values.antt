@@ -1,6 +1,6 @@
 -- The values of options: what is read, what is set, and what a set tells (SANE Standard 1.06, "Option Control").
 use Rattle.std.specs.Prelude.{ℕ, ◌+◌, ◌*◌, ◌&&◌, pos, unsigned_abs, Bool, true, false, not, if◌then◌else◌, Option, Some, None, Result, Ok, Err, List, [], ◌∷◌, length, map}
-use Rattle.std.specs.List.{list_any}
+use Rattle.std.specs.List.{list_any, range_with_len}
 use Rattle.std.specs.Str.{bytes_eq}
 use Rattle.std.specs.Ordering.{int_eq}
 use Rattle.std.specs.Cmp.Lexicographic.{pointwise}
@@ -15,7 +15,6 @@ use Rattle.option_desc.specs.Put.{resolve}
 use Rattle.page_picture.specs.declared.scene.DeviceKind.{DeviceKind}
 use Rattle.page_picture.specs.declared.scene.DeviceKind.TheVariants.{Flatbed, Hand, ThreePass}
 use Rattle.page_picture.specs.declared.scene.Mode.TheVariants.{Gray}
-use Rattle.scan_frames.specs.Line.{numbers}
 use Rattle.scan_frames.specs.declared.setup.PassOrder.TheVariants.{Rgb}
 use Rattle.scan_frames.specs.declared.setup.Setup.{Setup}
 use Rattle.device_api.specs.declared.choice.Choice.{Choice}
@@ -24,9 +23,9 @@ use Rattle.device_api.specs.declared.scan_option.ScanOption.{ScanOption}
 use Rattle.device_api.specs.declared.scan_option.ScanOption.TheVariants.{NumOptions, Mode, Depth, Resolution, TlX, TlY, BrX, BrY, GammaTable, ThreePassOrder, PplLoss, ReadLimitSize, ReadReturnValue, HandScanner}
 use Rattle.device_api.specs.Options.{options_of, option_at, choices_of, choice_text, is_active, option_caps, has_cap, descriptor_of}
 
--- the table that gives each upper byte itself
+-- the table that gives each upper byte itself: 0 to 255
 unfoldable pub identity : List ℕ
-identity = numbers (λ i. i) 256
+identity = range_with_len 0 256
 
 -- what the options of a new scanner say: gray, 8 bits, a window of 80 by 100 mm
 abbrev pub default_resolution : DeviceKind → ℕ

@@ -10,3 +10,26 @@ pub enum Choice {
     /// What the first read of a frame answers in place of bytes; `None` for the bytes themselves.
     Told(Option<Status>),
 }
+
+impl Choice {
+    ghost use Rattle.std.specs.Prelude.{◌≡◌};
+    ghost use Rattle.device_api.specs.Options.{choice_text, mode_text, passes_text, told_text};
+
+    /// The text.
+    pub fn text(self) -> &'static str
+        ensures { result.now ≡ choice_text self }
+    {
+        match self {
+            Choice::Mode(Mode::Gray) => "Gray",
+            Choice::Mode(Mode::Color) => "Color",
+            Choice::Passes(PassOrder::Rgb) => "RGB",
+            Choice::Passes(PassOrder::Rbg) => "RBG",
+            Choice::Passes(PassOrder::Gbr) => "GBR",
+            Choice::Passes(PassOrder::Grb) => "GRB",
+            Choice::Passes(PassOrder::Brg) => "BRG",
+            Choice::Passes(PassOrder::Bgr) => "BGR",
+            Choice::Told(None) => "Default",
+            Choice::Told(Some(status)) => status.name(),
+        }
+    }
+}

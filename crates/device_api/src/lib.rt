@@ -5,9 +5,16 @@ mod boxed;
 mod choice;
 mod device;
 mod device_info;
+mod matching;
 mod scan_option;
+mod setting;
+mod tables;
+mod values;
 
 pub use choice::Choice;
 pub use device::Device;
 pub use device_info::DeviceInfo;
-pub use scan_option::ScanOption;
+pub use scan_option::{ScanOption, option_at, options_of};
+pub use setting::set_option;
+pub use tables::{descriptor, descriptors, is_active};
+pub use values::{defaults, get_option, option_value, reset_setup};

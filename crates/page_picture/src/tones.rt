@@ -51,8 +51,8 @@ fn light(page: &Page, scene: &Scene, x: u32, y: u32, k: u32) -> u16
     }
 }
 
-/// What a brightness becomes at a depth.
-fn toned(depth: u32, table: &[u8; 256], light: u16) -> u16
+/// What a brightness becomes at a depth of 1, 8 or 16 bits, under the tone table.
+pub fn toned(depth: u32, table: &[u8; 256], light: u16) -> u16
     ensures value { result ≡ tone depth table.now light }
     ensures limit { result ≤ greatest_at depth }
 {

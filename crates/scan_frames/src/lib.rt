@@ -1,6 +1,20 @@
 //! The frames of a scan, and how they are made row by row from a page source.
 #![tactic(auto)]
 
+mod buffers;
+mod faults;
+mod frame_rows;
+mod laws;
+mod line;
+mod pass;
+mod rows;
 mod setup;
 
+pub use faults::{BeginFault, ReadEnd};
+pub use frame_rows::FrameRows;
+pub use laws::{frames_show_the_picture, gamma_entries_are_bytes, lines_end_in_zeros};
+pub use pass::{has_picture, last_pass, params};
 pub use setup::{Packing, PassOrder, Setup, packing_of};
+
+#[cfg(test)]
+mod tests;

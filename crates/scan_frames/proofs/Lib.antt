@@ -1,0 +1,6 @@
+pub mod Lines
+pub mod Seen
+pub mod Scans
+pub mod Frames
+pub mod Shown
+pub mod Zeros

@@ -1,0 +1,39 @@
+-- The row that is seen at a height.
+use Rattle.std.proofs.Common.{◌≡◌, ℕ, ◌<◌, ◌≤◌, ◌+◌, ◌-◌, ◌*◌, inl, inr, Bool, true, false, List, arith, refl, sym, ap, ◌∙◌, subst}
+use Rattle.std.specs.Prelude.{nat_lt, ◌&&◌, slice_index, if◌then◌else◌}
+use Rattle.std.proofs.lemmas.Bool.{cases_lt}
+use Rattle.std.proofs.lemmas.Bool.Decides.{nat_tests}
+use Rattle.page_picture.specs.Page.{Sheet, IsRow, sheet_at}
+use Rattle.page_picture.specs.Seen.{dot_at}
+use Rattle.page_picture.specs.Source.{SourceState}
+use Rattle.scan_frames.specs.Rows.{KnowsRow, KeepsRow, IsWhiteBehind, IsSeen}
+
+pub has_row : (s : SourceState) (given target : ℕ) (before after : List ℕ) → given ≡ s.given → KnowsRow s target before → target < s.page.height → KeepsRow s before target after → s.steady ≡ true → IsRow s.page target after
+has_row s given target before after e known inside keeps steady =
+    keeps steady (λ all.
+    let last : s.given - 1 ≡ target = omega arith in
+    subst (λ (t : ℕ). IsRow s.page t before) last (known steady inside (omega arith)))
+
+-- a dot of the page, or white
+on_page : (p : Sheet) (c height k : ℕ) → c < p.width → height < p.height → dot_at p c height k ≡ sheet_at p c height k
+on_page p c height k a b =
+    let P : Bool → Bool → Type 0 = λ s t. (if s && t then sheet_at p c height k else 65535) ≡ sheet_at p c height k in
+    let left : nat_lt c p.width ≡ true = grind (arith, nat_tests) in
+    let right : nat_lt height p.height ≡ true = grind (arith, nat_tests) in
+    subst (λ s. P s (nat_lt height p.height)) (sym left) (subst (λ t. P true t) (sym right) refl)
+
+pub off_page : (p : Sheet) (c height k : ℕ) → p.width ≤ c → dot_at p c height k ≡ 65535
+off_page p c height k a =
+    let left : nat_lt c p.width ≡ false = grind (arith, nat_tests) in
+    subst (λ s. (if s && nat_lt height p.height then sheet_at p c height k else 65535) ≡ 65535) (sym left) refl
+
+pub sees_row : (p : Sheet) (height : ℕ) (row : List ℕ) → height < p.height → IsRow p height row → IsWhiteBehind p.width row → IsSeen p height row
+sees_row p height row inside is white = record {
+  each = λ c k most less.
+      elim (cases_lt c p.width) as (λ _. slice_index row (3 * c + k) ≡ dot_at p c height k) [
+        | inl on ↦ is.each c k on less ∙ sym (on_page p c height k on inside)
+        | inr off ↦
+            let last : c ≡ p.width = omega arith in
+            ap (λ (t : ℕ). slice_index row (3 * t + k)) last ∙ (white.white k less ∙ sym (off_page p c height k off))
+      ];
+}

@@ -1,0 +1,5 @@
+use Rattle.scan_frames.proofs.Shown.{shows_frames}
+use Rattle.scan_frames.proofs.laws.frames_show_the_picture.Goals as goal
+
+pub returns : goal.returns
+returns c = shows_frames

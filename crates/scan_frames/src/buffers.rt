@@ -1,0 +1,183 @@
+//! The buffers of a frame, and how lines are made and given.
+
+ghost use Rattle.std.specs.Prelude.{◌≡◌, ◌==◌, ◌≤◌, ◌<◌, length, OnOk, OnErr, IfOk};
+ghost use Rattle.scan_frames.specs.Rows.{IsWhiteBehind, StopsFailing};
+ghost use Rattle.scan_frames.specs.Samples.{IsZeroFrom};
+ghost use Rattle.scan_frames.specs.Frames.{IsSetup};
+ghost use Rattle.scan_frames.specs.Reading.{IsFrame, IsCounted, ReadsFrame, row_of};
+ghost use Rattle.scan_frames.specs.Buffers.{IsFresh, MakesLine, KeepsCount, IsReady, GivesLine, state_of};
+
+use crate::faults::ReadEnd;
+use crate::line::make_line;
+use crate::pass::bytes_per_line;
+use crate::rows::see;
+use crate::setup::Setup;
+use page_picture::{ColumnMap, PageSource, SourceFault};
+use sane_fixed::NoMem;
+use std::alloc::{AllocError, Global};
+
+/// The buffers of a frame, and how far it has come.
+#[derive(Drop)]
+pub struct Buffers {
+    pass: u32,
+    columns: ColumnMap,
+    height: u32,
+    /// The last row that was taken, with a white place behind it, which all pixels off the page show.
+    row: Vec<u16>,
+    /// The rows that were taken.
+    taken: u32,
+    /// The last line that was made.
+    line: Vec<u8>,
+    /// The lines that were made.
+    made: u32,
+    /// The bytes of the last line that were not given.
+    left: usize,
+}
+
+/// A white row with a place behind it.
+fn white_row(alloc: Global, width: u32) -> Result<Vec<u16>, AllocError>
+    requires { width ≤ 16384 }
+    ensures { IfOk result (λ row. IsWhiteBehind width row.items) }
+{
+    vec![in alloc; u16::MAX; 3 * width as usize + 3]
+}
+
+/// A line of zeros.
+fn zero_line(alloc: Global, size: usize) -> Result<Vec<u8>, AllocError>
+    ensures size { IfOk result (λ line. length line.items ≡ size) }
+    ensures zeros { IfOk result (λ line. IsZeroFrom 0 line.items) }
+{
+    vec![in alloc; 0u8; size]
+}
+
+/// Takes the memory of a frame of so many lines.
+pub fn reserve<S: PageSource>(
+    alloc: Global,
+    source: &S,
+    setup: &Setup,
+    pass: u32,
+    height: u32,
+) -> Result<Buffers, NoMem>
+    requires { IsSetup setup.now }
+    ensures { IfOk result (λ b. IsFresh (S.source source.now).page setup.now pass height (state_of b)) }
+{
+    let (width, _) = source.size();
+    let columns = ColumnMap::new(alloc, &setup.scene, width, source.dpi())?;
+    let row = white_row(alloc, width)?;
+    let line = zero_line(alloc, bytes_per_line(setup, pass))?;
+    Ok(Buffers {
+        pass,
+        columns,
+        height,
+        row,
+        taken: 0,
+        line,
+        made: 0,
+        left: 0,
+    })
+}
+
+/// The row of the page that line `y` shows, if the page has it.
+fn row_of<S: PageSource>(source: &S, setup: &Setup, y: u32) -> u64
+    requires some { 1 ≤ setup.now.scene.resolution }
+    requires known { setup.now.scene.resolution ≤ 1200 }
+    ensures { result ≡ row_of setup.now (S.source source.now).page y }
+{
+    let dots = u64::from(setup.scene.top()) + u64::from(y);
+    dots * u64::from(source.dpi()) / u64::from(setup.scene.resolution)
+}
+
+/// Makes the next line.
+fn next_line<S: PageSource>(
+    buffers: &mut Buffers,
+    source: &mut S,
+    setup: &Setup,
+) -> Result<(), SourceFault>
+    requires setup { IsSetup setup.now }
+    requires frame { IsFrame (S.source source.old) setup.now (state_of buffers.old) }
+    requires more { buffers.old.made < buffers.old.height }
+    ensures ok { OnOk result (MakesLine (S.source source.old) setup.now (state_of buffers.old) (S.source source.new) (state_of buffers.new)) }
+    ensures err { OnErr result (StopsFailing (S.source source.old) (S.source source.new)) }
+    ensures count { OnErr result (KeepsCount (state_of buffers.old) (state_of buffers.new)) }
+{
+    let target = row_of(source, setup, buffers.made);
+    buffers.taken = see(source, &mut buffers.row, buffers.taken, target)?;
+    make_line(
+        setup,
+        buffers.pass,
+        &buffers.columns,
+        &buffers.row,
+        &mut buffers.line,
+    );
+    buffers.made += 1;
+    buffers.left = buffers.line.len();
+    Ok(())
+}
+
+/// Makes the next line where no byte of the last is left.
+fn make_ready<S: PageSource>(
+    buffers: &mut Buffers,
+    source: &mut S,
+    setup: &Setup,
+) -> Result<(), ReadEnd>
+    requires setup { IsSetup setup.now }
+    requires frame { IsFrame (S.source source.old) setup.now (state_of buffers.old) }
+    requires counted { IsCounted (state_of buffers.old) }
+    ensures { IsReady (S.source source.old) setup.now (state_of buffers.old) result (S.source source.new) (state_of buffers.new) }
+{
+    if buffers.left > 0 {
+        return Ok(());
+    }
+    if buffers.made == buffers.height {
+        return Err(ReadEnd::End);
+    }
+    match next_line(buffers, source, setup) {
+        Ok(()) => Ok(()),
+        Err(_) => Err(ReadEnd::SourceFailed),
+    }
+}
+
+/// Gives what is left of the last line, but no more than `most` bytes, nor than the buffer holds.
+fn give(buffers: &mut Buffers, most: usize, buf: &mut [u8]) -> usize
+    requires { buffers.old.left ≤ length buffers.old.line.items }
+    ensures { GivesLine (state_of buffers.old) most result (state_of buffers.new) buf.new }
+{
+    let n = buffers.left.min(buf.len().min(most));
+    let start = buffers.line.len() - buffers.left;
+    buf[..n].copy_from_slice(&buffers.line[start..start + n]);
+    buffers.left -= n;
+    n
+}
+
+/// Gives the next bytes of a frame.
+pub fn read_on<S: PageSource>(
+    buffers: &mut Buffers,
+    source: &mut S,
+    setup: &Setup,
+    buf: &mut [u8],
+) -> Result<usize, ReadEnd>
+    requires setup { IsSetup setup.now }
+    requires frame { IsFrame (S.source source.old) setup.now (state_of buffers.old) }
+    requires counted { IsCounted (state_of buffers.old) }
+    requires buf { 0 < length buf.old }
+    ensures read { ReadsFrame (S.source source.old) setup.now (state_of buffers.old) result (S.source source.new) (state_of buffers.new) buf.new }
+    ensures counted { IsCounted (state_of buffers.new) }
+{
+    make_ready(buffers, source, setup)?;
+    Ok(give(buffers, setup.limit as usize, buf))
+}
+
+impl Buffers {
+    /// Whether no line was made yet.
+    pub fn is_new(&self) -> bool
+        ensures { result ≡ (self.now.made == 0) }
+    {
+        self.made == 0
+    }
+
+    pub fn pass(&self) -> u32
+        ensures { result ≡ self.now.pass }
+    {
+        self.pass
+    }
+}

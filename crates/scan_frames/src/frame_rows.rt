@@ -1,0 +1,95 @@
+ghost use Rattle.std.specs.Prelude.{◌≡◌, ◌==◌, ◌<◌, length};
+ghost use Rattle.scan_frames.specs.Frames.{IsSetup};
+ghost use Rattle.scan_frames.specs.Reading.{Begins, IsFrame, ReadsFrame, given_in};
+
+use crate::buffers::{Buffers, read_on, reserve};
+use crate::faults::{BeginFault, ReadEnd};
+use crate::pass::sides;
+use crate::setup::Setup;
+use page_picture::PageSource;
+use std::alloc::Global;
+use std::marker::Model;
+
+/// The frame of a pass that is read, made line by line from a page source: it holds one row of the page and one line.
+/// Contracts see a `FrameState`.
+#[derive(Drop)]
+pub struct FrameRows {
+    buffers: Buffers,
+}
+
+impl Model for FrameRows {
+    ghost use Rattle.scan_frames.specs.Reading.{FrameState};
+
+    ghost Value = { FrameState };
+
+    ghost use Rattle.scan_frames.specs.Reading.{IsCounted};
+    ghost use Rattle.scan_frames.specs.Buffers.{state_of};
+
+    ghost view = { λ f. state_of f.buffers };
+
+    ghost invariant = { λ f. IsCounted (state_of f.buffers) };
+}
+
+impl FrameRows {
+    /// Begins the frame of a pass, counted from 0: takes its memory, and takes the source back to its first row.
+    ///
+    /// # Errors
+    ///
+    /// `NoPicture` where the options mean no picture on the page, `NoMem`, and `SourceFailed` where the source does not
+    /// go back; only then is the source changed.
+    pub fn begin<S: PageSource>(
+        alloc: Global,
+        source: &mut S,
+        setup: &Setup,
+        pass: u32,
+    ) -> Result<Self, BeginFault>
+        requires { IsSetup setup.now }
+        ensures { Begins (S.source source.old) setup.now pass result (S.source source.new) }
+    {
+        let Some((_, height)) = sides(source, setup) else {
+            return Err(BeginFault::NoPicture);
+        };
+        let Ok(buffers) = reserve(alloc, source, setup, pass, height) else {
+            return Err(BeginFault::NoMem);
+        };
+        match source.rewind() {
+            Ok(()) => Ok(FrameRows { buffers }),
+            Err(_) => Err(BeginFault::SourceFailed),
+        }
+    }
+
+    /// Gives the next bytes of the frame: what is left of one line, but no more than the options let one read give, nor
+    /// than the buffer holds. It takes no memory, and no row twice.
+    ///
+    /// # Errors
+    ///
+    /// `End` where all bytes were given. `SourceFailed` where the source does not give the next row; the frame can be
+    /// read no more then.
+    pub fn read<S: PageSource>(
+        &mut self,
+        source: &mut S,
+        setup: &Setup,
+        buf: &mut [u8],
+    ) -> Result<usize, ReadEnd>
+        requires setup { IsSetup setup.now }
+        requires frame { IsFrame (S.source source.old) setup.now self.old }
+        requires buf { 0 < length buf.old }
+        ensures { ReadsFrame (S.source source.old) setup.now self.old result (S.source source.new) self.new buf.new }
+    {
+        read_on(&mut self.buffers, source, setup, buf)
+    }
+
+    /// Whether no byte of the frame was given yet.
+    pub fn is_new(&self) -> bool
+        ensures { result ≡ (given_in self.now == 0) }
+    {
+        self.buffers.is_new()
+    }
+
+    /// The number of its pass, from 0.
+    pub fn pass(&self) -> u32
+        ensures { result ≡ self.now.pass }
+    {
+        self.buffers.pass()
+    }
+}

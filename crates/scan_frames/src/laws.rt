@@ -1,0 +1,25 @@
+ghost use Rattle.std.specs.Prelude.{◌≡◌, ◌<◌, ◌^◌, ℕ, true, slice_index};
+ghost use Rattle.page_picture.specs.Page.{Sheet, IsSheet};
+ghost use Rattle.page_picture.specs.Meaning.{picture_of};
+ghost use Rattle.page_picture.specs.Shows.{ShowsFrames};
+ghost use Rattle.scan_frames.specs.Frames.{IsSetup, frames_of, has_picture, height_of, width_of};
+ghost use Rattle.scan_frames.specs.Filler.{EndsInZeros};
+ghost use Rattle.scan_frames.specs.declared.setup.Setup.{Setup as SetupValue};
+
+/// Where the options mean a picture on a page, the frames of the scan show it: one frame all its channels, and three
+/// frames of a three-pass scanner a channel each, in whatever order the colors come.
+pub fn frames_show_the_picture()
+    ensures { (setup : SetupValue) (page : Sheet) → IsSetup setup → IsSheet page →
+        ((i : ℕ) → slice_index setup.scene.gamma i < 2 ^ 8) → has_picture setup page ≡ true →
+        ShowsFrames (frames_of setup page) (picture_of page setup.scene (width_of setup, height_of setup page)) }
+{}
+
+/// All that follows the pixels of a line is zero.
+pub fn lines_end_in_zeros()
+    ensures { (setup : SetupValue) (page : Sheet) (pass : ℕ) → IsSetup setup → EndsInZeros setup page pass }
+{}
+
+/// The entries of a gamma table are bytes, as `frames_show_the_picture` wants them.
+pub fn gamma_entries_are_bytes(table: &[u8])
+    ensures { (i : ℕ) → slice_index table.now i < 2 ^ 8 }
+{}

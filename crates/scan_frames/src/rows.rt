@@ -1,0 +1,65 @@
+//! The row of a page that a line shows.
+
+ghost use Rattle.std.specs.Prelude.{◌≡◌, ◌≤◌, ◌<◌, ◌+◌, ◌*◌, ℕ, length, slice_index, OnOk, OnErr, IfOk};
+ghost use Rattle.scan_frames.specs.Rows.{StopsFailing, KeepsRow, KnowsRow, IsWhiteBehind, Sees, HasRow};
+
+use page_picture::{PageSource, SourceFault};
+
+/// Takes rows until row `target` was taken. The last row taken stands at the front of `row`.
+fn advance<S: PageSource>(
+    source: &mut S,
+    row: &mut [u16],
+    size: usize,
+    taken: u32,
+    target: u32,
+) -> Result<(), SourceFault>
+    requires size { size ≡ 3 * (S.source source.old).page.width }
+    requires room { size ≤ length row.old }
+    requires taken { taken ≡ (S.source source.old).given }
+    requires behind { taken ≤ target + 1 }
+    requires inside { target < (S.source source.old).page.height }
+    ensures ok { OnOk result (S.source source.new ≡ record (S.source source.old) { given = target + 1 }) }
+    ensures row { OnOk result (KeepsRow (S.source source.old) row.old target row.new) }
+    ensures rest { (j : ℕ) → size ≤ j → slice_index row.new j ≡ slice_index row.old j }
+    ensures err { OnErr result (StopsFailing (S.source source.old) (S.source source.new)) }
+{
+    // The limits of a page.
+    let _size = source.size();
+    for _y in taken..target + 1 {
+        let more = source.next_row(&mut row[..size])?;
+        prove!(more);
+    }
+    Ok(())
+}
+
+/// Makes `row` what is seen at the height of row `target`, on the page or off it. Gives how many rows were taken by
+/// then.
+pub fn see<S: PageSource>(
+    source: &mut S,
+    row: &mut [u16],
+    taken: u32,
+    target: u64,
+) -> Result<u32, SourceFault>
+    requires row { IsWhiteBehind (S.source source.old).page.width row.old }
+    requires taken { taken ≡ (S.source source.old).given }
+    requires within { taken ≤ (S.source source.old).page.height }
+    requires behind { taken ≤ target + 1 }
+    requires known { KnowsRow (S.source source.old) target row.old }
+    ensures row { OnOk result (IsWhiteBehind (S.source source.old).page.width row.new) }
+    ensures seen { OnOk result (Sees (S.source source.old) target row.new) }
+    ensures known { IfOk result (λ n. HasRow (S.source source.old) target n row.new) }
+    ensures after { IfOk result (λ n. S.source source.new ≡ record (S.source source.old) { given = n }) }
+    ensures further { IfOk result (λ n. taken ≤ n) }
+    ensures within { IfOk result (λ n. n ≤ (S.source source.old).page.height) }
+    ensures behind { IfOk result (λ n. n ≤ target + 1) }
+    ensures err { OnErr result (StopsFailing (S.source source.old) (S.source source.new)) }
+{
+    let (width, height) = source.size();
+    if target < u64::from(height) {
+        advance(source, row, 3 * width as usize, taken, target as u32)?;
+        Ok(target as u32 + 1)
+    } else {
+        row.fill(u16::MAX);
+        Ok(taken)
+    }
+}

@@ -1,0 +1,4 @@
+pub mod New
+pub mod Phases
+pub mod Answers
+pub mod Inside
