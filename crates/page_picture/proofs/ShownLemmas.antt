@@ -1,8 +1,11 @@
 -- The page that is shown row by row is the page of the whole file.
-use Rattle.std.proofs.Common.{◌≡◌, ℕ, ◌+◌, ◌*◌, ◌/◌, ◌<◌, List, [], ◌∷◌, ◌++◌, arith, length, take, drop, refl, sym, ap, ◌∙◌, subst}
+use Rattle.std.proofs.Common.{◌≡◌, ℕ, ◌+◌, ◌*◌, ◌/◌, ◌<◌, ◌≤◌, ◌^◌, inl, inr, List, [], ◌∷◌, ◌++◌, arith, length, take, drop, refl, sym, ap, ◌∙◌, subst}
 use Rattle.std.specs.Prelude.{slice_index, Some}
 use Rattle.std.proofs.Math.Seq.{take-append_seam}
 use Rattle.std.proofs.lemmas.Nat.{div-mul-add, mul-add-lt}
+use Rattle.std.proofs.Math.Nat.{div-le_of_le-mul}
+use Rattle.std.proofs.lemmas.Bool.{cases_lt}
+use Rattle.std.proofs.lemmas.List.{get_or_past}
 use Rattle.netpbm.specs.declared.format.Format.{Format}
 use Rattle.netpbm.specs.declared.format.Format.TheVariants.{Pbm, Pgm, Ppm}
 use Rattle.netpbm.specs.declared.format.Header.{Header}
@@ -12,7 +15,7 @@ use Rattle.netpbm.proofs.WritingLaws.{length-joined, joined_at}
 use Rattle.page_picture.specs.declared.page_file.PageFault.TheVariants.{BadMagic, BadHeader, SampleTooLarge, Short, Trailing, BadDpi, NoMem}
 use Rattle.page_picture.specs.declared.sources.open_fault.OpenFault.{OpenFault}
 use Rattle.page_picture.specs.declared.sources.open_fault.OpenFault.TheVariants.{Page, Device}
-use Rattle.page_picture.specs.Page.{IsShaped, IsRow}
+use Rattle.page_picture.specs.Page.{IsShaped, IsSheet, IsRow}
 use Rattle.page_picture.specs.PageFile.{BeginsPage, IsDpi, IsPageFormat, TellsPage}
 use Rattle.page_picture.specs.PageReading.{ArePageSamples, page_number, source}
 use Rattle.page_picture.specs.PageRows.{IsPageHeader, IsRaster, ShowsRow, page_shown, samples_shown, row_count, row_size}
@@ -124,3 +127,28 @@ opened text after rest h dpi at begins same is =
 
 pub from_first : (size : ℕ) (left raster : List ℕ) → left ≡ raster → left ≡ drop (0 * size) raster
 from_first size left raster e = let none : 0 ≡ 0 * size = omega arith in e ∙ ap (λ n. drop n raster) none
+
+-- ---- its samples
+
+source_counted : (f : Format) (w h j : ℕ) → IsPageFormat (Some f) → j < w * h * 3 → source f j < w * h * channels_of f
+source_counted Pbm w h j is less = absurd is
+source_counted Pgm w h j is less = let n = w * h in omega arith
+source_counted Ppm w h j is less = less
+
+scaled_limit : (maxval v : ℕ) → 1 ≤ maxval → v ≤ maxval → v * 65535 / maxval < 2 ^ 16
+scaled_limit maxval v some most =
+    let within : v * 65535 / maxval ≤ 65535 = div-le_of_le-mul maxval (omega arith) in
+    omega arith
+
+-- a raster without a number above its greatest shows a page
+pub shown_sheet : (h : Header) (dpi : ℕ) (raster : List ℕ) → IsPageHeader h → IsDpi dpi → IsRaster h raster → IsSheet (page_shown h dpi raster)
+unfolding samples_shown
+shown_sheet h dpi raster page dots is = record {
+  shape = shown_shaped h dpi raster page dots;
+  sixteen_bits = λ i.
+      let n = h.width * h.height * 3 in
+      elim (cases_lt i n) [
+        | inl less ↦ rw (numbers_at (page_number h raster) n i less) (scaled_limit h.maxval _ page.maxval_some (is.none_above (source h.format i) (source_counted h.format h.width h.height i page.format less)))
+        | inr past ↦ rw (get_or_past (joined (λ j. page_number h raster j ∷ []) n) i 0 (omega (arith, numbers_length (page_number h raster) n, past))) (omega arith)
+      ];
+}

@@ -1,7 +1,7 @@
 //! Where a virtual scanner reads the rows of its page from.
 
-ghost use Rattle.std.specs.Prelude.{◌≡◌, ◌*◌, length};
-ghost use Rattle.page_picture.specs.Page.{IsShaped};
+ghost use Rattle.std.specs.Prelude.{◌≡◌, ◌*◌, true, length};
+ghost use Rattle.page_picture.specs.Page.{IsShaped, IsSheet};
 ghost use Rattle.page_picture.specs.Source.{SourceState, GivesRow, Rewinds};
 
 mod failing_page;
@@ -32,7 +32,9 @@ pub trait PageSource: Drop {
     /// The columns and the rows of the page, 1 to 16,384 each. They never change.
     fn size(&self) -> (u32, u32)
         ensures value { result ≡ ((source self.now).page.width, (source self.now).page.height) }
-        ensures limits { IsShaped (source self.now).page };
+        ensures limits { IsShaped (source self.now).page }
+        // The page of a source that gives its rows is one: its samples have 16 bits.
+        ensures sheet { (source self.now).steady ≡ true → IsSheet (source self.now).page };
 
     /// The dots per inch of the page, 1 to 1,200. They never change.
     fn dpi(&self) -> u32

@@ -31,7 +31,7 @@ pub struct PnmPage<R: Rereadable> {
 impl<R: Rereadable> Model for PnmPage<R> {
     ghost use Rattle.std.specs.Prelude.{◌≡◌, ◌≤◌, ◌*◌, true, false, drop, length};
     ghost use Rattle.page_picture.specs.PageFile.{IsDpi};
-    ghost use Rattle.page_picture.specs.PageRows.{IsPageHeader, page_shown, row_size};
+    ghost use Rattle.page_picture.specs.PageRows.{IsPageHeader, IsRaster, page_shown, row_size};
     ghost use Rattle.page_picture.specs.Source.{SourceState};
 
     ghost Value = { SourceState };
@@ -44,7 +44,8 @@ impl<R: Rereadable> Model for PnmPage<R> {
     } };
 
     ghost invariant = { λ p. IsPageHeader p.header × IsDpi p.dpi × (p.given ≤ p.header.height) × (length p.bytes.items ≡ row_size p.header)
-        × (R.is_kept p.reader ≡ true → p.is_lost ≡ false → R.left p.reader ≡ drop (p.given * row_size p.header) (drop p.start (R.text p.reader))) };
+        × (R.is_kept p.reader ≡ true → p.is_lost ≡ false → R.left p.reader ≡ drop (p.given * row_size p.header) (drop p.start (R.text p.reader)))
+        × (R.is_kept p.reader ≡ true → IsRaster p.header (drop p.start (R.text p.reader))) };
 }
 
 /// Room for the bytes of one row.

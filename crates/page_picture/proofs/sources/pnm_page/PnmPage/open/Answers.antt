@@ -14,6 +14,7 @@ invariant_of-result g c = (
   omega arith,
   search rules,
   λ kept found. from_first (row_size c.in-Ok-page_header.header) (g.R.Rereadable.left c.check_file.new.reader) (drop c.end-reader.result.1 (g.R.Rereadable.text c.check_file.new.reader)) (search rules),
+  λ kept. rw c.check_file.ensures.text (search rules),
 )
 
 pub returns-in-Ok-check_file-clause-found : goal.returns-in-Ok-check_file-clause-found

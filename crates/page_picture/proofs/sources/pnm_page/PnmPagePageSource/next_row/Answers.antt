@@ -35,4 +35,5 @@ invariant_of-self g c =
           let was = sym c.in-Ok.ensures.kept ∙ kept in
           let read : drop (inside.given * row_size inside.header) raster ≡ bytes ++ left = sym (before.4 was (search rules)) ∙ c.in-Ok.ensures.read was in
           rest_after_row inside.given (row_size inside.header) raster bytes left read size ∙ ap (λ text. drop ((inside.given + 1) * row_size inside.header) (drop inside.start text)) (sym c.in-Ok.ensures.text),
+      λ kept. rw c.in-Ok.ensures.text (before.5 (sym c.in-Ok.ensures.kept ∙ kept)),
     )
