@@ -1,0 +1,47 @@
+-- Settings put one after another.
+use Rattle.std.proofs.Common.{◌≡◌, ℕ, ◌+◌, ◌<◌, ◌≤◌, List, [], ◌∷◌, ◌++◌, Result, Ok, Err, drop, length, get_or, refl, sym, ap, ◌∙◌, arith, ◌⊎◌, inl, inr}
+use Rattle.std.proofs.Common.{suc, add-one}
+use Rattle.std.proofs.Math.Seq.{drop-cons}
+use Rattle.std.proofs.lemmas.List.{append-nil, append_assoc}
+use Rattle.device_api.specs.State.{DeviceState, with_setup}
+use Rattle.scan_frames.specs.declared.setup.Setup.{Setup}
+use Rattle.net_backend.specs.declared.report.Report.{Report}
+use Rattle.local_job.specs.declared.stop.Stop.{Stop}
+use Rattle.local_job.specs.Stops.{no_memory}
+use Rattle.local_job.specs.Putting.{put_one, put_all, then_more, with_first, with_done}
+
+with_one : (done : List Report) (report : Report) (more : Result (Setup × List Report) Stop) → with_done done (with_first report more) ≡ with_done (done ++ report ∷ []) more
+with_one done report (Ok more) = ap (λ (all : List Report). Ok (more.0, all)) (sym (append_assoc done (report ∷ []) more.1))
+with_one done report (Err stop) = refl
+
+pub put_more : (done : List Report) (s next : Setup) (left rest : List (List ℕ × List ℕ)) (setting : List ℕ × List ℕ) (report : Report) (whole : Result (Setup × List Report) Stop)
+    → left ≡ setting ∷ rest → put_one s setting ≡ Ok (next, report) → with_done done (put_all s left) ≡ whole → with_done (done ++ report ∷ []) (put_all next rest) ≡ whole
+unfolding put_all
+put_more done s next left rest setting report whole cut puts before =
+    let step : put_all s left ≡ with_first report (put_all next rest) = rw (cut, puts) refl in
+    sym (with_one done report (put_all next rest)) ∙ ap (with_done done) (sym step) ∙ before
+
+put_fails : (done : List Report) (s : Setup) (left rest : List (List ℕ × List ℕ)) (setting : List ℕ × List ℕ) (stop : Stop) (whole : Result (Setup × List Report) Stop)
+    → left ≡ setting ∷ rest → put_one s setting ≡ Err stop → with_done done (put_all s left) ≡ whole → whole ≡ Err stop
+unfolding put_all
+put_fails done s left rest setting stop whole cut fails before =
+    let step : put_all s left ≡ Err stop = rw (cut, fails) refl in
+    sym before ∙ ap (with_done done) step
+
+pub put_ends : (done : List Report) (s : Setup) (left : List (List ℕ × List ℕ)) (whole : Result (Setup × List Report) Stop) → left ≡ [] → with_done done (put_all s left) ≡ whole → whole ≡ Ok (s, done)
+unfolding put_all
+put_ends done s left whole none before =
+    let step : put_all s left ≡ Ok (s, []) = rw none refl in
+    sym before ∙ ap (with_done done) step ∙ ap (λ (all : List Report). Ok (s, all)) (append-nil done)
+
+-- only the setup changes, again and again
+pub setups : (first now next : DeviceState) → now ≡ with_setup first now.setup → next ≡ with_setup now next.setup → next ≡ with_setup first next.setup
+setups first now next a b = b ∙ ap (λ (s : DeviceState). with_setup s next.setup) a
+
+pub cut_at : {X : Type 0} (xs : List X) (i : ℕ) (x : X) → i < length xs → x ≡ get_or xs i x → drop i xs ≡ x ∷ drop (i + 1) xs
+cut_at xs i x h e = rw add-one (drop-cons xs i x h ∙ ap (λ y. y ∷ drop (suc i) xs) (sym e))
+
+pub put_stops : (done : List Report) (s : Setup) (left rest : List (List ℕ × List ℕ)) (setting : List ℕ × List ℕ) (stop : Stop) (whole : Result (Setup × List Report) Stop)
+    → left ≡ setting ∷ rest → (stop ≡ no_memory) ⊎ (put_one s setting ≡ Err stop) → with_done done (put_all s left) ≡ whole → (stop ≡ no_memory) ⊎ (whole ≡ Err stop)
+put_stops done s left rest setting stop whole cut (inl memory) before = inl memory
+put_stops done s left rest setting stop whole cut (inr fails) before = inr (put_fails done s left rest setting stop whole cut fails before)

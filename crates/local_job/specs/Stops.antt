@@ -1,0 +1,25 @@
+-- What ends a local job before it is done.
+use Rattle.sane_fixed.specs.declared.status.Status.{Status}
+use Rattle.sane_fixed.specs.declared.status.Status.TheVariants.{Good, Unsupported, Cancelled, DeviceBusy, Inval, Eof, Jammed, NoDocs, CoverOpen, IoError, NoMem, AccessDenied}
+use Rattle.net_backend.specs.declared.outcome.Why.{Why}
+use Rattle.net_backend.specs.declared.outcome.Why.TheVariants.{Answer, Setting, Memory}
+use Rattle.local_job.specs.declared.stop.Stop.{Stop}
+
+abbrev pub no_memory : Stop
+no_memory = record { status = NoMem; why = Memory }
+
+abbrev pub bad_setting : Stop
+bad_setting = record { status = Inval; why = Setting }
+
+abbrev pub why_answered : Status → Why
+why_answered NoMem = Memory
+why_answered _ = Answer
+
+-- want of memory in the device is want of memory
+abbrev pub answered : Status → Stop
+answered status = record { status = status; why = why_answered status }
+
+-- a text that does not read
+abbrev pub unread : Status → Stop
+unread NoMem = no_memory
+unread _ = bad_setting

@@ -1,0 +1,7 @@
+//! A job on a scanner of this machine: its settings put, its picture scanned to a Netpbm file.
+#![tactic(auto)]
+
+mod settings;
+mod stop;
+
+pub use stop::Stop;
