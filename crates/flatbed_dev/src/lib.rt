@@ -1,0 +1,7 @@
+//! The virtual flatbed scanner.
+#![tactic(auto)]
+
+mod flatbed;
+
+pub use flatbed::Flatbed;
+
