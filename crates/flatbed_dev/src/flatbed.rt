@@ -8,13 +8,22 @@ use option_desc::{Descriptor, Value};
 use page_picture::{DeviceKind, Source};
 use sane_fixed::{ByteOrder, Info, Params, Status, Text};
 use std::alloc::Global;
+use std::marker::Model;
 use virtual_scanner::VirtualScanner;
 
 /// A flatbed: gray and color of 1, 8 and 16 bits a sample, 1 to 1,200 dots per inch, a window of up to 200 by 200 mm, a
-/// gamma table, and options by which a frontend is tried (sane-test(5)).
+/// gamma table, and options by which a frontend is tried (sane-test(5)). Contracts see a `DeviceState`.
 #[derive(Drop)]
 pub struct Flatbed {
     scanner: VirtualScanner,
+}
+
+impl Model for Flatbed {
+    ghost use Rattle.device_api.specs.State.{DeviceState};
+
+    ghost Value = { DeviceState };
+
+    ghost view = { λ f. f.scanner };
 }
 
 impl Flatbed {
@@ -26,7 +35,7 @@ impl Flatbed {
         source: Source,
         order: ByteOrder,
     ) -> Result<Self, Source>
-        ensures ok { IfOk result (λ flatbed. flatbed.scanner ≡ new_scanner FlatbedKind name (shown source) order) }
+        ensures ok { IfOk result (λ flatbed. flatbed ≡ new_scanner FlatbedKind name (shown source) order) }
         ensures err { IfErr result (λ back. back ≡ source) }
     {
         let scanner = VirtualScanner::new(alloc, DeviceKind::Flatbed, name, source, order)?;
@@ -35,7 +44,7 @@ impl Flatbed {
 }
 
 impl Device for Flatbed {
-    ghost state = { λ f. f.scanner };
+    ghost state = { λ s. s };
 
     fn info(&self) -> &DeviceInfo {
         self.scanner.info()
