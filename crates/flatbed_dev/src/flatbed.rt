@@ -29,12 +29,7 @@ impl Model for Flatbed {
 impl Flatbed {
     /// A flatbed of that name at rest, its options at their defaults, on the page of a source. The source comes back for
     /// want of memory.
-    pub fn new(
-        alloc: Global,
-        name: Text,
-        source: Source,
-        order: ByteOrder,
-    ) -> Result<Self, Source>
+    pub fn new(alloc: Global, name: Text, source: Source, order: ByteOrder) -> Result<Self, Source>
         ensures ok { IfOk result (λ flatbed. flatbed ≡ new_scanner FlatbedKind name (shown source) order) }
         ensures err { IfErr result (λ back. back ≡ source) }
     {

@@ -5,3 +5,5 @@ mod flatbed;
 
 pub use flatbed::Flatbed;
 
+#[cfg(test)]
+mod tests;
