@@ -102,7 +102,10 @@ fn what_it_is(rt: HostRuntime) {
     assert_eq!(&rt; flatbed.info().name.as_bytes(), b"flatbed:0".as_slice());
     assert_eq!(&rt; flatbed.info().vendor.as_bytes(), b"Virtual".as_slice());
     assert_eq!(&rt; flatbed.info().model.as_bytes(), b"Flatbed".as_slice());
-    assert_eq!(&rt; flatbed.info().class.as_bytes(), b"flatbed scanner".as_slice());
+    assert_eq!(&rt;
+        flatbed.info().class.as_bytes(),
+        b"flatbed scanner".as_slice()
+    );
     assert_eq!(&rt; flatbed.order(), ByteOrder::Big);
     assert!(&rt; flatbed.at_rest());
     let descriptors = flatbed.descriptors(alloc).expect(&rt, "descriptors");
