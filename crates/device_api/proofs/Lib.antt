@@ -4,3 +4,6 @@ pub mod TakesLaws
 pub mod AdmittedLaws
 pub mod AllowedLaws
 pub mod InfoLaws
+pub mod RunLaws
+pub mod Upto
+pub mod FramedLaws

@@ -4,3 +4,5 @@ pub mod State
 pub mod InForce
 pub mod Allowed
 pub mod Admitted
+pub mod Runs
+pub mod Framed

@@ -81,11 +81,8 @@ fn put_place(scene: &Scene, layout: Layout, row: &[u16], place: u32, first: usiz
 {
     for k in 0..channels_within(layout.format) {
         let channel = channel_in(layout.format, k);
-        let v = toned(
-            scene.depth,
-            &scene.gamma,
-            light(scene.mode, row, place, channel),
-        );
+        let seen = light(scene.mode, row, place, channel);
+        let v = toned(scene.depth, &scene.gamma, seen);
         put(layout, line, first + k as usize, v);
     }
 }

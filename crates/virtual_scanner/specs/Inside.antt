@@ -1,12 +1,10 @@
 -- A virtual scanner from inside.
-use Rattle.std.specs.Prelude.{ℕ, Option, Some, None}
 use Rattle.page_picture.specs.Shown.{shown}
 use Rattle.page_picture.specs.Source.{SourceState}
-use Rattle.scan_frames.specs.Reading.{IsFrame, given_in}
+use Rattle.scan_frames.specs.Reading.{IsFrame}
 use Rattle.scan_frames.specs.declared.setup.Setup.{Setup}
 use Rattle.device_api.specs.Allowed.{IsAllowed}
-use Rattle.device_api.specs.State.{DeviceState, Phase}
-use Rattle.device_api.specs.State.Phase.{AtRest, Between, Reading}
+use Rattle.device_api.specs.State.{DeviceState}
 use Rattle.virtual_scanner.specs.declared.at.At.{At}
 use Rattle.virtual_scanner.specs.declared.at.At.TheVariants.{Rest, Between as IsBetween, Reading as IsReading}
 use Rattle.virtual_scanner.specs.Phases.{phase_of}

@@ -5,3 +5,6 @@ mod at;
 mod scanner;
 
 pub use scanner::VirtualScanner;
+
+#[cfg(test)]
+mod tests;

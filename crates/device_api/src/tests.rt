@@ -1,0 +1,2 @@
+mod scan;
+mod scanner;

@@ -1,0 +1,9 @@
+//! The virtual hand scanner.
+#![tactic(auto)]
+
+mod hand_scanner;
+
+pub use hand_scanner::HandScanner;
+
+#[cfg(test)]
+mod tests;

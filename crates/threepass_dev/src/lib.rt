@@ -1,0 +1,9 @@
+//! The virtual three-pass scanner.
+#![tactic(auto)]
+
+mod three_pass;
+
+pub use three_pass::ThreePass;
+
+#[cfg(test)]
+mod tests;
