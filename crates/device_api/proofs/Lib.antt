@@ -7,3 +7,4 @@ pub mod InfoLaws
 pub mod RunLaws
 pub mod Upto
 pub mod FramedLaws
+pub mod TableLaws

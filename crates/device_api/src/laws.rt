@@ -1,0 +1,28 @@
+ghost use Rattle.std.specs.Prelude.{◌≡◌, ◌↔◌, ℕ, List, Some, false, true, slice_get};
+ghost use Rattle.option_desc.specs.declared.descriptor.Descriptor.{Descriptor};
+ghost use Rattle.option_desc.specs.declared.value.Value.{Value};
+ghost use Rattle.option_desc.specs.Reads.{read};
+ghost use Rattle.scan_frames.specs.declared.setup.Setup.{Setup};
+ghost use Rattle.device_api.specs.Options.{descriptors_of};
+ghost use Rattle.device_api.specs.Values.{same_value, reloads, option_set};
+ghost use Rattle.device_api.specs.InForce.{number_named, IsPlacedBy, placed};
+
+/// A law: values are told to be the same where they are equal, and only there. So `INEXACT` stands just
+/// where the value in force differs from the one given.
+pub fn same_values_are_equal()
+    ensures { (a b : Value) → (same_value a b ≡ true) ↔ (a ≡ b) }
+{}
+
+/// A law: `RELOAD_OPTIONS` stands just where the descriptors of a scanner changed.
+pub fn reload_tells_of_changed_descriptors()
+    ensures { (s t : Setup) → t.scene.kind ≡ s.scene.kind → (reloads s t ≡ false) ↔ (descriptors_of s ≡ descriptors_of t) }
+{}
+
+/// A law: a setting that finds its option and reads as a value is put as a `set` of that option answers,
+/// and not put where that refuses. So the setups of a job's settings in force are those that one `set`
+/// after another leaves.
+pub fn settings_are_put_as_they_are_set()
+    ensures { (s : Setup) (name text : List ℕ) (n : ℕ) (desc : Descriptor) (asked : Value)
+        → number_named name (descriptors_of s) ≡ Some n → slice_get (descriptors_of s) n ≡ Some desc
+        → read desc text ≡ Some asked → IsPlacedBy s n asked (option_set s n asked) (placed s (name, text)) }
+{}
