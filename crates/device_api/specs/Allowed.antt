@@ -1,8 +1,8 @@
 -- What the options of every scanner say, at any time.
-use Rattle.std.specs.Prelude.{◌≡◌, ◌≢◌, ◌≤◌, ◌*◌, ℕ, ℤ, pos, Some}
+use Rattle.std.specs.Prelude.{◌≡◌, ◌≢◌, ◌≤◌, ◌*◌, ℕ, ℤ, pos, true, Some}
 use Rattle.sane_fixed.specs.declared.fixed.Fixed.{Fixed as Length}
 use Rattle.sane_fixed.specs.declared.status.Status.TheVariants.{Good}
-use Rattle.page_picture.specs.Page.{IsShaped}
+use Rattle.page_picture.specs.Page.{IsShaped, IsSheet}
 use Rattle.page_picture.specs.declared.scene.DeviceKind.{DeviceKind}
 use Rattle.page_picture.specs.declared.scene.DeviceKind.TheVariants.{Flatbed, Hand, ThreePass}
 use Rattle.scan_frames.specs.Frames.{IsSetup}
@@ -35,7 +35,8 @@ pub record IsAllowed (s : Setup) : Type 0 where
   pub br_y : IsOnBed s.scene.br_y
   pub told : s.told ≢ Some Good
 
--- the limits of a scanner: its setup's, and its page's
+-- the limits of a scanner: its setup's, and its page's, whose samples have 16 bits where its source gives its rows
 pub record HasLimits (s : DeviceState) : Type 0 where
   pub setup : IsAllowed s.setup
   pub page : IsShaped s.page
+  pub sheet : s.steady ≡ true → IsSheet s.page

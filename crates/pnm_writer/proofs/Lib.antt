@@ -5,3 +5,4 @@ pub mod StreamLaws
 pub mod JoinLaws
 pub mod AcceptLaws
 pub mod TextLaws
+pub mod FrontLaws

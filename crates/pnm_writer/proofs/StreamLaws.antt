@@ -329,7 +329,7 @@ rows_more f given v s = by_column v.column refl
               ∙ append_assoc (a ++ b) row.0 rest.0),
         )
 
-file_more : (f : Frame) (given : List ℕ) (v : Joining) → Streams f given v → (more : List ℕ) × (given ++ more ≡ file_front f (lines_in f.params.lines))
+pub file_more : (f : Frame) (given : List ℕ) (v : Joining) → Streams f given v → (more : List ℕ) × (given ++ more ≡ file_front f (lines_in f.params.lines))
 file_more f given v s = elim (cases_lt v.headed (length v.head)) as (λ _. (more : List ℕ) × (given ++ more ≡ file_front f (lines_in f.params.lines))) [
   | inl less ↦
       let none = s.ahead less in

@@ -1,4 +1,4 @@
-ghost use Rattle.std.specs.Prelude.{◌≡◌, ◌<◌, ◌++◌, Some, true, ℕ, [], slice_index};
+ghost use Rattle.std.specs.Prelude.{◌≡◌, ◌≢◌, ◌<◌, ◌++◌, Some, None, true, ℕ, List, [], slice_index};
 ghost use Rattle.netpbm.specs.Picture.{Picture};
 ghost use Rattle.netpbm.specs.Pnm.{IsWhole};
 ghost use Rattle.netpbm.specs.FileText.{header_text, row_text, joined};
@@ -11,6 +11,11 @@ ghost use Rattle.pnm_writer.specs.Joining.{Joining, Stands};
 /// Before the picture is whole, what was given in all is no whole text.
 pub fn not_whole_before()
     ensures { (past : Past) (join : Joining) → Stands past join → (IsJoined past → ⊥) → IsWhole past.given → ⊥ }
+{}
+
+/// Where no fault stands, a proper front of what was given in all is no whole text.
+pub fn no_front_is_whole()
+    ensures { (past : Past) (join : Joining) (front more : List ℕ) → Stands past join → past.fault ≡ None → past.given ≡ front ++ more → more ≢ [] → IsWhole front → ⊥ }
 {}
 
 /// A whole picture's frames show one.
