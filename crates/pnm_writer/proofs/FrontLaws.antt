@@ -1,17 +1,26 @@
 -- A proper front of what went out is never a whole file.
-use Rattle.std.proofs.Common.{◌≡◌, ◌≢◌, ℕ, List, [], ◌∷◌, ◌++◌, length, Option, Some, None, arith, refl, sym, ap, ◌∙◌, subst, length-append}
+use Rattle.std.proofs.Common.{◌≡◌, ◌≢◌, ℕ, List, [], ◌∷◌, ◌++◌, length, ◌≤◌, ◌<◌, ◌+◌, ◌*◌, ◌^◌, Option, Some, None, arith, refl, sym, ap, ◌∙◌, subst, length-append}
 use Rattle.std.proofs.lemmas.List.{append_assoc, nil_from_length}
 use Rattle.netpbm.specs.Pnm.{Denotes, IsWhole}
+use Rattle.netpbm.specs.Pnm.{magic}
+use Rattle.netpbm.specs.FileText.{header_text, maxval_text}
+use Rattle.netpbm.specs.declared.format.Format.{Format}
+use Rattle.netpbm.specs.declared.format.Format.TheVariants.{Pbm, Pgm, Ppm}
+use Rattle.netpbm.specs.declared.format.Header.{Header}
 use Rattle.netpbm.proofs.PnmLaws.{no_prefix}
+use Rattle.std.specs.Prelude.{decimal, codes}
+use Rattle.std.proofs.lemmas.Fmt.{length-decimal-le_succ}
+use Rattle.std.proofs.Math.Nat.{mul-le-mul}
+use Rattle.page_picture.proofs.MeaningLemmas.{greatest_limits}
 use Rattle.page_picture.specs.Shows.{Frame}
 use Rattle.pnm_writer.specs.declared.join_stage.JoinFault.{JoinFault}
 use Rattle.pnm_writer.specs.declared.join_stage.Stage.{Stage}
 use Rattle.pnm_writer.specs.declared.join_stage.Stage.TheVariants.{Idle, Under, Whole, Failed}
-use Rattle.pnm_writer.specs.AloneFrame.{lines_in}
-use Rattle.pnm_writer.specs.FrameFile.{file_front}
+use Rattle.pnm_writer.specs.AloneFrame.{lines_in, row_bytes}
+use Rattle.pnm_writer.specs.FrameFile.{file_front, header_alone}
 use Rattle.pnm_writer.specs.FrameHistory.{Past}
 use Rattle.pnm_writer.specs.Joining.{Joining, Stands, Streams}
-use Rattle.pnm_writer.proofs.StreamLaws.{file_more, frame_picture, denotes_picture}
+use Rattle.pnm_writer.proofs.StreamLaws.{file_more, frame_picture, denotes_picture, given_length}
 use Rattle.pnm_writer.proofs.JoinLaws.{at_stage, fault_at}
 
 back_nil : (front more : List ℕ) → front ++ more ≡ [] → more ≡ []
@@ -34,4 +43,55 @@ no_front past v front more stands no_fault cut some whole = by_stage v.stage ref
     by_stage Idle e = some (back_nil front more (sym cut ∙ (at_stage Idle past v e stands).2))
     by_stage Under e = some (streamed (at_stage Under past v e stands).0 past.given front more v (at_stage Under past v e stands).3 cut whole)
     by_stage Whole e = some (streamed (at_stage Whole past v e stands).0 past.given front more v (at_stage Whole past v e stands).4 cut whole)
+    by_stage (Failed x) e = let clash : Some x ≡ None = sym (fault_at (Failed x) past v e stands) ∙ no_fault in absurd (cc)
+
+-- ---- no file is endless
+
+decimal_small : (n k : ℕ) → n ≤ k → k < 2 ^ 63 → length (decimal n) ≤ k + 1
+decimal_small n k less small = omega (arith, length-decimal-le_succ n (omega arith))
+
+magic_two : (g : Format) → length (magic g) ≡ 2
+magic_two Pbm = refl
+magic_two Pgm = refl
+magic_two Ppm = refl
+
+maxval_short : (g : Format) (m : ℕ) → m ≤ 65535 → length (maxval_text g m) ≤ 65540
+maxval_short Pbm m h = omega arith
+maxval_short Pgm m h = omega (arith, length-append (decimal m) (10 ∷ []), decimal_small m 65535 h (omega arith))
+maxval_short Ppm m h = omega (arith, length-append (decimal m) (10 ∷ []), decimal_small m 65535 h (omega arith))
+
+header_short : (h : Header) → h.width ≤ 65536 → h.height ≤ 65536 → h.maxval ≤ 65535 → length (header_text h) ≤ 2 ^ 20
+header_short h wide high most =
+    let tail = maxval_text h.format h.maxval in
+    let second = decimal h.height ++ (10 ∷ tail) in
+    let first = decimal h.width ++ (32 ∷ second) in
+    let line = codes "# SANE data follows" in
+    omega (
+      arith,
+      magic_two h.format,
+      maxval_short h.format h.maxval most,
+      decimal_small h.width 65536 wide (omega arith),
+      decimal_small h.height 65536 high (omega arith),
+      length-append (magic h.format) (10 ∷ line ++ (10 ∷ first)),
+      length-append line (10 ∷ first),
+      length-append (decimal h.width) (32 ∷ second),
+      length-append (decimal h.height) (10 ∷ tail),
+    )
+
+stream_short : (f : Frame) (given : List ℕ) (v : Joining) → Streams f given v → length given < 2 ^ 40
+stream_short f given v s =
+    let parts = s.alone in
+    let many : v.row ≤ 65536 = omega (arith, s.rows, parts.lines_most) in
+    let wide : row_bytes f.params ≤ 1048576 = omega (arith, parts.fits, parts.line_most) in
+    let rows : v.row * row_bytes f.params ≤ 65536 * 1048576 = mul-le-mul many wide in
+    let head : v.headed ≤ length (header_text (header_alone f.params)) = subst (λ (l : List ℕ). v.headed ≤ length l) s.head s.headed in
+    omega (arith, rows, head, s.column, parts.fits, parts.line_most, given_length f given v s, header_short (header_alone f.params) parts.width_most parts.lines_most (greatest_limits f.params.depth).1)
+
+pub all_short : (past : Past) (v : Joining) → Stands past v → past.fault ≡ None → length past.given < 2 ^ 40
+all_short past v stands no_fault = by_stage v.stage refl
+  where
+    by_stage : (s : Stage) → v.stage ≡ s → length past.given < 2 ^ 40
+    by_stage Idle e = omega (arith, ap (λ (l : List ℕ). length l) (at_stage Idle past v e stands).2)
+    by_stage Under e = stream_short (at_stage Under past v e stands).0 past.given v (at_stage Under past v e stands).3
+    by_stage Whole e = stream_short (at_stage Whole past v e stands).0 past.given v (at_stage Whole past v e stands).4
     by_stage (Failed x) e = let clash : Some x ≡ None = sym (fault_at (Failed x) past v e stands) ∙ no_fault in absurd (cc)

@@ -348,7 +348,7 @@ file_more f given v s = elim (cases_lt v.headed (length v.head)) as (λ _. (more
       (rest.0, ap (λ (l : List ℕ). l ++ rest.0) s.given_is ∙ (append_assoc t ab rest.0 ∙ (ap (λ (l : List ℕ). t ++ l) (sym rest.1) ∙ ap (λ (l : List ℕ). l ++ rows_front f (lines_in f.params.lines)) whole)))
 ]
 
-given_length : (f : Frame) (given : List ℕ) (v : Joining) → Streams f given v → length given ≡ v.headed + (v.row * row_bytes f.params + v.column)
+pub given_length : (f : Frame) (given : List ℕ) (v : Joining) → Streams f given v → length given ≡ v.headed + (v.row * row_bytes f.params + v.column)
 given_length f given v s =
     let t = take v.headed v.head in
     let a = rows_front f v.row in

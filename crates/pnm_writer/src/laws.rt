@@ -1,4 +1,4 @@
-ghost use Rattle.std.specs.Prelude.{◌≡◌, ◌≢◌, ◌<◌, ◌++◌, Some, None, true, ℕ, List, [], slice_index};
+ghost use Rattle.std.specs.Prelude.{◌≡◌, ◌≢◌, ◌<◌, ◌++◌, Some, None, true, ◌^◌, ℕ, List, [], length, slice_index};
 ghost use Rattle.netpbm.specs.Picture.{Picture};
 ghost use Rattle.netpbm.specs.Pnm.{IsWhole};
 ghost use Rattle.netpbm.specs.FileText.{header_text, row_text, joined};
@@ -16,6 +16,11 @@ pub fn not_whole_before()
 /// Where no fault stands, a proper front of what was given in all is no whole text.
 pub fn no_front_is_whole()
     ensures { (past : Past) (join : Joining) (front more : List ℕ) → Stands past join → past.fault ≡ None → past.given ≡ front ++ more → more ≢ [] → IsWhole front → ⊥ }
+{}
+
+/// Where no fault stands, what was given in all is less than 2^40 bytes.
+pub fn no_file_is_endless()
+    ensures { (past : Past) (join : Joining) → Stands past join → past.fault ≡ None → length past.given < 2 ^ 40 }
 {}
 
 /// A whole picture's frames show one.

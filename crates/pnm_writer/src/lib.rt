@@ -12,8 +12,8 @@ mod read;
 pub use frame_join::FrameJoin;
 pub use join_stage::JoinFault;
 pub use laws::{
-    frame_file_is_the_writers_text, no_front_is_whole, not_whole_before, shown_frame_is_accepted,
-    whole_shows,
+    frame_file_is_the_writers_text, no_file_is_endless, no_front_is_whole, not_whole_before,
+    shown_frame_is_accepted, whole_shows,
 };
 pub use plain::{PlainFault, scan_plain};
 pub use pnm_out::PnmOut;
