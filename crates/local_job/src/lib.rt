@@ -1,7 +1,10 @@
 //! A job on a scanner of this machine: its settings put, its picture scanned to a Netpbm file.
 #![tactic(auto)]
 
+mod drain;
+mod output;
 mod settings;
 mod stop;
 
+pub use output::put;
 pub use stop::Stop;

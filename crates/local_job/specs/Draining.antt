@@ -1,0 +1,21 @@
+-- The bytes of a file on their way from a join to the output.
+use Rattle.std.specs.Prelude.{ℕ, ◌≡◌, Option, List, ◌++◌}
+use Rattle.std.specs.Io.KnownBytes.{Appends}
+use Rattle.netpbm.specs.Picture.{Picture}
+use Rattle.netpbm.specs.Pnm.{Denotes, IsWhole}
+use Rattle.page_picture.specs.Shows.{ShowsFrames}
+use Rattle.pnm_writer.specs.FrameHistory.{Past, IsJoined, after_pull}
+use Rattle.pnm_writer.specs.Joining.{Joining, Stands}
+
+-- more bytes were given, the output took all that were given so far, and once the picture is whole they denote it
+pub record IsDrainedTo (past : Past) (first : Option (List ℕ)) (join : Joining) (contents : Option (List ℕ)) : Type 0 where
+  pub bytes : List ℕ
+  pub stands : Stands (after_pull bytes past) join
+  pub taken : Appends first contents (past.given ++ bytes)
+  pub denotes : IsJoined past → (p : Picture) → ShowsFrames past.ended p → Denotes (past.given ++ bytes) p
+
+-- the output took a text that is no whole file
+pub record StopsShort (first contents : Option (List ℕ)) : Type 0 where
+  pub text : List ℕ
+  pub taken : Appends first contents text
+  pub not_whole : IsWhole text → ⊥
