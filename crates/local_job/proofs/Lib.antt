@@ -1,3 +1,4 @@
 pub mod Bytes
 pub mod Puts
 pub mod Drains
+pub mod Feeds

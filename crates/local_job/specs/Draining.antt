@@ -1,9 +1,9 @@
 -- The bytes of a file on their way from a join to the output.
-use Rattle.std.specs.Prelude.{ℕ, ◌≡◌, Option, List, ◌++◌}
+use Rattle.std.specs.Prelude.{ℕ, ◌≡◌, Option, Some, List, ◌++◌}
 use Rattle.std.specs.Io.KnownBytes.{Appends}
 use Rattle.netpbm.specs.Picture.{Picture}
 use Rattle.netpbm.specs.Pnm.{Denotes, IsWhole}
-use Rattle.page_picture.specs.Shows.{ShowsFrames}
+use Rattle.page_picture.specs.Shows.{Frame, ShowsFrames}
 use Rattle.pnm_writer.specs.FrameHistory.{Past, IsJoined, after_pull}
 use Rattle.pnm_writer.specs.Joining.{Joining, Stands}
 
@@ -19,3 +19,9 @@ pub record StopsShort (first contents : Option (List ℕ)) : Type 0 where
   pub text : List ℕ
   pub taken : Appends first contents text
   pub not_whole : IsWhole text → ⊥
+
+-- bytes came into the frame under way, and the output took what was given
+pub record Feeds (past : Past) (frame : Frame) (first : Option (List ℕ)) (join : Joining) (contents : Option (List ℕ)) : Type 0 where
+  pub given : List ℕ
+  pub stands : Stands (record past { under = Some frame; given = given }) join
+  pub taken : Appends first contents given

@@ -2,7 +2,9 @@
 use Rattle.sane_fixed.specs.declared.status.Status.{Status}
 use Rattle.sane_fixed.specs.declared.status.Status.TheVariants.{Good, Unsupported, Cancelled, DeviceBusy, Inval, Eof, Jammed, NoDocs, CoverOpen, IoError, NoMem, AccessDenied}
 use Rattle.net_backend.specs.declared.outcome.Why.{Why}
-use Rattle.net_backend.specs.declared.outcome.Why.TheVariants.{Answer, Setting, Memory}
+use Rattle.net_backend.specs.declared.outcome.Why.TheVariants.{Answer, Malformed, Short, Long, Setting, Memory, Sink}
+use Rattle.pnm_writer.specs.declared.join_stage.JoinFault.{JoinFault}
+use Rattle.pnm_writer.specs.declared.join_stage.JoinFault.TheVariants as fault
 use Rattle.local_job.specs.declared.stop.Stop.{Stop}
 
 abbrev pub no_memory : Stop
@@ -23,3 +25,13 @@ answered status = record { status = status; why = why_answered status }
 abbrev pub unread : Status → Stop
 unread NoMem = no_memory
 unread _ = bad_setting
+
+abbrev pub bad_output : Stop
+bad_output = record { status = IoError; why = Sink }
+
+-- frames that make no picture
+abbrev pub unjoined : JoinFault → Stop
+unjoined fault.Shape = record { status = IoError; why = Malformed }
+unjoined fault.Long = record { status = IoError; why = Long }
+unjoined fault.Short = record { status = IoError; why = Short }
+unjoined fault.NoMem = no_memory

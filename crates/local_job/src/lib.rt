@@ -2,6 +2,7 @@
 #![tactic(auto)]
 
 mod drain;
+mod frames;
 mod output;
 mod settings;
 mod stop;

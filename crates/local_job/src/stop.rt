@@ -1,8 +1,9 @@
 ghost use Rattle.std.specs.Prelude.{◌≡◌};
 ghost use Rattle.local_job.specs.declared.stop.Stop.{Stop as AnyStop};
-ghost use Rattle.local_job.specs.Stops.{no_memory, bad_setting, answered};
+ghost use Rattle.local_job.specs.Stops.{no_memory, bad_setting, answered, bad_output, unjoined};
 
 use net_backend::Why;
+use pnm_writer::JoinFault;
 use sane_fixed::{NoMem, Status};
 use std::alloc::{AllocError, AllocFailed};
 
@@ -43,6 +44,32 @@ pub fn answered(status: Status) -> Stop
             status,
             why: Why::Answer,
         },
+    }
+}
+
+/// The output failed, or took nothing.
+pub fn bad_output() -> Stop
+    ensures { result ≡ bad_output }
+{
+    Stop {
+        status: Status::IoError,
+        why: Why::Sink,
+    }
+}
+
+/// The frames make no picture.
+pub fn unjoined(fault: JoinFault) -> Stop
+    ensures { result ≡ unjoined fault }
+{
+    let why = match fault {
+        JoinFault::Shape => Why::Malformed,
+        JoinFault::Long => Why::Long,
+        JoinFault::Short => Why::Short,
+        JoinFault::NoMem => return no_memory(),
+    };
+    Stop {
+        status: Status::IoError,
+        why,
     }
 }
 

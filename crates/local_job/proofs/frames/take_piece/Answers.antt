@@ -1,0 +1,22 @@
+use Rattle.std.proofs.Common.{◌≡◌, ◌∙◌, ◌++◌, rules, sym, ap, subst, None, Some, Option}
+use Rattle.page_picture.specs.Shows.{Frame}
+use Rattle.pnm_writer.specs.FrameHistory.{Past, after_feed}
+use Rattle.pnm_writer.specs.Joining.{Stands, is_starved}
+use Rattle.local_job.proofs.Feeds.{fed_well, fed_badly, feeds}
+use Rattle.local_job.proofs.frames.take_piece.Goals as goal
+
+pub returns-then-drain-clause-taken : goal.returns-then-drain-clause-taken
+returns-then-drain-clause-taken g c = λ first past frame stands no_fault under taken.
+    let starved = is_starved c.feed.new.self in
+    let fed = c.feed.ensures.carried past stands in
+    let well = fed_well past frame c.args.bytes.now starved no_fault under (sym (c.fault.ensures (after_feed c.args.bytes.now starved past) fed) ∙ c.in_default.is) in
+    let after : Past = record past { under = Some (record frame { payload = frame.payload ++ c.args.bytes.now }) } in
+    feeds past (record frame { payload = frame.payload ++ c.args.bytes.now }) first _ _ (c.drain.ensures.drained c.if-drain.true first after (subst (λ (q : Past). Stands q c.feed.new.self) well fed) taken)
+
+pub returns-else-drain-clause-short : goal.returns-else-drain-clause-short
+returns-else-drain-clause-short g c = λ first past frame stands no_fault under taken.
+    let starved = is_starved c.feed.new.self in
+    let fed = c.feed.ensures.carried past stands in
+    let well = fed_well past frame c.args.bytes.now starved no_fault under (sym (c.fault.ensures (after_feed c.args.bytes.now starved past) fed) ∙ c.in_default.is) in
+    let after : Past = record past { under = Some (record frame { payload = frame.payload ++ c.args.bytes.now }) } in
+    c.drain.ensures.short c.if-drain.false first after (subst (λ (q : Past). Stands q c.feed.new.self) well fed) no_fault taken
