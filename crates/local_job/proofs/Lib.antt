@@ -2,3 +2,4 @@ pub mod Bytes
 pub mod Puts
 pub mod Drains
 pub mod Feeds
+pub mod FrameReads

@@ -1,3 +1,4 @@
 pub mod Stops
 pub mod Putting
 pub mod Draining
+pub mod FrameReading

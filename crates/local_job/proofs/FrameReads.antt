@@ -1,0 +1,166 @@
+-- What the reads of a frame give, one after another.
+use Rattle.std.proofs.Common.{◌≡◌, ◌≢◌, ℕ, ◌+◌, ◌-◌, ◌<◌, ◌≤◌, List, [], ◌++◌, Option, Some, None, Result, Ok, Err, Bool, true, false, length, take, drop, refl, sym, ap, ◌∙◌, subst, arith, length-append}
+use Rattle.std.specs.Prelude.{if◌then◌else◌, ◌==◌}
+use Rattle.std.specs.Io.KnownBytes.{Appends}
+use Rattle.std.proofs.Math.Seq.{take-add}
+use Rattle.std.proofs.lemmas.List.{length-take}
+use Rattle.netpbm.specs.Pnm.{IsWhole}
+use Rattle.sane_fixed.specs.declared.status.Status.{Status}
+use Rattle.sane_fixed.specs.declared.status.Status.TheVariants.{Good, Unsupported, Cancelled, DeviceBusy, Inval, Eof, Jammed, NoDocs, CoverOpen, IoError, NoMem, AccessDenied}
+use Rattle.page_picture.specs.Shows.{Frame}
+use Rattle.scan_frames.specs.Frames.{payload, pass_length}
+use Rattle.device_api.specs.State.{DeviceState, Phase, AtRest, Between, Reading, with_phase, Reads, ReadsIn, ReadsOn, FrameReads, GivesBytes, told_at}
+use Rattle.pnm_writer.specs.declared.join_stage.JoinFault.{JoinFault}
+use Rattle.pnm_writer.specs.FrameHistory.{Past, IsJoined, answer_by}
+use Rattle.pnm_writer.specs.Joining.{Joining, Stands}
+use Rattle.local_job.specs.declared.stop.Stop.{Stop}
+use Rattle.local_job.specs.Stops.{answered}
+use Rattle.local_job.specs.Draining.{Feeds, StopsShort}
+use Rattle.local_job.specs.FrameReading.{IsReadTo, IsRefusal, Keeps}
+
+-- the pass under way, and how many of its bytes were given
+abbrev pass_of : Phase → ℕ
+pass_of (AtRest _) = 0
+pass_of (Between ended) = ended
+pass_of (Reading pass _) = pass
+
+abbrev given_of : Phase → ℕ
+given_of (AtRest _) = 0
+given_of (Between _) = 0
+given_of (Reading _ given) = given
+
+-- the bytes that are left of the pass
+abbrev pub left_in : DeviceState → ℕ
+left_in s = pass_length s.setup s.page (pass_of s.phase) - given_of s.phase
+
+-- where a read gave bytes, the phase was that of a pass, and nothing was told in their place
+gave : (phase : Phase) (old : DeviceState) (n : ℕ) (new : DeviceState) (buf : List ℕ) → ReadsIn phase old (Ok n) new buf → (pass given : ℕ) × (phase ≡ Reading pass given) × GivesBytes old pass given n new buf
+gave (AtRest c) old n new buf reads = let clash = reads.0 in absurd (cc)
+gave (Between p) old n new buf reads = let clash = reads.0 in absurd (cc)
+gave (Reading pass given) old n new buf reads = (pass, given, refl, by_told (told_at old.setup.told given) reads)
+  where
+    by_told : (told : Option Status) → FrameReads told old pass given (Ok n) new buf → GivesBytes old pass given n new buf
+    by_told None reads = reads
+    by_told (Some status) reads = let clash = reads.0 in absurd (cc)
+
+pub less_left : (old new : DeviceState) (n : ℕ) (buf : List ℕ) → Reads old (Ok n) new buf → left_in new < left_in old
+less_left old new n buf reads =
+    let g = gave old.phase old n new buf reads in
+    let was : left_in old ≡ pass_length old.setup old.page g.0 - g.1 = ap (λ (p : Phase). pass_length old.setup old.page (pass_of p) - given_of p) g.2 in
+    let now : left_in new ≡ pass_length old.setup old.page g.0 - (g.1 + n) = ap left_in g.3.after in
+    omega (arith, was, now, g.3.some, g.3.left)
+
+-- ---- what a read leaves alone
+
+of_phase : (old new : DeviceState) (p : Phase) → new ≡ with_phase old p → Keeps old new
+of_phase old new p e = subst (λ (s : DeviceState). Keeps old s) (sym e) refl
+
+of_nothing : (old new : DeviceState) → new ≡ old → Keeps old new
+of_nothing old new e = subst (λ (s : DeviceState). Keeps old s) (sym e) refl
+
+of_stop : (old new : DeviceState) → new ≡ record old { phase = AtRest false; failures = new.failures } → Keeps old new
+of_stop old new e = e ∙ ap (λ (p : Phase). record old { phase = p; failures = new.failures }) (sym (ap (λ (s : DeviceState). s.phase) e))
+
+keeps_on : (old : DeviceState) (pass given : ℕ) (result : Result ℕ Status) (new : DeviceState) (buf : List ℕ) → ReadsOn old pass given result new buf → Keeps old new
+keeps_on old pass given (Ok n) new buf reads = of_phase old new _ reads.after
+keeps_on old pass given (Err Eof) new buf reads = of_phase old new _ reads.1
+keeps_on old pass given (Err IoError) new buf reads = of_stop old new reads.1
+keeps_on old pass given (Err Good) new buf reads = absurd reads
+keeps_on old pass given (Err Unsupported) new buf reads = absurd reads
+keeps_on old pass given (Err Cancelled) new buf reads = absurd reads
+keeps_on old pass given (Err DeviceBusy) new buf reads = absurd reads
+keeps_on old pass given (Err Inval) new buf reads = absurd reads
+keeps_on old pass given (Err Jammed) new buf reads = absurd reads
+keeps_on old pass given (Err NoDocs) new buf reads = absurd reads
+keeps_on old pass given (Err CoverOpen) new buf reads = absurd reads
+keeps_on old pass given (Err NoMem) new buf reads = absurd reads
+keeps_on old pass given (Err AccessDenied) new buf reads = absurd reads
+
+keeps_told : (told : Option Status) (old : DeviceState) (pass given : ℕ) (result : Result ℕ Status) (new : DeviceState) (buf : List ℕ) → FrameReads told old pass given result new buf → Keeps old new
+keeps_told None old pass given result new buf reads = keeps_on old pass given result new buf reads
+keeps_told (Some status) old pass given result new buf reads = of_phase old new _ reads.1
+
+keeps_in : (phase : Phase) (old : DeviceState) (result : Result ℕ Status) (new : DeviceState) (buf : List ℕ) → ReadsIn phase old result new buf → Keeps old new
+keeps_in (AtRest c) old result new buf reads = of_nothing old new reads.1
+keeps_in (Between p) old result new buf reads = of_nothing old new reads.1
+keeps_in (Reading pass given) old result new buf reads = keeps_told (told_at old.setup.told given) old pass given result new buf reads
+
+pub keeps : (first old : DeviceState) (result : Result ℕ Status) (new : DeviceState) (buf : List ℕ) → Keeps first old → Reads old result new buf → Keeps first new
+keeps first old result new buf before reads =
+    keeps_in old.phase old result new buf reads ∙ ap (λ (s : DeviceState). record s { phase = new.phase; failures = new.failures }) before
+
+-- ---- a read that refuses
+
+good_told : (told : Option Status) (given : ℕ) (status : Status) → told_at told given ≡ Some status → told ≡ Some status
+good_told told given status e =
+    elim (given == 0) as (λ t. (if t then told else None) ≡ Some status → told ≡ Some status) [
+      | true ↦ λ h. h
+      | false ↦ λ h. (let clash : None ≡ Some status = h in absurd (cc))
+    ] e
+
+good_in_frame : (told : Option Status) (old : DeviceState) (pass given : ℕ) (new : DeviceState) (buf : List ℕ) → FrameReads told old pass given (Err Good) new buf → told ≡ Some Good
+good_in_frame None old pass given new buf reads = absurd reads
+good_in_frame (Some status) old pass given new buf reads = let e = reads.0 in let same : status ≡ Good = cc in ap (λ (s : Status). Some s) same
+
+never_good : (phase : Phase) (old : DeviceState) (new : DeviceState) (buf : List ℕ) → old.setup.told ≢ Some Good → ReadsIn phase old (Err Good) new buf → ⊥
+never_good (AtRest true) old new buf told reads = let e = reads.0 in absurd (cc)
+never_good (AtRest false) old new buf told reads = let e = reads.0 in absurd (cc)
+never_good (Between p) old new buf told reads = let e = reads.0 in absurd (cc)
+never_good (Reading pass given) old new buf told reads =
+    told (good_told old.setup.told given Good (good_in_frame (told_at old.setup.told given) old pass given new buf reads))
+
+pub not_good : (old new : DeviceState) (buf : List ℕ) (status : Status) → old.setup.told ≢ Some Good → Reads old (Err status) new buf → status ≢ Good
+not_good old new buf status told reads e = never_good old.phase old new buf told (subst (λ (s : Status). Reads old (Err s) new buf) e reads)
+
+-- ---- the bytes so far
+
+pub first_bytes : (s : DeviceState) (pass : ℕ) (past : Past) (frame : Frame) (first contents : Option (List ℕ)) (join : Joining) → Stands past join → past.under ≡ Some frame → frame.payload ≡ []
+    → Appends first contents past.given → IsReadTo s pass 0 past frame first join contents
+first_bytes s pass past frame first contents join stands under empty taken =
+    let same : past ≡ record past { under = Some (record frame { payload = [] }) } =
+    ap (λ (u : Option Frame). record past { under = u }) (under ∙ ap (λ (l : List ℕ). Some (record frame { payload = l })) empty) in
+    record {
+      bytes = [];
+      count = refl;
+      feeds = record { given = past.given; stands = subst (λ (q : Past). Stands q join) same stands; taken = taken };
+      right = λ steady. refl;
+    }
+
+pub gives : (old now new : DeviceState) (pass given n : ℕ) (buf : List ℕ) → now ≡ with_phase old (Reading pass given) → Reads now (Ok n) new buf → GivesBytes now pass given n new buf
+gives old now new pass given n buf is reads =
+    by_told (told_at now.setup.told given) (subst (λ (p : Phase). ReadsIn p now (Ok n) new buf) (ap (λ (s : DeviceState). s.phase) is) reads)
+  where
+    by_told : (told : Option Status) → FrameReads told now pass given (Ok n) new buf → GivesBytes now pass given n new buf
+    by_told None reads = reads
+    by_told (Some status) reads = let clash = reads.0 in absurd (cc)
+
+pub still : (old now new : DeviceState) (pass given n : ℕ) (buf : List ℕ) → now ≡ with_phase old (Reading pass given) → GivesBytes now pass given n new buf → new ≡ with_phase old (Reading pass (given + n))
+still old now new pass given n buf is g = g.after ∙ ap (λ (s : DeviceState). with_phase s (Reading pass (given + n))) is
+
+-- the history with the bytes so far
+abbrev pub so_far : Past → Frame → List ℕ → List ℕ → Past
+so_far past frame bytes given = record past { under = Some (record frame { payload = bytes }); given = given }
+
+pub more_bytes : (old now new : DeviceState) (pass given n : ℕ) (buf : List ℕ) (past : Past) (frame : Frame) (first before after : Option (List ℕ)) (was join : Joining)
+    → now ≡ with_phase old (Reading pass given) → GivesBytes now pass given n new buf → (r : IsReadTo old pass given past frame first was before)
+    → Feeds (so_far past frame r.bytes r.feeds.given) (record frame { payload = r.bytes ++ take n buf }) first join after → IsReadTo old pass (given + n) past frame first join after
+more_bytes old now new pass given n buf past frame first before after was join is g r f = record {
+  bytes = r.bytes ++ take n buf;
+  count = omega (arith, length-append r.bytes (take n buf), r.count, length-take n buf, g.room);
+  feeds = record { given = f.given; stands = f.stands; taken = f.taken };
+  right = λ steady.
+      let all = payload old.setup old.page pass in
+      let here : take n buf ≡ take n (drop given all) =
+      subst (λ (s : DeviceState). s.steady ≡ true → take n buf ≡ take n (drop given (payload s.setup s.page pass))) is g.bytes steady in
+      ap (λ (l : List ℕ). l ++ take n buf) (r.right steady) ∙ ap (λ (l : List ℕ). take given all ++ l) here ∙ sym (take-add given n all);
+}
+
+pub cut_off : (s : DeviceState) (pass given : ℕ) (past : Past) (frame : Frame) (first contents : Option (List ℕ)) (join : Joining) → past.fault ≡ None
+    → ((q : Past) (j : Joining) → Stands q j → (IsJoined q → ⊥) → IsWhole q.given → ⊥) → IsReadTo s pass given past frame first join contents → StopsShort first contents
+cut_off s pass given past frame first contents join no_fault law r = record {
+  text = r.feeds.given;
+  taken = r.feeds.taken;
+  not_whole = law (so_far past frame r.bytes r.feeds.given) join r.feeds.stands (λ joined.
+      let clash : Ok false ≡ Ok true = ap (λ (o : Option JoinFault). answer_by o (Some (record frame { payload = r.bytes })) past.ended) (sym no_fault) ∙ joined in
+      absurd (cc));
+}

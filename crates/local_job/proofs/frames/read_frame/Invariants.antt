@@ -1,0 +1,25 @@
+use Rattle.std.proofs.Common.{◌≡◌, ◌<◌, ℕ, List, [], Option, Some, None, length}
+use Rattle.std.specs.Io.KnownBytes.{Appends}
+use Rattle.page_picture.specs.Shows.{Frame}
+use Rattle.device_api.specs.State.{DeviceState, Reading, with_phase}
+use Rattle.pnm_writer.specs.FrameHistory.{Past}
+use Rattle.pnm_writer.specs.Joining.{Stands}
+use Rattle.local_job.specs.FrameReading.{IsReadTo, Keeps}
+use Rattle.local_job.proofs.FrameReads.{left_in}
+use Rattle.local_job.proofs.frames.read_frame.Given as goal
+
+abbrev pub invariant-loop-n : goal.invariant-loop-n
+invariant-loop-n g l =
+    let now : DeviceState = (goal.Device-dyn g l.device.now).state l.device.now.1 in
+    let old : DeviceState = (goal.Device-dyn g l.initial.device.now).state l.initial.device.now.1 in
+    record {
+      piece : 0 < length l.piece;
+      room : length l.room ≡ length l.initial.room;
+      same : Keeps old now;
+      read : (pass : ℕ) → old.phase ≡ Reading pass 0 → (given : ℕ) × (now ≡ with_phase old (Reading pass given))
+          × ((past : Past) (frame : Frame) (first : Option (List ℕ)) → Stands past l.initial.join → past.fault ≡ None → past.under ≡ Some frame → frame.payload ≡ []
+          → Appends first (g.W.Write.contents l.initial.out) past.given → IsReadTo old pass given past frame first l.join (g.W.Write.contents l.out));
+    }
+
+abbrev pub decreases-loop-n : goal.decreases-loop-n
+decreases-loop-n g l = left_in ((goal.Device-dyn g l.device.now).state l.device.now.1)
