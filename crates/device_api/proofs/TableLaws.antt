@@ -93,9 +93,10 @@ all_tell s t (o ∷ os) e =
     (all_tell s t os (rest_is (descriptor_of s o) (descriptor_of t o) (map (descriptor_of s) os) (map (descriptor_of t) os) e))
 
 pub reload_tells : (s t : Setup) → t.scene.kind ≡ s.scene.kind → (reloads s t ≡ false) ↔ (descriptors_of s ≡ descriptors_of t)
-reload_tells s t k =
-    (λ e. same_all s t (options_of s.scene.kind) k e ∙ ap (λ kind. map (descriptor_of t) (options_of kind)) (sym k),
-     λ e. all_tell s t (options_of s.scene.kind) (e ∙ ap (λ kind. map (descriptor_of t) (options_of kind)) k))
+reload_tells s t k = (
+  λ e. same_all s t (options_of s.scene.kind) k e ∙ ap (λ kind. map (descriptor_of t) (options_of kind)) (sym k),
+  λ e. all_tell s t (options_of s.scene.kind) (e ∙ ap (λ kind. map (descriptor_of t) (options_of kind)) k),
+)
 
 -- what the capabilities say of setting
 select_is : (o : ScanOption) (a : Bool) → has_cap (option_caps o + (if a then 0 else 32)) 1 ≡ has_cap (option_caps o) 1

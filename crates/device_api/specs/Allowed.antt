@@ -1,5 +1,5 @@
 -- What the options of every scanner say, at any time.
-use Rattle.std.specs.Prelude.{◌≡◌, ◌≢◌, ◌≤◌, ◌*◌, ℕ, ℤ, pos, true, Some}
+use Rattle.std.specs.Prelude.{◌≡◌, ◌≢◌, ◌≤◌, ◌<◌, ◌*◌, ◌^◌, slice_index, ℕ, ℤ, pos, true, Some}
 use Rattle.sane_fixed.specs.declared.fixed.Fixed.{Fixed as Length}
 use Rattle.sane_fixed.specs.declared.status.Status.TheVariants.{Good}
 use Rattle.page_picture.specs.Page.{IsShaped, IsSheet}
@@ -35,8 +35,10 @@ pub record IsAllowed (s : Setup) : Type 0 where
   pub br_y : IsOnBed s.scene.br_y
   pub told : s.told ≢ Some Good
 
--- the limits of a scanner: its setup's, and its page's, whose samples have 16 bits where its source gives its rows
+-- The limits of a scanner: its setup's, with a gamma table of bytes, and its page's, whose samples have 16 bits where
+-- its source gives its rows.
 pub record HasLimits (s : DeviceState) : Type 0 where
   pub setup : IsAllowed s.setup
+  pub gamma : (i : ℕ) → slice_index s.setup.scene.gamma i < 2 ^ 8
   pub page : IsShaped s.page
   pub sheet : s.steady ≡ true → IsSheet s.page

@@ -3,3 +3,4 @@ pub mod Puts
 pub mod Drains
 pub mod Feeds
 pub mod FrameReads
+pub mod Pictures

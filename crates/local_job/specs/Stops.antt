@@ -35,3 +35,7 @@ unjoined fault.Shape = record { status = IoError; why = Malformed }
 unjoined fault.Long = record { status = IoError; why = Long }
 unjoined fault.Short = record { status = IoError; why = Short }
 unjoined fault.NoMem = no_memory
+
+-- frames that are none, or not those of a picture
+abbrev pub malformed : Stop
+malformed = record { status = IoError; why = Malformed }

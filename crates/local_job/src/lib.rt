@@ -4,6 +4,7 @@
 mod drain;
 mod frames;
 mod output;
+mod scan;
 mod settings;
 mod stop;
 

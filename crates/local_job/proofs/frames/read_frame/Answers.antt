@@ -36,21 +36,23 @@ loop-n-preserved g c =
       same = keeps old now (Ok c.in-Ok.n) new c.read.new.buf c.loop-n.invariant.same c.in-Ok.ensures.0;
       read = λ pass at.
           let r = c.loop-n.invariant.read pass at in
-          let b = gives old now new pass r.0 c.in-Ok.n c.read.new.buf r.1 c.in-Ok.ensures.0 in
-          (r.0 + c.in-Ok.n, still old now new pass r.0 c.in-Ok.n c.read.new.buf r.1 b,
-          λ past frame first stands no_fault under empty taken.
-              let so = r.2 past frame first stands no_fault under empty taken in
-              more_bytes old now new pass r.0 c.in-Ok.n c.read.new.buf past frame first _ _ _ _ r.1 b so
-              (c.in_ok-take_piece.ensures.taken first (so_far past frame so.bytes so.feeds.given) (record frame { payload = so.bytes }) so.feeds.stands no_fault refl so.feeds.taken));
+          let b = gives old now new pass r.0 c.in-Ok.n c.read.new.buf r.1 c.in-Ok.ensures.0 in (
+            r.0 + c.in-Ok.n,
+            still old now new pass r.0 c.in-Ok.n c.read.new.buf r.1 b,
+            λ past frame first stands no_fault under empty taken.
+                let so = r.2 past frame first stands no_fault under empty taken in
+                more_bytes old now new pass r.0 c.in-Ok.n c.read.new.buf past frame first _ _ _ _ r.1 b so
+                (c.in_ok-take_piece.ensures.taken first (so_far past frame so.bytes so.feeds.given) (record frame { payload = so.bytes }) so.feeds.stands no_fault refl so.feeds.taken),
+          );
     }
 
 pub returns-in_err-take_piece-clause-short : goal.returns-in_err-take_piece-clause-short
 returns-in_err-take_piece-clause-short g c =
     let p = err_from_is_err_and c.from_residual.result c.from_residual.ensures.1 in
     rw p.1 (λ pass past frame first at stands no_fault under empty taken.
-        let r = c.loop-n.invariant.read pass at in
-        let so = r.2 past frame first stands no_fault under empty taken in
-        c.in_err-take_piece.ensures.short first (so_far past frame so.bytes so.feeds.given) (record frame { payload = so.bytes }) so.feeds.stands no_fault refl so.feeds.taken)
+    let r = c.loop-n.invariant.read pass at in
+    let so = r.2 past frame first stands no_fault under empty taken in
+    c.in_err-take_piece.ensures.short first (so_far past frame so.bytes so.feeds.given) (record frame { payload = so.bytes }) so.feeds.stands no_fault refl so.feeds.taken)
 
 pub returns-in_err-take_piece-clause-refusal : goal.returns-in_err-take_piece-clause-refusal
 returns-in_err-take_piece-clause-refusal g c =
