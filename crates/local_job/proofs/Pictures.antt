@@ -1,6 +1,6 @@
 -- The frame of a scan that came whole is the frame that shows the scene's meaning.
 use Rattle.std.proofs.Common.{◌≡◌, ℕ, ◌+◌, ◌*◌, ◌≤◌, ◌<◌, ◌^◌, List, [], ◌∷◌, ◌++◌, Option, Some, None, Bool, true, false, length, take, refl, sym, ap, ◌∙◌, subst, arith}
-use Rattle.std.specs.Prelude.{◌&&◌, if◌then◌else◌, slice_index}
+use Rattle.std.specs.Prelude.{◌&&◌, if◌then◌else◌, slice_index, OnOk, OnErr}
 use Rattle.std.proofs.Math.Seq.{take-length}
 use Rattle.netpbm.specs.Picture.{Picture}
 use Rattle.sane_fixed.specs.declared.params.Params.{Params}
@@ -12,7 +12,7 @@ use Rattle.scan_frames.specs.declared.setup.Setup.{Setup}
 use Rattle.scan_frames.specs.declared.setup.PassOrder.{PassOrder}
 use Rattle.scan_frames.specs.declared.setup.PassOrder.TheVariants.{Rgb, Rbg, Gbr, Grb, Brg, Bgr}
 use Rattle.sane_fixed.specs.declared.byte_order.ByteOrder.{ByteOrder}
-use Rattle.std.proofs.Common.{Ok, Err}
+use Rattle.std.proofs.Common.{Result, Ok, Err}
 use Rattle.pnm_writer.specs.declared.join_stage.JoinFault.TheVariants.{Shape, Short, NoMem}
 use Rattle.pnm_writer.specs.FrameHistory.{Past, no_past, after_begin, after_end, answer_of, is_full}
 use Rattle.std.specs.Io.KnownBytes.{Appends}
@@ -20,7 +20,11 @@ use Rattle.netpbm.specs.Pnm.{Denotes, IsWhole}
 use Rattle.pnm_writer.specs.FrameHistory.{IsJoined}
 use Rattle.pnm_writer.specs.Joining.{Joining, Stands}
 use Rattle.local_job.specs.Draining.{IsDrainedTo, StopsShort}
-use Rattle.local_job.specs.FrameReading.{begun, EndsWhole}
+use Rattle.std.proofs.lemmas.Bool.{eqb-true}
+use Rattle.page_picture.specs.Meaning.{meaning_of}
+use Rattle.device_api.specs.State.{DeviceState, Reading, with_phase}
+use Rattle.device_api.specs.Allowed.{HasLimits}
+use Rattle.local_job.specs.FrameReading.{begun, EndsWhole, IsReadTo, IsScanned}
 use Rattle.pnm_writer.specs.AloneFrame.{is_alone, is_alone_format, is_known, is_shaped, lines_in, most_bytes}
 
 first_and : (a b : Bool) → (a && b) ≡ true → a ≡ true
@@ -124,3 +128,40 @@ ends_whole past f first before contents was join no_fault under none stands join
       full = well.0;
       denotes = λ p shows. d.denotes is p shows;
     }
+
+-- ---- a scan
+
+meaning_is : (s : Setup) (page : Sheet) → has_picture s page ≡ true → meaning_of page s.scene ≡ Some (picture_of page s.scene (width_of s, height_of s page))
+meaning_is s page there = rw there refl
+
+full_size : (f : Frame) → is_full f ≡ true → length f.payload ≡ most_bytes f.params
+full_size f full = eqb-true (length f.payload) (most_bytes f.params) full
+
+-- what a frame that was read to its end and ended whole left
+pub scanned : (s : DeviceState) (past : Past) (given : ℕ) (first before contents : Option (List ℕ)) (join : Joining) → HasLimits s → has_picture s.setup s.page ≡ true → is_alone (params_at s.setup s.page 0) ≡ true
+    → ((setup : Setup) (page : Sheet) → IsSetup setup → IsSheet page → ((i : ℕ) → slice_index setup.scene.gamma i < 2 ^ 8) → has_picture setup page ≡ true
+    → ShowsFrames (frames_of setup page) (picture_of page setup.scene (width_of setup, height_of setup page)))
+    → (r : IsReadTo s 0 given past (came s.setup s.page []) first join before) → EndsWhole (came s.setup s.page r.bytes) first contents → IsScanned s first contents
+scanned s past given first before contents join limits there alone law r e = record {
+  text = e.text;
+  taken = e.taken;
+  whole = e.whole;
+  picture = λ steady.
+      let p = picture_of s.page s.setup.scene (width_of s.setup, height_of s.setup s.page) in
+      let shown : ShowsFrames (frames_of s.setup s.page) p = law s.setup s.page limits.setup.limits (limits.sheet steady) limits.gamma there in
+      rw (meaning_is s.setup s.page there) (e.denotes p (came_shows s.setup s.page r.bytes given p shown alone r.count (r.right steady) (full_size (came s.setup s.page r.bytes) e.full)));
+}
+
+-- the same of the device before its start
+pub scanned_before : (old mid : DeviceState) (first contents : Option (List ℕ)) → mid ≡ with_phase old (Reading 0 0) → IsScanned mid first contents → IsScanned old first contents
+scanned_before old mid first contents e is =
+    let now : IsScanned (with_phase old (Reading 0 0)) first contents = subst (λ (s : DeviceState). IsScanned s first contents) e is in
+    record { text = now.text; taken = now.taken; whole = now.whole; picture = now.picture }
+
+pub on_ok_map : {T E P Q : Type 0} (r : Result T E) → (P → Q) → OnOk r P → OnOk r Q
+on_ok_map (Ok x) f h = f h
+on_ok_map (Err e) f h = h
+
+pub on_err_map : {T E P Q : Type 0} (r : Result T E) → (P → Q) → OnErr r P → OnErr r Q
+on_err_map (Ok x) f h = h
+on_err_map (Err e) f h = f h

@@ -5,7 +5,9 @@ ghost use Rattle.page_picture.specs.Shows.{Frame};
 ghost use Rattle.pnm_writer.specs.AloneFrame.{is_alone};
 ghost use Rattle.pnm_writer.specs.FrameHistory.{Past};
 ghost use Rattle.pnm_writer.specs.Joining.{Stands};
-ghost use Rattle.device_api.specs.State.{is_at_rest};
+ghost use Rattle.scan_frames.specs.Frames.{has_picture, params_at};
+ghost use Rattle.device_api.specs.Allowed.{HasLimits};
+ghost use Rattle.device_api.specs.State.{is_at_rest, with_phase, Reading};
 ghost use Rattle.local_job.specs.Draining.{StopsShort};
 ghost use Rattle.local_job.specs.FrameReading.{IsRefusal, Keeps, IsScanned, EndsWhole, begun};
 
@@ -37,6 +39,32 @@ fn begin_frame(alloc: Global, params: &Params, order: ByteOrder) -> Result<Frame
         Some(fault) => Err(unjoined(fault)),
         None => Ok(join),
     }
+}
+
+/// Begins a scan.
+fn start_scan(alloc: Global, device: &mut dyn Device) -> Result<(), Stop>
+    requires { is_at_rest (state device.old).phase ≡ true }
+    ensures picture { OnOk result (has_picture (state device.old).setup (state device.old).page ≡ true) }
+    ensures started { OnOk result (state device.new ≡ with_phase (state device.old) (Reading 0 0)) }
+    ensures refusal { IfErr result (λ stop. IsRefusal stop) }
+    ensures same { Keeps (state device.old) (state device.new) }
+{
+    match device.start(alloc) {
+        Ok(()) => Ok(()),
+        Err(status) => Err(answered(status)),
+    }
+}
+
+/// A join in which the first frame of a scan has begun.
+fn first_frame(alloc: Global, device: &dyn Device) -> Result<FrameJoin, Stop>
+    requires { (state device.now).phase ≡ Reading 0 0 }
+    ensures alone { OnOk result (is_alone (params_at (state device.now).setup (state device.now).page 0) ≡ true) }
+    ensures begun { IfOk result (λ join. Stands (begun (params_at (state device.now).setup (state device.now).page 0) (state device.now).setup.order) join) }
+    ensures limits { HasLimits (state device.now) }
+    ensures refusal { IfErr result (λ stop. IsRefusal stop) }
+{
+    let params = device.params();
+    begin_frame(alloc, &params, device.order())
 }
 
 /// Ends the frame: the output takes the rest of the file.
@@ -86,9 +114,8 @@ pub fn scan_picture<W: Write>(
     not_whole_before();
     let mut piece = zeros(alloc, PIECE)?;
     let mut room = zeros(alloc, ROOM)?;
-    device.start(alloc).map_err(answered)?;
-    let params = device.params();
-    let mut join = begin_frame(alloc, &params, device.order())?;
+    start_scan(alloc, device)?;
+    let mut join = first_frame(alloc, &*device)?;
     read_frame(device, &mut join, &mut piece, &mut room, out)?;
     end_frame(&mut join, &mut room, out)
 }
