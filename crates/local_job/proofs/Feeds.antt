@@ -5,9 +5,9 @@ use Rattle.std.specs.Io.KnownBytes.{Appends}
 use Rattle.netpbm.specs.Pnm.{IsWhole}
 use Rattle.page_picture.specs.Shows.{Frame}
 use Rattle.pnm_writer.specs.declared.join_stage.JoinFault.{JoinFault}
-use Rattle.pnm_writer.specs.declared.join_stage.JoinFault.TheVariants.{Shape, Long, Short, NoMem}
+use Rattle.pnm_writer.specs.declared.join_stage.JoinFault.TheVariants.{Long, NoMem}
 use Rattle.pnm_writer.specs.AloneFrame.{most_bytes}
-use Rattle.pnm_writer.specs.FrameHistory.{Past, IsJoined, answer_by, fed, failed, after_feed, after_pull}
+use Rattle.pnm_writer.specs.FrameHistory.{Past, IsJoined, answer_by, fed, failed, after_feed}
 use Rattle.pnm_writer.specs.Joining.{Joining, Stands}
 use Rattle.local_job.specs.Draining.{IsDrainedTo, Feeds, StopsShort}
 

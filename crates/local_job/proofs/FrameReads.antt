@@ -1,5 +1,5 @@
 -- What the reads of a frame give, one after another.
-use Rattle.std.proofs.Common.{◌≡◌, ◌≢◌, ℕ, ◌+◌, ◌-◌, ◌<◌, ◌≤◌, List, [], ◌++◌, Option, Some, None, Result, Ok, Err, Bool, true, false, length, take, drop, refl, sym, ap, ◌∙◌, subst, arith, length-append}
+use Rattle.std.proofs.Common.{◌≡◌, ◌≢◌, ℕ, ◌+◌, ◌-◌, ◌<◌, List, [], ◌++◌, Option, Some, None, Result, Ok, Err, true, false, take, drop, refl, sym, ap, ◌∙◌, subst, arith, length-append}
 use Rattle.std.specs.Prelude.{if◌then◌else◌, ◌==◌}
 use Rattle.std.specs.Io.KnownBytes.{Appends}
 use Rattle.std.proofs.Math.Seq.{take-add}
@@ -13,10 +13,8 @@ use Rattle.device_api.specs.State.{DeviceState, Phase, AtRest, Between, Reading,
 use Rattle.pnm_writer.specs.declared.join_stage.JoinFault.{JoinFault}
 use Rattle.pnm_writer.specs.FrameHistory.{Past, IsJoined, answer_by}
 use Rattle.pnm_writer.specs.Joining.{Joining, Stands}
-use Rattle.local_job.specs.declared.stop.Stop.{Stop}
-use Rattle.local_job.specs.Stops.{answered}
 use Rattle.local_job.specs.Draining.{Feeds, StopsShort}
-use Rattle.local_job.specs.FrameReading.{IsReadTo, IsRefusal, Keeps}
+use Rattle.local_job.specs.FrameReading.{IsReadTo, Keeps}
 
 -- the pass under way, and how many of its bytes were given
 abbrev pass_of : Phase → ℕ

@@ -1,6 +1,6 @@
 -- The frame of a scan that came whole is the frame that shows the scene's meaning.
-use Rattle.std.proofs.Common.{◌≡◌, ℕ, ◌+◌, ◌*◌, ◌≤◌, ◌<◌, ◌^◌, List, [], ◌∷◌, ◌++◌, Option, Some, None, Bool, true, false, length, take, refl, sym, ap, ◌∙◌, subst, arith}
-use Rattle.std.specs.Prelude.{◌&&◌, if◌then◌else◌, slice_index, OnOk, OnErr}
+use Rattle.std.proofs.Common.{◌≡◌, ℕ, ◌*◌, ◌<◌, ◌^◌, List, [], ◌∷◌, ◌++◌, Option, Some, None, Bool, true, false, length, take, refl, sym, ap, ◌∙◌, subst}
+use Rattle.std.specs.Prelude.{◌&&◌, slice_index, OnOk, OnErr}
 use Rattle.std.proofs.Math.Seq.{take-length}
 use Rattle.netpbm.specs.Picture.{Picture}
 use Rattle.sane_fixed.specs.declared.params.Params.{Params}
@@ -16,7 +16,7 @@ use Rattle.std.proofs.Common.{Result, Ok, Err}
 use Rattle.pnm_writer.specs.declared.join_stage.JoinFault.TheVariants.{Shape, Short, NoMem}
 use Rattle.pnm_writer.specs.FrameHistory.{Past, no_past, after_begin, after_end, answer_of, is_full}
 use Rattle.std.specs.Io.KnownBytes.{Appends}
-use Rattle.netpbm.specs.Pnm.{Denotes, IsWhole}
+use Rattle.netpbm.specs.Pnm.{IsWhole}
 use Rattle.pnm_writer.specs.FrameHistory.{IsJoined}
 use Rattle.pnm_writer.specs.Joining.{Joining, Stands}
 use Rattle.local_job.specs.Draining.{IsDrainedTo, StopsShort}
@@ -25,7 +25,7 @@ use Rattle.page_picture.specs.Meaning.{meaning_of}
 use Rattle.device_api.specs.State.{DeviceState, Reading, with_phase}
 use Rattle.device_api.specs.Allowed.{HasLimits}
 use Rattle.local_job.specs.FrameReading.{begun, EndsWhole, IsReadTo, IsScanned}
-use Rattle.pnm_writer.specs.AloneFrame.{is_alone, is_alone_format, is_known, is_shaped, lines_in, most_bytes}
+use Rattle.pnm_writer.specs.AloneFrame.{is_alone, is_alone_format, is_known, lines_in, most_bytes}
 
 first_and : (a b : Bool) → (a && b) ≡ true → a ≡ true
 first_and true b e = refl

@@ -1,14 +1,24 @@
 -- Settings put one after another.
-use Rattle.std.proofs.Common.{◌≡◌, ℕ, ◌+◌, ◌<◌, ◌≤◌, List, [], ◌∷◌, ◌++◌, Result, Ok, Err, drop, length, get_or, refl, sym, ap, ◌∙◌, arith, ◌⊎◌, inl, inr}
+use Rattle.std.proofs.Common.{◌≡◌, ℕ, ◌+◌, ◌<◌, List, [], ◌∷◌, ◌++◌, Result, Ok, Err, drop, length, get_or, refl, sym, ap, ◌∙◌, ◌⊎◌, inl, inr}
 use Rattle.std.proofs.Common.{suc, add-one}
 use Rattle.std.proofs.Math.Seq.{drop-cons}
 use Rattle.std.proofs.lemmas.List.{append-nil, append_assoc}
 use Rattle.device_api.specs.State.{DeviceState, with_setup}
 use Rattle.scan_frames.specs.declared.setup.Setup.{Setup}
+use Rattle.std.proofs.Common.{Option, Some, None}
+use Rattle.sane_fixed.specs.declared.status.Status.{Status}
+use Rattle.sane_fixed.specs.declared.status.Status.TheVariants.{Inval, Good, Eof}
+use Rattle.option_desc.specs.declared.value.Value.{Value}
+use Rattle.option_desc.specs.Put.{resolve}
+use Rattle.device_api.specs.declared.scan_option.ScanOption.{ScanOption}
+use Rattle.device_api.specs.Options.{descriptor_of}
+use Rattle.device_api.specs.Values.{put_answer, set_to, option_set, option_to_set}
 use Rattle.net_backend.specs.declared.report.Report.{Report}
 use Rattle.local_job.specs.declared.stop.Stop.{Stop}
-use Rattle.local_job.specs.Stops.{no_memory}
-use Rattle.local_job.specs.Putting.{put_one, put_all, then_more, with_first, with_done}
+use Rattle.std.proofs.Common.{subst}
+use Rattle.local_job.specs.FrameReading.{IsRefusal}
+use Rattle.local_job.specs.Stops.{no_memory, answered}
+use Rattle.local_job.specs.Putting.{put_one, put_all, with_first, with_done}
 
 with_one : (done : List Report) (report : Report) (more : Result (Setup × List Report) Stop) → with_done done (with_first report more) ≡ with_done (done ++ report ∷ []) more
 with_one done report (Ok more) = ap (λ (all : List Report). Ok (more.0, all)) (sym (append_assoc done (report ∷ []) more.1))
@@ -45,3 +55,26 @@ pub put_stops : (done : List Report) (s : Setup) (left rest : List (List ℕ × 
     → left ≡ setting ∷ rest → (stop ≡ no_memory) ⊎ (put_one s setting ≡ Err stop) → with_done done (put_all s left) ≡ whole → (stop ≡ no_memory) ⊎ (whole ≡ Err stop)
 put_stops done s left rest setting stop whole cut (inl memory) before = inl memory
 put_stops done s left rest setting stop whole cut (inr fails) before = inr (put_fails done s left rest setting stop whole cut fails before)
+
+-- what a set refuses is INVAL
+given_refused : (s : Setup) (o : ScanOption) (asked : Value) (given : Option Value) (status : Status) → put_answer s o asked given ≡ Err status → status ≡ Inval
+given_refused s o asked None status e = cc
+given_refused s o asked (Some v) status e = absurd (cc)
+
+option_refused : (s : Setup) (o : Option ScanOption) (asked : Value) (status : Status) → set_to s o asked ≡ Err status → status ≡ Inval
+option_refused s None asked status e = cc
+option_refused s (Some o) asked status e = given_refused s o asked (resolve (descriptor_of s o) asked) status e
+
+set_refused : (s : Setup) (n : ℕ) (asked : Value) (status : Status) → option_set s n asked ≡ Err status → status ≡ Inval
+unfolding option_set
+set_refused s n asked status e = option_refused s (option_to_set s n) asked status e
+
+memory_refuses : IsRefusal no_memory
+memory_refuses = record { not_good = λ e. absurd (cc); not_eof = λ e. absurd (cc) }
+
+inval_refuses : (status : Status) → status ≡ Inval → IsRefusal (answered status)
+inval_refuses status e = record { not_good = λ g. (let clash : Inval ≡ Good = sym e ∙ g in absurd (cc)); not_eof = λ g. (let clash : Inval ≡ Eof = sym e ∙ g in absurd (cc)) }
+
+pub set_refuses : (s : Setup) (n : ℕ) (asked : Value) (stop : Stop) → (stop ≡ no_memory) ⊎ ((status : Status) × (option_set s n asked ≡ Err status) × (stop ≡ answered status)) → IsRefusal stop
+set_refuses s n asked stop (inl memory) = subst IsRefusal (sym memory) memory_refuses
+set_refuses s n asked stop (inr refused) = subst IsRefusal (sym refused.2) (inval_refuses refused.0 (set_refused s n asked refused.0 refused.1))

@@ -1,5 +1,5 @@
 -- The bytes of a file on their way from a join to the output.
-use Rattle.std.specs.Prelude.{ℕ, ◌≡◌, Option, Some, List, ◌++◌}
+use Rattle.std.specs.Prelude.{ℕ, Option, Some, List, ◌++◌}
 use Rattle.std.specs.Io.KnownBytes.{Appends}
 use Rattle.netpbm.specs.Picture.{Picture}
 use Rattle.netpbm.specs.Pnm.{Denotes, IsWhole}

@@ -2,3 +2,4 @@ pub mod Stops
 pub mod Putting
 pub mod Draining
 pub mod FrameReading
+pub mod LocalRun

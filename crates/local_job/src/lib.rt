@@ -4,9 +4,11 @@
 mod drain;
 mod frames;
 mod output;
+mod run;
 mod scan;
 mod settings;
 mod stop;
 
 pub use output::put;
+pub use run::run_local;
 pub use stop::Stop;

@@ -6,6 +6,7 @@ ghost use Rattle.sane_fixed.specs.declared.status.Status.{Status as AnyStatus};
 ghost use Rattle.device_api.specs.InForce.{number_named};
 ghost use Rattle.local_job.specs.Stops.{no_memory, bad_setting, unread, answered};
 ghost use Rattle.local_job.specs.Putting.{put_one, put_all};
+ghost use Rattle.local_job.specs.FrameReading.{IsRefusal};
 
 use crate::stop::{Stop, answered, bad_setting, no_memory};
 use device_api::Device;
@@ -27,6 +28,7 @@ fn number_named(descriptors: &[Descriptor], name: &[u8]) -> Option<usize>
 fn find_option(alloc: Global, device: &dyn Device, name: &[u8]) -> Result<(u32, Descriptor), Stop>
     ensures found { IfOk result (λ found. (number_named name.now (descriptors_of (state device.now).setup) ≡ Some found.0)
         × (slice_get (descriptors_of (state device.now).setup) found.0 ≡ Some found.1)) }
+    ensures refusal { IfErr result (λ stop. IsRefusal stop) }
     ensures none { IfErr result (λ stop. (stop ≡ no_memory) ⊎ ((stop ≡ bad_setting) × (number_named name.now (descriptors_of (state device.now).setup) ≡ None))) }
 {
     let descriptors = device.descriptors(alloc).map_err(answered)?;
@@ -56,6 +58,7 @@ fn set_option(
     ensures set { IfOk result (λ got. (option_set (state device.old).setup n asked.now ≡ Ok got) × ((state device.new).setup ≡ setup_after (state device.old).setup n got.0)) }
     ensures stop { IfErr result (λ stop. (stop ≡ no_memory) ⊎ ((status : AnyStatus) × (option_set (state device.old).setup n asked.now ≡ Err status) × (stop ≡ answered status))) }
     ensures rest { state device.new ≡ with_setup (state device.old) (state device.new).setup }
+    ensures refusal { IfErr result (λ stop. IsRefusal stop) }
 {
     match device.set(alloc, n, asked) {
         Ok(got) => Ok(got),
@@ -75,6 +78,7 @@ fn put_setting(
     ensures put { IfOk result (λ report. put_one (state device.old).setup setting.now ≡ Ok ((state device.new).setup, report)) }
     ensures stop { IfErr result (λ stop. (stop ≡ no_memory) ⊎ (put_one (state device.old).setup setting.now ≡ Err stop)) }
     ensures rest { state device.new ≡ with_setup (state device.old) (state device.new).setup }
+    ensures refusal { IfErr result (λ stop. IsRefusal stop) }
 {
     let (name, text) = setting;
     let (n, descriptor) = find_option(alloc, &*device, name.as_bytes())?;
@@ -100,6 +104,7 @@ pub fn put_settings(
     ensures put { IfOk result (λ reports. put_all (state device.old).setup settings.now ≡ Ok ((state device.new).setup, reports)) }
     ensures stop { IfErr result (λ stop. (stop ≡ no_memory) ⊎ (put_all (state device.old).setup settings.now ≡ Err stop)) }
     ensures rest { state device.new ≡ with_setup (state device.old) (state device.new).setup }
+    ensures refusal { IfErr result (λ stop. IsRefusal stop) }
 {
     let mut reports = Vec::with_capacity(alloc, settings.len())?;
     for setting in settings {

@@ -1,1 +1,3 @@
 pub mod Why
+pub mod JobSize
+pub mod Outcomes

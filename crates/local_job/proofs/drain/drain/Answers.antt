@@ -1,4 +1,4 @@
-use Rattle.std.proofs.Common.{◌≡◌, ◌∙◌, ◌^◌, rules, arith, sym, ap, subst, take, length, false, refl, ℕ, List, []}
+use Rattle.std.proofs.Common.{◌≡◌, rules, arith, ap, take, length, refl, ℕ, List, []}
 use Rattle.std.proofs.lemmas.List.{length-take}
 use Rattle.std.specs.Io.KnownBytes.{Appends}
 use Rattle.local_job.proofs.Drains.{begun, one_more, at_end, stopped, never}

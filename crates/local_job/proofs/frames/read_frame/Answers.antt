@@ -1,6 +1,6 @@
-use Rattle.std.proofs.Common.{◌≡◌, ◌∙◌, ◌++◌, ◌+◌, rules, arith, sym, ap, refl, take, List, ℕ, Option, Some, None, Ok, Err}
-use Rattle.device_api.specs.State.{DeviceState, Reading, with_phase, Phase}
-use Rattle.local_job.proofs.FrameReads.{first_bytes, gives, still, more_bytes, cut_off, keeps, not_good, so_far}
+use Rattle.std.proofs.Common.{◌+◌, rules, ap, refl, Ok}
+use Rattle.device_api.specs.State.{DeviceState, Phase}
+use Rattle.local_job.proofs.FrameReads.{first_bytes, gives, still, more_bytes, cut_off, keeps, so_far}
 use Rattle.std.proofs.lemmas.Result.{err_from_is_err_and}
 use Rattle.local_job.proofs.frames.read_frame.Goals as goal
 

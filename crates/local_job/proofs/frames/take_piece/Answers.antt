@@ -1,8 +1,7 @@
-use Rattle.std.proofs.Common.{◌≡◌, ◌∙◌, ◌++◌, rules, sym, ap, subst, None, Some, Option}
-use Rattle.page_picture.specs.Shows.{Frame}
+use Rattle.std.proofs.Common.{◌∙◌, ◌++◌, sym, subst, Some}
 use Rattle.pnm_writer.specs.FrameHistory.{Past, after_feed}
 use Rattle.pnm_writer.specs.Joining.{Stands, is_starved}
-use Rattle.local_job.proofs.Feeds.{fed_well, fed_badly, feeds}
+use Rattle.local_job.proofs.Feeds.{fed_well, feeds}
 use Rattle.local_job.proofs.frames.take_piece.Goals as goal
 
 pub returns-then-drain-clause-taken : goal.returns-then-drain-clause-taken

@@ -1,5 +1,5 @@
-use Rattle.std.proofs.Common.{◌≡◌, ◌∙◌, sym, subst}
-use Rattle.pnm_writer.specs.FrameHistory.{Past, no_past, after_begin}
+use Rattle.std.proofs.Common.{◌∙◌, sym, subst}
+use Rattle.pnm_writer.specs.FrameHistory.{Past, no_past}
 use Rattle.pnm_writer.specs.Joining.{Stands, is_starved}
 use Rattle.local_job.proofs.Pictures.{begun_well}
 use Rattle.local_job.proofs.scan.begin_frame.Goals as goal

@@ -1,6 +1,6 @@
-use Rattle.std.proofs.Common.{◌≡◌, ◌∙◌, sym, subst, rules, refl, Ok, true}
-use Rattle.std.specs.Prelude.{Some, None, [], ◌∷◌}
-use Rattle.pnm_writer.specs.FrameHistory.{Past, after_end, IsJoined, answer_of}
+use Rattle.std.proofs.Common.{◌≡◌, ◌∙◌, sym, subst, rules, Ok, true}
+use Rattle.std.specs.Prelude.{None, [], ◌∷◌}
+use Rattle.pnm_writer.specs.FrameHistory.{Past, after_end, answer_of}
 use Rattle.pnm_writer.specs.Joining.{Stands}
 use Rattle.local_job.proofs.Pictures.{ends_whole, ended_well}
 use Rattle.local_job.proofs.scan.end_frame.Goals as goal

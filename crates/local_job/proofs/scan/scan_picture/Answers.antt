@@ -1,9 +1,9 @@
-use Rattle.std.proofs.Common.{◌≡◌, ◌∙◌, sym, ap, subst, refl, true, ℕ, List}
-use Rattle.std.specs.Prelude.{[], Some, None}
+use Rattle.std.proofs.Common.{◌≡◌, sym, ap, subst, refl, true}
+use Rattle.std.specs.Prelude.{[]}
 use Rattle.std.proofs.lemmas.Result.{err_from_is_err_and}
 use Rattle.scan_frames.specs.Frames.{has_picture, params_at}
 use Rattle.page_picture.specs.Shows.{Frame}
-use Rattle.device_api.specs.State.{DeviceState, Phase, Reading}
+use Rattle.device_api.specs.State.{DeviceState, Reading}
 use Rattle.pnm_writer.specs.FrameHistory.{Past}
 use Rattle.local_job.specs.FrameReading.{begun}
 use Rattle.local_job.proofs.FrameReads.{so_far}
@@ -28,10 +28,10 @@ returns-clause-done g c =
     let at : mid.phase ≡ Reading 0 0 = ap (λ (s : DeviceState). s.phase) c.in_ok-start_scan.ensures.started in
     let there : has_picture mid.setup mid.page ≡ true = subst (λ (s : DeviceState). has_picture s.setup s.page ≡ true) (sym c.in_ok-start_scan.ensures.started) c.in_ok-start_scan.ensures.picture in
     on_ok_map c.end_frame.result (λ whole first taken.
-        let read = c.in_ok-read_frame.ensures.read 0 past frame first at c.in_ok-join.ensures.begun refl refl refl taken in
-        let r = read.1 in
-        scanned_before old mid first _ c.in_ok-start_scan.ensures.started (scanned mid past read.0 first _ _ _ c.in_ok-join.ensures.limits there c.in_ok-join.ensures.alone c.frames_show_the_picture.ensures r
-        (whole (so_far past frame r.bytes r.feeds.given) (came mid.setup mid.page r.bytes) first r.feeds.stands refl refl refl r.feeds.taken))) c.end_frame.ensures.whole
+    let read = c.in_ok-read_frame.ensures.read 0 past frame first at c.in_ok-join.ensures.begun refl refl refl taken in
+    let r = read.1 in
+    scanned_before old mid first _ c.in_ok-start_scan.ensures.started (scanned mid past read.0 first _ _ _ c.in_ok-join.ensures.limits there c.in_ok-join.ensures.alone c.frames_show_the_picture.ensures r
+    (whole (so_far past frame r.bytes r.feeds.given) (came mid.setup mid.page r.bytes) first r.feeds.stands refl refl refl r.feeds.taken))) c.end_frame.ensures.whole
 
 pub returns-clause-short : goal.returns-clause-short
 returns-clause-short g c =
@@ -40,6 +40,6 @@ returns-clause-short g c =
     let frame : Frame = came mid.setup mid.page [] in
     let at : mid.phase ≡ Reading 0 0 = ap (λ (s : DeviceState). s.phase) c.in_ok-start_scan.ensures.started in
     on_err_map c.end_frame.result (λ short first taken.
-        let read = c.in_ok-read_frame.ensures.read 0 past frame first at c.in_ok-join.ensures.begun refl refl refl taken in
-        let r = read.1 in
-        short (so_far past frame r.bytes r.feeds.given) (came mid.setup mid.page r.bytes) first r.feeds.stands refl refl refl r.feeds.taken) c.end_frame.ensures.short
+    let read = c.in_ok-read_frame.ensures.read 0 past frame first at c.in_ok-join.ensures.begun refl refl refl taken in
+    let r = read.1 in
+    short (so_far past frame r.bytes r.feeds.given) (came mid.setup mid.page r.bytes) first r.feeds.stands refl refl refl r.feeds.taken) c.end_frame.ensures.short

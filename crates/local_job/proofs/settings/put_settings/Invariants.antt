@@ -1,5 +1,5 @@
-use Rattle.std.proofs.Common.{◌≡◌, drop, true}
-use Rattle.device_api.specs.State.{DeviceState, is_at_rest, with_setup}
+use Rattle.std.proofs.Common.{◌≡◌, drop}
+use Rattle.device_api.specs.State.{DeviceState, with_setup}
 use Rattle.local_job.specs.Putting.{put_all, with_done}
 use Rattle.local_job.proofs.settings.put_settings.Given as goal
 

@@ -1,0 +1,36 @@
+-- What a job on a scanner of this machine leaves.
+use Rattle.std.specs.Prelude.{ℕ, ◌≡◌, Option, List, [], Ok}
+use Rattle.std.specs.Io.KnownBytes.{Appends}
+use Rattle.scan_frames.specs.declared.setup.Setup.{Setup}
+use Rattle.device_api.specs.State.{DeviceState, with_setup}
+use Rattle.net_backend.specs.JobSize.{HasJobSize}
+use Rattle.net_backend.specs.declared.job.Job.{Job}
+use Rattle.net_backend.specs.declared.job.Task.{Task}
+use Rattle.net_backend.specs.declared.job.Task.TheVariants.{List as ListTask, Show, SetOnly, Scan}
+use Rattle.net_backend.specs.declared.report.Reports.{Reports}
+use Rattle.local_job.specs.Putting.{put_all}
+use Rattle.local_job.specs.Draining.{StopsShort}
+use Rattle.local_job.specs.FrameReading.{IsScanned}
+
+-- The task was done on a scanner with its settings in force: a scan wrote the file of the scene's picture, and settings
+-- alone wrote nothing. `before` and `after` are what the output holds.
+abbrev pub DoesTask : Task → DeviceState → Option (List ℕ) → Option (List ℕ) → Type 0
+DoesTask ListTask s before after = ⊥
+DoesTask Show s before after = ⊥
+DoesTask SetOnly s before after = after ≡ before
+DoesTask Scan s before after = (first : Option (List ℕ)) → Appends first before [] → IsScanned s first after
+
+-- the job was done, from the options as they stood: each setting was put and reported, and then its task was done
+pub record IsDone (s : DeviceState) (job : Job) (reports : Reports) (before after : Option (List ℕ)) : Type 0 where
+  pub size : HasJobSize job
+  pub setup : Setup
+  pub put : put_all s.setup job.settings.items ≡ Ok (setup, reports.settings)
+  pub task : DoesTask job.task (with_setup s setup) before after
+
+-- the output took no whole file
+abbrev pub LeavesNoFile : Option (List ℕ) → Option (List ℕ) → Type 0
+LeavesNoFile before after = (first : Option (List ℕ)) → Appends first before [] → StopsShort first after
+
+-- of a device only its options, its phase and its count of failures changed
+abbrev pub Runs : DeviceState → DeviceState → Type 0
+Runs old new = new ≡ record old { setup = new.setup; phase = new.phase; failures = new.failures }
