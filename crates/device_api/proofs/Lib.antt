@@ -8,3 +8,4 @@ pub mod RunLaws
 pub mod Upto
 pub mod FramedLaws
 pub mod TableLaws
+pub mod SameLaws

@@ -1,6 +1,6 @@
 -- The descriptors of a setup differ just in which of them are active.
 use Rattle.std.proofs.Common.{◌≡◌, ◌+◌, ◌&&◌, ◌||◌, ◌∙◌, sym, ap, subst, refl, ℕ, Bool, true, false, cond, not, List, [], ◌∷◌, map, arith}
-use Rattle.std.specs.Prelude.{Option, Some, None, Ok, Err, if◌then◌else◌, slice_get, option_map, Result}
+use Rattle.std.specs.Prelude.{Option, Some, None, Err, if◌then◌else◌, slice_get, option_map, Result}
 use Rattle.std.specs.Prelude.{◌↔◌}
 use Rattle.std.specs.List.{list_any}
 use Rattle.std.proofs.lemmas.Bool.{false≢true}
@@ -93,9 +93,10 @@ all_tell s t (o ∷ os) e =
     (all_tell s t os (rest_is (descriptor_of s o) (descriptor_of t o) (map (descriptor_of s) os) (map (descriptor_of t) os) e))
 
 pub reload_tells : (s t : Setup) → t.scene.kind ≡ s.scene.kind → (reloads s t ≡ false) ↔ (descriptors_of s ≡ descriptors_of t)
-reload_tells s t k =
-    (λ e. same_all s t (options_of s.scene.kind) k e ∙ ap (λ kind. map (descriptor_of t) (options_of kind)) (sym k),
-     λ e. all_tell s t (options_of s.scene.kind) (e ∙ ap (λ kind. map (descriptor_of t) (options_of kind)) k))
+reload_tells s t k = (
+  λ e. same_all s t (options_of s.scene.kind) k e ∙ ap (λ kind. map (descriptor_of t) (options_of kind)) (sym k),
+  λ e. all_tell s t (options_of s.scene.kind) (e ∙ ap (λ kind. map (descriptor_of t) (options_of kind)) k),
+)
 
 -- what the capabilities say of setting
 select_is : (o : ScanOption) (a : Bool) → has_cap (option_caps o + (if a then 0 else 32)) 1 ≡ has_cap (option_caps o) 1

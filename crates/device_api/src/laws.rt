@@ -1,4 +1,8 @@
-ghost use Rattle.std.specs.Prelude.{◌≡◌, ◌↔◌, ℕ, List, Some, false, true, slice_get};
+ghost use Rattle.std.specs.Prelude.{◌≡◌, ◌↔◌, ℕ, List, Result, Some, false, true, slice_get};
+ghost use Rattle.sane_fixed.specs.declared.status.Status.{Status};
+ghost use Rattle.page_picture.specs.Source.{SourceState};
+ghost use Rattle.device_api.specs.State.{DeviceState, after_set, after_reset, after_cancel, with_source, Starts, Reads};
+ghost use Rattle.device_api.specs.Same.{IsSameDevice};
 ghost use Rattle.option_desc.specs.declared.descriptor.Descriptor.{Descriptor};
 ghost use Rattle.option_desc.specs.declared.value.Value.{Value};
 ghost use Rattle.option_desc.specs.Reads.{read};
@@ -25,4 +29,14 @@ pub fn settings_are_put_as_they_are_set()
     ensures { (s : Setup) (name text : List ℕ) (n : ℕ) (desc : Descriptor) (asked : Value)
         → number_named name (descriptors_of s) ≡ Some n → slice_get (descriptors_of s) n ≡ Some desc
         → read desc text ≡ Some asked → IsPlacedBy s n asked (option_set s n asked) (placed s (name, text)) }
+{}
+
+/// A law: no call changes what a scanner is, its kind or its byte order.
+pub fn a_scanner_stays_what_it_is()
+    ensures set { (s : DeviceState) (n : ℕ) (given : Value) → IsSameDevice s (after_set s n given) }
+    ensures reset { (s : DeviceState) → IsSameDevice s (after_reset s) }
+    ensures cancel { (s : DeviceState) → IsSameDevice s (after_cancel s) }
+    ensures load { (s : DeviceState) (source : SourceState) → IsSameDevice s (with_source s source) }
+    ensures start { (s t : DeviceState) (result : Result Unit Status) → Starts s result t → IsSameDevice s t }
+    ensures read { (s t : DeviceState) (result : Result ℕ Status) (buf : List ℕ) → Reads s result t buf → IsSameDevice s t }
 {}
