@@ -9,3 +9,4 @@ pub mod Upto
 pub mod FramedLaws
 pub mod TableLaws
 pub mod SameLaws
+pub mod BackLaws

@@ -44,7 +44,7 @@ chosen_same s (Some (choice.Mode m)) = record { kind = refl; order = refl }
 chosen_same s (Some (choice.Passes p)) = record { kind = refl; order = refl }
 chosen_same s (Some (choice.Told t)) = record { kind = refl; order = refl }
 
-value_same : (s : Setup) (o : ScanOption) (v : Value) → IsSameKind s (with_value s o v)
+pub value_same : (s : Setup) (o : ScanOption) (v : Value) → IsSameKind s (with_value s o v)
 unfolding with_value
 value_same s o (Flag _) = same s
 value_same s o (Int w) = number_same s o (unsigned_abs w)

@@ -129,11 +129,11 @@ may_is s o =
     ∙ and_swap (has_cap (option_caps o) 1) (is_active s o)
 
 -- a set, by whether the option may be set, and by the nearest value
-abbrev answer_with : Setup → ScanOption → Value → Bool → Option Value → Result (Value × Info) Status
+abbrev pub answer_with : Setup → ScanOption → Value → Bool → Option Value → Result (Value × Info) Status
 answer_with s o asked true r = put_answer s o asked r
 answer_with s o asked false r = Err Inval
 
-set_is : (s : Setup) (o : ScanOption) (asked : Value) (b : Bool) → set_to s (cond b (Some o) None) asked ≡ answer_with s o asked b (resolve (descriptor_of s o) asked)
+pub set_is : (s : Setup) (o : ScanOption) (asked : Value) (b : Bool) → set_to s (cond b (Some o) None) asked ≡ answer_with s o asked b (resolve (descriptor_of s o) asked)
 set_is s o asked true = refl
 set_is s o asked false = refl
 

@@ -1,4 +1,5 @@
-ghost use Rattle.std.specs.Prelude.{◌≡◌, ◌↔◌, ℕ, List, Result, Some, false, true, slice_get};
+ghost use Rattle.std.specs.Prelude.{◌≡◌, ◌↔◌, ℕ, List, Result, Ok, Some, false, true, slice_get};
+ghost use Rattle.sane_fixed.specs.declared.info.Info.{Info};
 ghost use Rattle.sane_fixed.specs.declared.status.Status.{Status};
 ghost use Rattle.page_picture.specs.Source.{SourceState};
 ghost use Rattle.device_api.specs.State.{DeviceState, after_set, after_reset, after_cancel, with_source, Starts, Reads};
@@ -8,7 +9,7 @@ ghost use Rattle.option_desc.specs.declared.value.Value.{Value};
 ghost use Rattle.option_desc.specs.Reads.{read};
 ghost use Rattle.scan_frames.specs.declared.setup.Setup.{Setup};
 ghost use Rattle.device_api.specs.Options.{descriptors_of};
-ghost use Rattle.device_api.specs.Values.{same_value, reloads, option_set};
+ghost use Rattle.device_api.specs.Values.{same_value, reloads, option_got, option_set, setup_after};
 ghost use Rattle.device_api.specs.InForce.{number_named, IsPlacedBy, placed};
 
 /// A law: values are told to be the same where they are equal, and only there. So `INEXACT` stands just
@@ -39,4 +40,10 @@ pub fn a_scanner_stays_what_it_is()
     ensures load { (s : DeviceState) (source : SourceState) → IsSameDevice s (with_source s source) }
     ensures start { (s t : DeviceState) (result : Result Unit Status) → Starts s result t → IsSameDevice s t }
     ensures read { (s t : DeviceState) (result : Result ℕ Status) (buf : List ℕ) → Reads s result t buf → IsSameDevice s t }
+{}
+
+/// A law: what a set gave, a get gives.
+pub fn what_is_set_is_read()
+    ensures { (s : Setup) (n : ℕ) (asked given : Value) (info : Info)
+        → option_set s n asked ≡ Ok (given, info) → option_got (setup_after s n given) n ≡ Ok given }
 {}
