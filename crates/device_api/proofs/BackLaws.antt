@@ -45,7 +45,7 @@ table_back (w ∷ ws) all =
     ∙ ap (λ xs. w ∷ xs) (table_back ws (All-tail IsByte w ws all))
 
 -- a choice of the option's own list
-abbrev belongs : ScanOption → Choice → Type 0
+abbrev pub belongs : ScanOption → Choice → Type 0
 belongs Mode (choice.Mode _) = Unit {0}
 belongs ThreePassOrder (choice.Passes _) = Unit {0}
 belongs ReadReturnValue (choice.Told _) = Unit {0}
@@ -58,7 +58,7 @@ choice_read s ThreePassOrder (choice.Passes p) b = refl
 choice_read s ReadReturnValue (choice.Told t) b = refl
 choice_read s _ _ b = absurd b
 
-all_belong : (o : ScanOption) → AllByRecursion (belongs o) (choices_of o)
+pub all_belong : (o : ScanOption) → AllByRecursion (belongs o) (choices_of o)
 all_belong Mode = (tt, (tt, tt))
 all_belong ThreePassOrder = (tt, (tt, (tt, (tt, (tt, (tt, tt))))))
 all_belong ReadReturnValue = (tt, (tt, (tt, (tt, (tt, (tt, (tt, (tt, (tt, (tt, (tt, (tt, tt))))))))))))

@@ -10,3 +10,4 @@ pub mod FramedLaws
 pub mod TableLaws
 pub mod SameLaws
 pub mod BackLaws
+pub mod OtherLaws

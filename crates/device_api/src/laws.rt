@@ -1,15 +1,16 @@
-ghost use Rattle.std.specs.Prelude.{◌≡◌, ◌↔◌, ℕ, List, Result, Ok, Some, false, true, slice_get};
+ghost use Rattle.std.specs.Prelude.{◌≡◌, ◌≢◌, ◌↔◌, ℕ, List, Result, Ok, Some, false, true, slice_get};
 ghost use Rattle.sane_fixed.specs.declared.info.Info.{Info};
 ghost use Rattle.sane_fixed.specs.declared.status.Status.{Status};
 ghost use Rattle.page_picture.specs.Source.{SourceState};
 ghost use Rattle.device_api.specs.State.{DeviceState, after_set, after_reset, after_cancel, with_source, Starts, Reads};
+ghost use Rattle.device_api.specs.declared.scan_option.ScanOption.{ScanOption};
 ghost use Rattle.device_api.specs.Same.{IsSameDevice};
 ghost use Rattle.option_desc.specs.declared.descriptor.Descriptor.{Descriptor};
 ghost use Rattle.option_desc.specs.declared.value.Value.{Value};
 ghost use Rattle.option_desc.specs.Reads.{read};
 ghost use Rattle.scan_frames.specs.declared.setup.Setup.{Setup};
 ghost use Rattle.device_api.specs.Options.{descriptors_of};
-ghost use Rattle.device_api.specs.Values.{same_value, reloads, option_got, option_set, setup_after};
+ghost use Rattle.device_api.specs.Values.{same_value, reloads, option_got, option_set, option_value, setup_after, with_value};
 ghost use Rattle.device_api.specs.InForce.{number_named, IsPlacedBy, placed};
 
 /// A law: values are told to be the same where they are equal, and only there. So `INEXACT` stands just
@@ -46,4 +47,10 @@ pub fn a_scanner_stays_what_it_is()
 pub fn what_is_set_is_read()
     ensures { (s : Setup) (n : ℕ) (asked given : Value) (info : Info)
         → option_set s n asked ≡ Ok (given, info) → option_got (setup_after s n given) n ≡ Ok given }
+{}
+
+/// A law: a value that is put into an option leaves the values of all others.
+pub fn a_set_changes_one_option()
+    ensures { (s : Setup) (option other : ScanOption) (value : Value)
+        → option ≢ other → option_value (with_value s option value) other ≡ option_value s other }
 {}
