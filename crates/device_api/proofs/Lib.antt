@@ -11,3 +11,4 @@ pub mod TableLaws
 pub mod SameLaws
 pub mod BackLaws
 pub mod OtherLaws
+pub mod ForceLaws

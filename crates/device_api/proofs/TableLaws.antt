@@ -138,7 +138,7 @@ set_is s o asked true = refl
 set_is s o asked false = refl
 
 -- the same of a setting
-abbrev finished : Setup → ℕ → Value × Value → Option Placed
+abbrev pub finished : Setup → ℕ → Value × Value → Option Placed
 finished s n pair = Some (record { setup = setup_after s n pair.1; asked = pair.0; given = pair.1 })
 
 abbrev nearest_pair : Descriptor → Value → Option (Value × Value)

@@ -1,9 +1,12 @@
 ghost use Rattle.std.specs.Prelude.{◌≡◌, ◌≢◌, ◌↔◌, ℕ, List, Result, Ok, Some, false, true, slice_get};
 ghost use Rattle.sane_fixed.specs.declared.info.Info.{Info};
 ghost use Rattle.sane_fixed.specs.declared.status.Status.{Status};
+ghost use Rattle.sane_fixed.specs.declared.byte_order.ByteOrder.{ByteOrder};
+ghost use Rattle.page_picture.specs.declared.scene.DeviceKind.{DeviceKind};
 ghost use Rattle.page_picture.specs.Source.{SourceState};
 ghost use Rattle.device_api.specs.State.{DeviceState, after_set, after_reset, after_cancel, with_source, Starts, Reads};
 ghost use Rattle.device_api.specs.declared.scan_option.ScanOption.{ScanOption};
+ghost use Rattle.device_api.specs.Allowed.{IsAllowed};
 ghost use Rattle.device_api.specs.Same.{IsSameDevice};
 ghost use Rattle.option_desc.specs.declared.descriptor.Descriptor.{Descriptor};
 ghost use Rattle.option_desc.specs.declared.value.Value.{Value};
@@ -11,7 +14,7 @@ ghost use Rattle.option_desc.specs.Reads.{read};
 ghost use Rattle.scan_frames.specs.declared.setup.Setup.{Setup};
 ghost use Rattle.device_api.specs.Options.{descriptors_of};
 ghost use Rattle.device_api.specs.Values.{same_value, reloads, option_got, option_set, option_value, setup_after, with_value};
-ghost use Rattle.device_api.specs.InForce.{number_named, IsPlacedBy, placed};
+ghost use Rattle.device_api.specs.InForce.{number_named, IsPlacedBy, Placed, placed, in_force};
 
 /// A law: values are told to be the same where they are equal, and only there. So `INEXACT` stands just
 /// where the value in force differs from the one given.
@@ -53,4 +56,10 @@ pub fn what_is_set_is_read()
 pub fn a_set_changes_one_option()
     ensures { (s : Setup) (option other : ScanOption) (value : Value)
         → option ≢ other → option_value (with_value s option value) other ≡ option_value s other }
+{}
+
+/// A law: what the settings of a job in force say stays within the limits of the options.
+pub fn settings_in_force_are_allowed()
+    ensures { (kind : DeviceKind) (order : ByteOrder) (settings : List (List ℕ × List ℕ)) (forced : Setup × List Placed)
+        → in_force kind order settings ≡ Some forced → IsAllowed forced.0 }
 {}
