@@ -12,3 +12,4 @@ pub mod SameLaws
 pub mod BackLaws
 pub mod OtherLaws
 pub mod ForceLaws
+pub mod PictureLaws
