@@ -1,6 +1,6 @@
 -- The descriptors of a setup differ just in which of them are active.
 use Rattle.std.proofs.Common.{◌≡◌, ◌+◌, ◌&&◌, ◌||◌, ◌∙◌, sym, ap, subst, refl, ℕ, Bool, true, false, cond, not, List, [], ◌∷◌, map, arith}
-use Rattle.std.specs.Prelude.{Option, Some, None, Ok, Err, if◌then◌else◌, slice_get, option_map, Result}
+use Rattle.std.specs.Prelude.{Option, Some, None, Err, if◌then◌else◌, slice_get, option_map, Result}
 use Rattle.std.specs.Prelude.{◌↔◌}
 use Rattle.std.specs.List.{list_any}
 use Rattle.std.proofs.lemmas.Bool.{false≢true}
@@ -129,16 +129,16 @@ may_is s o =
     ∙ and_swap (has_cap (option_caps o) 1) (is_active s o)
 
 -- a set, by whether the option may be set, and by the nearest value
-abbrev answer_with : Setup → ScanOption → Value → Bool → Option Value → Result (Value × Info) Status
+abbrev pub answer_with : Setup → ScanOption → Value → Bool → Option Value → Result (Value × Info) Status
 answer_with s o asked true r = put_answer s o asked r
 answer_with s o asked false r = Err Inval
 
-set_is : (s : Setup) (o : ScanOption) (asked : Value) (b : Bool) → set_to s (cond b (Some o) None) asked ≡ answer_with s o asked b (resolve (descriptor_of s o) asked)
+pub set_is : (s : Setup) (o : ScanOption) (asked : Value) (b : Bool) → set_to s (cond b (Some o) None) asked ≡ answer_with s o asked b (resolve (descriptor_of s o) asked)
 set_is s o asked true = refl
 set_is s o asked false = refl
 
 -- the same of a setting
-abbrev finished : Setup → ℕ → Value × Value → Option Placed
+abbrev pub finished : Setup → ℕ → Value × Value → Option Placed
 finished s n pair = Some (record { setup = setup_after s n pair.1; asked = pair.0; given = pair.1 })
 
 abbrev nearest_pair : Descriptor → Value → Option (Value × Value)

@@ -33,12 +33,11 @@ pub record IsAllowed (s : Setup) : Type 0 where
   pub tl_y : IsOnBed s.scene.tl_y
   pub br_x : IsOnBed s.scene.br_x
   pub br_y : IsOnBed s.scene.br_y
+  pub gamma : (i : ℕ) → slice_index s.scene.gamma i < 2 ^ 8
   pub told : s.told ≢ Some Good
 
--- The limits of a scanner: its setup's, with a gamma table of bytes, and its page's, whose samples have 16 bits where
--- its source gives its rows.
+-- the limits of a scanner: its setup's, and its page's, whose samples have 16 bits where its source gives its rows
 pub record HasLimits (s : DeviceState) : Type 0 where
   pub setup : IsAllowed s.setup
-  pub gamma : (i : ℕ) → slice_index s.setup.scene.gamma i < 2 ^ 8
   pub page : IsShaped s.page
   pub sheet : s.steady ≡ true → IsSheet s.page

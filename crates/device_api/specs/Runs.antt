@@ -1,8 +1,9 @@
 -- What a caller gets by reading on.
-use Rattle.std.specs.Prelude.{◌≡◌, ℕ, ◌-◌, List, ◌++◌, drop, true, Option, None, Result, Ok}
+use Rattle.std.specs.Prelude.{◌≡◌, ℕ, zero, suc, ◌+◌, ◌-◌, List, ◌++◌, drop, true, None, Ok}
 use Rattle.sane_fixed.specs.declared.info.Info.{Info}
 use Rattle.option_desc.specs.declared.value.Value.{Value}
-use Rattle.scan_frames.specs.Frames.{payload, pass_length}
+use Rattle.netpbm.specs.FileText.{joined}
+use Rattle.scan_frames.specs.Frames.{last_pass, payload, pass_length}
 use Rattle.device_api.specs.State.{DeviceState, Phase, next_pass, with_phase, after_pass, after_reset, set_answer, after_set}
 use Rattle.device_api.specs.State.Phase.{AtRest, Between, Reading}
 
@@ -40,3 +41,16 @@ pub record HasScanned (old : DeviceState) (n : ℕ) (asked : Value) (bytes : Lis
   pub is_set : IsSetWith old n asked set
   pub frame : old.steady ≡ true → set.setup.told ≡ None → bytes ≡ payload set.setup set.page 0
   pub after : new ≡ with_phase set (after_pass set.setup 0)
+
+-- where a device waits before a pass, from the phase in which its scan began
+abbrev pub waiting : Phase → ℕ → Phase
+waiting phase zero = phase
+waiting phase (suc ended) = Between (suc ended)
+
+-- the bytes of so many passes, one pass after another
+abbrev pub passes_of : DeviceState → ℕ → List ℕ
+passes_of s n = joined (payload s.setup s.page) n
+
+-- the whole picture was read, behind what was there
+abbrev pub HasPicture : DeviceState → List ℕ → List ℕ → Type 0
+HasPicture s old new = s.steady ≡ true → s.setup.told ≡ None → new ≡ old ++ passes_of s (last_pass s.setup + 1)

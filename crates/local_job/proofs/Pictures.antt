@@ -148,7 +148,7 @@ scanned s past given first before contents join limits there alone law r e = rec
   whole = e.whole;
   picture = λ steady.
       let p = picture_of s.page s.setup.scene (width_of s.setup, height_of s.setup s.page) in
-      let shown : ShowsFrames (frames_of s.setup s.page) p = law s.setup s.page limits.setup.limits (limits.sheet steady) limits.gamma there in
+      let shown : ShowsFrames (frames_of s.setup s.page) p = law s.setup s.page limits.setup.limits (limits.sheet steady) limits.setup.gamma there in
       rw (meaning_is s.setup s.page there) (e.denotes p (came_shows s.setup s.page r.bytes given p shown alone r.count (r.right steady) (full_size (came s.setup s.page r.bytes) e.full)));
 }
 

@@ -1,6 +1,6 @@
 //! The test scanner by the calls of the trait, as a box.
 
-use crate::tests::scan::{read_frame, reset_all, scan_with};
+use crate::tests::scan::{read_frame, read_picture, reset_all, scan_with};
 use crate::tests::scanner::TestScanner;
 use crate::{Device, DeviceInfo};
 use option_desc::Value;
@@ -141,6 +141,13 @@ fn three_passes(rt: HostRuntime) {
     frame(&rt, alloc, &mut device, &[0, 2, 0, 5]);
     frame(&rt, alloc, &mut device, &[0, 1, 0, 4]);
     assert!(rt; device.at_rest());
+    // The same by the contract alone, all passes one after another.
+    let mut all = Vec::new(alloc);
+    assert_eq!(rt; read_picture(alloc, &mut *device, &mut all), Ok(()));
+    assert_eq!(rt;
+        all.as_slice(),
+        [0u8, 3, 1, 0, 0, 2, 0, 5, 0, 1, 0, 4].as_slice()
+    );
     assert!(rt;
         device
             .load(memory(&rt, alloc, b"P5\n1 1\n255\n\x0a"))

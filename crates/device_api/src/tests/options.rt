@@ -2,7 +2,12 @@
 
 ghost use Rattle.device_api.specs.Allowed.{IsAllowed};
 
-use crate::{defaults, get_option, set_option};
+use crate::{
+    ScanOption, a_scanner_stays_what_it_is, a_set_changes_one_option, defaults, descriptor,
+    get_option, is_active, option_at, option_value, options_of,
+    reload_tells_of_changed_descriptors, reset_setup, same_values_are_equal, set_option,
+    settings_are_put_as_they_are_set, settings_in_force_are_allowed, what_is_set_is_read,
+};
 use option_desc::{Value, Words};
 use page_picture::DeviceKind;
 use sane_fixed::{ByteOrder, Fixed, Info, Status, Text};
@@ -329,4 +334,41 @@ fn options_that_cannot_be_set(rt: HostRuntime) {
     assert_eq!(rt; get_option(alloc, &setup, 0).ok(), Some(Value::Int(5)));
     assert_eq!(rt; get_option(alloc, &setup, 4).ok(), Some(Value::Flag(true)));
     assert_eq!(rt; get_option(alloc, &setup, 5).err(), Some(Status::Inval));
+}
+
+#[test]
+fn one_option_alone(rt: HostRuntime) {
+    let alloc = rt.alloc();
+    let mut setup = defaults(DeviceKind::Hand, ByteOrder::Little);
+    let option = option_at(DeviceKind::Hand, 3).expect(&rt, "an option");
+    assert_eq!(rt; option, ScanOption::Resolution);
+    assert_eq!(rt; option_at(DeviceKind::Hand, 5), None);
+    assert_eq!(rt; options_of(DeviceKind::ThreePass).len(), 10);
+    assert_eq!(rt; option_value(alloc, &setup, option), Ok(Value::Int(75)));
+    let desc = descriptor(alloc, &setup, option).expect(&rt, "memory");
+    assert_eq!(rt; desc.name.as_bytes(), b"resolution".as_slice());
+    assert!(rt; is_active(&setup, ScanOption::GammaTable));
+    assert!(rt; !is_active(&setup, ScanOption::ThreePassOrder));
+    gives(
+        &rt,
+        alloc,
+        &mut setup,
+        3,
+        Value::Int(300),
+        Value::Int(300),
+        4,
+    );
+    reset_setup(&mut setup);
+    assert_eq!(rt; get_option(alloc, &setup, 3), Ok(Value::Int(75)));
+}
+
+#[test]
+fn the_laws_are_there() {
+    same_values_are_equal();
+    reload_tells_of_changed_descriptors();
+    settings_are_put_as_they_are_set();
+    settings_in_force_are_allowed();
+    a_scanner_stays_what_it_is();
+    what_is_set_is_read();
+    a_set_changes_one_option();
 }

@@ -1,8 +1,8 @@
 //! A caller that knows the trait alone.
 
 ghost use Rattle.std.specs.Prelude.{◌≡◌, true, map, IfOk, Ok};
-ghost use Rattle.device_api.specs.State.{is_reading, after_reset};
-ghost use Rattle.device_api.specs.Runs.{EndsPass, HasRead, HasScanned};
+ghost use Rattle.device_api.specs.State.{is_at_rest, is_reading, after_reset};
+ghost use Rattle.device_api.specs.Runs.{EndsPass, HasPicture, HasRead, HasScanned};
 
 use crate::Device;
 use option_desc::Value;
@@ -53,4 +53,19 @@ pub fn reset_all<D: Device>(devices: &mut [D])
     for device in devices {
         device.reset();
     }
+}
+
+/// Starts and reads each frame of a scan, until the device is at rest: at most three.
+pub fn read_picture(alloc: Global, device: &mut dyn Device, out: &mut Vec<u8>) -> Result<(), Status>
+    requires { is_at_rest (state device.old).phase ≡ true }
+    ensures { result ≡ Ok tt → HasPicture (state device.old) out.old.items out.new.items }
+{
+    for _pass in 0..3u32 {
+        device.start(alloc)?;
+        read_frame(device, out)?;
+        if device.at_rest() {
+            return Ok(());
+        }
+    }
+    Err(Status::IoError)
 }

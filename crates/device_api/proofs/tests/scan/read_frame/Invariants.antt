@@ -1,5 +1,4 @@
 use Rattle.std.proofs.Common.{◌≡◌, ◌++◌, drop, true}
-use Rattle.scan_frames.specs.Frames.{payload}
 use Rattle.device_api.specs.State.{DeviceState, next_pass, with_phase}
 use Rattle.device_api.specs.State.Phase.{Reading}
 use Rattle.device_api.specs.Runs.{given_of, bytes_of, bytes_left}

@@ -1,6 +1,6 @@
 use Rattle.std.proofs.Common.{◌≡◌, ◌∙◌, ap, length, map, ℕ, arith}
 use Rattle.std.proofs.lemmas.List.{length-map}
-use Rattle.device_api.specs.State.{DeviceState, after_reset}
+use Rattle.device_api.specs.State.{after_reset}
 use Rattle.device_api.proofs.Upto.{mapped_upto, mapped_upto-suc, mapped_upto-all}
 use Rattle.device_api.proofs.tests.scan.reset_all.Goals as goal
 

@@ -1,4 +1,4 @@
-use Rattle.std.proofs.Common.{◌≡◌, map, length}
+use Rattle.std.proofs.Common.{◌≡◌, map}
 use Rattle.device_api.specs.State.{after_reset}
 use Rattle.device_api.proofs.Upto.{mapped_upto}
 use Rattle.device_api.proofs.tests.scan.reset_all.Given as goal

@@ -1,4 +1,4 @@
-use Rattle.std.proofs.Common.{◌≡◌, refl, sym, subst, List, ℕ}
+use Rattle.std.proofs.Common.{refl, sym, subst, List, ℕ}
 use Rattle.device_api.specs.State.{DeviceState}
 use Rattle.device_api.specs.Runs.{HasRead}
 use Rattle.device_api.proofs.RunLaws.{scanned}
