@@ -81,7 +81,7 @@ unfolding descriptor_of
 table_in k GammaTable words s fits = (length-map words _ ∙ (Decides-eqb (length words) 256).0 fits, bytes_in words)
 table_in k _ words s fits = tt
 
-some_is : (a b : Value) → Some a ≡ Some b → b ≡ a
+pub some_is : (a b : Value) → Some a ≡ Some b → b ≡ a
 some_is a b e = (cc)
 
 no_some : {P : Type 0} (a : Value) → None ≡ Some a → P

@@ -1,7 +1,11 @@
 -- What the options say stays within its limits.
-use Rattle.std.proofs.Common.{◌≡◌, ◌≢◌, ◌≤◌, ◌*◌, ◌⊎◌, inl, inr, sym, ap, subst, refl, ℕ, ℤ, pos, Bool, true, false, cond, List, [], ◌∷◌, map, arith}
-use Rattle.std.specs.Prelude.{Option, Some, unsigned_abs}
-use Rattle.std.specs.List.{AllByRecursion}
+use Rattle.std.proofs.Common.{◌≡◌, ◌≢◌, ◌<◌, ◌≤◌, ◌+◌, ◌*◌, ◌^◌, ◌⊎◌, inl, inr, sym, ap, subst, refl, ℕ, zero, suc, length, All, ℤ, pos, Bool, true, false, cond, List, [], ◌∷◌, map, arith}
+use Rattle.std.specs.Prelude.{Option, Some, unsigned_abs, slice_index, nat_lt}
+use Rattle.std.proofs.lemmas.Bool.Decides.{nat_tests}
+use Rattle.std.proofs.lemmas.List.{get_or_past}
+use Rattle.std.proofs.lemmas.List.Elements.{All-tail}
+use Rattle.std.proofs.lemmas.List.FromFn.{get_or-range_with_len, length-range_with_len}
+use Rattle.std.specs.List.{AllByRecursion, range_with_len}
 use Rattle.std.specs.Str.{bytes_eq}
 use Rattle.sane_fixed.specs.declared.byte_order.ByteOrder.{ByteOrder}
 use Rattle.sane_fixed.specs.declared.fixed.Fixed.{Fixed as Length}
@@ -17,9 +21,9 @@ use Rattle.device_api.specs.declared.choice.Choice.TheVariants as choice
 use Rattle.device_api.specs.declared.scan_option.ScanOption.{ScanOption}
 use Rattle.device_api.specs.declared.scan_option.ScanOption.TheVariants.{Mode, Depth, Resolution, TlX, TlY, BrX, BrY, GammaTable, ThreePassOrder, PplLoss, ReadLimitSize, ReadReturnValue}
 use Rattle.device_api.specs.Options.{choices_of, choice_text}
-use Rattle.device_api.specs.Values.{default_resolution, defaults, with_number, with_length, with_table, with_choice, choice_of, with_chosen, with_value}
+use Rattle.device_api.specs.Values.{identity, default_resolution, defaults, with_number, with_length, with_table, with_choice, choice_of, with_chosen, with_value}
 use Rattle.device_api.specs.Allowed.{IsOnBed, IsAllowed, greatest_resolution}
-use Rattle.device_api.specs.Admitted.{IsAdmittedNumber, IsAdmitted}
+use Rattle.device_api.specs.Admitted.{IsByte, IsAdmittedNumber, IsAdmittedTable, IsAdmitted}
 
 most : (k : DeviceKind) → greatest_resolution k ≤ 1200
 most Flatbed = omega arith
@@ -39,6 +43,7 @@ number_allowed s Depth w a h = record {
   tl_y = a.tl_y;
   br_x = a.br_x;
   br_y = a.br_y;
+  gamma = a.gamma;
   told = a.told;
 }
 number_allowed s Resolution w a h =
@@ -53,6 +58,7 @@ number_allowed s Resolution w a h =
       tl_y = a.tl_y;
       br_x = a.br_x;
       br_y = a.br_y;
+      gamma = a.gamma;
       told = a.told;
     }
 number_allowed s PplLoss w a h =
@@ -65,6 +71,7 @@ number_allowed s PplLoss w a h =
       tl_y = a.tl_y;
       br_x = a.br_x;
       br_y = a.br_y;
+      gamma = a.gamma;
       told = a.told;
     }
 number_allowed s ReadLimitSize w a h =
@@ -78,6 +85,7 @@ number_allowed s ReadLimitSize w a h =
       tl_y = a.tl_y;
       br_x = a.br_x;
       br_y = a.br_y;
+      gamma = a.gamma;
       told = a.told;
     }
 number_allowed s _ w a h = a
@@ -94,15 +102,26 @@ same_limits s t d r l m a = record {
 }
 
 length_allowed : (s : Setup) (o : ScanOption) (l : Length) → IsAllowed s → IsAdmitted s.scene.kind o (Fixed l) → IsAllowed (with_length s o l)
-length_allowed s TlX l a h = record { limits = same_limits s (with_length s TlX l) refl refl refl refl a.limits; resolution = a.resolution; tl_x = h; tl_y = a.tl_y; br_x = a.br_x; br_y = a.br_y; told = a.told }
-length_allowed s TlY l a h = record { limits = same_limits s (with_length s TlY l) refl refl refl refl a.limits; resolution = a.resolution; tl_x = a.tl_x; tl_y = h; br_x = a.br_x; br_y = a.br_y; told = a.told }
-length_allowed s BrX l a h = record { limits = same_limits s (with_length s BrX l) refl refl refl refl a.limits; resolution = a.resolution; tl_x = a.tl_x; tl_y = a.tl_y; br_x = h; br_y = a.br_y; told = a.told }
-length_allowed s BrY l a h = record { limits = same_limits s (with_length s BrY l) refl refl refl refl a.limits; resolution = a.resolution; tl_x = a.tl_x; tl_y = a.tl_y; br_x = a.br_x; br_y = h; told = a.told }
+length_allowed s TlX l a h = record { limits = same_limits s (with_length s TlX l) refl refl refl refl a.limits; resolution = a.resolution; tl_x = h; tl_y = a.tl_y; br_x = a.br_x; br_y = a.br_y; gamma = a.gamma; told = a.told }
+length_allowed s TlY l a h = record { limits = same_limits s (with_length s TlY l) refl refl refl refl a.limits; resolution = a.resolution; tl_x = a.tl_x; tl_y = h; br_x = a.br_x; br_y = a.br_y; gamma = a.gamma; told = a.told }
+length_allowed s BrX l a h = record { limits = same_limits s (with_length s BrX l) refl refl refl refl a.limits; resolution = a.resolution; tl_x = a.tl_x; tl_y = a.tl_y; br_x = h; br_y = a.br_y; gamma = a.gamma; told = a.told }
+length_allowed s BrY l a h = record { limits = same_limits s (with_length s BrY l) refl refl refl refl a.limits; resolution = a.resolution; tl_x = a.tl_x; tl_y = a.tl_y; br_x = a.br_x; br_y = h; gamma = a.gamma; told = a.told }
 length_allowed s _ l a h = a
 
-table_allowed : (s : Setup) (o : ScanOption) (table : List ℕ) → IsAllowed s → IsAllowed (with_table s o table)
-table_allowed s GammaTable table a = record { limits = same_limits s (with_table s GammaTable table) refl refl refl refl a.limits; resolution = a.resolution; tl_x = a.tl_x; tl_y = a.tl_y; br_x = a.br_x; br_y = a.br_y; told = a.told }
-table_allowed s _ table a = a
+-- words of 0 to 255 are bytes
+bytes_of_words : (words : List ℤ) → All IsByte words → (i : ℕ) → slice_index (map (λ word. unsigned_abs word) words) i < 2 ^ 8
+bytes_of_words [] all i = omega arith
+bytes_of_words (w ∷ ws) all zero =
+    let byte : IsByte w = all 0 w (omega arith) in
+    let is : unsigned_abs w ≡ byte.number = ap unsigned_abs byte.is in
+    let high : byte.number ≤ 255 = byte.high_is in
+    let small : unsigned_abs w < 256 = omega arith in
+    small
+bytes_of_words (w ∷ ws) all (suc i) = bytes_of_words ws (All-tail IsByte w ws all) i
+
+table_allowed : (s : Setup) (o : ScanOption) (words : List ℤ) → IsAllowed s → IsAdmittedTable o words → IsAllowed (with_table s o (map (λ word. unsigned_abs word) words))
+table_allowed s GammaTable words a h = record { limits = same_limits s (with_table s GammaTable (map (λ word. unsigned_abs word) words)) refl refl refl refl a.limits; resolution = a.resolution; tl_x = a.tl_x; tl_y = a.tl_y; br_x = a.br_x; br_y = a.br_y; gamma = bytes_of_words words h.1; told = a.told }
+table_allowed s _ words a h = a
 
 -- no choice tells GOOD
 abbrev IsPlain : Choice → Type 0
@@ -111,9 +130,9 @@ IsPlain (choice.Passes _) = Unit {0}
 IsPlain (choice.Told t) = t ≢ Some status.Good
 
 choice_allowed : (s : Setup) (c : Choice) → IsAllowed s → IsPlain c → IsAllowed (with_choice s c)
-choice_allowed s (choice.Mode m) a p = record { limits = same_limits s (with_choice s (choice.Mode m)) refl refl refl refl a.limits; resolution = a.resolution; tl_x = a.tl_x; tl_y = a.tl_y; br_x = a.br_x; br_y = a.br_y; told = a.told }
-choice_allowed s (choice.Passes q) a p = record { limits = same_limits s (with_choice s (choice.Passes q)) refl refl refl refl a.limits; resolution = a.resolution; tl_x = a.tl_x; tl_y = a.tl_y; br_x = a.br_x; br_y = a.br_y; told = a.told }
-choice_allowed s (choice.Told t) a p = record { limits = same_limits s (with_choice s (choice.Told t)) refl refl refl refl a.limits; resolution = a.resolution; tl_x = a.tl_x; tl_y = a.tl_y; br_x = a.br_x; br_y = a.br_y; told = p }
+choice_allowed s (choice.Mode m) a p = record { limits = same_limits s (with_choice s (choice.Mode m)) refl refl refl refl a.limits; resolution = a.resolution; tl_x = a.tl_x; tl_y = a.tl_y; br_x = a.br_x; br_y = a.br_y; gamma = a.gamma; told = a.told }
+choice_allowed s (choice.Passes q) a p = record { limits = same_limits s (with_choice s (choice.Passes q)) refl refl refl refl a.limits; resolution = a.resolution; tl_x = a.tl_x; tl_y = a.tl_y; br_x = a.br_x; br_y = a.br_y; gamma = a.gamma; told = a.told }
+choice_allowed s (choice.Told t) a p = record { limits = same_limits s (with_choice s (choice.Told t)) refl refl refl refl a.limits; resolution = a.resolution; tl_x = a.tl_x; tl_y = a.tl_y; br_x = a.br_x; br_y = a.br_y; gamma = a.gamma; told = p }
 
 chosen_allowed : (s : Setup) (cs : List Choice) (text : List ℕ) → IsAllowed s → AllByRecursion IsPlain cs → IsAllowed (with_chosen s (choice_of cs text))
 chosen_allowed s [] text a all = a
@@ -134,7 +153,7 @@ unfolding with_value
 value_allowed s o (Flag _) a h = a
 value_allowed s o (Int w) a h = number_allowed s o w a h
 value_allowed s o (Fixed l) a h = length_allowed s o l a h
-value_allowed s o (Words ws) a h = table_allowed s o (map (λ word. unsigned_abs word) ws) a
+value_allowed s o (Words ws) a h = table_allowed s o ws a h
 value_allowed s o (Text t) a h = chosen_allowed s (choices_of o) t a (plain o)
 
 fresh : (n : ℕ) → n ≤ 200 * 65536 → IsOnBed (record { 0 = pos n })
@@ -155,6 +174,22 @@ few_default Flatbed = omega arith
 few_default Hand = omega arith
 few_default ThreePass = omega arith
 
+identity_bytes : (i : ℕ) → slice_index identity i < 2 ^ 8
+unfolding identity
+identity_bytes i = pick (nat_lt i 256) refl
+  where
+    pick : (b : Bool) → nat_lt i 256 ≡ b → slice_index (range_with_len 0 256) i < 2 ^ 8
+    pick true e =
+        let within : i < 256 = grind (arith, nat_tests) in
+        let at : slice_index (range_with_len 0 256) i ≡ 0 + i = get_or-range_with_len 0 256 i 0 within in
+        omega arith
+    pick false e =
+        let beyond : 256 ≤ i = grind (arith, nat_tests) in
+        let size : length (range_with_len 0 256) ≡ 256 = length-range_with_len 0 256 in
+        let long : length (range_with_len 0 256) ≤ i = omega arith in
+        let at : slice_index (range_with_len 0 256) i ≡ 0 = get_or_past (range_with_len 0 256) i 0 long in
+        omega arith
+
 pub defaults_allowed : (k : DeviceKind) (order : ByteOrder) → IsAllowed (defaults k order)
 unfolding defaults
 defaults_allowed k order = record {
@@ -164,5 +199,6 @@ defaults_allowed k order = record {
   tl_y = fresh 0 (omega arith);
   br_x = fresh 5242880 (omega arith);
   br_y = fresh 6553600 (omega arith);
+  gamma = identity_bytes;
   told = λ e. (cc);
 }

@@ -1,6 +1,6 @@
 -- What a frame answers is what a device answers.
-use Rattle.std.proofs.Common.{◌≡◌, ◌∙◌, sym, ap, subst, refl, ℕ, Bool, List}
-use Rattle.std.specs.Prelude.{Option, Some, None, Ok, Err}
+use Rattle.std.proofs.Common.{◌≡◌, ◌∙◌, sym, ap, subst, ℕ, List}
+use Rattle.std.specs.Prelude.{Option, Some, None, Err}
 use Rattle.sane_fixed.specs.declared.status.Status.{Status}
 use Rattle.sane_fixed.specs.declared.status.Status.TheVariants.{Eof, IoError}
 use Rattle.page_picture.specs.Source.{SourceState}
@@ -10,7 +10,7 @@ use Rattle.scan_frames.specs.declared.faults.ReadEnd.{ReadEnd}
 use Rattle.scan_frames.specs.declared.faults.ReadEnd.TheVariants.{End, SourceFailed}
 use Rattle.scan_frames.specs.declared.setup.Setup.{Setup}
 use Rattle.device_api.specs.declared.device_info.DeviceInfo.{DeviceInfo}
-use Rattle.device_api.specs.Framed.{Gives, GivesOrTells}
+use Rattle.device_api.specs.Framed.{GivesOrTells}
 use Rattle.device_api.specs.State.{DeviceState, Phase, FrameReads, after_told, told_at}
 use Rattle.device_api.specs.State.Phase.{Reading}
 

@@ -7,3 +7,8 @@ pub mod InfoLaws
 pub mod RunLaws
 pub mod Upto
 pub mod FramedLaws
+pub mod TableLaws
+pub mod SameLaws
+pub mod BackLaws
+pub mod OtherLaws
+pub mod ForceLaws

@@ -1,5 +1,5 @@
 -- Reading on, step by step.
-use Rattle.std.proofs.Common.{◌≡◌, ◌+◌, ◌*◌, ◌==◌, ◌≤◌, ◌++◌, ◌∙◌, sym, ap, subst, refl, ℕ, Bool, true, false, List, [], length, take, drop, append_assoc, cond, drop_of_length-le, ◌<◌, ◌-◌, arith}
+use Rattle.std.proofs.Common.{◌≡◌, ◌+◌, ◌==◌, ◌≤◌, ◌++◌, ◌∙◌, sym, ap, subst, refl, ℕ, Bool, true, false, List, [], length, take, drop, append_assoc, cond, drop_of_length-le, ◌<◌, ◌-◌, arith}
 use Rattle.std.specs.Prelude.{Option, Some, None, Ok, Err}
 use Rattle.std.proofs.lemmas.List.{take-append-drop, drop-drop, append-nil}
 use Rattle.sane_fixed.specs.declared.status.Status.{Status}
@@ -11,9 +11,9 @@ use Rattle.page_picture.specs.Page.{Sheet}
 use Rattle.scan_frames.specs.Frames.{payload, pass_length, line_bytes, height_of, bytes_per_line}
 use Rattle.scan_frames.specs.declared.setup.Setup.{Setup}
 use Rattle.scan_frames.proofs.Scans.{length-line_of}
-use Rattle.device_api.specs.State.{DeviceState, Phase, GivesBytes, FrameReads, Reads, StartsFrame, StartsIn, Starts, next_pass, told_at, after_told, after_pass, after_reset, after_set, set_answer, with_phase}
-use Rattle.device_api.specs.State.Phase.{AtRest, Between, Reading}
-use Rattle.device_api.specs.Runs.{given_of, bytes_left, EndsPass, HasRead, IsSetWith, HasScanned}
+use Rattle.device_api.specs.State.{DeviceState, GivesBytes, FrameReads, Reads, StartsFrame, StartsIn, Starts, next_pass, told_at, after_told, after_pass, after_reset, after_set, set_answer, with_phase}
+use Rattle.device_api.specs.State.Phase.{AtRest, Reading}
+use Rattle.device_api.specs.Runs.{given_of, bytes_left, EndsPass, HasRead, HasScanned}
 
 gives : (o : Option Status) (old : DeviceState) (pass given n : ℕ) (new : DeviceState) (buf : List ℕ) → FrameReads o old pass given (Ok n) new buf → GivesBytes old pass given n new buf
 gives None old pass given n new buf r = r

@@ -1,5 +1,5 @@
 -- What the options of every scanner say, at any time.
-use Rattle.std.specs.Prelude.{◌≡◌, ◌≢◌, ◌≤◌, ◌*◌, ℕ, ℤ, pos, Some}
+use Rattle.std.specs.Prelude.{◌≡◌, ◌≢◌, ◌<◌, ◌≤◌, ◌*◌, ◌^◌, ℕ, ℤ, pos, Some, slice_index}
 use Rattle.sane_fixed.specs.declared.fixed.Fixed.{Fixed as Length}
 use Rattle.sane_fixed.specs.declared.status.Status.TheVariants.{Good}
 use Rattle.page_picture.specs.Page.{IsShaped}
@@ -33,6 +33,7 @@ pub record IsAllowed (s : Setup) : Type 0 where
   pub tl_y : IsOnBed s.scene.tl_y
   pub br_x : IsOnBed s.scene.br_x
   pub br_y : IsOnBed s.scene.br_y
+  pub gamma : (i : ℕ) → slice_index s.scene.gamma i < 2 ^ 8
   pub told : s.told ≢ Some Good
 
 -- the limits of a scanner: its setup's, and its page's

@@ -1,9 +1,11 @@
 -- The settings of a job in force: a fold over them from the defaults.
-use Rattle.std.specs.Prelude.{ℕ, ◌&&◌, Bool, not, if◌then◌else◌, Option, Some, None, option_map, option_and_then, List, [], ◌∷◌, slice_get}
+use Rattle.std.specs.Prelude.{ℕ, ◌≡◌, ◌&&◌, Bool, not, if◌then◌else◌, Option, Some, None, Result, Ok, Err, option_map, option_and_then, List, [], ◌∷◌, slice_get}
 use Rattle.std.specs.List.{position_from}
 use Rattle.std.specs.Str.{bytes_eq}
 use Rattle.sane_fixed.specs.DecimalReading.{◌>>=◌}
 use Rattle.sane_fixed.specs.declared.byte_order.ByteOrder.{ByteOrder}
+use Rattle.sane_fixed.specs.declared.info.Info.{Info}
+use Rattle.sane_fixed.specs.declared.status.Status.{Status}
 use Rattle.option_desc.specs.declared.descriptor.Descriptor.{Descriptor}
 use Rattle.option_desc.specs.declared.value.Value.{Value}
 use Rattle.option_desc.specs.Put.{resolve}
@@ -53,3 +55,8 @@ force s (setting ∷ settings) =
 -- the setup in force, its scene among it, and what each setting was given
 abbrev pub in_force : DeviceKind → ByteOrder → List (List ℕ × List ℕ) → Option (Setup × List Placed)
 in_force k order settings = force (defaults k order) settings
+
+-- what is put is what the set of an option answers, and nothing where that refuses
+abbrev pub IsPlacedBy : Setup → ℕ → Value → Result (Value × Info) Status → Option Placed → Type 0
+IsPlacedBy s n asked (Ok given) p = p ≡ Some (record { setup = setup_after s n given.0; asked = asked; given = given.0 })
+IsPlacedBy s n asked (Err _) p = p ≡ None

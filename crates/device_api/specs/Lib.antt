@@ -6,3 +6,4 @@ pub mod Allowed
 pub mod Admitted
 pub mod Runs
 pub mod Framed
+pub mod Same

@@ -1,5 +1,5 @@
 -- What a caller gets by reading on.
-use Rattle.std.specs.Prelude.{◌≡◌, ℕ, ◌-◌, List, ◌++◌, drop, true, Option, None, Result, Ok}
+use Rattle.std.specs.Prelude.{◌≡◌, ℕ, ◌-◌, List, ◌++◌, drop, true, None, Ok}
 use Rattle.sane_fixed.specs.declared.info.Info.{Info}
 use Rattle.option_desc.specs.declared.value.Value.{Value}
 use Rattle.scan_frames.specs.Frames.{payload, pass_length}

@@ -42,7 +42,7 @@ fn beginnings(choices: &[Choice], text: &[u8]) -> usize
 }
 
 /// Whether a list of the choices' texts has an entry that the text is matched with. It takes no memory.
-pub fn is_matched(choices: &[Choice], text: &[u8]) -> bool
+pub(crate) fn is_matched(choices: &[Choice], text: &[u8]) -> bool
     ensures { result ≡ is_some (nearest_entry (map choice_text choices.now) text.now) }
 {
     is_text(choices, text) || beginnings(choices, text) == 1

@@ -1,2 +1,5 @@
+mod devices;
+mod options;
 mod scan;
 mod scanner;
+mod tables;

@@ -76,7 +76,7 @@ fn has_cap(caps: u32, bit: u32) -> bool
 }
 
 /// The option of a number, where it is active and has the capability.
-pub fn option_with(setup: &Setup, n: u32, bit: u32) -> Option<ScanOption>
+pub(crate) fn option_with(setup: &Setup, n: u32, bit: u32) -> Option<ScanOption>
     requires { 1 ≤ bit }
     ensures { result ≡ passing (λ o. is_active setup.now o && has_cap (option_caps o) bit) (option_at setup.now.scene.kind n) }
 {

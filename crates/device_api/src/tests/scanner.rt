@@ -8,9 +8,7 @@ ghost use Rattle.device_api.specs.State.Phase.{AtRest, Between, Reading};
 ghost use Rattle.device_api.specs.declared.tests.scanner.At.TheVariants.{Rest, Between as Waiting, Reading as InFrame};
 ghost use Rattle.device_api.specs.Framed.{GivesOrTells};
 
-use crate::{
-    Device, DeviceInfo, defaults, descriptors, get_option, reset_setup, set_option,
-};
+use crate::{Device, DeviceInfo, defaults, descriptors, get_option, reset_setup, set_option};
 use option_desc::{Descriptor, Value};
 use page_picture::{DeviceKind, PageSource, Source};
 use sane_fixed::{ByteOrder, Info, Params, Status, Text};
@@ -45,12 +43,12 @@ impl Model for TestScanner {
     ghost Value = { DeviceState };
 
     ghost view = { λ d. record {
-        info = d.info;
-        setup = d.setup;
-        page = (shown d.source).page;
-        steady = (shown d.source).steady;
-        failures = (shown d.source).failures;
-        phase = elim d.at [ Rest c ↦ AtRest c | Waiting n ↦ Between n | InFrame f ↦ Reading f.pass (given_in f) ];
+      info = d.info;
+      setup = d.setup;
+      page = (shown d.source).page;
+      steady = (shown d.source).steady;
+      failures = (shown d.source).failures;
+      phase = elim d.at [ Rest c ↦ AtRest c | Waiting n ↦ Between n | InFrame f ↦ Reading f.pass (given_in f) ];
     } };
 
     ghost invariant = { λ d. IsAllowed d.setup
@@ -66,8 +64,13 @@ impl TestScanner {
     /// A scanner at rest with all options at their defaults.
     pub fn new(kind: DeviceKind, info: DeviceInfo, source: Source, order: ByteOrder) -> Self
         ensures { result ≡ record {
-            info = info; setup = default_setup kind order; page = (shown source).page; steady = (shown source).steady;
-            failures = (shown source).failures; phase = AtRest false } }
+          info = info;
+          setup = default_setup kind order;
+          page = (shown source).page;
+          steady = (shown source).steady;
+          failures = (shown source).failures;
+          phase = AtRest false;
+        } }
     {
         TestScanner {
             info,

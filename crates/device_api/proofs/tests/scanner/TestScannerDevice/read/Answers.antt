@@ -27,8 +27,8 @@ returns-in-Err-clause-reads c =
     let f : FrameState = c.in-Reading.frame in
     let place : At → Phase = λ a. elim a [ Rest cancelled ↦ AtRest cancelled | Between ended ↦ Waiting ended | Reading frame ↦ InFrame frame.pass (given_in frame) ] in
     let phase_is : place c.after.result ≡ after_told setup f.pass c.in-Err.status =
-        c.after.ensures.phase ∙ ap (λ (pass : ℕ). after_told setup pass c.in-Err.status) c.pass-pass.ensures in
+    c.after.ensures.phase ∙ ap (λ (pass : ℕ). after_told setup pass c.in-Err.status) c.pass-pass.ensures in
     let reads = read_none c.self.inside.info setup s t f c.read_frame.new.frame c.read_frame.new.buf c.in-Err.status (place c.after.result) phase_is c.in-Err.ensures in
     let old_is : c.args.self.now ≡ device c.self.inside.info setup s (InFrame f.pass (given_in f)) =
-        sym c.self.view_is ∙ ap (λ (a : At). device c.self.inside.info setup s (place a)) c.in-Reading.is in
+    sym c.self.view_is ∙ ap (λ (a : At). device c.self.inside.info setup s (place a)) c.in-Reading.is in
     subst (λ (d : DeviceState). Reads d (Err c.in-Err.status) (device c.self.inside.info setup t (place c.after.result)) c.read_frame.new.buf) (sym old_is) reads
