@@ -4,3 +4,4 @@ pub mod Scans
 pub mod Frames
 pub mod Shown
 pub mod Zeros
+pub mod Passes

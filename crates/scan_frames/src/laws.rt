@@ -1,8 +1,8 @@
-ghost use Rattle.std.specs.Prelude.{◌≡◌, ◌<◌, ◌^◌, ℕ, true, slice_index};
+ghost use Rattle.std.specs.Prelude.{◌≡◌, ◌+◌, ◌<◌, ◌≤◌, ◌^◌, ℕ, Some, true, length, slice_get, slice_index};
 ghost use Rattle.page_picture.specs.Page.{Sheet, IsSheet};
 ghost use Rattle.page_picture.specs.Meaning.{picture_of};
 ghost use Rattle.page_picture.specs.Shows.{ShowsFrames};
-ghost use Rattle.scan_frames.specs.Frames.{IsSetup, frames_of, has_picture, height_of, width_of};
+ghost use Rattle.scan_frames.specs.Frames.{IsSetup, frame_of, frames_of, has_picture, height_of, last_pass, width_of};
 ghost use Rattle.scan_frames.specs.Filler.{EndsInZeros};
 ghost use Rattle.scan_frames.specs.declared.setup.Setup.{Setup as SetupValue};
 
@@ -12,6 +12,14 @@ pub fn frames_show_the_picture()
     ensures { (setup : SetupValue) (page : Sheet) → IsSetup setup → IsSheet page →
         ((i : ℕ) → slice_index setup.scene.gamma i < 2 ^ 8) → has_picture setup page ≡ true →
         ShowsFrames (frames_of setup page) (picture_of page setup.scene (width_of setup, height_of setup page)) }
+{}
+
+/// The frames of a scan are those of its passes, from 0 to the last, in their order: so what is told of a pass and what is
+/// read in it is of the frame that stands in that place.
+pub fn a_frame_for_each_pass()
+    ensures count { (setup : SetupValue) (page : Sheet) → length (frames_of setup page) ≡ last_pass setup + 1 }
+    ensures each { (setup : SetupValue) (page : Sheet) (pass : ℕ) → pass ≤ last_pass setup →
+        slice_get (frames_of setup page) pass ≡ Some (frame_of setup page pass) }
 {}
 
 /// All that follows the pixels of a line is zero.

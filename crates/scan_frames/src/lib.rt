@@ -12,7 +12,9 @@ mod setup;
 
 pub use faults::{BeginFault, ReadEnd};
 pub use frame_rows::FrameRows;
-pub use laws::{frames_show_the_picture, gamma_entries_are_bytes, lines_end_in_zeros};
+pub use laws::{
+    a_frame_for_each_pass, frames_show_the_picture, gamma_entries_are_bytes, lines_end_in_zeros,
+};
 pub use pass::{has_picture, last_pass, params};
 pub use setup::{Packing, PassOrder, Setup, packing_of};
 

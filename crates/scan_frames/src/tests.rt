@@ -3,8 +3,9 @@ ghost use Rattle.scan_frames.specs.Frames.{IsSetup};
 
 use crate::pass::{bytes_per_line, format_at};
 use crate::{
-    BeginFault, FrameRows, Packing, PassOrder, ReadEnd, Setup, frames_show_the_picture,
-    gamma_entries_are_bytes, has_picture, last_pass, lines_end_in_zeros, packing_of, params,
+    BeginFault, FrameRows, Packing, PassOrder, ReadEnd, Setup, a_frame_for_each_pass,
+    frames_show_the_picture, gamma_entries_are_bytes, has_picture, last_pass, lines_end_in_zeros,
+    packing_of, params,
 };
 use page_picture::{DeviceKind, FailingPage, MemoryPage, Mode, Page, PageSource, Scene, read_page};
 use sane_fixed::{ByteOrder, Fixed, FrameFormat, Params, Status};
@@ -334,6 +335,7 @@ fn refusals_as_statuses(rt: HostRuntime) {
 #[test]
 fn the_laws_are_there() {
     frames_show_the_picture();
+    a_frame_for_each_pass();
     lines_end_in_zeros();
     gamma_entries_are_bytes(&[0; 256]);
 }
