@@ -7,7 +7,7 @@ use device_api::{Device, DeviceInfo, defaults, descriptors, get_option, reset_se
 use option_desc::{Descriptor, Value};
 use page_picture::{DeviceKind, PageSource, Source};
 use sane_fixed::{ByteOrder, Info, Params, Status, Text, TextFault};
-use scan_frames::{FrameRows, Setup, gamma_entries_are_bytes, params};
+use scan_frames::{FrameRows, Setup, params};
 use std::alloc::Global;
 use std::marker::Model;
 
@@ -121,9 +121,8 @@ impl Device for VirtualScanner {
     }
 
     fn params(&self) -> Params {
-        // The limits of a page and of a gamma table.
+        // The limits of a page.
         let _size = self.source.size();
-        gamma_entries_are_bytes(&self.setup.scene.gamma);
         match &self.at {
             At::Rest(_) => params(&self.source, &self.setup, 0),
             At::Between(ended) => params(&self.source, &self.setup, ended.saturating_sub(1)),

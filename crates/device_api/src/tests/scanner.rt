@@ -12,7 +12,7 @@ use crate::{Device, DeviceInfo, defaults, descriptors, get_option, reset_setup, 
 use option_desc::{Descriptor, Value};
 use page_picture::{DeviceKind, PageSource, Source};
 use sane_fixed::{ByteOrder, Info, Params, Status, Text};
-use scan_frames::{FrameRows, Setup, gamma_entries_are_bytes, last_pass, params};
+use scan_frames::{FrameRows, Setup, last_pass, params};
 use std::alloc::Global;
 use std::marker::Model;
 
@@ -151,7 +151,6 @@ impl Device for TestScanner {
             At::Reading(frame) => frame.pass(),
         };
         let _size = self.source.size();
-        gamma_entries_are_bytes(&self.setup.scene.gamma);
         params(&self.source, &self.setup, pass)
     }
 
