@@ -1,6 +1,3 @@
-ghost use Rattle.std.specs.Prelude.{◌≡◌};
-ghost use Rattle.device_api.specs.State.{DeviceState};
-
 use crate::device::Device;
 use crate::device_info::DeviceInfo;
 use option_desc::{Descriptor, Value};

@@ -13,7 +13,7 @@ pub enum Choice {
 
 impl Choice {
     ghost use Rattle.std.specs.Prelude.{◌≡◌};
-    ghost use Rattle.device_api.specs.Options.{choice_text, mode_text, passes_text, told_text};
+    ghost use Rattle.device_api.specs.Options.{choice_text};
 
     /// The text.
     pub fn text(self) -> &'static str

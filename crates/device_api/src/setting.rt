@@ -1,13 +1,12 @@
-ghost use Rattle.std.specs.Prelude.{◌≡◌, ◌≢◌, is_some, not, Some, Ok, IfOk, IsOk, OnErr, MatchResult, All, map, length, unsigned_abs};
-ghost use Rattle.std.specs.List.{list_any};
+ghost use Rattle.std.specs.Prelude.{◌≡◌, ◌≢◌, not, Some, Ok, IfOk, IsOk, OnErr, MatchResult, All, map, length, unsigned_abs};
 ghost use Rattle.constraint.specs.Nearest.{TellsDifference};
 ghost use Rattle.option_desc.specs.declared.value.Value.TheVariants.{Words as WordsOf};
 ghost use Rattle.option_desc.specs.Put.{resolve};
 ghost use Rattle.option_desc.specs.Refuses.{Refuses};
 ghost use Rattle.device_api.specs.Options.{choices_of, is_active, descriptor_of};
-ghost use Rattle.device_api.specs.Values.{with_number, with_length, with_table, with_choice, choice_of, with_chosen, with_value, reloads, bears_on_params, info_bits, option_set, setup_after};
+ghost use Rattle.device_api.specs.Values.{with_number, with_length, with_table, choice_of, with_chosen, with_value, reloads, info_bits, option_set, setup_after};
 ghost use Rattle.device_api.specs.Allowed.{IsAllowed};
-ghost use Rattle.device_api.specs.Admitted.{IsAdmitted, IsByte, takes_flag, takes_number, takes_length, takes_words, takes};
+ghost use Rattle.device_api.specs.Admitted.{IsAdmitted, IsByte, takes_number, takes_length, takes_words, takes};
 
 use crate::choice::Choice;
 use crate::matching::is_matched;

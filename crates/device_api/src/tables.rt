@@ -1,6 +1,6 @@
 ghost use Rattle.std.specs.Prelude.{◌≡◌, ◌≤◌, ◌≤ℤ◌, pos, length, map, IfOk};
 ghost use Rattle.option_desc.specs.declared.descriptor.Constraint.TheVariants.{Span, Words, Strings};
-ghost use Rattle.device_api.specs.Options.{choice_text, depths_of, resolutions_of, option_constraint, is_active, is_color, caps_of, descriptor_of, descriptors_of};
+ghost use Rattle.device_api.specs.Options.{choice_text, depths_of, resolutions_of, option_constraint, is_active, caps_of, descriptor_of, descriptors_of};
 
 use crate::choice::Choice;
 use crate::scan_option::{ScanOption, options_of};

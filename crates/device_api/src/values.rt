@@ -2,7 +2,7 @@ ghost use Rattle.std.specs.Prelude.{◌≡◌, ◌≢◌, ◌≤◌, ◌&&◌, p
 ghost use Rattle.option_desc.specs.declared.value.Value.TheVariants.{Text as TextOf, Words as WordsOf};
 ghost use Rattle.device_api.specs.Allowed.{IsAllowed};
 ghost use Rattle.device_api.specs.Options.{option_at, choice_text, is_active, option_caps, has_cap};
-ghost use Rattle.device_api.specs.Values.{identity, default_resolution, mm, defaults, option_value, passing, option_to_get, option_to_set, option_got};
+ghost use Rattle.device_api.specs.Values.{identity, default_resolution, mm, defaults, option_value, passing, option_got};
 
 use crate::choice::Choice;
 use crate::scan_option::{ScanOption, option_at, options_of};
