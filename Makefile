@@ -5,7 +5,7 @@ PREFIX ?= /usr/local
 DEMO_INPUT := flatbed 0 26 hex:50350a3220310a3235350a0ac8
 DEMO_WORDS := --config - --resolution 26 --br-x 1 --br-y 1
 
-.PHONY: demo build test failing-allocations peer-check install need-rt
+.PHONY: demo build test failing-allocations peer-check bench install need-rt
 
 # One scan from source, before any proof.
 demo: need-rt
@@ -35,6 +35,11 @@ failing-allocations: need-rt
 # it out.
 peer-check:
 	tests/peer-check
+
+# Prints speed and memory beside a peer in the same run. The gate leaves it out.
+bench: need-rt
+	cd crates/scan_bench && rt run
+	tests/bench
 
 # Puts the proved program at $(PREFIX)/bin/scanimage.
 install: build
