@@ -1,0 +1,4 @@
+pub mod Format
+pub mod Kind
+pub mod Lawful
+pub mod Limit
