@@ -78,3 +78,16 @@ pub fn words_between_are_lawful(low: u32, high: u32, fault: Fault)
     ensures { Lawful (word_of_kind (between low high fault)) }
 {
 }
+
+/// A byte from `low` to `high` is a lawful format.
+pub fn bytes_between_are_lawful(low: u8, high: u8)
+    requires { low ≤ high }
+    ensures { Lawful (byte_between low high) }
+{
+}
+
+/// A run of `count` bytes, none of them below `least`, is a lawful format.
+pub fn runs_are_lawful(least: u8, count: usize)
+    ensures { Lawful (run least count) }
+{
+}

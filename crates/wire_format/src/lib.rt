@@ -9,8 +9,8 @@ mod word;
 pub use bytes::{byte_between, run};
 pub use fault::{Fault, ReadError, Stop, Wanted};
 pub use laws::{
-    KindOfWord, Spelled, SpelledBehind, SpelledLast, no_spelling_is_a_proper_prefix,
+    KindOfWord, Spelled, SpelledBehind, SpelledLast, bytes_between_are_lawful, no_spelling_is_a_proper_prefix,
     nothing_is_lawful, one_after_another_is_lawful, one_text_spells_one_value,
-    values_at_places_are_lawful, words_between_are_lawful, words_of_a_kind_are_lawful,
+    runs_are_lawful, values_at_places_are_lawful, words_between_are_lawful, words_of_a_kind_are_lawful,
 };
 pub use word::{Word, one_more, part_stops, split_word, word_between};
