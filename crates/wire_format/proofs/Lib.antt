@@ -1,3 +1,4 @@
 pub mod Combining
 pub mod Words
 pub mod Runs
+pub mod Limits

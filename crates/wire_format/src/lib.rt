@@ -4,13 +4,17 @@
 mod bytes;
 mod fault;
 mod laws;
+mod limit;
 mod word;
 
 pub use bytes::{byte_between, run};
 pub use fault::{Fault, ReadError, Stop, Wanted};
 pub use laws::{
-    KindOfWord, Spelled, SpelledBehind, SpelledLast, bytes_between_are_lawful, no_spelling_is_a_proper_prefix,
-    nothing_is_lawful, one_after_another_is_lawful, one_text_spells_one_value,
-    runs_are_lawful, values_at_places_are_lawful, words_between_are_lawful, words_of_a_kind_are_lawful,
+    KindOfWord, Readable, Spelled, SpelledBehind, SpelledLast, bytes_between_are_lawful,
+    no_spelling_is_a_proper_prefix, nothing_is_lawful, one_after_another_is_lawful,
+    one_fault_stands_first, one_text_spells_one_value, reading_keeps_a_limit, runs_are_lawful,
+    values_at_places_are_lawful, what_is_refused_reads, words_between_are_lawful,
+    words_of_a_kind_are_lawful,
 };
+pub use limit::{front, past_limit, used};
 pub use word::{Word, one_more, part_stops, split_word, word_between};
