@@ -59,3 +59,32 @@ impl<T: Drop> From<AllocFailed<T>> for ReadError {
         ReadError::Memory
     }
 }
+
+/// Why a writer ends. What it wrote before stands.
+#[derive(Clone, Copy, Debug, PartialEq, Eq)]
+pub enum WriteError {
+    /// No memory for more bytes.
+    Memory,
+    /// Nothing spells the value.
+    Unspelled,
+}
+
+impl From<AllocError> for WriteError {
+    ghost use Rattle.wire_format.specs.declared.fault.WriteError.TheVariants.{Memory};
+
+    ghost from_gives = { λ _ e. e ≡ Memory };
+
+    fn from(_: AllocError) -> WriteError {
+        WriteError::Memory
+    }
+}
+
+impl<T: Drop> From<AllocFailed<T>> for WriteError {
+    ghost use Rattle.wire_format.specs.declared.fault.WriteError.TheVariants.{Memory};
+
+    ghost from_gives = { λ _ e. e ≡ Memory };
+
+    fn from(_: AllocFailed<T>) -> WriteError {
+        WriteError::Memory
+    }
+}
