@@ -6,7 +6,7 @@ use Rattle.wire_format.specs.declared.fault.Fault.{Fault}
 use Rattle.wire_format.specs.declared.fault.Wanted.{Wanted}
 use Rattle.wire_format.specs.declared.fault.Stop.{Stop}
 use Rattle.wire_format.specs.declared.fault.Stop.TheVariants.{More, Bad}
-use Rattle.wire_format.specs.Format.{◌>>=◌, Format, Parts, done, after, chain, refused, IsBytes}
+use Rattle.wire_format.specs.Format.{◌>>=◌, Format, Parts, done, after, places, refused, IsBytes}
 use Rattle.wire_format.specs.Lawful.{Takes, Begins, Spoiled, IsStillWaiting, still_wanted, Reads, Lawful}
 
 -- bytes, in parts
@@ -242,7 +242,7 @@ after-laws F G f g = after-spelled-laws F G f (λ text a s. g a)
 
 -- a value at each of n places
 
-pub chain-laws : {A : Type 0} (n : ℕ) (F : Format A) (G : Format (List A)) → Lawful F → Lawful G → Lawful (chain n F G)
-unfolding chain
-chain-laws zero F G f g = g
-chain-laws (suc n) F G f g = after-laws F _ f (λ a. after-laws (chain n F G) _ (chain-laws n F G f g) (λ others. done-laws (a ∷ others)))
+pub places-laws : {A : Type 0} (n : ℕ) (F : Format A) → Lawful F → Lawful (places n F)
+unfolding places
+places-laws zero F f = done-laws []
+places-laws (suc n) F f = after-laws F _ f (λ a. after-laws (places n F) _ (places-laws n F f) (λ others. done-laws (a ∷ others)))

@@ -3,3 +3,4 @@ pub mod Words
 pub mod Runs
 pub mod Limits
 pub mod Writers
+pub mod Loops

@@ -8,10 +8,10 @@ use Rattle.std.proofs.lemmas.Bool.Decides.{nat_tests}
 use Rattle.std.proofs.lemmas.List.{append-nil}
 use Rattle.wire_format.specs.declared.fault.Fault.{Fault}
 use Rattle.wire_format.specs.declared.fault.Fault.TheVariants as faults
-use Rattle.wire_format.specs.Format.{Format, IsBytes, Parts, done, refused, after, chain, IsByte, byte_between, IsRun, run, is_from}
+use Rattle.wire_format.specs.Format.{Format, IsBytes, Parts, done, refused, after, places, IsByte, byte_between, IsRun, run, is_from}
 use Rattle.wire_format.specs.Kind.{Kind, word_of_kind, between}
 use Rattle.wire_format.specs.Limit.{limited}
-use Rattle.wire_format.specs.Writer.{Writer, Writes, written, text_or_fault, joined, IsPart, write_nothing, write_none, write_after, write_chain, first_long, first_text, write_word, word_text, is_too_long, IsNumber, write_byte, write_run, may_run, write_limited, is_over}
+use Rattle.wire_format.specs.Writer.{Writer, Writes, written, text_or_fault, joined, IsPart, write_nothing, write_none, write_after, write_places, first_long, first_text, write_word, word_text, is_too_long, IsNumber, write_byte, write_run, may_run, write_limited, is_over}
 
 -- each byte of a slice may stand in a run where it is not below the least
 pub bytes_may_run : (least : ℕ) (bytes : List ℕ) → IsBytes bytes → list_all (may_run least) bytes ≡ list_all (is_from least) bytes
@@ -97,30 +97,30 @@ only-part {A = A} part F G b only a front back s t =
 uncons : {A : Type 0} (x y : A) (a b : List A) → x ∷ a ≡ y ∷ b → (x ≡ y) × (a ≡ b)
 uncons x y a b e = (cc, cc)
 
-pub chain-writes : {A : Type 0} (n : ℕ) (F : Format A) (G : Format (List A)) (W : Writer A) (V : Writer (List A)) → ((a : A) → Writes F W a) → ((others : List A) → Writes G V others) → (all : List A)
-    → Writes (chain n F G) (write_chain n W V) all
-unfolding chain write_chain
-chain-writes zero F G W V f g all = g all
-chain-writes (suc n) F G W V f g [] = record {
+pub places-writes : {A : Type 0} (n : ℕ) (F : Format A) (W : Writer A) → ((a : A) → Writes F W a) → (all : List A) → Writes (places n F) (write_places n W) all
+unfolding places write_places
+places-writes zero F W f [] = record { spelled = λ text e. (sym (some_is [] text e), refl); past = λ e. absurd cc; none = λ short e text s. absurd cc }
+places-writes zero F W f (a ∷ others) = record { spelled = λ text e. absurd cc; past = λ e. refl; none = λ short e text s. let is = s.1 in absurd (cc is) }
+places-writes (suc n) F W f [] = record {
   spelled = λ text e. absurd cc;
   past = λ e. absurd cc;
-  none = λ short e text s. let no = s.behind.behind.1 in absurd (cc no);
+  none = λ short e text s. let is = s.behind.behind.1 in absurd (cc is);
 }
-chain-writes {A = A} (suc n) F G W V f g (a ∷ others) =
-    let rest = chain-writes n F G W V f g others in
+places-writes {A = A} (suc n) F W f (a ∷ others) =
+    let rest = places-writes n F W f others in
     record {
       spelled = λ text e.
-        let j = joined_some (W.text a) ((write_chain n W V).text others) text e in
+        let j = joined_some (W.text a) ((write_places n W).text others) text e in
         record { first = a; front = j.0; back = j.1; whole = j.4; in_front = (f a).spelled j.0 j.2;
           behind = record { first = others; front = j.1; back = []; whole = sym (append-nil j.1); in_front = rest.spelled j.1 j.3; behind = (refl, refl) } };
-      past = λ e. none_joined (W.text a) ((write_chain n W V).text others)
-        (elim (or_true (W.long a) ((write_chain n W V).long others) e) [ | inl h ↦ inl ((f a).past h) | inr h ↦ inr (rest.past h) ]);
+      past = λ e. none_joined (W.text a) ((write_places n W).text others)
+        (elim (or_true (W.long a) ((write_places n W).long others) e) [ | inl h ↦ inl ((f a).past h) | inr h ↦ inr (rest.past h) ]);
       none = λ short e text s.
-        let fits = or_false (W.long a) ((write_chain n W V).long others) short in
+        let fits = or_false (W.long a) ((write_places n W).long others) short in
         let is = uncons a s.first others s.behind.first s.behind.behind.1 in
-        elim (joined_none (W.text a) ((write_chain n W V).text others) e) [
+        elim (joined_none (W.text a) ((write_places n W).text others) e) [
           | inl h ↦ (f a).none fits.0 h s.front (subst (λ (x : A). F.spells s.front x) (sym is.0) s.in_front)
-          | inr h ↦ rest.none fits.1 h s.behind.front (subst (λ (x : List A). (chain n F G).spells s.behind.front x) (sym is.1) s.behind.in_front)
+          | inr h ↦ rest.none fits.1 h s.behind.front (subst (λ (x : List A). (places n F).spells s.behind.front x) (sym is.1) s.behind.in_front)
         ];
     }
 

@@ -62,11 +62,11 @@ after F G = record {
   read = λ bytes. F.read bytes >>= λ x. (G x.0).read x.1;
 }
 
--- a value at each of n places, and a tail of values behind them
+-- a value at each of n places
 
-unfoldable pub chain : {A : Type 0} → ℕ → Format A → Format (List A) → Format (List A)
-chain zero F G = G
-chain (suc n) F G = after F (λ a. after (chain n F G) (λ others. done (a ∷ others)))
+unfoldable pub places : {A : Type 0} → ℕ → Format A → Format (List A)
+places zero F = done []
+places (suc n) F = after F (λ a. after (places n F) (λ others. done (a ∷ others)))
 
 -- a byte from low to high
 

@@ -61,7 +61,7 @@ abbrev pub IsPart : {A B : Type 0} → (B → A) → Format A → (A → Format 
 IsPart {A = A} part F G b = (a : A) (front back : List ℕ) → F.spells front a → (G a).spells back b
     → ((own : List ℕ) × F.spells own (part b)) × ((own : List ℕ) × (G (part b)).spells own b)
 
--- a value at each place, and a tail
+-- a value at each of n places
 
 abbrev pub first_long : {A : Type 0} → Writer A → Writer (List A) → List A → Bool
 first_long W V [] = false
@@ -71,9 +71,16 @@ abbrev pub first_text : {A : Type 0} → Writer A → Writer (List A) → List A
 first_text W V [] = None
 first_text W V (a ∷ others) = joined (W.text a) (V.text others)
 
-unfoldable pub write_chain : {A : Type 0} → ℕ → Writer A → Writer (List A) → Writer (List A)
-write_chain zero W V = V
-write_chain (suc n) W V = record { long = first_long W (write_chain n W V); text = first_text W (write_chain n W V) }
+abbrev pub no_text : {A : Type 0} → List A → Option (List ℕ)
+no_text [] = Some []
+no_text (a ∷ others) = None
+
+abbrev pub write_no_places : {A : Type 0} → Writer (List A)
+write_no_places = record { long = λ all. false; text = no_text }
+
+unfoldable pub write_places : {A : Type 0} → ℕ → Writer A → Writer (List A)
+write_places zero W = write_no_places
+write_places (suc n) W = record { long = first_long W (write_places n W); text = first_text W (write_places n W) }
 
 -- a word of a kind, by the number of each value
 

@@ -4,7 +4,7 @@ ghost use Rattle.std.specs.Prelude.{◌≡◌, ◌≤◌, ◌++◌, ℕ, List, [
 ghost use Rattle.wire_format.specs.declared.fault.Fault.{Fault as AnyFault};
 ghost use Rattle.wire_format.specs.declared.fault.Wanted.{Wanted as AnyWanted};
 ghost use Rattle.wire_format.specs.declared.fault.Stop.TheVariants.{More, Bad};
-ghost use Rattle.wire_format.specs.Format.{Format, IsBytes, done, refused, after, chain, byte_between, run};
+ghost use Rattle.wire_format.specs.Format.{Format, IsBytes, done, refused, after, places, byte_between, run};
 ghost use Rattle.wire_format.specs.Kind.{Kind, IsKind, word_of_kind, between};
 ghost use Rattle.wire_format.specs.Lawful.{Takes, IsStillWaiting, still_wanted, Reads, Lawful};
 ghost use Rattle.wire_format.specs.Limit.{limited, WantsMore, IsNoStart, IsFirstFault};
@@ -30,13 +30,6 @@ pub trait SpelledBehind<A> {
     ghost formats: { A → Format Self };
 
     ghost lawful: { (a : A) → Lawful (formats a) };
-}
-
-/// Values with a lawful format of the lists that stand last behind others.
-pub trait SpelledLast: Sized {
-    ghost tail: { Format (List Self) };
-
-    ghost lawful: { Lawful tail };
 }
 
 /// Values that a kind of words stands for.
@@ -83,9 +76,9 @@ pub fn one_after_another_is_lawful<A: Spelled, B: SpelledBehind<A>>()
 {
 }
 
-/// A value at each of `count` places and a tail are a lawful format, where both are.
-pub fn values_at_places_are_lawful<A: Spelled + SpelledLast>(count: u32)
-    ensures { Lawful (chain count A.Spelled.format A.SpelledLast.tail) }
+/// A value at each of `count` places is a lawful format.
+pub fn values_at_places_are_lawful<A: Spelled>(count: u32)
+    ensures { Lawful (places count A.format) }
 {
 }
 

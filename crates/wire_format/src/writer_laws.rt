@@ -3,10 +3,10 @@
 ghost use Rattle.std.specs.Prelude.{◌≡◌, ◌≢◌, ◌↔◌, ◌≤◌, ℕ, List, true, Ok, Err};
 ghost use Rattle.wire_format.specs.declared.fault.Fault.{Fault as AnyFault};
 ghost use Rattle.wire_format.specs.declared.fault.Fault.TheVariants.{BadValue, TooLong};
-ghost use Rattle.wire_format.specs.Format.{Format, done, refused, after, chain, byte_between, run};
+ghost use Rattle.wire_format.specs.Format.{Format, done, refused, after, places, byte_between, run};
 ghost use Rattle.wire_format.specs.Kind.{Kind, word_of_kind, between};
 ghost use Rattle.wire_format.specs.Limit.{limited};
-ghost use Rattle.wire_format.specs.Writer.{Writer, Writes, written, IsPart, IsNumber, write_nothing, write_none, write_after, write_chain, write_word, write_byte, write_run, write_limited};
+ghost use Rattle.wire_format.specs.Writer.{Writer, Writes, written, IsPart, IsNumber, write_nothing, write_none, write_after, write_places, write_word, write_byte, write_run, write_limited};
 
 use crate::fault::Fault;
 
@@ -28,15 +28,6 @@ pub trait WrittenBehind<A> {
     ghost writers: { A → Writer Self };
 
     ghost exact: { (b : Self) → Writes (formats (part b)) (writers (part b)) b };
-}
-
-/// Values with a format and its writer of the lists that stand last behind others.
-pub trait WrittenLast: Sized {
-    ghost tail: { Format (List Self) };
-
-    ghost last: { Writer (List Self) };
-
-    ghost exact: { (others : List Self) → Writes tail last others };
 }
 
 /// Values that a kind of words stands for, each with a number of its own.
@@ -77,9 +68,9 @@ pub fn one_after_another_is_written<A: Written, B: WrittenBehind<A>>()
 {
 }
 
-/// Values at `count` places and a tail are written so.
-pub fn values_at_places_are_written<A: Written + WrittenLast>(count: u32)
-    ensures { (all : List A) → Writes (chain count A.Written.format A.WrittenLast.tail) (write_chain count A.Written.writer A.WrittenLast.last) all }
+/// Values at `count` places are written so.
+pub fn values_at_places_are_written<A: Written>(count: u32)
+    ensures { (all : List A) → Writes (places count A.format) (write_places count A.writer) all }
 {
 }
 
