@@ -20,7 +20,7 @@ pub use laws::{
     words_of_a_kind_are_lawful,
 };
 pub use limit::{front, past_limit, used};
-pub use sequence::{FromWire, places};
+pub use sequence::{FromWire, ToWire, is_any_long, places, put_all};
 pub use word::{Word, one_more, part_stops, split_word, word_between};
 pub use writing::{is_past, put_byte_between, put_run, put_word, put_word_between};
 pub use writer_laws::{

@@ -1,9 +1,10 @@
 //! Values one after another.
 
-ghost use Rattle.std.specs.Prelude.{◌≡◌};
+ghost use Rattle.std.specs.Prelude.{◌≡◌, length};
 ghost use Rattle.wire_format.specs.Format.{Format, Gives, places};
+ghost use Rattle.wire_format.specs.Writer.{Writer, Puts, write_places};
 
-use crate::fault::ReadError;
+use crate::fault::{ReadError, WriteError};
 use std::alloc::Global;
 
 /// Values that are read from the left of bytes.
@@ -27,4 +28,39 @@ pub fn places<T: FromWire + Drop>(alloc: Global, count: u32, bytes: &[u8]) -> Re
         rest = behind;
     }
     Ok((values, rest))
+}
+
+/// Values that are written as bytes.
+pub trait ToWire {
+    ghost writer: { Writer Self };
+
+    /// Whether the value passes a limit.
+    fn is_long(&self) -> bool
+        ensures { result ≡ writer.long self.now };
+
+    /// Writes the value's text behind the bytes, or says that it has none.
+    fn put(&self, out: &mut Vec<u8>) -> Result<(), WriteError>
+        ensures { Puts result out.old.items out.new.items (writer.text self.now) };
+}
+
+/// Whether one of the values passes a limit.
+pub fn is_any_long<T: ToWire>(values: &[T]) -> bool
+    ensures { result ≡ (write_places (length values.now) T.writer).long values.now }
+{
+    for value in values {
+        if value.is_long() {
+            return true;
+        }
+    }
+    false
+}
+
+/// Writes the values one after another.
+pub fn put_all<T: ToWire>(out: &mut Vec<u8>, values: &[T]) -> Result<(), WriteError>
+    ensures { Puts result out.old.items out.new.items ((write_places (length values.now) T.writer).text values.now) }
+{
+    for value in values {
+        value.put(out)?;
+    }
+    Ok(())
 }
