@@ -8,10 +8,10 @@ use Rattle.std.proofs.lemmas.Bool.Decides.{nat_tests}
 use Rattle.std.proofs.lemmas.List.{append-nil}
 use Rattle.wire_format.specs.declared.fault.Fault.{Fault}
 use Rattle.wire_format.specs.declared.fault.Fault.TheVariants as faults
-use Rattle.wire_format.specs.Format.{Format, IsBytes, Parts, done, refused, after, places, IsByte, byte_between, IsRun, run, is_from}
+use Rattle.wire_format.specs.Format.{Format, IsBytes, Parts, done, refused, after, made, places, IsByte, byte_between, IsRun, run, is_from}
 use Rattle.wire_format.specs.Kind.{Kind, word_of_kind, between}
 use Rattle.wire_format.specs.Limit.{limited}
-use Rattle.wire_format.specs.Writer.{Writer, Writes, written, text_or_fault, joined, IsPart, write_nothing, write_none, write_after, write_places, first_long, first_text, write_word, word_text, is_too_long, IsNumber, write_byte, write_run, may_run, write_limited, is_over}
+use Rattle.wire_format.specs.Writer.{Writer, Writes, written, text_or_fault, joined, IsPart, write_nothing, write_none, write_after, write_by, IsMadeOf, write_places, first_long, first_text, write_word, word_text, is_too_long, IsNumber, write_byte, write_run, may_run, write_limited, is_over}
 
 -- each byte of a slice may stand in a run where it is not below the least
 pub bytes_may_run : (least : ℕ) (bytes : List ℕ) → IsBytes bytes → list_all (may_run least) bytes ≡ list_all (is_from least) bytes
@@ -91,6 +91,15 @@ pub only-part : {A B : Type 0} (part : B → A) (F : Format A) (G : A → Format
 only-part {A = A} part F G b only a front back s t =
     let is : a ≡ part b = only a back t in
     ((front, subst (λ (x : A). F.spells front x) is s), (back, subst (λ (x : A). (G x).spells back b) is t))
+
+-- ---- a value that is made of another
+
+pub made-writes : {A B : Type 0} (part : B → A) (F : Format A) (make : A → B) (W : Writer A) (b : B) → Writes F W (part b) → IsMadeOf part F make b → Writes (made make F) (write_by part W) b
+made-writes part F make W b f own = record {
+  spelled = λ text e. record { first = part b; front = text; back = []; whole = sym (append-nil text); in_front = f.spelled text e; behind = (refl, sym own.again) };
+  past = f.past;
+  none = λ short e text s. let p = own.own s.front s.first s.in_front s.behind.1 in f.none short e p.0 p.1;
+}
 
 -- ---- a value at each place
 

@@ -62,6 +62,11 @@ after F G = record {
   read = λ bytes. F.read bytes >>= λ x. (G x.0).read x.1;
 }
 
+-- a value that is made of another
+
+abbrev pub made : {A B : Type 0} → (A → B) → Format A → Format B
+made make F = after F (λ a. done (make a))
+
 -- a value at each of n places
 
 unfoldable pub places : {A : Type 0} → ℕ → Format A → Format (List A)

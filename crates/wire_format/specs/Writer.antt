@@ -61,6 +61,16 @@ abbrev pub IsPart : {A B : Type 0} → (B → A) → Format A → (A → Format 
 IsPart {A = A} part F G b = (a : A) (front back : List ℕ) → F.spells front a → (G a).spells back b
     → ((own : List ℕ) × F.spells own (part b)) × ((own : List ℕ) × (G (part b)).spells own b)
 
+-- a value that is made of another, by what it is made of
+
+abbrev pub write_by : {A B : Type 0} → (B → A) → Writer A → Writer B
+write_by part W = record { long = λ b. W.long (part b); text = λ b. W.text (part b) }
+
+-- what a value is made of makes it again, and where another spelled value makes it too, it is spelled itself
+pub record IsMadeOf {A B : Type 0} (part : B → A) (F : Format A) (make : A → B) (b : B) : Type 0 where
+  pub again : make (part b) ≡ b
+  pub own : (text : List ℕ) (a : A) → F.spells text a → b ≡ make a → (other : List ℕ) × F.spells other (part b)
+
 -- a value at each of n places
 
 abbrev pub first_long : {A : Type 0} → Writer A → Writer (List A) → List A → Bool

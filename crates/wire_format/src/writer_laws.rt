@@ -3,10 +3,10 @@
 ghost use Rattle.std.specs.Prelude.{◌≡◌, ◌≢◌, ◌↔◌, ◌≤◌, ℕ, List, true, Ok, Err};
 ghost use Rattle.wire_format.specs.declared.fault.Fault.{Fault as AnyFault};
 ghost use Rattle.wire_format.specs.declared.fault.Fault.TheVariants.{BadValue, TooLong};
-ghost use Rattle.wire_format.specs.Format.{Format, done, refused, after, places, byte_between, run};
+ghost use Rattle.wire_format.specs.Format.{Format, done, refused, after, made, places, byte_between, run};
 ghost use Rattle.wire_format.specs.Kind.{Kind, word_of_kind, between};
 ghost use Rattle.wire_format.specs.Limit.{limited};
-ghost use Rattle.wire_format.specs.Writer.{Writer, Writes, written, IsPart, IsNumber, write_nothing, write_none, write_after, write_places, write_word, write_byte, write_run, write_limited};
+ghost use Rattle.wire_format.specs.Writer.{Writer, Writes, written, IsPart, IsNumber, write_nothing, write_none, write_after, write_by, IsMadeOf, write_places, write_word, write_byte, write_run, write_limited};
 
 use crate::fault::Fault;
 
@@ -28,6 +28,13 @@ pub trait WrittenBehind<A> {
     ghost writers: { A → Writer Self };
 
     ghost exact: { (b : Self) → Writes (formats (part b)) (writers (part b)) b };
+}
+
+/// Values that are made of others.
+pub trait MadeOf<A> {
+    ghost make: { A → Self };
+
+    ghost part: { Self → A };
 }
 
 /// Values that a kind of words stands for, each with a number of its own.
@@ -65,6 +72,12 @@ pub fn what_is_refused_is_not_written<A>(fault: Fault)
 pub fn one_after_another_is_written<A: Written, B: WrittenBehind<A>>()
     ensures { (b : B) → IsPart B.part A.format B.formats b
         → Writes (after A.format B.formats) (write_after B.part A.writer B.writers) b }
+{
+}
+
+/// A value that is made of another is written as what it is made of.
+pub fn what_is_made_of_another_is_written<A: Written, B: MadeOf<A>>()
+    ensures { (b : B) → IsMadeOf B.part A.format B.make b → Writes (made B.make A.format) (write_by B.part A.writer) b }
 {
 }
 
