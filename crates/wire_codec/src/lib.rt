@@ -1,8 +1,15 @@
 //! SANE's network messages as bytes: requests and replies both ways, and the records of the data connection.
 #![tactic(auto)]
 
+mod array;
+mod device_info;
+mod message;
 mod records;
+mod words;
 
+pub use array::Array;
+pub use device_info::DeviceInfo;
+pub use message::{Action, Procedure, Reply, Request, WireValue};
 pub use records::{
     Phase, RecordReader, Step, record_end, record_head, records_are_read_in_any_pieces,
 };
