@@ -1,13 +1,12 @@
 -- The laws of a format are kept by each way of putting formats together.
-use Rattle.std.proofs.Common.{◌≡◌, ℕ, zero, suc, ◌+◌, ◌-◌, ◌≤◌, ◌<◌, List, [], ◌∷◌, ◌++◌, length, take, drop, Result, Ok, Err, refl, sym, ap, subst, ◌∙◌, append_assoc, arith, ◌⊎◌, inl, inr}
-use Rattle.std.specs.List.{AllByRecursion}
+use Rattle.std.proofs.Common.{◌≡◌, ℕ, zero, suc, ◌≤◌, List, [], ◌∷◌, ◌++◌, length, Result, Ok, Err, refl, sym, ap, subst, ◌∙◌, append_assoc, arith, ◌⊎◌, inl, inr}
 use Rattle.std.proofs.lemmas.List.{append-nil, length-append}
 use Rattle.wire_format.specs.declared.fault.Fault.{Fault}
 use Rattle.wire_format.specs.declared.fault.Wanted.{Wanted}
 use Rattle.wire_format.specs.declared.fault.Stop.{Stop}
 use Rattle.wire_format.specs.declared.fault.Stop.TheVariants.{More, Bad}
-use Rattle.wire_format.specs.Format.{◌>>=◌, Format, Parts, done, after, places, refused, IsBytes}
-use Rattle.wire_format.specs.Lawful.{Takes, Begins, Spoiled, IsStillWaiting, still_wanted, Reads, Lawful}
+use Rattle.wire_format.specs.Format.{◌>>=◌, Format, done, after, places, refused, IsBytes}
+use Rattle.wire_format.specs.Lawful.{Reads, Lawful}
 
 -- bytes, in parts
 
@@ -138,104 +137,106 @@ first_wants : {A : Type 0} (F : Format A) → Reads F → (bytes behind front ba
 first_wants {A = A} F f bytes behind front back wanted a fits e whole s =
     elim (split_either bytes behind front back whole) [
       | inl t ↦
-        let least = f.wants bytes t.0 wanted a fits e (subst (λ (l : List ℕ). F.spells l a) t.1 s) in
-        omega (arith, least, ap length t.2, length-append t.0 back)
+          let least = f.wants bytes t.0 wanted a fits e (subst (λ (l : List ℕ). F.spells l a) t.1 s) in
+          omega (arith, least, ap length t.2, length-append t.0 back)
       | inr t ↦
-        let no : failed (A × List ℕ) (More wanted) ≡ read_as a t.0 = sym e ∙ ap F.read t.1 ∙ f.complete front t.0 a s in
-        absurd (cc no)
+          let no : failed (A × List ℕ) (More wanted) ≡ read_as a t.0 = sym e ∙ ap F.read t.1 ∙ f.complete front t.0 a s in
+          absurd (cc no)
     ]
 
 pub after-spelled-laws : {A B : Type 0} (F : Format A) (G : A → Format B) → Lawful F → ((text : List ℕ) (a : A) → F.spells text a → Lawful (G a)) → Lawful (after F G)
 after-spelled-laws {A = A} {B = B} F G lawful g =
     let f : Reads F = lawful.reads in
-    record { reads = record {
-  sound = λ bytes rest b fits e.
-    let s = bind_ok (F.read bytes) (λ x. (G x.0).read x.1) (b, rest) e in
-    let p = f.sound bytes s.0.1 s.0.0 fits s.1 in
-    let q = (g p.text s.0.0 p.spelled).reads.sound s.0.1 rest b (IsBytes-behind p.text s.0.1 (subst IsBytes p.whole fits)) s.2 in
     record {
-      text = p.text ++ q.text;
-      whole = p.whole ∙ ap (λ (t : List ℕ). p.text ++ t) q.whole ∙ sym (append_assoc p.text q.text rest);
-      spelled = record { first = s.0.0; front = p.text; back = q.text; whole = refl; in_front = p.spelled; behind = q.spelled };
-    };
-  complete = λ text rest b s.
-    let read : F.read (text ++ rest) ≡ Ok (s.first, s.back ++ rest) =
-      ap F.read (ap (λ (t : List ℕ). t ++ rest) s.whole ∙ append_assoc s.front s.back rest) ∙ f.complete s.front (s.back ++ rest) s.first s.in_front in
-    rw read ((g s.front s.first s.in_front).reads.complete s.back rest b s.behind);
-  more = λ bytes wanted fits e.
-    elim (bind_err (F.read bytes) (λ x. (G x.0).read x.1) (More wanted) e) [
-      | inl h ↦
-        let p = f.more bytes wanted fits h in
-        let q = (g (bytes ++ p.behind) p.value p.spelled).some in
-        record {
-          behind = p.behind ++ q.behind;
-          value = q.value;
-          spelled = record { first = p.value; front = bytes ++ p.behind; back = q.behind; whole = sym (append_assoc bytes p.behind q.behind); in_front = p.spelled; behind = q.spelled };
-        }
-      | inr h ↦
-        let p = f.sound bytes h.0.1 h.0.0 fits h.1 in
-        let q = (g p.text h.0.0 p.spelled).reads.more h.0.1 wanted (IsBytes-behind p.text h.0.1 (subst IsBytes p.whole fits)) h.2 in
-        record {
-          behind = q.behind;
-          value = q.value;
-          spelled = record { first = h.0.0; front = p.text; back = h.0.1 ++ q.behind; whole = ap (λ (t : List ℕ). t ++ q.behind) p.whole ∙ append_assoc p.text h.0.1 q.behind; in_front = p.spelled; behind = q.spelled };
-        }
-    ];
-  wants = λ bytes behind wanted b fits e s.
-    elim (bind_err (F.read bytes) (λ x. (G x.0).read x.1) (More wanted) e) [
-      | inl h ↦ first_wants F f bytes behind s.front s.back wanted s.first fits h s.whole s.in_front
-      | inr h ↦
-        let p = f.sound bytes h.0.1 h.0.0 fits h.1 in
-        let on = reads_on F f bytes h.0.1 behind h.0.0 fits h.1 in
-        let same : read_as s.first s.back ≡ read_as h.0.0 (h.0.1 ++ behind) = sym (f.complete s.front s.back s.first s.in_front) ∙ ap F.read (sym s.whole) ∙ on in
-        let here : (G h.0.0).spells (h.0.1 ++ behind) b =
-          subst (λ (a : A). (G a).spells (h.0.1 ++ behind) b) (ok_value s.first h.0.0 s.back (h.0.1 ++ behind) same)
-            (subst (λ (t : List ℕ). (G s.first).spells t b) (ok_rest s.first h.0.0 s.back (h.0.1 ++ behind) same) s.behind) in
-        (g p.text h.0.0 p.spelled).reads.wants h.0.1 behind wanted b (IsBytes-behind p.text h.0.1 (subst IsBytes p.whole fits)) h.2 here
-    ];
-  waits = λ bytes more wanted fits e still.
-    elim (bind_err (F.read bytes) (λ x. (G x.0).read x.1) (More wanted) e) [
-      | inl h ↦ rw (f.waits bytes more wanted fits h still) refl
-      | inr h ↦
-        let here : IsBytes bytes = IsBytes-front bytes more fits in
-        let p = f.sound bytes h.0.1 h.0.0 here h.1 in
-        let regrouped : bytes ++ more ≡ p.text ++ (h.0.1 ++ more) = ap (λ (t : List ℕ). t ++ more) p.whole ∙ append_assoc p.text h.0.1 more in
-        let on = reads_on F f bytes h.0.1 more h.0.0 here h.1 in
-        rw on ((g p.text h.0.0 p.spelled).reads.waits h.0.1 more wanted (IsBytes-behind p.text (h.0.1 ++ more) (subst IsBytes regrouped fits)) h.2 still)
-    ];
-  bad = λ bytes fault fits e.
-    elim (bind_err (F.read bytes) (λ x. (G x.0).read x.1) (Bad fault) e) [
-      | inl h ↦
-        let p = f.bad bytes fault fits h in
-        record { front = p.front; rest = p.rest; whole = p.whole; spoiled = inl p.spoiled }
-      | inr h ↦
-        let p = f.sound bytes h.0.1 h.0.0 fits h.1 in
-        let q = (g p.text h.0.0 p.spelled).reads.bad h.0.1 fault (IsBytes-behind p.text h.0.1 (subst IsBytes p.whole fits)) h.2 in
-        record {
-          front = p.text ++ q.front;
-          rest = q.rest;
-          whole = p.whole ∙ ap (λ (t : List ℕ). p.text ++ t) q.whole ∙ sym (append_assoc p.text q.front q.rest);
-          spoiled = inr (record { first = h.0.0; front = p.text; back = q.front; whole = refl; in_front = p.spelled; behind = q.spoiled });
-        }
-    ];
-  spoiled = λ text rest fault fits s.
-    elim s [
-      | inl h ↦ rw (f.spoiled text rest fault fits h) refl
-      | inr h ↦
-        let regrouped : text ++ rest ≡ h.front ++ (h.back ++ rest) = ap (λ (t : List ℕ). t ++ rest) h.whole ∙ append_assoc h.front h.back rest in
-        let read : F.read (text ++ rest) ≡ Ok (h.first, h.back ++ rest) = ap F.read regrouped ∙ f.complete h.front (h.back ++ rest) h.first h.in_front in
-        rw read ((g h.front h.first h.in_front).reads.spoiled h.back rest fault (IsBytes-behind h.front (h.back ++ rest) (subst IsBytes regrouped fits)) h.behind)
-    ];
-  bytes = λ text b s. subst IsBytes (sym s.whole) (IsBytes-append s.front s.back (f.bytes s.front s.first s.in_front) ((g s.front s.first s.in_front).reads.bytes s.back b s.behind));
-  }; some =
-    let p = lawful.some in
-    let q = (g p.behind p.value p.spelled).some in
-    record {
-      behind = p.behind ++ q.behind;
-      value = q.value;
-      spelled = record { first = p.value; front = p.behind; back = q.behind; whole = refl; in_front = p.spelled; behind = q.spelled };
-    };
-}
+      reads = record {
+        sound = λ bytes rest b fits e.
+            let s = bind_ok (F.read bytes) (λ x. (G x.0).read x.1) (b, rest) e in
+            let p = f.sound bytes s.0.1 s.0.0 fits s.1 in
+            let q = (g p.text s.0.0 p.spelled).reads.sound s.0.1 rest b (IsBytes-behind p.text s.0.1 (subst IsBytes p.whole fits)) s.2 in
+            record {
+              text = p.text ++ q.text;
+              whole = p.whole ∙ ap (λ (t : List ℕ). p.text ++ t) q.whole ∙ sym (append_assoc p.text q.text rest);
+              spelled = record { first = s.0.0; front = p.text; back = q.text; whole = refl; in_front = p.spelled; behind = q.spelled };
+            };
+        complete = λ text rest b s.
+            let read : F.read (text ++ rest) ≡ Ok (s.first, s.back ++ rest) =
+            ap F.read (ap (λ (t : List ℕ). t ++ rest) s.whole ∙ append_assoc s.front s.back rest) ∙ f.complete s.front (s.back ++ rest) s.first s.in_front in
+            rw read ((g s.front s.first s.in_front).reads.complete s.back rest b s.behind);
+        more = λ bytes wanted fits e.
+            elim (bind_err (F.read bytes) (λ x. (G x.0).read x.1) (More wanted) e) [
+              | inl h ↦
+                  let p = f.more bytes wanted fits h in
+                  let q = (g (bytes ++ p.behind) p.value p.spelled).some in
+                  record {
+                    behind = p.behind ++ q.behind;
+                    value = q.value;
+                    spelled = record { first = p.value; front = bytes ++ p.behind; back = q.behind; whole = sym (append_assoc bytes p.behind q.behind); in_front = p.spelled; behind = q.spelled };
+                  }
+              | inr h ↦
+                  let p = f.sound bytes h.0.1 h.0.0 fits h.1 in
+                  let q = (g p.text h.0.0 p.spelled).reads.more h.0.1 wanted (IsBytes-behind p.text h.0.1 (subst IsBytes p.whole fits)) h.2 in
+                  record {
+                    behind = q.behind;
+                    value = q.value;
+                    spelled = record { first = h.0.0; front = p.text; back = h.0.1 ++ q.behind; whole = ap (λ (t : List ℕ). t ++ q.behind) p.whole ∙ append_assoc p.text h.0.1 q.behind; in_front = p.spelled; behind = q.spelled };
+                  }
+            ];
+        wants = λ bytes behind wanted b fits e s.
+            elim (bind_err (F.read bytes) (λ x. (G x.0).read x.1) (More wanted) e) [
+              | inl h ↦ first_wants F f bytes behind s.front s.back wanted s.first fits h s.whole s.in_front
+              | inr h ↦
+                  let p = f.sound bytes h.0.1 h.0.0 fits h.1 in
+                  let on = reads_on F f bytes h.0.1 behind h.0.0 fits h.1 in
+                  let same : read_as s.first s.back ≡ read_as h.0.0 (h.0.1 ++ behind) = sym (f.complete s.front s.back s.first s.in_front) ∙ ap F.read (sym s.whole) ∙ on in
+                  let here : (G h.0.0).spells (h.0.1 ++ behind) b =
+                  subst (λ (a : A). (G a).spells (h.0.1 ++ behind) b) (ok_value s.first h.0.0 s.back (h.0.1 ++ behind) same)
+                  (subst (λ (t : List ℕ). (G s.first).spells t b) (ok_rest s.first h.0.0 s.back (h.0.1 ++ behind) same) s.behind) in
+                  (g p.text h.0.0 p.spelled).reads.wants h.0.1 behind wanted b (IsBytes-behind p.text h.0.1 (subst IsBytes p.whole fits)) h.2 here
+            ];
+        waits = λ bytes more wanted fits e still.
+            elim (bind_err (F.read bytes) (λ x. (G x.0).read x.1) (More wanted) e) [
+              | inl h ↦ rw (f.waits bytes more wanted fits h still) refl
+              | inr h ↦
+                  let here : IsBytes bytes = IsBytes-front bytes more fits in
+                  let p = f.sound bytes h.0.1 h.0.0 here h.1 in
+                  let regrouped : bytes ++ more ≡ p.text ++ (h.0.1 ++ more) = ap (λ (t : List ℕ). t ++ more) p.whole ∙ append_assoc p.text h.0.1 more in
+                  let on = reads_on F f bytes h.0.1 more h.0.0 here h.1 in
+                  rw on ((g p.text h.0.0 p.spelled).reads.waits h.0.1 more wanted (IsBytes-behind p.text (h.0.1 ++ more) (subst IsBytes regrouped fits)) h.2 still)
+            ];
+        bad = λ bytes fault fits e.
+            elim (bind_err (F.read bytes) (λ x. (G x.0).read x.1) (Bad fault) e) [
+              | inl h ↦
+                  let p = f.bad bytes fault fits h in
+                  record { front = p.front; rest = p.rest; whole = p.whole; spoiled = inl p.spoiled }
+              | inr h ↦
+                  let p = f.sound bytes h.0.1 h.0.0 fits h.1 in
+                  let q = (g p.text h.0.0 p.spelled).reads.bad h.0.1 fault (IsBytes-behind p.text h.0.1 (subst IsBytes p.whole fits)) h.2 in
+                  record {
+                    front = p.text ++ q.front;
+                    rest = q.rest;
+                    whole = p.whole ∙ ap (λ (t : List ℕ). p.text ++ t) q.whole ∙ sym (append_assoc p.text q.front q.rest);
+                    spoiled = inr (record { first = h.0.0; front = p.text; back = q.front; whole = refl; in_front = p.spelled; behind = q.spoiled });
+                  }
+            ];
+        spoiled = λ text rest fault fits s.
+            elim s [
+              | inl h ↦ rw (f.spoiled text rest fault fits h) refl
+              | inr h ↦
+                  let regrouped : text ++ rest ≡ h.front ++ (h.back ++ rest) = ap (λ (t : List ℕ). t ++ rest) h.whole ∙ append_assoc h.front h.back rest in
+                  let read : F.read (text ++ rest) ≡ Ok (h.first, h.back ++ rest) = ap F.read regrouped ∙ f.complete h.front (h.back ++ rest) h.first h.in_front in
+                  rw read ((g h.front h.first h.in_front).reads.spoiled h.back rest fault (IsBytes-behind h.front (h.back ++ rest) (subst IsBytes regrouped fits)) h.behind)
+            ];
+        bytes = λ text b s. subst IsBytes (sym s.whole) (IsBytes-append s.front s.back (f.bytes s.front s.first s.in_front) ((g s.front s.first s.in_front).reads.bytes s.back b s.behind));
+      };
+      some =
+          let p = lawful.some in
+          let q = (g p.behind p.value p.spelled).some in
+          record {
+            behind = p.behind ++ q.behind;
+            value = q.value;
+            spelled = record { first = p.value; front = p.behind; back = q.behind; whole = refl; in_front = p.spelled; behind = q.spelled };
+          };
+    }
 
 pub after-laws : {A B : Type 0} (F : Format A) (G : A → Format B) → Lawful F → ((a : A) → Lawful (G a)) → Lawful (after F G)
 after-laws F G f g = after-spelled-laws F G f (λ text a s. g a)

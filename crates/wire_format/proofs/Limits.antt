@@ -1,8 +1,8 @@
 -- What reading at most so many bytes says.
-use Rattle.std.proofs.Common.{◌≡◌, ℕ, zero, suc, ◌+◌, ◌-◌, ◌≤◌, ◌<◌, Bool, true, false, cond, List, [], ◌∷◌, ◌++◌, length, take, drop, Result, Ok, Err, refl, sym, ap, subst, ◌∙◌, append_assoc, arith, ◌⊎◌, inl, inr}
+use Rattle.std.proofs.Common.{◌≡◌, ℕ, suc, ◌+◌, ◌-◌, ◌≤◌, ◌<◌, Bool, true, false, List, [], ◌∷◌, ◌++◌, length, take, drop, Result, Ok, Err, refl, sym, ap, subst, ◌∙◌, append_assoc, arith, ◌⊎◌, inl, inr}
 use Rattle.std.specs.Prelude.{nat_lt}
-use Rattle.std.proofs.lemmas.Bool.{cases_lt, ltb-false, ltb-true, le-ltb, lt-ltb}
-use Rattle.std.proofs.lemmas.List.{append-nil, take-append-drop, take_all, drop_all, length-append, length-take, length-drop, drop-append-le}
+use Rattle.std.proofs.lemmas.Bool.{cases_lt, ltb-false, ltb-true, le-ltb}
+use Rattle.std.proofs.lemmas.List.{append-nil, take-append-drop, take_all, length-append, length-take, drop-append-le}
 use Rattle.std.proofs.Math.Seq.{take-append-add}
 use Rattle.wire_format.specs.declared.fault.Fault.{Fault}
 use Rattle.wire_format.specs.declared.fault.Fault.TheVariants.{TooLong}
@@ -12,9 +12,9 @@ use Rattle.wire_format.specs.declared.fault.Stop.TheVariants.{More, Bad}
 use Rattle.wire_format.specs.declared.fault.ReadError.{ReadError}
 use Rattle.wire_format.specs.declared.fault.ReadError.TheVariants as errors
 use Rattle.wire_format.specs.Format.{Format, Fails, IsBytes}
-use Rattle.wire_format.specs.Lawful.{Takes, Begins, Spoiled, IsStillWaiting, still_wanted, Reads}
-use Rattle.wire_format.specs.Limit.{past_limit, past_limit_error, on_rest, limited, WantsMore, NoneStarts, BeginNone, IsFirstFault}
-use Rattle.wire_format.proofs.Combining.{IsBytes-front, stays, read_as, failed, ok_value, ok_rest, err_is}
+use Rattle.wire_format.specs.Lawful.{Takes, IsStillWaiting, still_wanted, Reads}
+use Rattle.wire_format.specs.Limit.{past_limit_error, on_rest, limited, WantsMore, NoneStarts, BeginNone, IsFirstFault}
+use Rattle.wire_format.proofs.Combining.{IsBytes-front, stays, read_as, failed, ok_value, ok_rest}
 
 rest_cases : {A : Type 0} (behind : List ℕ) (past : Bool) (r : Result (A × List ℕ) Stop) (x : A × List ℕ) → on_rest behind past r ≡ read_as x.0 x.1
     → (rest : List ℕ) × (r ≡ read_as x.0 rest) × (x.1 ≡ rest ++ behind)
@@ -70,9 +70,9 @@ limited_more {A = A} n F f bytes wanted fits e =
       value = p.value;
       spelled = p.spelled;
       proper = some_length p.behind (λ none.
-        let whole : (bytes ++ p.behind) ++ [] ≡ bytes = append-nil (bytes ++ p.behind) ∙ ap (λ (t : List ℕ). bytes ++ t) none ∙ append-nil bytes in
-        let no : failed (A × List ℕ) (More wanted) ≡ read_as p.value [] = sym read ∙ ap F.read (sym whole) ∙ f.complete (bytes ++ p.behind) [] p.value p.spelled in
-        absurd (cc no));
+          let whole : (bytes ++ p.behind) ++ [] ≡ bytes = append-nil (bytes ++ p.behind) ∙ ap (λ (t : List ℕ). bytes ++ t) none ∙ append-nil bytes in
+          let no : failed (A × List ℕ) (More wanted) ≡ read_as p.value [] = sym read ∙ ap F.read (sym whole) ∙ f.complete (bytes ++ p.behind) [] p.value p.spelled in
+          absurd (cc no));
     }
 
 -- and the same stands until as many have come, within the limit
@@ -100,25 +100,28 @@ pub limited_bad : {A : Type 0} (n : ℕ) (F : Format A) → Reads F → (bytes :
 unfolding limited
 limited_bad {A = A} n F f bytes fault e =
     elim (bad_cases (drop n bytes) (nat_lt n (length bytes)) (F.read (take n bytes)) fault e) [
-      | inl h ↦
-        (λ text rest a w s.
-          let r = front_read n F f bytes text rest a w s.0 s.1 in
-          let no : failed (A × List ℕ) (Bad fault) ≡ read_as a (take (n - length text) rest) = sym h ∙ r in
-          absurd (cc no),
+      | inl h ↦ (
+        λ text rest a w s.
+            let r = front_read n F f bytes text rest a w s.0 s.1 in
+            let no : failed (A × List ℕ) (Bad fault) ≡ read_as a (take (n - length text) rest) = sym h ∙ r in
+            absurd (cc no),
         elim (cases_lt n (length bytes)) [
           | inl lt ↦ inl lt
           | inr le ↦ inr (λ behind a s.
-            let all : take n bytes ≡ bytes = take_all n bytes le in
-            let r = stays F f bytes behind fault (f.bytes (bytes ++ behind) a s) (ap F.read (sym all) ∙ h) in
-            let t = ap F.read (append-nil (bytes ++ behind)) in
-            let no : failed (A × List ℕ) (Bad fault) ≡ read_as a [] = sym r ∙ sym t ∙ f.complete (bytes ++ behind) [] a s in
-            absurd (cc no))
-        ])
-      | inr h ↦
-        (λ text rest a w s.
-          let r = front_read n F f bytes text rest a w s.0 s.1 in
-          let no : failed (A × List ℕ) (More h.0) ≡ read_as a (take (n - length text) rest) = sym h.3 ∙ r in
-          absurd (cc no), inl (ltb-true _ _ h.2))
+              let all : take n bytes ≡ bytes = take_all n bytes le in
+              let r = stays F f bytes behind fault (f.bytes (bytes ++ behind) a s) (ap F.read (sym all) ∙ h) in
+              let t = ap F.read (append-nil (bytes ++ behind)) in
+              let no : failed (A × List ℕ) (Bad fault) ≡ read_as a [] = sym r ∙ sym t ∙ f.complete (bytes ++ behind) [] a s in
+              absurd (cc no))
+        ],
+      )
+      | inr h ↦ (
+        λ text rest a w s.
+            let r = front_read n F f bytes text rest a w s.0 s.1 in
+            let no : failed (A × List ℕ) (More h.0) ≡ read_as a (take (n - length text) rest) = sym h.3 ∙ r in
+            absurd (cc no),
+        inl (ltb-true _ _ h.2),
+      )
     ]
 
 -- and it is that of the first word or byte at which no spelling stands

@@ -1,18 +1,18 @@
 -- The laws of a byte and of a run of bytes.
-use Rattle.std.proofs.Common.{◌≡◌, ℕ, zero, suc, ◌+◌, ◌-◌, ◌≤◌, ◌<◌, Bool, true, false, cond, ltb, not, ◌&&◌, ◌||◌, List, [], ◌∷◌, ◌++◌, length, take, drop, Result, Ok, Err, refl, sym, ap, subst, ◌∙◌, append_assoc, arith, ◌⊎◌, inl, inr}
-use Rattle.std.specs.Prelude.{nat_lt, slice_index}
+use Rattle.std.proofs.Common.{◌≡◌, ℕ, zero, suc, ◌+◌, ◌-◌, ◌≤◌, ◌<◌, Bool, true, false, cond, not, ◌&&◌, ◌||◌, List, [], ◌∷◌, ◌++◌, length, take, drop, Result, Ok, Err, refl, sym, ap, subst, ◌∙◌, append_assoc, arith, ◌⊎◌, inl, inr}
+use Rattle.std.specs.Prelude.{nat_lt}
 use Rattle.std.specs.List.{list_all, AllByRecursion}
 use Rattle.std.proofs.lemmas.Bool.{cases_lt, ltb-false, ltb-true, le-ltb, lt-ltb}
-use Rattle.std.proofs.lemmas.List.{append-nil, take-append-drop, take_all, drop_all, take_at, drop_at, length-append, length-take, length-drop, take-append-le, drop-append-le}
+use Rattle.std.proofs.lemmas.List.{take-append-drop, take_all, take_at, drop_at, length-append, length-take}
 use Rattle.std.proofs.Math.Seq.{take-append-add}
 use Rattle.wire_format.specs.declared.fault.Fault.{Fault}
 use Rattle.wire_format.specs.declared.fault.Fault.TheVariants.{BadValue}
 use Rattle.wire_format.specs.declared.fault.Wanted.{Wanted}
 use Rattle.wire_format.specs.declared.fault.Stop.{Stop}
 use Rattle.wire_format.specs.declared.fault.Stop.TheVariants.{More, Bad}
-use Rattle.wire_format.specs.Format.{Format, IsBytes, one_byte, IsByte, IsNoByte, byte_between, byte_at, IsRun, IsNoRun, is_from, run_at, run}
-use Rattle.wire_format.specs.Lawful.{Takes, Begins, Spoiled, IsStillWaiting, still_wanted, Reads, Lawful}
-use Rattle.wire_format.proofs.Combining.{IsBytes-front, IsBytes-behind, IsBytes-append, read_as, ok_value, ok_rest, failed, err_is}
+use Rattle.wire_format.specs.Format.{IsBytes, one_byte, IsByte, IsNoByte, byte_between, byte_at, IsRun, IsNoRun, is_from, run_at, run}
+use Rattle.wire_format.specs.Lawful.{Takes, Begins, Spoiled, IsStillWaiting, still_wanted, Lawful}
+use Rattle.wire_format.proofs.Combining.{IsBytes-front, IsBytes-append, read_as, ok_value, ok_rest, failed, err_is}
 use Rattle.wire_format.proofs.Words.{one_waits}
 
 -- a test of both ends
@@ -29,7 +29,7 @@ both_false a b p q = rw (p, q) refl
 
 one_true : (a b : Bool) → (a ≡ true) ⊎ (b ≡ true) → (a || b) ≡ true
 one_true true b h = refl
-one_true false b h = elim h [ | inl e ↦ absurd cc | inr e ↦ e ]
+one_true false b h = elim h [ inl e ↦ absurd cc | inr e ↦ e ]
 
 guard_ok : {A : Type 0} (b : Bool) (fault : Fault) (x y : A × List ℕ) → cond b (failed (A × List ℕ) (Bad fault)) (read_as x.0 x.1) ≡ read_as y.0 y.1 → (b ≡ false) × (read_as x.0 x.1 ≡ read_as y.0 y.1)
 guard_ok true fault x y e = absurd cc
@@ -81,12 +81,12 @@ byte_bad low high [] fault fits e = absurd cc
 byte_bad low high (x ∷ bytes) fault fits e =
     let g = guard_err (nat_lt x low || nat_lt high x) BadValue (x, bytes) (Bad fault) e in
     let given : fault ≡ BadValue = cc (g.1) in
-    let out : (x < low) ⊎ (high < x) = elim (or_true _ _ g.0) [ | inl h ↦ inl (ltb-true _ _ h) | inr h ↦ inr (ltb-true _ _ h) ] in
+    let out : (x < low) ⊎ (high < x) = elim (or_true _ _ g.0) [ inl h ↦ inl (ltb-true _ _ h) | inr h ↦ inr (ltb-true _ _ h) ] in
     record { front = x ∷ []; rest = bytes; whole = refl; spoiled = record { given_is = given; byte = x; text_is = refl; outside = out } }
 
 byte_spoiled : (low high : ℕ) (text rest : List ℕ) (fault : Fault) → IsBytes (text ++ rest) → IsNoByte low high text fault → byte_at low high (text ++ rest) ≡ Err (Bad fault)
 byte_spoiled low high text rest fault fits s =
-    let out : (nat_lt s.byte low || nat_lt high s.byte) ≡ true = one_true _ _ (elim s.outside [ | inl h ↦ inl (lt-ltb s.byte low h) | inr h ↦ inr (lt-ltb high s.byte h) ]) in
+    let out : (nat_lt s.byte low || nat_lt high s.byte) ≡ true = one_true _ _ (elim s.outside [ inl h ↦ inl (lt-ltb s.byte low h) | inr h ↦ inr (lt-ltb high s.byte h) ]) in
     ap (λ (t : List ℕ). byte_at low high (t ++ rest)) s.text_is ∙ rw (out, s.given_is) refl
 
 IsBytes-one : (b : ℕ) → b < 256 → IsBytes (b ∷ [])
@@ -111,7 +111,7 @@ byte-laws low high ordered small = record {
 -- ---- a run
 
 from_true : (least b : ℕ) → is_from least b ≡ true → least ≤ b
-from_true least b e = elim (cases_lt b least) [ | inl h ↦ let t = lt-ltb b least h in absurd (cc (e, t)) | inr h ↦ h ]
+from_true least b e = elim (cases_lt b least) [ inl h ↦ let t = lt-ltb b least h in absurd (cc (e, t)) | inr h ↦ h ]
 
 true_from : (least b : ℕ) → least ≤ b → is_from least b ≡ true
 true_from least b h = rw (le-ltb b least h) refl
@@ -145,9 +145,9 @@ first_below least (b ∷ bytes) e =
     elim (cases_lt b least) [
       | inl h ↦ record { front = []; byte = b; rest = bytes; whole = refl; from = tt; below = h }
       | inr h ↦
-        let behind : list_all (is_from least) bytes ≡ false = rw (true_from least b h) at e in
-        let p = first_below least bytes behind in
-        record { front = b ∷ p.front; byte = p.byte; rest = p.rest; whole = ap (λ (t : List ℕ). b ∷ t) p.whole; from = (h, p.from); below = p.below }
+          let behind : list_all (is_from least) bytes ≡ false = rw (true_from least b h) at e in
+          let p = first_below least bytes behind in
+          record { front = b ∷ p.front; byte = p.byte; rest = p.rest; whole = ap (λ (t : List ℕ). b ∷ t) p.whole; from = (h, p.from); below = p.below }
     ]
 
 -- the cases of reading a run: a byte is below the least, bytes are missing, or the run stands
@@ -171,7 +171,6 @@ case_bad true false wanted fault value rest e = absurd cc
 
 IsBytes-take : (n : ℕ) (bytes : List ℕ) → IsBytes bytes → IsBytes (take n bytes)
 IsBytes-take n bytes h = IsBytes-front (take n bytes) (drop n bytes) (subst IsBytes (sym (take-append-drop n bytes)) h)
-
 
 run_sound : (least count : ℕ) (bytes rest value : List ℕ) → IsBytes bytes → run_at least count bytes ≡ Ok (value, rest) → Takes (run least count) bytes rest value
 run_sound least count bytes rest value fits e =
@@ -282,7 +281,7 @@ run_spoiled least count text rest fault s =
     let shown : text ++ rest ≡ (s.front ++ s.byte ∷ []) ++ rest = ap (λ (t : List ℕ). t ++ rest) s.text_is in
     let k : count ≡ length (s.front ++ s.byte ∷ []) + (count - length (s.front ++ s.byte ∷ [])) = omega (arith, s.inside, length-append s.front (s.byte ∷ [])) in
     let front : take count (text ++ rest) ≡ (s.front ++ s.byte ∷ []) ++ take (count - length (s.front ++ s.byte ∷ [])) rest =
-      ap (take count) shown ∙ ap (λ (n : ℕ). take n ((s.front ++ s.byte ∷ []) ++ rest)) k ∙ take-append-add (s.front ++ s.byte ∷ []) rest (count - length (s.front ++ s.byte ∷ [])) in
+    ap (take count) shown ∙ ap (λ (n : ℕ). take n ((s.front ++ s.byte ∷ []) ++ rest)) k ∙ take-append-add (s.front ++ s.byte ∷ []) rest (count - length (s.front ++ s.byte ∷ [])) in
     let tail = take (count - length (s.front ++ s.byte ∷ [])) rest in
     let regrouped : take count (text ++ rest) ≡ s.front ++ s.byte ∷ take (count - length (s.front ++ s.byte ∷ [])) rest = front ∙ simp append_assoc in
     let no : list_all (is_from least) (take count (text ++ rest)) ≡ false = ap (list_all (is_from least)) regrouped ∙ spoiled_all least s.front (take (count - length (s.front ++ s.byte ∷ [])) rest) s.byte s.below in

@@ -1,5 +1,5 @@
 -- The laws of a word of a kind.
-use Rattle.std.proofs.Common.{◌≡◌, ℕ, zero, suc, ◌+◌, ◌-◌, ◌*◌, ◌/◌, ◌%◌, ◌^◌, ◌≤◌, ◌<◌, List, [], ◌∷◌, ◌++◌, length, get_or, take, drop, Result, Ok, Err, Option, Some, None, refl, sym, ap, subst, ◌∙◌, append_assoc, arith, inl, inr}
+use Rattle.std.proofs.Common.{◌≡◌, ℕ, zero, suc, ◌+◌, ◌-◌, ◌*◌, ◌^◌, ◌≤◌, ◌<◌, List, [], ◌∷◌, ◌++◌, length, get_or, take, Result, Ok, Err, Option, Some, None, refl, sym, ap, subst, ◌∙◌, append_assoc, arith, inl, inr}
 use Rattle.std.specs.Int.{w32, to_be_bytes, from_be_bytes}
 use Rattle.std.proofs.lemmas.Bool.{cases_lt}
 use Rattle.std.proofs.lemmas.Bool.Decides.{nat_tests}
@@ -10,9 +10,9 @@ use Rattle.wire_format.specs.declared.fault.Fault.{Fault}
 use Rattle.wire_format.specs.declared.fault.Wanted.{Wanted}
 use Rattle.wire_format.specs.declared.fault.Stop.{Stop}
 use Rattle.wire_format.specs.declared.fault.Stop.TheVariants.{More, Bad}
-use Rattle.wire_format.specs.Format.{Format, IsBytes, one_byte}
-use Rattle.wire_format.specs.Kind.{Kind, IsKind, Among, Split, Whole, Part, split, judged, judged_whole, stop_of, IsWordOf, IsNoWordOf, word_of_kind, between}
-use Rattle.wire_format.specs.Lawful.{Takes, Begins, Spoiled, IsStillWaiting, still_wanted, Reads, Lawful}
+use Rattle.wire_format.specs.Format.{IsBytes, one_byte}
+use Rattle.wire_format.specs.Kind.{Kind, IsKind, Among, Whole, Part, split, judged, judged_whole, stop_of, IsWordOf, IsNoWordOf, word_of_kind, between}
+use Rattle.wire_format.specs.Lawful.{Takes, Begins, Spoiled, IsStillWaiting, still_wanted, Lawful}
 use Rattle.wire_format.proofs.Combining.{IsBytes-front, read_as, ok_value, ok_rest, failed, err_is}
 
 -- ---- the bytes of a word
@@ -197,11 +197,11 @@ no_word : {A : Type 0} (K : Kind A) → IsKind K → (text : List ℕ) (g : Faul
 no_word {A = A} K k text g short e = record {
   short = short;
   all = λ behind n is fits.
-    let small : IsBytes (text ++ behind) = subst IsBytes (sym is) (word_bytes n) in
-    let bad = kind_stays K k text behind g small e in
-    let whole : judged K (Whole n []) ≡ failed (A × List ℕ) (Bad g) =
+      let small : IsBytes (text ++ behind) = subst IsBytes (sym is) (word_bytes n) in
+      let bad = kind_stays K k text behind g small e in
+      let whole : judged K (Whole n []) ≡ failed (A × List ℕ) (Bad g) =
       ap (λ (m : ℕ). judged K (Whole m [])) (sym (from_be_bytes-to_be_bytes_4 n fits)) ∙ ap (λ (t : List ℕ). judged K (split t)) (sym is) ∙ bad in
-    judge_err (K.judge n) [] g whole;
+      judge_err (K.judge n) [] g whole;
 }
 
 kind_bad : {A : Type 0} (K : Kind A) → IsKind K → (bytes : List ℕ) (g : Fault) → IsBytes bytes → judged K (split bytes) ≡ Err (Bad g) → Spoiled (word_of_kind K) bytes g
@@ -236,20 +236,20 @@ by_read (Err (Bad h)) no_value no_more g same = rw (same h refl) refl
 kind_spoiled : {A : Type 0} (K : Kind A) → IsKind K → (text rest : List ℕ) (g : Fault) → IsBytes (text ++ rest) → IsNoWordOf K text g → judged K (split (text ++ rest)) ≡ Err (Bad g)
 kind_spoiled {A = A} K k text rest g fits s =
     by_read (judged K (split (text ++ rest)))
-      (λ x r e.
-        let p = kind_sound K (text ++ rest) r x fits e in
-        let len : length p.text ≡ 4 = ap length p.spelled.text_is in
-        let four : take 4 (text ++ rest) ≡ p.text = in_four p.text r (text ++ rest) p.whole (omega arith) ∙ past_four p.text r len in
-        let shown : text ++ take (4 - length text) rest ≡ to_be_bytes w32 p.spelled.n = sym (in_four text rest (text ++ rest) refl s.short) ∙ four ∙ p.spelled.text_is in
-        let no : fault_as A g ≡ judged_as x = sym (s.all (take (4 - length text) rest) p.spelled.n shown p.spelled.fits) ∙ p.spelled.is in
-        absurd (cc no))
-      (λ wanted e.
-        let p = kind_more K k (text ++ rest) wanted fits e in
-        let shown : text ++ (rest ++ p.behind) ≡ to_be_bytes w32 p.spelled.n = sym (append_assoc text rest p.behind) ∙ p.spelled.text_is in
-        let no : fault_as A g ≡ judged_as p.value = sym (s.all (rest ++ p.behind) p.spelled.n shown p.spelled.fits) ∙ p.spelled.is in
-        absurd (cc no))
-      g
-      (λ h e. let p = kind_bad K k (text ++ rest) h fits e in same_fault K (text ++ rest) text rest p.front p.rest g h fits refl p.whole s p.spoiled)
+    (λ x r e.
+    let p = kind_sound K (text ++ rest) r x fits e in
+    let len : length p.text ≡ 4 = ap length p.spelled.text_is in
+    let four : take 4 (text ++ rest) ≡ p.text = in_four p.text r (text ++ rest) p.whole (omega arith) ∙ past_four p.text r len in
+    let shown : text ++ take (4 - length text) rest ≡ to_be_bytes w32 p.spelled.n = sym (in_four text rest (text ++ rest) refl s.short) ∙ four ∙ p.spelled.text_is in
+    let no : fault_as A g ≡ judged_as x = sym (s.all (take (4 - length text) rest) p.spelled.n shown p.spelled.fits) ∙ p.spelled.is in
+    absurd (cc no))
+    (λ wanted e.
+    let p = kind_more K k (text ++ rest) wanted fits e in
+    let shown : text ++ (rest ++ p.behind) ≡ to_be_bytes w32 p.spelled.n = sym (append_assoc text rest p.behind) ∙ p.spelled.text_is in
+    let no : fault_as A g ≡ judged_as p.value = sym (s.all (rest ++ p.behind) p.spelled.n shown p.spelled.fits) ∙ p.spelled.is in
+    absurd (cc no))
+    g
+    (λ h e. let p = kind_bad K k (text ++ rest) h fits e in same_fault K (text ++ rest) text rest p.front p.rest g h fits refl p.whole s p.spoiled)
 
 pub kind-laws : {A : Type 0} (K : Kind A) → IsKind K → Lawful (word_of_kind K)
 kind-laws {A = A} K k = record {

@@ -1,17 +1,17 @@
 -- What the writers write is spelled, and they refuse exactly what is not.
-use Rattle.std.proofs.Common.{◌≡◌, ℕ, zero, suc, ◌+◌, ◌-◌, ◌^◌, ◌≤◌, ◌<◌, Bool, true, false, cond, eqb, not, ◌&&◌, ◌||◌, List, [], ◌∷◌, ◌++◌, length, Result, Ok, Err, Option, Some, None, refl, sym, ap, subst, ◌∙◌, append_assoc, arith, ◌⊎◌, inl, inr}
+use Rattle.std.proofs.Common.{◌≡◌, ℕ, zero, suc, ◌^◌, ◌≤◌, ◌<◌, Bool, true, false, cond, eqb, ◌&&◌, ◌||◌, List, [], ◌∷◌, ◌++◌, length, Result, Ok, Err, Option, Some, None, refl, sym, ap, subst, ◌∙◌, arith, ◌⊎◌, inl, inr}
 use Rattle.std.specs.Prelude.{nat_lt}
 use Rattle.std.specs.List.{list_all, AllByRecursion}
 use Rattle.std.specs.Int.{w32, to_be_bytes}
-use Rattle.std.proofs.lemmas.Bool.{cases_lt, cases_eq, ltb-false, ltb-true, le-ltb, lt-ltb, eqb-true, eq-eqb}
+use Rattle.std.proofs.lemmas.Bool.{cases_lt, ltb-true, le-ltb, lt-ltb, eqb-true, eq-eqb}
 use Rattle.std.proofs.lemmas.Bool.Decides.{nat_tests}
 use Rattle.std.proofs.lemmas.List.{append-nil}
 use Rattle.wire_format.specs.declared.fault.Fault.{Fault}
 use Rattle.wire_format.specs.declared.fault.Fault.TheVariants as faults
-use Rattle.wire_format.specs.Format.{Format, IsBytes, Parts, done, refused, after, made, places, IsByte, byte_between, IsRun, run, is_from}
+use Rattle.wire_format.specs.Format.{Format, IsBytes, done, refused, after, made, places, byte_between, run, is_from}
 use Rattle.wire_format.specs.Kind.{Kind, word_of_kind, between}
 use Rattle.wire_format.specs.Limit.{limited}
-use Rattle.wire_format.specs.Writer.{Writer, Writes, written, text_or_fault, joined, IsPart, write_nothing, write_none, write_after, write_by, IsMadeOf, write_places, first_long, first_text, write_word, word_text, is_too_long, IsNumber, write_byte, write_run, may_run, write_limited, is_over}
+use Rattle.wire_format.specs.Writer.{Writer, Writes, written, text_or_fault, joined, IsPart, write_nothing, write_none, write_after, write_by, IsMadeOf, write_places, write_word, word_text, is_too_long, IsNumber, write_byte, write_run, may_run, write_limited, is_over}
 
 -- each byte of a slice may stand in a run where it is not below the least
 pub bytes_may_run : (least : ℕ) (bytes : List ℕ) → IsBytes bytes → list_all (may_run least) bytes ≡ list_all (is_from least) bytes
@@ -54,7 +54,7 @@ joined_none (Some s) (Some t) e = absurd cc
 none_joined : (front back : Option (List ℕ)) → (front ≡ None) ⊎ (back ≡ None) → joined front back ≡ None
 none_joined None back h = refl
 none_joined (Some s) None h = refl
-none_joined (Some s) (Some t) h = elim h [ | inl e ↦ absurd cc | inr e ↦ absurd cc ]
+none_joined (Some s) (Some t) h = elim h [ inl e ↦ absurd cc | inr e ↦ absurd cc ]
 
 -- ---- nothing
 
@@ -74,16 +74,16 @@ pub after-writes : {A B : Type 0} (part : B → A) (F : Format A) (G : A → For
     → Writes (after F G) (write_after part W V) b
 after-writes part F G W V b f g own = record {
   spelled = λ text e.
-    let j = joined_some (W.text (part b)) ((V (part b)).text b) text e in
-    record { first = part b; front = j.0; back = j.1; whole = j.4; in_front = f.spelled j.0 j.2; behind = g.spelled j.1 j.3 };
-  past = λ e. none_joined (W.text (part b)) ((V (part b)).text b) (elim (or_true (W.long (part b)) ((V (part b)).long b) e) [ | inl h ↦ inl (f.past h) | inr h ↦ inr (g.past h) ]);
+      let j = joined_some (W.text (part b)) ((V (part b)).text b) text e in
+      record { first = part b; front = j.0; back = j.1; whole = j.4; in_front = f.spelled j.0 j.2; behind = g.spelled j.1 j.3 };
+  past = λ e. none_joined (W.text (part b)) ((V (part b)).text b) (elim (or_true (W.long (part b)) ((V (part b)).long b) e) [ inl h ↦ inl (f.past h) | inr h ↦ inr (g.past h) ]);
   none = λ short e text s.
-    let fits = or_false (W.long (part b)) ((V (part b)).long b) short in
-    let p = own s.first s.front s.back s.in_front s.behind in
-    elim (joined_none (W.text (part b)) ((V (part b)).text b) e) [
-      | inl h ↦ f.none fits.0 h p.0.0 p.0.1
-      | inr h ↦ g.none fits.1 h p.1.0 p.1.1
-    ];
+      let fits = or_false (W.long (part b)) ((V (part b)).long b) short in
+      let p = own s.first s.front s.back s.in_front s.behind in
+      elim (joined_none (W.text (part b)) ((V (part b)).text b) e) [
+        | inl h ↦ f.none fits.0 h p.0.0 p.0.1
+        | inr h ↦ g.none fits.1 h p.1.0 p.1.1
+      ];
 }
 
 -- where the value behind determines the first part, it is a value's own
@@ -119,18 +119,24 @@ places-writes {A = A} (suc n) F W f (a ∷ others) =
     let rest = places-writes n F W f others in
     record {
       spelled = λ text e.
-        let j = joined_some (W.text a) ((write_places n W).text others) text e in
-        record { first = a; front = j.0; back = j.1; whole = j.4; in_front = (f a).spelled j.0 j.2;
-          behind = record { first = others; front = j.1; back = []; whole = sym (append-nil j.1); in_front = rest.spelled j.1 j.3; behind = (refl, refl) } };
+          let j = joined_some (W.text a) ((write_places n W).text others) text e in
+          record {
+            first = a;
+            front = j.0;
+            back = j.1;
+            whole = j.4;
+            in_front = (f a).spelled j.0 j.2;
+            behind = record { first = others; front = j.1; back = []; whole = sym (append-nil j.1); in_front = rest.spelled j.1 j.3; behind = (refl, refl) };
+          };
       past = λ e. none_joined (W.text a) ((write_places n W).text others)
-        (elim (or_true (W.long a) ((write_places n W).long others) e) [ | inl h ↦ inl ((f a).past h) | inr h ↦ inr (rest.past h) ]);
+          (elim (or_true (W.long a) ((write_places n W).long others) e) [ inl h ↦ inl ((f a).past h) | inr h ↦ inr (rest.past h) ]);
       none = λ short e text s.
-        let fits = or_false (W.long a) ((write_places n W).long others) short in
-        let is = uncons a s.first others s.behind.first s.behind.behind.1 in
-        elim (joined_none (W.text a) ((write_places n W).text others) e) [
-          | inl h ↦ (f a).none fits.0 h s.front (subst (λ (x : A). F.spells s.front x) (sym is.0) s.in_front)
-          | inr h ↦ rest.none fits.1 h s.behind.front (subst (λ (x : List A). (places n F).spells s.behind.front x) (sym is.1) s.behind.in_front)
-        ];
+          let fits = or_false (W.long a) ((write_places n W).long others) short in
+          let is = uncons a s.first others s.behind.first s.behind.behind.1 in
+          elim (joined_none (W.text a) ((write_places n W).text others) e) [
+            | inl h ↦ (f a).none fits.0 h s.front (subst (λ (x : A). F.spells s.front x) (sym is.0) s.in_front)
+            | inr h ↦ rest.none fits.1 h s.behind.front (subst (λ (x : List A). (places n F).spells s.behind.front x) (sym is.1) s.behind.in_front)
+          ];
     }
 
 -- ---- a word
@@ -150,9 +156,9 @@ text_none n (Err fault) a e h = absurd cc
 pub word-writes : {A : Type 0} (K : Kind A) (number : A → ℕ) → IsNumber K number → (a : A) → Writes (word_of_kind K) (write_word K number) a
 word-writes {A = A} K number k a = record {
   spelled = λ text e.
-    let t = text_some (number a) (K.judge (number a)) text e in
-    let b = k.back a t.0 t.1 in
-    record { n = number a; text_is = t.2; fits = b.0; is = subst (λ (x : A). K.judge (number a) ≡ Ok x) b.1 t.1 };
+      let t = text_some (number a) (K.judge (number a)) text e in
+      let b = k.back a t.0 t.1 in
+      record { n = number a; text_is = t.2; fits = b.0; is = subst (λ (x : A). K.judge (number a) ≡ Ok x) b.1 t.1 };
   past = λ e. long_none (number a) (K.judge (number a)) e;
   none = λ short e text s. text_none (number a) (K.judge (number a)) a e (k.all s.n a s.fits s.is);
 }
@@ -197,7 +203,8 @@ runs_true least (b ∷ bytes) e =
     ((is_least q.0, rest.0), cons_bytes (ltb-true b 256 q.1) rest.1)
   where
     is_least : is_from least b ≡ true → least ≤ b
-    is_least h = elim (cases_lt b least) [ | inl lt ↦ let t = lt-ltb b least lt in let no = rw t at h in absurd (cc no) | inr le ↦ le ]
+    is_least h = elim (cases_lt b least) [ inl lt ↦ let t = lt-ltb b least lt in let no = rw t at h in absurd (cc no) | inr le ↦ le ]
+
     cons_bytes : b < 256 → IsBytes bytes → IsBytes (b ∷ bytes)
     cons_bytes fits h zero = fits
     cons_bytes fits h (suc i) = h i
@@ -220,18 +227,18 @@ choose_none false bytes e = refl
 pub run-writes : (least count : ℕ) (bytes : List ℕ) → Writes (run least count) (write_run least count) bytes
 run-writes least count bytes = record {
   spelled = λ text e.
-    let c = choose_some (list_all (may_run least) bytes && eqb (length bytes) count) bytes text e in
-    let b = and_true (list_all (may_run least) bytes) (eqb (length bytes) count) c.0 in
-    let r = runs_true least bytes b.0 in
-    let long : length bytes ≡ count = eqb-true (length bytes) count b.1 in
-    record { is = sym c.1; fits = subst IsBytes (sym c.1) r.1; long = ap length c.1 ∙ long; from = subst (AllByRecursion (λ b. least ≤ b)) (sym c.1) r.0 };
+      let c = choose_some (list_all (may_run least) bytes && eqb (length bytes) count) bytes text e in
+      let b = and_true (list_all (may_run least) bytes) (eqb (length bytes) count) c.0 in
+      let r = runs_true least bytes b.0 in
+      let long : length bytes ≡ count = eqb-true (length bytes) count b.1 in
+      record { is = sym c.1; fits = subst IsBytes (sym c.1) r.1; long = ap length c.1 ∙ long; from = subst (AllByRecursion (λ b. least ≤ b)) (sym c.1) r.0 };
   past = λ e. absurd cc;
   none = λ short e text s.
-    let c = choose_none (list_all (may_run least) bytes && eqb (length bytes) count) bytes e in
-    let good : list_all (may_run least) bytes ≡ true = ap (list_all (may_run least)) s.is ∙ true_runs least text s.from s.fits in
-    let long : eqb (length bytes) count ≡ true = eq-eqb (length bytes) count (ap length s.is ∙ s.long) in
-    let no = rw (good, long) at c in
-    absurd (cc no);
+      let c = choose_none (list_all (may_run least) bytes && eqb (length bytes) count) bytes e in
+      let good : list_all (may_run least) bytes ≡ true = ap (list_all (may_run least)) s.is ∙ true_runs least text s.from s.fits in
+      let long : eqb (length bytes) count ≡ true = eq-eqb (length bytes) count (ap length s.is ∙ s.long) in
+      let no = rw (good, long) at c in
+      absurd (cc no);
 }
 
 -- ---- at most so many bytes
@@ -250,13 +257,13 @@ over_none n (Some own) o e = let no = rw o at e in absurd (cc no)
 
 over_past : (n : ℕ) (own : Option (List ℕ)) → (own ≡ None) ⊎ (is_over n own ≡ true) → cond (is_over n own) None own ≡ None
 over_past n None h = refl
-over_past n (Some own) h = elim h [ | inl e ↦ absurd cc | inr e ↦ rw e refl ]
+over_past n (Some own) h = elim h [ inl e ↦ absurd cc | inr e ↦ rw e refl ]
 
 pub limited-writes : {A : Type 0} (n : ℕ) (F : Format A) (W : Writer A) (a : A) → Writes F W a → Writes (limited n F) (write_limited n W) a
 unfolding limited
 limited-writes n F W a f = record {
   spelled = λ text e. let o = over_some n (W.text a) text e in (o.1, f.spelled text o.0);
-  past = λ e. over_past n (W.text a) (elim (or_true (W.long a) (is_over n (W.text a)) e) [ | inl h ↦ inl (f.past h) | inr h ↦ inr h ]);
+  past = λ e. over_past n (W.text a) (elim (or_true (W.long a) (is_over n (W.text a)) e) [ inl h ↦ inl (f.past h) | inr h ↦ inr h ]);
   none = λ short e text s. let b = or_false (W.long a) (is_over n (W.text a)) short in f.none b.0 (over_none n (W.text a) b.1 e) text s.1;
 }
 

@@ -38,7 +38,10 @@ pub fn run(bytes: &[u8], least: u8, count: usize) -> Result<(&[u8], &[u8]), Read
         if !all_from(bytes, least) {
             return Err(ReadError::Stop(Stop::Bad(Fault::BadValue)));
         }
-        let wanted = Wanted { count: count - bytes.len(), least };
+        let wanted = Wanted {
+            count: count - bytes.len(),
+            least,
+        };
         return Err(ReadError::Stop(Stop::More(wanted)));
     }
     let (front, rest) = bytes.split_at(count);

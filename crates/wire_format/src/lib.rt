@@ -20,15 +20,15 @@ pub use laws::{
     words_of_a_kind_are_lawful,
 };
 pub use limit::{front, past_limit, used};
-pub use sequence::{FromWire, ToWire, is_any_long, places, put_all};
+pub use sequence::{Encoder, Reader, is_any_long, places, put_all};
 pub use word::{Word, one_more, part_stops, split_word, word_between};
-pub use writing::{is_past, put_byte_between, put_run, put_word, put_word_between};
 pub use writer_laws::{
-    MadeOf, NumberedKind, Written, WrittenBehind, bytes_between_are_written,
-    nothing_is_written, one_after_another_is_written, runs_are_written, values_at_places_are_written,
-    what_is_made_of_another_is_written, what_is_refused_is_not_written, what_is_written_is_spelled, words_between_are_written,
-    words_of_a_kind_are_written, writing_keeps_a_limit,
+    MadeOf, NumberedKind, Written, WrittenBehind, bytes_between_are_written, nothing_is_written,
+    one_after_another_is_written, runs_are_written, values_at_places_are_written,
+    what_is_made_of_another_is_written, what_is_refused_is_not_written, what_is_written_is_spelled,
+    words_between_are_written, words_of_a_kind_are_written, writing_keeps_a_limit,
 };
+pub use writing::{is_past, put_byte_between, put_run, put_word, put_word_between};
 
 #[cfg(test)]
 mod tests;

@@ -54,7 +54,12 @@ pub fn part_stops(fault: Option<Fault>) -> ReadError
 }
 
 /// A word from `low` to `high`; any other has the fault.
-pub fn word_between(bytes: &[u8], low: u32, high: u32, fault: Fault) -> Result<(u32, &[u8]), ReadError>
+pub fn word_between(
+    bytes: &[u8],
+    low: u32,
+    high: u32,
+    fault: Fault,
+) -> Result<(u32, &[u8]), ReadError>
     ensures { Gives (λ x. (x.0, x.1.now)) result ((word_of_kind (between low high fault)).read bytes.now) }
 {
     match split_word(bytes) {

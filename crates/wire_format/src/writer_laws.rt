@@ -53,66 +53,55 @@ pub fn what_is_written_is_spelled<A: Written>()
     ensures too_long { (a : A) → (written A.writer a ≡ Err TooLong) ↔ (A.writer.long a ≡ true) }
     ensures bad { (a : A) (fault : AnyFault) → written A.writer a ≡ Err fault → fault ≢ TooLong
         → (fault ≡ BadValue) × ((text : List ℕ) → A.format.spells text a → ⊥) }
-{
-}
+{}
 
 /// Nothing is written of a value that is known.
 pub fn nothing_is_written<A>()
     ensures { (a : A) → Writes (done a) write_nothing a }
-{
-}
+{}
 
 /// What is refused is not written.
 pub fn what_is_refused_is_not_written<A>(fault: Fault)
     ensures { (a : A) → Writes (refused fault) write_none a }
-{
-}
+{}
 
 /// One after another is written so, where each value's own part may stand first.
 pub fn one_after_another_is_written<A: Written, B: WrittenBehind<A>>()
     ensures { (b : B) → IsPart B.part A.format B.formats b
         → Writes (after A.format B.formats) (write_after B.part A.writer B.writers) b }
-{
-}
+{}
 
 /// A value that is made of another is written as what it is made of.
 pub fn what_is_made_of_another_is_written<A: Written, B: MadeOf<A>>()
     ensures { (b : B) → IsMadeOf B.part A.format B.make b → Writes (made B.make A.format) (write_by B.part A.writer) b }
-{
-}
+{}
 
 /// Values at `count` places are written so.
 pub fn values_at_places_are_written<A: Written>(count: u32)
     ensures { (all : List A) → Writes (places count A.format) (write_places count A.writer) all }
-{
-}
+{}
 
 /// A word of a kind is written by its value's number.
 pub fn words_of_a_kind_are_written<A: NumberedKind>()
     ensures { (a : A) → Writes (word_of_kind A.kind) (write_word A.kind A.number) a }
-{
-}
+{}
 
 /// A word from `low` to `high` is written as it is.
 pub fn words_between_are_written(low: u32, high: u32, fault: Fault)
     ensures { (n : ℕ) → Writes (word_of_kind (between low high fault)) (write_word (between low high fault) (λ n. n)) n }
-{
-}
+{}
 
 /// A byte from `low` to `high` is written as it is.
 pub fn bytes_between_are_written(low: u8, high: u8)
     ensures { (b : ℕ) → Writes (byte_between low high) (write_byte low high) b }
-{
-}
+{}
 
 /// A run of bytes is written as it is.
 pub fn runs_are_written(least: u8, count: usize)
     ensures { (bytes : List ℕ) → Writes (run least count) (write_run least count) bytes }
-{
-}
+{}
 
 /// A limit is kept by what is written; a value whose text goes past it is too long.
 pub fn writing_keeps_a_limit<A: Written>(limit: usize)
     ensures { (a : A) → Writes (limited limit A.format) (write_limited limit A.writer) a }
-{
-}
+{}

@@ -26,7 +26,13 @@ pub fn is_past(n: u32, low: u32, high: u32, fault: Fault) -> bool
 }
 
 /// Writes a word from `low` to `high`.
-pub fn put_word_between(out: &mut Vec<u8>, n: u32, low: u32, high: u32, fault: Fault) -> Result<(), WriteError>
+pub fn put_word_between(
+    out: &mut Vec<u8>,
+    n: u32,
+    low: u32,
+    high: u32,
+    fault: Fault,
+) -> Result<(), WriteError>
     ensures { Puts result out.old.items out.new.items ((write_word (between low high fault) (λ n. n)).text n) }
 {
     let _fault = fault;
