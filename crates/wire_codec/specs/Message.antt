@@ -106,6 +106,11 @@ action_at n =
 abbrev pub lines_at : ℕ → Option ℕ
 lines_at n = if n == 4294967295 then None else Some n
 
+-- an element, or none
+abbrev pub option_list : {A : Type 0} → Option A → List A
+option_list None = []
+option_list (Some a) = a ∷ []
+
 -- ---- strings
 
 -- so many bytes: none of them NUL but the last; no bytes are the empty text

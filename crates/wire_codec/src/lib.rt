@@ -4,6 +4,7 @@
 mod array;
 mod device_info;
 mod message;
+mod reading;
 mod records;
 mod words;
 

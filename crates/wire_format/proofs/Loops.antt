@@ -1,5 +1,5 @@
 -- Values at places, read one after another as a loop does.
-use Rattle.std.proofs.Common.{◌≡◌, ℕ, suc, ◌-◌, ◌+◌, ◌≤◌, ◌<◌, Bool, true, false, ◌||◌, List, [], ◌∷◌, ◌++◌, length, get_or, drop, Result, Ok, Err, Option, Some, None, refl, sym, ap, ◌∙◌, append_assoc, arith}
+use Rattle.std.proofs.Common.{◌≡◌, ℕ, zero, suc, ◌-◌, ◌+◌, ◌≤◌, ◌<◌, Bool, true, false, ◌||◌, List, [], ◌∷◌, ◌++◌, length, get_or, drop, Result, Ok, Err, Option, Some, None, refl, sym, ap, ◌∙◌, append_assoc, arith}
 use Rattle.std.proofs.lemmas.List.{append-nil, drop_more, drop_all}
 use Rattle.wire_format.specs.declared.fault.Stop.{Stop}
 use Rattle.wire_format.specs.declared.fault.ReadError.{ReadError}
@@ -7,6 +7,7 @@ use Rattle.wire_format.specs.declared.fault.ReadError.TheVariants as errors
 use Rattle.wire_format.specs.Format.{◌>>=◌, Fails, Format, places}
 use Rattle.wire_format.specs.declared.fault.WriteError.{WriteError}
 use Rattle.wire_format.specs.declared.fault.WriteError.TheVariants as write_errors
+use Rattle.wire_format.proofs.Combining.{ok_value}
 use Rattle.wire_format.specs.Writer.{Writer, joined, behind, Puts, write_places}
 
 -- what was read before, and what is still read
@@ -125,3 +126,24 @@ long_here {A = A} W all i a total lt is long so_far =
 
 pub long_none : {A : Type 0} (W : Writer A) (all : List A) (i : ℕ) (total : Bool) → length all ≤ i → any_long W (drop i all) ≡ total → false ≡ total
 long_none W all i total le so_far = sym (ap (any_long W) (drop_all i all le)) ∙ so_far
+
+-- ---- as many values as places
+
+abbrev pushed : {A : Type 0} → A → List A × List ℕ → Result (List A × List ℕ) Stop
+pushed a x = Ok (a ∷ x.0, x.1)
+
+push_cases : {A : Type 0} (a : A) (r : Result (List A × List ℕ) Stop) (all : List A) (rest : List ℕ) → (r >>= pushed a) ≡ Ok (all, rest) → (others : List A) × (left : List ℕ) × (r ≡ Ok (others, left)) × (length all ≡ suc (length others))
+push_cases {A = A} a (Ok x) all rest e = (x.0, x.1, refl, ap length (sym (ok_value (a ∷ x.0) all x.1 rest e)))
+push_cases a (Err s) all rest e = absurd cc
+
+value_cases : {A B : Type 0} (r : Result (A × List ℕ) Stop) (f : A × List ℕ → Result B Stop) (y : B) → (r >>= f) ≡ Ok y → (x : A × List ℕ) × (f x ≡ Ok y)
+value_cases (Ok x) f y e = (x, e)
+value_cases (Err s) f y e = absurd cc
+
+pub places_length : {A : Type 0} (F : Format A) (n : ℕ) (bytes rest : List ℕ) (all : List A) → (places n F).read bytes ≡ Ok (all, rest) → length all ≡ n
+unfolding places
+places_length {A = A} F zero bytes rest all e = ap length (sym (ok_value [] all bytes rest e))
+places_length {A = A} F (suc n) bytes rest all e =
+    let v = value_cases (F.read bytes) (λ x. (places n F).read x.1 >>= pushed x.0) (all, rest) e in
+    let p = push_cases v.0.0 ((places n F).read v.0.1) all rest v.1 in
+    p.3 ∙ ap suc (places_length F n v.0.1 p.1 p.0 p.2)

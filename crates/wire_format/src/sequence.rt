@@ -1,6 +1,6 @@
 //! Values one after another.
 
-ghost use Rattle.std.specs.Prelude.{◌≡◌, length};
+ghost use Rattle.std.specs.Prelude.{◌≡◌, length, IfOk};
 ghost use Rattle.wire_format.specs.Format.{Format, Gives, places};
 ghost use Rattle.wire_format.specs.Writer.{Writer, Puts, write_places};
 
@@ -26,7 +26,8 @@ pub fn places<R: Reader>(
 ) -> Result<(Vec<R::Value>, &[u8]), ReadError>
 where
     R::Value: Drop,
-    ensures { Gives (λ x. (x.0.items, x.1.now)) result ((places count R.format).read bytes.now) }
+    ensures read { Gives (λ x. (x.0.items, x.1.now)) result ((places count R.format).read bytes.now) }
+    ensures count { IfOk result (λ x. length x.0.items ≡ count) }
 {
     let mut values = Vec::new(alloc);
     let mut rest = bytes;
