@@ -1,2 +1,4 @@
 pub mod Steps
 pub mod Pieces
+pub mod TheKinds
+pub mod Messages

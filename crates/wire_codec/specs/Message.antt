@@ -247,7 +247,7 @@ procedure_at n =
     else procedures.Exit
 
 -- what stands behind the code
-unfoldable pub arguments : Procedure → Format Request
+abbrev pub arguments : Procedure → Format Request
 arguments procedures.Init = after word (λ version. made (λ user. requests.Init version user) string)
 arguments procedures.GetDevices = done requests.GetDevices
 arguments procedures.Open = made (λ name. requests.Open name) string

@@ -3,6 +3,7 @@
 
 mod array;
 mod device_info;
+mod laws;
 mod message;
 mod reading;
 mod records;
@@ -10,6 +11,7 @@ mod words;
 
 pub use array::Array;
 pub use device_info::DeviceInfo;
+pub use laws::{replies_are_spelled_apart, requests_are_spelled_apart};
 pub use message::{Action, Procedure, Reply, Request, WireValue};
 pub use records::{
     Phase, RecordReader, Step, record_end, record_head, records_are_read_in_any_pieces,

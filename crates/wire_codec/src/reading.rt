@@ -1,19 +1,22 @@
 //! Messages out of bytes: a function for each format, of the same name.
 
-ghost use Rattle.std.specs.Prelude.{◌≡◌, ◌++◌, IfOk, IfErr};
+ghost use Rattle.std.specs.Prelude.{◌≡◌, ◌++◌, IfOk, IfErr, IsSome, IsNone};
 ghost use Rattle.sane_fixed.specs.Text.{IsText};
 ghost use Rattle.wire_format.specs.Format.{Gives, places};
-ghost use Rattle.wire_codec.specs.Message.{option_list, word, signed_word, text_of, string, device, next_device, last_device, devices_of, devices, range, word_list, entry, last_entry, last_of, last_in, string_list, constraint_of, constraint, descriptor, next_descriptor, descriptors, words_value, bytes_value, value_of};
+ghost use Rattle.wire_codec.specs.Message.{option_list, word, signed_word, text_of, string, device, next_device, last_device, devices_of, devices, range, word_list, entry, last_entry, last_of, last_in, string_list, constraint_of, constraint, descriptor, next_descriptor, descriptors, words_value, bytes_value, value_of, arguments, request, params, reply};
 
 use crate::array::Array;
 use crate::device_info::DeviceInfo;
-use crate::message::WireValue;
-use crate::words::{any_word, at_least, bad, from_to, kind_at, length_from, unit_at, up_to, words_size};
+use crate::message::{Procedure, Reply, Request, WireValue};
+use crate::words::{
+    action_at, any_word, at_least, bad, frame_at, from_to, is_set, kind_at, length_from, lines_at, order, procedure_at,
+    status, unit_at, up_to, words_size,
+};
 use constraint::{Range, StringList, WordList};
 use option_desc::{Constraint, Descriptor};
-use sane_fixed::{Cap, Kind, Text};
+use sane_fixed::{Cap, Info, Kind, Params, Text};
 use std::alloc::Global;
-use wire_format::{Fault, ReadError, Reader, byte_between, places, run};
+use wire_format::{Fault, ReadError, Reader, byte_between, places, run, word_between};
 
 /// The text of bytes none of which is NUL.
 fn text(alloc: Global, bytes: &[u8]) -> Result<Text, ReadError>
@@ -203,7 +206,9 @@ fn last_entry(alloc: Global, bytes: &[u8]) -> Result<(Option<Text>, &[u8]), Read
 /// The last string of an array of so many: that of an array of one is no NULL string, that of the longest is.
 #[tactic(auto, unfolding(crate::specs::Message::only_entry, crate::specs::Message::no_entry))]
 fn last_of(alloc: Global, count: u32, bytes: &[u8]) -> Result<(Option<Text>, &[u8]), ReadError>
-    ensures { Gives (λ x. (option_list x.0, x.1.now)) result ((last_of (last_in count)).read bytes.now) }
+    ensures one { count ≡ 1 → IfOk result (λ x. IsSome x.0) }
+    ensures longest { count ≡ 1024 → IfOk result (λ x. IsNone x.0) }
+    ensures read { Gives (λ x. (option_list x.0, x.1.now)) result ((last_of (last_in count)).read bytes.now) }
 {
     if count == 1 {
         let (only, rest) = Entry::read(alloc, bytes)?;
@@ -349,5 +354,177 @@ pub(crate) fn value_of(alloc: Global, kind: Kind, bytes: &[u8]) -> Result<(WireV
         Kind::Bool | Kind::Int | Kind::Fixed => words_value(alloc, bytes),
         Kind::String => bytes_value(alloc, bytes),
         Kind::Button | Kind::Group => Err(bad(Fault::BadValue)),
+    }
+}
+
+// ---- requests
+
+fn authorize(alloc: Global, bytes: &[u8]) -> Result<(Request, &[u8]), ReadError>
+    ensures { Gives (λ x. (x.0, x.1.now)) result ((arguments Procedure.Authorize).read bytes.now) }
+{
+    let (resource, rest) = string(alloc, bytes)?;
+    let (user, rest) = string(alloc, rest)?;
+    let (password, rest) = string(alloc, rest)?;
+    Ok((Request::Authorize { resource, user, password }, rest))
+}
+
+fn control_option(alloc: Global, bytes: &[u8]) -> Result<(Request, &[u8]), ReadError>
+    ensures { Gives (λ x. (x.0, x.1.now)) result ((arguments Procedure.ControlOption).read bytes.now) }
+{
+    let (device, rest) = any_word(bytes)?;
+    let (option, rest) = any_word(rest)?;
+    let (action, rest) = from_to(rest, 0, 1)?;
+    let (kind, rest) = from_to(rest, 0, 3)?;
+    let kind = kind_at(kind);
+    let (value, rest) = value_of(alloc, kind, rest)?;
+    let action = action_at(action);
+    Ok((Request::ControlOption { device, option, action, kind, value }, rest))
+}
+
+/// What stands behind the code of a request.
+fn arguments(alloc: Global, procedure: Procedure, bytes: &[u8]) -> Result<(Request, &[u8]), ReadError>
+    ensures { Gives (λ x. (x.0, x.1.now)) result ((arguments procedure).read bytes.now) }
+{
+    match procedure {
+        Procedure::Init => {
+            let (version, rest) = any_word(bytes)?;
+            let (user, rest) = string(alloc, rest)?;
+            Ok((Request::Init { version, user }, rest))
+        }
+        Procedure::GetDevices => Ok((Request::GetDevices, bytes)),
+        Procedure::Open => {
+            let (name, rest) = string(alloc, bytes)?;
+            Ok((Request::Open { name }, rest))
+        }
+        Procedure::Close => {
+            let (device, rest) = any_word(bytes)?;
+            Ok((Request::Close { device }, rest))
+        }
+        Procedure::GetOptionDescriptors => {
+            let (device, rest) = any_word(bytes)?;
+            Ok((Request::GetOptionDescriptors { device }, rest))
+        }
+        Procedure::ControlOption => control_option(alloc, bytes),
+        Procedure::GetParameters => {
+            let (device, rest) = any_word(bytes)?;
+            Ok((Request::GetParameters { device }, rest))
+        }
+        Procedure::Start => {
+            let (device, rest) = any_word(bytes)?;
+            Ok((Request::Start { device }, rest))
+        }
+        Procedure::Cancel => {
+            let (device, rest) = any_word(bytes)?;
+            Ok((Request::Cancel { device }, rest))
+        }
+        Procedure::Authorize => authorize(alloc, bytes),
+        Procedure::Exit => Ok((Request::Exit, bytes)),
+    }
+}
+
+/// A request.
+#[tactic(auto, unfolding(crate::specs::Message::request))]
+pub(crate) fn request(alloc: Global, bytes: &[u8]) -> Result<(Request, &[u8]), ReadError>
+    ensures { Gives (λ x. (x.0, x.1.now)) result (request.read bytes.now) }
+{
+    let (code, rest) = word_between(bytes, 0, 10, Fault::BadCode)?;
+    arguments(alloc, procedure_at(code), rest)
+}
+
+// ---- replies
+
+#[tactic(auto, unfolding(crate::specs::Message::params))]
+fn params(bytes: &[u8]) -> Result<(Params, &[u8]), ReadError>
+    ensures { Gives (λ x. (x.0, x.1.now)) result (params.read bytes.now) }
+{
+    let (format, rest) = from_to(bytes, 0, 4)?;
+    let (last_frame, rest) = any_word(rest)?;
+    let (bytes_per_line, rest) = any_word(rest)?;
+    let (pixels_per_line, rest) = any_word(rest)?;
+    let (lines, rest) = any_word(rest)?;
+    let (depth, rest) = any_word(rest)?;
+    let params = Params {
+        format: frame_at(format),
+        last_frame: is_set(last_frame),
+        bytes_per_line,
+        pixels_per_line,
+        lines: lines_at(lines),
+        depth,
+    };
+    Ok((params, rest))
+}
+
+#[tactic(auto, unfolding(crate::specs::Message::reply))]
+fn control_option_reply(alloc: Global, bytes: &[u8]) -> Result<(Reply, &[u8]), ReadError>
+    ensures { Gives (λ x. (x.0, x.1.now)) result ((reply Procedure.ControlOption).read bytes.now) }
+{
+    let (status, rest) = status(bytes)?;
+    let (info, rest) = any_word(rest)?;
+    let (kind, rest) = from_to(rest, 0, 3)?;
+    let kind = kind_at(kind);
+    let (value, rest) = value_of(alloc, kind, rest)?;
+    let (resource, rest) = string(alloc, rest)?;
+    let info = Info(info);
+    Ok((Reply::ControlOption { status, info, kind, value, resource }, rest))
+}
+
+#[tactic(auto, unfolding(crate::specs::Message::reply))]
+fn start_reply(alloc: Global, bytes: &[u8]) -> Result<(Reply, &[u8]), ReadError>
+    ensures { Gives (λ x. (x.0, x.1.now)) result ((reply Procedure.Start).read bytes.now) }
+{
+    let (status, rest) = status(bytes)?;
+    let (port, rest) = from_to(rest, 0, 65535)?;
+    let (order, rest) = order(rest)?;
+    let (resource, rest) = string(alloc, rest)?;
+    let port = port as u16;
+    Ok((Reply::Start { status, port, order, resource }, rest))
+}
+
+/// The reply to a procedure.
+#[tactic(auto, unfolding(crate::specs::Message::reply))]
+pub(crate) fn reply(alloc: Global, procedure: Procedure, bytes: &[u8]) -> Result<(Reply, &[u8]), ReadError>
+    ensures { Gives (λ x. (x.0, x.1.now)) result ((reply procedure).read bytes.now) }
+{
+    match procedure {
+        Procedure::Init => {
+            let (status, rest) = status(bytes)?;
+            let (version, rest) = any_word(rest)?;
+            Ok((Reply::Init { status, version }, rest))
+        }
+        Procedure::GetDevices => {
+            let (status, rest) = status(bytes)?;
+            let (devices, rest) = devices(alloc, rest)?;
+            Ok((Reply::GetDevices { status, devices }, rest))
+        }
+        Procedure::Open => {
+            let (status, rest) = status(bytes)?;
+            let (device, rest) = any_word(rest)?;
+            let (resource, rest) = string(alloc, rest)?;
+            Ok((Reply::Open { status, device, resource }, rest))
+        }
+        Procedure::Close => {
+            let (_, rest) = any_word(bytes)?;
+            Ok((Reply::Close, rest))
+        }
+        Procedure::GetOptionDescriptors => {
+            let (descriptors, rest) = descriptors(alloc, bytes)?;
+            Ok((Reply::GetOptionDescriptors { descriptors }, rest))
+        }
+        Procedure::ControlOption => control_option_reply(alloc, bytes),
+        Procedure::GetParameters => {
+            let (status, rest) = status(bytes)?;
+            let (params, rest) = params(rest)?;
+            Ok((Reply::GetParameters { status, params }, rest))
+        }
+        Procedure::Start => start_reply(alloc, bytes),
+        Procedure::Cancel => {
+            let (_, rest) = any_word(bytes)?;
+            Ok((Reply::Cancel, rest))
+        }
+        Procedure::Authorize => {
+            let (_, rest) = any_word(bytes)?;
+            Ok((Reply::Authorize, rest))
+        }
+        Procedure::Exit => Err(bad(Fault::BadCode)),
     }
 }

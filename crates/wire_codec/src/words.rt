@@ -1,6 +1,6 @@
 //! Words with a meaning.
 
-ghost use Rattle.std.specs.Prelude.{◌≡◌};
+ghost use Rattle.std.specs.Prelude.{◌≡◌, ◌≤◌, IfOk};
 ghost use Rattle.wire_format.specs.Format.{Gives};
 ghost use Rattle.wire_format.specs.Kind.{word_of_kind};
 ghost use Rattle.wire_codec.specs.Kinds.{length_from, words_size, place, at_least, order as order_kind};
@@ -18,7 +18,8 @@ pub(crate) fn bad(fault: Fault) -> ReadError
 
 /// A word from `low` to `high`.
 pub(crate) fn from_to(bytes: &[u8], low: u32, high: u32) -> Result<(u32, &[u8]), ReadError>
-    ensures { Gives (λ x. (x.0, x.1.now)) result ((from_to low high).read bytes.now) }
+    ensures within { IfOk result (λ x. (low ≤ x.0) × (x.0 ≤ high)) }
+    ensures read { Gives (λ x. (x.0, x.1.now)) result ((from_to low high).read bytes.now) }
 {
     word_between(bytes, low, high, Fault::BadValue)
 }
@@ -39,7 +40,8 @@ pub(crate) fn up_to(bytes: &[u8], high: u32) -> Result<(u32, &[u8]), ReadError>
 
 /// A length of at least so much, and at most 1,024.
 pub(crate) fn length_from(bytes: &[u8], low: u32) -> Result<(u32, &[u8]), ReadError>
-    ensures { Gives (λ x. (x.0, x.1.now)) result ((word_of_kind (length_from low)).read bytes.now) }
+    ensures within { IfOk result (λ x. (low ≤ x.0) × (x.0 ≤ 1024)) }
+    ensures read { Gives (λ x. (x.0, x.1.now)) result ((word_of_kind (length_from low)).read bytes.now) }
 {
     match split_word(bytes) {
         Word::Whole(n, rest) => {
