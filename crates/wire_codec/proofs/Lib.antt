@@ -2,3 +2,4 @@ pub mod Steps
 pub mod Pieces
 pub mod TheKinds
 pub mod Messages
+pub mod Decoding
