@@ -30,6 +30,10 @@ use Rattle.wire_codec.specs.declared.message.Request.TheVariants as requests
 use Rattle.wire_codec.specs.declared.message.Reply.{Reply}
 use Rattle.wire_codec.specs.declared.message.Reply.TheVariants as replies
 
+-- the longest message, in bytes
+abbrev pub message_limit : ℕ
+message_limit = 1048576
+
 -- ---- words
 
 abbrev pub from_to : ℕ → ℕ → Format ℕ

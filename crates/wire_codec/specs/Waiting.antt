@@ -9,13 +9,12 @@ use Rattle.wire_format.specs.declared.fault.ReadError.{ReadError}
 use Rattle.wire_format.specs.declared.fault.ReadError.TheVariants as read_errors
 use Rattle.wire_format.specs.Format.{Format}
 use Rattle.wire_format.specs.Limit.{limited, IsFirstFault}
-use Rattle.wire_codec.specs.declared.decoder.TheConstants.{MESSAGE_LIMIT}
 use Rattle.wire_codec.specs.declared.fault.WireFault.{WireFault}
 use Rattle.wire_codec.specs.declared.fault.WireFault.TheVariants as wire
 use Rattle.wire_codec.specs.declared.message.Procedure.{Procedure}
 use Rattle.wire_codec.specs.declared.message.Request.{Request}
 use Rattle.wire_codec.specs.declared.message.Reply.{Reply}
-use Rattle.wire_codec.specs.Message.{request, reply}
+use Rattle.wire_codec.specs.Message.{message_limit, request, reply}
 
 -- the bytes no message was taken from, and the fault from which on it gives none
 pub record Waiting : Type 0 where
@@ -53,8 +52,8 @@ pub data Taken : Type 0 where
   Told : Procedure → Reply → Taken
 
 abbrev pub IsSpelled : List ℕ → Taken → Type 0
-IsSpelled text (Asked r) = (limited MESSAGE_LIMIT request).spells text r
-IsSpelled text (Told procedure r) = (limited MESSAGE_LIMIT (reply procedure)).spells text r
+IsSpelled text (Asked r) = (limited message_limit request).spells text r
+IsSpelled text (Told procedure r) = (limited message_limit (reply procedure)).spells text r
 
 -- the text is spellings of the messages, one after the other
 abbrev pub AreSpelled : List Taken → List ℕ → Type 0

@@ -4,7 +4,7 @@ ghost use Rattle.std.specs.Prelude.{◌≡◌, ◌≢◌, ◌++◌, ◌∷◌, �
 ghost use Rattle.wire_format.specs.Format.{Gives, IsBytes};
 ghost use Rattle.wire_format.specs.Lawful.{Takes};
 ghost use Rattle.wire_format.specs.Limit.{limited, WantsMore, IsNoStart};
-ghost use Rattle.wire_codec.specs.Message.{request as request_format, reply as reply_format};
+ghost use Rattle.wire_codec.specs.Message.{message_limit, request as request_format, reply as reply_format};
 
 use crate::fault::WireFault;
 use crate::message::{Procedure, Reply, Request};
@@ -18,7 +18,7 @@ pub const MESSAGE_LIMIT: usize = 1048576;
 
 /// The first request of the bytes, and how many of them spell it.
 fn first_request(alloc: Global, bytes: &[u8]) -> Result<(Request, usize), ReadError>
-    ensures read { Gives (λ x. (x.0, drop x.1 bytes.now)) result ((limited MESSAGE_LIMIT request_format).read bytes.now) }
+    ensures read { Gives (λ x. (x.0, drop x.1 bytes.now)) result ((limited message_limit request_format).read bytes.now) }
     ensures used { IfOk result (λ x. x.1 ≤ length bytes.now) }
     ensures bytes { IsBytes bytes.now }
 {
@@ -31,7 +31,7 @@ fn first_request(alloc: Global, bytes: &[u8]) -> Result<(Request, usize), ReadEr
 
 /// The first reply to a procedure of the bytes, and how many of them spell it.
 fn first_reply(alloc: Global, procedure: Procedure, bytes: &[u8]) -> Result<(Reply, usize), ReadError>
-    ensures read { Gives (λ x. (x.0, drop x.1 bytes.now)) result ((limited MESSAGE_LIMIT (reply_format procedure)).read bytes.now) }
+    ensures read { Gives (λ x. (x.0, drop x.1 bytes.now)) result ((limited message_limit (reply_format procedure)).read bytes.now) }
     ensures used { IfOk result (λ x. x.1 ≤ length bytes.now) }
     ensures bytes { IsBytes bytes.now }
 {
@@ -139,7 +139,7 @@ impl Decoder {
     fn read_request(&mut self, alloc: Global) -> Result<Option<Request>, WireFault>
         ensures kept { IfSome self.old.fault (λ f. (result ≡ Err f) × (self.new ≡ self.old)) }
         ensures bytes { self.old.fault ≡ None → IsBytes self.old.rest }
-        ensures exact { self.old.fault ≡ None → Tells result self.old self.new ((limited MESSAGE_LIMIT request_format).read self.old.rest) }
+        ensures exact { self.old.fault ≡ None → Tells result self.old self.new ((limited message_limit request_format).read self.old.rest) }
     {
         if let Some(fault) = self.fault {
             return Err(fault);
@@ -157,7 +157,7 @@ impl Decoder {
     fn read_reply(&mut self, alloc: Global, procedure: Procedure) -> Result<Option<Reply>, WireFault>
         ensures kept { IfSome self.old.fault (λ f. (result ≡ Err f) × (self.new ≡ self.old)) }
         ensures bytes { self.old.fault ≡ None → IsBytes self.old.rest }
-        ensures exact { self.old.fault ≡ None → Tells result self.old self.new ((limited MESSAGE_LIMIT (reply_format procedure)).read self.old.rest) }
+        ensures exact { self.old.fault ≡ None → Tells result self.old self.new ((limited message_limit (reply_format procedure)).read self.old.rest) }
     {
         if let Some(fault) = self.fault {
             return Err(fault);
@@ -175,13 +175,13 @@ impl Decoder {
     pub fn next_request(&mut self, alloc: Global) -> Result<Option<Request>, WireFault>
         // The bytes are a spelling of what is taken, and then the rest.
         ensures taken { IfOk result (λ m. IfSome m (λ r. (self.new.fault ≡ None)
-            × Takes (limited MESSAGE_LIMIT request_format) self.old.rest self.new.rest r)) }
+            × Takes (limited message_limit request_format) self.old.rest self.new.rest r)) }
         // More bytes are wanted where a spelling has begun, within the limit.
-        ensures none { result ≡ Ok None → (self.new ≡ self.old) × WantsMore MESSAGE_LIMIT request_format self.old.rest }
+        ensures none { result ≡ Ok None → (self.new ≡ self.old) × WantsMore message_limit request_format self.old.rest }
         // A first fault comes where no spelling stands and none has begun, or memory ran out.
-        ensures first { self.old.fault ≡ None → IfErr result (λ f. f ≢ WireFault.NoMem → IsNoStart MESSAGE_LIMIT request_format self.old.rest) }
+        ensures first { self.old.fault ≡ None → IfErr result (λ f. f ≢ WireFault.NoMem → IsNoStart message_limit request_format self.old.rest) }
         // It is that of the first word or byte at which no spelling stands.
-        ensures which { self.old.fault ≡ None → IfErr result (λ f. f ≢ WireFault.NoMem → IsFaultOf MESSAGE_LIMIT request_format self.old.rest f) }
+        ensures which { self.old.fault ≡ None → IfErr result (λ f. f ≢ WireFault.NoMem → IsFaultOf message_limit request_format self.old.rest f) }
         ensures err { IfErr result (λ f. self.new ≡ faulty self.old f) }
         ensures kept { IfSome self.old.fault (λ f. result ≡ Err f) }
         // What was fed are the spellings of what was taken, and then the rest.
@@ -195,13 +195,13 @@ impl Decoder {
     pub fn next_reply(&mut self, alloc: Global, procedure: Procedure) -> Result<Option<Reply>, WireFault>
         // The bytes are a spelling of what is taken, and then the rest.
         ensures taken { IfOk result (λ m. IfSome m (λ r. (self.new.fault ≡ None)
-            × Takes (limited MESSAGE_LIMIT (reply_format procedure)) self.old.rest self.new.rest r)) }
+            × Takes (limited message_limit (reply_format procedure)) self.old.rest self.new.rest r)) }
         // More bytes are wanted where a spelling has begun, within the limit.
-        ensures none { result ≡ Ok None → (self.new ≡ self.old) × WantsMore MESSAGE_LIMIT (reply_format procedure) self.old.rest }
+        ensures none { result ≡ Ok None → (self.new ≡ self.old) × WantsMore message_limit (reply_format procedure) self.old.rest }
         // A first fault comes where no spelling stands and none has begun, or memory ran out.
-        ensures first { self.old.fault ≡ None → IfErr result (λ f. f ≢ WireFault.NoMem → IsNoStart MESSAGE_LIMIT (reply_format procedure) self.old.rest) }
+        ensures first { self.old.fault ≡ None → IfErr result (λ f. f ≢ WireFault.NoMem → IsNoStart message_limit (reply_format procedure) self.old.rest) }
         // It is that of the first word or byte at which no spelling stands.
-        ensures which { self.old.fault ≡ None → IfErr result (λ f. f ≢ WireFault.NoMem → IsFaultOf MESSAGE_LIMIT (reply_format procedure) self.old.rest f) }
+        ensures which { self.old.fault ≡ None → IfErr result (λ f. f ≢ WireFault.NoMem → IsFaultOf message_limit (reply_format procedure) self.old.rest f) }
         ensures err { IfErr result (λ f. self.new ≡ faulty self.old f) }
         ensures kept { IfSome self.old.fault (λ f. result ≡ Err f) }
         // What was fed are the spellings of what was taken, and then the rest.

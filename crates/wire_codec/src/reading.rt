@@ -9,7 +9,7 @@ use crate::array::Array;
 use crate::device_info::DeviceInfo;
 use crate::message::{Procedure, Reply, Request, WireValue};
 use crate::words::{
-    action_at, any_word, at_least, bad, frame_at, from_to, is_set, kind_at, length_from, lines_at, order, procedure_at,
+    action_at, any_word, at_least, bad, frame_at, from_to, is_set, kind_at, length_from, lines_at, order, pointer, procedure_at,
     status, unit_at, up_to, words_size,
 };
 use constraint::{Range, StringList, WordList};
@@ -78,7 +78,7 @@ impl Reader for NextDevice {
 
     #[tactic(auto, unfolding(crate::specs::Message::next_device))]
     fn read(alloc: Global, bytes: &[u8]) -> Result<(DeviceInfo, &[u8]), ReadError> {
-        let (_, rest) = from_to(bytes, 0, 0)?;
+        let rest = pointer(bytes)?;
         device(alloc, rest)
     }
 }
@@ -135,7 +135,7 @@ pub(crate) fn devices(alloc: Global, bytes: &[u8]) -> Result<(Array<DeviceInfo>,
 fn range(bytes: &[u8]) -> Result<(Range, &[u8]), ReadError>
     ensures { Gives (λ x. (x.0, x.1.now)) result (range.read bytes.now) }
 {
-    let (_, rest) = from_to(bytes, 0, 0)?;
+    let rest = pointer(bytes)?;
     let (min, rest) = any_word(rest)?;
     let (max, rest) = at_least(rest, min)?;
     let (quant, rest) = from_to(rest, 0, 0x7fff_ffff)?;
@@ -296,7 +296,7 @@ impl Reader for NextDescriptor {
 
     #[tactic(auto, unfolding(crate::specs::Message::next_descriptor))]
     fn read(alloc: Global, bytes: &[u8]) -> Result<(Descriptor, &[u8]), ReadError> {
-        let (_, rest) = from_to(bytes, 0, 0)?;
+        let rest = pointer(bytes)?;
         descriptor(alloc, rest)
     }
 }

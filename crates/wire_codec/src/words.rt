@@ -31,6 +31,14 @@ pub(crate) fn any_word(bytes: &[u8]) -> Result<(u32, &[u8]), ReadError>
     from_to(bytes, 0, u32::MAX)
 }
 
+/// A pointer that is not NULL: what stands behind it.
+pub(crate) fn pointer(bytes: &[u8]) -> Result<&[u8], ReadError>
+    ensures { Gives (λ rest. (0, rest.now)) result ((from_to 0 0).read bytes.now) }
+{
+    let (_, rest) = from_to(bytes, 0, 0)?;
+    Ok(rest)
+}
+
 /// A length or a size of at most so much.
 pub(crate) fn up_to(bytes: &[u8], high: u32) -> Result<(u32, &[u8]), ReadError>
     ensures { Gives (λ x. (x.0, x.1.now)) result ((up_to high).read bytes.now) }
