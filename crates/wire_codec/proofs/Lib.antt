@@ -3,3 +3,4 @@ pub mod Pieces
 pub mod TheKinds
 pub mod Messages
 pub mod Decoding
+pub mod Spelled

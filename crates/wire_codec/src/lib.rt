@@ -10,6 +10,7 @@ mod message;
 mod reading;
 mod records;
 mod words;
+mod writing;
 
 pub use array::Array;
 pub use decoder::{Decoder, MESSAGE_LIMIT};

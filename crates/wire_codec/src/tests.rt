@@ -40,6 +40,17 @@ fn reply_by_bytes(alloc: Global, procedure: Procedure, bytes: &[u8]) -> Option<R
     }
 }
 
+/// The only word of a value.
+fn word_of(value: &WireValue) -> Option<u32> {
+    match value {
+        WireValue::Words(words) => match words.as_slice() {
+            [word] => Some(*word),
+            _ => None,
+        },
+        WireValue::Bytes(_) => None,
+    }
+}
+
 /// The fault of a request whose bytes come at once, where the same is answered by each further call.
 fn fault_of(alloc: Global, bytes: &[u8]) -> Option<WireFault> {
     let mut decoder = Decoder::new(alloc);
@@ -98,10 +109,7 @@ fn set_of_br_x(rt: HostRuntime) -> Result<(), Fail> {
             assert_eq!(rt; option, 6);
             assert_eq!(rt; action, Action::SetValue);
             assert_eq!(rt; kind, Kind::Fixed);
-            match &value {
-                WireValue::Words(words) => assert_eq!(rt; words.as_slice(), [0x508000].as_slice()),
-                WireValue::Bytes(_) => assert!(rt; false),
-            }
+            assert_eq!(rt; word_of(&value), Some(0x508000));
         }
         _ => assert!(rt; false),
     }
@@ -114,10 +122,7 @@ fn set_of_br_x(rt: HostRuntime) -> Result<(), Fail> {
             assert_eq!(rt; info, Info(Info::INEXACT + Info::RELOAD_PARAMS));
             assert_eq!(rt; kind, Kind::Fixed);
             assert_eq!(rt; resource.as_bytes().len(), 0);
-            match &value {
-                WireValue::Words(words) => assert_eq!(rt; words.as_slice(), [0x510000].as_slice()),
-                WireValue::Bytes(_) => assert!(rt; false),
-            }
+            assert_eq!(rt; word_of(&value), Some(0x510000));
         }
         _ => assert!(rt; false),
     }
