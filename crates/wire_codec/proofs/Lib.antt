@@ -4,3 +4,5 @@ pub mod TheKinds
 pub mod Messages
 pub mod Decoding
 pub mod Spelled
+pub mod Requests
+pub mod Encoding

@@ -22,7 +22,7 @@ made-laws make F f = after-laws F _ f (λ a. done-laws (make a))
 from_to_laws : (low high : ℕ) → low ≤ high → low < 2 ^ 32 → Lawful (from_to low high)
 from_to_laws low high ordered fits = kind-laws (between low high BadValue) (between-kind low high BadValue ordered fits)
 
-word_laws : Lawful word
+pub word_laws : Lawful word
 word_laws = from_to_laws 0 4294967295 (omega arith) (omega arith)
 
 null_laws : Lawful (from_to 0 0)

@@ -1,8 +1,8 @@
 //! Messages as bytes: the one way of writing each.
 
-ghost use Rattle.std.specs.Prelude.{◌≡◌, ◌≢◌, ◌↔◌, ℕ, List, IfOk, true};
+ghost use Rattle.std.specs.Prelude.{◌≡◌, ◌≢◌, ℕ, List, Some, IfOk, IfErr};
 ghost use Rattle.wire_format.specs.Limit.{limited};
-ghost use Rattle.wire_format.specs.Writer.{Puts, written, write_limited};
+ghost use Rattle.wire_format.specs.Writer.{Puts, written, write_limited, IsLong};
 ghost use Rattle.sane_fixed.specs.Kind.{kind_code};
 ghost use Rattle.wire_codec.specs.Message.{message_limit, request as request_format};
 ghost use Rattle.wire_codec.specs.Written.{Answers, write_any, write_string, value_long, words_text, bytes_text, write_value, action_code, code_text, word_text, write_request, request_long};
@@ -186,4 +186,16 @@ fn request_text(alloc: Global, request: &Request) -> Result<Vec<u8>, WireFault>
         Err(WriteError::Memory) => Err(WireFault::NoMem),
         Err(WriteError::Unspelled) => Err(WireFault::BadValue),
     }
+}
+
+/// The bytes of a request: its text, `TooLong` exactly where a limit is passed, else `BadValue` exactly where
+/// nothing spells it.
+pub fn encode_request(alloc: Global, request: &Request) -> Result<Vec<u8>, WireFault>
+    ensures ok { IfOk result (λ v. (limited message_limit request_format).spells v.items request.now) }
+    ensures text { IfOk result (λ v. write_request.text request.now ≡ Some v.items) }
+    ensures long { (result ≡ Err WireFault.TooLong) → IsLong message_limit write_request request.now }
+    ensures bad { IfErr result (λ e. e ≢ WireFault.NoMem → e ≢ WireFault.TooLong
+        → (e ≡ WireFault.BadValue) × (¬ IsLong message_limit write_request request.now) × ((text : List ℕ) → request_format.spells text request.now → ⊥)) }
+{
+    request_text(alloc, request)
 }

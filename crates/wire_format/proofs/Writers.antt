@@ -296,3 +296,14 @@ too_long_answers W a e = rw e refl
 pub answers_bad : {A : Type 0} (F : Format A) (W : Writer A) (a : A) → Writes F W a → (fault : Fault) → written W a ≡ Err fault → (fault ≡ faults.TooLong → ⊥)
     → (fault ≡ faults.BadValue) × ((text : List ℕ) → F.spells text a → ⊥)
 answers_bad F W a f fault e other = let b = answer_bad (W.long a) (W.text a) fault e other in (b.0, f.none b.1 b.2)
+
+-- where the answer of a writer with a limit is BadValue, no limit is passed, and nothing spells the value, of any length
+pub limited_bad_value : {A : Type 0} (n : ℕ) (F : Format A) (W : Writer A) (a : A) → Writes F W a → written (write_limited n W) a ≡ Err faults.BadValue
+    → ((write_limited n W).long a ≡ false) × ((text : List ℕ) → F.spells text a → ⊥)
+limited_bad_value n F W a f e =
+    let b = answer_bad ((write_limited n W).long a) ((write_limited n W).text a) faults.BadValue e (λ x. absurd (cc x)) in
+    let o = or_false (W.long a) (is_over n (W.text a)) b.1 in
+    (b.1, f.none o.0 (over_none n (W.text a) o.1 b.2))
+
+pub answers_no_code : {A : Type 0} (W : Writer A) (a : A) → written W a ≡ Err faults.BadCode → ⊥
+answers_no_code W a e = let b = answer_bad (W.long a) (W.text a) faults.BadCode e (λ x. absurd (cc x)) in absurd (cc (b.0))

@@ -137,6 +137,10 @@ write_limited n W = record {
   text = λ a. if is_over n (W.text a) then None else W.text a;
 }
 
+-- the value passes a limit, or its text does
+abbrev pub IsLong : {A : Type 0} → ℕ → Writer A → A → Type 0
+IsLong n W a = (write_limited n W).long a ≡ true
+
 -- What a function that writes behind other bytes returned, where the text is the value's, if it has one.
 abbrev pub behind : List ℕ → Option (List ℕ) → Option (List ℕ)
 behind old None = None
