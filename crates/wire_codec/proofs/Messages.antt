@@ -1,15 +1,13 @@
 -- The formats of the messages are lawful.
-use Rattle.std.proofs.Common.{◌≡◌, ℕ, zero, suc, ◌-◌, ◌/◌, ◌^◌, ◌≤◌, ◌<◌, List, Result, Ok, Err, arith}
+use Rattle.std.proofs.Common.{◌≡◌, ℕ, zero, suc, ◌-◌, ◌/◌, ◌^◌, ◌≤◌, ◌<◌, List, Ok, arith}
 use Rattle.std.proofs.lemmas.Bool.Decides.{nat_tests}
 use Rattle.wire_format.specs.declared.fault.Fault.TheVariants.{BadCode, BadValue, TooLong}
-use Rattle.wire_format.specs.Format.{Format, done, after, made, places}
-use Rattle.wire_format.specs.Kind.{word_of_kind, between}
+use Rattle.wire_format.specs.Format.{Format, made}
+use Rattle.wire_format.specs.Kind.{between}
 use Rattle.wire_format.specs.Lawful.{Reads, Lawful}
 use Rattle.wire_format.proofs.Combining.{refused-reads, done-laws, after-laws, after-spelled-laws, places-laws}
 use Rattle.wire_format.proofs.Words.{kind-laws, between-kind}
 use Rattle.wire_format.proofs.Runs.{byte-laws, run-laws}
-use Rattle.sane_fixed.specs.declared.kind.Kind.{Kind}
-use Rattle.sane_fixed.specs.declared.kind.Kind.TheVariants as kinds
 use Rattle.wire_codec.specs.declared.message.Procedure.{Procedure}
 use Rattle.wire_codec.specs.declared.message.Procedure.TheVariants as procedures
 use Rattle.wire_codec.specs.Kinds.{length_from, words_size, at_least, order}

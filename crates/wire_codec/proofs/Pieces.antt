@@ -1,26 +1,27 @@
 -- Steps over pieces are one step over all of them.
 use Rattle.std.proofs.Common.{◌≡◌, ℕ, List, [], ◌∷◌, ◌++◌, refl, sym, ap, subst, ◌∙◌, append_assoc}
-use Rattle.std.specs.Prelude.{◌↔◌}
 use Rattle.std.proofs.lemmas.List.{append-nil}
 use Rattle.wire_codec.specs.declared.records.Phase.{Phase}
 use Rattle.wire_codec.specs.declared.records.Phase.TheVariants as phases
 use Rattle.wire_codec.specs.Records.{ending, all_counted, IsRecords, Continues, Carries, Piece, AreSteps, all_used, all_given}
 
 no_step : (old new : Phase) → old ≡ new → Carries old new [] []
-no_step old new same text payload status =
-    (λ c. (payload, refl, subst (λ (p : Phase). Continues p text payload status) same c),
-     λ m. subst (λ (x : List ℕ). Continues old text x status) (sym m.1) (subst (λ (p : Phase). Continues p text m.0 status) (sym same) m.2))
+no_step old new same text payload status = (
+  λ c. (payload, refl, subst (λ (p : Phase). Continues p text payload status) same c),
+  λ m. subst (λ (x : List ℕ). Continues old text x status) (sym m.1) (subst (λ (p : Phase). Continues p text m.0 status) (sym same) m.2),
+)
 
 two_steps : (old between new : Phase) (u v g h : List ℕ) → Carries old between u g → Carries between new v h → Carries old new (u ++ v) (g ++ h)
-two_steps old between new u v g h first next text payload status =
-    (λ c.
+two_steps old between new u v g h first next text payload status = (
+  λ c.
       let a = (first (v ++ text) payload status).0 (subst (λ (t : List ℕ). Continues old t payload status) (append_assoc u v text) c) in
       let b = (next text a.0 status).0 a.2 in
       (b.0, a.1 ∙ ap (λ (t : List ℕ). g ++ t) b.1 ∙ sym (append_assoc g h b.0), b.2),
-     λ m.
+  λ m.
       let b = (next text (h ++ m.0) status).1 (m.0, refl, m.2) in
       let a = (first (v ++ text) payload status).1 (h ++ m.0, m.1 ∙ append_assoc g h m.0, b) in
-      subst (λ (t : List ℕ). Continues old t payload status) (sym (append_assoc u v text)) a)
+      subst (λ (t : List ℕ). Continues old t payload status) (sym (append_assoc u v text)) a,
+)
 
 all_steps : (pieces : List Piece) (old new : Phase) → AreSteps old pieces new → Carries old new (all_used pieces) (all_given pieces)
 all_steps [] old new s = no_step old new s

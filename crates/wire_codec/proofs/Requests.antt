@@ -1,12 +1,10 @@
 -- What is written of a request is a spelling of it, and what is refused has none.
-use Rattle.std.proofs.Common.{◌≡◌, ◌≢◌, ℕ, zero, suc, ◌≤◌, ◌<◌, ◌^◌, Bool, true, false, ◌||◌, cond, List, [], ◌∷◌, ◌++◌, length, Result, Ok, Err, Option, Some, None, refl, sym, ap, subst, ◌∙◌, arith, ◌⊎◌, inl, inr}
-use Rattle.std.specs.Int.{w32, to_be_bytes}
+use Rattle.std.proofs.Common.{◌≡◌, ℕ, zero, suc, ◌≤◌, ◌<◌, ◌^◌, Bool, true, false, ◌||◌, List, Ok, refl, sym, ap, subst, ◌∙◌, arith}
 use Rattle.std.proofs.lemmas.Bool.Decides.{nat_tests}
-use Rattle.std.proofs.lemmas.List.{append-nil}
-use Rattle.wire_format.specs.declared.fault.Fault.TheVariants.{BadCode, BadValue, TooLong}
-use Rattle.wire_format.specs.Format.{Format, done, after, made}
+use Rattle.wire_format.specs.declared.fault.Fault.TheVariants.{BadCode, BadValue}
+use Rattle.wire_format.specs.Format.{Format, after, made}
 use Rattle.wire_format.specs.Kind.{word_of_kind, between}
-use Rattle.wire_format.specs.Writer.{Writer, Writes, joined, IsPart, IsMadeOf, write_nothing, write_after, write_by, write_word}
+use Rattle.wire_format.specs.Writer.{Writer, Writes, joined, IsPart, write_nothing, write_after, write_by, write_word}
 use Rattle.wire_format.proofs.Writers.{nothing-writes, after-writes, only-part, made-writes, word-writes, between-number}
 use Rattle.sane_fixed.specs.declared.kind.Kind.{Kind}
 use Rattle.sane_fixed.specs.declared.kind.Kind.TheVariants as kinds
@@ -19,7 +17,7 @@ use Rattle.wire_codec.specs.declared.message.WireValue.{WireValue}
 use Rattle.wire_codec.specs.declared.message.Request.{Request}
 use Rattle.wire_codec.specs.declared.message.Request.TheVariants as requests
 use Rattle.wire_codec.specs.Message.{from_to, word, string, value_of, kind_at, action_at, arguments, procedure_at, request}
-use Rattle.wire_codec.specs.Written.{write_from_to, write_any, write_string, write_value, value_text, value_long, action_code, code_text, request_long, request_text, write_request}
+use Rattle.wire_codec.specs.Written.{write_from_to, write_any, write_string, write_value, value_text, action_code, code_text, write_request}
 use Rattle.wire_codec.proofs.Spelled.{any-writes, any_short, string-writes, value-writes}
 
 -- the same text and the same limits by another writer
@@ -103,7 +101,7 @@ behind_code : (code : ℕ) (V : Writer Request) (r : Request) → number_of (pro
 unfolding request
 behind_code code V r number f =
     after-writes (λ (q : Request). code) (word_of_kind (between 0 10 BadCode)) (λ n. arguments (procedure_at n)) (write_word (between 0 10 BadCode) (λ n. n)) (λ n. V) r
-      (word-writes (between 0 10 BadCode) (λ n. n) (between-number 0 10 BadCode (omega arith)) code) f part
+    (word-writes (between 0 10 BadCode) (λ n. n) (between-number 0 10 BadCode (omega arith)) code) f part
   where
     part : IsPart (λ (q : Request). code) (word_of_kind (between 0 10 BadCode)) (λ n. arguments (procedure_at n)) r
     part a front back s t =
@@ -115,12 +113,12 @@ behind_code code V r number f =
 one_string : (make : List ℕ → Request) (text : List ℕ) → ((a : List ℕ) → make text ≡ make a → a ≡ text) → Writes (made make string) (write_by (λ (r : Request). text) write_string) (make text)
 one_string make text same =
     made-writes (λ (r : Request). text) string make write_string (make text) (string-writes text)
-      (record { again = refl; own = λ spelling a s e. (spelling, subst (λ (t : List ℕ). string.spells spelling t) (same a e) s) })
+    (record { again = refl; own = λ spelling a s e. (spelling, subst (λ (t : List ℕ). string.spells spelling t) (same a e) s) })
 
 one_word : (make : ℕ → Request) (n : ℕ) → ((a : ℕ) → make n ≡ make a → a ≡ n) → Writes (made make word) (write_by (λ (r : Request). n) write_any) (make n)
 one_word make n same =
     made-writes (λ (r : Request). n) word make write_any (make n) (any-writes n)
-      (record { again = refl; own = λ spelling a s e. (spelling, subst (λ (m : ℕ). word.spells spelling m) (same a e) s) })
+    (record { again = refl; own = λ spelling a s e. (spelling, subst (λ (m : ℕ). word.spells spelling m) (same a e) s) })
 
 -- ---- three strings
 
@@ -133,14 +131,14 @@ unfolding number_of procedure_of
 authorize-writes resource user password =
     let r : Request = requests.Authorize resource user password in
     as_writes request _ write_request (requests.Authorize resource user password)
-      (behind_code 9 (write_after (λ (r : Request). resource) write_string (λ x. write_after (λ (r : Request). user) write_string (λ y. write_by (λ (r : Request). password) write_string))) (requests.Authorize resource user password) refl
-        (after-writes (λ (r : Request). resource) string (λ x. after string (λ y. made (λ z. requests.Authorize x y z) string)) write_string (λ x. write_after (λ (r : Request). user) write_string (λ y. write_by (λ (r : Request). password) write_string)) (requests.Authorize resource user password)
-          (string-writes resource)
-          (after-writes (λ (r : Request). user) string (λ y. made (λ z. requests.Authorize resource y z) string) write_string (λ y. write_by (λ (r : Request). password) write_string) (requests.Authorize resource user password)
-            (string-writes user) (one_string (λ z. requests.Authorize resource user z) password (λ a e. cc))
-            (only-part (λ (r : Request). user) string (λ y. made (λ z. requests.Authorize resource y z) string) (requests.Authorize resource user password) (λ a back s. let e = s.behind.1 in cc)))
-          (only-part (λ (r : Request). resource) string (λ x. after string (λ y. made (λ z. requests.Authorize x y z) string)) (requests.Authorize resource user password) (λ a back s. let e = s.behind.behind.1 in cc))))
-      (or_assoc (write_string.long resource) (write_string.long user) (write_string.long password)) refl
+    (behind_code 9 (write_after (λ (r : Request). resource) write_string (λ x. write_after (λ (r : Request). user) write_string (λ y. write_by (λ (r : Request). password) write_string))) (requests.Authorize resource user password) refl
+    (after-writes (λ (r : Request). resource) string (λ x. after string (λ y. made (λ z. requests.Authorize x y z) string)) write_string (λ x. write_after (λ (r : Request). user) write_string (λ y. write_by (λ (r : Request). password) write_string)) (requests.Authorize resource user password)
+    (string-writes resource)
+    (after-writes (λ (r : Request). user) string (λ y. made (λ z. requests.Authorize resource y z) string) write_string (λ y. write_by (λ (r : Request). password) write_string) (requests.Authorize resource user password)
+    (string-writes user) (one_string (λ z. requests.Authorize resource user z) password (λ a e. cc))
+    (only-part (λ (r : Request). user) string (λ y. made (λ z. requests.Authorize resource y z) string) (requests.Authorize resource user password) (λ a back s. let e = s.behind.1 in cc)))
+    (only-part (λ (r : Request). resource) string (λ x. after string (λ y. made (λ z. requests.Authorize x y z) string)) (requests.Authorize resource user password) (λ a back s. let e = s.behind.behind.1 in cc))))
+    (or_assoc (write_string.long resource) (write_string.long user) (write_string.long password)) refl
 
 -- ---- the value of an option
 
@@ -189,20 +187,21 @@ value_behind : (device option : ℕ) (action : Action) (k : ℕ) (value : WireVa
     → Writes (made (λ v. requests.ControlOption device option action (kind_at k) v) (value_of (kind_at k))) (write_by (λ (r : Request). value) (write_value (kind_at k))) (requests.ControlOption device option action (kind_at k) value)
 value_behind device option action k value =
     made-writes (λ (r : Request). value) (value_of (kind_at k)) (λ v. requests.ControlOption device option action (kind_at k) v) (write_value (kind_at k)) (requests.ControlOption device option action (kind_at k) value)
-      (value-writes (kind_at k) value)
-      (record { again = refl; own = λ spelling v s e. (spelling, subst (λ (w : WireValue). (value_of (kind_at k)).spells spelling w) (sym (value_is device option action (kind_at k) value v e)) s) })
+    (value-writes (kind_at k) value)
+    (record { again = refl; own = λ spelling v s e. (spelling, subst (λ (w : WireValue). (value_of (kind_at k)).spells spelling w) (sym (value_is device option action (kind_at k) value v e)) s) })
 
 kind_behind : (device option : ℕ) (action : Action) (k : ℕ) (value : WireValue) → kind_code (kind_at k) ≡ k
     → Writes (after (from_to 0 3) (λ n. made (λ v. requests.ControlOption device option action (kind_at n) v) (value_of (kind_at n)))) (write_after (λ (r : Request). k) (write_from_to 0 3) (λ n. write_by (λ (r : Request). value) (write_value (kind_at n))))
-      (requests.ControlOption device option action (kind_at k) value)
+    (requests.ControlOption device option action (kind_at k) value)
 unfolding kind_of
 kind_behind device option action k value number =
     after-writes (λ (r : Request). k) (from_to 0 3) (λ n. made (λ v. requests.ControlOption device option action (kind_at n) v) (value_of (kind_at n))) (write_from_to 0 3) (λ n. write_by (λ (r : Request). value) (write_value (kind_at n)))
-      (requests.ControlOption device option action (kind_at k) value) (code-writes 3 k (omega arith)) (value_behind device option action k value)
-      (λ a front back s t.
-        let is : a ≡ k = sym (kind_number a (code_at_most 3 front a s)) ∙ sym (ap kind_of t.behind.1) ∙ number in
-        ((front, subst (λ (n : ℕ). (from_to 0 3).spells front n) is s),
-         (back, subst (λ (n : ℕ). (made (λ v. requests.ControlOption device option action (kind_at n) v) (value_of (kind_at n))).spells back (requests.ControlOption device option action (kind_at k) value)) is t)))
+    (requests.ControlOption device option action (kind_at k) value) (code-writes 3 k (omega arith)) (value_behind device option action k value)
+    (λ a front back s t.
+    let is : a ≡ k = sym (kind_number a (code_at_most 3 front a s)) ∙ sym (ap kind_of t.behind.1) ∙ number in (
+      (front, subst (λ (n : ℕ). (from_to 0 3).spells front n) is s),
+      (back, subst (λ (n : ℕ). (made (λ v. requests.ControlOption device option action (kind_at n) v) (value_of (kind_at n))).spells back (requests.ControlOption device option action (kind_at k) value)) is t),
+    ))
 
 abbrev behind_action : ℕ → ℕ → ℕ → Format Request
 behind_action device option a = after (from_to 0 3) (λ n. made (λ v. requests.ControlOption device option (action_at a) (kind_at n) v) (value_of (kind_at n)))
@@ -215,11 +214,12 @@ action_behind : (device option a k : ℕ) (value : WireValue) → action_code (a
 unfolding action_of
 action_behind device option a k value number kind_number =
     after-writes (λ (r : Request). a) (from_to 0 1) (λ n. behind_action device option n) (write_from_to 0 1) (λ n. kind_writer k value)
-      (requests.ControlOption device option (action_at a) (kind_at k) value) (code-writes 1 a (omega arith)) (kind_behind device option (action_at a) k value kind_number)
-      (λ n front back s t.
-        let is : n ≡ a = sym (action_number n (code_at_most 1 front n s)) ∙ sym (ap action_of t.behind.behind.1) ∙ number in
-        ((front, subst (λ (m : ℕ). (from_to 0 1).spells front m) is s),
-         (back, subst (λ (m : ℕ). (behind_action device option m).spells back (requests.ControlOption device option (action_at a) (kind_at k) value)) is t)))
+    (requests.ControlOption device option (action_at a) (kind_at k) value) (code-writes 1 a (omega arith)) (kind_behind device option (action_at a) k value kind_number)
+    (λ n front back s t.
+    let is : n ≡ a = sym (action_number n (code_at_most 1 front n s)) ∙ sym (ap action_of t.behind.behind.1) ∙ number in (
+      (front, subst (λ (m : ℕ). (from_to 0 1).spells front m) is s),
+      (back, subst (λ (m : ℕ). (behind_action device option m).spells back (requests.ControlOption device option (action_at a) (kind_at k) value)) is t),
+    ))
 
 abbrev action_writer : ℕ → ℕ → WireValue → Writer Request
 action_writer a k value = write_after (λ (r : Request). a) (write_from_to 0 1) (λ n. kind_writer k value)
@@ -232,16 +232,16 @@ option_behind : (device option a k : ℕ) (value : WireValue) → action_code (a
 unfolding option_of
 option_behind device option a k value action_is kind_is =
     after-writes (λ (r : Request). option) word (λ o. after (from_to 0 1) (λ n. behind_action device o n)) write_any (λ n. action_writer a k value)
-      (requests.ControlOption device option (action_at a) (kind_at k) value) (any-writes option) (action_behind device option a k value action_is kind_is)
-      (only-part (λ (r : Request). option) word (λ o. after (from_to 0 1) (λ n. behind_action device o n)) (requests.ControlOption device option (action_at a) (kind_at k) value) (λ n back t. sym (ap option_of t.behind.behind.behind.1)))
+    (requests.ControlOption device option (action_at a) (kind_at k) value) (any-writes option) (action_behind device option a k value action_is kind_is)
+    (only-part (λ (r : Request). option) word (λ o. after (from_to 0 1) (λ n. behind_action device o n)) (requests.ControlOption device option (action_at a) (kind_at k) value) (λ n back t. sym (ap option_of t.behind.behind.behind.1)))
 
 device_behind : (device option a k : ℕ) (value : WireValue) → action_code (action_at a) ≡ a → kind_code (kind_at k) ≡ k
     → Writes (arguments procedures.ControlOption) (write_after (λ (r : Request). device) write_any (λ d. option_writer option a k value)) (requests.ControlOption device option (action_at a) (kind_at k) value)
 unfolding device_of
 device_behind device option a k value action_is kind_is =
     after-writes (λ (r : Request). device) word (λ d. after word (λ o. after (from_to 0 1) (λ n. behind_action d o n))) write_any (λ d. option_writer option a k value)
-      (requests.ControlOption device option (action_at a) (kind_at k) value) (any-writes device) (option_behind device option a k value action_is kind_is)
-      (only-part (λ (r : Request). device) word (λ d. after word (λ o. after (from_to 0 1) (λ n. behind_action d o n))) (requests.ControlOption device option (action_at a) (kind_at k) value) (λ n back t. sym (ap device_of t.behind.behind.behind.behind.1)))
+    (requests.ControlOption device option (action_at a) (kind_at k) value) (any-writes device) (option_behind device option a k value action_is kind_is)
+    (only-part (λ (r : Request). device) word (λ d. after word (λ o. after (from_to 0 1) (λ n. behind_action d o n))) (requests.ControlOption device option (action_at a) (kind_at k) value) (λ n back t. sym (ap device_of t.behind.behind.behind.behind.1)))
 
 control : (device option a k : ℕ) (value : WireValue) → action_code (action_at a) ≡ a → kind_code (kind_at k) ≡ k
     → (write_from_to 0 1).long a ≡ false → (write_from_to 0 3).long k ≡ false → (write_from_to 0 1).text a ≡ code_text (action_code (action_at a))
@@ -250,8 +250,8 @@ control : (device option a k : ℕ) (value : WireValue) → action_code (action_
 unfolding number_of procedure_of
 control device option a k value action_is kind_is short_a short_k text_a text_k =
     as_writes request _ write_request (requests.ControlOption device option (action_at a) (kind_at k) value)
-      (behind_code 5 (write_after (λ (r : Request). device) write_any (λ d. option_writer option a k value)) (requests.ControlOption device option (action_at a) (kind_at k) value) refl (device_behind device option a k value action_is kind_is))
-      (rw (any_short device, any_short option, short_a, short_k) refl) (rw (text_a, text_k) refl)
+    (behind_code 5 (write_after (λ (r : Request). device) write_any (λ d. option_writer option a k value)) (requests.ControlOption device option (action_at a) (kind_at k) value) refl (device_behind device option a k value action_is kind_is))
+    (rw (any_short device, any_short option, short_a, short_k) refl) (rw (text_a, text_k) refl)
 
 control-writes : (device option : ℕ) (action : Action) (kind : Kind) (value : WireValue) → Writes request write_request (requests.ControlOption device option action kind value)
 control-writes device option actions.GetValue kinds.Bool value = control device option 0 0 value refl refl refl refl refl refl
@@ -271,11 +271,11 @@ pub request-writes : (r : Request) → Writes request write_request r
 unfolding number_of procedure_of
 request-writes (requests.Init version user) =
     as_writes request _ write_request (requests.Init version user)
-      (behind_code 0 (write_after (λ (r : Request). version) write_any (λ v. write_by (λ (r : Request). user) write_string)) (requests.Init version user) refl
-        (after-writes (λ (r : Request). version) word (λ v. made (λ u. requests.Init v u) string) write_any (λ v. write_by (λ (r : Request). user) write_string) (requests.Init version user)
-          (any-writes version) (one_string (λ u. requests.Init version u) user (λ a e. cc))
-          (only-part (λ (r : Request). version) word (λ v. made (λ u. requests.Init v u) string) (requests.Init version user) (λ a back s. let e = s.behind.1 in cc))))
-      (rw (any_short version) refl) refl
+    (behind_code 0 (write_after (λ (r : Request). version) write_any (λ v. write_by (λ (r : Request). user) write_string)) (requests.Init version user) refl
+    (after-writes (λ (r : Request). version) word (λ v. made (λ u. requests.Init v u) string) write_any (λ v. write_by (λ (r : Request). user) write_string) (requests.Init version user)
+    (any-writes version) (one_string (λ u. requests.Init version u) user (λ a e. cc))
+    (only-part (λ (r : Request). version) word (λ v. made (λ u. requests.Init v u) string) (requests.Init version user) (λ a back s. let e = s.behind.1 in cc))))
+    (rw (any_short version) refl) refl
 request-writes requests.GetDevices =
     as_writes request _ write_request requests.GetDevices (behind_code 1 write_nothing requests.GetDevices refl (nothing-writes requests.GetDevices)) refl refl
 request-writes (requests.Open name) =

@@ -1,26 +1,24 @@
 -- What is written of a request is a spelling, and what is refused has none.
-use Rattle.std.proofs.Common.{◌≡◌, ◌≢◌, ℕ, zero, suc, ◌+◌, ◌*◌, ◌/◌, ◌%◌, ◌^◌, ◌≤◌, ◌<◌, Bool, true, false, ltb, ◌||◌, cond, List, [], ◌∷◌, ◌++◌, length, Result, Ok, Err, Option, Some, None, refl, sym, ap, subst, ◌∙◌, append_assoc, arith, ◌⊎◌, inl, inr}
+use Rattle.std.proofs.Common.{◌≡◌, ℕ, zero, suc, ◌*◌, ◌/◌, ◌%◌, ◌^◌, ◌≤◌, ◌<◌, true, false, cond, List, [], ◌∷◌, ◌++◌, length, Ok, Option, Some, None, refl, sym, ap, subst, ◌∙◌, arith, inl, inr}
 use Rattle.std.specs.Prelude.{nat_lt}
 use Rattle.std.specs.Int.{w32, to_be_bytes}
-use Rattle.std.proofs.lemmas.Bool.{cases_lt, ltb-false, ltb-true, le-ltb, lt-ltb, eq-eqb}
+use Rattle.std.proofs.lemmas.Bool.{cases_lt, le-ltb, lt-ltb, eq-eqb}
 use Rattle.std.proofs.lemmas.Bool.Decides.{nat_tests}
 use Rattle.std.proofs.lemmas.List.{append-nil}
-use Rattle.wire_format.specs.declared.fault.Fault.{Fault}
-use Rattle.wire_format.specs.declared.fault.Fault.TheVariants.{BadCode, BadValue, TooLong}
-use Rattle.wire_format.specs.Format.{Format, done, after, made, places, byte_between, run, IsRun}
-use Rattle.wire_format.specs.Kind.{word_of_kind, between}
-use Rattle.wire_format.specs.Lawful.{Reads, Lawful}
-use Rattle.wire_format.specs.Writer.{Writer, Writes, joined, IsPart, IsMadeOf, write_nothing, write_after, write_by, write_places, write_word, write_byte, write_run}
+use Rattle.wire_format.specs.declared.fault.Fault.TheVariants.{BadValue, TooLong}
+use Rattle.wire_format.specs.Format.{made, places, byte_between, run, IsRun}
+use Rattle.wire_format.specs.Kind.{between}
+use Rattle.wire_format.specs.Writer.{Writes, joined, IsPart, IsMadeOf, write_by, write_places, write_byte, write_run}
 use Rattle.wire_format.proofs.Combining.{places-laws}
 use Rattle.wire_format.proofs.Loops.{places_length}
-use Rattle.wire_format.proofs.Writers.{nothing-writes, none-writes, after-writes, only-part, made-writes, places-writes, word-writes, between-number, byte-writes, run-writes}
+use Rattle.wire_format.proofs.Writers.{after-writes, only-part, made-writes, places-writes, word-writes, between-number, byte-writes, run-writes}
 use Rattle.sane_fixed.specs.declared.kind.Kind.{Kind}
 use Rattle.sane_fixed.specs.declared.kind.Kind.TheVariants as kinds
 use Rattle.wire_codec.specs.declared.message.WireValue.{WireValue}
 use Rattle.wire_codec.specs.declared.message.WireValue.TheVariants as values
 use Rattle.wire_codec.specs.Kinds.{words_size}
 use Rattle.wire_codec.specs.Message.{from_to, word, up_to, text_of, string, words_value, bytes_value, value_of}
-use Rattle.wire_codec.specs.Written.{write_from_to, write_any, write_up_to, write_text_of, write_string, value_long, words_text, bytes_text, value_text, write_value}
+use Rattle.wire_codec.specs.Written.{write_any, write_up_to, write_text_of, write_string, value_long, words_text, bytes_text, write_value}
 use Rattle.wire_codec.proofs.Messages.{word_laws}
 
 -- ---- words
@@ -43,13 +41,13 @@ string_long text =
     let low : nat_lt (suc (length text)) 0 ≡ false = le-ltb (suc (length text)) 0 (omega arith) in
     elim (cases_lt 1023 (length text)) [
       | inl h ↦
-        let t : nat_lt 1024 (suc (length text)) ≡ true = lt-ltb 1024 (suc (length text)) (omega (arith, h)) in
-        let u : nat_lt 1023 (length text) ≡ true = lt-ltb 1023 (length text) h in
-        rw (low, t, u) refl
+          let t : nat_lt 1024 (suc (length text)) ≡ true = lt-ltb 1024 (suc (length text)) (omega (arith, h)) in
+          let u : nat_lt 1023 (length text) ≡ true = lt-ltb 1023 (length text) h in
+          rw (low, t, u) refl
       | inr h ↦
-        let t : nat_lt 1024 (suc (length text)) ≡ false = le-ltb 1024 (suc (length text)) (omega (arith, h)) in
-        let u : nat_lt 1023 (length text) ≡ false = le-ltb 1023 (length text) h in
-        rw (low, t, u) refl
+          let t : nat_lt 1024 (suc (length text)) ≡ false = le-ltb 1024 (suc (length text)) (omega (arith, h)) in
+          let u : nat_lt 1023 (length text) ≡ false = le-ltb 1023 (length text) h in
+          rw (low, t, u) refl
     ]
 
 nul_made : (text : List ℕ) → IsMadeOf (λ (t : List ℕ). 0) (byte_between 0 0) (λ nul. text) text
@@ -59,9 +57,9 @@ text-writes : (n : ℕ) (text : List ℕ) → Writes (text_of (suc n)) (write_te
 unfolding text_of
 text-writes n text =
     after-writes (λ (t : List ℕ). t) (run 1 n) (λ t. made (λ nul. t) (byte_between 0 0)) (write_run 1 n) (λ t. write_by (λ (u : List ℕ). 0) (write_byte 0 0)) text
-      (run-writes 1 n text)
-      (made-writes (λ (t : List ℕ). 0) (byte_between 0 0) (λ nul. text) (write_byte 0 0) text (byte-writes 0 0 (omega arith) 0) (nul_made text))
-      (only-part (λ (t : List ℕ). t) (run 1 n) (λ t. made (λ nul. t) (byte_between 0 0)) text (λ a back s. sym s.behind.1))
+    (run-writes 1 n text)
+    (made-writes (λ (t : List ℕ). 0) (byte_between 0 0) (λ nul. text) (write_byte 0 0) text (byte-writes 0 0 (omega arith) 0) (nul_made text))
+    (only-part (λ (t : List ℕ). t) (run 1 n) (λ t. made (λ nul. t) (byte_between 0 0)) text (λ a back s. sym s.behind.1))
 
 text_length : (n : ℕ) (back text : List ℕ) → (text_of (suc n)).spells back text → length text ≡ n
 unfolding text_of
@@ -163,19 +161,19 @@ long_is_none all e own = rw e refl
 words-writes : (value : WireValue) → Writes words_value (record { long = value_long; text = words_text }) value
 words-writes (values.Words all) = record {
   spelled = λ text e.
-    elim (cases_lt 1024 (length all)) [
-      | inl h ↦ let t : nat_lt 1024 (length all) ≡ true = lt-ltb 1024 (length all) h in let none_here = rw t at e in absurd (cc none_here)
-      | inr le ↦
-        let f : nat_lt 1024 (length all) ≡ false = le-ltb 1024 (length all) le in
-        let some_here = rw f at e in
-        let a = joined_front (to_be_bytes w32 (length all * 4)) _ text some_here in
-        let b = joined_front (to_be_bytes w32 (length all)) _ a.0 a.1 in
-        rw (a.2, b.2) (words_spelled all b.0 le b.1)
-    ];
+      elim (cases_lt 1024 (length all)) [
+        | inl h ↦ let t : nat_lt 1024 (length all) ≡ true = lt-ltb 1024 (length all) h in let none_here = rw t at e in absurd (cc none_here)
+        | inr le ↦
+            let f : nat_lt 1024 (length all) ≡ false = le-ltb 1024 (length all) le in
+            let some_here = rw f at e in
+            let a = joined_front (to_be_bytes w32 (length all * 4)) _ text some_here in
+            let b = joined_front (to_be_bytes w32 (length all)) _ a.0 a.1 in
+            rw (a.2, b.2) (words_spelled all b.0 le b.1)
+      ];
   past = λ e. long_is_none all e _;
   none = λ short e text s.
-    let own = rw short at e in
-    no_words all (joined_none (to_be_bytes w32 (length all)) _ (joined_none (to_be_bytes w32 (length all * 4)) _ own)) (all_short (length all) all) text s;
+      let own = rw short at e in
+      no_words all (joined_none (to_be_bytes w32 (length all)) _ (joined_none (to_be_bytes w32 (length all * 4)) _ own)) (all_short (length all) all) text s;
 }
 words-writes (values.Bytes bytes) = record {
   spelled = λ text e. absurd cc;
@@ -221,19 +219,19 @@ no_words_as_bytes all text s = let e = s.behind.behind.behind.1 in absurd (cc e)
 bytes-writes : (value : WireValue) → Writes bytes_value (record { long = value_long; text = bytes_text }) value
 bytes-writes (values.Bytes bytes) = record {
   spelled = λ text e.
-    elim (cases_lt 1024 (length bytes)) [
-      | inl h ↦ let t : nat_lt 1024 (length bytes) ≡ true = lt-ltb 1024 (length bytes) h in let none_here = rw t at e in absurd (cc none_here)
-      | inr le ↦
-        let f : nat_lt 1024 (length bytes) ≡ false = le-ltb 1024 (length bytes) le in
-        let some_here = rw f at e in
-        let a = joined_front (to_be_bytes w32 (length bytes)) _ text some_here in
-        let b = joined_front (to_be_bytes w32 (length bytes)) _ a.0 a.1 in
-        rw (a.2, b.2) (bytes_spelled bytes b.0 le b.1)
-    ];
+      elim (cases_lt 1024 (length bytes)) [
+        | inl h ↦ let t : nat_lt 1024 (length bytes) ≡ true = lt-ltb 1024 (length bytes) h in let none_here = rw t at e in absurd (cc none_here)
+        | inr le ↦
+            let f : nat_lt 1024 (length bytes) ≡ false = le-ltb 1024 (length bytes) le in
+            let some_here = rw f at e in
+            let a = joined_front (to_be_bytes w32 (length bytes)) _ text some_here in
+            let b = joined_front (to_be_bytes w32 (length bytes)) _ a.0 a.1 in
+            rw (a.2, b.2) (bytes_spelled bytes b.0 le b.1)
+      ];
   past = λ e. long_is_none bytes e _;
   none = λ short e text s.
-    let own = rw short at e in
-    no_bytes bytes (joined_none (to_be_bytes w32 (length bytes)) _ (joined_none (to_be_bytes w32 (length bytes)) _ own)) text s;
+      let own = rw short at e in
+      no_bytes bytes (joined_none (to_be_bytes w32 (length bytes)) _ (joined_none (to_be_bytes w32 (length bytes)) _ own)) text s;
 }
 bytes-writes (values.Words all) = record {
   spelled = λ text e. absurd cc;

@@ -1,14 +1,14 @@
 -- What stands behind a head, and behind a part of a body.
-use Rattle.std.proofs.Common.{◌≡◌, ◌≢◌, ℕ, zero, suc, ◌+◌, ◌-◌, ◌*◌, ◌^◌, ◌≤◌, ◌<◌, Bool, true, false, cond, eqb, List, [], ◌∷◌, ◌++◌, length, get_or, take, drop, refl, sym, ap, subst, ◌∙◌, append_assoc, arith, ◌⊎◌, inl, inr}
+use Rattle.std.proofs.Common.{◌≡◌, ℕ, zero, suc, ◌-◌, ◌^◌, ◌≤◌, ◌<◌, true, false, eqb, List, [], ◌∷◌, ◌++◌, length, get_or, take, drop, refl, sym, ap, subst, ◌∙◌, append_assoc, arith, inl, inr}
 use Rattle.std.specs.Prelude.{slice_range, min}
 use Rattle.std.specs.List.{AllByRecursion}
 use Rattle.std.specs.Int.{w32, to_be_bytes, from_be_bytes}
-use Rattle.std.proofs.lemmas.Bool.{cases_eq, eqb-true, eqb-false, eq-eqb, ne_eqb}
-use Rattle.std.proofs.lemmas.List.{append-nil, nil_from_length, length-append, length-take, length-drop, take-append-drop, take-append-le, drop-append-le, take_all, take_at, drop_at}
+use Rattle.std.proofs.lemmas.Bool.{cases_eq, eq-eqb, ne_eqb}
+use Rattle.std.proofs.lemmas.List.{nil_from_length, length-append, length-take, length-drop, take-append-drop, take-append-le, drop-append-le, take_at, drop_at}
 use Rattle.std.proofs.lemmas.Nat.{be_bytes_4, from_be_bytes-to_be_bytes_4}
 use Rattle.wire_codec.specs.declared.records.Phase.{Phase}
 use Rattle.wire_codec.specs.declared.records.Phase.TheVariants as phases
-use Rattle.wire_codec.specs.Records.{ending, counted, all_counted, joined, IsRecords, IsInBody, Continues, Carries, head_phase, rest_of_body}
+use Rattle.wire_codec.specs.Records.{ending, all_counted, joined, IsRecords, IsInBody, Continues, Carries, head_phase, rest_of_body}
 
 -- a record in front of others
 one_more : (body rest other : List ℕ) (status : ℕ) → length body < 4294967295 → IsRecords rest other status → IsRecords (to_be_bytes w32 (length body) ++ (body ++ rest)) (body ++ other) status
@@ -95,12 +95,12 @@ place_head zero text payload status fits r = AtBody (omega arith) (no_body text 
 place_head (suc n) text payload status fits r =
     elim (cases_eq (suc n) 4294967295) [
       | inl e ↦
-        let is : eqb (suc n) 4294967295 ≡ true = eq-eqb _ _ e in
-        let at = rw is at r in
-        AtEnd e at.0 at.1
+          let is : eqb (suc n) 4294967295 ≡ true = eq-eqb _ _ e in
+          let at = rw is at r in
+          AtEnd e at.0 at.1
       | inr e ↦
-        let is : eqb (suc n) 4294967295 ≡ false = ne_eqb _ _ e in
-        AtBody (omega arith) (rw is at r)
+          let is : eqb (suc n) 4294967295 ≡ false = ne_eqb _ _ e in
+          AtBody (omega arith) (rw is at r)
     ]
 
 four : (a b c d : ℕ) → a < 256 → b < 256 → c < 256 → d < 256 → (i : ℕ) → get_or (a ∷ b ∷ c ∷ d ∷ []) i 0 < 256
@@ -111,23 +111,25 @@ four a b c d fa fb fc fd (suc (suc (suc zero))) = fd
 four a b c d fa fb fc fd (suc (suc (suc (suc i)))) = omega arith
 
 pub head_carries : (a b c d : ℕ) → ((i : ℕ) → get_or (a ∷ b ∷ c ∷ d ∷ []) i 0 < 256) → Carries (phases.Head3 a b c) (head_phase (from_be_bytes w32 (a ∷ b ∷ c ∷ d ∷ []))) (d ∷ []) []
-head_carries a b c d fits text payload status =
-    (λ r. (payload, refl, head_place _ text payload status (behind_head a b c d text payload status r)),
-    λ m. subst (λ (p : List ℕ). IsRecords (a ∷ b ∷ c ∷ d ∷ text) p status) (sym m.1) (from_behind a b c d text m.0 status fits (place_head _ text m.0 status (omega (arith, fits 0, fits 1, fits 2, fits 3)) m.2)))
+head_carries a b c d fits text payload status = (
+  λ r. (payload, refl, head_place _ text payload status (behind_head a b c d text payload status r)),
+  λ m. subst (λ (p : List ℕ). IsRecords (a ∷ b ∷ c ∷ d ∷ text) p status) (sym m.1) (from_behind a b c d text m.0 status fits (place_head _ text m.0 status (omega (arith, fits 0, fits 1, fits 2, fits 3)) m.2)),
+)
 
 pub body_carries : (left : ℕ) (used : List ℕ) → length used ≤ left → Carries (phases.Body left) (rest_of_body (left - length used)) used used
-body_carries left used le text payload status =
-    (λ i.
+body_carries left used le text payload status = (
+  λ i.
       let k = length used in
       let e : used ++ text ≡ i.body ++ i.rest = i.text_is in
       let front : used ≡ take (length used) i.body = sym (take_at used text (length used) refl) ∙ ap (take (length used)) e ∙ take-append-le (length used) i.body i.rest (omega (arith, i.long)) in
       let behind : text ≡ drop (length used) i.body ++ i.rest = sym (drop_at used text (length used) refl) ∙ ap (drop (length used)) e ∙ drop-append-le (length used) i.body i.rest (omega (arith, i.long)) in
       let split : i.body ≡ used ++ drop (length used) i.body = sym (take-append-drop (length used) i.body) ∙ ap (λ (t : List ℕ). t ++ drop (length used) i.body) (sym front) in
-      let more : List ℕ = drop (length used) i.body ++ i.other in
-      (drop (length used) i.body ++ i.other,
-       i.payload_is ∙ ap (λ (b : List ℕ). b ++ i.other) split ∙ append_assoc used (drop (length used) i.body) i.other,
-       body_place _ text (drop (length used) i.body ++ i.other) status (record { body = drop (length used) i.body; other = i.other; rest = i.rest; long = omega (arith, i.long, length-drop (length used) i.body); text_is = behind; payload_is = refl; behind = i.behind })),
-    λ m.
+      let more : List ℕ = drop (length used) i.body ++ i.other in (
+        drop (length used) i.body ++ i.other,
+        i.payload_is ∙ ap (λ (b : List ℕ). b ++ i.other) split ∙ append_assoc used (drop (length used) i.body) i.other,
+        body_place _ text (drop (length used) i.body ++ i.other) status (record { body = drop (length used) i.body; other = i.other; rest = i.rest; long = omega (arith, i.long, length-drop (length used) i.body); text_is = behind; payload_is = refl; behind = i.behind }),
+      ),
+  λ m.
       let i = place_body _ text m.0 status m.2 in
       record {
         body = used ++ i.body;
@@ -137,7 +139,8 @@ body_carries left used le text payload status =
         text_is = ap (λ (t : List ℕ). used ++ t) i.text_is ∙ sym (append_assoc used i.body i.rest);
         payload_is = m.1 ∙ ap (λ (t : List ℕ). used ++ t) i.payload_is ∙ sym (append_assoc used i.body i.other);
         behind = i.behind;
-      })
+      },
+)
 
 first_of : (piece : List ℕ) (d : ℕ) → take 1 piece ≡ d ∷ [] → get_or piece 0 0 ≡ d
 first_of [] d e = absurd cc

@@ -1,10 +1,9 @@
 -- The kinds of words meet the laws of a kind.
-use Rattle.std.proofs.Common.{◌≡◌, ℕ, ◌+◌, ◌*◌, ◌%◌, ◌^◌, ◌≤◌, ◌<◌, Result, Ok, Err, Option, Some, None, refl, arith, ◌⊎◌, inl, inr}
+use Rattle.std.proofs.Common.{◌≡◌, ℕ, ◌+◌, ◌*◌, ◌%◌, ◌^◌, ◌≤◌, ◌<◌, Ok, Err, Some, None, refl, arith, ◌⊎◌, inl, inr}
 use Rattle.std.proofs.lemmas.Bool.{cases_lt, lt-ltb, le-ltb, eq-eqb}
 use Rattle.std.proofs.lemmas.Bool.Decides.{nat_tests}
 use Rattle.wire_format.specs.declared.fault.Fault.{Fault}
 use Rattle.wire_format.specs.Kind.{Among, IsKind}
-use Rattle.sane_fixed.specs.declared.byte_order.ByteOrder.{ByteOrder}
 use Rattle.sane_fixed.specs.declared.byte_order.ByteOrder.TheVariants.{Little, Big}
 use Rattle.wire_codec.specs.Kinds.{length_from, words_size, place, at_least, order}
 

@@ -1,7 +1,6 @@
 -- Words that are not just numbers from one to another.
-use Rattle.std.specs.Prelude.{ℕ, ◌+◌, ◌-◌, ◌%◌, ◌==◌, ◌||◌, ◌&&◌, nat_lt, Result, Ok, Err, Option, Some, None, if◌then◌else◌}
-use Rattle.wire_format.specs.declared.fault.Fault.{Fault}
-use Rattle.wire_format.specs.declared.fault.Fault.TheVariants.{BadCode, BadValue, TooLong}
+use Rattle.std.specs.Prelude.{ℕ, ◌+◌, ◌-◌, ◌%◌, ◌==◌, ◌||◌, ◌&&◌, nat_lt, Ok, Err, Some, None, if◌then◌else◌}
+use Rattle.wire_format.specs.declared.fault.Fault.TheVariants.{BadValue, TooLong}
 use Rattle.wire_format.specs.Kind.{Kind}
 use Rattle.sane_fixed.specs.declared.byte_order.ByteOrder.{ByteOrder}
 use Rattle.sane_fixed.specs.declared.byte_order.ByteOrder.TheVariants.{Little, Big}

@@ -1,7 +1,7 @@
 -- Data records: a payload and a status as bytes, and what stands behind each place of them.
-use Rattle.std.specs.Prelude.{◌≡◌, ℕ, zero, suc, ◌+◌, ◌-◌, ◌<◌, ◌≤◌, ◌↔◌, ◌==◌, List, [], ◌∷◌, ◌++◌, length, take, drop, slice_range, if◌then◌else◌}
+use Rattle.std.specs.Prelude.{◌≡◌, ℕ, zero, suc, ◌<◌, ◌≤◌, ◌↔◌, ◌==◌, List, [], ◌∷◌, ◌++◌, length, take, slice_range, if◌then◌else◌}
 use Rattle.std.specs.List.{AllByRecursion}
-use Rattle.std.specs.Int.{w32, to_be_bytes, from_be_bytes}
+use Rattle.std.specs.Int.{w32, to_be_bytes}
 use Rattle.wire_codec.specs.declared.records.Phase.{Phase}
 use Rattle.wire_codec.specs.declared.records.Phase.TheVariants as phases
 use Rattle.wire_codec.specs.declared.records.Step.{Step}

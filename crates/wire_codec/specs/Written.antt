@@ -1,5 +1,5 @@
 -- The one way of writing each message.
-use Rattle.std.specs.Prelude.{ℕ, zero, suc, ◌*◌, ◌||◌, ◌==◌, nat_lt, ℤ, Bool, true, false, List, [], ◌∷◌, ◌++◌, length, Option, Some, None, if◌then◌else◌}
+use Rattle.std.specs.Prelude.{ℕ, zero, suc, ◌*◌, ◌||◌, nat_lt, Bool, false, List, length, Option, Some, None, if◌then◌else◌}
 use Rattle.std.specs.Prelude.{Result, Ok, Err, ◌≡◌}
 use Rattle.std.specs.Int.{w32, to_be_bytes}
 use Rattle.wire_format.specs.declared.fault.Fault.{Fault}
@@ -7,7 +7,7 @@ use Rattle.wire_codec.specs.declared.fault.WireFault.{WireFault}
 use Rattle.wire_codec.specs.declared.fault.WireFault.TheVariants as wire
 use Rattle.wire_format.specs.declared.fault.Fault.TheVariants.{BadCode, BadValue, TooLong}
 use Rattle.wire_format.specs.Kind.{between}
-use Rattle.wire_format.specs.Writer.{Writer, joined, write_nothing, write_none, write_after, write_by, write_places, write_word, write_byte, write_run, write_limited}
+use Rattle.wire_format.specs.Writer.{Writer, joined, write_nothing, write_after, write_by, write_places, write_word, write_byte, write_run}
 use Rattle.sane_fixed.specs.declared.kind.Kind.{Kind}
 use Rattle.sane_fixed.specs.declared.kind.Kind.TheVariants as kinds
 use Rattle.sane_fixed.specs.Kind.{kind_code}

@@ -30,7 +30,11 @@ fn first_request(alloc: Global, bytes: &[u8]) -> Result<(Request, usize), ReadEr
 }
 
 /// The first reply to a procedure of the bytes, and how many of them spell it.
-fn first_reply(alloc: Global, procedure: Procedure, bytes: &[u8]) -> Result<(Reply, usize), ReadError>
+fn first_reply(
+    alloc: Global,
+    procedure: Procedure,
+    bytes: &[u8],
+) -> Result<(Reply, usize), ReadError>
     ensures read { Gives (λ x. (x.0, drop x.1 bytes.now)) result ((limited message_limit (reply_format procedure)).read bytes.now) }
     ensures used { IfOk result (λ x. x.1 ≤ length bytes.now) }
     ensures bytes { IsBytes bytes.now }
@@ -154,7 +158,11 @@ impl Decoder {
     }
 
     /// What reading a reply gives.
-    fn read_reply(&mut self, alloc: Global, procedure: Procedure) -> Result<Option<Reply>, WireFault>
+    fn read_reply(
+        &mut self,
+        alloc: Global,
+        procedure: Procedure,
+    ) -> Result<Option<Reply>, WireFault>
         ensures kept { IfSome self.old.fault (λ f. (result ≡ Err f) × (self.new ≡ self.old)) }
         ensures bytes { self.old.fault ≡ None → IsBytes self.old.rest }
         ensures exact { self.old.fault ≡ None → Tells result self.old self.new ((limited message_limit (reply_format procedure)).read self.old.rest) }
@@ -192,7 +200,11 @@ impl Decoder {
 
     /// The next reply, to a procedure; `None` where more bytes are wanted. The first fault is answered from
     /// then on. There is no reply to `Exit`: `BadCode`.
-    pub fn next_reply(&mut self, alloc: Global, procedure: Procedure) -> Result<Option<Reply>, WireFault>
+    pub fn next_reply(
+        &mut self,
+        alloc: Global,
+        procedure: Procedure,
+    ) -> Result<Option<Reply>, WireFault>
         // The bytes are a spelling of what is taken, and then the rest.
         ensures taken { IfOk result (λ m. IfSome m (λ r. (self.new.fault ≡ None)
             × Takes (limited message_limit (reply_format procedure)) self.old.rest self.new.rest r)) }

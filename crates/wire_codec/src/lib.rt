@@ -18,10 +18,10 @@ pub use device_info::DeviceInfo;
 pub use fault::WireFault;
 pub use laws::{replies_are_spelled_apart, requests_are_spelled_apart};
 pub use message::{Action, Procedure, Reply, Request, WireValue};
-pub use writing::encode_request;
 pub use records::{
     Phase, RecordReader, Step, record_end, record_head, records_are_read_in_any_pieces,
 };
+pub use writing::encode_request;
 
 #[cfg(test)]
 mod tests;

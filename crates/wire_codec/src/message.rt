@@ -39,31 +39,82 @@ pub enum WireValue {
 #[derive(Debug, Drop)]
 pub enum Request {
     /// The version has the major in bits 24 to 31, the minor in 16 to 23, the build in 0 to 15.
-    Init { version: u32, user: Text },
+    Init {
+        version: u32,
+        user: Text,
+    },
     GetDevices,
-    Open { name: Text },
-    Close { device: u32 },
-    GetOptionDescriptors { device: u32 },
-    ControlOption { device: u32, option: u32, action: Action, kind: Kind, value: WireValue },
-    GetParameters { device: u32 },
-    Start { device: u32 },
-    Cancel { device: u32 },
-    Authorize { resource: Text, user: Text, password: Text },
+    Open {
+        name: Text,
+    },
+    Close {
+        device: u32,
+    },
+    GetOptionDescriptors {
+        device: u32,
+    },
+    ControlOption {
+        device: u32,
+        option: u32,
+        action: Action,
+        kind: Kind,
+        value: WireValue,
+    },
+    GetParameters {
+        device: u32,
+    },
+    Start {
+        device: u32,
+    },
+    Cancel {
+        device: u32,
+    },
+    Authorize {
+        resource: Text,
+        user: Text,
+        password: Text,
+    },
     Exit,
 }
 
 /// A reply. There is none to `Exit`.
 #[derive(Debug, Drop)]
 pub enum Reply {
-    Init { status: Status, version: u32 },
-    GetDevices { status: Status, devices: Array<DeviceInfo> },
-    Open { status: Status, device: u32, resource: Text },
+    Init {
+        status: Status,
+        version: u32,
+    },
+    GetDevices {
+        status: Status,
+        devices: Array<DeviceInfo>,
+    },
+    Open {
+        status: Status,
+        device: u32,
+        resource: Text,
+    },
     Close,
-    GetOptionDescriptors { descriptors: Array<Descriptor> },
-    ControlOption { status: Status, info: Info, kind: Kind, value: WireValue, resource: Text },
-    GetParameters { status: Status, params: Params },
+    GetOptionDescriptors {
+        descriptors: Array<Descriptor>,
+    },
+    ControlOption {
+        status: Status,
+        info: Info,
+        kind: Kind,
+        value: WireValue,
+        resource: Text,
+    },
+    GetParameters {
+        status: Status,
+        params: Params,
+    },
     /// The port of the data connection, and the order of its samples' bytes.
-    Start { status: Status, port: u16, order: ByteOrder, resource: Text },
+    Start {
+        status: Status,
+        port: u16,
+        order: ByteOrder,
+        resource: Text,
+    },
     Cancel,
     /// The reply to `Open` follows it, as one of its own.
     Authorize,

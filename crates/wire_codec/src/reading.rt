@@ -9,8 +9,8 @@ use crate::array::Array;
 use crate::device_info::DeviceInfo;
 use crate::message::{Procedure, Reply, Request, WireValue};
 use crate::words::{
-    action_at, any_word, at_least, bad, frame_at, from_to, is_set, kind_at, length_from, lines_at, order, pointer, procedure_at,
-    status, unit_at, up_to, words_size,
+    action_at, any_word, at_least, bad, frame_at, from_to, is_set, kind_at, length_from, lines_at,
+    order, pointer, procedure_at, status, unit_at, up_to, words_size,
 };
 use constraint::{Range, StringList, WordList};
 use option_desc::{Constraint, Descriptor};
@@ -63,7 +63,15 @@ fn device(alloc: Global, bytes: &[u8]) -> Result<(DeviceInfo, &[u8]), ReadError>
     let (vendor, rest) = string(alloc, rest)?;
     let (model, rest) = string(alloc, rest)?;
     let (class, rest) = string(alloc, rest)?;
-    Ok((DeviceInfo { name, vendor, model, class }, rest))
+    Ok((
+        DeviceInfo {
+            name,
+            vendor,
+            model,
+            class,
+        },
+        rest,
+    ))
 }
 
 /// A pointer that is not NULL, and its device.
@@ -109,7 +117,11 @@ fn with_last<T: Drop>(front: Vec<T>, last: Option<T>) -> Result<Array<T>, ReadEr
 }
 
 #[tactic(auto, unfolding(crate::specs::Message::devices_of))]
-fn devices_of(alloc: Global, count: u32, bytes: &[u8]) -> Result<(Array<DeviceInfo>, &[u8]), ReadError>
+fn devices_of(
+    alloc: Global,
+    count: u32,
+    bytes: &[u8],
+) -> Result<(Array<DeviceInfo>, &[u8]), ReadError>
     ensures { Gives (λ x. (x.0, x.1.now)) result ((devices_of count).read bytes.now) }
 {
     if count == 0 {
@@ -302,7 +314,10 @@ impl Reader for NextDescriptor {
 }
 
 #[tactic(auto, unfolding(crate::specs::Message::descriptors))]
-pub(crate) fn descriptors(alloc: Global, bytes: &[u8]) -> Result<(Array<Descriptor>, &[u8]), ReadError>
+pub(crate) fn descriptors(
+    alloc: Global,
+    bytes: &[u8],
+) -> Result<(Array<Descriptor>, &[u8]), ReadError>
     ensures { Gives (λ x. (x.0, x.1.now)) result (descriptors.read bytes.now) }
 {
     let (count, rest) = up_to(bytes, 1024)?;
@@ -347,7 +362,11 @@ fn bytes_value(alloc: Global, bytes: &[u8]) -> Result<(WireValue, &[u8]), ReadEr
     Ok((WireValue::Bytes(Array::from_vec(value)), rest))
 }
 
-pub(crate) fn value_of(alloc: Global, kind: Kind, bytes: &[u8]) -> Result<(WireValue, &[u8]), ReadError>
+pub(crate) fn value_of(
+    alloc: Global,
+    kind: Kind,
+    bytes: &[u8],
+) -> Result<(WireValue, &[u8]), ReadError>
     ensures { Gives (λ x. (x.0, x.1.now)) result ((value_of kind).read bytes.now) }
 {
     match kind {
@@ -365,7 +384,14 @@ fn authorize(alloc: Global, bytes: &[u8]) -> Result<(Request, &[u8]), ReadError>
     let (resource, rest) = string(alloc, bytes)?;
     let (user, rest) = string(alloc, rest)?;
     let (password, rest) = string(alloc, rest)?;
-    Ok((Request::Authorize { resource, user, password }, rest))
+    Ok((
+        Request::Authorize {
+            resource,
+            user,
+            password,
+        },
+        rest,
+    ))
 }
 
 fn control_option(alloc: Global, bytes: &[u8]) -> Result<(Request, &[u8]), ReadError>
@@ -378,11 +404,24 @@ fn control_option(alloc: Global, bytes: &[u8]) -> Result<(Request, &[u8]), ReadE
     let kind = kind_at(kind);
     let (value, rest) = value_of(alloc, kind, rest)?;
     let action = action_at(action);
-    Ok((Request::ControlOption { device, option, action, kind, value }, rest))
+    Ok((
+        Request::ControlOption {
+            device,
+            option,
+            action,
+            kind,
+            value,
+        },
+        rest,
+    ))
 }
 
 /// What stands behind the code of a request.
-fn arguments(alloc: Global, procedure: Procedure, bytes: &[u8]) -> Result<(Request, &[u8]), ReadError>
+fn arguments(
+    alloc: Global,
+    procedure: Procedure,
+    bytes: &[u8],
+) -> Result<(Request, &[u8]), ReadError>
     ensures { Gives (λ x. (x.0, x.1.now)) result ((arguments procedure).read bytes.now) }
 {
     match procedure {
@@ -465,7 +504,16 @@ fn control_option_reply(alloc: Global, bytes: &[u8]) -> Result<(Reply, &[u8]), R
     let (value, rest) = value_of(alloc, kind, rest)?;
     let (resource, rest) = string(alloc, rest)?;
     let info = Info(info);
-    Ok((Reply::ControlOption { status, info, kind, value, resource }, rest))
+    Ok((
+        Reply::ControlOption {
+            status,
+            info,
+            kind,
+            value,
+            resource,
+        },
+        rest,
+    ))
 }
 
 #[tactic(auto, unfolding(crate::specs::Message::reply))]
@@ -477,12 +525,24 @@ fn start_reply(alloc: Global, bytes: &[u8]) -> Result<(Reply, &[u8]), ReadError>
     let (order, rest) = order(rest)?;
     let (resource, rest) = string(alloc, rest)?;
     let port = port as u16;
-    Ok((Reply::Start { status, port, order, resource }, rest))
+    Ok((
+        Reply::Start {
+            status,
+            port,
+            order,
+            resource,
+        },
+        rest,
+    ))
 }
 
 /// The reply to a procedure.
 #[tactic(auto, unfolding(crate::specs::Message::reply))]
-pub(crate) fn reply(alloc: Global, procedure: Procedure, bytes: &[u8]) -> Result<(Reply, &[u8]), ReadError>
+pub(crate) fn reply(
+    alloc: Global,
+    procedure: Procedure,
+    bytes: &[u8],
+) -> Result<(Reply, &[u8]), ReadError>
     ensures { Gives (λ x. (x.0, x.1.now)) result ((reply procedure).read bytes.now) }
 {
     match procedure {
@@ -500,7 +560,14 @@ pub(crate) fn reply(alloc: Global, procedure: Procedure, bytes: &[u8]) -> Result
             let (status, rest) = status(bytes)?;
             let (device, rest) = any_word(rest)?;
             let (resource, rest) = string(alloc, rest)?;
-            Ok((Reply::Open { status, device, resource }, rest))
+            Ok((
+                Reply::Open {
+                    status,
+                    device,
+                    resource,
+                },
+                rest,
+            ))
         }
         Procedure::Close => {
             let (_, rest) = any_word(bytes)?;

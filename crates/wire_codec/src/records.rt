@@ -151,5 +151,4 @@ pub fn records_are_read_in_any_pieces()
     ensures ended { (pieces : List Piece) (status : ℕ) → AreSteps Head pieces (Ended status) → IsRecords (all_used pieces) (all_given pieces) status }
     ensures whole { (pieces : List Piece) (new : AnyPhase) (payload : List ℕ) (status : ℕ) → AreSteps Head pieces new → IsRecords (all_used pieces) payload status
         → (new ≡ Ended status) × (all_given pieces ≡ payload) }
-{
-}
+{}

@@ -1,6 +1,6 @@
 use super::*;
 use option_desc::Constraint;
-use sane_fixed::{ByteOrder, Info, Kind, Params, FrameFormat, Status};
+use sane_fixed::{ByteOrder, FrameFormat, Info, Kind, Params, Status, Text};
 use std::alloc::Global;
 use std::test::*;
 
@@ -60,12 +60,18 @@ fn fault_of(alloc: Global, bytes: &[u8]) -> Option<WireFault> {
     let first = decoder.next_request(alloc).err()?;
     let second = decoder.next_request(alloc).err()?;
     let third = decoder.feed(&[0]).err()?;
-    if first == second && second == third { Some(first) } else { None }
+    if first == second && second == third {
+        Some(first)
+    } else {
+        None
+    }
 }
 
 #[test]
 fn init_of_user(rt: HostRuntime) -> Result<(), Fail> {
-    let bytes = [0, 0, 0, 0, 1, 0, 0, 3, 0, 0, 0, 5, 0x75, 0x73, 0x65, 0x72, 0];
+    let bytes = [
+        0, 0, 0, 0, 1, 0, 0, 3, 0, 0, 0, 5, 0x75, 0x73, 0x65, 0x72, 0,
+    ];
     match request_by_bytes(rt.alloc(), &bytes).ok_or("a request")? {
         Request::Init { version, user } => {
             assert_eq!(rt; version, 0x1000003);
@@ -98,34 +104,199 @@ fn no_devices_in_both_spellings(rt: HostRuntime) -> Result<(), Fail> {
     Ok(())
 }
 
+/// The fields of a request about an option, and the only word of its value.
+fn option_fields(request: &Request) -> Option<(u32, u32, Action, Kind, Option<u32>)> {
+    match request {
+        Request::ControlOption {
+            device,
+            option,
+            action,
+            kind,
+            value,
+        } => { Some((*device, *option, *action, *kind, word_of(value))) }
+        _ => None,
+    }
+}
+
+/// The fields of a reply about an option, the only word of its value, and the length of its resource.
+fn option_reply_fields(reply: &Reply) -> Option<(Status, Info, Kind, Option<u32>, usize)> {
+    match reply {
+        Reply::ControlOption {
+            status,
+            info,
+            kind,
+            value,
+            resource,
+        } => {
+            Some((
+                *status,
+                *info,
+                *kind,
+                word_of(value),
+                resource.as_bytes().len(),
+            ))
+        }
+        _ => None,
+    }
+}
+
 #[test]
 fn set_of_br_x(rt: HostRuntime) -> Result<(), Fail> {
     let bytes = [
-        0, 0, 0, 5, 0, 0, 0, 0, 0, 0, 0, 6, 0, 0, 0, 1, 0, 0, 0, 2, 0, 0, 0, 4, 0, 0, 0, 1, 0, 0x50, 0x80, 0,
+        0, 0, 0, 5, 0, 0, 0, 0, 0, 0, 0, 6, 0, 0, 0, 1, 0, 0, 0, 2, 0, 0, 0, 4, 0, 0, 0, 1, 0,
+        0x50, 0x80, 0,
     ];
-    match request_by_bytes(rt.alloc(), &bytes).ok_or("a request")? {
-        Request::ControlOption { device, option, action, kind, value } => {
-            assert_eq!(rt; device, 0);
-            assert_eq!(rt; option, 6);
-            assert_eq!(rt; action, Action::SetValue);
-            assert_eq!(rt; kind, Kind::Fixed);
-            assert_eq!(rt; word_of(&value), Some(0x508000));
-        }
-        _ => assert!(rt; false),
-    }
+    let request = request_by_bytes(rt.alloc(), &bytes).ok_or("a request")?;
+    assert_eq!(rt;
+        option_fields(&request),
+        Some((0, 6, Action::SetValue, Kind::Fixed, Some(0x508000)))
+    );
+    let encoded = encode_request(rt.alloc(), &request)
+        .ok()
+        .ok_or("it has a spelling")?;
+    assert_eq!(rt; encoded.as_slice(), bytes.as_slice());
     let reply = [
         0, 0, 0, 0, 0, 0, 0, 5, 0, 0, 0, 2, 0, 0, 0, 4, 0, 0, 0, 1, 0, 0x51, 0, 0, 0, 0, 0, 0,
     ];
-    match reply_by_bytes(rt.alloc(), Procedure::ControlOption, &reply).ok_or("a reply")? {
-        Reply::ControlOption { status, info, kind, value, resource } => {
-            assert_eq!(rt; status, Status::Good);
-            assert_eq!(rt; info, Info(Info::INEXACT + Info::RELOAD_PARAMS));
-            assert_eq!(rt; kind, Kind::Fixed);
-            assert_eq!(rt; resource.as_bytes().len(), 0);
-            assert_eq!(rt; word_of(&value), Some(0x510000));
-        }
-        _ => assert!(rt; false),
-    }
+    let reply = reply_by_bytes(rt.alloc(), Procedure::ControlOption, &reply).ok_or("a reply")?;
+    let info = Info(Info::INEXACT + Info::RELOAD_PARAMS);
+    assert_eq!(rt;
+        option_reply_fields(&reply),
+        Some((Status::Good, info, Kind::Fixed, Some(0x510000), 0))
+    );
+    Ok(())
+}
+
+/// Whether a request is written as these bytes, and read from them and written again.
+fn goes_round(alloc: Global, request: &Request, bytes: &[u8]) -> bool {
+    let Ok(encoded) = encode_request(alloc, request) else {
+        return false;
+    };
+    let Some(again) = request_by_bytes(alloc, encoded.as_slice()) else {
+        return false;
+    };
+    let Ok(twice) = encode_request(alloc, &again) else {
+        return false;
+    };
+    encoded.as_slice() == bytes && twice.as_slice() == bytes
+}
+
+#[test]
+fn each_request_goes_round(rt: HostRuntime) -> Result<(), Fail> {
+    let alloc = rt.alloc();
+    let most = u32::MAX;
+    let user = Text::new(alloc, b"user").ok().ok_or("no NUL")?;
+    let init = Request::Init {
+        version: 0x1000003,
+        user,
+    };
+    assert!(rt;
+        goes_round(
+            alloc,
+            &init,
+            &[
+                0, 0, 0, 0, 1, 0, 0, 3, 0, 0, 0, 5, 0x75, 0x73, 0x65, 0x72, 0
+            ]
+        )
+    );
+    assert!(rt; goes_round(alloc, &Request::GetDevices, &[0, 0, 0, 1]));
+    let name = Text::new(alloc, &[]).ok().ok_or("empty")?;
+    assert!(rt; goes_round(alloc, &Request::Open { name }, &[0, 0, 0, 2, 0, 0, 0, 1, 0]));
+    assert!(rt;
+        goes_round(
+            alloc,
+            &Request::Close { device: most },
+            &[0, 0, 0, 3, 255, 255, 255, 255]
+        )
+    );
+    let descriptors = Request::GetOptionDescriptors { device: 0 };
+    assert!(rt; goes_round(alloc, &descriptors, &[0, 0, 0, 4, 0, 0, 0, 0]));
+    assert!(rt;
+        goes_round(
+            alloc,
+            &Request::GetParameters { device: most },
+            &[0, 0, 0, 6, 255, 255, 255, 255]
+        )
+    );
+    assert!(rt;
+        goes_round(
+            alloc,
+            &Request::Start { device: 3 },
+            &[0, 0, 0, 7, 0, 0, 0, 3]
+        )
+    );
+    assert!(rt;
+        goes_round(
+            alloc,
+            &Request::Cancel { device: 1 },
+            &[0, 0, 0, 8, 0, 0, 0, 1]
+        )
+    );
+    let resource = Text::new(alloc, b"r").ok().ok_or("no NUL")?;
+    let user = Text::new(alloc, &[255]).ok().ok_or("no NUL")?;
+    let password = Text::new(alloc, &[1]).ok().ok_or("no NUL")?;
+    let authorize = Request::Authorize {
+        resource,
+        user,
+        password,
+    };
+    let bytes = [
+        0, 0, 0, 9, 0, 0, 0, 2, 0x72, 0, 0, 0, 0, 2, 255, 0, 0, 0, 0, 2, 1, 0,
+    ];
+    assert!(rt; goes_round(alloc, &authorize, &bytes));
+    assert!(rt; goes_round(alloc, &Request::Exit, &[0, 0, 0, 10]));
+    Ok(())
+}
+
+#[test]
+fn a_value_of_bytes(rt: HostRuntime) -> Result<(), Fail> {
+    let alloc = rt.alloc();
+    let value = WireValue::Bytes(Array::from_vec(Vec::from_slice(alloc, &[0x67, 0x72, 0])?));
+    let set = Request::ControlOption {
+        device: 1,
+        option: 2,
+        action: Action::GetValue,
+        kind: Kind::String,
+        value,
+    };
+    let bytes = [
+        0, 0, 0, 5, 0, 0, 0, 1, 0, 0, 0, 2, 0, 0, 0, 0, 0, 0, 0, 3, 0, 0, 0, 3, 0, 0, 0, 3, 0x67,
+        0x72, 0,
+    ];
+    assert!(rt; goes_round(alloc, &set, &bytes));
+    Ok(())
+}
+
+#[test]
+fn what_is_not_encoded(rt: HostRuntime) -> Result<(), Fail> {
+    let alloc = rt.alloc();
+    let long = Text::from_vec(vec![in alloc; 0x61; 1024]?)
+        .ok()
+        .ok_or("no NUL")?;
+    let request = Request::Open { name: long };
+    assert!(rt; matches!(encode_request(alloc, &request), Err(WireFault::TooLong)));
+    let most = Text::from_vec(vec![in alloc; 0x61; 1023]?)
+        .ok()
+        .ok_or("no NUL")?;
+    assert!(rt; encode_request(alloc, &Request::Open { name: most }).is_ok());
+    let words = WireValue::Words(Array::from_vec(vec![in alloc; 0; 1025]?));
+    let long = Request::ControlOption {
+        device: 0,
+        option: 0,
+        action: Action::SetValue,
+        kind: Kind::Button,
+        value: words,
+    };
+    assert!(rt; matches!(encode_request(alloc, &long), Err(WireFault::TooLong)));
+    let words = WireValue::Words(Array::from_vec(vec![in alloc; 0; 1024]?));
+    let button = Request::ControlOption {
+        device: 0,
+        option: 0,
+        action: Action::SetValue,
+        kind: Kind::Button,
+        value: words,
+    };
+    assert!(rt; matches!(encode_request(alloc, &button), Err(WireFault::BadValue)));
     Ok(())
 }
 
@@ -133,7 +304,12 @@ fn set_of_br_x(rt: HostRuntime) -> Result<(), Fail> {
 fn start_and_parameters(rt: HostRuntime) -> Result<(), Fail> {
     let start = [0, 0, 0, 0, 0, 0, 0x9c, 0x41, 0, 0, 0x12, 0x34, 0, 0, 0, 0];
     match reply_by_bytes(rt.alloc(), Procedure::Start, &start).ok_or("a reply")? {
-        Reply::Start { status, port, order, resource } => {
+        Reply::Start {
+            status,
+            port,
+            order,
+            resource,
+        } => {
             assert_eq!(rt; status, Status::Good);
             assert_eq!(rt; port, 40001);
             assert_eq!(rt; order, ByteOrder::Little);
@@ -141,7 +317,9 @@ fn start_and_parameters(rt: HostRuntime) -> Result<(), Fail> {
         }
         _ => assert!(rt; false),
     }
-    let params = [0, 0, 0, 0, 0, 0, 0, 0, 0, 0, 0, 1, 0, 0, 0, 1, 0, 0, 0, 1, 0, 0, 0, 1, 0, 0, 0, 8];
+    let params = [
+        0, 0, 0, 0, 0, 0, 0, 0, 0, 0, 0, 1, 0, 0, 0, 1, 0, 0, 0, 1, 0, 0, 0, 1, 0, 0, 0, 8,
+    ];
     match reply_by_bytes(rt.alloc(), Procedure::GetParameters, &params).ok_or("a reply")? {
         Reply::GetParameters { status, params } => {
             assert_eq!(rt; status, Status::Good);
@@ -163,14 +341,22 @@ fn start_and_parameters(rt: HostRuntime) -> Result<(), Fail> {
 #[test]
 fn a_descriptor_of_each_constraint(rt: HostRuntime) -> Result<(), Fail> {
     let head = [
-        0, 0, 0, 0, 0, 0, 0, 2, 0x61, 0, 0, 0, 0, 0, 0, 0, 0, 0, 0, 0, 0, 1, 0, 0, 0, 4, 0, 0, 0, 4, 0, 0, 0, 5,
+        0, 0, 0, 0, 0, 0, 0, 2, 0x61, 0, 0, 0, 0, 0, 0, 0, 0, 0, 0, 0, 0, 1, 0, 0, 0, 4, 0, 0, 0,
+        4, 0, 0, 0, 5,
     ];
     let free = [0, 0, 0, 0];
-    let range = [0, 0, 0, 1, 0, 0, 0, 0, 0xff, 0xff, 0xff, 0xff, 0, 0, 0, 1, 0, 0, 0, 0];
+    let range = [
+        0, 0, 0, 1, 0, 0, 0, 0, 0xff, 0xff, 0xff, 0xff, 0, 0, 0, 1, 0, 0, 0, 0,
+    ];
     let words = [0, 0, 0, 2, 0, 0, 0, 2, 0, 0, 0, 1, 0xff, 0xff, 0xff, 0xff];
     let strings = [0, 0, 0, 3, 0, 0, 0, 2, 0, 0, 0, 2, 0x62, 0, 0, 0, 0, 0];
     let mut bytes = Vec::from_slice(rt.alloc(), &[0, 0, 0, 4])?;
-    for constraint in [free.as_slice(), range.as_slice(), words.as_slice(), strings.as_slice()] {
+    for constraint in [
+        free.as_slice(),
+        range.as_slice(),
+        words.as_slice(),
+        strings.as_slice(),
+    ] {
         bytes.extend_from_slice(&head)?;
         bytes.extend_from_slice(constraint)?;
     }
@@ -197,18 +383,34 @@ fn a_descriptor_of_each_constraint(rt: HostRuntime) -> Result<(), Fail> {
 
 #[test]
 fn three_faults(rt: HostRuntime) {
-    assert_eq!(rt; fault_of(rt.alloc(), &[0, 0, 0, 0x0b]), Some(WireFault::BadCode));
+    assert_eq!(rt;
+        fault_of(rt.alloc(), &[0, 0, 0, 0x0b]),
+        Some(WireFault::BadCode)
+    );
     let action = [0, 0, 0, 5, 0, 0, 0, 0, 0, 0, 0, 6, 0, 0, 0, 2];
     assert_eq!(rt; fault_of(rt.alloc(), &action), Some(WireFault::BadValue));
-    assert_eq!(rt; fault_of(rt.alloc(), &[0, 0, 0, 2, 0, 0, 4, 1]), Some(WireFault::TooLong));
-    assert_eq!(rt; fault_of(rt.alloc(), &[0, 0, 0, 2, 0, 0, 0, 2, 0x61, 0x62]), Some(WireFault::BadValue));
+    assert_eq!(rt;
+        fault_of(rt.alloc(), &[0, 0, 0, 2, 0, 0, 4, 1]),
+        Some(WireFault::TooLong)
+    );
+    assert_eq!(rt;
+        fault_of(rt.alloc(), &[0, 0, 0, 2, 0, 0, 0, 2, 0x61, 0x62]),
+        Some(WireFault::BadValue)
+    );
     let mut decoder = Decoder::new(rt.alloc());
-    assert!(rt; matches!(decoder.next_reply(rt.alloc(), Procedure::Exit), Err(WireFault::BadCode)));
+    assert!(rt;
+        matches!(
+            decoder.next_reply(rt.alloc(), Procedure::Exit),
+            Err(WireFault::BadCode)
+        )
+    );
 }
 
 #[test]
 fn records_in_pieces(rt: HostRuntime) -> Result<(), Fail> {
-    let bytes = [0, 0, 0, 0, 0, 0, 0, 2, 0xaa, 0xbb, 0xff, 0xff, 0xff, 0xff, 5, 9];
+    let bytes = [
+        0, 0, 0, 0, 0, 0, 0, 2, 0xaa, 0xbb, 0xff, 0xff, 0xff, 0xff, 5, 9,
+    ];
     for length in [1, 2, 3, 5, 16] {
         let mut reader = RecordReader::new();
         let mut payload = Vec::new(rt.alloc());
@@ -232,6 +434,9 @@ fn records_in_pieces(rt: HostRuntime) -> Result<(), Fail> {
         assert_eq!(rt; at, 15);
     }
     assert_eq!(rt; record_head(2).as_slice(), [0, 0, 0, 2].as_slice());
-    assert_eq!(rt; record_end(Status::Eof).as_slice(), [0xff, 0xff, 0xff, 0xff, 5].as_slice());
+    assert_eq!(rt;
+        record_end(Status::Eof).as_slice(),
+        [0xff, 0xff, 0xff, 0xff, 5].as_slice()
+    );
     Ok(())
 }

@@ -13,7 +13,9 @@ use crate::fault::WireFault;
 use crate::message::{Action, Request, WireValue};
 use sane_fixed::{Kind, Text};
 use std::alloc::Global;
-use wire_format::{Encoder, Fault, WriteError, put_all, put_byte_between, put_run, put_word, put_word_between};
+use wire_format::{
+    Encoder, Fault, WriteError, put_all, put_byte_between, put_run, put_word, put_word_between,
+};
 
 /// Any word.
 struct AnyWord;
@@ -125,9 +127,11 @@ fn is_long_request(request: &Request) -> bool
         Request::Init { user, .. } => is_long_string(user),
         Request::Open { name } => is_long_string(name),
         Request::ControlOption { value, .. } => is_long_value(value),
-        Request::Authorize { resource, user, password } => {
-            is_long_string(resource) || is_long_string(user) || is_long_string(password)
-        }
+        Request::Authorize {
+            resource,
+            user,
+            password,
+        } => { is_long_string(resource) || is_long_string(user) || is_long_string(password) }
         _ => false,
     }
 }
@@ -147,7 +151,13 @@ fn put_request(out: &mut Vec<u8>, request: &Request) -> Result<(), WriteError>
         }
         Request::Close { device } => put_code_and_word(out, 3, *device),
         Request::GetOptionDescriptors { device } => put_code_and_word(out, 4, *device),
-        Request::ControlOption { device, option, action, kind, value } => {
+        Request::ControlOption {
+            device,
+            option,
+            action,
+            kind,
+            value,
+        } => {
             put_code_and_word(out, 5, *device)?;
             put_word_between(out, *option, 0, u32::MAX, Fault::BadValue)?;
             put_word(out, action_code(*action))?;
@@ -157,7 +167,11 @@ fn put_request(out: &mut Vec<u8>, request: &Request) -> Result<(), WriteError>
         Request::GetParameters { device } => put_code_and_word(out, 6, *device),
         Request::Start { device } => put_code_and_word(out, 7, *device),
         Request::Cancel { device } => put_code_and_word(out, 8, *device),
-        Request::Authorize { resource, user, password } => {
+        Request::Authorize {
+            resource,
+            user,
+            password,
+        } => {
             put_word(out, 9)?;
             put_string(out, resource)?;
             put_string(out, user)?;

@@ -1,6 +1,5 @@
-use Rattle.std.proofs.Common.{◌≡◌, ℕ, List, [], ◌∷◌, ◌++◌, ◌-◌, ◌∙◌, ◌<◌, take, refl, sym, arith}
+use Rattle.std.proofs.Common.{◌≡◌, [], ◌∷◌, ◌∙◌, take, sym, arith}
 use Rattle.std.proofs.lemmas.Grind.{common_steps}
-use Rattle.wire_codec.specs.declared.records.Phase.{Phase}
 use Rattle.wire_codec.specs.declared.records.Phase.TheVariants as phases
 use Rattle.wire_codec.specs.Records.{IsPlace}
 use Rattle.wire_codec.proofs.Steps.{head_step, body_step}
