@@ -6,3 +6,4 @@ pub mod Decoding
 pub mod Spelled
 pub mod Requests
 pub mod Encoding
+pub mod Pendings

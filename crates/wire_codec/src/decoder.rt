@@ -1,9 +1,12 @@
 //! Messages out of bytes that come in pieces.
 
-ghost use Rattle.std.specs.Prelude.{◌≡◌, ◌≢◌, ◌++◌, ◌∷◌, ◌≤◌, List, [], ℕ, IfOk, IfErr, IfSome, OnOk, drop, length};
+ghost use Rattle.std.specs.Prelude.{◌≡◌, ◌≢◌, ◌++◌, ◌∷◌, ◌≤◌, List, [], ℕ, IfOk, IfErr, IfSome, OnOk, IsTrue, drop, length};
 ghost use Rattle.wire_format.specs.Format.{Gives, IsBytes};
 ghost use Rattle.wire_format.specs.Lawful.{Takes};
 ghost use Rattle.wire_format.specs.Limit.{limited, WantsMore, IsNoStart};
+ghost use Rattle.wire_format.specs.declared.fault.Wanted.{Wanted as AnyWanted};
+ghost use Rattle.wire_format.specs.declared.fault.Stop.TheVariants.{More};
+ghost use Rattle.wire_codec.specs.Pending.{IsPending, StopsAt};
 ghost use Rattle.wire_codec.specs.Message.{message_limit, request as request_format, reply as reply_format};
 
 use crate::fault::WireFault;
@@ -11,7 +14,7 @@ use crate::message::{Procedure, Reply, Request};
 use crate::reading::{reply, request};
 use std::alloc::Global;
 use std::marker::Model;
-use wire_format::{ReadError, Stop, front, past_limit, used};
+use wire_format::{ReadError, Stop, Wanted, all_from, front, past_limit, used};
 
 /// The longest message, in bytes.
 pub const MESSAGE_LIMIT: usize = 1048576;
@@ -58,28 +61,78 @@ fn drop_front(bytes: &mut Vec<u8>, count: usize)
     }
 }
 
+/// What was wanted when the rest was last read.
+#[derive(Clone, Copy)]
+struct Pending {
+    /// The procedure of the reply that was asked for, or none for a request.
+    procedure: Option<Procedure>,
+    wanted: Wanted,
+    /// How many bytes the rest had.
+    seen: usize,
+}
+
 /// Bytes as they came, and the messages not yet taken from them. Contracts see the bytes that no message
 /// was taken from, and the fault.
 ///
-/// Each call of `next_request` and `next_reply` reads what is left from its start. So a message of n bytes
-/// in k pieces, asked for after each piece, costs time of the order of n * k: requests are short (a few
-/// thousand bytes), and only the replies to `GetDevices` and `GetOptionDescriptors` can be long.
+/// A call reads the rest from its start, unless it was read before for the same message, fewer bytes came
+/// since than were wanted then, and none of them is a fault; then it looks at the new bytes alone. So where a
+/// message comes byte by byte, its rest is read again for each byte of a word and of a NUL, and once for all the
+/// bytes of a string: time of the order of n * u for n bytes with u words and strings in them. A request
+/// has at most some 6,200 bytes; only the replies to `GetDevices` and `GetOptionDescriptors` can be long.
 #[derive(Drop)]
 pub struct Decoder {
     bytes: Vec<u8>,
     start: usize,
     fault: Option<WireFault>,
+    pending: Option<Pending>,
 }
 
 impl Model for Decoder {
-    ghost use Rattle.std.specs.Prelude.{◌≤◌, length, drop};
+    ghost use Rattle.std.specs.Prelude.{◌≤◌, length, drop, IfSome};
     ghost use Rattle.wire_codec.specs.Waiting.{Waiting};
+    ghost use Rattle.wire_codec.specs.Pending.{IsPending};
 
     ghost Value = { Waiting };
 
     ghost view = { λ d. record { rest = drop d.start d.bytes.items; fault = d.fault } };
 
-    ghost invariant = { λ d. d.start ≤ length d.bytes.items };
+    ghost invariant = { λ d. (d.start ≤ length d.bytes.items) × IfSome d.pending (IsPending (drop d.start d.bytes.items)) };
+}
+
+/// Whether both are the same message.
+fn is_same(one: Option<Procedure>, other: Option<Procedure>) -> bool
+    ensures { IsTrue result → one ≡ other }
+{
+    match (one, other) {
+        (None, None) => true,
+        (Some(one), Some(other)) => one == other,
+        _ => false,
+    }
+}
+
+/// What is still wanted of the rest, where nothing else is to be told yet.
+fn waits_on(pending: Pending, rest: &[u8]) -> Option<Pending>
+    requires { IsPending rest.now pending }
+    ensures waits { IfSome result (λ p. IsPending rest.now p × (p.procedure ≡ pending.procedure) × (p.seen ≡ length rest.now)) }
+    ensures stops { IfSome result (λ p. StopsAt pending.procedure rest.now p.wanted) }
+    ensures bytes { IsBytes rest.now }
+{
+    let more = &rest[pending.seen..];
+    if rest.len() > MESSAGE_LIMIT
+        || more.len() >= pending.wanted.count
+        || !all_from(more, pending.wanted.least)
+    {
+        return None;
+    }
+    let wanted = Wanted {
+        count: pending.wanted.count - more.len(),
+        least: pending.wanted.least,
+    };
+    Some(Pending {
+        procedure: pending.procedure,
+        wanted,
+        seen: rest.len(),
+    })
 }
 
 impl Decoder {
@@ -94,6 +147,7 @@ impl Decoder {
             bytes: Vec::new(alloc),
             start: 0,
             fault: None,
+            pending: None,
         }
     }
 
@@ -120,13 +174,39 @@ impl Decoder {
         }
     }
 
+    /// Whether the rest was read before for the same message, and nothing else is to be told yet.
+    fn still_waits(&mut self, procedure: Option<Procedure>) -> bool
+        ensures same { self.new ≡ self.old }
+        ensures waits { IsTrue result → (wanted : AnyWanted) × StopsAt procedure self.old.rest wanted }
+        ensures bytes { IsTrue result → IsBytes self.old.rest }
+    {
+        let Some(pending) = self.pending else {
+            return false;
+        };
+        if !is_same(pending.procedure, procedure) {
+            return false;
+        }
+        match waits_on(pending, &self.bytes[self.start..]) {
+            Some(pending) => {
+                self.pending = Some(pending);
+                true
+            }
+            None => false,
+        }
+    }
+
     /// What an error of reading makes of the decoder.
-    fn stop<T>(&mut self, error: ReadError) -> Result<Option<T>, WireFault>
-        requires { self.old.fault ≡ None }
+    fn stop<T>(&mut self, procedure: Option<Procedure>, error: ReadError) -> Result<Option<T>, WireFault>
+        requires free { self.old.fault ≡ None }
+        requires waits { (wanted : AnyWanted) → error ≡ ReadError.Stop (More wanted) → StopsAt procedure self.old.rest wanted }
         ensures { Stops result self.old self.new error }
     {
         match error {
-            ReadError::Stop(Stop::More(_)) => Ok(None),
+            ReadError::Stop(Stop::More(wanted)) => {
+                let seen = self.bytes.len() - self.start;
+                self.pending = Some(Pending { procedure, wanted, seen });
+                Ok(None)
+            }
             ReadError::Stop(Stop::Bad(fault)) => {
                 let fault = WireFault::from(fault);
                 self.fault = Some(fault);
@@ -148,12 +228,16 @@ impl Decoder {
         if let Some(fault) = self.fault {
             return Err(fault);
         }
+        if self.still_waits(None) {
+            return Ok(None);
+        }
         match first_request(alloc, &self.bytes[self.start..]) {
             Ok((request, used)) => {
+                self.pending = None;
                 self.start += used;
                 Ok(Some(request))
             }
-            Err(error) => self.stop(error),
+            Err(error) => self.stop(None, error),
         }
     }
 
@@ -170,12 +254,16 @@ impl Decoder {
         if let Some(fault) = self.fault {
             return Err(fault);
         }
+        if self.still_waits(Some(procedure)) {
+            return Ok(None);
+        }
         match first_reply(alloc, procedure, &self.bytes[self.start..]) {
             Ok((reply, used)) => {
+                self.pending = None;
                 self.start += used;
                 Ok(Some(reply))
             }
-            Err(error) => self.stop(error),
+            Err(error) => self.stop(Some(procedure), error),
         }
     }
 

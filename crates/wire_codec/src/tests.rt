@@ -407,6 +407,43 @@ fn three_faults(rt: HostRuntime) {
 }
 
 #[test]
+fn a_long_string_by_bytes(rt: HostRuntime) -> Result<(), Fail> {
+    let alloc = rt.alloc();
+    let name = Text::from_vec(vec![in alloc; 0x61; 999]?).ok().ok_or("no NUL")?;
+    let bytes = encode_request(alloc, &Request::Open { name }).ok().ok_or("it has a spelling")?;
+    assert_eq!(rt; bytes.len(), 1008);
+    match request_by_bytes(alloc, bytes.as_slice()).ok_or("a request")? {
+        Request::Open { name } => assert_eq!(rt; name.as_bytes().len(), 999),
+        _ => assert!(rt; false),
+    }
+    Ok(())
+}
+
+#[test]
+fn a_nul_is_a_fault_as_it_comes(rt: HostRuntime) {
+    let alloc = rt.alloc();
+    let mut decoder = Decoder::new(alloc);
+    for byte in [0, 0, 0, 2, 0, 0, 0, 9, 0x61, 0x62, 0x63] {
+        assert!(rt; decoder.feed(&[byte]).is_ok());
+        assert!(rt; matches!(decoder.next_request(alloc), Ok(None)));
+    }
+    assert!(rt; decoder.feed(&[0]).is_ok());
+    assert!(rt; matches!(decoder.next_request(alloc), Err(WireFault::BadValue)));
+    assert!(rt; matches!(decoder.feed(&[0]), Err(WireFault::BadValue)));
+}
+
+#[test]
+fn what_is_asked_may_change(rt: HostRuntime) {
+    let alloc = rt.alloc();
+    let mut decoder = Decoder::new(alloc);
+    assert!(rt; decoder.feed(&[0, 0, 0, 0, 0, 0, 0, 3, 0, 0, 0, 9, 0x61]).is_ok());
+    assert!(rt; matches!(decoder.next_reply(alloc, Procedure::Open), Ok(None)));
+    assert!(rt; decoder.feed(&[0x62]).is_ok());
+    assert!(rt; matches!(decoder.next_reply(alloc, Procedure::Open), Ok(None)));
+    assert!(rt; matches!(decoder.next_reply(alloc, Procedure::Init), Ok(Some(Reply::Init { .. }))));
+}
+
+#[test]
 fn records_in_pieces(rt: HostRuntime) -> Result<(), Fail> {
     let bytes = [
         0, 0, 0, 0, 0, 0, 0, 2, 0xaa, 0xbb, 0xff, 0xff, 0xff, 0xff, 5, 9,

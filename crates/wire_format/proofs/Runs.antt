@@ -116,7 +116,7 @@ from_true least b e = elim (cases_lt b least) [ inl h ↦ let t = lt-ltb b least
 true_from : (least b : ℕ) → least ≤ b → is_from least b ≡ true
 true_from least b h = rw (le-ltb b least h) refl
 
-all_true : (least : ℕ) (bytes : List ℕ) → list_all (is_from least) bytes ≡ true → AllByRecursion (λ b. least ≤ b) bytes
+pub all_true : (least : ℕ) (bytes : List ℕ) → list_all (is_from least) bytes ≡ true → AllByRecursion (λ b. least ≤ b) bytes
 all_true least [] e = tt
 all_true least (b ∷ bytes) e =
     let p = and_true (is_from least b) (list_all (is_from least) bytes) e in

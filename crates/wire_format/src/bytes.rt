@@ -24,7 +24,7 @@ pub fn byte_between(bytes: &[u8], low: u8, high: u8) -> Result<(u8, &[u8]), Read
 }
 
 /// Whether no byte is below the least.
-pub(crate) fn all_from(bytes: &[u8], least: u8) -> bool
+pub fn all_from(bytes: &[u8], least: u8) -> bool
     ensures { result ≡ list_all (is_from least) bytes.now }
 {
     bytes.iter().all(|b| !(*b < least))

@@ -10,7 +10,7 @@ mod word;
 mod writer_laws;
 mod writing;
 
-pub use bytes::{byte_between, run};
+pub use bytes::{all_from, byte_between, run};
 pub use fault::{Fault, ReadError, Stop, Wanted, WriteError};
 pub use laws::{
     KindOfWord, Readable, Spelled, SpelledBehind, bytes_between_are_lawful,
