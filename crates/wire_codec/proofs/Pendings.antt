@@ -1,12 +1,10 @@
 -- Where as many bytes as are wanted have not come, and none of them is a fault, more is wanted still.
-use Rattle.std.proofs.Common.{◌≡◌, ℕ, ◌+◌, ◌-◌, ◌≤◌, ◌<◌, true, List, ◌++◌, length, take, drop, Option, Some, None, Result, Ok, Err, refl, sym, ap, subst, ◌∙◌, arith}
-use Rattle.std.specs.List.{list_all, AllByRecursion}
-use Rattle.std.proofs.lemmas.List.{take-append-drop, take_all, length-append}
+use Rattle.std.proofs.Common.{◌≡◌, ℕ, ◌-◌, ◌≤◌, ◌<◌, true, List, ◌++◌, length, take, drop, Option, Some, None, sym, ap, subst, ◌∙◌, arith}
+use Rattle.std.specs.List.{list_all}
+use Rattle.std.proofs.lemmas.List.{take-append-drop, take_all}
 use Rattle.wire_format.specs.declared.fault.Wanted.{Wanted}
-use Rattle.wire_format.specs.declared.fault.Stop.TheVariants.{More}
-use Rattle.wire_format.specs.Format.{Format, IsBytes, is_from}
-use Rattle.wire_format.specs.Lawful.{Reads, IsStillWaiting, still_wanted}
-use Rattle.wire_format.specs.Limit.{limited}
+use Rattle.wire_format.specs.Format.{IsBytes, is_from}
+use Rattle.wire_format.specs.Lawful.{IsStillWaiting, still_wanted}
 use Rattle.wire_format.proofs.Limits.{limited_waits}
 use Rattle.wire_format.proofs.Runs.{all_true}
 use Rattle.wire_codec.specs.declared.decoder.Pending.{Pending}

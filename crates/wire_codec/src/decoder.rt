@@ -196,7 +196,11 @@ impl Decoder {
     }
 
     /// What an error of reading makes of the decoder.
-    fn stop<T>(&mut self, procedure: Option<Procedure>, error: ReadError) -> Result<Option<T>, WireFault>
+    fn stop<T>(
+        &mut self,
+        procedure: Option<Procedure>,
+        error: ReadError,
+    ) -> Result<Option<T>, WireFault>
         requires free { self.old.fault ≡ None }
         requires waits { (wanted : AnyWanted) → error ≡ ReadError.Stop (More wanted) → StopsAt procedure self.old.rest wanted }
         ensures { Stops result self.old self.new error }
@@ -204,7 +208,11 @@ impl Decoder {
         match error {
             ReadError::Stop(Stop::More(wanted)) => {
                 let seen = self.bytes.len() - self.start;
-                self.pending = Some(Pending { procedure, wanted, seen });
+                self.pending = Some(Pending {
+                    procedure,
+                    wanted,
+                    seen,
+                });
                 Ok(None)
             }
             ReadError::Stop(Stop::Bad(fault)) => {

@@ -536,6 +536,50 @@ fn start_reply(alloc: Global, bytes: &[u8]) -> Result<(Reply, &[u8]), ReadError>
     ))
 }
 
+#[tactic(auto, unfolding(crate::specs::Message::reply))]
+fn init_reply(bytes: &[u8]) -> Result<(Reply, &[u8]), ReadError>
+    ensures { Gives (λ x. (x.0, x.1.now)) result ((reply Procedure.Init).read bytes.now) }
+{
+    let (status, rest) = status(bytes)?;
+    let (version, rest) = any_word(rest)?;
+    Ok((Reply::Init { status, version }, rest))
+}
+
+#[tactic(auto, unfolding(crate::specs::Message::reply))]
+fn devices_reply(alloc: Global, bytes: &[u8]) -> Result<(Reply, &[u8]), ReadError>
+    ensures { Gives (λ x. (x.0, x.1.now)) result ((reply Procedure.GetDevices).read bytes.now) }
+{
+    let (status, rest) = status(bytes)?;
+    let (devices, rest) = devices(alloc, rest)?;
+    Ok((Reply::GetDevices { status, devices }, rest))
+}
+
+#[tactic(auto, unfolding(crate::specs::Message::reply))]
+fn open_reply(alloc: Global, bytes: &[u8]) -> Result<(Reply, &[u8]), ReadError>
+    ensures { Gives (λ x. (x.0, x.1.now)) result ((reply Procedure.Open).read bytes.now) }
+{
+    let (status, rest) = status(bytes)?;
+    let (device, rest) = any_word(rest)?;
+    let (resource, rest) = string(alloc, rest)?;
+    Ok((
+        Reply::Open {
+            status,
+            device,
+            resource,
+        },
+        rest,
+    ))
+}
+
+#[tactic(auto, unfolding(crate::specs::Message::reply))]
+fn parameters_reply(bytes: &[u8]) -> Result<(Reply, &[u8]), ReadError>
+    ensures { Gives (λ x. (x.0, x.1.now)) result ((reply Procedure.GetParameters).read bytes.now) }
+{
+    let (status, rest) = status(bytes)?;
+    let (params, rest) = params(rest)?;
+    Ok((Reply::GetParameters { status, params }, rest))
+}
+
 /// The reply to a procedure.
 #[tactic(auto, unfolding(crate::specs::Message::reply))]
 pub(crate) fn reply(
@@ -546,29 +590,9 @@ pub(crate) fn reply(
     ensures { Gives (λ x. (x.0, x.1.now)) result ((reply procedure).read bytes.now) }
 {
     match procedure {
-        Procedure::Init => {
-            let (status, rest) = status(bytes)?;
-            let (version, rest) = any_word(rest)?;
-            Ok((Reply::Init { status, version }, rest))
-        }
-        Procedure::GetDevices => {
-            let (status, rest) = status(bytes)?;
-            let (devices, rest) = devices(alloc, rest)?;
-            Ok((Reply::GetDevices { status, devices }, rest))
-        }
-        Procedure::Open => {
-            let (status, rest) = status(bytes)?;
-            let (device, rest) = any_word(rest)?;
-            let (resource, rest) = string(alloc, rest)?;
-            Ok((
-                Reply::Open {
-                    status,
-                    device,
-                    resource,
-                },
-                rest,
-            ))
-        }
+        Procedure::Init => init_reply(bytes),
+        Procedure::GetDevices => devices_reply(alloc, bytes),
+        Procedure::Open => open_reply(alloc, bytes),
         Procedure::Close => {
             let (_, rest) = any_word(bytes)?;
             Ok((Reply::Close, rest))
@@ -578,11 +602,7 @@ pub(crate) fn reply(
             Ok((Reply::GetOptionDescriptors { descriptors }, rest))
         }
         Procedure::ControlOption => control_option_reply(alloc, bytes),
-        Procedure::GetParameters => {
-            let (status, rest) = status(bytes)?;
-            let (params, rest) = params(rest)?;
-            Ok((Reply::GetParameters { status, params }, rest))
-        }
+        Procedure::GetParameters => parameters_reply(bytes),
         Procedure::Start => start_reply(alloc, bytes),
         Procedure::Cancel => {
             let (_, rest) = any_word(bytes)?;

@@ -409,8 +409,12 @@ fn three_faults(rt: HostRuntime) {
 #[test]
 fn a_long_string_by_bytes(rt: HostRuntime) -> Result<(), Fail> {
     let alloc = rt.alloc();
-    let name = Text::from_vec(vec![in alloc; 0x61; 999]?).ok().ok_or("no NUL")?;
-    let bytes = encode_request(alloc, &Request::Open { name }).ok().ok_or("it has a spelling")?;
+    let name = Text::from_vec(vec![in alloc; 0x61; 999]?)
+        .ok()
+        .ok_or("no NUL")?;
+    let bytes = encode_request(alloc, &Request::Open { name })
+        .ok()
+        .ok_or("it has a spelling")?;
     assert_eq!(rt; bytes.len(), 1008);
     match request_by_bytes(alloc, bytes.as_slice()).ok_or("a request")? {
         Request::Open { name } => assert_eq!(rt; name.as_bytes().len(), 999),
@@ -436,11 +440,20 @@ fn a_nul_is_a_fault_as_it_comes(rt: HostRuntime) {
 fn what_is_asked_may_change(rt: HostRuntime) {
     let alloc = rt.alloc();
     let mut decoder = Decoder::new(alloc);
-    assert!(rt; decoder.feed(&[0, 0, 0, 0, 0, 0, 0, 3, 0, 0, 0, 9, 0x61]).is_ok());
+    assert!(rt;
+        decoder
+            .feed(&[0, 0, 0, 0, 0, 0, 0, 3, 0, 0, 0, 9, 0x61])
+            .is_ok()
+    );
     assert!(rt; matches!(decoder.next_reply(alloc, Procedure::Open), Ok(None)));
     assert!(rt; decoder.feed(&[0x62]).is_ok());
     assert!(rt; matches!(decoder.next_reply(alloc, Procedure::Open), Ok(None)));
-    assert!(rt; matches!(decoder.next_reply(alloc, Procedure::Init), Ok(Some(Reply::Init { .. }))));
+    assert!(rt;
+        matches!(
+            decoder.next_reply(alloc, Procedure::Init),
+            Ok(Some(Reply::Init { .. }))
+        )
+    );
 }
 
 #[test]

@@ -2,7 +2,7 @@
 
 ghost use Rattle.std.specs.Prelude.{◌≡◌, ◌≢◌, ℕ, List, Some, IfOk, IfErr};
 ghost use Rattle.wire_format.specs.Limit.{limited};
-ghost use Rattle.wire_format.specs.Writer.{Puts, written, write_limited, IsLong};
+ghost use Rattle.wire_format.specs.Writer.{Puts, joined, written, write_limited, IsLong};
 ghost use Rattle.sane_fixed.specs.Kind.{kind_code};
 ghost use Rattle.wire_codec.specs.Message.{message_limit, request as request_format};
 ghost use Rattle.wire_codec.specs.Written.{Answers, write_any, write_string, value_long, words_text, bytes_text, write_value, action_code, code_text, word_text, write_request, request_long};
@@ -136,6 +136,15 @@ fn is_long_request(request: &Request) -> bool
     }
 }
 
+fn put_strings(out: &mut Vec<u8>, one: &Text, two: &Text, three: &Text) -> Result<(), WriteError>
+    ensures { Puts result out.old.items out.new.items
+        (joined (write_string.text one.now) (joined (write_string.text two.now) (write_string.text three.now))) }
+{
+    put_string(out, one)?;
+    put_string(out, two)?;
+    put_string(out, three)
+}
+
 fn put_request(out: &mut Vec<u8>, request: &Request) -> Result<(), WriteError>
     ensures { Puts result out.old.items out.new.items (write_request.text request.now) }
 {
@@ -173,9 +182,7 @@ fn put_request(out: &mut Vec<u8>, request: &Request) -> Result<(), WriteError>
             password,
         } => {
             put_word(out, 9)?;
-            put_string(out, resource)?;
-            put_string(out, user)?;
-            put_string(out, password)
+            put_strings(out, resource, user, password)
         }
         Request::Exit => Ok(put_word(out, 10)?),
     }
