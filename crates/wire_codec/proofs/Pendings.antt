@@ -1,0 +1,41 @@
+-- Where as many bytes as are wanted have not come, and none of them is a fault, more is wanted still.
+use Rattle.std.proofs.Common.{◌≡◌, ℕ, ◌-◌, ◌≤◌, ◌<◌, true, List, ◌++◌, length, take, drop, Option, Some, None, sym, ap, subst, ◌∙◌, arith}
+use Rattle.std.specs.List.{list_all}
+use Rattle.std.proofs.lemmas.List.{take-append-drop, take_all}
+use Rattle.wire_format.specs.declared.fault.Wanted.{Wanted}
+use Rattle.wire_format.specs.Format.{IsBytes, is_from}
+use Rattle.wire_format.specs.Lawful.{IsStillWaiting, still_wanted}
+use Rattle.wire_format.proofs.Limits.{limited_waits}
+use Rattle.wire_format.proofs.Runs.{all_true}
+use Rattle.wire_codec.specs.declared.decoder.Pending.{Pending}
+use Rattle.wire_codec.specs.declared.message.Procedure.{Procedure}
+use Rattle.wire_codec.specs.Message.{message_limit, request, reply}
+use Rattle.wire_codec.specs.Pending.{IsPending, StopsAt}
+use Rattle.wire_codec.proofs.Messages.{request_laws, reply_reads}
+
+still_at : (procedure : Option Procedure) (front more : List ℕ) (wanted : Wanted) → IsBytes (front ++ more) → StopsAt procedure front wanted → IsStillWaiting wanted more → length (front ++ more) ≤ message_limit
+    → StopsAt procedure (front ++ more) (still_wanted wanted (length more))
+still_at None front more wanted fits stops still within = limited_waits message_limit request request_laws.reads front more wanted fits stops still within
+still_at (Some procedure) front more wanted fits stops still within = limited_waits message_limit (reply procedure) (reply_reads procedure) front more wanted fits stops still within
+
+pub still_pending : (rest : List ℕ) (p : Pending) → IsBytes rest → IsPending rest p → length rest ≤ message_limit → length (drop p.seen rest) < p.wanted.count → list_all (is_from p.wanted.least) (drop p.seen rest) ≡ true
+    → IsPending rest (record { procedure = p.procedure; wanted = record { count = p.wanted.count - length (drop p.seen rest); least = p.wanted.least }; seen = length rest })
+still_pending rest p fits pending within fewer from =
+    let whole : take p.seen rest ++ drop p.seen rest ≡ rest = take-append-drop p.seen rest in
+    let still : IsStillWaiting p.wanted (drop p.seen rest) = record { fewer = fewer; from = all_true p.wanted.least (drop p.seen rest) from } in
+    let here = still_at p.procedure (take p.seen rest) (drop p.seen rest) p.wanted (subst IsBytes (sym whole) fits) pending.stops still (subst (λ (l : List ℕ). length l ≤ message_limit) (sym whole) within) in
+    let all : take (length rest) rest ≡ rest = take_all (length rest) rest (omega arith) in
+    record {
+      within = omega arith;
+      stops = subst (λ (l : List ℕ). StopsAt p.procedure l (still_wanted p.wanted (length (drop p.seen rest)))) (whole ∙ sym all) here;
+    }
+
+-- what was seen whole stops so
+pub seen_whole : (rest : List ℕ) (p : Pending) → IsPending rest p → p.seen ≡ length rest → StopsAt p.procedure rest p.wanted
+seen_whole rest p pending seen = subst (λ (l : List ℕ). StopsAt p.procedure l p.wanted) (ap (λ (n : ℕ). take n rest) seen ∙ take_all (length rest) rest (omega arith)) pending.stops
+
+pub now_pending : (rest : List ℕ) (procedure : Option Procedure) (wanted : Wanted) (seen : ℕ) → seen ≡ length rest → StopsAt procedure rest wanted → IsPending rest (record { procedure = procedure; wanted = wanted; seen = seen })
+now_pending rest procedure wanted seen is stops = record {
+  within = omega (arith, is);
+  stops = subst (λ (l : List ℕ). StopsAt procedure l wanted) (sym (ap (λ (n : ℕ). take n rest) is ∙ take_all (length rest) rest (omega arith))) stops;
+}

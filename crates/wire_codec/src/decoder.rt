@@ -1,0 +1,320 @@
+//! Messages out of bytes that come in pieces.
+
+ghost use Rattle.std.specs.Prelude.{◌≡◌, ◌≢◌, ◌++◌, ◌∷◌, ◌≤◌, List, [], ℕ, IfOk, IfErr, IfSome, OnOk, IsTrue, drop, length};
+ghost use Rattle.wire_format.specs.Format.{Gives, IsBytes};
+ghost use Rattle.wire_format.specs.Lawful.{Takes};
+ghost use Rattle.wire_format.specs.Limit.{limited, WantsMore, IsNoStart};
+ghost use Rattle.wire_format.specs.declared.fault.Wanted.{Wanted as AnyWanted};
+ghost use Rattle.wire_format.specs.declared.fault.Stop.TheVariants.{More};
+ghost use Rattle.wire_codec.specs.Pending.{IsPending, StopsAt};
+ghost use Rattle.wire_codec.specs.Message.{message_limit, request as request_format, reply as reply_format};
+
+use crate::fault::WireFault;
+use crate::message::{Procedure, Reply, Request};
+use crate::reading::{reply, request};
+use std::alloc::Global;
+use std::marker::Model;
+use wire_format::{ReadError, Stop, Wanted, all_from, front, past_limit, used};
+
+/// The longest message, in bytes.
+pub const MESSAGE_LIMIT: usize = 1048576;
+
+/// The first request of the bytes, and how many of them spell it.
+fn first_request(alloc: Global, bytes: &[u8]) -> Result<(Request, usize), ReadError>
+    ensures read { Gives (λ x. (x.0, drop x.1 bytes.now)) result ((limited message_limit request_format).read bytes.now) }
+    ensures used { IfOk result (λ x. x.1 ≤ length bytes.now) }
+    ensures bytes { IsBytes bytes.now }
+{
+    let window = front(bytes, MESSAGE_LIMIT);
+    match request(alloc, window) {
+        Ok((request, rest)) => Ok((request, used(window, rest))),
+        Err(e) => Err(past_limit(e, bytes.len() > MESSAGE_LIMIT)),
+    }
+}
+
+/// The first reply to a procedure of the bytes, and how many of them spell it.
+fn first_reply(
+    alloc: Global,
+    procedure: Procedure,
+    bytes: &[u8],
+) -> Result<(Reply, usize), ReadError>
+    ensures read { Gives (λ x. (x.0, drop x.1 bytes.now)) result ((limited message_limit (reply_format procedure)).read bytes.now) }
+    ensures used { IfOk result (λ x. x.1 ≤ length bytes.now) }
+    ensures bytes { IsBytes bytes.now }
+{
+    let window = front(bytes, MESSAGE_LIMIT);
+    match reply(alloc, procedure, window) {
+        Ok((reply, rest)) => Ok((reply, used(window, rest))),
+        Err(e) => Err(past_limit(e, bytes.len() > MESSAGE_LIMIT)),
+    }
+}
+
+/// Moves what stands behind the first bytes to the front.
+fn drop_front(bytes: &mut Vec<u8>, count: usize)
+    requires { count ≤ length bytes.old.items }
+    ensures { bytes.new.items ≡ drop count bytes.old.items }
+{
+    if count > 0 {
+        let left = bytes.len() - count;
+        bytes.copy_within(count.., 0);
+        bytes.truncate(left);
+    }
+}
+
+/// What was wanted when the rest was last read.
+#[derive(Clone, Copy)]
+struct Pending {
+    /// The procedure of the reply that was asked for, or none for a request.
+    procedure: Option<Procedure>,
+    wanted: Wanted,
+    /// How many bytes the rest had.
+    seen: usize,
+}
+
+/// Bytes as they came, and the messages not yet taken from them. Contracts see the bytes that no message
+/// was taken from, and the fault.
+///
+/// A call reads the rest from its start, unless it was read before for the same message, fewer bytes came
+/// since than were wanted then, and none of them is a fault; then it looks at the new bytes alone. So where a
+/// message comes byte by byte, its rest is read again for each byte of a word and of a NUL, and once for all the
+/// bytes of a string: time of the order of n * u for n bytes with u words and strings in them. A request
+/// has at most some 6,200 bytes; only the replies to `GetDevices` and `GetOptionDescriptors` can be long.
+#[derive(Drop)]
+pub struct Decoder {
+    bytes: Vec<u8>,
+    start: usize,
+    fault: Option<WireFault>,
+    pending: Option<Pending>,
+}
+
+impl Model for Decoder {
+    ghost use Rattle.std.specs.Prelude.{◌≤◌, length, drop, IfSome};
+    ghost use Rattle.wire_codec.specs.Waiting.{Waiting};
+    ghost use Rattle.wire_codec.specs.Pending.{IsPending};
+
+    ghost Value = { Waiting };
+
+    ghost view = { λ d. record { rest = drop d.start d.bytes.items; fault = d.fault } };
+
+    ghost invariant = { λ d. (d.start ≤ length d.bytes.items) × IfSome d.pending (IsPending (drop d.start d.bytes.items)) };
+}
+
+/// Whether both are the same message.
+fn is_same(one: Option<Procedure>, other: Option<Procedure>) -> bool
+    ensures { IsTrue result → one ≡ other }
+{
+    match (one, other) {
+        (None, None) => true,
+        (Some(one), Some(other)) => one == other,
+        _ => false,
+    }
+}
+
+/// What is still wanted of the rest, where nothing else is to be told yet.
+fn waits_on(pending: Pending, rest: &[u8]) -> Option<Pending>
+    requires { IsPending rest.now pending }
+    ensures waits { IfSome result (λ p. IsPending rest.now p × (p.procedure ≡ pending.procedure) × (p.seen ≡ length rest.now)) }
+    ensures stops { IfSome result (λ p. StopsAt pending.procedure rest.now p.wanted) }
+    ensures bytes { IsBytes rest.now }
+{
+    let more = &rest[pending.seen..];
+    if rest.len() > MESSAGE_LIMIT
+        || more.len() >= pending.wanted.count
+        || !all_from(more, pending.wanted.least)
+    {
+        return None;
+    }
+    let wanted = Wanted {
+        count: pending.wanted.count - more.len(),
+        least: pending.wanted.least,
+    };
+    Some(Pending {
+        procedure: pending.procedure,
+        wanted,
+        seen: rest.len(),
+    })
+}
+
+impl Decoder {
+    ghost use Rattle.wire_codec.specs.Waiting.{Tells, Stops, IsFaultOf, faulty, Taken, Asked, Told, Fed};
+
+    /// A decoder that was fed nothing.
+    pub fn new(alloc: Global) -> Decoder
+        ensures empty { result ≡ record { rest = []; fault = None } }
+        ensures history { Fed [] [] result }
+    {
+        Decoder {
+            bytes: Vec::new(alloc),
+            start: 0,
+            fault: None,
+            pending: None,
+        }
+    }
+
+    /// Takes the next piece of the stream. A fault that was answered is answered again.
+    pub fn feed(&mut self, piece: &[u8]) -> Result<(), WireFault>
+        ensures ok { OnOk result (self.new ≡ record { rest = self.old.rest ++ piece.now; fault = None }) }
+        ensures kept { IfSome self.old.fault (λ f. (result ≡ Err f) × (self.new ≡ self.old)) }
+        ensures err { IfErr result (λ f. self.new.fault ≡ Some f) }
+        ensures first { self.old.fault ≡ None → IfErr result (λ f. f ≡ WireFault.NoMem) }
+        // What was fed are the spellings of what was taken, and then the rest.
+        ensures history { (fed : List ℕ) (taken : List Taken) → Fed fed taken self.old → OnOk result (Fed (fed ++ piece.now) taken self.new) }
+    {
+        if let Some(fault) = self.fault {
+            return Err(fault);
+        }
+        drop_front(&mut self.bytes, self.start);
+        self.start = 0;
+        match self.bytes.extend_from_slice(piece) {
+            Ok(()) => Ok(()),
+            Err(_) => {
+                self.fault = Some(WireFault::NoMem);
+                Err(WireFault::NoMem)
+            }
+        }
+    }
+
+    /// Whether the rest was read before for the same message, and nothing else is to be told yet.
+    fn still_waits(&mut self, procedure: Option<Procedure>) -> bool
+        ensures same { self.new ≡ self.old }
+        ensures waits { IsTrue result → (wanted : AnyWanted) × StopsAt procedure self.old.rest wanted }
+        ensures bytes { IsTrue result → IsBytes self.old.rest }
+    {
+        let Some(pending) = self.pending else {
+            return false;
+        };
+        if !is_same(pending.procedure, procedure) {
+            return false;
+        }
+        match waits_on(pending, &self.bytes[self.start..]) {
+            Some(pending) => {
+                self.pending = Some(pending);
+                true
+            }
+            None => false,
+        }
+    }
+
+    /// What an error of reading makes of the decoder.
+    fn stop<T>(
+        &mut self,
+        procedure: Option<Procedure>,
+        error: ReadError,
+    ) -> Result<Option<T>, WireFault>
+        requires free { self.old.fault ≡ None }
+        requires waits { (wanted : AnyWanted) → error ≡ ReadError.Stop (More wanted) → StopsAt procedure self.old.rest wanted }
+        ensures { Stops result self.old self.new error }
+    {
+        match error {
+            ReadError::Stop(Stop::More(wanted)) => {
+                let seen = self.bytes.len() - self.start;
+                self.pending = Some(Pending {
+                    procedure,
+                    wanted,
+                    seen,
+                });
+                Ok(None)
+            }
+            ReadError::Stop(Stop::Bad(fault)) => {
+                let fault = WireFault::from(fault);
+                self.fault = Some(fault);
+                Err(fault)
+            }
+            ReadError::Memory => {
+                self.fault = Some(WireFault::NoMem);
+                Err(WireFault::NoMem)
+            }
+        }
+    }
+
+    /// What reading a request gives.
+    fn read_request(&mut self, alloc: Global) -> Result<Option<Request>, WireFault>
+        ensures kept { IfSome self.old.fault (λ f. (result ≡ Err f) × (self.new ≡ self.old)) }
+        ensures bytes { self.old.fault ≡ None → IsBytes self.old.rest }
+        ensures exact { self.old.fault ≡ None → Tells result self.old self.new ((limited message_limit request_format).read self.old.rest) }
+    {
+        if let Some(fault) = self.fault {
+            return Err(fault);
+        }
+        if self.still_waits(None) {
+            return Ok(None);
+        }
+        match first_request(alloc, &self.bytes[self.start..]) {
+            Ok((request, used)) => {
+                self.pending = None;
+                self.start += used;
+                Ok(Some(request))
+            }
+            Err(error) => self.stop(None, error),
+        }
+    }
+
+    /// What reading a reply gives.
+    fn read_reply(
+        &mut self,
+        alloc: Global,
+        procedure: Procedure,
+    ) -> Result<Option<Reply>, WireFault>
+        ensures kept { IfSome self.old.fault (λ f. (result ≡ Err f) × (self.new ≡ self.old)) }
+        ensures bytes { self.old.fault ≡ None → IsBytes self.old.rest }
+        ensures exact { self.old.fault ≡ None → Tells result self.old self.new ((limited message_limit (reply_format procedure)).read self.old.rest) }
+    {
+        if let Some(fault) = self.fault {
+            return Err(fault);
+        }
+        if self.still_waits(Some(procedure)) {
+            return Ok(None);
+        }
+        match first_reply(alloc, procedure, &self.bytes[self.start..]) {
+            Ok((reply, used)) => {
+                self.pending = None;
+                self.start += used;
+                Ok(Some(reply))
+            }
+            Err(error) => self.stop(Some(procedure), error),
+        }
+    }
+
+    /// The next request; `None` where more bytes are wanted. The first fault is answered from then on.
+    pub fn next_request(&mut self, alloc: Global) -> Result<Option<Request>, WireFault>
+        // The bytes are a spelling of what is taken, and then the rest.
+        ensures taken { IfOk result (λ m. IfSome m (λ r. (self.new.fault ≡ None)
+            × Takes (limited message_limit request_format) self.old.rest self.new.rest r)) }
+        // More bytes are wanted where a spelling has begun, within the limit.
+        ensures none { result ≡ Ok None → (self.new ≡ self.old) × WantsMore message_limit request_format self.old.rest }
+        // A first fault comes where no spelling stands and none has begun, or memory ran out.
+        ensures first { self.old.fault ≡ None → IfErr result (λ f. f ≢ WireFault.NoMem → IsNoStart message_limit request_format self.old.rest) }
+        // It is that of the first word or byte at which no spelling stands.
+        ensures which { self.old.fault ≡ None → IfErr result (λ f. f ≢ WireFault.NoMem → IsFaultOf message_limit request_format self.old.rest f) }
+        ensures err { IfErr result (λ f. self.new ≡ faulty self.old f) }
+        ensures kept { IfSome self.old.fault (λ f. result ≡ Err f) }
+        // What was fed are the spellings of what was taken, and then the rest.
+        ensures history { (fed : List ℕ) (taken : List Taken) → Fed fed taken self.old → IfOk result (λ m. IfSome m (λ r. Fed fed (taken ++ Asked r ∷ []) self.new)) }
+    {
+        self.read_request(alloc)
+    }
+
+    /// The next reply, to a procedure; `None` where more bytes are wanted. The first fault is answered from
+    /// then on. There is no reply to `Exit`: `BadCode`.
+    pub fn next_reply(
+        &mut self,
+        alloc: Global,
+        procedure: Procedure,
+    ) -> Result<Option<Reply>, WireFault>
+        // The bytes are a spelling of what is taken, and then the rest.
+        ensures taken { IfOk result (λ m. IfSome m (λ r. (self.new.fault ≡ None)
+            × Takes (limited message_limit (reply_format procedure)) self.old.rest self.new.rest r)) }
+        // More bytes are wanted where a spelling has begun, within the limit.
+        ensures none { result ≡ Ok None → (self.new ≡ self.old) × WantsMore message_limit (reply_format procedure) self.old.rest }
+        // A first fault comes where no spelling stands and none has begun, or memory ran out.
+        ensures first { self.old.fault ≡ None → IfErr result (λ f. f ≢ WireFault.NoMem → IsNoStart message_limit (reply_format procedure) self.old.rest) }
+        // It is that of the first word or byte at which no spelling stands.
+        ensures which { self.old.fault ≡ None → IfErr result (λ f. f ≢ WireFault.NoMem → IsFaultOf message_limit (reply_format procedure) self.old.rest f) }
+        ensures err { IfErr result (λ f. self.new ≡ faulty self.old f) }
+        ensures kept { IfSome self.old.fault (λ f. result ≡ Err f) }
+        // What was fed are the spellings of what was taken, and then the rest.
+        ensures history { (fed : List ℕ) (taken : List Taken) → Fed fed taken self.old → IfOk result (λ m. IfSome m (λ r. Fed fed (taken ++ Told procedure r ∷ []) self.new)) }
+    {
+        self.read_reply(alloc, procedure)
+    }
+}

@@ -1,0 +1,27 @@
+//! SANE's network messages as bytes: requests and replies both ways, and the records of the data connection.
+#![tactic(auto)]
+
+mod array;
+mod decoder;
+mod device_info;
+mod fault;
+mod laws;
+mod message;
+mod reading;
+mod records;
+mod words;
+mod writing;
+
+pub use array::Array;
+pub use decoder::{Decoder, MESSAGE_LIMIT};
+pub use device_info::DeviceInfo;
+pub use fault::WireFault;
+pub use laws::{replies_are_spelled_apart, requests_are_spelled_apart};
+pub use message::{Action, Procedure, Reply, Request, WireValue};
+pub use records::{
+    Phase, RecordReader, Step, record_end, record_head, records_are_read_in_any_pieces,
+};
+pub use writing::encode_request;
+
+#[cfg(test)]
+mod tests;

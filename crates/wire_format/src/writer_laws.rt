@@ -1,0 +1,107 @@
+//! The laws of writers: what is written is spelled, and what is refused is not.
+
+ghost use Rattle.std.specs.Prelude.{◌≡◌, ◌≢◌, ◌↔◌, ◌≤◌, ℕ, List, true, Ok, Err};
+ghost use Rattle.wire_format.specs.declared.fault.Fault.{Fault as AnyFault};
+ghost use Rattle.wire_format.specs.declared.fault.Fault.TheVariants.{BadValue, TooLong};
+ghost use Rattle.wire_format.specs.Format.{Format, done, refused, after, made, places, byte_between, run};
+ghost use Rattle.wire_format.specs.Kind.{Kind, word_of_kind, between};
+ghost use Rattle.wire_format.specs.Limit.{limited};
+ghost use Rattle.wire_format.specs.Writer.{Writer, Writes, written, IsPart, IsNumber, write_nothing, write_none, write_after, write_by, IsMadeOf, write_places, write_word, write_byte, write_run, write_limited};
+
+use crate::fault::Fault;
+
+/// Values with a format and its writer.
+pub trait Written {
+    ghost format: { Format Self };
+
+    ghost writer: { Writer Self };
+
+    ghost exact: { (a : Self) → Writes format writer a };
+}
+
+/// Values with a format and its writer behind a part of theirs.
+pub trait WrittenBehind<A> {
+    ghost part: { Self → A };
+
+    ghost formats: { A → Format Self };
+
+    ghost writers: { A → Writer Self };
+
+    ghost exact: { (b : Self) → Writes (formats (part b)) (writers (part b)) b };
+}
+
+/// Values that are made of others.
+pub trait MadeOf<A> {
+    ghost make: { A → Self };
+
+    ghost part: { Self → A };
+}
+
+/// Values that a kind of words stands for, each with a number of its own.
+pub trait NumberedKind: Sized {
+    ghost kind: { Kind Self };
+
+    ghost number: { Self → ℕ };
+
+    ghost exact: { IsNumber kind number };
+}
+
+/// What a writer answers: a spelling of the value; `TooLong` exactly where a limit is passed; else
+/// `BadValue`, and nothing spells the value.
+pub fn what_is_written_is_spelled<A: Written>()
+    ensures spelled { (a : A) (text : List ℕ) → written A.writer a ≡ Ok text → A.format.spells text a }
+    ensures too_long { (a : A) → (written A.writer a ≡ Err TooLong) ↔ (A.writer.long a ≡ true) }
+    ensures bad { (a : A) (fault : AnyFault) → written A.writer a ≡ Err fault → fault ≢ TooLong
+        → (fault ≡ BadValue) × ((text : List ℕ) → A.format.spells text a → ⊥) }
+{}
+
+/// Nothing is written of a value that is known.
+pub fn nothing_is_written<A>()
+    ensures { (a : A) → Writes (done a) write_nothing a }
+{}
+
+/// What is refused is not written.
+pub fn what_is_refused_is_not_written<A>(fault: Fault)
+    ensures { (a : A) → Writes (refused fault) write_none a }
+{}
+
+/// One after another is written so, where each value's own part may stand first.
+pub fn one_after_another_is_written<A: Written, B: WrittenBehind<A>>()
+    ensures { (b : B) → IsPart B.part A.format B.formats b
+        → Writes (after A.format B.formats) (write_after B.part A.writer B.writers) b }
+{}
+
+/// A value that is made of another is written as what it is made of.
+pub fn what_is_made_of_another_is_written<A: Written, B: MadeOf<A>>()
+    ensures { (b : B) → IsMadeOf B.part A.format B.make b → Writes (made B.make A.format) (write_by B.part A.writer) b }
+{}
+
+/// Values at `count` places are written so.
+pub fn values_at_places_are_written<A: Written>(count: u32)
+    ensures { (all : List A) → Writes (places count A.format) (write_places count A.writer) all }
+{}
+
+/// A word of a kind is written by its value's number.
+pub fn words_of_a_kind_are_written<A: NumberedKind>()
+    ensures { (a : A) → Writes (word_of_kind A.kind) (write_word A.kind A.number) a }
+{}
+
+/// A word from `low` to `high` is written as it is.
+pub fn words_between_are_written(low: u32, high: u32, fault: Fault)
+    ensures { (n : ℕ) → Writes (word_of_kind (between low high fault)) (write_word (between low high fault) (λ n. n)) n }
+{}
+
+/// A byte from `low` to `high` is written as it is.
+pub fn bytes_between_are_written(low: u8, high: u8)
+    ensures { (b : ℕ) → Writes (byte_between low high) (write_byte low high) b }
+{}
+
+/// A run of bytes is written as it is.
+pub fn runs_are_written(least: u8, count: usize)
+    ensures { (bytes : List ℕ) → Writes (run least count) (write_run least count) bytes }
+{}
+
+/// A limit is kept by what is written; a value whose text goes past it is too long.
+pub fn writing_keeps_a_limit<A: Written>(limit: usize)
+    ensures { (a : A) → Writes (limited limit A.format) (write_limited limit A.writer) a }
+{}
