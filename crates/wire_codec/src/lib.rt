@@ -3,7 +3,6 @@
 
 mod array;
 mod decoder;
-mod device_info;
 mod fault;
 mod laws;
 mod message;
@@ -14,7 +13,7 @@ mod writing;
 
 pub use array::Array;
 pub use decoder::{Decoder, MESSAGE_LIMIT};
-pub use device_info::DeviceInfo;
+pub use device_api::DeviceInfo;
 pub use fault::WireFault;
 pub use laws::{replies_are_spelled_apart, requests_are_spelled_apart};
 pub use message::{Action, Procedure, Reply, Request, WireValue};

@@ -1,7 +1,7 @@
 //! Requests and replies (SANE Standard 1.06, "Network Protocol").
 
 use crate::array::Array;
-use crate::device_info::DeviceInfo;
+use device_api::DeviceInfo;
 use option_desc::Descriptor;
 use sane_fixed::{ByteOrder, Info, Kind, Params, Status, Text};
 

@@ -6,13 +6,13 @@ ghost use Rattle.wire_format.specs.Format.{Gives, places};
 ghost use Rattle.wire_codec.specs.Message.{option_list, word, signed_word, text_of, string, device, next_device, last_device, devices_of, devices, range, word_list, entry, last_entry, last_of, last_in, string_list, constraint_of, constraint, descriptor, next_descriptor, descriptors, words_value, bytes_value, value_of, arguments, request, params, reply};
 
 use crate::array::Array;
-use crate::device_info::DeviceInfo;
 use crate::message::{Procedure, Reply, Request, WireValue};
 use crate::words::{
     action_at, any_word, at_least, bad, frame_at, from_to, is_set, kind_at, length_from, lines_at,
     order, pointer, procedure_at, status, unit_at, up_to, words_size,
 };
 use constraint::{Range, StringList, WordList};
+use device_api::DeviceInfo;
 use option_desc::{Constraint, Descriptor};
 use sane_fixed::{Cap, Info, Kind, Params, Text};
 use std::alloc::Global;
