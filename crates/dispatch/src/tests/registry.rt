@@ -9,27 +9,27 @@ use std::process::Abort;
 
 const RESOLUTION: u32 = 3;
 
-fn boxed(rt: &impl Abort, alloc: Global, name: &[u8]) -> Box<dyn Device> {
+fn flatbed(rt: &impl Abort, alloc: Global, name: &[u8]) -> Flatbed {
     let page = read_page(alloc, b"P5\n1 1\n255\n\x00", 50).expect(rt, "a page");
     let name = Text::new(alloc, name).expect(rt, "a name");
     let source = Source::Memory(MemoryPage::new(page));
     match Flatbed::new(alloc, name, source, ByteOrder::Little) {
-        Ok(flatbed) => Box::new(alloc, flatbed).expect(rt, "a box"),
+        Ok(flatbed) => flatbed,
         Err(_) => panic!(rt; "no flatbed"),
     }
 }
 
 /// Flatbeds of these names.
-fn boxes(rt: &impl Abort, alloc: Global, names: &[&[u8]]) -> Vec<Box<dyn Device>> {
+fn flatbeds(rt: &impl Abort, alloc: Global, names: &[&[u8]]) -> Vec<Flatbed> {
     let mut devices = Vec::new(alloc);
     for name in names {
-        devices.push(boxed(rt, alloc, name)).expect(rt, "memory");
+        devices.push(flatbed(rt, alloc, name)).expect(rt, "memory");
     }
     devices
 }
 
-fn registry(rt: &impl Abort, alloc: Global, names: &[&[u8]]) -> Registry {
-    match Registry::new(alloc, boxes(rt, alloc, names)) {
+fn registry(rt: &impl Abort, alloc: Global, names: &[&[u8]]) -> Registry<Flatbed> {
+    match Registry::new(alloc, flatbeds(rt, alloc, names)) {
         Ok(registry) => registry,
         Err((fault, _)) => panic!(rt; "refused: {fault:?}"),
     }
@@ -37,7 +37,7 @@ fn registry(rt: &impl Abort, alloc: Global, names: &[&[u8]]) -> Registry {
 
 /// The fault of devices of these names, of which as many come back.
 fn expect_refused(rt: &impl Abort, alloc: Global, names: &[&[u8]], wanted: RegistryFault) {
-    match Registry::new(alloc, boxes(rt, alloc, names)) {
+    match Registry::new(alloc, flatbeds(rt, alloc, names)) {
         Ok(_) => panic!(rt; "not refused"),
         Err((fault, devices)) => {
             assert_eq!(rt; fault, wanted);
@@ -60,7 +60,7 @@ fn devices_that_are_refused(rt: HostRuntime) {
 }
 
 /// Takes a lease apart, which only a test may: its device does not come back.
-fn device_of(lease: Lease) -> Box<dyn Device> {
+fn device_of(lease: Lease<Flatbed>) -> Flatbed {
     let Lease { device, place: _ } = lease;
     device
 }
@@ -69,7 +69,7 @@ fn device_of(lease: Lease) -> Box<dyn Device> {
 #[test]
 fn a_device_is_handed_out_reset(rt: HostRuntime) {
     let alloc = rt.alloc();
-    let mut devices = boxes(&rt, alloc, &[b"flatbed:0", b"flatbed:1"]);
+    let mut devices = flatbeds(&rt, alloc, &[b"flatbed:0", b"flatbed:1"]);
     for device in devices.iter_mut() {
         let set = device.set(alloc, RESOLUTION, &Value::Int(100));
         assert!(rt; set.is_ok());
