@@ -87,29 +87,6 @@ pub keeps : (first old : DeviceState) (result : Result ℕ Status) (new : Device
 keeps first old result new buf before reads =
     keeps_in old.phase old result new buf reads ∙ ap (λ (s : DeviceState). record s { phase = new.phase; failures = new.failures }) before
 
--- ---- a read that refuses
-
-good_told : (told : Option Status) (given : ℕ) (status : Status) → told_at told given ≡ Some status → told ≡ Some status
-good_told told given status e =
-    elim (given == 0) as (λ t. (if t then told else None) ≡ Some status → told ≡ Some status) [
-      | true ↦ λ h. h
-      | false ↦ λ h. (let clash : None ≡ Some status = h in absurd (cc))
-    ] e
-
-good_in_frame : (told : Option Status) (old : DeviceState) (pass given : ℕ) (new : DeviceState) (buf : List ℕ) → FrameReads told old pass given (Err Good) new buf → told ≡ Some Good
-good_in_frame None old pass given new buf reads = absurd reads
-good_in_frame (Some status) old pass given new buf reads = let e = reads.0 in let same : status ≡ Good = cc in ap (λ (s : Status). Some s) same
-
-never_good : (phase : Phase) (old : DeviceState) (new : DeviceState) (buf : List ℕ) → old.setup.told ≢ Some Good → ReadsIn phase old (Err Good) new buf → ⊥
-never_good (AtRest true) old new buf told reads = let e = reads.0 in absurd (cc)
-never_good (AtRest false) old new buf told reads = let e = reads.0 in absurd (cc)
-never_good (Between p) old new buf told reads = let e = reads.0 in absurd (cc)
-never_good (Reading pass given) old new buf told reads =
-    told (good_told old.setup.told given Good (good_in_frame (told_at old.setup.told given) old pass given new buf reads))
-
-pub not_good : (old new : DeviceState) (buf : List ℕ) (status : Status) → old.setup.told ≢ Some Good → Reads old (Err status) new buf → status ≢ Good
-not_good old new buf status told reads e = never_good old.phase old new buf told (subst (λ (s : Status). Reads old (Err s) new buf) e reads)
-
 -- ---- the bytes so far
 
 pub first_bytes : (s : DeviceState) (pass : ℕ) (past : Past) (frame : Frame) (first contents : Option (List ℕ)) (join : Joining) → Stands past join → past.under ≡ Some frame → frame.payload ≡ []

@@ -97,20 +97,6 @@ pub ended_well : (past : Past) (f : Frame) → past.fault ≡ None → past.unde
     → (is_full f ≡ true) × (after_end past ≡ record past { ended = f ∷ []; under = None })
 ended_well past f no_fault under none joined = ended_by past f (is_full f) refl no_fault under none joined
 
--- what was given stays, and a frame that did not end well is no whole file
-ended_given : (past : Past) (f : Frame) (full : Bool) → is_full f ≡ full → past.fault ≡ None → past.under ≡ Some f → (after_end past).given ≡ past.given
-unfolding after_end
-ended_given past f true e no_fault under = rw (no_fault, under, e) refl
-ended_given past f false e no_fault under = rw (no_fault, under, e) refl
-
-pub ends_short : (past : Past) (f : Frame) (first contents : Option (List ℕ)) (join : Joining) → past.fault ≡ None → past.under ≡ Some f → Stands (after_end past) join → (IsJoined (after_end past) → ⊥)
-    → ((q : Past) (j : Joining) → Stands q j → (IsJoined q → ⊥) → IsWhole q.given → ⊥) → Appends first contents past.given → StopsShort first contents
-ends_short past f first contents join no_fault under stands unjoined law taken = record {
-  text = past.given;
-  taken = taken;
-  not_whole = λ whole. law (after_end past) join stands unjoined (subst IsWhole (sym (ended_given past f (is_full f) refl no_fault under)) whole);
-}
-
 pub ends_whole : (past : Past) (f : Frame) (first before contents : Option (List ℕ)) (was join : Joining) → past.fault ≡ None → past.under ≡ Some f → past.ended ≡ [] → Stands (after_end past) was → answer_of (after_end past) ≡ Ok true
     → ((q : Past) (j : Joining) → Stands q j → IsJoined q → (p : Picture) × ShowsFrames q.ended p)
     → ((q : Past) → Stands q was → Appends first before q.given → IsDrainedTo q first join contents) → Appends first before past.given → EndsWhole f first contents
