@@ -9,7 +9,7 @@ use Rattle.sane_fixed.specs.declared.status.Status.{Status}
 use Rattle.sane_fixed.specs.declared.status.Status.TheVariants.{Good, Unsupported, Cancelled, DeviceBusy, Inval, Eof, Jammed, NoDocs, CoverOpen, IoError, NoMem, AccessDenied}
 use Rattle.page_picture.specs.Shows.{Frame}
 use Rattle.scan_frames.specs.Frames.{payload, pass_length}
-use Rattle.device_api.specs.State.{DeviceState, Phase, AtRest, Between, Reading, with_phase, Reads, ReadsIn, ReadsOn, FrameReads, GivesBytes, told_at}
+use Rattle.device_api.specs.State.{DeviceState, Phase, AtRest, Between, Reading, with_phase, Reads, ReadsIn, ReadsOn, FrameReads, GivesBytes, told_at, after_pass, after_told}
 use Rattle.pnm_writer.specs.declared.join_stage.JoinFault.{JoinFault}
 use Rattle.pnm_writer.specs.FrameHistory.{Past, IsJoined, answer_by}
 use Rattle.pnm_writer.specs.Joining.{Joining, Stands}
@@ -86,6 +86,20 @@ keeps_in (Reading pass given) old result new buf reads = keeps_told (told_at old
 pub keeps : (first old : DeviceState) (result : Result ℕ Status) (new : DeviceState) (buf : List ℕ) → Keeps first old → Reads old result new buf → Keeps first new
 keeps first old result new buf before reads =
     keeps_in old.phase old result new buf reads ∙ ap (λ (s : DeviceState). record s { phase = new.phase; failures = new.failures }) before
+
+-- ---- the end of a frame
+
+pub ends : (old now new : DeviceState) (pass given : ℕ) (buf : List ℕ) → now ≡ with_phase old (Reading pass given) → Reads now (Err Eof) new buf → new.phase ≡ after_pass old.setup pass
+ends old now new pass given buf is reads =
+    by_told (told_at now.setup.told given) (subst (λ (p : Phase). ReadsIn p now (Err Eof) new buf) (ap (λ (s : DeviceState). s.phase) is) reads)
+    ∙ ap (λ (s : DeviceState). after_pass s.setup pass) is
+  where
+    by_told : (told : Option Status) → FrameReads told now pass given (Err Eof) new buf → new.phase ≡ after_pass now.setup pass
+    by_told None reads = ap (λ (s : DeviceState). s.phase) reads.1
+    by_told (Some status) reads =
+        let e = reads.0 in
+        let same : status ≡ Eof = cc in
+        ap (λ (s : DeviceState). s.phase) reads.1 ∙ ap (after_told now.setup pass) same
 
 -- ---- the bytes so far
 
