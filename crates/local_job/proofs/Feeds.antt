@@ -1,15 +1,13 @@
 -- Bytes that come into a join, and a fault that comes to stand.
-use Rattle.std.proofs.Common.{◌≡◌, ◌+◌, ℕ, List, ◌++◌, Option, Some, None, Ok, Err, Bool, true, false, length, refl, sym, ap, ◌∙◌, subst}
+use Rattle.std.proofs.Common.{◌≡◌, ◌+◌, ℕ, List, ◌++◌, Option, Some, None, Bool, true, false, length, refl, sym, ap, ◌∙◌}
 use Rattle.std.specs.Prelude.{nat_lt, if◌then◌else◌}
-use Rattle.std.specs.Io.KnownBytes.{Appends}
-use Rattle.netpbm.specs.Pnm.{IsWhole}
 use Rattle.page_picture.specs.Shows.{Frame}
 use Rattle.pnm_writer.specs.declared.join_stage.JoinFault.{JoinFault}
 use Rattle.pnm_writer.specs.declared.join_stage.JoinFault.TheVariants.{Long, NoMem}
 use Rattle.pnm_writer.specs.AloneFrame.{most_bytes}
-use Rattle.pnm_writer.specs.FrameHistory.{Past, IsJoined, answer_by, fed, failed, after_feed}
-use Rattle.pnm_writer.specs.Joining.{Joining, Stands}
-use Rattle.local_job.specs.Draining.{IsDrainedTo, Feeds, StopsShort}
+use Rattle.pnm_writer.specs.FrameHistory.{Past, fed, failed, after_feed}
+use Rattle.pnm_writer.specs.Joining.{Joining}
+use Rattle.local_job.specs.Draining.{IsDrainedTo, Feeds}
 
 -- the history with more bytes in its frame
 abbrev grown : Past → Frame → List ℕ → Past

@@ -16,10 +16,9 @@ use Rattle.std.proofs.Common.{Result, Ok, Err}
 use Rattle.pnm_writer.specs.declared.join_stage.JoinFault.TheVariants.{Shape, Short, NoMem}
 use Rattle.pnm_writer.specs.FrameHistory.{Past, no_past, after_begin, after_end, answer_of, is_full}
 use Rattle.std.specs.Io.KnownBytes.{Appends}
-use Rattle.netpbm.specs.Pnm.{IsWhole}
 use Rattle.pnm_writer.specs.FrameHistory.{IsJoined}
 use Rattle.pnm_writer.specs.Joining.{Joining, Stands}
-use Rattle.local_job.specs.Draining.{IsDrainedTo, StopsShort}
+use Rattle.local_job.specs.Draining.{IsDrainedTo}
 use Rattle.std.proofs.lemmas.Bool.{eqb-true}
 use Rattle.page_picture.specs.Meaning.{meaning_of}
 use Rattle.device_api.specs.State.{DeviceState, Reading, with_phase}
