@@ -1,15 +1,13 @@
 -- Bytes that come into a join, and a fault that comes to stand.
-use Rattle.std.proofs.Common.{◌≡◌, ◌+◌, ℕ, List, ◌++◌, Option, Some, None, Ok, Err, Bool, true, false, length, refl, sym, ap, ◌∙◌, subst}
+use Rattle.std.proofs.Common.{◌≡◌, ◌+◌, ℕ, List, ◌++◌, Option, Some, None, Bool, true, false, length, refl, sym, ap, ◌∙◌}
 use Rattle.std.specs.Prelude.{nat_lt, if◌then◌else◌}
-use Rattle.std.specs.Io.KnownBytes.{Appends}
-use Rattle.netpbm.specs.Pnm.{IsWhole}
 use Rattle.page_picture.specs.Shows.{Frame}
 use Rattle.pnm_writer.specs.declared.join_stage.JoinFault.{JoinFault}
 use Rattle.pnm_writer.specs.declared.join_stage.JoinFault.TheVariants.{Long, NoMem}
 use Rattle.pnm_writer.specs.AloneFrame.{most_bytes}
-use Rattle.pnm_writer.specs.FrameHistory.{Past, IsJoined, answer_by, fed, failed, after_feed}
-use Rattle.pnm_writer.specs.Joining.{Joining, Stands}
-use Rattle.local_job.specs.Draining.{IsDrainedTo, Feeds, StopsShort}
+use Rattle.pnm_writer.specs.FrameHistory.{Past, fed, failed, after_feed}
+use Rattle.pnm_writer.specs.Joining.{Joining}
+use Rattle.local_job.specs.Draining.{IsDrainedTo, Feeds}
 
 -- the history with more bytes in its frame
 abbrev grown : Past → Frame → List ℕ → Past
@@ -21,11 +19,6 @@ fed_by past f bytes true starved none no_fault = let clash : Some Long ≡ None 
 fed_by past f bytes false true none no_fault = let clash : Some NoMem ≡ None = none in absurd (cc)
 fed_by past f bytes false false none no_fault = refl
 
-given_by : (past : Past) (f : Frame) (bytes : List ℕ) (long starved : Bool) → (if long then failed Long past else (if starved then failed NoMem past else grown past f bytes)).given ≡ past.given
-given_by past f bytes true starved = refl
-given_by past f bytes false true = refl
-given_by past f bytes false false = refl
-
 fed_here : (past : Past) (f : Frame) (bytes : List ℕ) (starved : Bool) → past.fault ≡ None → past.under ≡ Some f → after_feed bytes starved past ≡ fed None (Some f) bytes starved past
 unfolding after_feed
 fed_here past f bytes starved no_fault under = ap (λ (o : Option JoinFault). fed o past.under bytes starved past) no_fault ∙ ap (λ (u : Option Frame). fed None u bytes starved past) under
@@ -34,26 +27,6 @@ pub fed_well : (past : Past) (f : Frame) (bytes : List ℕ) (starved : Bool) →
 fed_well past f bytes starved no_fault under none =
     let here = fed_here past f bytes starved no_fault under in
     here ∙ fed_by past f bytes (nat_lt (most_bytes f.params) (length f.payload + length bytes)) starved (ap (λ (q : Past). q.fault) (sym here) ∙ none) no_fault
-
-fed_given : (past : Past) (f : Frame) (bytes : List ℕ) (starved : Bool) → past.fault ≡ None → past.under ≡ Some f → (after_feed bytes starved past).given ≡ past.given
-fed_given past f bytes starved no_fault under =
-    ap (λ (q : Past). q.given) (fed_here past f bytes starved no_fault under) ∙ given_by past f bytes (nat_lt (most_bytes f.params) (length f.payload + length bytes)) starved
-
-pub fault_unjoined : (past : Past) (fault : JoinFault) → past.fault ≡ Some fault → IsJoined past → ⊥
-fault_unjoined past fault e joined =
-    let clash : Err fault ≡ Ok true = ap (λ (o : Option JoinFault). answer_by o past.under past.ended) (sym e) ∙ joined in
-    absurd (cc)
-
--- a fault that comes to stand leaves no whole file
-pub fed_badly : (past : Past) (f : Frame) (bytes : List ℕ) (starved : Bool) (fault : JoinFault) (first contents : Option (List ℕ)) (join : Joining) → past.fault ≡ None → past.under ≡ Some f
-    → Stands (after_feed bytes starved past) join → (after_feed bytes starved past).fault ≡ Some fault
-    → ((q : Past) (j : Joining) → Stands q j → (IsJoined q → ⊥) → IsWhole q.given → ⊥)
-    → Appends first contents past.given → StopsShort first contents
-fed_badly past f bytes starved fault first contents join no_fault under stands stopped law taken = record {
-  text = past.given;
-  taken = taken;
-  not_whole = λ whole. law (after_feed bytes starved past) join stands (fault_unjoined (after_feed bytes starved past) fault stopped) (subst IsWhole (sym (fed_given past f bytes starved no_fault under)) whole);
-}
 
 pub feeds : (past : Past) (f : Frame) (first contents : Option (List ℕ)) (join : Joining) → IsDrainedTo (record past { under = Some f }) first join contents → Feeds past f first join contents
 feeds past f first contents join d = record { given = past.given ++ d.bytes; stands = d.stands; taken = d.taken }

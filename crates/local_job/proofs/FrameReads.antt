@@ -1,6 +1,5 @@
 -- What the reads of a frame give, one after another.
-use Rattle.std.proofs.Common.{◌≡◌, ◌≢◌, ℕ, ◌+◌, ◌-◌, ◌<◌, List, [], ◌++◌, Option, Some, None, Result, Ok, Err, true, false, take, drop, refl, sym, ap, ◌∙◌, subst, arith, length-append}
-use Rattle.std.specs.Prelude.{if◌then◌else◌, ◌==◌}
+use Rattle.std.proofs.Common.{◌≡◌, ℕ, ◌+◌, ◌-◌, ◌<◌, List, [], ◌++◌, Option, Some, None, Result, Ok, Err, true, false, take, drop, refl, sym, ap, ◌∙◌, subst, arith, length-append}
 use Rattle.std.specs.Io.KnownBytes.{Appends}
 use Rattle.std.proofs.Math.Seq.{take-add}
 use Rattle.std.proofs.lemmas.List.{length-take}
@@ -9,7 +8,7 @@ use Rattle.sane_fixed.specs.declared.status.Status.{Status}
 use Rattle.sane_fixed.specs.declared.status.Status.TheVariants.{Good, Unsupported, Cancelled, DeviceBusy, Inval, Eof, Jammed, NoDocs, CoverOpen, IoError, NoMem, AccessDenied}
 use Rattle.page_picture.specs.Shows.{Frame}
 use Rattle.scan_frames.specs.Frames.{payload, pass_length}
-use Rattle.device_api.specs.State.{DeviceState, Phase, AtRest, Between, Reading, with_phase, Reads, ReadsIn, ReadsOn, FrameReads, GivesBytes, told_at}
+use Rattle.device_api.specs.State.{DeviceState, Phase, AtRest, Between, Reading, with_phase, Reads, ReadsIn, ReadsOn, FrameReads, GivesBytes, told_at, after_pass, after_told}
 use Rattle.pnm_writer.specs.declared.join_stage.JoinFault.{JoinFault}
 use Rattle.pnm_writer.specs.FrameHistory.{Past, IsJoined, answer_by}
 use Rattle.pnm_writer.specs.Joining.{Joining, Stands}
@@ -87,28 +86,19 @@ pub keeps : (first old : DeviceState) (result : Result ℕ Status) (new : Device
 keeps first old result new buf before reads =
     keeps_in old.phase old result new buf reads ∙ ap (λ (s : DeviceState). record s { phase = new.phase; failures = new.failures }) before
 
--- ---- a read that refuses
+-- ---- the end of a frame
 
-good_told : (told : Option Status) (given : ℕ) (status : Status) → told_at told given ≡ Some status → told ≡ Some status
-good_told told given status e =
-    elim (given == 0) as (λ t. (if t then told else None) ≡ Some status → told ≡ Some status) [
-      | true ↦ λ h. h
-      | false ↦ λ h. (let clash : None ≡ Some status = h in absurd (cc))
-    ] e
-
-good_in_frame : (told : Option Status) (old : DeviceState) (pass given : ℕ) (new : DeviceState) (buf : List ℕ) → FrameReads told old pass given (Err Good) new buf → told ≡ Some Good
-good_in_frame None old pass given new buf reads = absurd reads
-good_in_frame (Some status) old pass given new buf reads = let e = reads.0 in let same : status ≡ Good = cc in ap (λ (s : Status). Some s) same
-
-never_good : (phase : Phase) (old : DeviceState) (new : DeviceState) (buf : List ℕ) → old.setup.told ≢ Some Good → ReadsIn phase old (Err Good) new buf → ⊥
-never_good (AtRest true) old new buf told reads = let e = reads.0 in absurd (cc)
-never_good (AtRest false) old new buf told reads = let e = reads.0 in absurd (cc)
-never_good (Between p) old new buf told reads = let e = reads.0 in absurd (cc)
-never_good (Reading pass given) old new buf told reads =
-    told (good_told old.setup.told given Good (good_in_frame (told_at old.setup.told given) old pass given new buf reads))
-
-pub not_good : (old new : DeviceState) (buf : List ℕ) (status : Status) → old.setup.told ≢ Some Good → Reads old (Err status) new buf → status ≢ Good
-not_good old new buf status told reads e = never_good old.phase old new buf told (subst (λ (s : Status). Reads old (Err s) new buf) e reads)
+pub ends : (old now new : DeviceState) (pass given : ℕ) (buf : List ℕ) → now ≡ with_phase old (Reading pass given) → Reads now (Err Eof) new buf → new.phase ≡ after_pass old.setup pass
+ends old now new pass given buf is reads =
+    by_told (told_at now.setup.told given) (subst (λ (p : Phase). ReadsIn p now (Err Eof) new buf) (ap (λ (s : DeviceState). s.phase) is) reads)
+    ∙ ap (λ (s : DeviceState). after_pass s.setup pass) is
+  where
+    by_told : (told : Option Status) → FrameReads told now pass given (Err Eof) new buf → new.phase ≡ after_pass now.setup pass
+    by_told None reads = ap (λ (s : DeviceState). s.phase) reads.1
+    by_told (Some status) reads =
+        let e = reads.0 in
+        let same : status ≡ Eof = cc in
+        ap (λ (s : DeviceState). s.phase) reads.1 ∙ ap (after_told now.setup pass) same
 
 -- ---- the bytes so far
 

@@ -16,10 +16,9 @@ use Rattle.std.proofs.Common.{Result, Ok, Err}
 use Rattle.pnm_writer.specs.declared.join_stage.JoinFault.TheVariants.{Shape, Short, NoMem}
 use Rattle.pnm_writer.specs.FrameHistory.{Past, no_past, after_begin, after_end, answer_of, is_full}
 use Rattle.std.specs.Io.KnownBytes.{Appends}
-use Rattle.netpbm.specs.Pnm.{IsWhole}
 use Rattle.pnm_writer.specs.FrameHistory.{IsJoined}
 use Rattle.pnm_writer.specs.Joining.{Joining, Stands}
-use Rattle.local_job.specs.Draining.{IsDrainedTo, StopsShort}
+use Rattle.local_job.specs.Draining.{IsDrainedTo}
 use Rattle.std.proofs.lemmas.Bool.{eqb-true}
 use Rattle.page_picture.specs.Meaning.{meaning_of}
 use Rattle.device_api.specs.State.{DeviceState, Reading, with_phase}
@@ -96,20 +95,6 @@ ended_by past f false e no_fault under none joined = absurd (let clash : Err Sho
 pub ended_well : (past : Past) (f : Frame) → past.fault ≡ None → past.under ≡ Some f → past.ended ≡ [] → answer_of (after_end past) ≡ Ok true
     → (is_full f ≡ true) × (after_end past ≡ record past { ended = f ∷ []; under = None })
 ended_well past f no_fault under none joined = ended_by past f (is_full f) refl no_fault under none joined
-
--- what was given stays, and a frame that did not end well is no whole file
-ended_given : (past : Past) (f : Frame) (full : Bool) → is_full f ≡ full → past.fault ≡ None → past.under ≡ Some f → (after_end past).given ≡ past.given
-unfolding after_end
-ended_given past f true e no_fault under = rw (no_fault, under, e) refl
-ended_given past f false e no_fault under = rw (no_fault, under, e) refl
-
-pub ends_short : (past : Past) (f : Frame) (first contents : Option (List ℕ)) (join : Joining) → past.fault ≡ None → past.under ≡ Some f → Stands (after_end past) join → (IsJoined (after_end past) → ⊥)
-    → ((q : Past) (j : Joining) → Stands q j → (IsJoined q → ⊥) → IsWhole q.given → ⊥) → Appends first contents past.given → StopsShort first contents
-ends_short past f first contents join no_fault under stands unjoined law taken = record {
-  text = past.given;
-  taken = taken;
-  not_whole = λ whole. law (after_end past) join stands unjoined (subst IsWhole (sym (ended_given past f (is_full f) refl no_fault under)) whole);
-}
 
 pub ends_whole : (past : Past) (f : Frame) (first before contents : Option (List ℕ)) (was join : Joining) → past.fault ≡ None → past.under ≡ Some f → past.ended ≡ [] → Stands (after_end past) was → answer_of (after_end past) ≡ Ok true
     → ((q : Past) (j : Joining) → Stands q j → IsJoined q → (p : Picture) × ShowsFrames q.ended p)

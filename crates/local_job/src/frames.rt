@@ -6,7 +6,7 @@ ghost use Rattle.pnm_writer.specs.Joining.{Stands};
 ghost use Rattle.local_job.specs.Draining.{Feeds, StopsShort};
 ghost use Rattle.std.specs.Prelude.{◌≢◌, [], IfErr, true};
 ghost use Rattle.sane_fixed.specs.declared.status.Status.TheVariants.{Good};
-ghost use Rattle.device_api.specs.State.{Reading};
+ghost use Rattle.device_api.specs.State.{Reading, after_pass};
 ghost use Rattle.local_job.specs.FrameReading.{IsReadTo, IsRefusal, Keeps};
 
 use crate::drain::drain;
@@ -61,6 +61,7 @@ pub fn read_frame<W: Write>(
     ensures short { OnErr result ((pass : ℕ) (past : Past) (frame : Frame) (first : Option (List ℕ)) → (state device.old).phase ≡ Reading pass 0 →
         Stands past join.old → past.fault ≡ None → past.under ≡ Some frame → frame.payload ≡ [] → Appends first (W.contents out.old) past.given →
         StopsShort first (W.contents out.new)) }
+    ensures ended { OnOk result ((pass : ℕ) → (state device.old).phase ≡ Reading pass 0 → (state device.new).phase ≡ after_pass (state device.old).setup pass) }
     ensures refusal { IfErr result (λ stop. (pass : ℕ) → (state device.old).phase ≡ Reading pass 0 → IsRefusal stop) }
     ensures same { Keeps (state device.old) (state device.new) }
 {

@@ -12,3 +12,6 @@ mod stop;
 pub use output::put;
 pub use run::run_local;
 pub use stop::Stop;
+
+#[cfg(test)]
+mod tests;

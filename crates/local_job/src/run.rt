@@ -3,7 +3,7 @@ ghost use Rattle.sane_fixed.specs.declared.status.Status.TheVariants.{Good, Eof}
 ghost use Rattle.device_api.specs.State.{is_at_rest, after_reset};
 ghost use Rattle.net_backend.specs.Outcomes.{IfDone, IfEnded, IsOver};
 ghost use Rattle.local_job.specs.FrameReading.{IsRefusal};
-ghost use Rattle.local_job.specs.LocalRun.{IsDone, LeavesNoFile, Runs};
+ghost use Rattle.local_job.specs.LocalRun.{IsDone, IsEndedBy, LeavesNoFile, Runs};
 
 use crate::scan::scan_picture;
 use crate::settings::put_settings;
@@ -24,6 +24,7 @@ fn do_job<W: Write>(
     ensures done { IfOk result (λ reports. IsDone (state device.old) job.now reports (W.contents out.old) (W.contents out.new)) }
     ensures no_file { OnErr result (LeavesNoFile (W.contents out.old) (W.contents out.new)) }
     ensures refusal { IfErr result (λ stop. IsRefusal stop) }
+    ensures stop { IfErr result (λ stop. IsEndedBy (state device.old) job.now stop) }
     ensures runs { Runs (state device.old) (state device.new) }
 {
     if !job.has_size() {
@@ -65,6 +66,7 @@ pub fn run_local<W: Write>(
     ensures over { IsOver result }
     ensures done { IfDone result (λ reports. IsDone (after_reset (state device.old)) job.now reports (W.contents out.old) (W.contents out.new)) }
     ensures ended { IfEnded result (λ status why. (status ≢ Good) × (status ≢ Eof) × LeavesNoFile (W.contents out.old) (W.contents out.new)) }
+    ensures stop { IfEnded result (λ status why. IsEndedBy (after_reset (state device.old)) job.now (record { status = status; why = why })) }
     ensures runs { Runs (state device.old) (state device.new) }
     ensures rest { is_at_rest (state device.new).phase ≡ true }
 {

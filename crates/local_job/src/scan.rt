@@ -1,6 +1,6 @@
-ghost use Rattle.std.specs.Prelude.{◌≡◌, ◌≢◌, ◌<◌, true, Some, None, length, Option, List, ℕ, [], IfErr, OnOk, OnErr, IfOk};
+ghost use Rattle.std.specs.Prelude.{◌≡◌, ◌≢◌, ◌<◌, ◌⊎◌, true, false, Some, None, length, Option, List, ℕ, [], IfErr, OnOk, OnErr, IfOk};
 ghost use Rattle.std.specs.Io.KnownBytes.{Appends};
-ghost use Rattle.sane_fixed.specs.declared.status.Status.TheVariants.{Good};
+ghost use Rattle.sane_fixed.specs.declared.status.Status.TheVariants.{Good, Inval};
 ghost use Rattle.page_picture.specs.Shows.{Frame};
 ghost use Rattle.pnm_writer.specs.AloneFrame.{is_alone};
 ghost use Rattle.pnm_writer.specs.FrameHistory.{Past};
@@ -9,6 +9,7 @@ ghost use Rattle.scan_frames.specs.Frames.{has_picture, params_at};
 ghost use Rattle.device_api.specs.Allowed.{HasLimits};
 ghost use Rattle.device_api.specs.State.{is_at_rest, with_phase, Reading};
 ghost use Rattle.local_job.specs.Draining.{StopsShort};
+ghost use Rattle.local_job.specs.Stops.{no_memory, answered};
 ghost use Rattle.local_job.specs.FrameReading.{IsRefusal, Keeps, IsScanned, EndsWhole, begun};
 
 use crate::drain::drain;
@@ -45,6 +46,7 @@ fn begin_frame(alloc: Global, params: &Params, order: ByteOrder) -> Result<Frame
 fn start_scan(alloc: Global, device: &mut dyn Device) -> Result<(), Stop>
     requires { is_at_rest (state device.old).phase ≡ true }
     ensures picture { OnOk result (has_picture (state device.old).setup (state device.old).page ≡ true) }
+    ensures none { IfErr result (λ stop. has_picture (state device.old).setup (state device.old).page ≡ false → stop ≡ answered Inval) }
     ensures started { OnOk result (state device.new ≡ with_phase (state device.old) (Reading 0 0)) }
     ensures refusal { IfErr result (λ stop. IsRefusal stop) }
     ensures same { Keeps (state device.old) (state device.new) }
@@ -108,6 +110,7 @@ pub fn scan_picture<W: Write>(
     ensures done { OnOk result ((first : Option (List ℕ)) → Appends first (W.contents out.old) [] → IsScanned (state device.old) first (W.contents out.new)) }
     ensures short { OnErr result ((first : Option (List ℕ)) → Appends first (W.contents out.old) [] → StopsShort first (W.contents out.new)) }
     ensures refusal { IfErr result (λ stop. IsRefusal stop) }
+    ensures none { IfErr result (λ stop. has_picture (state device.old).setup (state device.old).page ≡ false → (stop ≡ no_memory) ⊎ (stop ≡ answered Inval)) }
     ensures same { Keeps (state device.old) (state device.new) }
 {
     frames_show_the_picture();

@@ -10,3 +10,6 @@ pub use job::{Job, Task};
 pub use listed::Listed;
 pub use outcome::{Outcome, Why};
 pub use report::{Report, Reports};
+
+#[cfg(test)]
+mod tests;

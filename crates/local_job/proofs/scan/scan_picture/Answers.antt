@@ -1,4 +1,4 @@
-use Rattle.std.proofs.Common.{◌≡◌, sym, ap, subst, refl, true}
+use Rattle.std.proofs.Common.{◌≡◌, sym, ap, subst, refl, true, inr}
 use Rattle.std.specs.Prelude.{[]}
 use Rattle.std.proofs.lemmas.Result.{err_from_is_err_and}
 use Rattle.scan_frames.specs.Frames.{has_picture, params_at}
@@ -9,6 +9,11 @@ use Rattle.local_job.specs.FrameReading.{begun}
 use Rattle.local_job.proofs.FrameReads.{so_far}
 use Rattle.local_job.proofs.Pictures.{came, scanned, scanned_before, on_ok_map, on_err_map}
 use Rattle.local_job.proofs.scan.scan_picture.Goals as goal
+
+pub returns-in_err-start_scan-clause-none : goal.returns-in_err-start_scan-clause-none
+returns-in_err-start_scan-clause-none g c =
+    let p = err_from_is_err_and c.from_residual-in_err-start_scan.result c.from_residual-in_err-start_scan.ensures.1 in
+    rw (p.1, p.2) (λ none. inr (c.in_err-start_scan.ensures.none none))
 
 pub returns-in_err-read_frame-clause-short : goal.returns-in_err-read_frame-clause-short
 returns-in_err-read_frame-clause-short g c =
