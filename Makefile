@@ -5,7 +5,7 @@ PREFIX ?= /usr/local
 DEMO_INPUT := flatbed 0 26 hex:50350a3220310a3235350a0ac8
 DEMO_WORDS := --config - --resolution 26 --br-x 1 --br-y 1
 
-.PHONY: demo build test failing-allocations peer-check bench install need-rt
+.PHONY: demo build test more-edits failing-allocations peer-check bench install need-rt
 
 # One scan from source, before any proof.
 demo: need-rt
@@ -27,6 +27,11 @@ test: need-rt
 	[ -x crates/scanimage/out/scanimage ] || $(MAKE) build
 	tests/run-scanimage
 
+# Tries the edits of crates/*/more-edits, which the prover must refuse as well. It takes an hour or two, so the gate
+# leaves it out.
+more-edits: need-rt
+	tests/more-edits
+
 # Runs the scan with each allocation refused in turn. It takes some minutes, so the gate leaves it out.
 failing-allocations: need-rt
 	tests/failing-allocations
@@ -39,6 +44,7 @@ peer-check:
 # Prints speed and memory beside a peer in the same run. The gate leaves it out.
 bench: need-rt
 	cd crates/scan_bench && rt run
+	cd crates/wire_bench && rt run
 	tests/bench
 
 # Puts the proved program at $(PREFIX)/bin/scanimage.
