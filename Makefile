@@ -32,8 +32,8 @@ test: need-rt
 more-edits: need-rt
 	tests/more-edits
 
-# Runs the scan with each allocation refused in turn. It takes some minutes, so the gate leaves it out.
-failing-allocations: need-rt
+# Runs the proved program with each allocation refused in turn. It needs a C compiler, so the gate leaves it out.
+failing-allocations: build
 	tests/failing-allocations
 
 # Compares the files of the tests with what netpbm's programs read in them, where netpbm is installed. The gate leaves

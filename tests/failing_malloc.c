@@ -1,0 +1,36 @@
+/* Refuses the FAIL_ALLOC-th allocation that the program itself makes, and no other. It is loaded before the C library. */
+#define _GNU_SOURCE
+#include <dlfcn.h>
+#include <stdlib.h>
+#include <string.h>
+
+static long wanted = -1;
+static long seen = 0;
+
+static int is_refused(void *caller)
+{
+    Dl_info from;
+    if (wanted < 0) {
+        const char *told = getenv("FAIL_ALLOC");
+        wanted = told ? atol(told) : 0;
+    }
+    if (!dladdr(caller, &from) || !from.dli_fname || !strstr(from.dli_fname, "scanimage"))
+        return 0;
+    return ++seen == wanted;
+}
+
+void *malloc(size_t size)
+{
+    static void *(*next)(size_t);
+    if (!next)
+        next = (void *(*)(size_t))dlsym(RTLD_NEXT, "malloc");
+    return is_refused(__builtin_return_address(0)) ? 0 : next(size);
+}
+
+void *realloc(void *at, size_t size)
+{
+    static void *(*next)(void *, size_t);
+    if (!next)
+        next = (void *(*)(void *, size_t))dlsym(RTLD_NEXT, "realloc");
+    return is_refused(__builtin_return_address(0)) ? 0 : next(at, size);
+}
