@@ -1,4 +1,5 @@
-use sane_fixed::Text;
+use sane_fixed::{NoMem, Text};
+use std::alloc::Global;
 
 /// What a scanner is (SANE Standard 1.06, "Device Descriptor Type").
 #[derive(Debug, Drop)]
@@ -9,4 +10,20 @@ pub struct DeviceInfo {
     pub model: Text,
     /// The standard's type, as `flatbed scanner`.
     pub class: Text,
+}
+
+impl DeviceInfo {
+    ghost use Rattle.std.specs.Prelude.{◌≡◌, IfOk};
+
+    /// An equal description. The only error is want of memory.
+    pub fn try_clone(&self, alloc: Global) -> Result<DeviceInfo, NoMem>
+        ensures { IfOk result (λ copy. copy ≡ self.now) }
+    {
+        Ok(DeviceInfo {
+            name: self.name.try_clone(alloc)?,
+            vendor: self.vendor.try_clone(alloc)?,
+            model: self.model.try_clone(alloc)?,
+            class: self.class.try_clone(alloc)?,
+        })
+    }
 }

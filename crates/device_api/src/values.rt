@@ -68,7 +68,7 @@ pub fn reset_setup(setup: &mut Setup)
 }
 
 /// Whether the bit, one of `Cap`'s, is among the capabilities.
-fn has_cap(caps: u32, bit: u32) -> bool
+pub fn has_cap(caps: u32, bit: u32) -> bool
     requires { 1 ≤ bit }
     ensures { result ≡ has_cap caps bit }
 {

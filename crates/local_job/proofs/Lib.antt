@@ -4,3 +4,4 @@ pub mod Drains
 pub mod Feeds
 pub mod FrameReads
 pub mod Pictures
+pub mod Shows

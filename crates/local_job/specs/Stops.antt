@@ -1,6 +1,6 @@
 -- What ends a local job before it is done.
 use Rattle.sane_fixed.specs.declared.status.Status.{Status}
-use Rattle.sane_fixed.specs.declared.status.Status.TheVariants.{Unsupported, Inval, IoError, NoMem}
+use Rattle.sane_fixed.specs.declared.status.Status.TheVariants.{Inval, IoError, NoMem}
 use Rattle.net_backend.specs.declared.outcome.Why.{Why}
 use Rattle.net_backend.specs.declared.outcome.Why.TheVariants.{Answer, Malformed, Short, Long, Setting, Memory, Sink}
 use Rattle.pnm_writer.specs.declared.join_stage.JoinFault.{JoinFault}
@@ -39,7 +39,3 @@ unjoined fault.NoMem = no_memory
 -- frames that are none, or not those of a picture
 abbrev pub malformed : Stop
 malformed = record { status = IoError; why = Malformed }
-
--- a task that is not done here
-abbrev pub unsupported : Stop
-unsupported = record { status = Unsupported; why = Answer }

@@ -7,6 +7,7 @@ mod output;
 mod run;
 mod scan;
 mod settings;
+mod showing;
 mod stop;
 
 pub use output::put;

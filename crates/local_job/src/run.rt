@@ -3,15 +3,56 @@ ghost use Rattle.sane_fixed.specs.declared.status.Status.TheVariants.{Good, Eof}
 ghost use Rattle.device_api.specs.State.{is_at_rest, after_reset};
 ghost use Rattle.net_backend.specs.Outcomes.{IfDone, IfEnded, IsOver};
 ghost use Rattle.local_job.specs.FrameReading.{IsRefusal};
-ghost use Rattle.local_job.specs.LocalRun.{IsDone, IsEndedBy, LeavesNoFile, Runs};
+ghost use Rattle.local_job.specs.Stops.{no_memory};
+ghost use Rattle.local_job.specs.LocalRun.{settings_put, devices_told, options_told, IsDone, IsEndedBy, LeavesNoFile, Runs};
 
 use crate::scan::scan_picture;
 use crate::settings::put_settings;
-use crate::stop::{Stop, bad_setting, unsupported};
-use device_api::Device;
-use net_backend::{Job, Listed, Outcome, Report, Reports, Task};
+use crate::showing::show_options;
+use crate::stop::{Stop, bad_setting};
+use device_api::{Device, DeviceInfo};
+use net_backend::{Job, Listed, Outcome, Reports, Task};
+use option_desc::{Descriptor, Value};
+use sane_fixed::Text;
 use std::alloc::Global;
 use std::io::Write;
+
+/// The settings that a task puts.
+fn settings_put(task: Task, settings: &[(Text, Text)]) -> &[(Text, Text)]
+    ensures { result.now ≡ settings_put task settings.now }
+{
+    match task {
+        Task::List => &[],
+        Task::Show | Task::SetOnly | Task::Scan => settings,
+    }
+}
+
+/// The devices that a task reports.
+fn devices_told(alloc: Global, task: Task, device: &dyn Device) -> Result<Listed<DeviceInfo>, Stop>
+    ensures told { IfOk result (λ devices. devices ≡ devices_told task (state device.now).info) }
+    ensures memory { IfErr result (λ stop. stop ≡ no_memory) }
+{
+    let mut devices = Vec::new(alloc);
+    if task == Task::List {
+        devices.push(device.info().try_clone(alloc)?)?;
+    }
+    Ok(Listed::from_vec(devices))
+}
+
+/// The options that a task reports.
+fn options_told(
+    alloc: Global,
+    task: Task,
+    device: &dyn Device,
+) -> Result<Listed<(Descriptor, Option<Value>)>, Stop>
+    ensures told { IfOk result (λ options. options ≡ options_told task (state device.now).setup) }
+    ensures memory { IfErr result (λ stop. stop ≡ no_memory) }
+{
+    match task {
+        Task::Show => show_options(alloc, device),
+        Task::List | Task::SetOnly | Task::Scan => Ok(Listed::from_vec(Vec::new(alloc))),
+    }
+}
 
 /// Does a job on a scanner at rest.
 fn do_job<W: Write>(
@@ -30,29 +71,17 @@ fn do_job<W: Write>(
     if !job.has_size() {
         return Err(bad_setting());
     }
-    match job.task {
-        Task::List | Task::Show => Err(unsupported()),
-        Task::SetOnly => {
-            let settings = put_settings(alloc, device, &job.settings)?;
-            Ok(reports_of(alloc, settings))
-        }
-        Task::Scan => {
-            let settings = put_settings(alloc, device, &job.settings)?;
-            scan_picture(alloc, device, out)?;
-            Ok(reports_of(alloc, settings))
-        }
+    let settings = put_settings(alloc, device, settings_put(job.task, &job.settings))?;
+    let devices = devices_told(alloc, job.task, &*device)?;
+    let options = options_told(alloc, job.task, &*device)?;
+    if job.task == Task::Scan {
+        scan_picture(alloc, device, out)?;
     }
-}
-
-/// The reports of settings, with neither devices nor options.
-fn reports_of(alloc: Global, settings: Listed<Report>) -> Reports
-    ensures { result.settings ≡ settings }
-{
-    Reports {
+    Ok(Reports {
         settings,
-        devices: Listed::from_vec(Vec::new(alloc)),
-        options: Listed::from_vec(Vec::new(alloc)),
-    }
+        devices,
+        options,
+    })
 }
 
 /// Does a job on a scanner of this machine: resets it, puts each setting, does the task, and cancels it

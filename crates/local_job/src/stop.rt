@@ -1,6 +1,6 @@
 ghost use Rattle.std.specs.Prelude.{◌≡◌};
 ghost use Rattle.local_job.specs.declared.stop.Stop.{Stop as AnyStop};
-ghost use Rattle.local_job.specs.Stops.{no_memory, bad_setting, answered, bad_output, unjoined, malformed, unsupported};
+ghost use Rattle.local_job.specs.Stops.{no_memory, bad_setting, answered, bad_output, unjoined, malformed};
 
 use net_backend::Why;
 use pnm_writer::JoinFault;
@@ -54,16 +54,6 @@ pub fn bad_output() -> Stop
     Stop {
         status: Status::IoError,
         why: Why::Sink,
-    }
-}
-
-/// The task is not done here.
-pub fn unsupported() -> Stop
-    ensures { result ≡ unsupported }
-{
-    Stop {
-        status: Status::Unsupported,
-        why: Why::Answer,
     }
 }
 

@@ -1,3 +1,5 @@
+mod tasks;
+
 use crate::{put, run_local};
 use device_api::Device;
 use flatbed_dev::Flatbed;
@@ -397,23 +399,6 @@ fn no_picture(rt: HostRuntime) {
     let outcome = run_local(alloc, &mut device, &scan, &mut file);
     ends(&rt, &outcome, Status::Inval, Why::Answer);
     assert_eq!(&rt; file.len(), 0);
-}
-
-#[test]
-fn tasks_that_are_not_done_here(rt: HostRuntime) {
-    let alloc = rt.alloc();
-    let mut device = flatbed_on(&rt, alloc, TWO_ROWS, 26);
-    for task in [Task::List, Task::Show] {
-        let mut file = Vec::new(alloc);
-        let outcome = run_local(
-            alloc,
-            &mut device,
-            &job(&rt, alloc, ONE_BY_TWO, task),
-            &mut file,
-        );
-        ends(&rt, &outcome, Status::Unsupported, Why::Answer);
-        assert_eq!(&rt; file.len(), 0);
-    }
 }
 
 /// A job of so many settings of resolution 26.

@@ -1,3 +1,4 @@
 pub mod Why
 pub mod JobSize
 pub mod Outcomes
+pub mod Shown

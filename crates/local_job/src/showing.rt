@@ -1,0 +1,48 @@
+ghost use Rattle.std.specs.Prelude.{◌≡◌, Some, slice_get, IfOk, IfErr};
+ghost use Rattle.device_api.specs.Options.{descriptors_of};
+ghost use Rattle.local_job.specs.Stops.{no_memory};
+ghost use Rattle.local_job.specs.Showing.{shown, value_told};
+
+use crate::stop::{Stop, answered};
+use device_api::Device;
+use net_backend::{Listed, tells_value};
+use option_desc::{Descriptor, Value};
+use std::alloc::Global;
+
+/// The value of an option, where it has one to tell.
+fn value_told(
+    alloc: Global,
+    device: &dyn Device,
+    n: u32,
+    desc: &Descriptor,
+) -> Result<Option<Value>, Stop>
+    requires { slice_get (descriptors_of (state device.now).setup) n ≡ Some desc.now }
+    ensures told { IfOk result (λ value. value ≡ value_told (state device.now).setup n desc.now) }
+    ensures refusal { IfErr result (λ stop. stop ≡ no_memory) }
+{
+    if !tells_value(desc) {
+        return Ok(None);
+    }
+    match device.get(alloc, n) {
+        Ok(value) => Ok(Some(value)),
+        Err(status) => Err(answered(status)),
+    }
+}
+
+/// The options as they stand, each with its value where it has one to tell. The only error is want of
+/// memory.
+pub fn show_options(
+    alloc: Global,
+    device: &dyn Device,
+) -> Result<Listed<(Descriptor, Option<Value>)>, Stop>
+    ensures shown { IfOk result (λ options. options ≡ shown (state device.now).setup) }
+    ensures refusal { IfErr result (λ stop. stop ≡ no_memory) }
+{
+    let descriptors = device.descriptors(alloc).map_err(answered)?;
+    let mut options = Vec::with_capacity(alloc, descriptors.len())?;
+    for (n, desc) in descriptors.iter().enumerate() {
+        let value = value_told(alloc, device, n as u32, desc)?;
+        options.push((desc.try_clone(alloc)?, value))?;
+    }
+    Ok(Listed::from_vec(options))
+}
