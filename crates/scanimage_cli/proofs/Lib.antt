@@ -1,3 +1,2 @@
-pub mod Bytes
 pub mod CutLemmas
-pub mod SettingLemmas
+pub mod Lines

@@ -1,6 +1,5 @@
 pub mod Ending
-pub mod Settings
-pub mod Config
-pub mod Scan
+pub mod Asked
+pub mod DeviceList
 pub mod WordCut
 pub mod Options

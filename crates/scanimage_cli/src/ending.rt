@@ -1,54 +1,22 @@
-use crate::config::ConfigFault;
+use config_pages::NoPage;
+use dispatch::ConfigFault;
+use net_backend::Why;
 use sane_fixed::{Status, Text};
 use std::io;
 use std::io::Write;
-
-/// Why a job ended with a status.
-#[derive(Clone, Copy, Debug, PartialEq, Eq)]
-pub enum Why {
-    /// The device answered so.
-    Answer,
-    /// A setting names no option, does not read, or is not admitted; or there is no such device.
-    Setting,
-    /// No memory.
-    Memory,
-    /// The output failed or cannot be made.
-    Sink,
-}
-
-/// What is wrong with a line of the config.
-#[derive(Clone, Copy, Debug, PartialEq, Eq)]
-pub enum ConfigReason {
-    TooManyLines,
-    BadByte,
-    WrongFields,
-    UnknownKind,
-    BadIndex,
-    BadDpi,
-    CannotReadPage,
-    /// The page file has the fault of that number.
-    PageFault(u8),
-}
 
 /// How the program ends where it does not end well.
 #[derive(Drop)]
 pub enum Ending {
     BadCommandLine,
+    /// A file that the command line names cannot be read.
     CannotRead(Text),
+    /// A line of the config tells of no device.
     Config(ConfigFault),
+    /// The page that the config's line of that number names is not there.
+    Page(u32, NoPage),
+    /// What was asked for ended with this status.
     Ended(Status, Why),
-}
-
-impl Why {
-    /// The word in brackets after the status.
-    fn word(self) -> &'static str {
-        match self {
-            Why::Answer => "answer",
-            Why::Setting => "setting",
-            Why::Memory => "memory",
-            Why::Sink => "output",
-        }
-    }
 }
 
 impl Ending {
@@ -61,7 +29,7 @@ impl Ending {
     {
         match self {
             Ending::BadCommandLine => 64,
-            Ending::CannotRead(_) | Ending::Config(_) => 65,
+            Ending::CannotRead(_) | Ending::Config(_) | Ending::Page(_, _) => 65,
             Ending::Ended(status, _) => status.code() as u8,
         }
     }
@@ -76,33 +44,17 @@ impl Ending {
                 to.write_all(b"\n")
             }
             Ending::Config(ConfigFault { line, reason }) => {
-                let line = *line;
-                write!(to, "scanimage: config line {line}: ")?;
-                reason.tell(to)?;
-                to.write_all(b"\n")
+                let (line, reason) = (*line, *reason);
+                writeln!(to, "scanimage: config line {line}: {reason}")
+            }
+            Ending::Page(line, why) => {
+                let (line, why) = (*line, *why);
+                writeln!(to, "scanimage: config line {line}: {why}")
             }
             Ending::Ended(status, why) => {
                 let status = status.name();
                 let why = why.word();
                 writeln!(to, "scanimage: {status} ({why})")
-            }
-        }
-    }
-}
-
-impl ConfigReason {
-    fn tell<W: Write>(&self, to: &mut W) -> io::Result<()> {
-        match self {
-            ConfigReason::TooManyLines => to.write_all(b"too many lines"),
-            ConfigReason::BadByte => to.write_all(b"bad byte"),
-            ConfigReason::WrongFields => to.write_all(b"wrong number of fields"),
-            ConfigReason::UnknownKind => to.write_all(b"unknown kind"),
-            ConfigReason::BadIndex => to.write_all(b"bad index"),
-            ConfigReason::BadDpi => to.write_all(b"bad dpi"),
-            ConfigReason::CannotReadPage => to.write_all(b"cannot read page"),
-            ConfigReason::PageFault(fault) => {
-                let fault = *fault;
-                write!(to, "page fault {fault}")
             }
         }
     }

@@ -1,29 +1,26 @@
-//! What the program `scanimage` does: the words of its command line, its config, a scan, and its endings.
+//! What the program `scanimage` does: the words of its command line, its job, its lists and tables, and its endings.
 #![tactic(auto)]
 
-mod config;
+mod asked;
 mod ending;
 mod geometry;
+mod listing;
 mod options;
 mod output;
 mod program_option;
 mod rounding;
-mod scanning;
-mod settings;
 mod split;
+mod table;
 mod word_cut;
 
-pub use config::{ConfigFault, DeviceLine, read_config};
-pub use ending::{ConfigReason, Ending, Why};
+pub use asked::{is_local, is_net_name, task_of};
+pub use ending::Ending;
 pub use geometry::Geometry;
+pub use listing::device_list;
 pub use options::{Options, OptionsFault, read_options};
-pub use output::put;
+pub use output::Output;
 pub use program_option::ProgramOption;
-pub use rounding::tell_rounded;
-pub use scanning::{Scanned, scan};
-pub use settings::{Report, Setting, SettingFault, Values, descriptor_of, put_settings};
+pub use rounding::rounded_lines;
 pub use split::{Measures, Split, split_words};
+pub use table::options_table;
 pub use word_cut::{Awaited, Item, SplitFault, Told};
-
-#[cfg(test)]
-mod tests;

@@ -1,28 +1,42 @@
-ghost use Rattle.std.specs.Prelude.{◌≤◌, ℕ, length, take, IsTrue};
-ghost use Rattle.std.specs.Io.KnownBytes.{Appends};
+use sane_fixed::Text;
+use std::fs::File;
+use std::io::{self, ErrorKind, Stdout, Write};
 
-use std::io::{ErrorKind, Write};
+/// Where a file goes: standard output, or a file that is made when the first bytes come, and in which
+/// nothing of an older one is left then.
+#[derive(Drop)]
+pub enum Output<'a> {
+    Standard(Stdout),
+    Unmade(&'a HostRuntime, Text),
+    Made(File),
+}
 
-/// How often a write is made at most, an interrupted one again.
-const MOST_WRITES: u64 = 1 << 40;
+/// Makes the file of that name, which is relative to the current folder.
+fn made(rt: &HostRuntime, path: &Text) -> io::Result<File> {
+    match std::str::from_utf8(path.as_bytes()) {
+        Ok(path) => File::create(rt, path),
+        Err(_) => Err(io::Error::from(ErrorKind::InvalidInput)),
+    }
+}
 
-/// Writes the bytes, and makes an interrupted write again. Says whether the writer took them all; a
-/// writer that fails or takes nothing of a write ends it.
-pub fn put<W: Write>(to: &mut W, bytes: &[u8]) -> bool
-    ensures whole { IsTrue result → Appends (W.contents to.old) (W.contents to.new) bytes.now }
-    ensures prefix { (n : ℕ) × (n ≤ length bytes.now) × Appends (W.contents to.old) (W.contents to.new) (take n bytes.now) }
-{
-    let mut at = 0;
-    for _ in 0..MOST_WRITES {
-        if at == bytes.len() {
-            return true;
+impl Write for Output<'_> {
+    fn write(&mut self, bytes: &[u8]) -> io::Result<usize> {
+        if let Output::Unmade(rt, path) = self {
+            let file = made(rt, path)?;
+            *self = Output::Made(file);
         }
-        match to.write(&bytes[at..]) {
-            Ok(0) => return false,
-            Ok(n) => at += n,
-            Err(e) if e.kind() == ErrorKind::Interrupted => {}
-            Err(_) => return false,
+        match self {
+            Output::Standard(out) => out.write(bytes),
+            Output::Made(file) => file.write(bytes),
+            Output::Unmade(_, _) => Ok(0),
         }
     }
-    at == bytes.len()
+
+    fn flush(&mut self) -> io::Result<()> {
+        match self {
+            Output::Standard(out) => out.flush(),
+            Output::Made(file) => file.flush(),
+            Output::Unmade(_, _) => Ok(()),
+        }
+    }
 }

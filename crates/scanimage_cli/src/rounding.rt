@@ -1,43 +1,47 @@
-use crate::ending::{Ending, Why};
-use crate::settings::{Report, descriptor_of};
-use option_desc::{Descriptor, Value, show_text};
-use sane_fixed::{NoMem, Status, Text};
+use net_backend::Report;
+use option_desc::{Descriptor, show_text};
+use sane_fixed::{Info, NoMem};
 use std::alloc::Global;
-use std::io::Write;
 
-fn no_memory() -> Ending {
-    Ending::Ended(Status::NoMem, Why::Memory)
+/// The option that a report is of.
+fn option_of<'a>(report: &Report, options: &'a [Descriptor]) -> Option<&'a Descriptor> {
+    options
+        .iter()
+        .find(|desc| desc.name.as_bytes() == report.name.as_bytes())
 }
 
-/// The texts of a report's values where they differ.
-fn rounded(alloc: Global, report: &Report) -> Result<Option<(Text, Text)>, NoMem> {
-    if report.asked == report.given {
-        return Ok(None);
-    }
-    let desc: Descriptor = descriptor_of(alloc, report.setting)?;
-    let asked = show_text(alloc, &desc, &report.asked)?;
-    let given = show_text(alloc, &desc, &report.given)?;
-    Ok(Some((asked, given)))
-}
-
-/// Writes a line for each setting that was given another value than it asked for. A writer that fails
-/// loses the line, no more.
-pub fn tell_rounded<W: Write>(alloc: Global, reports: &[Report], to: &mut W) -> Result<(), Ending> {
-    for report in reports {
-        let Some((asked, given)) = rounded(alloc, report).map_err(|_| no_memory())? else {
-            continue;
-        };
-        let _ = tell(report.setting.name(), &asked, &given, to);
-    }
+/// Adds the line of a setting that was given another value than it asked for.
+fn add_rounded(
+    alloc: Global,
+    lines: &mut Vec<u8>,
+    report: &Report,
+    desc: &Descriptor,
+) -> Result<(), NoMem> {
+    lines.extend_from_slice(b"scanimage: rounded value of ")?;
+    lines.extend_from_slice(report.name.as_bytes())?;
+    lines.extend_from_slice(b" from ")?;
+    lines.extend_from_slice(show_text(alloc, desc, &report.asked)?.as_bytes())?;
+    lines.extend_from_slice(b" to ")?;
+    lines.extend_from_slice(show_text(alloc, desc, &report.given)?.as_bytes())?;
+    lines.extend_from_slice(b"\n")?;
     Ok(())
 }
 
-fn tell<W: Write>(name: &str, asked: &Text, given: &Text, to: &mut W) -> std::io::Result<()> {
-    to.write_all(b"scanimage: rounded value of ")?;
-    to.write_all(name.as_bytes())?;
-    to.write_all(b" from ")?;
-    to.write_all(asked.as_bytes())?;
-    to.write_all(b" to ")?;
-    to.write_all(given.as_bytes())?;
-    to.write_all(b"\n")
+/// A line for each setting that was given another value than it asked for, by the options that the
+/// settings are of. The only error is want of memory.
+pub fn rounded_lines(
+    alloc: Global,
+    reports: &[Report],
+    options: &[Descriptor],
+) -> Result<Vec<u8>, NoMem> {
+    let mut lines = Vec::new(alloc);
+    for report in reports {
+        if report.info.0 & Info::INEXACT == 0 {
+            continue;
+        }
+        if let Some(desc) = option_of(report, options) {
+            add_rounded(alloc, &mut lines, report, desc)?;
+        }
+    }
+    Ok(lines)
 }
