@@ -24,3 +24,6 @@ pub use rounding::rounded_lines;
 pub use split::{Measures, Split, split_words};
 pub use table::options_table;
 pub use word_cut::{Awaited, Item, SplitFault, Told};
+
+#[cfg(test)]
+mod tests;
