@@ -25,7 +25,7 @@ build: need-rt
 test: need-rt
 	rt ci
 	[ -x crates/scanimage/out/scanimage ] || $(MAKE) build
-	tests/run-scanimage
+	tests/programs
 
 # Tries the edits of crates/*/more-edits, which the prover must refuse as well. It takes an hour or two, so the gate
 # leaves it out.
@@ -46,6 +46,8 @@ bench: need-rt
 	cd crates/scan_bench && rt run
 	cd crates/wire_bench && rt run
 	tests/bench
+	[ -x crates/scanimage/out/scanimage ] || $(MAKE) build
+	tests/bench-scanimage
 
 # Puts the proved program at $(PREFIX)/bin/scanimage.
 install: build
