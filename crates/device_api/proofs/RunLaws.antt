@@ -81,7 +81,7 @@ ended_whole first now new p buf at reads none =
     let plain : FrameReads None (with_phase first (Reading p g)) p g (Err Eof) new buf = subst (λ o. FrameReads o (with_phase first (Reading p g)) p g (Err Eof) new buf) (none_told first.setup.told g none) here in
     plain.0
 
-length-payload : (setup : Setup) (page : Sheet) (p : ℕ) → length (payload setup page p) ≡ pass_length setup page p
+pub length-payload : (setup : Setup) (page : Sheet) (p : ℕ) → length (payload setup page p) ≡ pass_length setup page p
 length-payload setup page p = length-joined (line_bytes setup page p) (bytes_per_line setup p) (height_of setup page) (λ y. length-line_of _ _ _ _ _ (bytes_per_line setup p))
 
 drop_all : (n : ℕ) (xs : List ℕ) → n ≡ length xs → drop n xs ≡ []

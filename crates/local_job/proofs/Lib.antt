@@ -5,3 +5,4 @@ pub mod Feeds
 pub mod FrameReads
 pub mod Pictures
 pub mod Shows
+pub mod Passes

@@ -21,6 +21,10 @@ why_answered _ = Answer
 abbrev pub answered : Status → Stop
 answered status = record { status = status; why = why_answered status }
 
+-- a read takes no memory, so what it refuses with is its answer
+abbrev pub read_refused : Status → Stop
+read_refused status = record { status = status; why = Answer }
+
 -- a text that does not read
 abbrev pub unread : Status → Stop
 unread NoMem = no_memory

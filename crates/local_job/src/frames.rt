@@ -7,10 +7,10 @@ ghost use Rattle.local_job.specs.Draining.{Feeds, StopsShort};
 ghost use Rattle.std.specs.Prelude.{◌≢◌, [], IfErr, true};
 ghost use Rattle.sane_fixed.specs.declared.status.Status.TheVariants.{Good};
 ghost use Rattle.device_api.specs.State.{Reading, after_pass};
-ghost use Rattle.local_job.specs.FrameReading.{IsReadTo, IsRefusal, Keeps};
+ghost use Rattle.local_job.specs.FrameReading.{IsAllOrNone, IsReadTo, IsRefusal, Keeps};
 
 use crate::drain::drain;
-use crate::stop::{Stop, answered, bad_output, unjoined};
+use crate::stop::{Stop, bad_output, read_refused, unjoined};
 use device_api::Device;
 use pnm_writer::{FrameJoin, not_whole_before};
 use sane_fixed::Status;
@@ -57,7 +57,7 @@ pub fn read_frame<W: Write>(
     ensures room { length room.new ≡ length room.old }
     ensures read { OnOk result ((pass : ℕ) (past : Past) (frame : Frame) (first : Option (List ℕ)) → (state device.old).phase ≡ Reading pass 0 →
         Stands past join.old → past.fault ≡ None → past.under ≡ Some frame → frame.payload ≡ [] → Appends first (W.contents out.old) past.given →
-        (given : ℕ) × IsReadTo (state device.old) pass given past frame first join.new (W.contents out.new)) }
+        (given : ℕ) × IsAllOrNone (state device.old) pass given × IsReadTo (state device.old) pass given past frame first join.new (W.contents out.new)) }
     ensures short { OnErr result ((pass : ℕ) (past : Past) (frame : Frame) (first : Option (List ℕ)) → (state device.old).phase ≡ Reading pass 0 →
         Stands past join.old → past.fault ≡ None → past.under ≡ Some frame → frame.payload ≡ [] → Appends first (W.contents out.old) past.given →
         StopsShort first (W.contents out.new)) }
@@ -70,7 +70,7 @@ pub fn read_frame<W: Write>(
         let n = match device.read(piece) {
             Ok(n) => n,
             Err(status) if status == Status::Eof => return Ok(()),
-            Err(status) => return Err(answered(status)),
+            Err(status) => return Err(read_refused(status)),
         };
         take_piece(join, &piece[..n], room, out)?;
     }

@@ -1,23 +1,21 @@
 ghost use Rattle.std.specs.Prelude.{◌≡◌, ◌≢◌, ◌<◌, ◌⊎◌, true, false, Some, None, length, Option, List, ℕ, [], IfErr, OnOk, OnErr, IfOk};
 ghost use Rattle.std.specs.Io.KnownBytes.{Appends};
-ghost use Rattle.sane_fixed.specs.declared.status.Status.TheVariants.{Good, Inval};
+ghost use Rattle.sane_fixed.specs.declared.status.Status.TheVariants.{Inval};
 ghost use Rattle.page_picture.specs.Shows.{Frame};
-ghost use Rattle.pnm_writer.specs.AloneFrame.{is_alone};
-ghost use Rattle.pnm_writer.specs.FrameHistory.{Past};
+ghost use Rattle.pnm_writer.specs.FrameHistory.{Past, is_joined};
 ghost use Rattle.pnm_writer.specs.Joining.{Stands};
-ghost use Rattle.scan_frames.specs.Frames.{has_picture, params_at};
+ghost use Rattle.scan_frames.specs.Frames.{has_picture};
 ghost use Rattle.device_api.specs.Allowed.{HasLimits};
-ghost use Rattle.device_api.specs.State.{is_at_rest, with_phase, Reading};
+ghost use Rattle.device_api.specs.State.{is_at_rest, is_reading, next_pass, params_of, with_phase, Reading};
 ghost use Rattle.local_job.specs.Draining.{StopsShort};
 ghost use Rattle.local_job.specs.Stops.{no_memory, answered};
-ghost use Rattle.local_job.specs.FrameReading.{IsRefusal, Keeps, IsScanned, EndsWhole, begun};
+ghost use Rattle.local_job.specs.FrameReading.{IsRefusal, Keeps, IsScanned, EndsFrame, HasJoined, HasScanned};
 
 use crate::drain::drain;
 use crate::frames::read_frame;
 use crate::stop::{Stop, answered, bad_output, malformed, unjoined};
 use device_api::Device;
 use pnm_writer::{FrameJoin, not_whole_before, whole_shows};
-use sane_fixed::{ByteOrder, Params};
 use scan_frames::frames_show_the_picture;
 use std::alloc::{AllocError, Global};
 use std::io::Write;
@@ -28,26 +26,15 @@ const PIECE: usize = 4096;
 /// The most bytes that are written at once.
 const ROOM: usize = 4096;
 
-/// A join in which the first frame has begun.
-fn begin_frame(alloc: Global, params: &Params, order: ByteOrder) -> Result<FrameJoin, Stop>
-    ensures alone { OnOk result (is_alone params.now ≡ true) }
-    ensures begun { IfOk result (λ join. Stands (begun params.now order) join) }
-    ensures refusal { IfErr result (λ stop. IsRefusal stop) }
-{
-    let mut join = FrameJoin::new(alloc);
-    join.begin(alloc, params, order);
-    match join.fault() {
-        Some(fault) => Err(unjoined(fault)),
-        None => Ok(join),
-    }
-}
+/// A picture has one frame, or three.
+const MOST_PASSES: u32 = 3;
 
-/// Begins a scan.
-fn start_scan(alloc: Global, device: &mut dyn Device) -> Result<(), Stop>
-    requires { is_at_rest (state device.old).phase ≡ true }
+/// Begins a scan, or its next pass.
+fn start_pass(alloc: Global, device: &mut dyn Device) -> Result<(), Stop>
+    requires { is_reading (state device.old).phase ≡ false }
     ensures picture { OnOk result (has_picture (state device.old).setup (state device.old).page ≡ true) }
     ensures none { IfErr result (λ stop. has_picture (state device.old).setup (state device.old).page ≡ false → stop ≡ answered Inval) }
-    ensures started { OnOk result (state device.new ≡ with_phase (state device.old) (Reading 0 0)) }
+    ensures started { OnOk result (state device.new ≡ with_phase (state device.old) (Reading (next_pass (state device.old).phase) 0)) }
     ensures refusal { IfErr result (λ stop. IsRefusal stop) }
     ensures same { Keeps (state device.old) (state device.new) }
 {
@@ -57,36 +44,38 @@ fn start_scan(alloc: Global, device: &mut dyn Device) -> Result<(), Stop>
     }
 }
 
-/// A join in which the first frame of a scan has begun.
-fn first_frame(alloc: Global, device: &dyn Device) -> Result<FrameJoin, Stop>
-    requires { (state device.now).phase ≡ Reading 0 0 }
-    ensures alone { OnOk result (is_alone (params_at (state device.now).setup (state device.now).page 0) ≡ true) }
-    ensures begun { IfOk result (λ join. Stands (begun (params_at (state device.now).setup (state device.now).page 0) (state device.now).setup.order) join) }
+/// Begins the frame of the pass that the scanner reads.
+fn begin_frame(alloc: Global, device: &dyn Device, join: &mut FrameJoin) -> Result<(), Stop>
+    ensures begun { OnOk result ((past : Past) → Stands past join.old → past.fault ≡ None → past.under ≡ None → is_joined past.ended ≡ false →
+        Stands (record past { under = Some (record { params = params_of (state device.now); order = (state device.now).setup.order; payload = [] }) }) join.new) }
     ensures limits { HasLimits (state device.now) }
     ensures refusal { IfErr result (λ stop. IsRefusal stop) }
 {
     let params = device.params();
-    begin_frame(alloc, &params, device.order())
+    join.begin(alloc, &params, device.order());
+    match join.fault() {
+        Some(fault) => Err(unjoined(fault)),
+        None => Ok(()),
+    }
 }
 
-/// Ends the frame: the output takes the rest of the file.
-fn end_frame<W: Write>(join: &mut FrameJoin, room: &mut [u8], out: &mut W) -> Result<(), Stop>
+/// Ends the frame, and the output takes what may go out then. Says whether the picture is whole.
+fn end_frame<W: Write>(join: &mut FrameJoin, room: &mut [u8], out: &mut W) -> Result<bool, Stop>
     requires { 0 < length room.old }
-    ensures whole { OnOk result ((past : Past) (frame : Frame) (first : Option (List ℕ)) → Stands past join.old → past.fault ≡ None → past.under ≡ Some frame → past.ended ≡ [] →
-        Appends first (W.contents out.old) past.given → EndsWhole frame first (W.contents out.new)) }
-    ensures short { OnErr result ((past : Past) (frame : Frame) (first : Option (List ℕ)) → Stands past join.old → past.fault ≡ None → past.under ≡ Some frame → past.ended ≡ [] →
+    ensures room { length room.new ≡ length room.old }
+    ensures ended { IfOk result (λ is_whole. (first : Option (List ℕ)) (past : Past) (frame : Frame) → Stands past join.old → past.fault ≡ None → past.under ≡ Some frame →
+        Appends first (W.contents out.old) past.given → EndsFrame past frame is_whole first join.new (W.contents out.new)) }
+    ensures short { OnErr result ((first : Option (List ℕ)) (past : Past) (frame : Frame) → Stands past join.old → past.fault ≡ None → past.under ≡ Some frame →
         Appends first (W.contents out.old) past.given → StopsShort first (W.contents out.new)) }
     ensures refusal { IfErr result (λ stop. IsRefusal stop) }
 {
     not_whole_before();
-    whole_shows();
-    match join.end() {
-        Ok(true) => {}
-        Ok(false) => return Err(malformed()),
+    let is_whole = match join.end() {
+        Ok(is_whole) => is_whole,
         Err(fault) => return Err(unjoined(fault)),
-    }
+    };
     if drain(join, room, out) {
-        Ok(())
+        Ok(is_whole)
     } else {
         Err(bad_output())
     }
@@ -99,8 +88,41 @@ fn zeros(alloc: Global, size: usize) -> Result<Vec<u8>, AllocError>
     vec![in alloc; 0u8; size]
 }
 
-/// Scans the picture that the options of a scanner at rest mean on its page, and writes its file: a
-/// frame that is a picture alone. The output is not flushed.
+/// Reads the next pass of a scan, and the output takes what may go out. Says whether the picture is whole.
+fn scan_pass<W: Write>(
+    alloc: Global,
+    device: &mut dyn Device,
+    join: &mut FrameJoin,
+    piece: &mut [u8],
+    room: &mut [u8],
+    out: &mut W,
+) -> Result<bool, Stop>
+    requires rest { is_reading (state device.old).phase ≡ false }
+    requires piece { 0 < length piece.old }
+    requires room { 0 < length room.old }
+    ensures piece { length piece.new ≡ length piece.old }
+    ensures room { length room.new ≡ length room.old }
+    ensures scanned { IfOk result (λ is_whole. (first : Option (List ℕ)) → HasJoined (state device.old) (next_pass (state device.old).phase) first join.old (W.contents out.old) →
+        HasScanned (state device.old) is_whole first (state device.new) join.new (W.contents out.new)) }
+    ensures short { OnErr result ((first : Option (List ℕ)) → HasJoined (state device.old) (next_pass (state device.old).phase) first join.old (W.contents out.old) →
+        StopsShort first (W.contents out.new)) }
+    ensures picture { OnOk result (has_picture (state device.old).setup (state device.old).page ≡ true) }
+    ensures none { IfErr result (λ stop. has_picture (state device.old).setup (state device.old).page ≡ false → stop ≡ answered Inval) }
+    ensures ended { OnOk result (is_reading (state device.new).phase ≡ false) }
+    ensures refusal { IfErr result (λ stop. IsRefusal stop) }
+    ensures same { Keeps (state device.old) (state device.new) }
+{
+    frames_show_the_picture();
+    not_whole_before();
+    whole_shows();
+    start_pass(alloc, device)?;
+    begin_frame(alloc, &*device, join)?;
+    read_frame(device, join, piece, room, out)?;
+    end_frame(join, room, out)
+}
+
+/// Scans the picture that the options of a scanner at rest mean on its page, and writes its file. The
+/// output is not flushed.
 pub fn scan_picture<W: Write>(
     alloc: Global,
     device: &mut dyn Device,
@@ -113,12 +135,14 @@ pub fn scan_picture<W: Write>(
     ensures none { IfErr result (λ stop. has_picture (state device.old).setup (state device.old).page ≡ false → (stop ≡ no_memory) ⊎ (stop ≡ answered Inval)) }
     ensures same { Keeps (state device.old) (state device.new) }
 {
-    frames_show_the_picture();
     not_whole_before();
     let mut piece = zeros(alloc, PIECE)?;
     let mut room = zeros(alloc, ROOM)?;
-    start_scan(alloc, device)?;
-    let mut join = first_frame(alloc, &*device)?;
-    read_frame(device, &mut join, &mut piece, &mut room, out)?;
-    end_frame(&mut join, &mut room, out)
+    let mut join = FrameJoin::new(alloc);
+    for _pass in 0..MOST_PASSES {
+        if scan_pass(alloc, device, &mut join, &mut piece, &mut room, out)? {
+            return Ok(());
+        }
+    }
+    Err(malformed())
 }

@@ -1,6 +1,6 @@
 ghost use Rattle.std.specs.Prelude.{◌≡◌};
 ghost use Rattle.local_job.specs.declared.stop.Stop.{Stop as AnyStop};
-ghost use Rattle.local_job.specs.Stops.{no_memory, bad_setting, answered, bad_output, unjoined, malformed};
+ghost use Rattle.local_job.specs.Stops.{no_memory, bad_setting, answered, read_refused, bad_output, unjoined, malformed};
 
 use net_backend::Why;
 use pnm_writer::JoinFault;
@@ -44,6 +44,16 @@ pub fn answered(status: Status) -> Stop
             status,
             why: Why::Answer,
         },
+    }
+}
+
+/// What a read answered ended the job. It takes no memory, so want of memory too is what it answered.
+pub fn read_refused(status: Status) -> Stop
+    ensures { result ≡ read_refused status }
+{
+    Stop {
+        status,
+        why: Why::Answer,
     }
 }
 

@@ -3,7 +3,7 @@ use device_api::Device;
 use local_job::put;
 use net_backend::{Report, Why};
 use sane_fixed::Status;
-use scanimage_cli::{Ending, rounded_lines};
+use scanimage_cli::{Ending, is_any_rounded, rounded_lines};
 use std::io::Write;
 
 pub fn failed_output() -> Ending {
@@ -25,6 +25,9 @@ pub fn tell_rounded(
     device: &dyn Device,
     reports: &[Report],
 ) -> Result<(), Ending> {
+    if !is_any_rounded(reports) {
+        return Ok(());
+    }
     let options = device.descriptors(rt.alloc()).map_err(|_| no_memory())?;
     let lines = rounded_lines(rt.alloc(), reports, &options).map_err(|_| no_memory())?;
     let _ = rt.stderr().write_all(&lines);

@@ -20,7 +20,7 @@ pub use listing::device_list;
 pub use options::{Options, OptionsFault, read_options};
 pub use output::Output;
 pub use program_option::ProgramOption;
-pub use rounding::rounded_lines;
+pub use rounding::{is_any_rounded, rounded_lines};
 pub use split::{Measures, Split, split_words};
 pub use table::options_table;
 pub use word_cut::{Awaited, Item, SplitFault, Told};

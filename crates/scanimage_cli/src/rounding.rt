@@ -10,6 +10,16 @@ fn option_of<'a>(report: &Report, options: &'a [Descriptor]) -> Option<&'a Descr
         .find(|desc| desc.name.as_bytes() == report.name.as_bytes())
 }
 
+/// Whether a setting was given another value than it asked for.
+fn is_rounded(report: &Report) -> bool {
+    report.info.0 & Info::INEXACT != 0
+}
+
+/// Whether one of the settings was given another value than it asked for.
+pub fn is_any_rounded(reports: &[Report]) -> bool {
+    reports.iter().any(|report| is_rounded(report))
+}
+
 /// Adds the line of a setting that was given another value than it asked for.
 fn add_rounded(
     alloc: Global,
@@ -36,7 +46,7 @@ pub fn rounded_lines(
 ) -> Result<Vec<u8>, NoMem> {
     let mut lines = Vec::new(alloc);
     for report in reports {
-        if report.info.0 & Info::INEXACT == 0 {
+        if !is_rounded(report) {
             continue;
         }
         if let Some(desc) = option_of(report, options) {

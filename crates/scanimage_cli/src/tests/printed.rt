@@ -1,4 +1,4 @@
-use crate::{Ending, device_list, options_table, rounded_lines};
+use crate::{Ending, device_list, is_any_rounded, options_table, rounded_lines};
 use config_pages::NoPage;
 use constraint::{Range, StringList, WordList};
 use device_api::DeviceInfo;
@@ -262,6 +262,7 @@ fn rounded_values(rt: HostRuntime) -> Result<(), Fail> {
             4,
         ),
     ];
+    assert!(rt; is_any_rounded(&reports) && !is_any_rounded(&reports[1..]));
     let lines = rounded_lines(alloc, &reports, &options)?;
     let wanted = b"scanimage: rounded value of name from 0.600006103515625 to 1\n";
     assert_eq!(rt; lines.as_slice(), wanted.as_slice());

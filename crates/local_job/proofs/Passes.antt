@@ -1,0 +1,150 @@
+-- The passes of a scan, joined one after another: their frames are those of the scan.
+use Rattle.std.proofs.Common.{◌≡◌, ℕ, suc, ◌+◌, ◌*◌, ◌<◌, ◌≤◌, List, [], ◌∷◌, ◌++◌, Option, Some, None, Bool, true, false, length, take, refl, sym, ap, ◌∙◌, subst, arith, ◌⊎◌, inl, inr, add-one}
+use Rattle.std.specs.Prelude.{if◌then◌else◌, nat_lt}
+use Rattle.page_picture.specs.Page.{Sheet}
+use Rattle.page_picture.specs.Shows.{Frame}
+use Rattle.page_picture.specs.declared.scene.Mode.{Mode}
+use Rattle.page_picture.specs.declared.scene.Mode.TheVariants.{Gray, Color}
+use Rattle.sane_fixed.specs.declared.byte_order.ByteOrder.{ByteOrder}
+use Rattle.sane_fixed.specs.declared.params.Params.{Params}
+use Rattle.std.proofs.Common.{Result, Ok, Err}
+use Rattle.scan_frames.specs.Frames.{frames_of, frame_of, payload, params_at, format_at, format_of, color_at, takes_colors, last_pass}
+use Rattle.scan_frames.specs.declared.setup.Setup.{Setup}
+use Rattle.scan_frames.specs.declared.setup.PassOrder.{PassOrder}
+use Rattle.scan_frames.specs.declared.setup.PassOrder.TheVariants.{Rgb, Rbg, Gbr, Grb, Brg, Bgr}
+use Rattle.device_api.specs.State.{DeviceState}
+use Rattle.pnm_writer.specs.declared.join_stage.JoinFault.{JoinFault}
+use Rattle.pnm_writer.specs.declared.join_stage.JoinFault.TheVariants.{Shape, Short, NoMem}
+use Rattle.pnm_writer.specs.AloneFrame.{is_alone_format}
+use Rattle.pnm_writer.specs.FrameHistory.{Past, after_begin, after_end, answer_of, is_accepted, is_full, is_joined}
+use Rattle.local_job.specs.FrameReading.{came, frames_came, AreOfPasses}
+
+-- ---- a frame begins, and ends
+
+-- the history in which a frame begins
+abbrev pub begun : Past → Params → ByteOrder → Past
+begun past params order = record past { under = Some (record { params = params; order = order; payload = [] }) }
+
+begun_by : (past : Past) (params : Params) (order : ByteOrder) (accepted starved : Bool) → is_accepted past.ended params order ≡ accepted → past.fault ≡ None → past.under ≡ None → is_joined past.ended ≡ false
+    → (after_begin params order starved past).fault ≡ None → after_begin params order starved past ≡ begun past params order
+unfolding after_begin
+begun_by past params order true true e no_fault under open none = absurd (let clash : Some NoMem ≡ None = rw (no_fault, under, open, e) at none in cc)
+begun_by past params order true false e no_fault under open none = rw (no_fault, under, open, e) refl
+begun_by past params order false starved e no_fault under open none = absurd (let clash : Some Shape ≡ None = rw (no_fault, under, open, e) at none in cc)
+
+pub begun_well : (past : Past) (params : Params) (order : ByteOrder) (starved : Bool) → past.fault ≡ None → past.under ≡ None → is_joined past.ended ≡ false
+    → (after_begin params order starved past).fault ≡ None → after_begin params order starved past ≡ begun past params order
+begun_well past params order starved no_fault under open none = begun_by past params order (is_accepted past.ended params order) starved refl no_fault under open none
+
+-- the history in which it ended
+abbrev pub ended : Past → Frame → Past
+ended past f = record past { ended = past.ended ++ f ∷ []; under = None }
+
+ended_by : (past : Past) (f : Frame) (full is_whole : Bool) → is_full f ≡ full → past.fault ≡ None → past.under ≡ Some f → answer_of (after_end past) ≡ Ok is_whole
+    → (is_full f ≡ true) × (after_end past ≡ ended past f) × (is_joined (past.ended ++ f ∷ []) ≡ is_whole)
+unfolding after_end
+ended_by past f true is_whole e no_fault under answer =
+    (e, rw (no_fault, under, e) refl, (let same : Ok (is_joined (past.ended ++ f ∷ [])) ≡ Ok is_whole = rw (no_fault, under, e) at answer in cc))
+ended_by past f false is_whole e no_fault under answer = absurd (let clash : Err Short ≡ Ok is_whole = rw (no_fault, under, e) at answer in cc)
+
+pub ended_well : (past : Past) (f : Frame) (is_whole : Bool) → past.fault ≡ None → past.under ≡ Some f → answer_of (after_end past) ≡ Ok is_whole
+    → (is_full f ≡ true) × (after_end past ≡ ended past f) × (is_joined (past.ended ++ f ∷ []) ≡ is_whole)
+ended_well past f is_whole no_fault under answer = ended_by past f (is_full f) is_whole refl no_fault under answer
+
+-- ---- which frames are a picture
+
+-- a color of a pass is no picture alone, and a frame of all channels is
+no_color : (o : PassOrder) → is_alone_format (color_at o 0) ≡ false
+no_color Rgb = refl
+no_color Rbg = refl
+no_color Gbr = refl
+no_color Grb = refl
+no_color Brg = refl
+no_color Bgr = refl
+
+all_channels : (m : Mode) → is_alone_format (format_of m) ≡ true
+all_channels Gray = refl
+all_channels Color = refl
+
+abbrev colors : Setup → Bool
+colors s = takes_colors s.scene.kind s.scene.mode
+
+-- the number of the last pass, and the first pass, by whether colors are taken one by one
+last_is : (s : Setup) (t : Bool) → colors s ≡ t → last_pass s ≡ (if t then 2 else 0)
+last_is s t e = ap (λ (b : Bool). if b then 2 else 0) e
+
+one_color : (s : Setup) → colors s ≡ true → is_alone_format (format_at s 0) ≡ false
+one_color s e = ap (λ (b : Bool). is_alone_format (if b then color_at s.passes 0 else format_of s.scene.mode)) e ∙ no_color s.passes
+
+one_whole : (s : Setup) → colors s ≡ false → is_alone_format (format_at s 0) ≡ true
+one_whole s e = ap (λ (b : Bool). is_alone_format (if b then color_at s.passes 0 else format_of s.scene.mode)) e ∙ all_channels s.scene.mode
+
+-- where one more pass is to come, the frames so far are no picture
+not_by : (s : Setup) (page : Sheet) (passes : List (List ℕ)) (t : Bool) → colors s ≡ t → length passes ≤ last_pass s → is_joined (frames_came s page 0 passes) ≡ false
+not_by s page [] t e more = refl
+not_by s page (a ∷ []) true e more = one_color s e
+not_by s page (a ∷ []) false e more = absurd (let few = last_is s false e in omega (arith, more, few))
+not_by s page (a ∷ b ∷ []) t e more = refl
+not_by s page (a ∷ b ∷ c ∷ rest) true e more = absurd (let few = last_is s true e in omega (arith, more, few))
+not_by s page (a ∷ b ∷ c ∷ rest) false e more = absurd (let few = last_is s false e in omega (arith, more, few))
+
+pub not_joined : (s : Setup) (page : Sheet) (passes : List (List ℕ)) → length passes ≤ last_pass s → is_joined (frames_came s page 0 passes) ≡ false
+not_joined s page passes more = not_by s page passes (colors s) refl more
+
+-- where a further pass leaves no picture, one more is to come
+more_by : (s : Setup) (page : Sheet) (passes : List (List ℕ)) (bytes : List ℕ) (t : Bool) → colors s ≡ t → length passes ≤ last_pass s
+    → is_joined (frames_came s page 0 (passes ++ bytes ∷ [])) ≡ false → length passes + 1 ≤ last_pass s
+more_by s page [] bytes true e more open = let few = last_is s true e in omega (arith, few)
+more_by s page [] bytes false e more open = absurd (let clash : true ≡ false = sym (one_whole s e) ∙ open in cc)
+more_by s page (a ∷ []) bytes true e more open = let few = last_is s true e in omega (arith, few)
+more_by s page (a ∷ []) bytes false e more open = absurd (let few = last_is s false e in omega (arith, more, few))
+more_by s page (a ∷ b ∷ []) bytes t e more open = absurd (let clash : true ≡ false = open in cc)
+more_by s page (a ∷ b ∷ c ∷ rest) bytes t e more open = absurd (let clash : true ≡ false = open in cc)
+
+pub more_come : (s : Setup) (page : Sheet) (passes : List (List ℕ)) (bytes : List ℕ) → length passes ≤ last_pass s
+    → is_joined (frames_came s page 0 (passes ++ bytes ∷ [])) ≡ false → length passes + 1 ≤ last_pass s
+more_come s page passes bytes more open = more_by s page passes bytes (colors s) refl more open
+
+-- where it makes a picture, the frames are those of the scan
+same_frame : (s : Setup) (page : Sheet) (pass : ℕ) (bytes : List ℕ) → bytes ≡ payload s page pass → came s page pass bytes ≡ frame_of s page pass
+same_frame s page pass bytes same = ap (came s page pass) same
+
+all_by : (s : DeviceState) (passes : List (List ℕ)) (bytes : List ℕ) (t : Bool) → colors s.setup ≡ t → length passes ≤ last_pass s.setup
+    → is_joined (frames_came s.setup s.page 0 (passes ++ bytes ∷ [])) ≡ true → AreOfPasses s 0 (passes ++ bytes ∷ []) → s.steady ≡ true
+    → frames_came s.setup s.page 0 (passes ++ bytes ∷ []) ≡ (if t then frame_of s.setup s.page 0 ∷ frame_of s.setup s.page 1 ∷ frame_of s.setup s.page 2 ∷ [] else frame_of s.setup s.page 0 ∷ [])
+all_by s [] bytes true e more joined right steady = absurd (let clash : false ≡ true = sym (one_color s.setup e) ∙ joined in cc)
+all_by s [] bytes false e more joined right steady = ap (λ (f : Frame). f ∷ []) (same_frame s.setup s.page 0 bytes (right.0 steady))
+all_by s (a ∷ []) bytes t e more joined right steady = absurd (let clash : false ≡ true = joined in cc)
+all_by s (a ∷ b ∷ []) bytes true e more joined right steady =
+    ap (λ (f : Frame). f ∷ came s.setup s.page 1 b ∷ came s.setup s.page 2 bytes ∷ []) (same_frame s.setup s.page 0 a (right.0 steady))
+    ∙ ap (λ (f : Frame). frame_of s.setup s.page 0 ∷ f ∷ came s.setup s.page 2 bytes ∷ []) (same_frame s.setup s.page 1 b (right.1.0 steady))
+    ∙ ap (λ (f : Frame). frame_of s.setup s.page 0 ∷ frame_of s.setup s.page 1 ∷ f ∷ []) (same_frame s.setup s.page 2 bytes (right.1.1.0 steady))
+all_by s (a ∷ b ∷ []) bytes false e more joined right steady = absurd (let few = last_is s.setup false e in omega (arith, more, few))
+all_by s (a ∷ b ∷ c ∷ rest) bytes true e more joined right steady = absurd (let few = last_is s.setup true e in omega (arith, more, few))
+all_by s (a ∷ b ∷ c ∷ rest) bytes false e more joined right steady = absurd (let few = last_is s.setup false e in omega (arith, more, few))
+
+pub all_frames : (s : DeviceState) (passes : List (List ℕ)) (bytes : List ℕ) → length passes ≤ last_pass s.setup
+    → is_joined (frames_came s.setup s.page 0 (passes ++ bytes ∷ [])) ≡ true → AreOfPasses s 0 (passes ++ bytes ∷ []) → s.steady ≡ true
+    → frames_came s.setup s.page 0 (passes ++ bytes ∷ []) ≡ frames_of s.setup s.page
+all_frames s passes bytes more joined right steady = all_by s passes bytes (colors s.setup) refl more joined right steady
+
+-- ---- one more pass
+
+frames_from : (s : Setup) (page : Sheet) (n : ℕ) (passes : List (List ℕ)) (bytes : List ℕ) → frames_came s page n passes ++ came s page (n + length passes) bytes ∷ [] ≡ frames_came s page n (passes ++ bytes ∷ [])
+frames_from s page n [] bytes = ap (λ (k : ℕ). came s page k bytes ∷ []) (omega arith)
+frames_from s page n (a ∷ more) bytes =
+    ap (λ (k : ℕ). came s page n a ∷ (frames_came s page (suc n) more ++ came s page k bytes ∷ [])) (let e : n + suc (length more) ≡ suc n + length more = omega arith in e)
+    ∙ ap (λ (fs : List Frame). came s page n a ∷ fs) (frames_from s page (suc n) more bytes)
+
+pub frames_more : (s : Setup) (page : Sheet) (pass : ℕ) (passes : List (List ℕ)) (bytes : List ℕ) → length passes ≡ pass → frames_came s page 0 passes ++ came s page pass bytes ∷ [] ≡ frames_came s page 0 (passes ++ bytes ∷ [])
+frames_more s page pass passes bytes count =
+    ap (λ (k : ℕ). frames_came s page 0 passes ++ came s page k bytes ∷ []) (let e : pass ≡ 0 + length passes = omega (arith, count) in e) ∙ frames_from s page 0 passes bytes
+
+right_from : (s : DeviceState) (n : ℕ) (passes : List (List ℕ)) (bytes : List ℕ) → AreOfPasses s n passes → (s.steady ≡ true → bytes ≡ payload s.setup s.page (n + length passes)) → AreOfPasses s n (passes ++ bytes ∷ [])
+right_from s n [] bytes are right = (λ steady. right steady ∙ ap (payload s.setup s.page) (let e : n + 0 ≡ n = omega arith in e), tt)
+right_from s n (a ∷ more) bytes are right =
+    (are.0, right_from s (suc n) more bytes are.1 (λ steady. right steady ∙ ap (payload s.setup s.page) (let e : n + suc (length more) ≡ suc n + length more = omega arith in e)))
+
+pub right_more : (s : DeviceState) (pass : ℕ) (passes : List (List ℕ)) (bytes : List ℕ) → length passes ≡ pass → AreOfPasses s 0 passes → (s.steady ≡ true → bytes ≡ payload s.setup s.page pass) → AreOfPasses s 0 (passes ++ bytes ∷ [])
+right_more s pass passes bytes count are right =
+    right_from s 0 passes bytes are (λ steady. right steady ∙ ap (payload s.setup s.page) (let e : pass ≡ 0 + length passes = omega (arith, count) in e))
