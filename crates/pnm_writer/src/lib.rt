@@ -3,9 +3,12 @@
 
 mod alone_frame;
 mod frame_join;
+mod header;
 mod join_stage;
+mod kept_frame;
 mod laws;
 mod plain;
+mod planes;
 mod pnm_out;
 mod read;
 
