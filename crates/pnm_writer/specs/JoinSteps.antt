@@ -145,7 +145,7 @@ answer_at (Failed fault) = Err fault
 
 abbrev pub under_ended : Joining → Joining
 under_ended v =
-    if length v.held == (lines_in v.params.lines - v.row) * v.params.bytes_per_line then record v { stage = Whole }
+    if length v.held == (most_lines v.params.lines - v.row) * v.params.bytes_per_line then record v { stage = Whole }
     else record v { stage = Failed Short }
 
 -- the picture is whole, of the frame of these parameters: its header may go out

@@ -9,4 +9,5 @@ pub mod JoinStages
 pub mod Joining
 pub mod JoinSteps
 pub mod PlaneInside
+pub mod PlanesInside
 pub mod JoinInside

@@ -4,7 +4,8 @@ ghost use Rattle.page_picture.specs.Shows.{ShowsFrames};
 ghost use Rattle.pnm_writer.specs.AloneFrame.{AloneParts, ShapeParts, most_lines};
 ghost use Rattle.pnm_writer.specs.KeptFrame.{is_unknown, is_open_ended, is_pass};
 ghost use Rattle.pnm_writer.specs.FrameHistory.{Past, no_past, after_begin, after_feed, after_end, answer_of, frames_of};
-ghost use Rattle.pnm_writer.specs.JoinStages.{is_under};
+ghost use Rattle.pnm_writer.specs.declared.join_stage.Stage.TheVariants.{Under, Keeping, Between};
+ghost use Rattle.pnm_writer.specs.JoinStages.{is_under, is_colors};
 ghost use Rattle.pnm_writer.specs.Joining.{Stands, is_starved, IsDrained};
 ghost use Rattle.pnm_writer.specs.JoinSteps.{moves, is_ready, next_sample, may_go, next_byte, after_next, value_fed, under_ended, kept_ended, color_ended, value_ended, first_begun, next_begun, value_begun, accepts_next, answer_at, fresh, keeping};
 
@@ -102,6 +103,21 @@ impl FrameJoin {
         }
     }
 
+    /// Whether the picture is whole, of three frames.
+    fn has_colors(&self) -> bool
+        ensures { result ≡ is_colors self.now.stage }
+    {
+        match self.stage {
+            Stage::WholeColors => true,
+            Stage::Idle
+            | Stage::Under
+            | Stage::Keeping
+            | Stage::Between
+            | Stage::Whole
+            | Stage::Failed(_) => false,
+        }
+    }
+
     /// The next byte of the raster, which may go out.
     fn next_sample(&self) -> u8
         requires { is_ready self.now ≡ true }
@@ -109,15 +125,15 @@ impl FrameJoin {
     {
         let params = self.params;
         let place = place_in(self.order, params.depth, self.column);
-        match self.stage {
-            Stage::WholeColors => self.planes.side_byte(params.depth, self.row, place),
-            _ => trimmed(
-                params.pixels_per_line,
-                params.depth,
-                self.column,
-                self.held[self.start + place],
-            ),
+        if self.has_colors() {
+            return self.planes.side_byte(params.depth, self.row, place);
         }
+        trimmed(
+            params.pixels_per_line,
+            params.depth,
+            self.column,
+            self.held[self.start + place],
+        )
     }
 
     /// The next byte that may go out.
@@ -142,9 +158,8 @@ impl FrameJoin {
         if self.column + 1 == row_size(&self.params) {
             self.column = 0;
             self.row += 1;
-            match self.stage {
-                Stage::WholeColors => {}
-                _ => self.start += self.params.bytes_per_line as usize,
+            if !self.has_colors() {
+                self.start += self.params.bytes_per_line as usize;
             }
         } else {
             self.column += 1;
@@ -260,6 +275,7 @@ impl FrameJoin {
     }
 
     /// Begins the first frame, or says why not.
+    #[tactic(auto, using(crate::proofs::KeptLaws::first_is_kept))]
     fn open_first(&mut self, alloc: Global, params: &Params, order: ByteOrder)
         ensures { self.new ≡ first_begun params.now order (is_starved self.new) self.old }
     {
@@ -278,6 +294,7 @@ impl FrameJoin {
     }
 
     /// Begins a further color, or says why not.
+    #[tactic(auto, using(crate::proofs::KeptLaws::next_is_kept, crate::proofs::KeptLaws::kept_shape, crate::proofs::KeptLaws::kept_lines))]
     fn open_next(&mut self, params: &Params, order: ByteOrder)
         requires { self.old.stage ≡ Between }
         ensures { self.new ≡ next_begun params.now order (is_starved self.new) self.old }
@@ -386,6 +403,7 @@ fn fresh(alloc: Global, params: &Params, order: ByteOrder) -> Result<FrameJoin, 
 }
 
 /// A join in which a frame begins that is kept.
+#[tactic(auto, using(crate::proofs::KeptLaws::kept_shape, crate::proofs::KeptLaws::kept_lines))]
 fn keeping(alloc: Global, params: &Params, order: ByteOrder) -> Result<FrameJoin, AllocError>
     requires { (is_open_ended params.now || is_pass params.now) ≡ true }
     ensures { IfOk result (λ join. join ≡ keeping params.now order) }

@@ -1,5 +1,6 @@
 ghost use Rattle.std.specs.Prelude.{◌≡◌, ◌≤◌, ◌+◌, ◌++◌, length, decimal, vec_len, vec_capacity};
-ghost use Rattle.netpbm.specs.FileText.{header_text};
+ghost use Rattle.netpbm.specs.Pnm.{magic};
+ghost use Rattle.netpbm.specs.FileText.{header_text, maxval_text};
 
 use netpbm::{Format, Header};
 
@@ -16,17 +17,58 @@ fn put_text(text: &mut Vec<u8>, bytes: &[u8])
     let _ = text.extend_from_slice(bytes);
 }
 
-/// Adds a number for whose digits there is room.
-fn put_number(text: &mut Vec<u8>, n: u32)
+/// Adds the digits of a number, for which there is room.
+#[tactic(auto, using(crate::proofs::HeaderLemmas::one_digit, crate::proofs::HeaderLemmas::more_digits, crate::proofs::HeaderLemmas::one_length, crate::proofs::HeaderLemmas::more_length))]
+fn put_digits(text: &mut Vec<u8>, n: u32)
     requires { vec_len text.old + length (decimal n) ≤ vec_capacity text.old }
     ensures items { text.new.items ≡ text.old.items ++ decimal n }
     ensures len { vec_len text.new ≡ vec_len text.old + length (decimal n) }
     ensures room { vec_capacity text.old ≤ vec_capacity text.new }
 {
-    if n >= 10 {
-        put_number(text, n / 10);
+    if n < 10 {
+        put_text(text, &[b'0' + n as u8]);
+    } else {
+        put_digits(text, n / 10);
+        put_text(text, &[b'0' + (n % 10) as u8]);
     }
-    put_text(text, &[b'0' + (n % 10) as u8]);
+}
+
+/// Adds a number, of at most ten digits.
+#[tactic(auto, using(crate::proofs::HeaderLemmas::few_digits))]
+fn put_number(text: &mut Vec<u8>, n: u32)
+    requires { vec_len text.old + 10 ≤ vec_capacity text.old }
+    ensures items { text.new.items ≡ text.old.items ++ decimal n }
+    ensures len { vec_len text.new ≤ vec_len text.old + 10 }
+    ensures room { vec_capacity text.old ≤ vec_capacity text.new }
+{
+    put_digits(text, n);
+}
+
+/// What a file of the format begins with.
+fn magic(format: Format) -> &'static [u8]
+    ensures { result.now ≡ magic format }
+{
+    match format {
+        Format::Pbm => b"P4",
+        Format::Pgm => b"P5",
+        Format::Ppm => b"P6",
+    }
+}
+
+/// Adds what stands for the greatest value.
+#[tactic(auto, using(crate::proofs::HeaderLemmas::last_pieces))]
+fn put_maxval(text: &mut Vec<u8>, format: Format, maxval: u32)
+    requires { vec_len text.old + 11 ≤ vec_capacity text.old }
+    ensures items { text.new.items ≡ text.old.items ++ maxval_text format maxval }
+    ensures room { vec_capacity text.old ≤ vec_capacity text.new }
+{
+    match format {
+        Format::Pbm => {}
+        Format::Pgm | Format::Ppm => {
+            put_number(text, maxval);
+            put_text(text, b"\n");
+        }
+    }
 }
 
 /// Adds the header of a file. It takes no memory.
@@ -35,22 +77,11 @@ pub(crate) fn put_header(text: &mut Vec<u8>, header: &Header)
     ensures items { text.new.items ≡ text.old.items ++ header_text header.now }
     ensures room { vec_capacity text.old ≤ vec_capacity text.new }
 {
-    let magic = match header.format {
-        Format::Pbm => b"P4",
-        Format::Pgm => b"P5",
-        Format::Ppm => b"P6",
-    };
-    put_text(text, magic);
+    put_text(text, magic(header.format));
     put_text(text, b"\n# SANE data follows\n");
     put_number(text, header.width);
     put_text(text, b" ");
     put_number(text, header.height);
     put_text(text, b"\n");
-    match header.format {
-        Format::Pbm => {}
-        Format::Pgm | Format::Ppm => {
-            put_number(text, header.maxval);
-            put_text(text, b"\n");
-        }
-    }
+    put_maxval(text, header.format, header.maxval);
 }

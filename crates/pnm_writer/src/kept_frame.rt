@@ -1,5 +1,5 @@
-ghost use Rattle.std.specs.Prelude.{◌≡◌, ◌<◌, ◌||◌, true, Some};
-ghost use Rattle.pnm_writer.specs.AloneFrame.{ShapeParts, AloneParts, is_side};
+ghost use Rattle.std.specs.Prelude.{◌≡◌, ◌<◌, ◌/◌, true, Some};
+ghost use Rattle.pnm_writer.specs.AloneFrame.{ShapeParts};
 ghost use Rattle.pnm_writer.specs.KeptFrame.{is_unknown, is_open_ended, color_number, is_pass, is_pass_that, same_order, is_alike};
 ghost use Rattle.pnm_writer.specs.ColorPlanes.{all_colors};
 ghost use Rattle.pnm_writer.specs.FrameHistory.{is_full_at};

@@ -73,7 +73,7 @@ pub(crate) struct Planes {
 
 impl Model for Planes {
     ghost use Rattle.pnm_writer.specs.ColorPlanes.{Planes as Shown};
-    ghost use Rattle.pnm_writer.specs.PlaneInside.{planes_seen};
+    ghost use Rattle.pnm_writer.specs.PlanesInside.{planes_seen};
 
     ghost Value = { Shown };
 
