@@ -13,7 +13,10 @@ use Rattle.pnm_writer.specs.declared.join_stage.JoinFault.{JoinFault}
 use Rattle.pnm_writer.specs.FrameHistory.{Past, IsJoined, answer_by}
 use Rattle.pnm_writer.specs.Joining.{Joining, Stands}
 use Rattle.local_job.specs.Draining.{Feeds, StopsShort}
-use Rattle.local_job.specs.FrameReading.{IsReadTo, Keeps}
+use Rattle.std.proofs.Common.{cond, Bool, inl, inr}
+use Rattle.std.specs.Prelude.{◌==◌}
+use Rattle.std.proofs.lemmas.Bool.{eqb-true}
+use Rattle.local_job.specs.FrameReading.{IsAllOrNone, IsReadTo, Keeps}
 
 -- the pass under way, and how many of its bytes were given
 abbrev pass_of : Phase → ℕ
@@ -99,6 +102,16 @@ ends old now new pass given buf is reads =
         let e = reads.0 in
         let same : status ≡ Eof = cc in
         ap (λ (s : DeviceState). s.phase) reads.1 ∙ ap (after_told now.setup pass) same
+
+-- the end of a pass comes behind its last byte, or, where it is told, in place of the first
+told_by : (told : Option Status) (given : ℕ) (b : Bool) → (given == 0) ≡ b → (now new : DeviceState) (pass : ℕ) (buf : List ℕ) → FrameReads (cond b told None) now pass given (Err Eof) new buf → IsAllOrNone now pass given
+told_by told given true e now new pass buf reads = inr (eqb-true given 0 e)
+told_by told given false e now new pass buf reads = inl reads.0
+
+pub all_or_none : (old now new : DeviceState) (pass given : ℕ) (buf : List ℕ) → now ≡ with_phase old (Reading pass given) → Reads now (Err Eof) new buf → IsAllOrNone old pass given
+all_or_none old now new pass given buf is reads =
+    let here : FrameReads (told_at now.setup.told given) now pass given (Err Eof) new buf = subst (λ (p : Phase). ReadsIn p now (Err Eof) new buf) (ap (λ (s : DeviceState). s.phase) is) reads in
+    subst (λ (s : DeviceState). IsAllOrNone s pass given) is (told_by now.setup.told given (given == 0) refl now new pass buf here)
 
 -- ---- the bytes so far
 

@@ -6,3 +6,4 @@ pub mod FrameReads
 pub mod Pictures
 pub mod Shows
 pub mod Passes
+pub mod Scans

@@ -28,13 +28,13 @@ begun past params order = record past { under = Some (record { params = params; 
 begun_by : (past : Past) (params : Params) (order : ByteOrder) (accepted starved : Bool) → is_accepted past.ended params order ≡ accepted → past.fault ≡ None → past.under ≡ None → is_joined past.ended ≡ false
     → (after_begin params order starved past).fault ≡ None → after_begin params order starved past ≡ begun past params order
 unfolding after_begin
-begun_by past params order true true e no_fault under open none = absurd (let clash : Some NoMem ≡ None = rw (no_fault, under, open, e) at none in cc)
-begun_by past params order true false e no_fault under open none = rw (no_fault, under, open, e) refl
-begun_by past params order false starved e no_fault under open none = absurd (let clash : Some Shape ≡ None = rw (no_fault, under, open, e) at none in cc)
+begun_by past params order true true e no_fault under waits none = absurd (let clash : Some NoMem ≡ None = rw (no_fault, under, waits, e) at none in cc)
+begun_by past params order true false e no_fault under waits none = rw (no_fault, under, waits, e) refl
+begun_by past params order false starved e no_fault under waits none = absurd (let clash : Some Shape ≡ None = rw (no_fault, under, waits, e) at none in cc)
 
 pub begun_well : (past : Past) (params : Params) (order : ByteOrder) (starved : Bool) → past.fault ≡ None → past.under ≡ None → is_joined past.ended ≡ false
     → (after_begin params order starved past).fault ≡ None → after_begin params order starved past ≡ begun past params order
-begun_well past params order starved no_fault under open none = begun_by past params order (is_accepted past.ended params order) starved refl no_fault under open none
+begun_well past params order starved no_fault under waits none = begun_by past params order (is_accepted past.ended params order) starved refl no_fault under waits none
 
 -- the history in which it ended
 abbrev pub ended : Past → Frame → Past
@@ -94,16 +94,16 @@ not_joined s page passes more = not_by s page passes (colors s) refl more
 -- where a further pass leaves no picture, one more is to come
 more_by : (s : Setup) (page : Sheet) (passes : List (List ℕ)) (bytes : List ℕ) (t : Bool) → colors s ≡ t → length passes ≤ last_pass s
     → is_joined (frames_came s page 0 (passes ++ bytes ∷ [])) ≡ false → length passes + 1 ≤ last_pass s
-more_by s page [] bytes true e more open = let few = last_is s true e in omega (arith, few)
-more_by s page [] bytes false e more open = absurd (let clash : true ≡ false = sym (one_whole s e) ∙ open in cc)
-more_by s page (a ∷ []) bytes true e more open = let few = last_is s true e in omega (arith, few)
-more_by s page (a ∷ []) bytes false e more open = absurd (let few = last_is s false e in omega (arith, more, few))
-more_by s page (a ∷ b ∷ []) bytes t e more open = absurd (let clash : true ≡ false = open in cc)
-more_by s page (a ∷ b ∷ c ∷ rest) bytes t e more open = absurd (let clash : true ≡ false = open in cc)
+more_by s page [] bytes true e more waits = let few = last_is s true e in omega (arith, few)
+more_by s page [] bytes false e more waits = absurd (let clash : true ≡ false = sym (one_whole s e) ∙ waits in cc)
+more_by s page (a ∷ []) bytes true e more waits = let few = last_is s true e in omega (arith, few)
+more_by s page (a ∷ []) bytes false e more waits = absurd (let few = last_is s false e in omega (arith, more, few))
+more_by s page (a ∷ b ∷ []) bytes t e more waits = absurd (let clash : true ≡ false = waits in cc)
+more_by s page (a ∷ b ∷ c ∷ rest) bytes t e more waits = absurd (let clash : true ≡ false = waits in cc)
 
 pub more_come : (s : Setup) (page : Sheet) (passes : List (List ℕ)) (bytes : List ℕ) → length passes ≤ last_pass s
     → is_joined (frames_came s page 0 (passes ++ bytes ∷ [])) ≡ false → length passes + 1 ≤ last_pass s
-more_come s page passes bytes more open = more_by s page passes bytes (colors s) refl more open
+more_come s page passes bytes more waits = more_by s page passes bytes (colors s) refl more waits
 
 -- where it makes a picture, the frames are those of the scan
 same_frame : (s : Setup) (page : Sheet) (pass : ℕ) (bytes : List ℕ) → bytes ≡ payload s page pass → came s page pass bytes ≡ frame_of s page pass

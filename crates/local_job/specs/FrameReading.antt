@@ -8,7 +8,7 @@ use Rattle.sane_fixed.specs.declared.status.Status.TheVariants.{Good, Eof}
 use Rattle.page_picture.specs.Shows.{Frame}
 use Rattle.scan_frames.specs.Frames.{payload, pass_length, params_at, last_pass}
 use Rattle.scan_frames.specs.declared.setup.Setup.{Setup}
-use Rattle.device_api.specs.State.{DeviceState, Between, next_pass}
+use Rattle.device_api.specs.State.{DeviceState, Between}
 use Rattle.pnm_writer.specs.FrameHistory.{Past, is_full, is_joined}
 use Rattle.pnm_writer.specs.Joining.{Joining, Stands}
 use Rattle.local_job.specs.declared.stop.Stop.{Stop}
@@ -71,7 +71,8 @@ pub record EndsFrame (past : Past) (frame : Frame) (is_whole : Bool) (first : Op
   pub joined : is_joined (past.ended ++ frame ∷ []) ≡ is_whole
   pub drained : IsDrainedTo (record past { ended = past.ended ++ frame ∷ []; under = None }) first join contents
 
--- A pass was read and joined: the picture is whole and its file went out, or the scanner waits for the next pass.
-abbrev pub HasScanned : DeviceState → Bool → Option (List ℕ) → DeviceState → Joining → Option (List ℕ) → Type 0
-HasScanned old true first new join contents = IsScanned old first contents
-HasScanned old false first new join contents = (new.phase ≡ Between (next_pass old.phase + 1)) × HasJoined old (next_pass old.phase + 1) first join contents
+-- The pass of that number was read and joined: the picture is whole and its file went out, or the scanner waits for the
+-- next pass.
+abbrev pub HasScanned : DeviceState → ℕ → Bool → Option (List ℕ) → DeviceState → Joining → Option (List ℕ) → Type 0
+HasScanned s pass true first new join contents = IsScanned s first contents
+HasScanned s pass false first new join contents = (new.phase ≡ Between (pass + 1)) × HasJoined s (pass + 1) first join contents

@@ -2,7 +2,7 @@ ghost use Rattle.std.specs.Prelude.{◌≡◌, ◌≢◌, ◌<◌, ◌⊎◌, tr
 ghost use Rattle.std.specs.Io.KnownBytes.{Appends};
 ghost use Rattle.sane_fixed.specs.declared.status.Status.TheVariants.{Inval};
 ghost use Rattle.page_picture.specs.Shows.{Frame};
-ghost use Rattle.pnm_writer.specs.FrameHistory.{Past, is_joined};
+ghost use Rattle.pnm_writer.specs.FrameHistory.{Past, no_past, is_joined};
 ghost use Rattle.pnm_writer.specs.Joining.{Stands};
 ghost use Rattle.scan_frames.specs.Frames.{has_picture};
 ghost use Rattle.device_api.specs.Allowed.{HasLimits};
@@ -103,7 +103,7 @@ fn scan_pass<W: Write>(
     ensures piece { length piece.new ≡ length piece.old }
     ensures room { length room.new ≡ length room.old }
     ensures scanned { IfOk result (λ is_whole. (first : Option (List ℕ)) → HasJoined (state device.old) (next_pass (state device.old).phase) first join.old (W.contents out.old) →
-        HasScanned (state device.old) is_whole first (state device.new) join.new (W.contents out.new)) }
+        HasScanned (state device.old) (next_pass (state device.old).phase) is_whole first (state device.new) join.new (W.contents out.new)) }
     ensures short { OnErr result ((first : Option (List ℕ)) → HasJoined (state device.old) (next_pass (state device.old).phase) first join.old (W.contents out.old) →
         StopsShort first (W.contents out.new)) }
     ensures picture { OnOk result (has_picture (state device.old).setup (state device.old).page ≡ true) }
@@ -119,6 +119,34 @@ fn scan_pass<W: Write>(
     begin_frame(alloc, &*device, join)?;
     read_frame(device, join, piece, room, out)?;
     end_frame(join, room, out)
+}
+
+/// Reads the passes of a scan, from the first, until the picture is whole.
+fn scan_passes<W: Write>(
+    alloc: Global,
+    device: &mut dyn Device,
+    join: &mut FrameJoin,
+    piece: &mut [u8],
+    room: &mut [u8],
+    out: &mut W,
+) -> Result<(), Stop>
+    requires rest { is_at_rest (state device.old).phase ≡ true }
+    requires join { Stands no_past join.old }
+    requires piece { 0 < length piece.old }
+    requires room { 0 < length room.old }
+    ensures done { OnOk result ((first : Option (List ℕ)) → Appends first (W.contents out.old) [] → IsScanned (state device.old) first (W.contents out.new)) }
+    ensures short { OnErr result ((first : Option (List ℕ)) → Appends first (W.contents out.old) [] → StopsShort first (W.contents out.new)) }
+    ensures refusal { IfErr result (λ stop. IsRefusal stop) }
+    ensures none { IfErr result (λ stop. has_picture (state device.old).setup (state device.old).page ≡ false → stop ≡ answered Inval) }
+    ensures same { Keeps (state device.old) (state device.new) }
+{
+    not_whole_before();
+    for _pass in 0..MOST_PASSES {
+        if scan_pass(alloc, device, join, piece, room, out)? {
+            return Ok(());
+        }
+    }
+    Err(malformed())
 }
 
 /// Scans the picture that the options of a scanner at rest mean on its page, and writes its file. The
@@ -139,10 +167,5 @@ pub fn scan_picture<W: Write>(
     let mut piece = zeros(alloc, PIECE)?;
     let mut room = zeros(alloc, ROOM)?;
     let mut join = FrameJoin::new(alloc);
-    for _pass in 0..MOST_PASSES {
-        if scan_pass(alloc, device, &mut join, &mut piece, &mut room, out)? {
-            return Ok(());
-        }
-    }
-    Err(malformed())
+    scan_passes(alloc, device, &mut join, &mut piece, &mut room, out)
 }

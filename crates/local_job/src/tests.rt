@@ -257,7 +257,7 @@ fn what_the_first_read_answers(rt: HostRuntime) {
     let jammed: &[(&[u8], &[u8])] = &[(b"read-return-value", b"SANE_STATUS_JAMMED")];
     scan_ends(&rt, alloc, &mut device, jammed, Status::Jammed, Why::Answer);
     let no_mem: &[(&[u8], &[u8])] = &[(b"read-return-value", b"SANE_STATUS_NO_MEM")];
-    scan_ends(&rt, alloc, &mut device, no_mem, Status::NoMem, Why::Memory);
+    scan_ends(&rt, alloc, &mut device, no_mem, Status::NoMem, Why::Answer);
 }
 
 #[test]

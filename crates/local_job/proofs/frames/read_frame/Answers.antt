@@ -1,6 +1,6 @@
 use Rattle.std.proofs.Common.{◌+◌, rules, ap, refl, Ok, Err}
 use Rattle.device_api.specs.State.{DeviceState, Phase, Reads}
-use Rattle.local_job.proofs.FrameReads.{first_bytes, gives, still, more_bytes, cut_off, keeps, so_far, ends}
+use Rattle.local_job.proofs.FrameReads.{first_bytes, gives, still, more_bytes, cut_off, keeps, so_far, ends, all_or_none}
 use Rattle.sane_fixed.specs.declared.status.Status.TheVariants.{Eof}
 use Rattle.std.proofs.lemmas.Result.{err_from_is_err_and}
 use Rattle.local_job.proofs.frames.read_frame.Goals as goal
@@ -17,8 +17,12 @@ loop-n-init g c =
 
 pub returns-in-Err-clause-read : goal.returns-in-Err-clause-read
 returns-in-Err-clause-read g c = λ pass past frame first at stands no_fault under empty taken.
+    let old : DeviceState = (goal.Device-dyn g c.args.device.now).state c.args.device.now.1 in
+    let now : DeviceState = (goal.Device-dyn g c.loop-n.device.now).state c.loop-n.device.now.1 in
+    let new : DeviceState = (goal.Device-dyn g c.loop-n.device.now).state c.read.new.self in
     let r = c.loop-n.invariant.read pass at in
-    (r.0, r.2 past frame first stands no_fault under empty taken)
+    let e : Reads now (Err Eof) new c.read.new.buf = search rules in
+    (r.0, all_or_none old now new pass r.0 c.read.new.buf r.1 e, r.2 past frame first stands no_fault under empty taken)
 
 pub returns-in-Err-clause-ended : goal.returns-in-Err-clause-ended
 returns-in-Err-clause-ended g c = λ pass at.
