@@ -18,17 +18,17 @@ use Rattle.sane_fixed.specs.declared.byte_order.ByteOrder.TheVariants.{Little, B
 use Rattle.sane_fixed.specs.declared.params.Params.{Params}
 use Rattle.page_picture.specs.Meaning.{greatest_at}
 use Rattle.page_picture.specs.Shows.{Frame, ShowsAlone, row_size, frame_sample, two_bytes, channels_within, channels_alone, HasLines, IsDepth}
-use Rattle.pnm_writer.specs.AloneFrame.{is_depth, is_side, is_shaped, AloneParts, row_bytes, lines_in, is_alone, is_alone_format, is_known}
+use Rattle.pnm_writer.specs.AloneFrame.{is_depth, is_side, is_shaped, ShapeParts, AloneParts, row_bytes, lines_in, is_alone, is_alone_format, is_known}
 use Rattle.pnm_writer.specs.FrameFile.{header_alone, format_alone, raster_byte, row_front, rows_front, file_front, place_in}
 
 -- ---- what the test on parameters says
 
-depth_parts : (f : FrameFormat) (d : ℕ) → is_alone_format f ≡ true → is_depth f d ≡ true → (d ≡ 1 → f ≡ Gray) × ((d ≡ 1) ⊎ ((d ≡ 8) ⊎ (d ≡ 16)))
-depth_parts Gray d a b = ((λ _. refl), grind (arith, nat_tests))
-depth_parts Rgb d a b = ((λ e. absurd (grind (arith, nat_tests))), grind (arith, nat_tests))
-depth_parts Red d a b = absurd (cc)
-depth_parts Green d a b = absurd (cc)
-depth_parts Blue d a b = absurd (cc)
+depth_parts : (f : FrameFormat) (d : ℕ) → is_depth f d ≡ true → (d ≡ 1 → f ≡ Gray) × ((d ≡ 1) ⊎ ((d ≡ 8) ⊎ (d ≡ 16)))
+depth_parts Gray d b = ((λ _. refl), grind (arith, nat_tests))
+depth_parts Rgb d b = ((λ e. absurd (grind (arith, nat_tests))), grind (arith, nat_tests))
+depth_parts Red d b = ((λ e. absurd (grind (arith, nat_tests))), grind (arith, nat_tests))
+depth_parts Green d b = ((λ e. absurd (grind (arith, nat_tests))), grind (arith, nat_tests))
+depth_parts Blue d b = ((λ e. absurd (grind (arith, nat_tests))), grind (arith, nat_tests))
 
 depth_is : (f : FrameFormat) (d : ℕ) → is_depth f d ≡ true → IsDepth f d
 depth_is Gray d e = grind (arith, nat_tests)
@@ -37,7 +37,7 @@ depth_is Red d e = grind (arith, nat_tests)
 depth_is Green d e = grind (arith, nat_tests)
 depth_is Blue d e = grind (arith, nat_tests)
 
-known_parts : (o : Option ℕ) → is_known o ≡ true → (o ≡ Some (lines_in o)) × (1 ≤ lines_in o) × (lines_in o ≤ 65536)
+pub known_parts : (o : Option ℕ) → is_known o ≡ true → (o ≡ Some (lines_in o)) × (1 ≤ lines_in o) × (lines_in o ≤ 65536)
 known_parts None h = absurd (cc)
 known_parts (Some n) h =
     let tests = and_parts (nat_le 1 n) (nat_le n 65536) h in
@@ -56,24 +56,19 @@ row_positive Red w d some (inr (inr e)) = rw e (omega (arith, some))
 row_positive Green w d some (inr (inr e)) = rw e (omega (arith, some))
 row_positive Blue w d some (inr (inr e)) = rw e (omega (arith, some))
 
-pub alone_parts : (p : Params) → is_alone p ≡ true → AloneParts p
-alone_parts p h =
-    let one = and_parts (is_alone_format p.format) (p.last_frame && (is_known p.lines && is_shaped p)) h in
-    let two = and_parts p.last_frame (is_known p.lines && is_shaped p) one.1 in
-    let three = and_parts (is_known p.lines) (is_shaped p) two.1 in
+pub shape_parts : (p : Params) → is_shaped p ≡ true → ShapeParts p
+shape_parts p h =
     let r = row_size p.format p.pixels_per_line p.depth in
-    let four = and_parts (is_depth p.format p.depth) (is_side p.pixels_per_line && (nat_le r p.bytes_per_line && nat_le p.bytes_per_line 1048576)) three.1 in
+    let four = and_parts (is_depth p.format p.depth) (is_side p.pixels_per_line && (nat_le r p.bytes_per_line && nat_le p.bytes_per_line 1048576)) h in
     let five = and_parts (is_side p.pixels_per_line) (nat_le r p.bytes_per_line && nat_le p.bytes_per_line 1048576) four.1 in
     let six = and_parts (nat_le r p.bytes_per_line) (nat_le p.bytes_per_line 1048576) five.1 in
     let seven = and_parts (nat_le 1 p.pixels_per_line) (nat_le p.pixels_per_line 65536) five.0 in
-    let deep = depth_parts p.format p.depth one.0 four.0 in
-    let lines = known_parts p.lines three.0 in
+    let deep = depth_parts p.format p.depth four.0 in
     let some : 1 ≤ p.pixels_per_line = grind (arith, nat_tests) in
     let wide : p.pixels_per_line ≤ 65536 = grind (arith, nat_tests) in
     let fits : r ≤ p.bytes_per_line = grind (arith, nat_tests) in
     let long : p.bytes_per_line ≤ 1048576 = grind (arith, nat_tests) in
     record {
-      format = one.0;
       depth = omega (arith, deep.1);
       bits = deep.0;
       depths = deep.1;
@@ -84,15 +79,26 @@ alone_parts p h =
         enough = fits;
         line_most = long;
       };
-      last = two.0;
-      lines_known = lines.0;
-      lines_some = lines.1;
-      lines_most = lines.2;
       width_some = some;
       width_most = wide;
       row_some = row_positive p.format p.pixels_per_line p.depth some deep.1;
       fits = fits;
       line_most = long;
+    }
+
+pub alone_parts : (p : Params) → is_alone p ≡ true → AloneParts p
+alone_parts p h =
+    let one = and_parts (is_alone_format p.format) (p.last_frame && (is_known p.lines && is_shaped p)) h in
+    let two = and_parts p.last_frame (is_known p.lines && is_shaped p) one.1 in
+    let three = and_parts (is_known p.lines) (is_shaped p) two.1 in
+    let lines = known_parts p.lines three.0 in
+    record {
+      shape = shape_parts p three.1;
+      format = one.0;
+      last = two.0;
+      lines_known = lines.0;
+      lines_some = lines.1;
+      lines_most = lines.2;
     }
 
 -- ---- bytes of the raster
@@ -285,11 +291,11 @@ one_greatest : (d : ℕ) → d ≡ 1 → greatest_at d ≡ 1
 one_greatest d e = rw e refl
 
 raster_of : (f : Frame) (n c : ℕ) → AloneParts f.params → channels_alone f.params.format ≡ Some c → RasterOf f n (format_alone f.params.format f.params.depth) (greatest_at f.params.depth) c
-raster_of f n c parts channels = by_depth parts.depths
+raster_of f n c parts channels = by_depth parts.shape.depths
   where
     by_depth : (f.params.depth ≡ 1) ⊎ ((f.params.depth ≡ 8) ⊎ (f.params.depth ≡ 16)) → RasterOf f n (format_alone f.params.format f.params.depth) (greatest_at f.params.depth) c
     by_depth (inl deep) =
-        moved f n Pbm (format_alone f.params.format f.params.depth) 1 (greatest_at f.params.depth) 1 c (bits_format f.params.format f.params.depth (parts.bits deep) deep) (one_greatest f.params.depth deep) (bits_channels f.params.format c (parts.bits deep) channels) (raster_one f n deep)
+        moved f n Pbm (format_alone f.params.format f.params.depth) 1 (greatest_at f.params.depth) 1 c (bits_format f.params.format f.params.depth (parts.shape.bits deep) deep) (one_greatest f.params.depth deep) (bits_channels f.params.format c (parts.shape.bits deep) channels) (raster_one f n deep)
     by_depth (inr deep) = by_format f n c f.params.depth f.params.format refl refl parts.format channels deep
 
 -- the file of a frame denotes a picture that has the frame's samples
@@ -303,7 +309,7 @@ denotes_front f p parts channels width height greatest samples in_range =
       begins = record {
         head = header_text h;
         text_is = refl;
-        is_header = header_parts h.format h.width h.height h.maxval parts.width_most parts.lines_most parts.width_some parts.lines_some r.some r.most r.bits;
+        is_header = header_parts h.format h.width h.height h.maxval parts.shape.width_most parts.lines_most parts.shape.width_some parts.lines_some r.some r.most r.bits;
       };
       shows = record {
         size = r.size;

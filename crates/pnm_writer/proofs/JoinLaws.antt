@@ -1,28 +1,33 @@
 -- How a join carries on what it was told.
-use Rattle.std.proofs.Common.{◌≡◌, ℕ, zero, suc, ◌<◌, ◌≤◌, ◌+◌, ◌-◌, ◌*◌, ◌/◌, inl, inr, Bool, true, false, not, List, [], ◌∷◌, ◌++◌, length, take, drop, set, arith, refl, sym, ap, ◌∙◌, subst, append_assoc}
-use Rattle.std.specs.Prelude.{nat_lt, nat_le, ◌==◌, ◌&&◌, ◌||◌, ◌⊎◌, ◌↔◌, if◌then◌else◌, Option, Some, None, Ok, Err, slice_index}
+use Rattle.std.proofs.Common.{◌≡◌, ℕ, ◌<◌, ◌≤◌, ◌+◌, ◌-◌, ◌*◌, ◌/◌, ◌⊎◌, inl, inr, Bool, true, false, not, List, [], ◌∷◌, ◌++◌, length, take, drop, length-append, arith, refl, sym, ap, ◌∙◌, subst}
+use Rattle.std.specs.Prelude.{nat_lt, ◌==◌, ◌&&◌, ◌||◌, if◌then◌else◌, Option, Some, None, slice_index}
 use Rattle.std.proofs.lemmas.Bool.{and_parts, cases_lt}
-use Rattle.std.proofs.lemmas.Bool.Decides.{nat_tests}
-use Rattle.std.proofs.lemmas.List.{append-nil, take_all, take_more_set, drop-drop, drop-set-lt}
-use Rattle.std.proofs.Math.Nat.{mul-sub, lt-div-mul-add, div-mul-le_self, lt_of_mul-lt-mul_left, mul-le-mul_right}
+use Rattle.std.proofs.Math.Nat.{mul-sub}
 use Rattle.std.proofs.Math.Seq.{drop-nil}
-use Rattle.netpbm.specs.Picture.{Picture}
-use Rattle.netpbm.specs.Pnm.{Denotes, IsWhole}
+use Rattle.netpbm.specs.Pnm.{IsWhole}
 use Rattle.netpbm.specs.FileText.{header_text}
 use Rattle.sane_fixed.specs.declared.byte_order.ByteOrder.{ByteOrder}
 use Rattle.sane_fixed.specs.declared.params.Params.{Params}
 use Rattle.pnm_writer.specs.declared.join_stage.JoinFault.{JoinFault}
 use Rattle.pnm_writer.specs.declared.join_stage.JoinFault.TheVariants.{Shape, Long, Short, NoMem}
 use Rattle.pnm_writer.specs.declared.join_stage.Stage.{Stage}
-use Rattle.pnm_writer.specs.declared.join_stage.Stage.TheVariants.{Idle, Under, Whole, Failed}
-use Rattle.page_picture.specs.Meaning.{greatest_at}
-use Rattle.page_picture.specs.Shows.{Frame, ShowsAlone, ShowsFrames, HasLines, channels_within}
-use Rattle.pnm_writer.specs.AloneFrame.{AloneParts, lines_in, most_bytes, is_alone, row_bytes}
-use Rattle.pnm_writer.specs.FrameHistory.{Past, after_begin, after_feed, after_end, after_pull, begun, fed, closed, failed, is_full, is_joined, is_accepted, frames_of, answer_by, with_last, answer_of, IsJoined}
-use Rattle.pnm_writer.specs.FrameFile.{header_alone, rows_front, row_front, file_front, raster_byte, trimmed, place_in, AllGone, rows_to_go}
-use Rattle.pnm_writer.specs.Joining.{Joining, Stands, StandsAt, Streams, fault_in, value_fed, value_ended, value_begun, value_begun_at, fresh, is_under, is_whole, may_go, next_byte, after_next, is_ready, IsDrained, answer_at}
-use Rattle.pnm_writer.proofs.FrameLaws.{alone_parts, denotes_shown, known_height}
-use Rattle.pnm_writer.proofs.StreamLaws.{grown, head_goes, column_goes, row_goes, ready_is, held_byte, held_length, bytes_come, stream_is_not_whole, nothing_is_not_whole, frame_picture, frame_sample_small, alone_channels, row_front-zero, rows_front-zero}
+use Rattle.pnm_writer.specs.declared.join_stage.Stage.TheVariants.{Idle, Under, Keeping, Between, Whole, WholeColors, Failed}
+use Rattle.page_picture.specs.Shows.{Frame}
+use Rattle.pnm_writer.specs.AloneFrame.{AloneParts, most_lines, most_bytes, is_alone, row_bytes}
+use Rattle.pnm_writer.specs.KeptFrame.{is_unknown, is_open_ended, is_pass, is_pass_that, color_number, goes_with}
+use Rattle.pnm_writer.specs.ColorPlanes.{Plane, Planes, plane_in, planes_of, nth_plane, all_colors, side_by_side}
+use Rattle.pnm_writer.specs.FrameHistory.{Past, after_begin, after_feed, after_end, begun, fed, closed, failed, is_full, is_full_at, is_joined, is_accepted}
+use Rattle.pnm_writer.specs.FrameFile.{header_alone, rows_front, row_front, settled}
+use Rattle.pnm_writer.specs.JoinStages.{fault_in, is_under, is_keeping}
+use Rattle.pnm_writer.specs.Joining.{Joining, Stands, StandsAt, Goes, Streams, IsSilent, Keeps, IsPart, IsColor, AreColors}
+use Rattle.pnm_writer.specs.JoinSteps.{value_fed, value_ended, value_ended_at, kept_ended, height_told, color_put, color_ended, headed_by, put_plane, value_begun, value_begun_at, accepts_next, fresh, keeping}
+use Rattle.pnm_writer.proofs.TestLemmas.{lt_true, lt_false, not_lt_from, same_test, or_cases, or_other}
+use Rattle.pnm_writer.proofs.FrameLaws.{alone_parts}
+use Rattle.pnm_writer.proofs.StreamLaws.{grown, held_length, bytes_come, small_append, goes_is_not_whole, nothing_is_not_whole, row_front-zero, rows_front-zero}
+use Rattle.pnm_writer.proofs.KeptLaws.{open_parts, OpenParts, pass_parts, pass_that_is_pass}
+use Rattle.pnm_writer.proofs.ColorLaws.{has_color, planes_put, plane_none, nth_is, first_parts, second_parts, third_parts, after_one, after_two, pass_not_alone}
+use Rattle.pnm_writer.proofs.SideLaws.{three_parts, all_alone, side_small}
+use Rattle.pnm_writer.proofs.HeightLaws.{full_size, settled_known, settled_alone, height_open}
 
 -- ---- the steps, where it is known what stands
 
@@ -82,28 +87,20 @@ left_length a b c n h x y z =
     mul_comm_sub : (a b c : ℕ) → (a - b) * c ≡ a * c - b * c
     mul_comm_sub a b c = let one : c * (a - b) ≡ c * a - c * b = mul-sub c a b in omega (arith, one)
 
-nat_lt_true : (a b : ℕ) → a < b → nat_lt a b ≡ true
-nat_lt_true a b h = grind (arith, nat_tests)
-
-nat_lt_false : (a b : ℕ) → b ≤ a → nat_lt a b ≡ false
-nat_lt_false a b h = grind (arith, nat_tests)
-
-lt_from : (a b : ℕ) → nat_lt a b ≡ true → a < b
-lt_from a b e = grind (arith, nat_tests)
-
-le_from : (a b : ℕ) → nat_lt a b ≡ false → b ≤ a
-le_from a b e = grind (arith, nat_tests)
-
 test_shift : (x m n k : ℕ) → x ≡ m - n → n ≤ m → nat_lt x k ≡ nat_lt m (n + k)
 test_shift x m n k e le = elim (cases_lt x k) as (λ _. nat_lt x k ≡ nat_lt m (n + k)) [
-  | inl less ↦ nat_lt_true x k less ∙ sym (nat_lt_true m (n + k) (omega (arith, e, le, less)))
-  | inr more ↦ nat_lt_false x k more ∙ sym (nat_lt_false m (n + k) (omega (arith, e, le, more)))
+  | inl less ↦ lt_true x k less ∙ sym (lt_true m (n + k) (omega (arith, e, le, less)))
+  | inr more ↦ lt_false x k more ∙ sym (lt_false m (n + k) (omega (arith, e, le, more)))
 ]
 
-long_test : (f : Frame) (given bytes : List ℕ) (v : Joining) → Streams f given v → nat_lt ((lines_in v.params.lines - v.row) * v.params.bytes_per_line - length v.held) (length bytes) ≡ nat_lt (most_bytes f.params) (length f.payload + length bytes)
-long_test f given bytes v s =
-    ap (λ (p : Params). nat_lt ((lines_in p.lines - v.row) * p.bytes_per_line - length v.held) (length bytes)) s.params
-    ∙ test_shift ((lines_in f.params.lines - v.row) * f.params.bytes_per_line - length v.held) (most_bytes f.params) (length f.payload) (length bytes) (left_length (lines_in f.params.lines) v.row f.params.bytes_per_line (length f.payload) (length v.held) s.most s.reach (held_length f given v s)) s.most
+-- the test for too many bytes, where so much of the frame is held from the row on
+long_test : (f : Frame) (bytes : List ℕ) (v : Joining) → v.params ≡ f.params → length f.payload ≤ most_bytes f.params → v.row * f.params.bytes_per_line ≤ length f.payload → length v.held + v.row * f.params.bytes_per_line ≡ length f.payload → nat_lt ((most_lines v.params.lines - v.row) * v.params.bytes_per_line - length v.held) (length bytes) ≡ nat_lt (most_bytes f.params) (length f.payload + length bytes)
+long_test f bytes v params most reach held =
+    ap (λ (p : Params). nat_lt ((most_lines p.lines - v.row) * p.bytes_per_line - length v.held) (length bytes)) params
+    ∙ test_shift ((most_lines f.params.lines - v.row) * f.params.bytes_per_line - length v.held) (most_bytes f.params) (length f.payload) (length bytes) (left_length (most_lines f.params.lines) v.row f.params.bytes_per_line (length f.payload) (length v.held) most reach held) most
+
+no_rows : (v : Joining) (line : ℕ) → v.row ≡ 0 → v.row * line ≡ 0
+no_rows v line e = ap (λ (n : ℕ). n * line) e ∙ (let z : 0 * line ≡ 0 = omega arith in z)
 
 abbrev pub past_fed : Bool → Bool → Frame → List ℕ → Past → Past
 past_fed long starved f bytes past =
@@ -115,131 +112,350 @@ join_fed long starved bytes v =
     if long then record v { stage = Failed Long }
     else (if starved then record v { stage = Failed NoMem } else record v { held = v.held ++ bytes })
 
-fed_stands : (long starved : Bool) (f : Frame) (bytes : List ℕ) (past : Past) (v : Joining) → v.stage ≡ Under → past.fault ≡ None → past.ended ≡ [] → past.under ≡ Some f → Streams f past.given v → ((i : ℕ) → slice_index bytes i < 256) → (long ≡ false → length f.payload + length bytes ≤ most_bytes f.params) → Stands (past_fed long starved f bytes past) (join_fed long starved bytes v)
-fed_stands true starved f bytes past v under fault ended frame s small room = record {
-  fault = refl;
-  at_stage = stream_is_not_whole f past.given v s (s.last_row_waits (ap is_under under));
-}
-fed_stands false true f bytes past v under fault ended frame s small room = record {
-  fault = refl;
-  at_stage = stream_is_not_whole f past.given v s (s.last_row_waits (ap is_under under));
-}
-fed_stands false false f bytes past v under fault ended frame s small room = record {
+-- after a fault
+failed_stands : (past : Past) (v : Joining) (fault : JoinFault) → (IsWhole past.given → ⊥) → Stands (failed fault past) (record v { stage = Failed fault })
+failed_stands past v fault none = record { fault = refl; at_stage = none }
+
+stream_fed : (long starved : Bool) (f : Frame) (bytes : List ℕ) (past : Past) (v : Joining) → v.stage ≡ Under → past.fault ≡ None → past.ended ≡ [] → Streams f past.given v → ((i : ℕ) → slice_index bytes i < 256) → (long ≡ false → length f.payload + length bytes ≤ most_bytes f.params) → Stands (past_fed long starved f bytes past) (join_fed long starved bytes v)
+stream_fed true starved f bytes past v under fault ended s small room = failed_stands past v Long (goes_is_not_whole f past.given v s.goes (s.last_row_waits (ap is_under under)))
+stream_fed false true f bytes past v under fault ended s small room = failed_stands past v NoMem (goes_is_not_whole f past.given v s.goes (s.last_row_waits (ap is_under under)))
+stream_fed false false f bytes past v under fault ended s small room = record {
   fault = fault ∙ sym (ap fault_in under);
   at_stage = subst (λ (t : Stage). StandsAt t (record past { under = Some (grown f bytes) }) (record v { held = v.held ++ bytes })) (sym under) (grown f bytes, ended, refl, bytes_come f past.given bytes v s small (room refl));
+}
+
+silent_not_whole : (given : List ℕ) (v : Joining) → IsSilent given v → IsWhole given → ⊥
+silent_not_whole given v silent whole = nothing_is_not_whole (subst IsWhole silent.given_is whole)
+
+kept_fed : (long starved : Bool) (f : Frame) (bytes : List ℕ) (past : Past) (v : Joining) → v.stage ≡ Keeping → past.fault ≡ None → Keeps f past v → ((i : ℕ) → slice_index bytes i < 256) → (long ≡ false → length f.payload + length bytes ≤ most_bytes f.params) → Stands (past_fed long starved f bytes past) (join_fed long starved bytes v)
+kept_fed true starved f bytes past v at fault k small room = failed_stands past v Long (silent_not_whole past.given v k.silent)
+kept_fed false true f bytes past v at fault k small room = failed_stands past v NoMem (silent_not_whole past.given v k.silent)
+kept_fed false false f bytes past v at fault k small room = record {
+  fault = fault ∙ sym (ap fault_in at);
+  at_stage = subst (λ (t : Stage). StandsAt t (record past { under = Some (grown f bytes) }) (record v { held = v.held ++ bytes })) (sym at) (
+    grown f bytes,
+    refl,
+    record {
+      accepted = k.accepted;
+      kept = k.kept;
+      colors = k.colors;
+      planes = k.planes;
+      params = k.params;
+      order = k.order;
+      held = ap (λ (l : List ℕ). l ++ bytes) k.held;
+      bytes = small_append f.payload bytes k.bytes small;
+      most = omega (arith, length-append f.payload bytes, room refl);
+      silent = record { given_is = k.silent.given_is; head = k.silent.head; headed = k.silent.headed; row = k.silent.row; column = k.silent.column };
+    },
+  );
 }
 
 pub feed_carries : (bytes : List ℕ) (starved : Bool) (past : Past) (v : Joining) → ((i : ℕ) → slice_index bytes i < 256) → Stands past v → Stands (after_feed bytes starved past) (value_fed bytes starved v)
 feed_carries bytes starved past v small stands = by_stage v.stage refl
   where
-    kept : after_feed bytes starved past ≡ past → is_under v.stage ≡ false → Stands (after_feed bytes starved past) (value_fed bytes starved v)
+    kept : after_feed bytes starved past ≡ past → (is_under v.stage || is_keeping v.stage) ≡ false → Stands (after_feed bytes starved past) (value_fed bytes starved v)
     kept a b =
-        let same : value_fed bytes starved v ≡ v = rw b refl in
+        let same : value_fed bytes starved v ≡ v = ap (λ (t : Bool). if not t then v else join_fed (nat_lt ((most_lines v.params.lines - v.row) * v.params.bytes_per_line - length v.held) (length bytes)) starved bytes v) b in
         subst (λ (q : Past). Stands q (value_fed bytes starved v)) (sym a) (subst (λ (w : Joining). Stands past w) (sym same) stands)
 
+    still : (s : Stage) → v.stage ≡ s → past.under ≡ None → fault_in s ≡ None → (is_under s || is_keeping s) ≡ false → Stands (after_feed bytes starved past) (value_fed bytes starved v)
+    still s e under fault none = kept (feed_none bytes starved past (fault_at s past v e stands ∙ fault) under) (ap (λ (s : Stage). is_under s || is_keeping s) e ∙ none)
+
+    taken : (s : Stage) (f : Frame) → v.stage ≡ s → fault_in s ≡ None → past.under ≡ Some f → (is_under s || is_keeping s) ≡ true → nat_lt ((most_lines v.params.lines - v.row) * v.params.bytes_per_line - length v.held) (length bytes) ≡ nat_lt (most_bytes f.params) (length f.payload + length bytes) → Stands (past_fed (nat_lt (most_bytes f.params) (length f.payload + length bytes)) starved f bytes past) (join_fed (nat_lt (most_bytes f.params) (length f.payload + length bytes)) starved bytes v) → Stands (after_feed bytes starved past) (value_fed bytes starved v)
+    taken s f e fault under takes test new =
+        let long = nat_lt (most_bytes f.params) (length f.payload + length bytes) in
+        let opened : value_fed bytes starved v ≡ join_fed (nat_lt ((most_lines v.params.lines - v.row) * v.params.bytes_per_line - length v.held) (length bytes)) starved bytes v =
+        ap (λ (t : Bool). if not t then v else join_fed (nat_lt ((most_lines v.params.lines - v.row) * v.params.bytes_per_line - length v.held) (length bytes)) starved bytes v) (ap (λ (s : Stage). is_under s || is_keeping s) e ∙ takes) in
+        let value : value_fed bytes starved v ≡ join_fed long starved bytes v = opened ∙ ap (λ (t : Bool). join_fed t starved bytes v) test in
+        let told : after_feed bytes starved past ≡ past_fed long starved f bytes past = feed_under bytes starved past f (fault_at s past v e stands ∙ fault) under in
+        subst (λ (q : Past). Stands q (value_fed bytes starved v)) (sym told) (subst (λ (w : Joining). Stands (past_fed long starved f bytes past) w) (sym value) new)
+
     by_stage : (s : Stage) → v.stage ≡ s → Stands (after_feed bytes starved past) (value_fed bytes starved v)
-    by_stage Idle e = kept (feed_none bytes starved past (fault_at Idle past v e stands) (at_stage Idle past v e stands).1) (ap is_under e)
-    by_stage Whole e = kept (feed_none bytes starved past (fault_at Whole past v e stands) (at_stage Whole past v e stands).2) (ap is_under e)
-    by_stage (Failed x) e = kept (feed_failed bytes starved past x (fault_at (Failed x) past v e stands)) (ap is_under e)
+    by_stage Idle e = still Idle e (at_stage Idle past v e stands).1 refl refl
+    by_stage Between e = still Between e (at_stage Between past v e stands).0 refl refl
+    by_stage Whole e = still Whole e (at_stage Whole past v e stands).2 refl refl
+    by_stage WholeColors e = still WholeColors e (at_stage WholeColors past v e stands).4 refl refl
+    by_stage (Failed x) e = kept (feed_failed bytes starved past x (fault_at (Failed x) past v e stands)) (ap (λ (s : Stage). is_under s || is_keeping s) e)
     by_stage Under e =
         let at = at_stage Under past v e stands in
         let f = at.0 in
-        let fault = fault_at Under past v e stands in
-        let long = nat_lt (most_bytes f.params) (length f.payload + length bytes) in
-        let test = long_test f past.given bytes v at.3 in
-        let under : is_under v.stage ≡ true = ap is_under e in
-        let opened : value_fed bytes starved v ≡ join_fed (nat_lt ((lines_in v.params.lines - v.row) * v.params.bytes_per_line - length v.held) (length bytes)) starved bytes v = rw under refl in
-        let value : value_fed bytes starved v ≡ join_fed long starved bytes v = opened ∙ ap (λ (t : Bool). join_fed t starved bytes v) test in
-        let told : after_feed bytes starved past ≡ past_fed long starved f bytes past = feed_under bytes starved past f fault at.2 in
-        let new = fed_stands long starved f bytes past v e fault at.1 at.2 at.3 small (le_from (most_bytes f.params) (length f.payload + length bytes)) in
-        subst (λ (q : Past). Stands q (value_fed bytes starved v)) (sym told) (subst (λ (w : Joining). Stands (past_fed long starved f bytes past) w) (sym value) new)
+        let s = at.3 in
+        taken Under f e refl at.2 refl (long_test f bytes v s.goes.params s.most s.reach (held_length f past.given v s))
+        (stream_fed (nat_lt (most_bytes f.params) (length f.payload + length bytes)) starved f bytes past v e (fault_at Under past v e stands) at.1 s small (not_lt_from (most_bytes f.params) (length f.payload + length bytes)))
+    by_stage Keeping e =
+        let at = at_stage Keeping past v e stands in
+        let f = at.0 in
+        let k = at.2 in
+        let none = no_rows v f.params.bytes_per_line k.silent.row in
+        let size : length v.held ≡ length f.payload = ap (λ (l : List ℕ). length l) k.held in
+        taken Keeping f e refl at.1 refl (long_test f bytes v k.params k.most (omega (arith, none)) (omega (arith, none, size)))
+        (kept_fed (nat_lt (most_bytes f.params) (length f.payload + length bytes)) starved f bytes past v e (fault_at Keeping past v e stands) k small (not_lt_from (most_bytes f.params) (length f.payload + length bytes)))
+
+-- ---- nothing has gone yet
+
+given_none : (f : Frame) (given head : List ℕ) (headed row column : ℕ) → given ≡ [] → headed ≡ 0 → row ≡ 0 → column ≡ 0 → given ≡ take headed head ++ (rows_front f row ++ row_front f row column)
+given_none f given head headed row column a b c d =
+    a
+    ∙ sym (ap (λ (n : ℕ). take n head ++ (rows_front f row ++ row_front f row column)) b
+    ∙ (ap (λ (n : ℕ). rows_front f n ++ row_front f row column) c
+    ∙ (ap (λ (l : List ℕ). l ++ row_front f row column) (rows_front-zero f)
+    ∙ (ap (λ (n : ℕ). row_front f row n) d ∙ row_front-zero f row))))
+
+-- the file of a frame is about to go out
+pub begins : (f : Frame) (given : List ℕ) (v : Joining) → AloneParts f.params → ((i : ℕ) → slice_index f.payload i < 256) → v.params ≡ f.params → v.order ≡ f.order → v.head ≡ header_text (header_alone f.params) → given ≡ [] → v.headed ≡ 0 → v.row ≡ 0 → v.column ≡ 0 → Goes f given v
+begins f given v parts small params order head none headed row column = record {
+  params = params;
+  order = order;
+  alone = parts;
+  bytes = small;
+  head = head;
+  headed = omega (arith, headed);
+  given_is = given_none f given v.head v.headed v.row v.column none headed row column;
+  ahead = λ _. omega (arith, row, column);
+  rows = omega (arith, row);
+  column = omega (arith, column, parts.shape.row_some);
+  row_begun = λ h. absurd (omega (arith, h, column));
+}
 
 -- ---- the frame ends
 
-eq_true : (a b : ℕ) → a ≡ b → (a == b) ≡ true
-eq_true a b h = grind (arith, nat_tests)
+full_known : (f : Frame) → AloneParts f.params → is_full f ≡ (length f.payload == most_bytes f.params)
+full_known f parts =
+    ap (λ (o : Option ℕ). is_full_at o f.params.bytes_per_line (length f.payload)) parts.lines_known
+    ∙ ap (λ (o : Option ℕ). length f.payload == most_lines o * f.params.bytes_per_line) (sym parts.lines_known)
 
-eq_from : (a b : ℕ) → (a == b) ≡ true → a ≡ b
-eq_from a b e = grind (arith, nat_tests)
-
-eq_false : (a b : ℕ) → (a ≡ b → ⊥) → (a == b) ≡ false
-eq_false a b differ = elim (a == b) as (λ t. (a == b) ≡ t → t ≡ false) [ true ↦ λ q. absurd (differ (eq_from a b q)) | false ↦ λ q. refl ] refl
-
-same_test : (a b c d : ℕ) → (a ≡ b → c ≡ d) → (c ≡ d → a ≡ b) → (a == b) ≡ (c == d)
-same_test a b c d there back =
-    let P : Bool → Type 0 = λ t. (c == d) ≡ t → (a == b) ≡ t in
-    elim (c == d) as P [
-      | true ↦ λ q. eq_true a b (back (eq_from c d q))
-      | false ↦ λ q. eq_false a b (λ e. absurd (let x : (c == d) ≡ true = eq_true c d (there e) in grind (arith, x, q)))
-    ] refl
-
-full_test : (f : Frame) (given : List ℕ) (v : Joining) → Streams f given v → (length v.held == (lines_in v.params.lines - v.row) * v.params.bytes_per_line) ≡ is_full f
+full_test : (f : Frame) (given : List ℕ) (v : Joining) → Streams f given v → (length v.held == (most_lines v.params.lines - v.row) * v.params.bytes_per_line) ≡ is_full f
 full_test f given v s =
-    let L = lines_in f.params.lines in
+    let L = most_lines f.params.lines in
     let B = f.params.bytes_per_line in
     let one : B * (L - v.row) ≡ B * L - B * v.row = mul-sub B L v.row in
     let size = held_length f given v s in
-    ap (λ (p : Params). length v.held == (lines_in p.lines - v.row) * p.bytes_per_line) s.params
-    ∙ same_test (length v.held) ((L - v.row) * B) (length f.payload) (L * B) (λ e. omega (arith, e, one, size, s.most, s.reach)) (λ e. omega (arith, e, one, size, s.most, s.reach))
+    ap (λ (p : Params). length v.held == (most_lines p.lines - v.row) * p.bytes_per_line) s.goes.params
+    ∙ (same_test (length v.held) ((L - v.row) * B) (length f.payload) (L * B) (λ e. omega (arith, e, one, size, s.most, s.reach)) (λ e. omega (arith, e, one, size, s.most, s.reach))
+    ∙ sym (full_known f s.goes.alone))
 
 ended_streams : (f : Frame) (given : List ℕ) (v : Joining) → Streams f given v → Streams f given (record v { stage = Whole })
 ended_streams f given v s = record {
-  params = s.params;
-  order = s.order;
-  alone = s.alone;
-  bytes = s.bytes;
-  head = s.head;
+  goes = record {
+    params = s.goes.params;
+    order = s.goes.order;
+    alone = s.goes.alone;
+    bytes = s.goes.bytes;
+    head = s.goes.head;
+    headed = s.goes.headed;
+    given_is = s.goes.given_is;
+    ahead = s.goes.ahead;
+    rows = s.goes.rows;
+    column = s.goes.column;
+    row_begun = s.goes.row_begun;
+  };
   most = s.most;
   reach = s.reach;
   held = s.held;
-  headed = s.headed;
-  given_is = s.given_is;
-  ahead = s.ahead;
-  rows = s.rows;
-  column = s.column;
   line_begun = s.line_begun;
-  line_may_go = λ h. ((s.line_may_go h).0, λ e. absurd (let x : false ≡ true = e in cc));
+  line_may_go = λ _ e. absurd (let x : false ≡ true = e in cc);
   last_row_waits = λ e. absurd (let x : false ≡ true = e in cc);
 }
 
 abbrev pub past_ended : Bool → Frame → Past → Past
 past_ended full f past = if full then record past { ended = past.ended ++ f ∷ []; under = None } else failed Short past
 
-abbrev pub join_ended : Bool → Joining → Joining
-join_ended full v = if full then record v { stage = Whole } else record v { stage = Failed Short }
+abbrev stream_closed : Bool → Joining → Joining
+stream_closed full v = if full then record v { stage = Whole } else record v { stage = Failed Short }
 
-ended_stands : (full : Bool) (f : Frame) (past : Past) (v : Joining) → v.stage ≡ Under → past.fault ≡ None → past.ended ≡ [] → Streams f past.given v → (full ≡ true → length f.payload ≡ most_bytes f.params) → Stands (past_ended full f past) (join_ended full v)
-ended_stands true f past v under fault ended s size = record {
+stream_ended : (full : Bool) (f : Frame) (past : Past) (v : Joining) → v.stage ≡ Under → past.fault ≡ None → past.ended ≡ [] → Streams f past.given v → (full ≡ true → is_full f ≡ true) → Stands (past_ended full f past) (stream_closed full v)
+stream_ended true f past v under fault ended s full = record {
   fault = fault;
-  at_stage = (f, ap (λ (l : List Frame). l ++ f ∷ []) ended, refl, size refl, ended_streams f past.given v s);
+  at_stage = (f, ap (λ (l : List Frame). l ++ f ∷ []) ended, refl, full_size f (full refl), subst (λ (g : Frame). Streams g past.given (record v { stage = Whole })) (sym (settled_known f s.goes.alone.lines_known)) (ended_streams f past.given v s));
 }
-ended_stands false f past v under fault ended s size = record {
-  fault = refl;
-  at_stage = stream_is_not_whole f past.given v s (s.last_row_waits (ap is_under under));
-}
+stream_ended false f past v under fault ended s full = failed_stands past v Short (goes_is_not_whole f past.given v s.goes (s.last_row_waits (ap is_under under)))
+
+-- a frame that is kept is a picture of unknown height, or one color
+pub kept_sort : (frames : List Frame) (f : Frame) → is_accepted frames f.params f.order ≡ true → is_alone f.params ≡ false → ((is_open_ended f.params ≡ true) × (frames ≡ [])) ⊎ (is_pass f.params ≡ true)
+kept_sort [] f accepted kept = elim (or_cases (is_open_ended f.params) (is_pass_that false f.params) (or_other (is_alone f.params) (is_open_ended f.params || is_pass_that false f.params) accepted kept)) [
+  | inl rolled ↦ inl (rolled, refl)
+  | inr pass ↦ inr (pass_that_is_pass false f.params pass)
+]
+kept_sort (a ∷ []) f accepted kept = inr (pass_that_is_pass false f.params (and_parts (is_pass_that false f.params) (goes_with a f.params f.order) accepted).0)
+kept_sort (a ∷ b ∷ []) f accepted kept = inr (pass_that_is_pass true f.params (and_parts (is_pass_that true f.params) (goes_with a f.params f.order && goes_with b f.params f.order) accepted).0)
+kept_sort (a ∷ b ∷ c ∷ rest) f accepted kept = absurd (cc)
+
+drop_none : (n : ℕ) (l : List ℕ) → n ≡ 0 → drop n l ≡ l
+drop_none n l e = ap (λ (k : ℕ). drop k l) e
+
+-- the height of a frame is told
+height_ended : (f : Frame) (past : Past) (v : Joining) → past.fault ≡ None → past.ended ≡ [] → Keeps f past v → OpenParts f.params → is_full f ≡ true → Stands (record past { ended = past.ended ++ f ∷ []; under = None }) (height_told v)
+height_ended f past v fault ended k parts full =
+    let q : Params = record v.params { lines = Some (length v.held / v.params.bytes_per_line) } in
+    let told : q ≡ (settled f).params =
+    ap (λ (p : Params). record p { lines = Some (length v.held / p.bytes_per_line) }) k.params
+    ∙ (ap (λ (l : List ℕ). record f.params { lines = Some (length l / f.params.bytes_per_line) }) k.held
+    ∙ ap (λ (n : ℕ). record f.params { lines = Some n }) (sym (height_open f parts.lines))) in
+    let head : v.head ++ header_text (header_alone q) ≡ header_text (header_alone (settled f).params) = ap (λ (l : List ℕ). l ++ header_text (header_alone q)) k.silent.head ∙ ap (λ (p : Params). header_text (header_alone p)) told in
+    let size = full_size f full in
+    let none = no_rows v f.params.bytes_per_line k.silent.row in
+    record {
+      fault = fault;
+      at_stage = (
+        f,
+        ap (λ (l : List Frame). l ++ f ∷ []) ended,
+        refl,
+        size,
+        record {
+          goes = begins (settled f) past.given (height_told v) (settled_alone f parts full) k.bytes told k.order head k.silent.given_is k.silent.headed k.silent.row k.silent.column;
+          most = omega (arith, size);
+          reach = omega (arith, none);
+          held = k.held ∙ sym (drop_none (v.row * f.params.bytes_per_line) f.payload none);
+          line_begun = λ h. absurd (omega (arith, h, k.silent.column));
+          line_may_go = λ _ e. absurd (let x : false ≡ true = e in cc);
+          last_row_waits = λ e. absurd (let x : false ≡ true = e in cc);
+        },
+      );
+    }
+
+-- ---- a color ends
+
+planes_after : (frames : List Frame) (f : Frame) (past : Past) (v : Joining) → past.ended ≡ frames → Keeps f past v → is_pass f.params ≡ true → has_color (color_number f.params.format) frames ≡ false → (color_put v).planes ≡ planes_of (frames ++ f ∷ [])
+planes_after frames f past v ended k pass none =
+    ap (λ (p : Params). put_plane (color_number p.format) (record { line = p.bytes_per_line; bytes = v.held }) v.planes) k.params
+    ∙ (ap (λ (l : List ℕ). put_plane (color_number f.params.format) (record { line = f.params.bytes_per_line; bytes = l }) v.planes) k.held
+    ∙ (ap (put_plane (color_number f.params.format) (plane_in f)) (k.planes ∙ ap planes_of ended)
+    ∙ planes_put frames f (pass_parts f.params pass).format none))
+
+held_after : (frames : List Frame) (f : Frame) (past : Past) (v : Joining) → past.ended ≡ frames → Keeps f past v → is_pass f.params ≡ true → has_color (color_number f.params.format) frames ≡ false → (color_put v).held ≡ []
+held_after frames f past v ended k pass none =
+    ap (λ (p : Params). (nth_plane v.planes (color_number p.format)).bytes) k.params
+    ∙ (ap (λ (q : Planes). (nth_plane q (color_number f.params.format)).bytes) (k.planes ∙ ap planes_of ended)
+    ∙ ap (λ (q : Plane). q.bytes) (nth_is frames f.params.format (pass_parts f.params pass).format ∙ plane_none (color_number f.params.format) frames none))
+
+none_yet : (a b : Bool) → a ≡ false → b ≡ false → (a || b) ≡ false
+none_yet true b x y = absurd (cc)
+none_yet false b x y = y
+
+waits_on : (frames : List Frame) (f : Frame) (past : Past) (v : Joining) → past.fault ≡ None → past.ended ≡ frames → Keeps f past v → is_pass f.params ≡ true → has_color (color_number f.params.format) frames ≡ false → f.params.last_frame ≡ false → AreColors (frames ++ f ∷ []) → (v.params ≡ f.params → v.order ≡ f.order → IsPart (frames ++ f ∷ []) v.params v.order) → Stands (record past { ended = frames ++ f ∷ []; under = None }) (color_ended v)
+waits_on frames f past v fault ended k pass none flag colors part =
+    let more : v.params.last_frame ≡ false = ap (λ (p : Params). p.last_frame) k.params ∙ flag in
+    let same : color_ended v ≡ color_put v = ap (λ (t : Bool). if t then headed_by (all_colors v.params) (record (color_put v) { stage = WholeColors }) else color_put v) more in
+    subst (λ (w : Joining). Stands (record past { ended = frames ++ f ∷ []; under = None }) w) (sym same) (record {
+      fault = fault;
+      at_stage = (
+        refl,
+        record {
+          part = part k.params k.order;
+          colors = colors;
+          planes = planes_after frames f past v ended k pass none;
+          held = held_after frames f past v ended k pass none;
+          silent = record { given_is = k.silent.given_is; head = k.silent.head; headed = k.silent.headed; row = k.silent.row; column = k.silent.column };
+        },
+      );
+    })
+
+colors_whole : (a b f : Frame) (past : Past) (v : Joining) → past.fault ≡ None → past.ended ≡ a ∷ b ∷ [] → Keeps f past v → is_pass f.params ≡ true → has_color (color_number f.params.format) (a ∷ b ∷ []) ≡ false → f.params.last_frame ≡ true → AreColors (a ∷ b ∷ f ∷ []) → Stands (record past { ended = a ∷ b ∷ f ∷ []; under = None }) (color_ended v)
+colors_whole a b f past v fault ended k pass none flag colors =
+    let last : v.params.last_frame ≡ true = ap (λ (p : Params). p.last_frame) k.params ∙ flag in
+    let w = headed_by (all_colors v.params) (record (color_put v) { stage = WholeColors }) in
+    let same : color_ended v ≡ w = ap (λ (t : Bool). if t then headed_by (all_colors v.params) (record (color_put v) { stage = WholeColors }) else color_put v) last in
+    let planes = planes_of (a ∷ b ∷ f ∷ []) in
+    let three = three_parts a b f colors in
+    let head : v.head ++ header_text (header_alone (all_colors v.params)) ≡ header_text (header_alone (all_colors f.params)) = ap (λ (l : List ℕ). l ++ header_text (header_alone (all_colors v.params))) k.silent.head ∙ ap (λ (p : Params). header_text (header_alone (all_colors p))) k.params in
+    subst (λ (w : Joining). Stands (record past { ended = a ∷ b ∷ f ∷ []; under = None }) w) (sym same) (record {
+      fault = fault;
+      at_stage = (
+        a,
+        b,
+        f,
+        refl,
+        refl,
+        record {
+          colors = colors;
+          planes = planes_after (a ∷ b ∷ []) f past v ended k pass none;
+          goes = begins (side_by_side f planes) past.given w (all_alone f.params three.third.pass) (side_small planes f.params.depth (row_bytes (all_colors f.params)) _ three.small) (ap all_colors k.params) k.order head k.silent.given_is k.silent.headed k.silent.row k.silent.column;
+        },
+      );
+    })
+
+color_kept : (f : Frame) (past : Past) (v : Joining) → past.fault ≡ None → Keeps f past v → is_pass f.params ≡ true → is_full f ≡ true → Stands (record past { ended = past.ended ++ f ∷ []; under = None }) (color_ended v)
+color_kept f past v fault k pass full = by_frames past.ended refl
+  where
+    color : (frames : List Frame) → past.ended ≡ frames → IsColor frames f
+    color frames e = record { accepted = ap (λ (l : List Frame). is_accepted l f.params f.order) (sym e) ∙ k.accepted; pass = pass; full = full; bytes = k.bytes }
+
+    colors : (frames : List Frame) → past.ended ≡ frames → AreColors frames
+    colors frames e = subst AreColors e k.colors
+
+    there : (frames : List Frame) → past.ended ≡ frames → Stands (record past { ended = frames ++ f ∷ []; under = None }) (color_ended v) → Stands (record past { ended = past.ended ++ f ∷ []; under = None }) (color_ended v)
+    there frames e new = subst (λ (l : List Frame). Stands (record past { ended = l ++ f ∷ []; under = None }) (color_ended v)) (sym e) new
+
+    by_frames : (frames : List Frame) → past.ended ≡ frames → Stands (record past { ended = past.ended ++ f ∷ []; under = None }) (color_ended v)
+    by_frames [] e =
+        let one = color [] e in
+        there [] e (waits_on [] f past v fault e k pass refl (first_parts f pass one.accepted).flag one (λ x y. (x, y)))
+    by_frames (a ∷ []) e =
+        let one = color (a ∷ []) e in
+        let second = second_parts a f one.accepted in
+        there (a ∷ []) e (waits_on (a ∷ []) f past v fault e k pass (none_yet _ _ second.goes.other refl) second.flag (colors (a ∷ []) e, one) (λ x y. (x, y)))
+    by_frames (a ∷ b ∷ []) e =
+        let one = color (a ∷ b ∷ []) e in
+        let third = third_parts a b f one.accepted in
+        let before = colors (a ∷ b ∷ []) e in
+        there (a ∷ b ∷ []) e (colors_whole a b f past v fault e k pass (none_yet _ _ third.first.other (none_yet _ _ third.second.other refl)) third.flag (before.0, before.1, one))
+    by_frames (a ∷ b ∷ c ∷ rest) e = absurd (let clash : false ≡ true = (color (a ∷ b ∷ c ∷ rest) e).accepted in cc)
+
+-- ---- the frame ends, whichever it is
+
+abbrev kept_closed : Bool → Bool → Joining → Joining
+kept_closed full unknown v =
+    if not full then record v { stage = Failed Short } else (if unknown then height_told v else color_ended v)
+
+kept_is : (f : Frame) (past : Past) (v : Joining) → Keeps f past v → kept_ended v ≡ kept_closed (is_full f) (is_unknown f.params.lines) v
+kept_is f past v k =
+    ap (λ (t : Bool). kept_closed t (is_unknown v.params.lines) v)
+    (ap (λ (p : Params). is_full_at p.lines p.bytes_per_line (length v.held)) k.params ∙ ap (λ (l : List ℕ). is_full_at f.params.lines f.params.bytes_per_line (length l)) k.held)
+    ∙ ap (λ (p : Params). kept_closed (is_full f) (is_unknown p.lines) v) k.params
+
+kept_closes : (full : Bool) (f : Frame) (past : Past) (v : Joining) → past.fault ≡ None → Keeps f past v → is_full f ≡ full → Stands (past_ended full f past) (kept_closed full (is_unknown f.params.lines) v)
+kept_closes false f past v fault k e = failed_stands past v Short (silent_not_whole past.given v k.silent)
+kept_closes true f past v fault k e = elim (kept_sort past.ended f k.accepted k.kept) [
+  | inl rolled ↦
+      let parts = open_parts f.params rolled.0 in
+      let same : height_told v ≡ kept_closed true (is_unknown f.params.lines) v = ap (λ (o : Option ℕ). kept_closed true (is_unknown o) v) (sym parts.lines) in
+      subst (λ (w : Joining). Stands (past_ended true f past) w) same (height_ended f past v fault rolled.1 k parts e)
+  | inr pass ↦
+      let same : color_ended v ≡ kept_closed true (is_unknown f.params.lines) v = ap (λ (o : Option ℕ). kept_closed true (is_unknown o) v) (sym (pass_parts f.params pass).lines_known) in
+      subst (λ (w : Joining). Stands (past_ended true f past) w) same (color_kept f past v fault k pass e)
+]
 
 pub end_carries : (past : Past) (v : Joining) → Stands past v → Stands (after_end past) (value_ended v)
 end_carries past v stands = by_stage v.stage refl
   where
-    kept : after_end past ≡ past → is_under v.stage ≡ false → Stands (after_end past) (value_ended v)
-    kept a b =
-        let same : value_ended v ≡ v = rw b refl in
-        subst (λ (q : Past). Stands q (value_ended v)) (sym a) (subst (λ (w : Joining). Stands past w) (sym same) stands)
+    moved : (q : Past) (w : Joining) → after_end past ≡ q → value_ended v ≡ w → Stands q w → Stands (after_end past) (value_ended v)
+    moved q w a b new = subst (λ (q : Past). Stands q (value_ended v)) (sym a) (subst (λ (w : Joining). Stands q w) (sym b) new)
+
+    still : (s : Stage) → v.stage ≡ s → past.under ≡ None → fault_in s ≡ None → value_ended_at s v ≡ v → Stands (after_end past) (value_ended v)
+    still s e under fault same = moved past v (end_none past (fault_at s past v e stands ∙ fault) under) (ap (λ (s : Stage). value_ended_at s v) e ∙ same) stands
 
     by_stage : (s : Stage) → v.stage ≡ s → Stands (after_end past) (value_ended v)
-    by_stage Idle e = kept (end_none past (fault_at Idle past v e stands) (at_stage Idle past v e stands).1) (ap is_under e)
-    by_stage Whole e = kept (end_none past (fault_at Whole past v e stands) (at_stage Whole past v e stands).2) (ap is_under e)
-    by_stage (Failed x) e = kept (end_failed past x (fault_at (Failed x) past v e stands)) (ap is_under e)
+    by_stage Idle e = still Idle e (at_stage Idle past v e stands).1 refl refl
+    by_stage Between e = still Between e (at_stage Between past v e stands).0 refl refl
+    by_stage Whole e = still Whole e (at_stage Whole past v e stands).2 refl refl
+    by_stage WholeColors e = still WholeColors e (at_stage WholeColors past v e stands).4 refl refl
+    by_stage (Failed x) e = moved past v (end_failed past x (fault_at (Failed x) past v e stands)) (ap (λ (s : Stage). value_ended_at s v) e) stands
     by_stage Under e =
         let at = at_stage Under past v e stands in
         let f = at.0 in
         let fault = fault_at Under past v e stands in
-        let under : is_under v.stage ≡ true = ap is_under e in
-        let opened : value_ended v ≡ join_ended (length v.held == (lines_in v.params.lines - v.row) * v.params.bytes_per_line) v = rw under refl in
-        let value : value_ended v ≡ join_ended (is_full f) v = opened ∙ ap (λ (t : Bool). join_ended t v) (full_test f past.given v at.3) in
-        let told : after_end past ≡ past_ended (is_full f) f past = end_under past f fault at.2 in
-        let new = ended_stands (is_full f) f past v e fault at.1 at.3 (eq_from (length f.payload) (most_bytes f.params)) in
-        subst (λ (q : Past). Stands q (value_ended v)) (sym told) (subst (λ (w : Joining). Stands (past_ended (is_full f) f past) w) (sym value) new)
+        moved (past_ended (is_full f) f past) (stream_closed (is_full f) v)
+        (end_under past f fault at.2)
+        (ap (λ (s : Stage). value_ended_at s v) e ∙ ap (λ (t : Bool). stream_closed t v) (full_test f past.given v at.3))
+        (stream_ended (is_full f) f past v e fault at.1 at.3 (λ h. h))
+    by_stage Keeping e =
+        let at = at_stage Keeping past v e stands in
+        let f = at.0 in
+        let fault = fault_at Keeping past v e stands in
+        moved (past_ended (is_full f) f past) (kept_closed (is_full f) (is_unknown f.params.lines) v)
+        (end_under past f fault at.1)
+        (ap (λ (s : Stage). value_ended_at s v) e ∙ kept_is f past v at.2)
+        (kept_closes (is_full f) f past v fault at.2 refl)
 
 -- ---- a frame begins
 
@@ -248,55 +464,92 @@ fresh_streams p o given alone empty =
     let parts = alone_parts p alone in
     let f : Frame = record { params = p; order = o; payload = [] } in
     record {
-      params = refl;
-      order = refl;
-      alone = parts;
-      bytes = λ i. omega arith;
-      head = refl;
+      goes = begins f given (fresh p o) parts (λ i. omega arith) refl refl refl empty refl refl refl;
       most = omega arith;
       reach = omega arith;
       held = sym (drop-nil (0 * p.bytes_per_line));
-      headed = omega arith;
-      given_is = empty ∙ (sym (rows_front-zero f) ∙ (sym (append-nil (rows_front f 0)) ∙ ap (λ (l : List ℕ). rows_front f 0 ++ l) (sym (row_front-zero f 0))));
-      ahead = λ _. omega arith;
-      rows = omega arith;
-      column = omega (arith, parts.row_some);
       line_begun = λ h. absurd (omega (arith, h));
       line_may_go = λ h. absurd (omega (arith, h));
       last_row_waits = λ _. omega (arith, parts.lines_some);
     }
 
-abbrev pub past_begun : Bool → Bool → Params → ByteOrder → Past → Past
+abbrev new_frame : Params → ByteOrder → Frame
+new_frame p o = record { params = p; order = o; payload = [] }
+
+abbrev past_begun : Bool → Bool → Params → ByteOrder → Past → Past
 past_begun accepted starved p o past =
     if not accepted then failed Shape past
     else (if starved then failed NoMem past
-    else record past { under = Some (record { params = p; order = o; payload = [] }) })
+    else record past { under = Some (new_frame p o) })
 
-abbrev pub join_begun : Bool → Bool → Params → ByteOrder → Joining → Joining
-join_begun accepted starved p o v =
+abbrev join_begun : Bool → Bool → Joining → Joining → Joining
+join_begun accepted starved began v =
     if not accepted then record v { stage = Failed Shape }
-    else (if starved then record v { stage = Failed NoMem } else fresh p o)
+    else (if starved then record v { stage = Failed NoMem } else began)
 
-begun_stands : (accepted starved : Bool) (p : Params) (o : ByteOrder) (past : Past) (v : Joining) → past.fault ≡ None → past.ended ≡ [] → past.given ≡ [] → (accepted ≡ true → is_alone p ≡ true) → Stands (past_begun accepted starved p o past) (join_begun accepted starved p o v)
-begun_stands false starved p o past v fault ended given alone = record {
-  fault = refl;
-  at_stage = λ whole. nothing_is_not_whole (subst IsWhole given whole);
+-- a frame that is accepted begins, or memory is wanting, or it is not accepted
+begun_stands : (accepted starved : Bool) (p : Params) (o : ByteOrder) (past : Past) (began v : Joining) → past.given ≡ [] → (accepted ≡ true → Stands (record past { under = Some (new_frame p o) }) began) → Stands (past_begun accepted starved p o past) (join_begun accepted starved began v)
+begun_stands false starved p o past began v given new = failed_stands past v Shape (λ whole. nothing_is_not_whole (subst IsWhole given whole))
+begun_stands true true p o past began v given new = failed_stands past v NoMem (λ whole. nothing_is_not_whole (subst IsWhole given whole))
+begun_stands true false p o past began v given new = new refl
+
+-- the first frame: which of the two it is
+first_is : (alone other starved : Bool) (p : Params) (o : ByteOrder) (v : Joining) → (if alone then (if starved then record v { stage = Failed NoMem } else fresh p o) else (if other then (if starved then record v { stage = Failed NoMem } else keeping p o) else record v { stage = Failed Shape })) ≡ join_begun (alone || other) starved (if alone then fresh p o else keeping p o) v
+first_is true other starved p o v = refl
+first_is false true starved p o v = refl
+first_is false false starved p o v = refl
+
+no_most : (p : Params) → 0 ≤ most_bytes p
+no_most p = omega arith
+
+kept_begins : (frames : List Frame) (p : Params) (o : ByteOrder) (past : Past) (v : Joining) → past.ended ≡ frames → is_accepted frames p o ≡ true → is_alone p ≡ false → AreColors frames → v.planes ≡ planes_of frames → v.params ≡ p → v.order ≡ o → v.held ≡ [] → IsSilent past.given v → Keeps (new_frame p o) (record past { under = Some (new_frame p o) }) v
+kept_begins frames p o past v ended accepted kept colors planes params order held silent = record {
+  accepted = ap (λ (l : List Frame). is_accepted l p o) ended ∙ accepted;
+  kept = kept;
+  colors = subst AreColors (sym ended) colors;
+  planes = planes ∙ ap planes_of (sym ended);
+  params = params;
+  order = order;
+  held = held;
+  bytes = λ i. omega arith;
+  most = no_most p;
+  silent = silent;
 }
-begun_stands true true p o past v fault ended given alone = record {
-  fault = refl;
-  at_stage = λ whole. nothing_is_not_whole (subst IsWhole given whole);
-}
-begun_stands true false p o past v fault ended given alone = record {
+
+first_stands : (alone : Bool) (p : Params) (o : ByteOrder) (past : Past) → is_alone p ≡ alone → is_accepted [] p o ≡ true → past.fault ≡ None → past.ended ≡ [] → past.given ≡ [] → Stands (record past { under = Some (new_frame p o) }) (if alone then fresh p o else keeping p o)
+first_stands true p o past alone accepted fault ended given = record {
   fault = fault;
-  at_stage = (record { params = p; order = o; payload = [] }, ended, refl, fresh_streams p o past.given (alone refl) given);
+  at_stage = (new_frame p o, ended, refl, fresh_streams p o past.given alone given);
+}
+first_stands false p o past alone accepted fault ended given = record {
+  fault = fault;
+  at_stage = (new_frame p o, refl, kept_begins [] p o past (keeping p o) ended accepted alone tt refl refl refl refl (record { given_is = given; head = refl; headed = refl; row = refl; column = refl }));
 }
 
-idle_step : (p : Params) (o : ByteOrder) (starved : Bool) (past : Past) (frames : List Frame) → frames ≡ [] → (if is_joined frames then past else (if not (is_accepted frames p o) then failed Shape past else (if starved then failed NoMem past else record past { under = Some (record { params = p; order = o; payload = [] }) }))) ≡ past_begun (is_alone p) starved p o past
-idle_step p o starved past [] e = refl
-idle_step p o starved past (f ∷ rest) e = absurd (cc)
+first_step : (p : Params) (o : ByteOrder) (starved : Bool) (past : Past) (frames : List Frame) → frames ≡ [] → (if is_joined frames then past else (if not (is_accepted frames p o) then failed Shape past else (if starved then failed NoMem past else record past { under = Some (new_frame p o) }))) ≡ past_begun (is_accepted [] p o) starved p o past
+first_step p o starved past [] e = refl
+first_step p o starved past (f ∷ rest) e = absurd (cc)
 
-joined_step_at : (p : Params) (o : ByteOrder) (starved : Bool) (past : Past) (frames : List Frame) → is_joined frames ≡ true → (if is_joined frames then past else (if not (is_accepted frames p o) then failed Shape past else (if starved then failed NoMem past else record past { under = Some (record { params = p; order = o; payload = [] }) }))) ≡ past
-joined_step_at p o starved past frames e = rw e refl
+joined_step : (p : Params) (o : ByteOrder) (starved : Bool) (past : Past) (frames : List Frame) → is_joined frames ≡ true → (if is_joined frames then past else (if not (is_accepted frames p o) then failed Shape past else (if starved then failed NoMem past else record past { under = Some (new_frame p o) }))) ≡ past
+joined_step p o starved past frames e = ap (λ (t : Bool). if t then past else (if not (is_accepted frames p o) then failed Shape past else (if starved then failed NoMem past else record past { under = Some (new_frame p o) }))) e
+
+next_step : (p : Params) (o : ByteOrder) (starved : Bool) (past : Past) (frames : List Frame) → is_joined frames ≡ false → (if is_joined frames then past else (if not (is_accepted frames p o) then failed Shape past else (if starved then failed NoMem past else record past { under = Some (new_frame p o) }))) ≡ past_begun (is_accepted frames p o) starved p o past
+next_step p o starved past frames e = ap (λ (t : Bool). if t then past else (if not (is_accepted frames p o) then failed Shape past else (if starved then failed NoMem past else record past { under = Some (new_frame p o) }))) e
+
+-- colors of which some are to come
+pub part_parts : (frames : List Frame) (v : Joining) → IsPart frames v.params v.order → AreColors frames → v.planes ≡ planes_of frames → (is_joined frames ≡ false) × ((p : Params) (o : ByteOrder) → accepts_next v p o ≡ is_accepted frames p o) × ((p : Params) (o : ByteOrder) → is_accepted frames p o ≡ true → is_alone p ≡ false)
+part_parts [] v part colors planes = absurd part
+part_parts (a ∷ []) v part colors planes = (
+  (pass_parts a.params colors.pass).format,
+  (λ p o. after_one a v p o colors planes part.0 part.1),
+  (λ p o h. pass_not_alone p (pass_that_is_pass false p (and_parts (is_pass_that false p) (goes_with a p o) h).0)),
+)
+part_parts (a ∷ b ∷ []) v part colors planes = (
+  refl,
+  (λ p o. after_two a b v p o colors.0 colors.1 planes part.0 part.1),
+  (λ p o h. pass_not_alone p (pass_that_is_pass true p (and_parts (is_pass_that true p) (goes_with a p o && goes_with b p o) h).0)),
+)
+part_parts (a ∷ b ∷ c ∷ rest) v part colors planes = absurd part
 
 pub begin_carries : (p : Params) (o : ByteOrder) (starved : Bool) (past : Past) (v : Joining) → Stands past v → Stands (after_begin p o starved past) (value_begun p o starved v)
 begin_carries p o starved past v stands = by_stage v.stage refl
@@ -304,421 +557,58 @@ begin_carries p o starved past v stands = by_stage v.stage refl
     moved : (q : Past) (w : Joining) → after_begin p o starved past ≡ q → value_begun p o starved v ≡ w → Stands q w → Stands (after_begin p o starved past) (value_begun p o starved v)
     moved q w a b new = subst (λ (q : Past). Stands q (value_begun p o starved v)) (sym a) (subst (λ (w : Joining). Stands q w) (sym b) new)
 
+    inside : (s : Stage) (f : Frame) → v.stage ≡ s → fault_in s ≡ None → past.under ≡ Some f → value_begun_at s p o starved v ≡ record v { stage = Failed Shape } → (IsWhole past.given → ⊥) → Stands (after_begin p o starved past) (value_begun p o starved v)
+    inside s f e fault under value none =
+        moved (failed Shape past) (record v { stage = Failed Shape })
+        (begin_under p o starved past f (fault_at s past v e stands ∙ fault) under)
+        (ap (λ (s : Stage). value_begun_at s p o starved v) e ∙ value)
+        (failed_stands past v Shape none)
+
+    whole : (s : Stage) → v.stage ≡ s → fault_in s ≡ None → past.under ≡ None → is_joined past.ended ≡ true → value_begun_at s p o starved v ≡ v → Stands (after_begin p o starved past) (value_begun p o starved v)
+    whole s e fault under joined value =
+        moved past v
+        (begin_idle p o starved past (fault_at s past v e stands ∙ fault) under ∙ joined_step p o starved past past.ended joined)
+        (ap (λ (s : Stage). value_begun_at s p o starved v) e ∙ value)
+        stands
+
     by_stage : (s : Stage) → v.stage ≡ s → Stands (after_begin p o starved past) (value_begun p o starved v)
     by_stage Idle e =
         let at = at_stage Idle past v e stands in
         let fault = fault_at Idle past v e stands in
-        moved (past_begun (is_alone p) starved p o past) (join_begun (is_alone p) starved p o v)
-        (begin_idle p o starved past fault at.1 ∙ idle_step p o starved past past.ended at.0)
-        (ap (λ (s : Stage). value_begun_at s p o starved v) e)
-        (begun_stands (is_alone p) starved p o past v fault at.0 at.2 (λ h. h))
+        let began = if is_alone p then fresh p o else keeping p o in
+        moved (past_begun (is_accepted [] p o) starved p o past) (join_begun (is_accepted [] p o) starved began v)
+        (begin_idle p o starved past fault at.1 ∙ first_step p o starved past past.ended at.0)
+        (ap (λ (s : Stage). value_begun_at s p o starved v) e ∙ first_is (is_alone p) (is_open_ended p || is_pass_that false p) starved p o v)
+        (begun_stands (is_accepted [] p o) starved p o past began v at.2 (λ accepted. first_stands (is_alone p) p o past refl accepted fault at.0 at.2))
+    by_stage Between e =
+        let at = at_stage Between past v e stands in
+        let w = at.1 in
+        let fault = fault_at Between past v e stands in
+        let parts = part_parts past.ended v w.part w.colors w.planes in
+        let began : Joining = record v { stage = Keeping; params = p; order = o } in
+        moved (past_begun (is_accepted past.ended p o) starved p o past) (join_begun (is_accepted past.ended p o) starved began v)
+        (begin_idle p o starved past fault at.0 ∙ next_step p o starved past past.ended parts.0)
+        (ap (λ (s : Stage). value_begun_at s p o starved v) e ∙ ap (λ (t : Bool). join_begun t starved began v) (parts.1 p o))
+        (begun_stands (is_accepted past.ended p o) starved p o past began v w.silent.given_is (λ accepted. record {
+          fault = fault;
+          at_stage = (new_frame p o, refl, kept_begins past.ended p o past began refl accepted (parts.2 p o accepted) w.colors w.planes refl refl w.held (record { given_is = w.silent.given_is; head = w.silent.head; headed = w.silent.headed; row = w.silent.row; column = w.silent.column }));
+        }))
     by_stage Whole e =
         let at = at_stage Whole past v e stands in
-        let joined : is_joined past.ended ≡ true = ap is_joined at.1 ∙ at.4.alone.format in
-        moved past v
-        (begin_idle p o starved past (fault_at Whole past v e stands) at.2 ∙ joined_step_at p o starved past past.ended joined)
-        (ap (λ (s : Stage). value_begun_at s p o starved v) e)
-        stands
+        whole Whole e refl at.2 (ap is_joined at.1 ∙ at.4.goes.alone.format) refl
+    by_stage WholeColors e =
+        let at = at_stage WholeColors past v e stands in
+        whole WholeColors e refl at.4 (ap is_joined at.3) refl
     by_stage (Failed x) e =
         moved past v (begin_failed p o starved past x (fault_at (Failed x) past v e stands)) (ap (λ (s : Stage). value_begun_at s p o starved v) e) stands
     by_stage Under e =
         let at = at_stage Under past v e stands in
-        moved (failed Shape past) (record v { stage = Failed Shape })
-        (begin_under p o starved past at.0 (fault_at Under past v e stands) at.2)
-        (ap (λ (s : Stage). value_begun_at s p o starved v) e)
-        (record {
-          fault = refl;
-          at_stage = stream_is_not_whole at.0 past.given v at.3 (at.3.last_row_waits (ap is_under e));
-        })
+        inside Under at.0 e refl at.2 refl (goes_is_not_whole at.0 past.given v at.3.goes (at.3.last_row_waits (ap is_under e)))
+    by_stage Keeping e =
+        let at = at_stage Keeping past v e stands in
+        inside Keeping at.0 e refl at.1 refl (silent_not_whole past.given v at.2.silent)
 
--- ---- a byte goes out
-
-or_parts : (a b : Bool) → (a || b) ≡ true → (a ≡ true) ⊎ (b ≡ true)
-or_parts true b h = inl refl
-or_parts false b h = inr h
-
-stream_goes : (f : Frame) (given : List ℕ) (v : Joining) → Streams f given v → (nat_lt v.headed (length v.head) || is_ready v) ≡ true → Streams f (given ++ next_byte v ∷ []) (after_next v)
-stream_goes f given v s goes = elim (cases_lt v.headed (length v.head)) as (λ _. Streams f (given ++ next_byte v ∷ []) (after_next v)) [
-  | inl less ↦
-      let test : nat_lt v.headed (length v.head) ≡ true = nat_lt_true v.headed (length v.head) less in
-      let byte : next_byte v ≡ slice_index v.head v.headed = rw test refl in
-      let value : after_next v ≡ record v { headed = v.headed + 1 } = rw test refl in
-      moved (slice_index v.head v.headed) (record v { headed = v.headed + 1 }) byte value (head_goes f given v s less)
-  | inr done ↦
-      let test : nat_lt v.headed (length v.head) ≡ false = nat_lt_false v.headed (length v.head) done in
-      let is : is_ready v ≡ true = rw test at goes in
-      let ready = ready_is f given v s is in
-      let byte : next_byte v ≡ raster_byte f v.row v.column = (let opened : next_byte v ≡ trimmed v.params.pixels_per_line v.params.depth v.column (slice_index v.held (place_in v.order v.params.depth v.column)) = rw test refl in opened) ∙ held_byte f given v s in
-      let size : row_bytes v.params ≡ row_bytes f.params = ap row_bytes s.params in
-      elim (cases_lt (v.column + 1) (row_bytes f.params)) as (λ _. Streams f (given ++ next_byte v ∷ []) (after_next v)) [
-        | inl more ↦
-            let not_last : (v.column + 1 == row_bytes v.params) ≡ false = eq_false (v.column + 1) (row_bytes v.params) (λ e. omega (arith, e, size, more)) in
-            let value : after_next v ≡ record v { column = v.column + 1 } = rw (test, not_last) refl in
-            moved (raster_byte f v.row v.column) (record v { column = v.column + 1 }) byte value (column_goes f given v s done ready more)
-        | inr full ↦
-            let last : v.column + 1 ≡ row_bytes f.params = omega (arith, full, s.column) in
-            let is_last : (v.column + 1 == row_bytes v.params) ≡ true = eq_true (v.column + 1) (row_bytes v.params) (omega (arith, last, size)) in
-            let value : after_next v ≡ record v { column = 0; row = v.row + 1; held = drop v.params.bytes_per_line v.held } = rw (test, is_last) refl in
-            moved (raster_byte f v.row v.column) (record v { column = 0; row = v.row + 1; held = drop v.params.bytes_per_line v.held }) byte value (row_goes f given v s done ready last)
-      ]
-]
-  where
-    moved : (b : ℕ) (w : Joining) → next_byte v ≡ b → after_next v ≡ w → Streams f (given ++ b ∷ []) w → Streams f (given ++ next_byte v ∷ []) (after_next v)
-    moved b w e g new = subst (λ (w : Joining). Streams f (given ++ next_byte v ∷ []) w) (sym g) (subst (λ (b : ℕ). Streams f (given ++ b ∷ []) w) (sym e) new)
-
-stage_stays : (v : Joining) → (after_next v).stage ≡ v.stage
-stage_stays v =
-    let P : Bool → Type 0 = λ t. (if t then record v { headed = v.headed + 1 } else (if v.column + 1 == row_bytes v.params then record v { column = 0; row = v.row + 1; held = drop v.params.bytes_per_line v.held } else record v { column = v.column + 1 })).stage ≡ v.stage in
-    let Q : Bool → Type 0 = λ t. (if t then record v { column = 0; row = v.row + 1; held = drop v.params.bytes_per_line v.held } else record v { column = v.column + 1 }).stage ≡ v.stage in
-    elim (nat_lt v.headed (length v.head)) as P [
-      | true ↦ refl
-      | false ↦ elim (v.column + 1 == row_bytes v.params) as Q [ true ↦ refl | false ↦ refl ]
-    ]
-
-pub next_carries : (past : Past) (v : Joining) → may_go v ≡ true → Stands past v → Stands (after_pull (next_byte v ∷ []) past) (after_next v)
-next_carries past v may stands = by_stage v.stage refl
-  where
-    moves : (is_under v.stage || is_whole v.stage) ≡ true
-    moves = (and_parts (is_under v.stage || is_whole v.stage) (nat_lt v.headed (length v.head) || is_ready v) may).0
-
-    goes : (nat_lt v.headed (length v.head) || is_ready v) ≡ true
-    goes = (and_parts (is_under v.stage || is_whole v.stage) (nat_lt v.headed (length v.head) || is_ready v) may).1
-
-    stuck : (s : Stage) → v.stage ≡ s → (is_under s || is_whole s) ≡ false → ⊥
-    stuck s e none =
-        let a : (is_under v.stage || is_whole v.stage) ≡ false = ap (λ (s : Stage). is_under s || is_whole s) e ∙ none in
-        let b : true ≡ false = sym moves ∙ a in
-        cc
-
-    there : (s : Stage) → v.stage ≡ s → StandsAt s (after_pull (next_byte v ∷ []) past) (after_next v) → Stands (after_pull (next_byte v ∷ []) past) (after_next v)
-    there s e at = record {
-      fault = stands.fault ∙ ap fault_in (sym (stage_stays v));
-      at_stage = subst (λ (s : Stage). StandsAt s (after_pull (next_byte v ∷ []) past) (after_next v)) (sym (stage_stays v ∙ e)) at;
-    }
-
-    by_stage : (s : Stage) → v.stage ≡ s → Stands (after_pull (next_byte v ∷ []) past) (after_next v)
-    by_stage Idle e = absurd (stuck Idle e refl)
-    by_stage (Failed x) e = absurd (stuck (Failed x) e refl)
-    by_stage Under e =
-        let at = at_stage Under past v e stands in
-        there Under e (at.0, at.1, at.2, stream_goes at.0 past.given v at.3 goes)
-    by_stage Whole e =
-        let at = at_stage Whole past v e stands in
-        there Whole e (at.0, at.1, at.2, at.3, stream_goes at.0 past.given v at.4 goes)
-
--- ---- nothing more may go out
-
-nat_le_true : (a b : ℕ) → a ≤ b → nat_le a b ≡ true
-nat_le_true a b h = grind (arith, nat_tests)
-
-or_false : (a b : Bool) → (a || b) ≡ false → (a ≡ false) × (b ≡ false)
-or_false true b e = absurd (cc)
-or_false false b e = (refl, e)
-
-and_true : (a b : Bool) → a ≡ true → b ≡ true → (a && b) ≡ true
-and_true a b x y = rw (x, y) refl
-
-or_true_right : (a b : Bool) → b ≡ true → (a || b) ≡ true
-or_true_right true b e = refl
-or_true_right false b e = e
-
-or_true_left : (a b : Bool) → a ≡ true → (a || b) ≡ true
-or_true_left a b e = rw e refl
-
--- the ways in which a stream has to wait
-record Waits (f : Frame) (given : List ℕ) (v : Joining) : Type 0 where
-  column : v.column ≡ 0
-  given_is : given ≡ file_front f v.row
-  why : (v.row ≡ lines_in f.params.lines) ⊎ ((length v.held < f.params.bytes_per_line) ⊎ ((is_whole v.stage ≡ false) × (lines_in f.params.lines ≤ v.row + 1)))
-
-why_at : (f : Frame) (given : List ℕ) (v : Joining) → Streams f given v → is_ready v ≡ false → (v.row ≡ lines_in f.params.lines) ⊎ ((length v.held < f.params.bytes_per_line) ⊎ ((is_whole v.stage ≡ false) × (lines_in f.params.lines ≤ v.row + 1)))
-why_at f given v s no_line =
-    let lines : lines_in v.params.lines ≡ lines_in f.params.lines = ap (λ (p : Params). lines_in p.lines) s.params in
-    let B : v.params.bytes_per_line ≡ f.params.bytes_per_line = ap (λ (p : Params). p.bytes_per_line) s.params in
-    let G = (v.row ≡ lines_in f.params.lines) ⊎ ((length v.held < f.params.bytes_per_line) ⊎ ((is_whole v.stage ≡ false) × (lines_in f.params.lines ≤ v.row + 1))) in
-    elim (cases_lt v.row (lines_in f.params.lines)) as (λ _. G) [
-      | inr past_end ↦ inl (omega (arith, past_end, s.rows))
-      | inl row ↦ elim (cases_lt (length v.held) f.params.bytes_per_line) as (λ _. G) [
-        | inl short ↦ inr (inl short)
-        | inr long ↦
-            let a : nat_lt v.row (lines_in v.params.lines) ≡ true = nat_lt_true v.row (lines_in v.params.lines) (omega (arith, row, lines)) in
-            let b : nat_le v.params.bytes_per_line (length v.held) ≡ true = nat_le_true v.params.bytes_per_line (length v.held) (omega (arith, long, B)) in
-            let c : (is_whole v.stage || nat_lt (v.row + 1) (lines_in v.params.lines)) ≡ false = rw (a, b) at no_line in
-            let d = or_false (is_whole v.stage) (nat_lt (v.row + 1) (lines_in v.params.lines)) c in
-            inr (inr (d.0, omega (arith, le_from (v.row + 1) (lines_in v.params.lines) d.1, lines)))
-      ]
-    ]
-
-waits : (f : Frame) (given : List ℕ) (v : Joining) → Streams f given v → (is_under v.stage || is_whole v.stage) ≡ true → (nat_lt v.headed (length v.head) || is_ready v) ≡ false → Waits f given v
-waits f given v s moves stops =
-    let tests = or_false (nat_lt v.headed (length v.head)) (is_ready v) stops in
-    let done : length v.head ≤ v.headed = le_from v.headed (length v.head) tests.0 in
-    let why = why_at f given v s tests.1 in
-    let zero_column = column_zero v.column refl why in
-    let header : take v.headed v.head ≡ header_text (header_alone f.params) = take_all v.headed v.head done ∙ s.head in
-    let empty : row_front f v.row v.column ≡ [] = ap (row_front f v.row) zero_column ∙ row_front-zero f v.row in
-    record {
-      column = zero_column;
-      given_is = s.given_is ∙ (ap (λ (l : List ℕ). l ++ (rows_front f v.row ++ row_front f v.row v.column)) header ∙ ap (λ (l : List ℕ). header_text (header_alone f.params) ++ l) (ap (λ (l : List ℕ). rows_front f v.row ++ l) empty ∙ append-nil (rows_front f v.row)));
-      why = why;
-    }
-  where
-    left_of : (a b : Bool) → (a || b) ≡ true → b ≡ false → a ≡ true
-    left_of true b h e = refl
-    left_of false b h e = absurd (cc)
-
-    column_zero : (n : ℕ) → v.column ≡ n → (v.row ≡ lines_in f.params.lines) ⊎ ((length v.held < f.params.bytes_per_line) ⊎ ((is_whole v.stage ≡ false) × (lines_in f.params.lines ≤ v.row + 1))) → v.column ≡ 0
-    column_zero zero e why = e
-    column_zero (suc n) e (inl last) = absurd (omega (arith, last, (s.line_may_go (omega (arith, e))).0))
-    column_zero (suc n) e (inr (inl short)) = absurd (omega (arith, short, s.line_begun (omega (arith, e)), held_length f given v s))
-    column_zero (suc n) e (inr (inr waiting)) =
-        let under : is_under v.stage ≡ true = left_of (is_under v.stage) (is_whole v.stage) moves waiting.0 in
-        absurd (omega (arith, waiting.1, (s.line_may_go (omega (arith, e))).1 under))
-
-div_is : (n B row : ℕ) → row * B ≤ n → n < (row + 1) * B → n / B ≡ row
-div_is n B row low high =
-    let some : 0 < B = positive B high in
-    let up : n < n / B * B + B = lt-div-mul-add some in
-    let down : n / B * B ≤ n = div-mul-le_self n B in
-    let a : row < n / B + 1 = lt_of_mul-lt-mul_left B (let e : B * row < B * (n / B + 1) = omega (arith, up, low) in e) in
-    let b : n / B < row + 1 = lt_of_mul-lt-mul_left B (let e : B * (n / B) < B * (row + 1) = omega (arith, down, high) in e) in
-    omega (arith, a, b)
-  where
-    positive : (B : ℕ) → n < (row + 1) * B → 0 < B
-    positive zero h = absurd (omega (arith, h))
-    positive (suc k) h = omega arith
-
-div_least : (n B row : ℕ) → 0 < B → row * B ≤ n → row ≤ n / B
-div_least n B row some low =
-    let up : n < n / B * B + B = lt-div-mul-add some in
-    let a : row < n / B + 1 = lt_of_mul-lt-mul_left B (let e : B * row < B * (n / B + 1) = omega (arith, up, low) in e) in
-    omega (arith, a)
-
-under_rows : (f : Frame) (given : List ℕ) (v : Joining) → Streams f given v → Waits f given v → v.row < lines_in f.params.lines → v.row ≡ rows_to_go f
-under_rows f given v s w row = by_why w.why
-  where
-    by_why : (v.row ≡ lines_in f.params.lines) ⊎ ((length v.held < f.params.bytes_per_line) ⊎ ((is_whole v.stage ≡ false) × (lines_in f.params.lines ≤ v.row + 1))) → v.row ≡ rows_to_go f
-    by_why (inl last) = absurd (omega (arith, last, row))
-    by_why (inr (inl short)) =
-        let q : length f.payload / f.params.bytes_per_line ≡ v.row = div_is (length f.payload) f.params.bytes_per_line v.row s.reach (omega (arith, short, held_length f given v s)) in
-        omega (arith, q, row)
-    by_why (inr (inr waiting)) =
-        let q : v.row ≤ length f.payload / f.params.bytes_per_line = div_least (length f.payload) f.params.bytes_per_line v.row (omega (arith, s.alone.row_some, s.alone.fits)) s.reach in
-        omega (arith, q, row, waiting.1)
-
-whole_rows : (f : Frame) (given : List ℕ) (v : Joining) → Streams f given v → Waits f given v → is_whole v.stage ≡ true → length f.payload ≡ most_bytes f.params → v.row ≡ lines_in f.params.lines
-whole_rows f given v s w whole size = by_why w.why
-  where
-    by_why : (v.row ≡ lines_in f.params.lines) ⊎ ((length v.held < f.params.bytes_per_line) ⊎ ((is_whole v.stage ≡ false) × (lines_in f.params.lines ≤ v.row + 1))) → v.row ≡ lines_in f.params.lines
-    by_why (inl last) = last
-    by_why (inr (inl short)) =
-        let a : lines_in f.params.lines < v.row + 1 = lt_of_mul-lt-mul_left f.params.bytes_per_line (let e : f.params.bytes_per_line * lines_in f.params.lines < f.params.bytes_per_line * (v.row + 1) = omega (arith, short, size, held_length f given v s) in e) in
-        omega (arith, a, s.rows)
-    by_why (inr (inr waiting)) = absurd (let x : true ≡ false = sym whole ∙ waiting.0 in cc)
-
-pub spent : (past : Past) (v : Joining) → Stands past v → may_go v ≡ false → past.fault ≡ None → AllGone past.under past.ended past.given
-spent past v stands stop fault = by_stage v.stage refl
-  where
-    moved : (u : Option Frame) (es : List Frame) → past.under ≡ u → past.ended ≡ es → AllGone u es past.given → AllGone past.under past.ended past.given
-    moved u es a b all = subst (λ (u : Option Frame). AllGone u past.ended past.given) (sym a) (subst (λ (es : List Frame). AllGone u es past.given) (sym b) all)
-
-    stops : (is_under v.stage || is_whole v.stage) ≡ true → (nat_lt v.headed (length v.head) || is_ready v) ≡ false
-    stops moves = rw moves at stop
-
-    by_stage : (s : Stage) → v.stage ≡ s → AllGone past.under past.ended past.given
-    by_stage Idle e =
-        let at = at_stage Idle past v e stands in
-        moved None [] at.1 at.0 at.2
-    by_stage (Failed x) e = absurd (let y : None ≡ Some x = sym fault ∙ fault_at (Failed x) past v e stands in cc)
-    by_stage Under e =
-        let at = at_stage Under past v e stands in
-        let moves : (is_under v.stage || is_whole v.stage) ≡ true = ap (λ (s : Stage). is_under s || is_whole s) e in
-        let w = waits at.0 past.given v at.3 moves (stops moves) in
-        let rows = under_rows at.0 past.given v at.3 w (at.3.last_row_waits (ap is_under e)) in
-        moved (Some at.0) past.ended at.2 refl (w.given_is ∙ ap (file_front at.0) rows)
-    by_stage Whole e =
-        let at = at_stage Whole past v e stands in
-        let moves : (is_under v.stage || is_whole v.stage) ≡ true = ap (λ (s : Stage). is_under s || is_whole s) e in
-        let w = waits at.0 past.given v at.4 moves (stops moves) in
-        let rows = whole_rows at.0 past.given v at.4 w (ap is_whole e) at.3 in
-        moved None (at.0 ∷ []) at.2 at.1 (w.given_is ∙ ap (file_front at.0) rows)
-
-pub drained : (past : Past) (v : Joining) → Stands past v → may_go v ≡ false → IsDrained v
-drained past v stands stop = record { little = λ under. by_stage v.stage refl under }
-  where
-    little : (f : Frame) (v : Joining) → Streams f past.given v → (v.row ≡ lines_in f.params.lines) ⊎ ((length v.held < f.params.bytes_per_line) ⊎ ((is_whole v.stage ≡ false) × (lines_in f.params.lines ≤ v.row + 1))) → v.params.bytes_per_line ≡ f.params.bytes_per_line → v.row < lines_in f.params.lines → length v.held ≤ v.params.bytes_per_line
-    little f v s (inl last) B row = absurd (omega (arith, last, row))
-    little f v s (inr (inl short)) B row = omega (arith, short, B)
-    little f v s (inr (inr waiting)) B row =
-        let high : lines_in f.params.lines * f.params.bytes_per_line ≤ (v.row + 1) * f.params.bytes_per_line = mul-le-mul_right f.params.bytes_per_line waiting.1 in
-        omega (arith, high, B, s.most, held_length f past.given v s)
-
-    by_stage : (s : Stage) → v.stage ≡ s → is_under v.stage ≡ true → length v.held ≤ v.params.bytes_per_line
-    by_stage Idle e under = absurd (let y : true ≡ false = sym under ∙ ap is_under e in cc)
-    by_stage Whole e under = absurd (let y : true ≡ false = sym under ∙ ap is_under e in cc)
-    by_stage (Failed x) e under = absurd (let y : true ≡ false = sym under ∙ ap is_under e in cc)
-    by_stage Under e under =
-        let at = at_stage Under past v e stands in
-        let f = at.0 in
-        let moves : (is_under v.stage || is_whole v.stage) ≡ true = ap (λ (s : Stage). is_under s || is_whole s) e in
-        let w = waits f past.given v at.3 moves (rw moves at stop) in
-        let B : v.params.bytes_per_line ≡ f.params.bytes_per_line = ap (λ (p : Params). p.bytes_per_line) at.3.params in
-        little f v at.3 w.why B (at.3.last_row_waits under)
-
--- ---- what `end` answers
-
-answered : (past : Past) (o : Option JoinFault) (u : Option Frame) (es : List Frame) → past.fault ≡ o → past.under ≡ u → past.ended ≡ es → answer_of past ≡ answer_by o u es
-answered past o u es a b c =
-    ap (λ (o : Option JoinFault). answer_by o past.under past.ended) a
-    ∙ (ap (λ (u : Option Frame). answer_by o u past.ended) b ∙ ap (answer_by o u) c)
-
-pub answers : (past : Past) (v : Joining) → Stands past v → answer_of past ≡ answer_at v.stage
-answers past v stands = by_stage v.stage refl
-  where
-    by_stage : (s : Stage) → v.stage ≡ s → answer_of past ≡ answer_at v.stage
-    by_stage Idle e =
-        let at = at_stage Idle past v e stands in
-        answered past None None [] (fault_at Idle past v e stands) at.1 at.0 ∙ sym (ap answer_at e)
-    by_stage (Failed x) e = answered past (Some x) past.under past.ended (fault_at (Failed x) past v e stands) refl refl ∙ sym (ap answer_at e)
-    by_stage Under e =
-        let at = at_stage Under past v e stands in
-        answered past None (Some at.0) past.ended (fault_at Under past v e stands) at.2 refl ∙ sym (ap answer_at e)
-    by_stage Whole e =
-        let at = at_stage Whole past v e stands in
-        answered past None None (at.0 ∷ []) (fault_at Whole past v e stands) at.2 at.1 ∙ (ap (λ (b : Bool). Ok b) at.4.alone.format ∙ sym (ap answer_at e))
-
-pub stage_joined : (s : Stage) → answer_at s ≡ Ok true → s ≡ Whole
-stage_joined Idle e = absurd (cc)
-stage_joined Under e = absurd (cc)
-stage_joined Whole e = refl
-stage_joined (Failed x) e = absurd (cc)
-
-pub joined_stage : (past : Past) (v : Joining) → Stands past v → IsJoined past → v.stage ≡ Whole
-joined_stage past v stands joined = stage_joined v.stage (sym (answers past v stands) ∙ joined)
-
--- what went out before the picture is whole is not whole
-pub not_whole : (past : Past) (v : Joining) → Stands past v → (IsJoined past → ⊥) → IsWhole past.given → ⊥
-not_whole past v stands unjoined = by_stage v.stage refl
-  where
-    by_stage : (s : Stage) → v.stage ≡ s → IsWhole past.given → ⊥
-    by_stage Idle e whole = nothing_is_not_whole (subst IsWhole (at_stage Idle past v e stands).2 whole)
-    by_stage (Failed x) e whole = at_stage (Failed x) past v e stands whole
-    by_stage Under e whole =
-        let at = at_stage Under past v e stands in
-        stream_is_not_whole at.0 past.given v at.3 (at.3.last_row_waits (ap is_under e)) whole
-    by_stage Whole e whole = unjoined (answers past v stands ∙ ap answer_at e)
-
--- once nothing more may go out of a whole picture, what went out denotes what the frames show
-pub gone_denotes : (past : Past) (v : Joining) → Stands past v → IsJoined past → AllGone past.under past.ended past.given → (p : Picture) → ShowsFrames past.ended p → Denotes past.given p
-gone_denotes past v stands joined gone p shows =
-    let at = at_stage Whole past v (joined_stage past v stands joined) stands in
-    let f = at.0 in
-    let one : AllGone None past.ended past.given = subst (λ (u : Option Frame). AllGone u past.ended past.given) at.2 gone in
-    let all : past.given ≡ file_front f (lines_in f.params.lines) = subst (λ (es : List Frame). AllGone None es past.given) at.1 one in
-    let alone : ShowsAlone f p = subst (λ (es : List Frame). ShowsFrames es p) at.1 shows in
-    subst (λ (l : List ℕ). Denotes l p) (sym all) (denotes_shown f p at.4.alone alone)
-
-known_lines : (o : Option ℕ) → o ≡ Some (lines_in o) → HasLines o (lines_in o)
-known_lines None e = absurd (cc)
-known_lines (Some n) e = refl
-
-greatest_some : (d : ℕ) → (1 ≤ greatest_at d) × (greatest_at d ≤ 65535)
-greatest_some d =
-    let P : Bool → Type 0 = λ t. (1 ≤ (if t then 65535 else (if d == 8 then 255 else 1))) × ((if t then 65535 else (if d == 8 then 255 else 1)) ≤ 65535) in
-    let Q : Bool → Type 0 = λ t. (1 ≤ (if t then 255 else 1)) × ((if t then 255 else 1) ≤ 65535) in
-    elim (d == 16) as P [
-      | true ↦ (omega arith, omega arith)
-      | false ↦ elim (d == 8) as Q [ true ↦ (omega arith, omega arith) | false ↦ (omega arith, omega arith) ]
-    ]
-
--- a frame that came whole shows a picture
-pub frame_shows : (f : Frame) → AloneParts f.params → ((i : ℕ) → slice_index f.payload i < 256) → length f.payload ≡ most_bytes f.params → ShowsAlone f (frame_picture f)
-frame_shows f parts small size = record {
-  last = parts.last;
-  channels = alone_channels f.params.format parts.format;
-  fits = record {
-    shape = parts.line_shape;
-    is_picture = record {
-      width_some = parts.width_some;
-      width_most = parts.width_most;
-      height_some = parts.lines_some;
-      height_most = parts.lines_most;
-      greatest_some = (greatest_some f.params.depth).0;
-      greatest_most = (greatest_some f.params.depth).1;
-      in_range = λ x y k at. frame_sample_small f (channels_within f.params.format) x y k small;
-    };
-    width = refl;
-    height = known_lines f.params.lines parts.lines_known;
-    greatest = refl;
-    size = size;
-  };
-  samples = λ x y k at. refl;
-}
-
--- the frames of a whole picture show one
-pub joined_shows : (past : Past) (v : Joining) → Stands past v → IsJoined past → (p : Picture) × ShowsFrames past.ended p
-joined_shows past v stands joined =
-    let at = at_stage Whole past v (joined_stage past v stands joined) stands in
-    (frame_picture at.0, subst (λ (es : List Frame). ShowsFrames es (frame_picture at.0)) (sym at.1) (frame_shows at.0 at.4.alone at.4.bytes at.3))
-
--- where the frames show a picture, the end of the last is accepted
-pub shown_joins : (past : Past) (v : Joining) → Stands past v → past.fault ≡ None → (p : Picture) → ShowsFrames (frames_of past) p → IsJoined (after_end past)
-shown_joins past v stands fault p shows = by_stage v.stage refl
-  where
-    frames_at : (u : Option Frame) (es : List Frame) → past.under ≡ u → past.ended ≡ es → ShowsFrames (with_last es u) p
-    frames_at u es a b = subst (λ (es : List Frame). ShowsFrames (with_last es u) p) b (subst (λ (u : Option Frame). ShowsFrames (with_last past.ended u) p) a shows)
-
-    by_stage : (s : Stage) → v.stage ≡ s → IsJoined (after_end past)
-    by_stage Idle e =
-        let at = at_stage Idle past v e stands in
-        absurd (frames_at None [] at.1 at.0)
-    by_stage (Failed x) e = absurd (let y : None ≡ Some x = sym fault ∙ fault_at (Failed x) past v e stands in cc)
-    by_stage Whole e =
-        let at = at_stage Whole past v e stands in
-        subst IsJoined (sym (end_none past fault at.2)) (answers past v stands ∙ ap answer_at e)
-    by_stage Under e =
-        let at = at_stage Under past v e stands in
-        let f = at.0 in
-        let alone : ShowsAlone f p = frames_at (Some f) [] at.2 at.1 in
-        let height : p.height ≡ lines_in f.params.lines = known_height f.params.lines p.height at.3.alone.lines_known alone.fits.height in
-        let size : length f.payload ≡ most_bytes f.params = alone.fits.size ∙ ap (λ (n : ℕ). n * f.params.bytes_per_line) height in
-        let full : is_full f ≡ true = eq_true (length f.payload) (most_bytes f.params) size in
-        let told : after_end past ≡ past_ended true f past = end_under past f fault at.2 ∙ ap (λ (t : Bool). past_ended t f past) full in
-        subst IsJoined (sym told) (answered (past_ended true f past) None None (f ∷ []) fault refl (ap (λ (l : List Frame). l ++ f ∷ []) at.1) ∙ ap (λ (b : Bool). Ok b) at.3.alone.format)
-
--- ---- the clauses of `end`
-
-joined_frames_at : (o : Option JoinFault) (u : Option Frame) (past : Past) → past.fault ≡ o → past.under ≡ u → IsJoined (closed o u past) → (o ≡ None) × ((closed o u past).ended ≡ with_last past.ended u)
-joined_frames_at (Some x) u past a b joined = absurd (let y : Err x ≡ Ok true = sym (answered past (Some x) past.under past.ended a refl refl) ∙ joined in cc)
-joined_frames_at None None past a b joined = (refl, refl)
-joined_frames_at None (Some f) past a b joined =
-    let P : Bool → Type 0 = λ t. IsJoined (past_ended t f past) → (past_ended t f past).ended ≡ past.ended ++ f ∷ [] in
-    let by_full : (t : Bool) → P t = λ t. elim t as P [
-      | true ↦ λ j. refl
-      | false ↦ λ j. absurd (let y : Err Short ≡ Ok true = j in cc)
-    ] in
-    (refl, by_full (is_full f) joined)
-
-joined_frames : (past : Past) → IsJoined (after_end past) → (past.fault ≡ None) × ((after_end past).ended ≡ frames_of past)
-unfolding after_end
-joined_frames past joined = joined_frames_at past.fault past.under past refl refl joined
-
-pub end_answer : (past : Past) (v new : Joining) → new ≡ value_ended v → Stands past v → answer_at new.stage ≡ answer_of (after_end past)
-end_answer past v new e stands =
-    ap (λ (w : Joining). answer_at w.stage) e ∙ sym (answers (after_end past) (value_ended v) (end_carries past v stands))
-
-pub end_exact : (past : Past) (v new : Joining) → new ≡ value_ended v → Stands past v → (answer_at new.stage ≡ Ok true) ↔ ((past.fault ≡ None) × ((p : Picture) × ShowsFrames (frames_of past) p))
-end_exact past v new e stands = (there, back)
-  where
-    there : answer_at new.stage ≡ Ok true → (past.fault ≡ None) × ((p : Picture) × ShowsFrames (frames_of past) p)
-    there true_now =
-        let joined : IsJoined (after_end past) = sym (end_answer past v new e stands) ∙ true_now in
-        let frames = joined_frames past joined in
-        let shows = joined_shows (after_end past) (value_ended v) (end_carries past v stands) joined in
-        (frames.0, (shows.0, subst (λ (es : List Frame). ShowsFrames es shows.0) frames.1 shows.1))
-
-    back : (past.fault ≡ None) × ((p : Picture) × ShowsFrames (frames_of past) p) → answer_at new.stage ≡ Ok true
-    back h = end_answer past v new e stands ∙ shown_joins past v stands h.0 h.1.0 h.1.1
+-- ---- the same of what the calls left
 
 pub end_carried : (past : Past) (v new : Joining) → new ≡ value_ended v → Stands past v → Stands (after_end past) new
 end_carried past v new e stands = subst (λ (w : Joining). Stands (after_end past) w) (sym e) (end_carries past v stands)
@@ -728,67 +618,3 @@ feed_carried bytes starved past v new small e stands = subst (λ (w : Joining). 
 
 pub begin_carried : (p : Params) (o : ByteOrder) (starved : Bool) (past : Past) (v new : Joining) → new ≡ value_begun p o starved v → Stands past v → Stands (after_begin p o starved past) new
 begin_carried p o starved past v new e stands = subst (λ (w : Joining). Stands (after_begin p o starved past) w) (sym e) (begin_carries p o starved past v stands)
-
--- ---- the loop of `pull`
-
-pub pull_start : (past : Past) (v : Joining) (n : ℕ) (bytes : List ℕ) → n ≡ 0 → Stands past v → Stands (after_pull (take n bytes) past) v
-pull_start past v n bytes e stands =
-    let none : past.given ++ take n bytes ≡ past.given = ap (λ (k : ℕ). past.given ++ take k bytes) e ∙ append-nil past.given in
-    subst (λ (l : List ℕ). Stands (record past { given = l }) v) (sym none) stands
-
-pub pull_step : (past : Past) (now new : Joining) (before after : List ℕ) (byte : ℕ) → may_go now ≡ true → byte ≡ next_byte now → new ≡ after_next now → after ≡ before ++ byte ∷ [] → Stands (after_pull before past) now → Stands (after_pull after past) new
-pull_step past now new before after byte may b n a stands =
-    let step = next_carries (after_pull before past) now may stands in
-    let all : past.given ++ before ++ next_byte now ∷ [] ≡ past.given ++ after =
-    append_assoc past.given before (next_byte now ∷ []) ∙ ap (λ (l : List ℕ). past.given ++ l) (ap (λ (x : ℕ). before ++ x ∷ []) (sym b) ∙ sym a) in
-    subst (λ (w : Joining). Stands (after_pull after past) w) (sym n) (subst (λ (l : List ℕ). Stands (record past { given = l }) (after_next now)) all step)
-
-pub failed_stops : (past : Past) (v : Joining) (fault : JoinFault) → Stands past v → past.fault ≡ Some fault → may_go v ≡ false
-failed_stops past v fault stands e = by_stage v.stage refl
-  where
-    by_stage : (s : Stage) → v.stage ≡ s → may_go v ≡ false
-    by_stage Idle is = absurd (let y : None ≡ Some fault = sym (fault_at Idle past v is stands) ∙ e in cc)
-    by_stage Under is = absurd (let y : None ≡ Some fault = sym (fault_at Under past v is stands) ∙ e in cc)
-    by_stage Whole is = absurd (let y : None ≡ Some fault = sym (fault_at Whole past v is stands) ∙ e in cc)
-    by_stage (Failed x) is =
-        let stuck : (is_under v.stage || is_whole v.stage) ≡ false = ap (λ (s : Stage). is_under s || is_whole s) is in
-        rw stuck refl
-
-pub joined_no_fault : (past : Past) (v : Joining) → Stands past v → IsJoined past → past.fault ≡ None
-joined_no_fault past v stands joined = fault_at Whole past v (joined_stage past v stands joined) stands
-
-pub step_take : (xs : List ℕ) (i : ℕ) (y : ℕ) → i < length xs → take (i + 1) (set xs i y) ≡ take i xs ++ y ∷ []
-step_take xs i y h = take_more_set xs i y h
-
-pub step_drop : (xs first : List ℕ) (i y : ℕ) → drop i xs ≡ drop i first → drop (i + 1) (set xs i y) ≡ drop (i + 1) first
-step_drop xs first i y e =
-    drop-set-lt (i + 1) xs i y (omega arith) ∙ (sym (drop-drop 1 i xs) ∙ (ap (drop 1) e ∙ drop-drop 1 i first))
-
--- ---- only an end makes a picture whole
-
-keeps_at : (o : Option JoinFault) (u : Option Frame) (bytes : List ℕ) (starved : Bool) (past : Past) → past.fault ≡ o → past.under ≡ u → IsJoined (fed o u bytes starved past) ↔ IsJoined past
-keeps_at (Some x) u bytes starved past a b = ((λ h. h), (λ h. h))
-keeps_at None None bytes starved past a b = ((λ h. h), (λ h. h))
-keeps_at None (Some f) bytes starved past a b =
-    let P : Bool → Type 0 = λ long. IsJoined (past_fed long starved f bytes past) → ⊥ in
-    let Q : Bool → Type 0 = λ poor. IsJoined (past_fed false poor f bytes past) → ⊥ in
-    let under : (q : Past) (g : Frame) → q.fault ≡ None → q.under ≡ Some g → IsJoined q → ⊥ = λ q g d e joined. (let y : Ok false ≡ Ok true = sym (answered q None (Some g) q.ended d e refl) ∙ joined in cc) in
-    let no_more : IsJoined (fed None (Some f) bytes starved past) → ⊥ = elim (nat_lt (most_bytes f.params) (length f.payload + length bytes)) as P [
-      | true ↦ λ joined. (let y : Err Long ≡ Ok true = joined in cc)
-      | false ↦ elim starved as Q [
-        | true ↦ λ joined. (let y : Err NoMem ≡ Ok true = joined in cc)
-        | false ↦ under (record past { under = Some (grown f bytes) }) (grown f bytes) a refl
-      ]
-    ] in
-    ((λ joined. absurd (no_more joined)), (λ joined. absurd (under past f a b joined)))
-
-pub feed_keeps_joined : (bytes : List ℕ) (starved : Bool) (past : Past) → IsJoined (after_feed bytes starved past) ↔ IsJoined past
-unfolding after_feed
-feed_keeps_joined bytes starved past = keeps_at past.fault past.under bytes starved past refl refl
-
--- a picture that is whole stays so
-pub end_keeps_joined : (past : Past) (v : Joining) → Stands past v → IsJoined past → IsJoined (after_end past)
-end_keeps_joined past v stands joined =
-    let whole = joined_stage past v stands joined in
-    let at = at_stage Whole past v whole stands in
-    subst IsJoined (sym (end_none past (fault_at Whole past v whole stands) at.2)) joined

@@ -1,3 +1,4 @@
+pub mod TestLemmas
 pub mod PlainLemmas
 pub mod ReadLemmas
 pub mod FrameLaws
@@ -6,3 +7,10 @@ pub mod JoinLaws
 pub mod AcceptLaws
 pub mod TextLaws
 pub mod FrontLaws
+pub mod HeaderLemmas
+pub mod KeptLaws
+pub mod ColorLaws
+pub mod SideLaws
+pub mod HeightLaws
+pub mod EndLaws
+pub mod PullLaws

@@ -1,6 +1,6 @@
 -- How a stream of rows goes on.
 use Rattle.std.proofs.Common.{◌≡◌, ℕ, zero, suc, ◌<◌, ◌≤◌, ◌+◌, ◌-◌, ◌*◌, ◌/◌, ◌%◌, ◌^◌, inl, inr, Bool, true, false, List, [], ◌∷◌, ◌++◌, length, take, drop, arith, refl, sym, ap, ◌∙◌, subst, append_assoc, length-append}
-use Rattle.std.specs.Prelude.{nat_lt, nat_le, ◌==◌, ◌&&◌, ◌||◌, ◌⊎◌, if◌then◌else◌, Some, slice_index}
+use Rattle.std.specs.Prelude.{nat_lt, nat_le, ◌==◌, ◌||◌, ◌⊎◌, if◌then◌else◌, Some, slice_index}
 use Rattle.std.proofs.lemmas.Bool.{and_parts, cases_lt}
 use Rattle.std.proofs.lemmas.Bool.Decides.{nat_tests}
 use Rattle.std.proofs.lemmas.Nat.{mul-add-lt}
@@ -19,12 +19,15 @@ use Rattle.sane_fixed.specs.declared.byte_order.ByteOrder.{ByteOrder}
 use Rattle.sane_fixed.specs.declared.byte_order.ByteOrder.TheVariants.{Little, Big}
 use Rattle.sane_fixed.specs.declared.params.Params.{Params}
 use Rattle.pnm_writer.specs.declared.join_stage.Stage.{Stage}
-use Rattle.pnm_writer.specs.declared.join_stage.Stage.TheVariants.{Idle, Under, Whole, Failed}
+use Rattle.pnm_writer.specs.declared.join_stage.Stage.TheVariants.{Idle, Under, Keeping, Between, Whole, WholeColors, Failed}
 use Rattle.page_picture.specs.Meaning.{greatest_at}
 use Rattle.page_picture.specs.Shows.{Frame, row_size, frame_sample, two_bytes, channels_within, channels_alone}
 use Rattle.pnm_writer.specs.AloneFrame.{AloneParts, row_bytes, lines_in, is_alone_format, most_bytes}
 use Rattle.pnm_writer.specs.FrameFile.{header_alone, raster_byte, row_front, rows_front, file_front, place_in, trimmed}
-use Rattle.pnm_writer.specs.Joining.{Joining, Streams, is_under, is_whole, is_ready}
+use Rattle.pnm_writer.specs.JoinStages.{is_under, is_whole, is_colors}
+use Rattle.pnm_writer.specs.Joining.{Joining, Goes, Streams}
+use Rattle.pnm_writer.specs.JoinSteps.{is_ready}
+use Rattle.pnm_writer.proofs.KeptLaws.{ready_row, ready_held}
 use Rattle.pnm_writer.proofs.FrameLaws.{length-row_front, length-rows_front, denotes_front}
 
 -- ---- lists one after another
@@ -98,7 +101,7 @@ place_below_at Little f w d j (inr (inr e)) h =
     rw e inside
 
 pub place_below : (f : Frame) (j : ℕ) → AloneParts f.params → j < row_bytes f.params → place_in f.order f.params.depth j < f.params.bytes_per_line
-place_below f j parts h = omega (arith, place_below_at f.order f.params.format f.params.pixels_per_line f.params.depth j parts.depths h, parts.fits)
+place_below f j parts h = omega (arith, place_below_at f.order f.params.format f.params.pixels_per_line f.params.depth j parts.shape.depths h, parts.shape.fits)
 
 raster_byte_same : (f : Frame) (bytes : List ℕ) (y j : ℕ) → AloneParts f.params → (y + 1) * f.params.bytes_per_line ≤ length f.payload → j < row_bytes f.params → raster_byte (grown f bytes) y j ≡ raster_byte f y j
 raster_byte_same f bytes y j parts whole h =
@@ -116,8 +119,8 @@ rows_front_same f bytes n parts whole =
 
 -- ---- one byte goes out
 
-pub head_goes : (f : Frame) (given : List ℕ) (v : Joining) → Streams f given v → v.headed < length v.head → Streams f (given ++ slice_index v.head v.headed ∷ []) (record v { headed = v.headed + 1 })
-head_goes f given v s less =
+pub goes_head : (f : Frame) (given : List ℕ) (v : Joining) → Goes f given v → v.headed < length v.head → Goes f (given ++ slice_index v.head v.headed ∷ []) (record v { headed = v.headed + 1 })
+goes_head f given v s less =
     let none = s.ahead less in
     let row : v.row ≡ 0 = omega (arith, none) in
     let column : v.column ≡ 0 = omega (arith, none) in
@@ -136,24 +139,83 @@ head_goes f given v s less =
       alone = s.alone;
       bytes = s.bytes;
       head = s.head;
-      most = s.most;
-      reach = s.reach;
-      held = s.held;
       headed = omega (arith, less);
       given_is = after;
       ahead = λ _. none;
       rows = s.rows;
       column = s.column;
-      line_begun = s.line_begun;
-      line_may_go = s.line_may_go;
-      last_row_waits = s.last_row_waits;
+      row_begun = s.row_begun;
     }
+
+pub goes_column : (f : Frame) (given : List ℕ) (v : Joining) → Goes f given v → length v.head ≤ v.headed → v.row < lines_in f.params.lines → v.column + 1 < row_bytes f.params → Goes f (given ++ raster_byte f v.row v.column ∷ []) (record v { column = v.column + 1 })
+goes_column f given v s done row more =
+    let t = take v.headed v.head in
+    let a = rows_front f v.row in
+    let b = row_front f v.row v.column in
+    let x = raster_byte f v.row v.column ∷ [] in
+    let after : given ++ x ≡ t ++ (a ++ row_front f v.row (v.column + 1)) =
+    ap (λ (l : List ℕ). l ++ x) s.given_is
+    ∙ (append_assoc t (a ++ b) x
+    ∙ ap (λ (l : List ℕ). t ++ l) (append_assoc a b x ∙ ap (λ (l : List ℕ). a ++ l) (sym (row_front-more f v.row v.column)))) in
+    record {
+      params = s.params;
+      order = s.order;
+      alone = s.alone;
+      bytes = s.bytes;
+      head = s.head;
+      headed = s.headed;
+      given_is = after;
+      ahead = λ h. absurd (omega (arith, h, done));
+      rows = s.rows;
+      column = more;
+      row_begun = λ _. row;
+    }
+
+pub goes_row : (f : Frame) (given held : List ℕ) (v : Joining) → Goes f given v → length v.head ≤ v.headed → v.row < lines_in f.params.lines → v.column + 1 ≡ row_bytes f.params → Goes f (given ++ raster_byte f v.row v.column ∷ []) (record v { column = 0; row = v.row + 1; held = held })
+goes_row f given held v s done row last =
+    let t = take v.headed v.head in
+    let a = rows_front f v.row in
+    let b = row_front f v.row v.column in
+    let x = raster_byte f v.row v.column ∷ [] in
+    let whole : row_front f v.row (row_bytes f.params) ≡ b ++ x = ap (row_front f v.row) (sym last) ∙ row_front-more f v.row v.column in
+    let rows : rows_front f (v.row + 1) ++ row_front f (v.row + 1) 0 ≡ a ++ (b ++ x) =
+    ap (λ (l : List ℕ). rows_front f (v.row + 1) ++ l) (row_front-zero f (v.row + 1))
+    ∙ (append-nil (rows_front f (v.row + 1))
+    ∙ (rows_front-more f v.row ∙ ap (λ (l : List ℕ). a ++ l) whole)) in
+    let after : given ++ x ≡ t ++ (rows_front f (v.row + 1) ++ row_front f (v.row + 1) 0) =
+    ap (λ (l : List ℕ). l ++ x) s.given_is
+    ∙ (append_assoc t (a ++ b) x
+    ∙ ap (λ (l : List ℕ). t ++ l) (append_assoc a b x ∙ sym rows)) in
+    record {
+      params = s.params;
+      order = s.order;
+      alone = s.alone;
+      bytes = s.bytes;
+      head = s.head;
+      headed = s.headed;
+      given_is = after;
+      ahead = λ h. absurd (omega (arith, h, done));
+      rows = omega (arith, row);
+      column = omega (arith, s.alone.shape.row_some);
+      row_begun = λ h. absurd (omega (arith, h));
+    }
+
+pub head_goes : (f : Frame) (given : List ℕ) (v : Joining) → Streams f given v → v.headed < length v.head → Streams f (given ++ slice_index v.head v.headed ∷ []) (record v { headed = v.headed + 1 })
+head_goes f given v s less = record {
+  goes = goes_head f given v s.goes less;
+  most = s.most;
+  reach = s.reach;
+  held = s.held;
+  line_begun = s.line_begun;
+  line_may_go = s.line_may_go;
+  last_row_waits = s.last_row_waits;
+}
 
 pub held_byte : (f : Frame) (given : List ℕ) (v : Joining) → Streams f given v → trimmed v.params.pixels_per_line v.params.depth v.column (slice_index v.held (place_in v.order v.params.depth v.column)) ≡ raster_byte f v.row v.column
 held_byte f given v s =
     let place = place_in f.order f.params.depth v.column in
-    ap (λ (p : Params). trimmed p.pixels_per_line p.depth v.column (slice_index v.held (place_in v.order p.depth v.column))) s.params
-    ∙ (ap (λ (o : ByteOrder). trimmed f.params.pixels_per_line f.params.depth v.column (slice_index v.held (place_in o f.params.depth v.column))) s.order
+    ap (λ (p : Params). trimmed p.pixels_per_line p.depth v.column (slice_index v.held (place_in v.order p.depth v.column))) s.goes.params
+    ∙ (ap (λ (o : ByteOrder). trimmed f.params.pixels_per_line f.params.depth v.column (slice_index v.held (place_in o f.params.depth v.column))) s.goes.order
     ∙ ap (trimmed f.params.pixels_per_line f.params.depth v.column) (ap (λ (l : List ℕ). slice_index l place) s.held ∙ get_or-drop (v.row * f.params.bytes_per_line) f.payload place 0))
 
 pub record Ready (f : Frame) (v : Joining) : Type 0 where
@@ -169,24 +231,25 @@ held_length f given v s =
 not_whole_under : (s : Stage) → is_under s ≡ true → is_whole s ≡ false
 not_whole_under Idle e = refl
 not_whole_under Under e = refl
+not_whole_under Keeping e = refl
+not_whole_under Between e = refl
 not_whole_under Whole e = absurd (cc)
+not_whole_under WholeColors e = refl
 not_whole_under (Failed _) e = refl
 
 or_right : (a b : Bool) → (a || b) ≡ true → a ≡ false → b ≡ true
 or_right true b h e = absurd (cc)
 or_right false b h e = h
 
-pub ready_is : (f : Frame) (given : List ℕ) (v : Joining) → Streams f given v → is_ready v ≡ true → Ready f v
-ready_is f given v s ready =
-    let lines : lines_in v.params.lines ≡ lines_in f.params.lines = ap (λ (p : Params). lines_in p.lines) s.params in
-    let B : v.params.bytes_per_line ≡ f.params.bytes_per_line = ap (λ (p : Params). p.bytes_per_line) s.params in
-    let one = and_parts (nat_lt v.row (lines_in v.params.lines)) (nat_le v.params.bytes_per_line (length v.held) && (is_whole v.stage || nat_lt (v.row + 1) (lines_in v.params.lines))) ready in
-    let two = and_parts (nat_le v.params.bytes_per_line (length v.held)) (is_whole v.stage || nat_lt (v.row + 1) (lines_in v.params.lines)) one.1 in
-    let row : v.row < lines_in v.params.lines = le_test (v.row) (lines_in v.params.lines) one.0 in
+pub ready_is : (f : Frame) (given : List ℕ) (v : Joining) → Streams f given v → is_colors v.stage ≡ false → is_ready v ≡ true → Ready f v
+ready_is f given v s one ready =
+    let lines : lines_in v.params.lines ≡ lines_in f.params.lines = ap (λ (p : Params). lines_in p.lines) s.goes.params in
+    let B : v.params.bytes_per_line ≡ f.params.bytes_per_line = ap (λ (p : Params). p.bytes_per_line) s.goes.params in
+    let two = and_parts (nat_le v.params.bytes_per_line (length v.held)) (is_whole v.stage || nat_lt (v.row + 1) (lines_in v.params.lines)) (ready_held v ready one) in
     let line : v.params.bytes_per_line ≤ length v.held = le_of v.params.bytes_per_line (length v.held) two.0 in
     let size = held_length f given v s in
     record {
-      row = omega (arith, row, lines);
+      row = omega (arith, ready_row v ready, lines);
       line = omega (arith, line, B, size);
       goes = λ under.
           let waits = or_right (is_whole v.stage) (nat_lt (v.row + 1) (lines_in v.params.lines)) two.1 (not_whole_under v.stage under) in
@@ -200,68 +263,28 @@ ready_is f given v s ready =
     le_of a b e = grind (arith, nat_tests)
 
 pub column_goes : (f : Frame) (given : List ℕ) (v : Joining) → Streams f given v → length v.head ≤ v.headed → Ready f v → v.column + 1 < row_bytes f.params → Streams f (given ++ raster_byte f v.row v.column ∷ []) (record v { column = v.column + 1 })
-column_goes f given v s done ready more =
-    let t = take v.headed v.head in
-    let a = rows_front f v.row in
-    let b = row_front f v.row v.column in
-    let x = raster_byte f v.row v.column ∷ [] in
-    let after : given ++ x ≡ t ++ (a ++ row_front f v.row (v.column + 1)) =
-    ap (λ (l : List ℕ). l ++ x) s.given_is
-    ∙ (append_assoc t (a ++ b) x
-    ∙ ap (λ (l : List ℕ). t ++ l) (append_assoc a b x ∙ ap (λ (l : List ℕ). a ++ l) (sym (row_front-more f v.row v.column)))) in
-    record {
-      params = s.params;
-      order = s.order;
-      alone = s.alone;
-      bytes = s.bytes;
-      head = s.head;
-      most = s.most;
-      reach = s.reach;
-      held = s.held;
-      headed = s.headed;
-      given_is = after;
-      ahead = λ h. absurd (omega (arith, h, done));
-      rows = s.rows;
-      column = more;
-      line_begun = λ _. ready.line;
-      line_may_go = λ _. (ready.row, ready.goes);
-      last_row_waits = s.last_row_waits;
-    }
+column_goes f given v s done ready more = record {
+  goes = goes_column f given v s.goes done ready.row more;
+  most = s.most;
+  reach = s.reach;
+  held = s.held;
+  line_begun = λ _. ready.line;
+  line_may_go = λ _. ready.goes;
+  last_row_waits = s.last_row_waits;
+}
 
 pub row_goes : (f : Frame) (given : List ℕ) (v : Joining) → Streams f given v → length v.head ≤ v.headed → Ready f v → v.column + 1 ≡ row_bytes f.params → Streams f (given ++ raster_byte f v.row v.column ∷ []) (record v { column = 0; row = v.row + 1; held = drop v.params.bytes_per_line v.held })
 row_goes f given v s done ready last =
-    let t = take v.headed v.head in
-    let a = rows_front f v.row in
-    let b = row_front f v.row v.column in
-    let x = raster_byte f v.row v.column ∷ [] in
     let B = f.params.bytes_per_line in
-    let row : row_front f v.row (row_bytes f.params) ≡ b ++ x = ap (row_front f v.row) (sym last) ∙ row_front-more f v.row v.column in
-    let rows : rows_front f (v.row + 1) ++ row_front f (v.row + 1) 0 ≡ a ++ (b ++ x) =
-    ap (λ (l : List ℕ). rows_front f (v.row + 1) ++ l) (row_front-zero f (v.row + 1))
-    ∙ (append-nil (rows_front f (v.row + 1))
-    ∙ (rows_front-more f v.row ∙ ap (λ (l : List ℕ). a ++ l) row)) in
-    let after : given ++ x ≡ t ++ (rows_front f (v.row + 1) ++ row_front f (v.row + 1) 0) =
-    ap (λ (l : List ℕ). l ++ x) s.given_is
-    ∙ (append_assoc t (a ++ b) x
-    ∙ ap (λ (l : List ℕ). t ++ l) (append_assoc a b x ∙ sym rows)) in
     let rest : drop v.params.bytes_per_line v.held ≡ drop ((v.row + 1) * B) f.payload =
-    ap (λ (p : Params). drop p.bytes_per_line v.held) s.params
+    ap (λ (p : Params). drop p.bytes_per_line v.held) s.goes.params
     ∙ (ap (drop B) s.held
     ∙ (drop-drop B (v.row * B) f.payload ∙ ap (λ (n : ℕ). drop n f.payload) (let e : v.row * B + B ≡ (v.row + 1) * B = omega arith in e))) in
     record {
-      params = s.params;
-      order = s.order;
-      alone = s.alone;
-      bytes = s.bytes;
-      head = s.head;
+      goes = goes_row f given (drop v.params.bytes_per_line v.held) v s.goes done ready.row last;
       most = s.most;
       reach = ready.line;
       held = rest;
-      headed = s.headed;
-      given_is = after;
-      ahead = λ h. absurd (omega (arith, h, done));
-      rows = omega (arith, ready.row);
-      column = omega (arith, s.alone.row_some);
       line_begun = λ h. absurd (omega (arith, h));
       line_may_go = λ h. absurd (omega (arith, h));
       last_row_waits = ready.goes;
@@ -269,26 +292,34 @@ row_goes f given v s done ready last =
 
 -- ---- bytes come
 
+pub small_append : (xs ys : List ℕ) → ((i : ℕ) → slice_index xs i < 256) → ((i : ℕ) → slice_index ys i < 256) → (i : ℕ) → slice_index (xs ++ ys) i < 256
+small_append xs ys first second i = elim (cases_lt i (length xs)) as (λ _. slice_index (xs ++ ys) i < 256) [
+  | inl less ↦ rw (get_or_append_left xs ys 0 i less) (first i)
+  | inr more ↦ rw (get_or-append_right xs ys (length xs) i 0 refl (omega (arith, more))) (second (i - length xs))
+]
+
 pub bytes_come : (f : Frame) (given bytes : List ℕ) (v : Joining) → Streams f given v → ((i : ℕ) → slice_index bytes i < 256) → length f.payload + length bytes ≤ most_bytes f.params → Streams (grown f bytes) given (record v { held = v.held ++ bytes })
 bytes_come f given bytes v s small room =
-    let B = f.params.bytes_per_line in
     let size : length (f.payload ++ bytes) ≡ length f.payload + length bytes = length-append f.payload bytes in
-    let rows : rows_front (grown f bytes) v.row ≡ rows_front f v.row = rows_front_same f bytes v.row s.alone s.reach in
+    let rows : rows_front (grown f bytes) v.row ≡ rows_front f v.row = rows_front_same f bytes v.row s.goes.alone s.reach in
     let row : row_front (grown f bytes) v.row v.column ≡ row_front f v.row v.column = same_column v.column refl in
     record {
-      params = s.params;
-      order = s.order;
-      alone = s.alone;
-      bytes = all_small;
-      head = s.head;
+      goes = record {
+        params = s.goes.params;
+        order = s.goes.order;
+        alone = s.goes.alone;
+        bytes = small_append f.payload bytes s.goes.bytes small;
+        head = s.goes.head;
+        headed = s.goes.headed;
+        given_is = s.goes.given_is ∙ ap (λ (l : List ℕ). take v.headed v.head ++ l) (ap (λ (l : List ℕ). l ++ row_front f v.row v.column) (sym rows) ∙ ap (λ (l : List ℕ). rows_front (grown f bytes) v.row ++ l) (sym row));
+        ahead = s.goes.ahead;
+        rows = s.goes.rows;
+        column = s.goes.column;
+        row_begun = s.goes.row_begun;
+      };
       most = omega (arith, size, room);
       reach = omega (arith, size, s.reach);
-      held = ap (λ (l : List ℕ). l ++ bytes) s.held ∙ sym (drop-append-le (v.row * B) f.payload bytes s.reach);
-      headed = s.headed;
-      given_is = s.given_is ∙ ap (λ (l : List ℕ). take v.headed v.head ++ l) (ap (λ (l : List ℕ). l ++ row_front f v.row v.column) (sym rows) ∙ ap (λ (l : List ℕ). rows_front (grown f bytes) v.row ++ l) (sym row));
-      ahead = s.ahead;
-      rows = s.rows;
-      column = s.column;
+      held = ap (λ (l : List ℕ). l ++ bytes) s.held ∙ sym (drop-append-le (v.row * f.params.bytes_per_line) f.payload bytes s.reach);
       line_begun = λ h. omega (arith, size, s.line_begun h);
       line_may_go = s.line_may_go;
       last_row_waits = s.last_row_waits;
@@ -296,20 +327,14 @@ bytes_come f given bytes v s small room =
   where
     same_column : (n : ℕ) → v.column ≡ n → row_front (grown f bytes) v.row n ≡ row_front f v.row n
     same_column zero e = row_front-zero (grown f bytes) v.row ∙ sym (row_front-zero f v.row)
-    same_column (suc n) e = row_front_same f bytes v.row (suc n) s.alone (s.line_begun (omega (arith, e))) (omega (arith, e, s.column))
-
-    all_small : (i : ℕ) → slice_index (f.payload ++ bytes) i < 256
-    all_small i = elim (cases_lt i (length f.payload)) as (λ _. slice_index (f.payload ++ bytes) i < 256) [
-      | inl less ↦ rw (get_or_append_left f.payload bytes 0 i less) (s.bytes i)
-      | inr more ↦ rw (get_or-append_right f.payload bytes (length f.payload) i 0 refl (omega (arith, more))) (small (i - length f.payload))
-    ]
+    same_column (suc n) e = row_front_same f bytes v.row (suc n) s.goes.alone (s.line_begun (omega (arith, e))) (omega (arith, e, s.goes.column))
 
 -- ---- what went out is the front of the whole file
 
 same_column_at : (f : Frame) (y n : ℕ) → n ≡ 0 → row_front f y n ≡ []
 same_column_at f y n e = ap (row_front f y) e ∙ row_front-zero f y
 
-rows_more : (f : Frame) (given : List ℕ) (v : Joining) → Streams f given v → (more : List ℕ) × (rows_front f (lines_in f.params.lines) ≡ (rows_front f v.row ++ row_front f v.row v.column) ++ more)
+rows_more : (f : Frame) (given : List ℕ) (v : Joining) → Goes f given v → (more : List ℕ) × (rows_front f (lines_in f.params.lines) ≡ (rows_front f v.row ++ row_front f v.row v.column) ++ more)
 rows_more f given v s = by_column v.column refl
   where
     by_column : (n : ℕ) → v.column ≡ n → (more : List ℕ) × (rows_front f (lines_in f.params.lines) ≡ (rows_front f v.row ++ row_front f v.row v.column) ++ more)
@@ -318,10 +343,10 @@ rows_more f given v s = by_column v.column refl
         let same : rows_front f v.row ≡ rows_front f v.row ++ row_front f v.row v.column = sym (append-nil (rows_front f v.row)) ∙ ap (λ (l : List ℕ). rows_front f v.row ++ l) (sym (same_column_at f v.row v.column e)) in
         (rest.0, rest.1 ∙ ap (λ (l : List ℕ). l ++ rest.0) same)
     by_column (suc n) e =
-        let goes = s.line_may_go (omega (arith, e)) in
+        let begun = s.row_begun (omega (arith, e)) in
         let a = rows_front f v.row in
         let b = row_front f v.row v.column in
-        let rest = rows_rest f (v.row + 1) (lines_in f.params.lines) (omega (arith, goes.0)) in
+        let rest = rows_rest f (v.row + 1) (lines_in f.params.lines) (omega (arith, begun)) in
         let row = row_rest f v.row v.column (row_bytes f.params) (omega (arith, s.column)) in (
           row.0 ++ rest.0,
           rest.1
@@ -329,7 +354,7 @@ rows_more f given v s = by_column v.column refl
               ∙ append_assoc (a ++ b) row.0 rest.0),
         )
 
-pub file_more : (f : Frame) (given : List ℕ) (v : Joining) → Streams f given v → (more : List ℕ) × (given ++ more ≡ file_front f (lines_in f.params.lines))
+pub file_more : (f : Frame) (given : List ℕ) (v : Joining) → Goes f given v → (more : List ℕ) × (given ++ more ≡ file_front f (lines_in f.params.lines))
 file_more f given v s = elim (cases_lt v.headed (length v.head)) as (λ _. (more : List ℕ) × (given ++ more ≡ file_front f (lines_in f.params.lines))) [
   | inl less ↦
       let none = s.ahead less in
@@ -348,7 +373,7 @@ file_more f given v s = elim (cases_lt v.headed (length v.head)) as (λ _. (more
       (rest.0, ap (λ (l : List ℕ). l ++ rest.0) s.given_is ∙ (append_assoc t ab rest.0 ∙ (ap (λ (l : List ℕ). t ++ l) (sym rest.1) ∙ ap (λ (l : List ℕ). l ++ rows_front f (lines_in f.params.lines)) whole)))
 ]
 
-pub given_length : (f : Frame) (given : List ℕ) (v : Joining) → Streams f given v → length given ≡ v.headed + (v.row * row_bytes f.params + v.column)
+pub given_length : (f : Frame) (given : List ℕ) (v : Joining) → Goes f given v → length given ≡ v.headed + (v.row * row_bytes f.params + v.column)
 given_length f given v s =
     let t = take v.headed v.head in
     let a = rows_front f v.row in
@@ -407,8 +432,8 @@ denotes_picture f parts small =
 
 -- ---- before the last row what went out is not whole
 
-pub stream_is_not_whole : (f : Frame) (given : List ℕ) (v : Joining) → Streams f given v → v.row < lines_in f.params.lines → IsWhole given → ⊥
-stream_is_not_whole f given v s row whole =
+pub goes_is_not_whole : (f : Frame) (given : List ℕ) (v : Joining) → Goes f given v → v.row < lines_in f.params.lines → IsWhole given → ⊥
+goes_is_not_whole f given v s row whole =
     let rest = file_more f given v s in
     let full : IsWhole (given ++ rest.0) = (frame_picture f, subst (λ (l : List ℕ). Denotes l (frame_picture f)) (sym rest.1) (denotes_picture f s.alone s.bytes)) in
     let none : rest.0 ≡ [] = no_prefix given rest.0 whole full in

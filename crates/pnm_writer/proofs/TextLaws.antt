@@ -174,7 +174,7 @@ moved : (f : Frame) (y : ℕ) (g g2 : Format) (m m2 c c2 : ℕ) → g2 ≡ g →
 moved f y g g2 m m2 c c2 a b d r = rw (a, b, d) r
 
 row_is : (f : Frame) (y : ℕ) → AloneParts f.params → ((i : ℕ) → slice_index f.payload i < 256) → row_front f y (row_bytes f.params) ≡ row_text (format_alone f.params.format f.params.depth) (greatest_at f.params.depth) f.params.pixels_per_line (λ x k. frame_sample (channels_within f.params.format) f x y k)
-row_is f y parts small = by_depth parts.depths
+row_is f y parts small = by_depth parts.shape.depths
   where
     by_format : (d : ℕ) (g : FrameFormat) → f.params.format ≡ g → f.params.depth ≡ d → is_alone_format g ≡ true → (d ≡ 8) ⊎ (d ≡ 16) → RowIs f y (format_alone g d) (greatest_at d) (channels_within g)
     by_format d Gray same deep alone (inl e) =
@@ -200,7 +200,7 @@ row_is f y parts small = by_depth parts.depths
 
     by_depth : (f.params.depth ≡ 1) ⊎ ((f.params.depth ≡ 8) ⊎ (f.params.depth ≡ 16)) → RowIs f y (format_alone f.params.format f.params.depth) (greatest_at f.params.depth) (channels_within f.params.format)
     by_depth (inl deep) =
-        moved f y Pbm (format_alone f.params.format f.params.depth) 1 (greatest_at f.params.depth) 1 (channels_within f.params.format) (bits_format f.params.format f.params.depth (parts.bits deep) deep) (one_greatest f.params.depth deep) (bits_channels f.params.format (parts.bits deep)) (row_one f y deep small)
+        moved f y Pbm (format_alone f.params.format f.params.depth) 1 (greatest_at f.params.depth) 1 (channels_within f.params.format) (bits_format f.params.format f.params.depth (parts.shape.bits deep) deep) (one_greatest f.params.depth deep) (bits_channels f.params.format (parts.shape.bits deep)) (row_one f y deep small)
     by_depth (inr deep) = by_format f.params.depth f.params.format refl refl parts.format deep
 
 pub front_is_text : (f : Frame) (n : ℕ) → is_alone f.params ≡ true → ((i : ℕ) → slice_index f.payload i < 256) → file_front f n ≡ header_text (header_alone f.params) ++ joined (λ y. row_text (header_alone f.params).format (header_alone f.params).maxval (header_alone f.params).width (λ x k. frame_sample (channels_within f.params.format) f x y k)) n

@@ -43,27 +43,36 @@ lines_in (Some n) = n
 abbrev pub is_alone : Params → Bool
 is_alone p = is_alone_format p.format && (p.last_frame && (is_known p.lines && is_shaped p))
 
--- what that says of the parameters
-pub record AloneParts (p : Params) : Type 0 where
-  pub format : is_alone_format p.format ≡ true
+-- what the test on depth, width and line says
+pub record ShapeParts (p : Params) : Type 0 where
   pub depth : p.depth ≤ 16
   pub bits : p.depth ≡ 1 → p.format ≡ Gray
   pub depths : (p.depth ≡ 1) ⊎ ((p.depth ≡ 8) ⊎ (p.depth ≡ 16))
   pub line_shape : HasLineShape p
-  pub last : p.last_frame ≡ true
-  pub lines_known : p.lines ≡ Some (lines_in p.lines)
-  pub lines_some : 1 ≤ lines_in p.lines
-  pub lines_most : lines_in p.lines ≤ 65536
   pub width_some : 1 ≤ p.pixels_per_line
   pub width_most : p.pixels_per_line ≤ 65536
   pub row_some : 1 ≤ row_size p.format p.pixels_per_line p.depth
   pub fits : row_size p.format p.pixels_per_line p.depth ≤ p.bytes_per_line
   pub line_most : p.bytes_per_line ≤ 1048576
 
+-- what the whole test says
+pub record AloneParts (p : Params) : Type 0 where
+  pub shape : ShapeParts p
+  pub format : is_alone_format p.format ≡ true
+  pub last : p.last_frame ≡ true
+  pub lines_known : p.lines ≡ Some (lines_in p.lines)
+  pub lines_some : 1 ≤ lines_in p.lines
+  pub lines_most : lines_in p.lines ≤ 65536
+
 -- the bytes of a row of the picture
 abbrev pub row_bytes : Params → ℕ
 row_bytes p = row_size p.format p.pixels_per_line p.depth
 
+-- the most lines of a frame
+abbrev pub most_lines : Option ℕ → ℕ
+most_lines None = 65536
+most_lines (Some n) = n
+
 -- the most bytes that the frame may have
 abbrev pub most_bytes : Params → ℕ
-most_bytes params = lines_in params.lines * params.bytes_per_line
+most_bytes params = most_lines params.lines * params.bytes_per_line

@@ -1,5 +1,5 @@
 -- The file of a frame that is a picture, byte by byte, and how much of it may go out.
-use Rattle.std.specs.Prelude.{ℕ, ◌+◌, ◌-◌, ◌*◌, ◌/◌, ◌%◌, ◌^◌, ◌≡◌, ◌==◌, min, if◌then◌else◌, Option, Some, None, List, [], ◌∷◌, ◌++◌, length, slice_index}
+use Rattle.std.specs.Prelude.{ℕ, ◌+◌, ◌-◌, ◌*◌, ◌/◌, ◌%◌, ◌^◌, ◌≡◌, ◌==◌, true, min, if◌then◌else◌, Option, Some, None, List, [], ◌∷◌, ◌++◌, length, slice_index}
 use Rattle.netpbm.specs.declared.format.Format.{Format}
 use Rattle.netpbm.specs.declared.format.Format.TheVariants.{Pbm, Pgm, Ppm}
 use Rattle.netpbm.specs.declared.format.Header.{Header}
@@ -11,7 +11,8 @@ use Rattle.sane_fixed.specs.declared.byte_order.ByteOrder.TheVariants.{Little, B
 use Rattle.sane_fixed.specs.declared.params.Params.{Params}
 use Rattle.page_picture.specs.Meaning.{greatest_at}
 use Rattle.page_picture.specs.Shows.{Frame}
-use Rattle.pnm_writer.specs.AloneFrame.{lines_in, row_bytes}
+use Rattle.pnm_writer.specs.AloneFrame.{is_alone, is_alone_format, lines_in, row_bytes}
+use Rattle.pnm_writer.specs.ColorPlanes.{planes_of, side_by_side}
 
 -- the format of the file of a frame
 abbrev pub format_alone : FrameFormat → ℕ → Format
@@ -59,9 +60,36 @@ file_front f n = header_text (header_alone f.params) ++ rows_front f n
 abbrev pub rows_to_go : Frame → ℕ
 rows_to_go f = min (length f.payload / f.params.bytes_per_line) (lines_in f.params.lines - 1)
 
--- what a pull that gives nothing into a buffer with room has given in all: the header and the complete rows,
--- the picture's last row excepted, or the whole file
+-- what may go out while the frame is under way; of a frame that is kept nothing
+abbrev pub gone_under : Frame → List ℕ
+gone_under f = if is_alone f.params then file_front f (rows_to_go f) else []
+
+-- so many lines, or those that so many bytes make where their number is not known
+abbrev pub height_at : Option ℕ → ℕ → ℕ → ℕ
+height_at (Some lines) line size = lines
+height_at None line size = size / line
+
+abbrev pub height_of : Frame → ℕ
+height_of f = height_at f.params.lines f.params.bytes_per_line (length f.payload)
+
+-- the frame told of the height that it shows
+abbrev pub settled : Frame → Frame
+settled f = record f { params = record f.params { lines = Some (height_of f) } }
+
+-- the file of the frames of a whole picture; of other frames nothing
+abbrev pub file_of : List Frame → List ℕ
+file_of [] = []
+file_of (f ∷ []) = if is_alone_format f.params.format then file_front (settled f) (height_of f) else []
+file_of (a ∷ b ∷ []) = []
+file_of (a ∷ b ∷ c ∷ rest) = file_front (side_by_side c (planes_of (a ∷ b ∷ c ∷ []))) (lines_in c.params.lines)
+
+-- what a pull that gives nothing into a buffer with room has given in all: of a frame whose rows go straight through
+-- the header and the complete rows, the picture's last row excepted, or of a whole picture the file
 abbrev pub AllGone : Option Frame → List Frame → List ℕ → Type 0
-AllGone (Some f) _ given = given ≡ file_front f (rows_to_go f)
-AllGone None [] given = given ≡ []
-AllGone None (f ∷ _) given = given ≡ file_front f (lines_in f.params.lines)
+AllGone (Some f) _ given = given ≡ gone_under f
+AllGone None frames given = given ≡ file_of frames
+
+-- no frame is under way, or one whose rows go straight through
+abbrev pub GoesThrough : Option Frame → Type 0
+GoesThrough None = Unit {0}
+GoesThrough (Some f) = is_alone f.params ≡ true

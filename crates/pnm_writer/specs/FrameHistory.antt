@@ -1,12 +1,13 @@
 -- What a join was told so far and gave in all, and how each call goes on from that: plain data, apart from what a join
 -- keeps of it.
-use Rattle.std.specs.Prelude.{ℕ, ◌+◌, ◌≡◌, ◌==◌, nat_lt, Bool, true, false, not, if◌then◌else◌, Option, Some, None, Result, Ok, Err, List, [], ◌∷◌, ◌++◌, length}
+use Rattle.std.specs.Prelude.{ℕ, ◌+◌, ◌*◌, ◌/◌, ◌≡◌, ◌==◌, ◌&&◌, ◌||◌, nat_lt, Bool, true, false, not, if◌then◌else◌, Option, Some, None, Result, Ok, Err, List, [], ◌∷◌, ◌++◌, length}
 use Rattle.sane_fixed.specs.declared.byte_order.ByteOrder.{ByteOrder}
 use Rattle.sane_fixed.specs.declared.params.Params.{Params}
 use Rattle.pnm_writer.specs.declared.join_stage.JoinFault.{JoinFault}
 use Rattle.pnm_writer.specs.declared.join_stage.JoinFault.TheVariants.{Shape, Long, Short, NoMem}
 use Rattle.page_picture.specs.Shows.{Frame}
-use Rattle.pnm_writer.specs.AloneFrame.{is_alone_format, is_alone, most_bytes}
+use Rattle.pnm_writer.specs.AloneFrame.{is_alone_format, is_alone, is_side, most_bytes}
+use Rattle.pnm_writer.specs.KeptFrame.{is_open_ended, is_pass_that, goes_with}
 
 -- the frames that ended, the one under way, the fault that stands, and what was pulled in all
 pub record Past : Type 0 where
@@ -19,10 +20,13 @@ pub record Past : Type 0 where
 abbrev pub no_past : Past
 no_past = record { ended = []; under = None; fault = None; given = [] }
 
--- a frame of these parameters may follow the frames that ended
+-- A frame of these parameters may follow the frames that ended: first one that is a picture, or else three of a color
+-- each, the third alone the last.
 abbrev pub is_accepted : List Frame → Params → ByteOrder → Bool
-is_accepted [] params order = is_alone params
-is_accepted (f ∷ rest) params order = false
+is_accepted [] params order = is_alone params || (is_open_ended params || is_pass_that false params)
+is_accepted (a ∷ []) params order = is_pass_that false params && goes_with a params order
+is_accepted (a ∷ b ∷ []) params order = is_pass_that true params && (goes_with a params order && goes_with b params order)
+is_accepted (a ∷ b ∷ c ∷ rest) params order = false
 
 -- the frames that ended are a whole picture
 abbrev pub is_joined : List Frame → Bool
@@ -31,9 +35,14 @@ is_joined (f ∷ []) = is_alone_format f.params.format
 is_joined (f ∷ g ∷ []) = false
 is_joined (f ∷ g ∷ h ∷ rest) = true
 
+-- so many bytes are all lines, or, where their number is not known, a whole number of lines from 1 to 65,536
+abbrev pub is_full_at : Option ℕ → ℕ → ℕ → Bool
+is_full_at (Some lines) line size = size == lines * line
+is_full_at None line size = is_side (size / line) && (size == size / line * line)
+
 -- the frame has all its bytes
 abbrev pub is_full : Frame → Bool
-is_full frame = length frame.payload == most_bytes frame.params
+is_full frame = is_full_at frame.params.lines frame.params.bytes_per_line (length frame.payload)
 
 -- the fault comes to stand
 abbrev pub failed : JoinFault → Past → Past

@@ -1,5 +1,5 @@
 ghost use Rattle.std.specs.Prelude.{◌≡◌, ◌≤◌, ◌<◌, ◌*◌, true};
-ghost use Rattle.pnm_writer.specs.AloneFrame.{is_shaped, is_depth, is_side, is_alone, is_alone_format, is_known, lines_in, row_bytes, AloneParts};
+ghost use Rattle.pnm_writer.specs.AloneFrame.{is_shaped, is_depth, is_side, is_alone, is_alone_format, is_known, lines_in, most_lines, row_bytes, AloneParts};
 ghost use Rattle.pnm_writer.specs.FrameFile.{place_in, trimmed, header_alone};
 
 use crate::plain::greatest;
@@ -61,14 +61,14 @@ fn is_depth(format: FrameFormat, depth: u32) -> bool
     }
 }
 
-fn is_side(n: u32) -> bool
+pub(crate) fn is_side(n: u32) -> bool
     ensures { result ≡ is_side n }
 {
     1 <= n && n <= 65536
 }
 
 /// Whether the depth and the width are admitted, and a line has room for its samples.
-fn is_shaped(params: &Params) -> bool
+pub(crate) fn is_shaped(params: &Params) -> bool
     ensures { result ≡ is_shaped params.now }
 {
     is_depth(params.format, params.depth)
@@ -77,7 +77,7 @@ fn is_shaped(params: &Params) -> bool
                 && params.bytes_per_line <= 1048576))
 }
 
-fn is_alone_format(format: FrameFormat) -> bool
+pub(crate) fn is_alone_format(format: FrameFormat) -> bool
     ensures { result ≡ is_alone_format format }
 {
     match format {
@@ -86,7 +86,7 @@ fn is_alone_format(format: FrameFormat) -> bool
     }
 }
 
-fn is_known(lines: Option<u32>) -> bool
+pub(crate) fn is_known(lines: Option<u32>) -> bool
     ensures { result ≡ is_known lines }
 {
     match lines {
@@ -105,6 +105,16 @@ pub(crate) fn is_alone(params: &Params) -> bool
         && (params.last_frame && (is_known(params.lines) && is_shaped(params)))
 }
 
+/// The most lines that a frame may have.
+pub(crate) fn most_lines(lines: Option<u32>) -> u32
+    ensures { result ≡ most_lines lines }
+{
+    match lines {
+        Some(lines) => lines,
+        None => 65536,
+    }
+}
+
 /// The number of lines; 0 where it is not known.
 pub(crate) fn lines_in(lines: Option<u32>) -> u32
     ensures { result ≡ lines_in lines }
@@ -117,7 +127,6 @@ pub(crate) fn lines_in(lines: Option<u32>) -> u32
 
 /// The header of the file of a frame.
 pub(crate) fn header_alone(params: &Params) -> Header
-    requires { AloneParts params.now }
     ensures { result ≡ header_alone params.now }
 {
     let format = match params.format {

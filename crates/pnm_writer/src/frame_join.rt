@@ -1,27 +1,37 @@
 ghost use Rattle.std.specs.Prelude.{◌≡◌, ◌≤◌, ◌<◌, ◌+◌, ◌-◌, ◌*◌, ◌||◌, ◌↔◌, Ok, IfSome, IfNone, IfOk, true, false, None, length};
 ghost use Rattle.netpbm.specs.Picture.{Picture};
 ghost use Rattle.page_picture.specs.Shows.{ShowsFrames};
-ghost use Rattle.pnm_writer.specs.AloneFrame.{AloneParts, lines_in};
+ghost use Rattle.pnm_writer.specs.AloneFrame.{AloneParts, ShapeParts, most_lines};
+ghost use Rattle.pnm_writer.specs.KeptFrame.{is_unknown, is_open_ended, is_pass};
 ghost use Rattle.pnm_writer.specs.FrameHistory.{Past, no_past, after_begin, after_feed, after_end, answer_of, frames_of};
-ghost use Rattle.pnm_writer.specs.Joining.{Stands, is_starved, is_ready, may_go, next_byte, after_next, value_fed, value_ended, value_begun, answer_at, fresh, IsDrained, is_under, is_whole};
+ghost use Rattle.pnm_writer.specs.declared.join_stage.Stage.TheVariants.{Under, Keeping, Between};
+ghost use Rattle.pnm_writer.specs.JoinStages.{is_under, is_colors};
+ghost use Rattle.pnm_writer.specs.Joining.{Stands, is_starved, IsDrained};
+ghost use Rattle.pnm_writer.specs.JoinSteps.{moves, is_ready, next_sample, may_go, next_byte, after_next, value_fed, under_ended, kept_ended, color_ended, value_ended, first_begun, next_begun, value_begun, accepts_next, answer_at, fresh, keeping};
 
-use crate::alone_frame::{header_alone, is_alone, lines_in, place_in, row_size, trimmed};
+use crate::alone_frame::{
+    header_alone, is_alone, lines_in, most_lines, place_in, row_size, trimmed,
+};
+use crate::header::{HEADER_ROOM, put_header};
 use crate::join_stage::{JoinFault, Stage};
-use crate::plain::header_bytes;
+use crate::kept_frame::{
+    all_colors, height_told, is_alike, is_full, is_open_ended, is_pass_that, is_unknown,
+};
+use crate::planes::Planes;
 use sane_fixed::{ByteOrder, FrameFormat, Params};
 use std::alloc::{AllocError, Global};
 use std::marker::Model;
 
-/// Joins the frames of a picture (SANE Standard 1.06, "sane_read") to its Netpbm file. Rows go straight through: it
-/// keeps no picture, but a line and the bytes that came after it. Until now it takes one frame, of gray or of red,
-/// green and blue, and of known height.
+/// Joins the frames of a picture (SANE Standard 1.06, "sane_read") to its Netpbm file. The rows of one frame of known
+/// height go straight through: of it a line is kept, and the bytes that came after it. A frame of unknown height, and
+/// three frames of a color each, are kept until the picture is whole.
 #[derive(Drop)]
 pub struct FrameJoin {
     stage: Stage,
     params: Params,
     order: ByteOrder,
     // The header of the file, and how much of it has gone.
-    head: String,
+    head: Vec<u8>,
     headed: usize,
     // The next byte of the raster.
     row: u32,
@@ -29,6 +39,8 @@ pub struct FrameJoin {
     // The lines from `row` on stand in `held` from `start` on; what stands before has gone.
     held: Vec<u8>,
     start: usize,
+    // The colors that ended.
+    planes: Planes,
 }
 
 impl Model for FrameJoin {
@@ -59,37 +71,71 @@ impl FrameJoin {
                 depth: 8,
             },
             order: ByteOrder::Little,
-            head: String::new(alloc),
+            head: Vec::new(alloc),
             headed: 0,
             row: 0,
             column: 0,
             held: Vec::new(alloc),
             start: 0,
+            planes: Planes::new(alloc),
         }
     }
 
-    /// Whether a whole line is held that may go out.
+    /// Whether a row may go out: its line is held, and it is not the last of a picture that is not whole.
     fn is_ready(&self) -> bool
         ensures { result ≡ is_ready self.now }
     {
         let lines = lines_in(self.params.lines);
-        let whole = match self.stage {
-            Stage::Whole => true,
-            Stage::Idle | Stage::Under | Stage::Failed(_) => false,
-        };
+        let held = self.params.bytes_per_line as usize <= self.held.len() - self.start;
         self.row < lines
-            && (self.params.bytes_per_line as usize <= self.held.len() - self.start
-                && (whole || self.row + 1 < lines))
+            && match self.stage {
+                Stage::WholeColors => true,
+                Stage::Whole => held,
+                _ => held && self.row + 1 < lines,
+            }
     }
 
-    /// Whether the join is in a frame, or has a whole picture.
+    /// Whether bytes may go out at all.
     fn moves(&self) -> bool
-        ensures { result ≡ is_under self.now.stage || is_whole self.now.stage }
+        ensures { result ≡ moves self.now.stage }
     {
         match self.stage {
-            Stage::Under | Stage::Whole => true,
-            Stage::Idle | Stage::Failed(_) => false,
+            Stage::Under | Stage::Whole | Stage::WholeColors => true,
+            Stage::Idle | Stage::Keeping | Stage::Between | Stage::Failed(_) => false,
         }
+    }
+
+    /// Whether the picture is whole, of three frames.
+    fn has_colors(&self) -> bool
+        ensures { result ≡ is_colors self.now.stage }
+    {
+        match self.stage {
+            Stage::WholeColors => true,
+            Stage::Idle
+            | Stage::Under
+            | Stage::Keeping
+            | Stage::Between
+            | Stage::Whole
+            | Stage::Failed(_) => false,
+        }
+    }
+
+    /// The next byte of the raster, which may go out.
+    fn next_sample(&self) -> u8
+        requires { is_ready self.now ≡ true }
+        ensures { result ≡ next_sample self.now }
+    {
+        let params = self.params;
+        let place = place_in(self.order, params.depth, self.column);
+        if self.has_colors() {
+            return self.planes.side_byte(params.depth, self.row, place);
+        }
+        trimmed(
+            params.pixels_per_line,
+            params.depth,
+            self.column,
+            self.held[self.start + place],
+        )
     }
 
     /// The next byte that may go out.
@@ -103,36 +149,31 @@ impl FrameJoin {
             return None;
         }
         if self.headed < self.head.len() {
-            let byte = self.head.as_bytes()[self.headed];
+            let byte = self.head[self.headed];
             self.headed += 1;
             return Some(byte);
         }
         if !self.is_ready() {
             return None;
         }
-        let params = self.params;
-        let place = place_in(self.order, params.depth, self.column);
-        let byte = trimmed(
-            params.pixels_per_line,
-            params.depth,
-            self.column,
-            self.held[self.start + place],
-        );
-        if self.column + 1 == row_size(&params) {
+        let byte = self.next_sample();
+        if self.column + 1 == row_size(&self.params) {
             self.column = 0;
             self.row += 1;
-            self.start += params.bytes_per_line as usize;
+            if !self.has_colors() {
+                self.start += self.params.bytes_per_line as usize;
+            }
         } else {
             self.column += 1;
         }
         Some(byte)
     }
 
-    /// The bytes that the lines from the row on have.
+    /// The most bytes that the lines from the row on may have.
     fn rest_size(&self) -> usize
-        ensures { result ≡ (lines_in self.now.params.lines - self.now.row) * self.now.params.bytes_per_line }
+        ensures { result ≡ (most_lines self.now.params.lines - self.now.row) * self.now.params.bytes_per_line }
     {
-        let lines = lines_in(self.params.lines).saturating_sub(self.row);
+        let lines = most_lines(self.params.lines).saturating_sub(self.row);
         lines as usize * self.params.bytes_per_line as usize
     }
 
@@ -142,8 +183,9 @@ impl FrameJoin {
         ensures room { is_under self.old.stage ≡ true → length self.old.held + length bytes.now ≤ self.old.params.bytes_per_line + 4096 → is_starved self.new ≡ false }
     {
         match self.stage {
-            Stage::Idle | Stage::Whole | Stage::Failed(_) => {}
-            Stage::Under => {
+            Stage::Idle | Stage::Between | Stage::Whole | Stage::WholeColors | Stage::Failed(_) =>
+                {}
+            Stage::Under | Stage::Keeping => {
                 let room = self
                     .rest_size()
                     .saturating_sub(self.held.len() - self.start);
@@ -160,19 +202,104 @@ impl FrameJoin {
         }
     }
 
+    /// Ends a frame whose rows go straight through.
+    fn close_under(&mut self)
+        requires { self.old.stage ≡ Under }
+        ensures { self.new ≡ under_ended self.old }
+    {
+        if self.held.len() - self.start == self.rest_size() {
+            self.stage = Stage::Whole;
+        } else {
+            self.stage = Stage::Failed(JoinFault::Short);
+        }
+    }
+
+    /// Ends a frame that is kept.
+    fn close_kept(&mut self)
+        requires { self.old.stage ≡ Keeping }
+        ensures { self.new ≡ kept_ended self.old }
+    {
+        let size = self.held.len();
+        if !is_full(&self.params, size) {
+            self.stage = Stage::Failed(JoinFault::Short);
+        } else if is_unknown(self.params.lines) {
+            self.params = height_told(&self.params, size);
+            put_header(&mut self.head, &header_alone(&self.params));
+            self.stage = Stage::Whole;
+        } else {
+            self.close_color();
+        }
+    }
+
+    /// Ends a frame of one color, which has all its bytes.
+    fn close_color(&mut self)
+        requires stage { self.old.stage ≡ Keeping }
+        requires color { is_unknown self.old.params.lines ≡ false }
+        ensures { self.new ≡ color_ended self.old }
+    {
+        let params = self.params;
+        self.planes
+            .put(params.format, params.bytes_per_line, &mut self.held);
+        if params.last_frame {
+            self.params = all_colors(&params);
+            put_header(&mut self.head, &header_alone(&self.params));
+            self.stage = Stage::WholeColors;
+        } else {
+            self.stage = Stage::Between;
+        }
+    }
+
     /// Ends the frame.
     fn close(&mut self)
         ensures { self.new ≡ value_ended self.old }
     {
         match self.stage {
-            Stage::Idle | Stage::Whole | Stage::Failed(_) => {}
-            Stage::Under => {
-                if self.held.len() - self.start == self.rest_size() {
-                    self.stage = Stage::Whole;
-                } else {
-                    self.stage = Stage::Failed(JoinFault::Short);
-                }
-            }
+            Stage::Under => self.close_under(),
+            Stage::Keeping => self.close_kept(),
+            Stage::Idle | Stage::Between | Stage::Whole | Stage::WholeColors | Stage::Failed(_) =>
+                {}
+        }
+    }
+
+    /// Whether a further color may begin.
+    fn accepts_next(&self, params: &Params, order: ByteOrder) -> bool
+        ensures { result ≡ accepts_next self.now params.now order }
+    {
+        is_pass_that(self.planes.has_two(), params)
+            && (!self.planes.has(params.format)
+                && is_alike(&self.params, self.order, params, order))
+    }
+
+    /// Begins the first frame, or says why not.
+    #[tactic(auto, using(crate::proofs::KeptLaws::first_is_kept))]
+    fn open_first(&mut self, alloc: Global, params: &Params, order: ByteOrder)
+        ensures { self.new ≡ first_begun params.now order (is_starved self.new) self.old }
+    {
+        let begun = if is_alone(params) {
+            fresh(alloc, params, order)
+        } else if is_open_ended(params) || is_pass_that(false, params) {
+            keeping(alloc, params, order)
+        } else {
+            self.stage = Stage::Failed(JoinFault::Shape);
+            return;
+        };
+        match begun {
+            Ok(join) => *self = join,
+            Err(_) => self.stage = Stage::Failed(JoinFault::NoMem),
+        }
+    }
+
+    /// Begins a further color, or says why not.
+    fn open_next(&mut self, params: &Params, order: ByteOrder)
+        requires { self.old.stage ≡ Between }
+        ensures { self.new ≡ next_begun params.now order (is_starved self.new) self.old }
+    {
+        if self.accepts_next(params, order) {
+            self.params = *params;
+            self.order = order;
+            self.stage = Stage::Keeping;
+        } else {
+            self.stage = Stage::Failed(JoinFault::Shape);
         }
     }
 
@@ -181,18 +308,10 @@ impl FrameJoin {
         ensures { self.new ≡ value_begun params.now order (is_starved self.new) self.old }
     {
         match self.stage {
-            Stage::Whole | Stage::Failed(_) => {}
-            Stage::Under => self.stage = Stage::Failed(JoinFault::Shape),
-            Stage::Idle => {
-                if !is_alone(params) {
-                    self.stage = Stage::Failed(JoinFault::Shape);
-                } else {
-                    match fresh(alloc, params, order) {
-                        Ok(join) => *self = join,
-                        Err(_) => self.stage = Stage::Failed(JoinFault::NoMem),
-                    }
-                }
-            }
+            Stage::Whole | Stage::WholeColors | Stage::Failed(_) => {}
+            Stage::Under | Stage::Keeping => self.stage = Stage::Failed(JoinFault::Shape),
+            Stage::Idle => self.open_first(alloc, params, order),
+            Stage::Between => self.open_next(params, order),
         }
     }
 
@@ -201,17 +320,21 @@ impl FrameJoin {
         ensures { result ≡ answer_at self.now.stage }
     {
         match self.stage {
-            Stage::Idle | Stage::Under => Ok(false),
-            Stage::Whole => Ok(true),
+            Stage::Idle | Stage::Under | Stage::Keeping | Stage::Between => Ok(false),
+            Stage::Whole | Stage::WholeColors => Ok(true),
             Stage::Failed(fault) => Err(fault),
         }
     }
 
-    /// A frame begins. Outside a frame it reserves one line and 4,096 bytes. A fault comes to stand: `Shape` inside a
-    /// frame, and for parameters other than those of one frame of gray or of red, green and blue with `last_frame`, 1
-    /// to 65,536 known lines and as many pixels, depth 8 or 16 (in gray also 1), and lines that have room for their
-    /// pixels and at most 1,048,576 bytes; `NoMem` where a growth is refused. After the whole picture, and after a
-    /// fault, it changes nothing.
+    /// A frame begins. A fault comes to stand: `Shape` inside a frame, and for a frame other than one of gray or of red,
+    /// green and blue with `last_frame`, or three of red, green and blue once each in any order, the third alone with
+    /// `last_frame`, of one width, height, depth and byte order. Of each the depth is 8 or 16 (in gray also 1), the
+    /// pixels of a line are 1 to 65,536, the lines as many, or, where the frame is alone, not known, and a line has room
+    /// for its pixels and at most 1,048,576 bytes. `NoMem` comes to stand where a growth is refused. After the whole
+    /// picture, and after a fault, it changes nothing.
+    ///
+    /// The first frame reserves room for the header, and for one line and 4,096 bytes where its rows go straight
+    /// through.
     pub fn begin(&mut self, alloc: Global, params: &Params, order: ByteOrder)
         // Whatever was told before, the join stands for that and the frame.
         ensures { (past : Past) → Stands past self.old → Stands (after_begin params.now order (is_starved self.new) past) self.new }
@@ -219,18 +342,20 @@ impl FrameJoin {
         self.open(alloc, params, order);
     }
 
-    /// Bytes of the frame come. A fault comes to stand: `Long` where they are more than the frame has, `NoMem` where a
-    /// growth is refused. Outside a frame, and after a fault, it changes nothing.
+    /// Bytes of the frame come. A fault comes to stand: `Long` where they are more than the frame has, or than 65,536
+    /// lines have where its lines are not known; `NoMem` where a growth is refused. Outside a frame, and after a fault,
+    /// it changes nothing.
     pub fn feed(&mut self, bytes: &[u8])
         ensures carried { (past : Past) → Stands past self.old → Stands (after_feed bytes.now (is_starved self.new) past) self.new }
-        // Where a pull gave nothing before, a piece of at most 4,096 bytes takes no memory.
+        // Where a pull gave nothing before and no frame is kept, a piece of at most 4,096 bytes takes no memory.
         ensures room { IsDrained self.old → length bytes.now ≤ 4096 → is_starved self.new ≡ is_starved self.old }
     {
         self.take_in(bytes);
     }
 
     /// The frame ends. Says whether the picture is whole, or which fault stands; `Short` comes to stand where the frame
-    /// has fewer bytes than was told. Outside a frame, and after a fault, it changes nothing. It takes no memory.
+    /// has fewer bytes than was told, or, where its lines are not known, no line or a part of one. Outside a frame, and
+    /// after a fault, it changes nothing. It takes no memory.
     pub fn end(&mut self) -> Result<bool, JoinFault>
         ensures carried { (past : Past) → Stands past self.old → Stands (after_end past) self.new }
         ensures answer { (past : Past) → Stands past self.old → result ≡ answer_of (after_end past) }
@@ -246,18 +371,19 @@ impl FrameJoin {
         ensures { (past : Past) → Stands past self.now → result ≡ past.fault }
     {
         match self.stage {
-            Stage::Idle | Stage::Under | Stage::Whole => None,
             Stage::Failed(fault) => Some(fault),
+            _ => None,
         }
     }
 }
 
-/// A join in which a frame begins.
+/// A join in which a frame begins whose rows go straight through.
 fn fresh(alloc: Global, params: &Params, order: ByteOrder) -> Result<FrameJoin, AllocError>
     requires { AloneParts params.now }
     ensures { IfOk result (λ join. join ≡ fresh params.now order) }
 {
-    let head = header_bytes(alloc, &header_alone(params))?;
+    let mut head = Vec::with_capacity(alloc, HEADER_ROOM)?;
+    put_header(&mut head, &header_alone(params));
     let held = Vec::with_capacity(alloc, params.bytes_per_line as usize + 4096)?;
     Ok(FrameJoin {
         stage: Stage::Under,
@@ -269,5 +395,25 @@ fn fresh(alloc: Global, params: &Params, order: ByteOrder) -> Result<FrameJoin, 
         column: 0,
         held,
         start: 0,
+        planes: Planes::new(alloc),
+    })
+}
+
+/// A join in which a frame begins that is kept.
+fn keeping(alloc: Global, params: &Params, order: ByteOrder) -> Result<FrameJoin, AllocError>
+    requires { (is_open_ended params.now || is_pass params.now) ≡ true }
+    ensures { IfOk result (λ join. join ≡ keeping params.now order) }
+{
+    Ok(FrameJoin {
+        stage: Stage::Keeping,
+        params: *params,
+        order,
+        head: Vec::with_capacity(alloc, HEADER_ROOM)?,
+        headed: 0,
+        row: 0,
+        column: 0,
+        held: Vec::new(alloc),
+        start: 0,
+        planes: Planes::new(alloc),
     })
 }

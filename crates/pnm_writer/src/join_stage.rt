@@ -16,10 +16,16 @@ pub enum JoinFault {
 pub enum Stage {
     /// No frame came.
     Idle,
-    /// In a frame.
+    /// In a frame whose rows go straight through.
     Under,
-    /// The picture is whole.
+    /// In a frame that is kept until the picture is whole.
+    Keeping,
+    /// One or two of three colors came.
+    Between,
+    /// The picture of one frame is whole.
     Whole,
+    /// The picture of three frames is whole.
+    WholeColors,
     /// A fault stands.
     Failed(JoinFault),
 }

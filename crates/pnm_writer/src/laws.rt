@@ -1,10 +1,10 @@
-ghost use Rattle.std.specs.Prelude.{◌≡◌, ◌≢◌, ◌<◌, ◌++◌, Some, None, true, ◌^◌, ℕ, List, [], length, slice_index};
+ghost use Rattle.std.specs.Prelude.{◌≡◌, ◌≢◌, ◌<◌, ◌++◌, None, true, ◌^◌, ℕ, List, [], ◌∷◌, length, slice_index};
 ghost use Rattle.netpbm.specs.Picture.{Picture};
 ghost use Rattle.netpbm.specs.Pnm.{IsWhole};
 ghost use Rattle.netpbm.specs.FileText.{header_text, row_text, joined};
-ghost use Rattle.page_picture.specs.Shows.{Frame, ShowsAlone, ShowsFrames, frame_sample, channels_within};
-ghost use Rattle.pnm_writer.specs.AloneFrame.{is_alone};
-ghost use Rattle.pnm_writer.specs.FrameFile.{header_alone, file_front};
+ghost use Rattle.page_picture.specs.Shows.{Frame, ShowsAlone, ShowsColors, ShowsFrames, frame_sample, channels_within};
+ghost use Rattle.pnm_writer.specs.AloneFrame.{is_alone, lines_in};
+ghost use Rattle.pnm_writer.specs.FrameFile.{header_alone, file_front, file_of};
 ghost use Rattle.pnm_writer.specs.FrameHistory.{Past, IsJoined, is_accepted};
 ghost use Rattle.pnm_writer.specs.Joining.{Joining, Stands};
 
@@ -28,9 +28,20 @@ pub fn whole_shows()
     ensures { (past : Past) (join : Joining) → Stands past join → IsJoined past → (p : Picture) × ShowsFrames past.ended p }
 {}
 
-/// A frame of known height that shows a picture is accepted.
+/// A frame that shows a picture alone is accepted as the first.
 pub fn shown_frame_is_accepted()
-    ensures { (frame : Frame) (p : Picture) (lines : ℕ) → ShowsAlone frame p → frame.params.lines ≡ Some lines → is_accepted [] frame.params frame.order ≡ true }
+    ensures { (frame : Frame) (p : Picture) → ShowsAlone frame p → is_accepted [] frame.params frame.order ≡ true }
+{}
+
+/// Of three frames that show a picture each is accepted after those before it.
+pub fn shown_colors_are_accepted()
+    ensures { (a b c : Frame) (p : Picture) → ShowsColors a b c p → (is_accepted [] a.params a.order ≡ true) × (is_accepted (a ∷ []) b.params b.order ≡ true) × (is_accepted (a ∷ b ∷ []) c.params c.order ≡ true) }
+{}
+
+/// The file of a whole picture is that of one frame of known height; the three frames of one color each make a frame
+/// that has the colors side by side.
+pub fn whole_file_is_of_one_frame()
+    ensures { (past : Past) (join : Joining) → Stands past join → IsJoined past → (f : Frame) × (is_alone f.params ≡ true) × ((i : ℕ) → slice_index f.payload i < 256) × (file_of past.ended ≡ file_front f (lines_in f.params.lines)) }
 {}
 
 /// The header and the first rows that a frame gives for its file are those of the writer's text for the picture that

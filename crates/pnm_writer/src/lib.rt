@@ -3,9 +3,12 @@
 
 mod alone_frame;
 mod frame_join;
+mod header;
 mod join_stage;
+mod kept_frame;
 mod laws;
 mod plain;
+mod planes;
 mod pnm_out;
 mod read;
 
@@ -13,7 +16,7 @@ pub use frame_join::FrameJoin;
 pub use join_stage::JoinFault;
 pub use laws::{
     frame_file_is_the_writers_text, no_file_is_endless, no_front_is_whole, not_whole_before,
-    shown_frame_is_accepted, whole_shows,
+    shown_colors_are_accepted, shown_frame_is_accepted, whole_file_is_of_one_frame, whole_shows,
 };
 pub use plain::{PlainFault, scan_plain};
 pub use pnm_out::PnmOut;

@@ -4,7 +4,7 @@ ghost use Rattle.netpbm.specs.Pnm.{Denotes, IsWhole};
 ghost use Rattle.page_picture.specs.Shows.{ShowsFrames};
 ghost use Rattle.pnm_writer.specs.declared.join_stage.JoinFault.{JoinFault};
 ghost use Rattle.pnm_writer.specs.FrameHistory.{Past, after_pull, IsJoined};
-ghost use Rattle.pnm_writer.specs.FrameFile.{AllGone};
+ghost use Rattle.pnm_writer.specs.FrameFile.{AllGone, GoesThrough};
 ghost use Rattle.pnm_writer.specs.Joining.{Stands, IsDrained};
 
 use crate::frame_join::FrameJoin;
@@ -31,14 +31,14 @@ impl PnmOut {
         ensures carried { (past : Past) → Stands past join.old → Stands (after_pull (take result buf.new) past) join.new }
         // After a fault nothing goes out.
         ensures silent { (past : Past) (fault : JoinFault) → Stands past join.old → past.fault ≡ Some fault → result ≡ 0 }
-        // Where nothing goes out, the header and the rows have gone, or the whole file.
+        // Where nothing goes out, the header and the rows have gone, or the whole file; of a frame that is kept nothing.
         ensures gone { (past : Past) → Stands past join.old → past.fault ≡ None → result ≡ 0 → 0 < length buf.old → AllGone past.under past.ended past.given }
         // Then, where the picture is whole, what was given in all denotes the picture that the frames show.
         ensures denotes { (past : Past) → Stands past join.old → IsJoined past → result ≡ 0 → 0 < length buf.old → (p : Picture) → ShowsFrames past.ended p → Denotes past.given p }
         // Before the picture is whole, what was given in all is not.
         ensures whole { (past : Past) → Stands past join.old → (IsJoined past → ⊥) → IsWhole (past.given ++ take result buf.new) → ⊥ }
-        // Then the join has room for a further piece.
-        ensures drained { (past : Past) → Stands past join.old → result ≡ 0 → 0 < length buf.old → IsDrained join.new }
+        // Then, where no frame is kept, the join has room for a further piece.
+        ensures drained { (past : Past) → Stands past join.old → GoesThrough past.under → result ≡ 0 → 0 < length buf.old → IsDrained join.new }
     {
         for i in 0..buf.len() {
             let Some(byte) = join.next_byte() else {

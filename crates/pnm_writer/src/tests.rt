@@ -1,5 +1,7 @@
 ghost use Rattle.std.specs.Prelude.{◌≡◌, ◌<◌, pos, ◌≤ℤ◌};
 
+mod kept;
+
 use crate::{FrameJoin, JoinFault, PlainFault, PnmFault, PnmOut, Samples, read_pnm, scan_plain};
 use page_picture::{DeviceKind, Mode, Scene, read_page};
 use sane_fixed::{ByteOrder, Fixed, FrameFormat, Params};

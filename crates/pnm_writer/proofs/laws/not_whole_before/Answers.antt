@@ -1,4 +1,4 @@
-use Rattle.pnm_writer.proofs.JoinLaws.{not_whole}
+use Rattle.pnm_writer.proofs.EndLaws.{not_whole}
 use Rattle.pnm_writer.proofs.laws.not_whole_before.Goals as goal
 
 pub returns : goal.returns

@@ -1,4 +1,4 @@
-use Rattle.pnm_writer.proofs.JoinLaws.{joined_shows}
+use Rattle.pnm_writer.proofs.EndLaws.{joined_shows}
 use Rattle.pnm_writer.proofs.laws.whole_shows.Goals as goal
 
 pub returns : goal.returns

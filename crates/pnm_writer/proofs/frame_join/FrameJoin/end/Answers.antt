@@ -1,5 +1,6 @@
 use Rattle.std.proofs.Common.{◌∙◌}
-use Rattle.pnm_writer.proofs.JoinLaws.{end_carried, end_answer, end_exact}
+use Rattle.pnm_writer.proofs.JoinLaws.{end_carried}
+use Rattle.pnm_writer.proofs.EndLaws.{end_answer, end_exact}
 use Rattle.pnm_writer.proofs.frame_join.FrameJoin.end.Goals as goal
 
 pub returns-clause-carried : goal.returns-clause-carried

@@ -1,8 +1,10 @@
 use Rattle.std.proofs.Common.{◌≡◌, ◌+◌, ◌∙◌, arith, rules, sym, subst, take, false, length, ℕ}
 use Rattle.std.specs.Prelude.{slice_set}
 use Rattle.pnm_writer.specs.FrameHistory.{after_pull}
-use Rattle.pnm_writer.specs.Joining.{Stands, may_go, IsDrained}
-use Rattle.pnm_writer.proofs.JoinLaws.{pull_step, spent, drained, gone_denotes, joined_no_fault, step_take, step_drop, not_whole}
+use Rattle.pnm_writer.specs.Joining.{Stands, IsDrained}
+use Rattle.pnm_writer.specs.JoinSteps.{may_go}
+use Rattle.pnm_writer.proofs.PullLaws.{pull_step, went_on, spent, drained, step_take, step_drop}
+use Rattle.pnm_writer.proofs.EndLaws.{gone_denotes, joined_no_fault, not_whole}
 use Rattle.pnm_writer.proofs.pnm_out.PnmOut.pull.Goals as goal
 
 pub returns-in_default-clause-gone : goal.returns-in_default-clause-gone
@@ -18,10 +20,10 @@ returns-in_default-clause-denotes c = λ past stands joined none some p shows.
     gone_denotes past c.args.join.now stands joined (spent past c.args.join.now stands stop (joined_no_fault past c.args.join.now stands joined)) p shows
 
 pub returns-in_default-clause-drained : goal.returns-in_default-clause-drained
-returns-in_default-clause-drained c = λ past stands none some.
+returns-in_default-clause-drained c = λ past stands through none some.
     let same = c.loop-i.invariant.first none in
     let stop : may_go c.args.join.now ≡ false = rw same at c.in_default.ensures.none.0 in
-    subst IsDrained (sym (c.in_default.ensures.none.1 ∙ same)) (drained past c.args.join.now stands stop)
+    subst IsDrained (sym (c.in_default.ensures.none.1 ∙ same)) (drained past c.args.join.now stands through stop)
 
 pub loop-i-preserved : goal.loop-i-preserved
 loop-i-preserved c = record {
@@ -32,7 +34,7 @@ loop-i-preserved c = record {
       (c.loop-i.invariant.carried past stands);
   rest = step_drop c.loop-i.buf c.args.buf.now c.loop-i.i c.in-Some.byte c.loop-i.invariant.rest;
   first = λ e. search rules;
-  went = search rules;
+  went = λ _. went_on c.loop-i.i c.args.join.now c.loop-i.join c.loop-i.invariant.first c.loop-i.invariant.went c.in-Some.ensures.may;
 }
 
 pub returns-in_default-clause-whole : goal.returns-in_default-clause-whole

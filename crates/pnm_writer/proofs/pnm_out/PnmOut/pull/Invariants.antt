@@ -1,6 +1,7 @@
 use Rattle.std.proofs.Common.{◌≡◌, ◌<◌, take, drop, true}
 use Rattle.pnm_writer.specs.FrameHistory.{Past, after_pull}
-use Rattle.pnm_writer.specs.Joining.{Stands, may_go}
+use Rattle.pnm_writer.specs.Joining.{Stands}
+use Rattle.pnm_writer.specs.JoinSteps.{may_go}
 use Rattle.pnm_writer.proofs.pnm_out.PnmOut.pull.Given as goal
 
 abbrev pub invariant-loop-i : goal.invariant-loop-i
