@@ -1,5 +1,5 @@
 -- A proper front of what went out is never a whole file.
-use Rattle.std.proofs.Common.{◌≡◌, ◌≢◌, ℕ, List, [], ◌∷◌, ◌++◌, length, ◌≤◌, ◌<◌, ◌+◌, ◌*◌, ◌^◌, Option, Some, None, arith, refl, sym, ap, ◌∙◌, subst, length-append}
+use Rattle.std.proofs.Common.{◌≡◌, ◌≢◌, ℕ, List, [], ◌∷◌, ◌++◌, length, ◌≤◌, ◌<◌, ◌+◌, ◌*◌, ◌^◌, Some, None, arith, refl, sym, ap, ◌∙◌, subst, length-append}
 use Rattle.std.proofs.lemmas.List.{append_assoc, nil_from_length}
 use Rattle.netpbm.specs.Pnm.{Denotes, IsWhole}
 use Rattle.netpbm.specs.Pnm.{magic}
@@ -13,7 +13,6 @@ use Rattle.std.proofs.lemmas.Fmt.{length-decimal-le_succ}
 use Rattle.std.proofs.Math.Nat.{mul-le-mul}
 use Rattle.page_picture.proofs.MeaningLemmas.{greatest_limits}
 use Rattle.page_picture.specs.Shows.{Frame}
-use Rattle.pnm_writer.specs.declared.join_stage.JoinFault.{JoinFault}
 use Rattle.pnm_writer.specs.declared.join_stage.Stage.{Stage}
 use Rattle.pnm_writer.specs.declared.join_stage.Stage.TheVariants.{Idle, Under, Keeping, Between, Whole, WholeColors, Failed}
 use Rattle.pnm_writer.specs.AloneFrame.{lines_in, row_bytes}

@@ -1,6 +1,6 @@
 -- How a stream of rows goes on.
 use Rattle.std.proofs.Common.{◌≡◌, ℕ, zero, suc, ◌<◌, ◌≤◌, ◌+◌, ◌-◌, ◌*◌, ◌/◌, ◌%◌, ◌^◌, inl, inr, Bool, true, false, List, [], ◌∷◌, ◌++◌, length, take, drop, arith, refl, sym, ap, ◌∙◌, subst, append_assoc, length-append}
-use Rattle.std.specs.Prelude.{nat_lt, nat_le, ◌==◌, ◌&&◌, ◌||◌, ◌⊎◌, if◌then◌else◌, Some, slice_index}
+use Rattle.std.specs.Prelude.{nat_lt, nat_le, ◌==◌, ◌||◌, ◌⊎◌, if◌then◌else◌, Some, slice_index}
 use Rattle.std.proofs.lemmas.Bool.{and_parts, cases_lt}
 use Rattle.std.proofs.lemmas.Bool.Decides.{nat_tests}
 use Rattle.std.proofs.lemmas.Nat.{mul-add-lt}
@@ -26,7 +26,11 @@ use Rattle.pnm_writer.specs.AloneFrame.{AloneParts, row_bytes, lines_in, most_li
 use Rattle.pnm_writer.specs.FrameFile.{header_alone, raster_byte, row_front, rows_front, file_front, place_in, trimmed}
 use Rattle.pnm_writer.specs.JoinStages.{is_under, is_whole, is_colors}
 use Rattle.pnm_writer.specs.Joining.{Joining, Goes, Streams}
+<<<<<<< HEAD
 use Rattle.pnm_writer.specs.JoinSteps.{is_ready, is_held}
+=======
+use Rattle.pnm_writer.specs.JoinSteps.{is_ready}
+>>>>>>> 480cdadc1cdcacaf3a86213d6c9c98acf3f8db36
 use Rattle.pnm_writer.proofs.KeptLaws.{ready_row, ready_held}
 use Rattle.pnm_writer.proofs.FrameLaws.{length-row_front, length-rows_front, denotes_front}
 

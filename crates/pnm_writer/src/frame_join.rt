@@ -9,7 +9,9 @@ ghost use Rattle.pnm_writer.specs.JoinStages.{is_under, is_colors};
 ghost use Rattle.pnm_writer.specs.Joining.{Stands, is_starved, IsDrained};
 ghost use Rattle.pnm_writer.specs.JoinSteps.{moves, is_ready, next_sample, may_go, next_byte, after_next, value_fed, under_ended, kept_ended, color_ended, value_ended, first_begun, next_begun, value_begun, accepts_next, answer_at, fresh, keeping};
 
-use crate::alone_frame::{header_alone, is_alone, lines_in, most_lines, place_in, row_size, trimmed};
+use crate::alone_frame::{
+    header_alone, is_alone, lines_in, most_lines, place_in, row_size, trimmed,
+};
 use crate::header::{HEADER_ROOM, put_header};
 use crate::join_stage::{JoinFault, Stage};
 use crate::kept_frame::{
@@ -181,11 +183,8 @@ impl FrameJoin {
         ensures room { is_under self.old.stage ≡ true → length self.old.held + length bytes.now ≤ self.old.params.bytes_per_line + 4096 → is_starved self.new ≡ false }
     {
         match self.stage {
-            Stage::Idle
-            | Stage::Between
-            | Stage::Whole
-            | Stage::WholeColors
-            | Stage::Failed(_) => {}
+            Stage::Idle | Stage::Between | Stage::Whole | Stage::WholeColors | Stage::Failed(_) =>
+                {}
             Stage::Under | Stage::Keeping => {
                 let room = self
                     .rest_size()
@@ -257,11 +256,8 @@ impl FrameJoin {
         match self.stage {
             Stage::Under => self.close_under(),
             Stage::Keeping => self.close_kept(),
-            Stage::Idle
-            | Stage::Between
-            | Stage::Whole
-            | Stage::WholeColors
-            | Stage::Failed(_) => {}
+            Stage::Idle | Stage::Between | Stage::Whole | Stage::WholeColors | Stage::Failed(_) =>
+                {}
         }
     }
 
@@ -294,7 +290,6 @@ impl FrameJoin {
     }
 
     /// Begins a further color, or says why not.
-    #[tactic(auto, using(crate::proofs::KeptLaws::next_is_kept, crate::proofs::KeptLaws::kept_shape, crate::proofs::KeptLaws::kept_lines))]
     fn open_next(&mut self, params: &Params, order: ByteOrder)
         requires { self.old.stage ≡ Between }
         ensures { self.new ≡ next_begun params.now order (is_starved self.new) self.old }
@@ -331,12 +326,12 @@ impl FrameJoin {
         }
     }
 
-    /// A frame begins. A fault comes to stand: `Shape` inside a frame, and for parameters other than those of one
-    /// frame of gray or of red, green and blue with `last_frame`, or of three frames of red, green and blue once each
-    /// in any order, the third alone with `last_frame`, of one width, height, depth and byte order and of known height;
-    /// of 1 to 65,536 pixels and as many lines, depth 8 or 16 (in gray also 1), and lines that have room for their
-    /// pixels and at most 1,048,576 bytes; `NoMem` where a growth is refused. After the whole picture, and after a
-    /// fault, it changes nothing.
+    /// A frame begins. A fault comes to stand: `Shape` inside a frame, and for a frame other than one of gray or of red,
+    /// green and blue with `last_frame`, or three of red, green and blue once each in any order, the third alone with
+    /// `last_frame`, of one width, height, depth and byte order. Of each the depth is 8 or 16 (in gray also 1), the
+    /// pixels of a line are 1 to 65,536, the lines as many, or, where the frame is alone, not known, and a line has room
+    /// for its pixels and at most 1,048,576 bytes. `NoMem` comes to stand where a growth is refused. After the whole
+    /// picture, and after a fault, it changes nothing.
     ///
     /// The first frame reserves room for the header, and for one line and 4,096 bytes where its rows go straight
     /// through.
@@ -347,8 +342,9 @@ impl FrameJoin {
         self.open(alloc, params, order);
     }
 
-    /// Bytes of the frame come. A fault comes to stand: `Long` where they are more than the frame has, `NoMem` where a
-    /// growth is refused. Outside a frame, and after a fault, it changes nothing.
+    /// Bytes of the frame come. A fault comes to stand: `Long` where they are more than the frame has, or than 65,536
+    /// lines have where its lines are not known; `NoMem` where a growth is refused. Outside a frame, and after a fault,
+    /// it changes nothing.
     pub fn feed(&mut self, bytes: &[u8])
         ensures carried { (past : Past) → Stands past self.old → Stands (after_feed bytes.now (is_starved self.new) past) self.new }
         // Where a pull gave nothing before and no frame is kept, a piece of at most 4,096 bytes takes no memory.
@@ -358,7 +354,8 @@ impl FrameJoin {
     }
 
     /// The frame ends. Says whether the picture is whole, or which fault stands; `Short` comes to stand where the frame
-    /// has fewer bytes than was told. Outside a frame, and after a fault, it changes nothing. It takes no memory.
+    /// has fewer bytes than was told, or, where its lines are not known, no line or a part of one. Outside a frame, and
+    /// after a fault, it changes nothing. It takes no memory.
     pub fn end(&mut self) -> Result<bool, JoinFault>
         ensures carried { (past : Past) → Stands past self.old → Stands (after_end past) self.new }
         ensures answer { (past : Past) → Stands past self.old → result ≡ answer_of (after_end past) }
@@ -403,7 +400,6 @@ fn fresh(alloc: Global, params: &Params, order: ByteOrder) -> Result<FrameJoin, 
 }
 
 /// A join in which a frame begins that is kept.
-#[tactic(auto, using(crate::proofs::KeptLaws::kept_shape, crate::proofs::KeptLaws::kept_lines))]
 fn keeping(alloc: Global, params: &Params, order: ByteOrder) -> Result<FrameJoin, AllocError>
     requires { (is_open_ended params.now || is_pass params.now) ≡ true }
     ensures { IfOk result (λ join. join ≡ keeping params.now order) }

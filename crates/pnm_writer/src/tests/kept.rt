@@ -41,155 +41,152 @@ const ORDERS: [[FrameFormat; 3]; 6] = [
     [FrameFormat::Blue, FrameFormat::Green, FrameFormat::Red],
 ];
 
-/// Feeds a frame in pieces, and says what its end answers; nothing goes out before.
-fn take_frame(
+/// The file of the three colors.
+fn file_of_sixteen() -> &'static [u8] {
+    b"P6\n# SANE data follows\n2 1\n65535\n\0\x01\0\x02\0\x03\0\x04\0\x05\x01\0"
+}
+
+/// A frame and its bytes.
+type Sent<'a> = (Params, &'a [u8]);
+
+/// The bytes that go out of a frame that comes in pieces, and what its end answers.
+fn send_frame(
     alloc: Global,
     join: &mut FrameJoin,
-    params: &Params,
+    sent: &Sent,
     order: ByteOrder,
-    payload: &[u8],
     piece: usize,
-) -> Result<bool, Fail>
+) -> Result<(usize, bool), Fail>
     requires { 0 < piece }
 {
     let mut out = PnmOut::new();
     let mut file = Vec::new(alloc);
-    join.begin(alloc, params, order);
-    for bytes in payload.chunks(piece) {
+    join.begin(alloc, &sent.0, order);
+    for bytes in sent.1.chunks(piece) {
         join.feed(bytes);
         pull_all(&mut out, join, &mut file)?;
     }
-    if !file.is_empty() {
-        return Err(Fail::from("a frame that is kept went out"));
+    Ok((file.len(), join.end() == Ok(true)))
+}
+
+/// The file of frames that are kept: nothing goes out before the end of the last, and no other is the last.
+fn file_of_frames(
+    alloc: Global,
+    frames: &[Sent],
+    order: ByteOrder,
+    piece: usize,
+) -> Result<Vec<u8>, Fail>
+    requires { 0 < piece }
+{
+    let mut join = FrameJoin::new(alloc);
+    for (i, sent) in frames.iter().enumerate() {
+        let (early, whole) = send_frame(alloc, &mut join, sent, order, piece)?;
+        if early > 0 || whole != (i + 1 == frames.len()) {
+            return Err(Fail::from("a frame went out early, or the last did not end"));
+        }
     }
-    Ok(join.end()?)
+    let mut file = Vec::new(alloc);
+    pull_all(&mut PnmOut::new(), &mut join, &mut file)?;
+    Ok(file)
 }
 
 #[test]
 fn passes_in_every_order(rt: HostRuntime) -> Result<(), Fail> {
-    for piece in [1, 3, 100] {
-        for colors in ORDERS {
-            let mut join = FrameJoin::new(rt.alloc());
-            for (i, color) in colors.iter().enumerate() {
-                let whole = take_frame(
-                    rt.alloc(),
-                    &mut join,
-                    &pass(*color, i == 2),
-                    ByteOrder::Big,
-                    color_bytes(*color),
-                    piece,
-                )?;
-                assert_eq!(rt; whole, i == 2);
-            }
-            let mut file = Vec::new(rt.alloc());
-            pull_all(&mut PnmOut::new(), &mut join, &mut file)?;
-            assert_eq!(rt;
-                file.as_slice(),
-                b"P6\n# SANE data follows\n2 1\n65535\n\0\x01\0\x02\0\x03\0\x04\0\x05\x01\0".as_slice()
-            );
+    for colors in ORDERS {
+        let [a, b, c] = colors;
+        let frames = [
+            (pass(a, false), color_bytes(a)),
+            (pass(b, false), color_bytes(b)),
+            (pass(c, true), color_bytes(c)),
+        ];
+        for piece in [1, 3, 100] {
+            let file = file_of_frames(rt.alloc(), &frames, ByteOrder::Big, piece)?;
+            assert_eq!(rt; file.as_slice(), file_of_sixteen());
         }
     }
     Ok(())
 }
 
 #[test]
-fn passes_of_eight_bits_and_little_ends(rt: HostRuntime) -> Result<(), Fail> {
-    // Two lines of two pixels; each color has lines of another length.
-    let mut join = FrameJoin::new(rt.alloc());
-    for (format, line, last_frame, payload) in [
-        (FrameFormat::Green, 2, false, b"\x02\x05\x08\x0B".as_slice()),
+fn passes_of_little_ends(rt: HostRuntime) -> Result<(), Fail> {
+    let frames = [
+        (pass(FrameFormat::Red, false), b"\x01\0\x04\0".as_slice()),
+        (pass(FrameFormat::Green, false), b"\x02\0\x05\0".as_slice()),
+        (pass(FrameFormat::Blue, true), b"\x03\0\0\x01".as_slice()),
+    ];
+    let file = file_of_frames(rt.alloc(), &frames, ByteOrder::Little, 4)?;
+    assert_eq!(rt; file.as_slice(), file_of_sixteen());
+    Ok(())
+}
+
+/// One color of two lines of two pixels.
+fn bytes_of(format: FrameFormat, line: u32, last_frame: bool) -> Params {
+    Params {
+        last_frame,
+        ..told(format, 8, line, 2, 2)
+    }
+}
+
+#[test]
+fn passes_with_other_lines(rt: HostRuntime) -> Result<(), Fail> {
+    // Each color has lines of another length.
+    let frames = [
         (
-            FrameFormat::Red,
-            4,
-            false,
+            bytes_of(FrameFormat::Green, 2, false),
+            b"\x02\x05\x08\x0B".as_slice(),
+        ),
+        (
+            bytes_of(FrameFormat::Red, 4, false),
             b"\x01\x04\0\0\x07\x0A\0\0".as_slice(),
         ),
-        (FrameFormat::Blue, 3, true, b"\x03\x06\0\x09\x0C\0".as_slice()),
-    ] {
-        let params = Params {
-            last_frame,
-            ..told(format, 8, line, 2, 2)
-        };
-        let whole = take_frame(rt.alloc(), &mut join, &params, ByteOrder::Big, payload, 2)?;
-        assert_eq!(rt; whole, last_frame);
-    }
-    let mut file = Vec::new(rt.alloc());
-    pull_all(&mut PnmOut::new(), &mut join, &mut file)?;
+        (
+            bytes_of(FrameFormat::Blue, 3, true),
+            b"\x03\x06\0\x09\x0C\0".as_slice(),
+        ),
+    ];
+    let file = file_of_frames(rt.alloc(), &frames, ByteOrder::Big, 2)?;
     assert_eq!(rt;
         file.as_slice(),
         b"P6\n# SANE data follows\n2 2\n255\n\x01\x02\x03\x04\x05\x06\x07\x08\x09\x0A\x0B\x0C".as_slice()
     );
-
-    // The less significant byte first.
-    let mut join = FrameJoin::new(rt.alloc());
-    for (format, last_frame, payload) in [
-        (FrameFormat::Red, false, b"\x01\0\x04\0".as_slice()),
-        (FrameFormat::Green, false, b"\x02\0\x05\0".as_slice()),
-        (FrameFormat::Blue, true, b"\x03\0\0\x01".as_slice()),
-    ] {
-        let params = pass(format, last_frame);
-        take_frame(rt.alloc(), &mut join, &params, ByteOrder::Little, payload, 4)?;
-    }
-    let mut file = Vec::new(rt.alloc());
-    pull_all(&mut PnmOut::new(), &mut join, &mut file)?;
-    assert_eq!(rt;
-        file.as_slice(),
-        b"P6\n# SANE data follows\n2 1\n65535\n\0\x01\0\x02\0\x03\0\x04\0\x05\x01\0".as_slice()
-    );
     Ok(())
+}
+
+/// Ten rows of 324 bits, the first of each black.
+fn black_column(alloc: Global) -> Result<Vec<u8>, Fail> {
+    let mut rows = Vec::new(alloc);
+    for _ in 0..10 {
+        rows.push(0x80)?;
+        for _ in 0..40 {
+            rows.push(0)?;
+        }
+    }
+    Ok(rows)
 }
 
 #[test]
 fn height_told_by_the_end(rt: HostRuntime) -> Result<(), Fail> {
-    // Ten rows of 324 bits, the first of each black.
-    let mut payload = Vec::new(rt.alloc());
-    for _ in 0..10 {
-        payload.push(0x80)?;
-        for _ in 0..40 {
-            payload.push(0)?;
-        }
-    }
-    let page = rolled(1, 41, 324);
+    let rows = black_column(rt.alloc())?;
+    let frames = [(rolled(1, 41, 324), rows.as_slice())];
+    let head = b"P4\n# SANE data follows\n324 10\n".as_slice();
     for piece in [1, 100, 4096] {
-        let mut join = FrameJoin::new(rt.alloc());
-        let whole = take_frame(
-            rt.alloc(),
-            &mut join,
-            &page,
-            ByteOrder::Little,
-            &payload,
-            piece,
-        )?;
-        assert_eq!(rt; whole, true);
-        let mut file = Vec::new(rt.alloc());
-        pull_all(&mut PnmOut::new(), &mut join, &mut file)?;
-        let head = b"P4\n# SANE data follows\n324 10\n".as_slice();
-        assert_eq!(rt; file.len(), head.len() + payload.len());
+        let file = file_of_frames(rt.alloc(), &frames, ByteOrder::Little, piece)?;
+        assert_eq!(rt; file.len(), head.len() + rows.len());
         let (front, raster) = file.as_slice().split_at(file.len().min(head.len()));
         assert_eq!(rt; front, head);
-        assert_eq!(rt; raster, payload.as_slice());
-        // What comes after the whole picture changes nothing.
-        join.begin(rt.alloc(), &page, ByteOrder::Little);
-        join.feed(b"\x01");
-        assert_eq!(rt; join.end(), Ok(true));
+        assert_eq!(rt; raster, rows.as_slice());
     }
+    Ok(())
+}
 
-    // One row of colors.
+#[test]
+fn one_row_of_colors(rt: HostRuntime) -> Result<(), Fail> {
     let colors = Params {
         lines: None,
         ..told(FrameFormat::Rgb, 8, 4, 1, 1)
     };
-    let mut join = FrameJoin::new(rt.alloc());
-    take_frame(
-        rt.alloc(),
-        &mut join,
-        &colors,
-        ByteOrder::Big,
-        b"\x01\x02\x03\0",
-        1,
-    )?;
-    let mut file = Vec::new(rt.alloc());
-    pull_all(&mut PnmOut::new(), &mut join, &mut file)?;
+    let frames = [(colors, b"\x01\x02\x03\0".as_slice())];
+    let file = file_of_frames(rt.alloc(), &frames, ByteOrder::Big, 1)?;
     assert_eq!(rt;
         file.as_slice(),
         b"P6\n# SANE data follows\n1 1\n255\n\x01\x02\x03".as_slice()
@@ -198,39 +195,60 @@ fn height_told_by_the_end(rt: HostRuntime) -> Result<(), Fail> {
 }
 
 #[test]
-fn unknown_heights_refused(rt: HostRuntime) -> Result<(), Fail> {
+fn nothing_follows_a_whole_picture(rt: HostRuntime) {
+    let mut join = FrameJoin::new(rt.alloc());
+    join.begin(rt.alloc(), &rolled(8, 1, 1), ByteOrder::Big);
+    join.feed(b"\x01");
+    assert_eq!(rt; join.end(), Ok(true));
+    join.begin(rt.alloc(), &rolled(8, 1, 1), ByteOrder::Big);
+    join.feed(b"\x01");
+    assert_eq!(rt; join.end(), Ok(true));
+}
+
+#[test]
+fn no_whole_line(rt: HostRuntime) {
     // No line at all, a part of a line, a line and a part of one.
-    for payload in [b"".as_slice(), b"\x01".as_slice(), b"\x01\x02\x03".as_slice()] {
+    for payload in [
+        b"".as_slice(),
+        b"\x01".as_slice(),
+        b"\x01\x02\x03".as_slice(),
+    ] {
         let mut join = FrameJoin::new(rt.alloc());
         join.begin(rt.alloc(), &rolled(8, 2, 2), ByteOrder::Big);
         join.feed(payload);
-        assert_eq!(rt; join.fault(), None);
         assert_eq!(rt; join.end(), Err(JoinFault::Short));
         assert_eq!(rt; join.fault(), Some(JoinFault::Short));
     }
-    // 65,536 rows, and one more.
-    let row = [7u8; 4096];
-    let mut join = FrameJoin::new(rt.alloc());
-    join.begin(rt.alloc(), &rolled(8, 1, 1), ByteOrder::Big);
+}
+
+/// A join with 65,536 rows of one byte in a frame whose height is not known.
+fn many_rows(alloc: Global) -> FrameJoin {
+    let mut join = FrameJoin::new(alloc);
+    join.begin(alloc, &rolled(8, 1, 1), ByteOrder::Big);
     for _ in 0..16 {
-        join.feed(&row);
+        join.feed(&[7u8; 4096]);
     }
-    assert_eq!(rt; join.fault(), None);
-    join.feed(b"\x07");
-    assert_eq!(rt; join.fault(), Some(JoinFault::Long));
-    assert_eq!(rt; join.end(), Err(JoinFault::Long));
-    let mut join = FrameJoin::new(rt.alloc());
-    join.begin(rt.alloc(), &rolled(8, 1, 1), ByteOrder::Big);
-    for _ in 0..16 {
-        join.feed(&row);
-    }
+    join
+}
+
+#[test]
+fn most_rows(rt: HostRuntime) {
+    let mut join = many_rows(rt.alloc());
     assert_eq!(rt; join.end(), Ok(true));
     let mut buf = [0u8; 64];
     let n = PnmOut::new().pull(&mut join, &mut buf);
     assert_eq!(rt; n, 64);
     let head = b"P5\n# SANE data follows\n1 65536\n255\n\x07".as_slice();
     assert_eq!(rt; buf.as_slice().starts_with(head), true);
-    Ok(())
+}
+
+#[test]
+fn too_many_rows(rt: HostRuntime) {
+    let mut join = many_rows(rt.alloc());
+    assert_eq!(rt; join.fault(), None);
+    join.feed(b"\x07");
+    assert_eq!(rt; join.fault(), Some(JoinFault::Long));
+    assert_eq!(rt; join.end(), Err(JoinFault::Long));
 }
 
 /// Two frames of colors, and what stands after the second begins.
@@ -304,25 +322,34 @@ fn shapes_of_passes(rt: HostRuntime) {
     }
 }
 
+/// What stands after a third color begins.
+fn third_fault(alloc: Global, third: &Params) -> Option<JoinFault> {
+    let mut join = FrameJoin::new(alloc);
+    for color in [FrameFormat::Red, FrameFormat::Green] {
+        join.begin(alloc, &pass(color, false), ByteOrder::Big);
+        join.feed(color_bytes(color));
+        let _ = join.end();
+    }
+    join.begin(alloc, third, ByteOrder::Big);
+    join.fault()
+}
+
 #[test]
 fn third_of_three(rt: HostRuntime) {
-    for (third, fault) in [
-        (pass(FrameFormat::Blue, true), None),
-        (pass(FrameFormat::Blue, false), Some(JoinFault::Shape)),
-        (pass(FrameFormat::Green, true), Some(JoinFault::Shape)),
-        (pass(FrameFormat::Red, true), Some(JoinFault::Shape)),
-        (pass(FrameFormat::Gray, true), Some(JoinFault::Shape)),
+    for (format, last_frame, fault) in [
+        (FrameFormat::Blue, true, None),
+        (FrameFormat::Blue, false, Some(JoinFault::Shape)),
+        (FrameFormat::Green, true, Some(JoinFault::Shape)),
+        (FrameFormat::Red, true, Some(JoinFault::Shape)),
+        (FrameFormat::Gray, true, Some(JoinFault::Shape)),
     ] {
-        let mut join = FrameJoin::new(rt.alloc());
-        for color in [FrameFormat::Red, FrameFormat::Green] {
-            join.begin(rt.alloc(), &pass(color, false), ByteOrder::Big);
-            join.feed(color_bytes(color));
-            assert_eq!(rt; join.end(), Ok(false));
-        }
-        join.begin(rt.alloc(), &third, ByteOrder::Big);
-        assert_eq!(rt; join.fault(), fault);
+        let third = pass(format, last_frame);
+        assert_eq!(rt; third_fault(rt.alloc(), &third), fault);
     }
-    // A color that is too short, or too long, or begun twice.
+}
+
+#[test]
+fn colors_cut_or_too_long(rt: HostRuntime) {
     for (payload, fault) in [
         (b"\0\x01\0".as_slice(), JoinFault::Short),
         (b"\0\x01\0\x04\0".as_slice(), JoinFault::Long),
@@ -332,6 +359,7 @@ fn third_of_three(rt: HostRuntime) {
         join.feed(payload);
         assert_eq!(rt; join.end(), Err(fault));
     }
+    // A color inside a color.
     let mut join = FrameJoin::new(rt.alloc());
     join.begin(rt.alloc(), &pass(FrameFormat::Red, false), ByteOrder::Big);
     join.begin(rt.alloc(), &pass(FrameFormat::Green, false), ByteOrder::Big);
