@@ -1,9 +1,5 @@
 -- Frames that show a picture pass the tests on their parameters.
-<<<<<<< HEAD
-use Rattle.std.proofs.Common.{◌≡◌, ℕ, Bool, ◌≤◌, ◌⊎◌, inl, inr, true, false, not, List, [], ◌∷◌, arith, refl, sym, ap, ◌∙◌}
-=======
 use Rattle.std.proofs.Common.{◌≡◌, ℕ, Bool, ◌≤◌, ◌⊎◌, inl, inr, true, false, not, [], ◌∷◌, arith, refl, sym, ap, ◌∙◌}
->>>>>>> 480cdadc1cdcacaf3a86213d6c9c98acf3f8db36
 use Rattle.std.specs.Prelude.{◌==◌, ◌&&◌, ◌||◌, if◌then◌else◌, nat_le, Option, Some, None}
 use Rattle.sane_fixed.specs.declared.params.Params.{Params}
 use Rattle.sane_fixed.specs.declared.byte_order.ByteOrder.{ByteOrder}
@@ -12,11 +8,7 @@ use Rattle.sane_fixed.specs.declared.frame_format.FrameFormat.{FrameFormat}
 use Rattle.sane_fixed.specs.declared.frame_format.FrameFormat.TheVariants.{Gray, Rgb, Red, Green, Blue}
 use Rattle.netpbm.specs.Picture.{Picture}
 use Rattle.page_picture.specs.Meaning.{greatest_at}
-<<<<<<< HEAD
-use Rattle.page_picture.specs.Shows.{Frame, ShowsAlone, ShowsColor, ShowsColors, FitsPicture, HasLines, HasLineShape, IsDepth, channels_alone, color_of, row_size}
-=======
 use Rattle.page_picture.specs.Shows.{Frame, ShowsAlone, ShowsColor, ShowsColors, HasLines, HasLineShape, IsDepth, channels_alone, color_of, row_size}
->>>>>>> 480cdadc1cdcacaf3a86213d6c9c98acf3f8db36
 use Rattle.pnm_writer.specs.AloneFrame.{is_alone, is_alone_format, is_known, is_depth, is_side, is_shaped, lines_in, AloneParts}
 use Rattle.pnm_writer.specs.KeptFrame.{is_unknown, is_open_ended, is_pass, is_pass_that, color_number, is_alike, same_order, goes_with}
 use Rattle.pnm_writer.specs.FrameHistory.{is_accepted}

@@ -1,11 +1,6 @@
 -- Frames of one color each, one after another, and what is kept of them.
-<<<<<<< HEAD
-use Rattle.std.proofs.Common.{◌≡◌, ℕ, ◌<◌, ◌≤◌, ◌+◌, ◌*◌, ◌⊎◌, inl, inr, Bool, true, false, not, List, [], ◌∷◌, ◌++◌, length, arith, refl, sym, ap, ◌∙◌, subst}
-use Rattle.std.specs.Prelude.{nat_lt, ◌==◌, ◌&&◌, ◌||◌, if◌then◌else◌, Option, Some, None, slice_index}
-=======
 use Rattle.std.proofs.Common.{◌≡◌, ℕ, ◌≤◌, Bool, true, false, not, List, [], ◌∷◌, ◌++◌, arith, refl, sym, ap, ◌∙◌}
 use Rattle.std.specs.Prelude.{◌==◌, ◌&&◌, ◌||◌, if◌then◌else◌}
->>>>>>> 480cdadc1cdcacaf3a86213d6c9c98acf3f8db36
 use Rattle.std.proofs.lemmas.Bool.{and_parts}
 use Rattle.sane_fixed.specs.declared.params.Params.{Params}
 use Rattle.sane_fixed.specs.declared.byte_order.ByteOrder.{ByteOrder}
@@ -16,19 +11,11 @@ use Rattle.page_picture.specs.Shows.{Frame}
 use Rattle.pnm_writer.specs.AloneFrame.{is_alone_format, is_alone, is_known, is_shaped, lines_in}
 use Rattle.pnm_writer.specs.KeptFrame.{color_number, is_unknown, is_open_ended, is_pass, is_pass_that, is_alike, same_order, goes_with}
 use Rattle.pnm_writer.specs.ColorPlanes.{Plane, Planes, no_plane, plane_in, plane_of, planes_of, nth_plane}
-<<<<<<< HEAD
-use Rattle.pnm_writer.specs.FrameHistory.{is_accepted, is_full}
-use Rattle.pnm_writer.specs.Joining.{Joining, IsColor, AreColors, IsPart}
-use Rattle.pnm_writer.specs.JoinSteps.{put_plane, is_there, has_two, accepts_next}
-use Rattle.pnm_writer.proofs.TestLemmas.{lt_true, eq_true, eq_from, eq_false, not_eq_from, or_false, or_other, not_true}
-use Rattle.pnm_writer.proofs.KeptLaws.{PassParts, pass_parts, pass_that_is_pass}
-=======
 use Rattle.pnm_writer.specs.FrameHistory.{is_accepted}
 use Rattle.pnm_writer.specs.Joining.{Joining, IsColor}
 use Rattle.pnm_writer.specs.JoinSteps.{put_plane, is_there, has_two, accepts_next}
 use Rattle.pnm_writer.proofs.TestLemmas.{lt_true, eq_true, eq_from, or_false, or_other, not_true}
 use Rattle.pnm_writer.proofs.KeptLaws.{pass_parts}
->>>>>>> 480cdadc1cdcacaf3a86213d6c9c98acf3f8db36
 
 -- ---- the planes of frames, one more
 

@@ -1,12 +1,6 @@
 -- What an end answers, and what whole frames show.
-<<<<<<< HEAD
-use Rattle.std.proofs.Common.{◌≡◌, ℕ, ◌<◌, ◌≤◌, ◌+◌, ◌*◌, ◌⊎◌, inl, inr, Bool, true, false, List, [], ◌∷◌, ◌++◌, length, arith, refl, sym, ap, ◌∙◌, subst}
-use Rattle.std.specs.Prelude.{nat_lt, ◌↔◌, if◌then◌else◌, Option, Some, None, Ok, Err, slice_index}
-use Rattle.std.proofs.lemmas.List.{append-nil}
-=======
 use Rattle.std.proofs.Common.{◌≡◌, ℕ, ◌<◌, ◌+◌, ◌*◌, ◌⊎◌, inl, inr, Bool, true, false, List, [], ◌∷◌, ◌++◌, length, arith, refl, sym, ap, ◌∙◌, subst}
 use Rattle.std.specs.Prelude.{nat_lt, ◌↔◌, if◌then◌else◌, Option, Some, None, Ok, Err, slice_index}
->>>>>>> 480cdadc1cdcacaf3a86213d6c9c98acf3f8db36
 use Rattle.netpbm.specs.Picture.{Picture}
 use Rattle.netpbm.specs.Pnm.{Denotes, IsWhole}
 use Rattle.sane_fixed.specs.declared.frame_format.FrameFormat.{FrameFormat}
@@ -23,22 +17,13 @@ use Rattle.pnm_writer.specs.ColorPlanes.{planes_of, side_by_side}
 use Rattle.pnm_writer.specs.FrameHistory.{Past, after_feed, after_end, fed, closed, is_full, is_joined, is_accepted, frames_of, answer_by, with_last, answer_of, IsJoined}
 use Rattle.pnm_writer.specs.FrameFile.{file_front, file_of, AllGone, settled, height_of}
 use Rattle.pnm_writer.specs.JoinStages.{fault_in, is_under}
-<<<<<<< HEAD
-use Rattle.pnm_writer.specs.Joining.{Joining, Stands, IsColor, AreColors, IsPart, HasColors, Streams}
-=======
 use Rattle.pnm_writer.specs.Joining.{Joining, Stands, AreColors, IsPart}
->>>>>>> 480cdadc1cdcacaf3a86213d6c9c98acf3f8db36
 use Rattle.pnm_writer.specs.JoinSteps.{value_ended, answer_at}
 use Rattle.pnm_writer.proofs.AcceptLaws.{alone_is}
 use Rattle.pnm_writer.proofs.FrameLaws.{denotes_shown}
 use Rattle.pnm_writer.proofs.StreamLaws.{grown, goes_is_not_whole, nothing_is_not_whole, frame_picture, frame_sample_small, alone_channels}
-<<<<<<< HEAD
-use Rattle.pnm_writer.proofs.KeptLaws.{open_parts, pass_parts, PassParts}
-use Rattle.pnm_writer.proofs.SideLaws.{three_parts, all_alone, side_shows, colors_show}
-=======
 use Rattle.pnm_writer.proofs.KeptLaws.{open_parts, pass_parts}
 use Rattle.pnm_writer.proofs.SideLaws.{three_parts, side_shows, colors_show}
->>>>>>> 480cdadc1cdcacaf3a86213d6c9c98acf3f8db36
 use Rattle.pnm_writer.proofs.HeightLaws.{shown_full, color_full, settled_shows, unsettled_shows}
 use Rattle.pnm_writer.proofs.JoinLaws.{at_stage, fault_at, end_none, end_under, end_carries, past_fed, past_ended, part_parts, kept_sort}
 

@@ -1,28 +1,15 @@
 -- A frame told of the height that its bytes make.
-<<<<<<< HEAD
-use Rattle.std.proofs.Common.{◌≡◌, ℕ, zero, suc, ◌<◌, ◌≤◌, ◌+◌, ◌*◌, ◌/◌, Bool, true, false, length, arith, refl, sym, ap, ◌∙◌, subst}
-use Rattle.std.specs.Prelude.{nat_le, ◌==◌, ◌&&◌, Option, Some, None, slice_index}
-=======
 use Rattle.std.proofs.Common.{◌≡◌, ℕ, ◌≤◌, ◌*◌, ◌/◌, true, length, arith, refl, sym, ap, ◌∙◌, subst}
 use Rattle.std.specs.Prelude.{nat_le, ◌==◌, Option, Some, None}
->>>>>>> 480cdadc1cdcacaf3a86213d6c9c98acf3f8db36
 use Rattle.std.proofs.lemmas.Bool.{and_parts}
 use Rattle.std.proofs.Math.Nat.{mul-div_cancel}
 use Rattle.netpbm.specs.Picture.{Picture}
 use Rattle.sane_fixed.specs.declared.params.Params.{Params}
 use Rattle.page_picture.specs.Shows.{Frame, HasLines, ShowsAlone}
-<<<<<<< HEAD
-use Rattle.pnm_writer.specs.AloneFrame.{lines_in, is_side, most_lines, most_bytes, ShapeParts, AloneParts}
-use Rattle.pnm_writer.specs.FrameHistory.{is_full, is_full_at}
-use Rattle.pnm_writer.specs.FrameFile.{height_at, height_of, settled}
-use Rattle.pnm_writer.proofs.TestLemmas.{eq_true, eq_from, le_true, le_from, and_true}
-use Rattle.pnm_writer.proofs.FrameLaws.{known_height}
-=======
 use Rattle.pnm_writer.specs.AloneFrame.{lines_in, is_side, ShapeParts, AloneParts}
 use Rattle.pnm_writer.specs.FrameHistory.{is_full, is_full_at}
 use Rattle.pnm_writer.specs.FrameFile.{height_at, height_of, settled}
 use Rattle.pnm_writer.proofs.TestLemmas.{eq_true, eq_from, le_true, le_from, and_true}
->>>>>>> 480cdadc1cdcacaf3a86213d6c9c98acf3f8db36
 use Rattle.pnm_writer.proofs.KeptLaws.{OpenParts}
 
 -- ---- the height that is known

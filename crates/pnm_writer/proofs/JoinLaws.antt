@@ -1,14 +1,7 @@
 -- How a join carries on what it was told.
-<<<<<<< HEAD
-use Rattle.std.proofs.Common.{◌≡◌, ℕ, zero, suc, ◌<◌, ◌≤◌, ◌+◌, ◌-◌, ◌*◌, ◌/◌, ◌⊎◌, inl, inr, Bool, true, false, not, List, [], ◌∷◌, ◌++◌, length, take, drop, length-append, arith, refl, sym, ap, ◌∙◌, subst}
-use Rattle.std.specs.Prelude.{nat_lt, ◌==◌, ◌&&◌, ◌||◌, ◌↔◌, if◌then◌else◌, Option, Some, None, Ok, Err, slice_index}
-use Rattle.std.proofs.lemmas.Bool.{and_parts, cases_lt}
-use Rattle.std.proofs.lemmas.List.{append-nil}
-=======
 use Rattle.std.proofs.Common.{◌≡◌, ℕ, ◌<◌, ◌≤◌, ◌+◌, ◌-◌, ◌*◌, ◌/◌, ◌⊎◌, inl, inr, Bool, true, false, not, List, [], ◌∷◌, ◌++◌, length, take, drop, length-append, arith, refl, sym, ap, ◌∙◌, subst}
 use Rattle.std.specs.Prelude.{nat_lt, ◌==◌, ◌&&◌, ◌||◌, if◌then◌else◌, Option, Some, None, slice_index}
 use Rattle.std.proofs.lemmas.Bool.{and_parts, cases_lt}
->>>>>>> 480cdadc1cdcacaf3a86213d6c9c98acf3f8db36
 use Rattle.std.proofs.Math.Nat.{mul-sub}
 use Rattle.std.proofs.Math.Seq.{drop-nil}
 use Rattle.netpbm.specs.Pnm.{IsWhole}
@@ -22,15 +15,6 @@ use Rattle.pnm_writer.specs.declared.join_stage.Stage.TheVariants.{Idle, Under, 
 use Rattle.page_picture.specs.Shows.{Frame}
 use Rattle.pnm_writer.specs.AloneFrame.{AloneParts, most_lines, most_bytes, is_alone, row_bytes}
 use Rattle.pnm_writer.specs.KeptFrame.{is_unknown, is_open_ended, is_pass, is_pass_that, color_number, goes_with}
-<<<<<<< HEAD
-use Rattle.pnm_writer.specs.ColorPlanes.{Plane, Planes, plane_in, plane_of, planes_of, nth_plane, all_colors, side_by_side}
-use Rattle.pnm_writer.specs.FrameHistory.{Past, after_begin, after_feed, after_end, begun, fed, closed, failed, is_full, is_full_at, is_joined, is_accepted}
-use Rattle.pnm_writer.specs.FrameFile.{header_alone, rows_front, row_front, settled, height_of}
-use Rattle.pnm_writer.specs.JoinStages.{fault_in, is_under, is_keeping}
-use Rattle.pnm_writer.specs.Joining.{Joining, Stands, StandsAt, Goes, Streams, IsSilent, Keeps, WaitsFor, HasColors, IsPart, IsColor, AreColors}
-use Rattle.pnm_writer.specs.JoinSteps.{value_fed, value_ended, value_ended_at, under_ended, kept_ended, height_told, color_put, color_ended, headed_by, put_plane, value_begun, value_begun_at, first_begun, next_begun, accepts_next, fresh, keeping}
-use Rattle.pnm_writer.proofs.TestLemmas.{lt_true, lt_false, not_lt_from, eq_from, same_test, or_cases, or_other}
-=======
 use Rattle.pnm_writer.specs.ColorPlanes.{Plane, Planes, plane_in, planes_of, nth_plane, all_colors, side_by_side}
 use Rattle.pnm_writer.specs.FrameHistory.{Past, after_begin, after_feed, after_end, begun, fed, closed, failed, is_full, is_full_at, is_joined, is_accepted}
 use Rattle.pnm_writer.specs.FrameFile.{header_alone, rows_front, row_front, settled}
@@ -38,7 +22,6 @@ use Rattle.pnm_writer.specs.JoinStages.{fault_in, is_under, is_keeping}
 use Rattle.pnm_writer.specs.Joining.{Joining, Stands, StandsAt, Goes, Streams, IsSilent, Keeps, IsPart, IsColor, AreColors}
 use Rattle.pnm_writer.specs.JoinSteps.{value_fed, value_ended, value_ended_at, kept_ended, height_told, color_put, color_ended, headed_by, put_plane, value_begun, value_begun_at, accepts_next, fresh, keeping}
 use Rattle.pnm_writer.proofs.TestLemmas.{lt_true, lt_false, not_lt_from, same_test, or_cases, or_other}
->>>>>>> 480cdadc1cdcacaf3a86213d6c9c98acf3f8db36
 use Rattle.pnm_writer.proofs.FrameLaws.{alone_parts}
 use Rattle.pnm_writer.proofs.StreamLaws.{grown, held_length, bytes_come, small_append, goes_is_not_whole, nothing_is_not_whole, row_front-zero, rows_front-zero}
 use Rattle.pnm_writer.proofs.KeptLaws.{open_parts, OpenParts, pass_parts, pass_that_is_pass}
@@ -149,20 +132,6 @@ kept_fed true starved f bytes past v at fault k small room = failed_stands past 
 kept_fed false true f bytes past v at fault k small room = failed_stands past v NoMem (silent_not_whole past.given v k.silent)
 kept_fed false false f bytes past v at fault k small room = record {
   fault = fault ∙ sym (ap fault_in at);
-<<<<<<< HEAD
-  at_stage = subst (λ (t : Stage). StandsAt t (record past { under = Some (grown f bytes) }) (record v { held = v.held ++ bytes })) (sym at) (grown f bytes, refl, record {
-    accepted = k.accepted;
-    kept = k.kept;
-    colors = k.colors;
-    planes = k.planes;
-    params = k.params;
-    order = k.order;
-    held = ap (λ (l : List ℕ). l ++ bytes) k.held;
-    bytes = small_append f.payload bytes k.bytes small;
-    most = omega (arith, length-append f.payload bytes, room refl);
-    silent = record { given_is = k.silent.given_is; head = k.silent.head; headed = k.silent.headed; row = k.silent.row; column = k.silent.column };
-  });
-=======
   at_stage = subst (λ (t : Stage). StandsAt t (record past { under = Some (grown f bytes) }) (record v { held = v.held ++ bytes })) (sym at) (
     grown f bytes,
     refl,
@@ -179,7 +148,6 @@ kept_fed false false f bytes past v at fault k small room = record {
       silent = record { given_is = k.silent.given_is; head = k.silent.head; headed = k.silent.headed; row = k.silent.row; column = k.silent.column };
     },
   );
->>>>>>> 480cdadc1cdcacaf3a86213d6c9c98acf3f8db36
 }
 
 pub feed_carries : (bytes : List ℕ) (starved : Bool) (past : Past) (v : Joining) → ((i : ℕ) → slice_index bytes i < 256) → Stands past v → Stands (after_feed bytes starved past) (value_fed bytes starved v)
@@ -328,17 +296,6 @@ height_ended f past v fault ended k parts full =
     let none = no_rows v f.params.bytes_per_line k.silent.row in
     record {
       fault = fault;
-<<<<<<< HEAD
-      at_stage = (f, ap (λ (l : List Frame). l ++ f ∷ []) ended, refl, size, record {
-        goes = begins (settled f) past.given (height_told v) (settled_alone f parts full) k.bytes told k.order head k.silent.given_is k.silent.headed k.silent.row k.silent.column;
-        most = omega (arith, size);
-        reach = omega (arith, none);
-        held = k.held ∙ sym (drop_none (v.row * f.params.bytes_per_line) f.payload none);
-        line_begun = λ h. absurd (omega (arith, h, k.silent.column));
-        line_may_go = λ _ e. absurd (let x : false ≡ true = e in cc);
-        last_row_waits = λ e. absurd (let x : false ≡ true = e in cc);
-      });
-=======
       at_stage = (
         f,
         ap (λ (l : List Frame). l ++ f ∷ []) ended,
@@ -354,7 +311,6 @@ height_ended f past v fault ended k parts full =
           last_row_waits = λ e. absurd (let x : false ≡ true = e in cc);
         },
       );
->>>>>>> 480cdadc1cdcacaf3a86213d6c9c98acf3f8db36
     }
 
 -- ---- a color ends
@@ -382,15 +338,6 @@ waits_on frames f past v fault ended k pass none flag colors part =
     let same : color_ended v ≡ color_put v = ap (λ (t : Bool). if t then headed_by (all_colors v.params) (record (color_put v) { stage = WholeColors }) else color_put v) more in
     subst (λ (w : Joining). Stands (record past { ended = frames ++ f ∷ []; under = None }) w) (sym same) (record {
       fault = fault;
-<<<<<<< HEAD
-      at_stage = (refl, record {
-        part = part k.params k.order;
-        colors = colors;
-        planes = planes_after frames f past v ended k pass none;
-        held = held_after frames f past v ended k pass none;
-        silent = record { given_is = k.silent.given_is; head = k.silent.head; headed = k.silent.headed; row = k.silent.row; column = k.silent.column };
-      });
-=======
       at_stage = (
         refl,
         record {
@@ -401,7 +348,6 @@ waits_on frames f past v fault ended k pass none flag colors part =
           silent = record { given_is = k.silent.given_is; head = k.silent.head; headed = k.silent.headed; row = k.silent.row; column = k.silent.column };
         },
       );
->>>>>>> 480cdadc1cdcacaf3a86213d6c9c98acf3f8db36
     })
 
 colors_whole : (a b f : Frame) (past : Past) (v : Joining) → past.fault ≡ None → past.ended ≡ a ∷ b ∷ [] → Keeps f past v → is_pass f.params ≡ true → has_color (color_number f.params.format) (a ∷ b ∷ []) ≡ false → f.params.last_frame ≡ true → AreColors (a ∷ b ∷ f ∷ []) → Stands (record past { ended = a ∷ b ∷ f ∷ []; under = None }) (color_ended v)
@@ -414,13 +360,6 @@ colors_whole a b f past v fault ended k pass none flag colors =
     let head : v.head ++ header_text (header_alone (all_colors v.params)) ≡ header_text (header_alone (all_colors f.params)) = ap (λ (l : List ℕ). l ++ header_text (header_alone (all_colors v.params))) k.silent.head ∙ ap (λ (p : Params). header_text (header_alone (all_colors p))) k.params in
     subst (λ (w : Joining). Stands (record past { ended = a ∷ b ∷ f ∷ []; under = None }) w) (sym same) (record {
       fault = fault;
-<<<<<<< HEAD
-      at_stage = (a, b, f, refl, refl, record {
-        colors = colors;
-        planes = planes_after (a ∷ b ∷ []) f past v ended k pass none;
-        goes = begins (side_by_side f planes) past.given w (all_alone f.params three.third.pass) (side_small planes f.params.depth (row_bytes (all_colors f.params)) _ three.small) (ap all_colors k.params) k.order head k.silent.given_is k.silent.headed k.silent.row k.silent.column;
-      });
-=======
       at_stage = (
         a,
         b,
@@ -433,7 +372,6 @@ colors_whole a b f past v fault ended k pass none flag colors =
           goes = begins (side_by_side f planes) past.given w (all_alone f.params three.third.pass) (side_small planes f.params.depth (row_bytes (all_colors f.params)) _ three.small) (ap all_colors k.params) k.order head k.silent.given_is k.silent.headed k.silent.row k.silent.column;
         },
       );
->>>>>>> 480cdadc1cdcacaf3a86213d6c9c98acf3f8db36
     })
 
 color_kept : (f : Frame) (past : Past) (v : Joining) → past.fault ≡ None → Keeps f past v → is_pass f.params ≡ true → is_full f ≡ true → Stands (record past { ended = past.ended ++ f ∷ []; under = None }) (color_ended v)

@@ -1,11 +1,6 @@
 -- What the tests on frames that are kept say.
-<<<<<<< HEAD
-use Rattle.std.proofs.Common.{◌≡◌, ℕ, ◌<◌, ◌≤◌, ◌*◌, ◌/◌, ◌⊎◌, ◌+◌, length, inl, inr, Bool, true, false, not, arith, refl, sym, ap, ◌∙◌}
-use Rattle.std.specs.Prelude.{nat_le, nat_lt, ◌==◌, ◌&&◌, ◌||◌, if◌then◌else◌, Option, Some, None}
-=======
 use Rattle.std.proofs.Common.{◌≡◌, ℕ, ◌<◌, ◌≤◌, ◌⊎◌, ◌+◌, length, inl, inr, Bool, true, false, not, arith, refl, sym, ap, ◌∙◌}
 use Rattle.std.specs.Prelude.{nat_le, nat_lt, ◌&&◌, ◌||◌, if◌then◌else◌, Option, Some, None}
->>>>>>> 480cdadc1cdcacaf3a86213d6c9c98acf3f8db36
 use Rattle.std.proofs.lemmas.Bool.{and_parts}
 use Rattle.sane_fixed.specs.declared.params.Params.{Params}
 use Rattle.sane_fixed.specs.declared.frame_format.FrameFormat.{FrameFormat}
@@ -80,22 +75,6 @@ first_is_kept p h = elim (or_cases (is_open_ended p) (is_pass_that false p) h) [
 pub next_is_kept : (last : Bool) (p : Params) → is_pass_that last p ≡ true → (is_open_ended p || is_pass p) ≡ true
 next_is_kept last p h = or_right (is_open_ended p) (is_pass p) (pass_that_is_pass last p h)
 
-<<<<<<< HEAD
-no_pass : (p : Params) → p.lines ≡ None → is_pass p ≡ true → ⊥
-no_pass p none pass = let clash : None ≡ Some (lines_in p.lines) = sym none ∙ (pass_parts p pass).lines_known in cc
-
-no_open : (p : Params) → is_unknown p.lines ≡ false → is_open_ended p ≡ true → ⊥
-no_open p known rolled = let clash : true ≡ false = sym (ap is_unknown (open_parts p rolled).lines) ∙ known in cc
-
--- a kept frame of known height is one color
-pub kept_pass : (p : Params) → (is_open_ended p || is_pass p) ≡ true → is_unknown p.lines ≡ false → is_pass p ≡ true
-kept_pass p h known = elim (or_cases (is_open_ended p) (is_pass p) h) [
-  | inl rolled ↦ absurd (no_open p known rolled)
-  | inr pass ↦ pass
-]
-
-=======
->>>>>>> 480cdadc1cdcacaf3a86213d6c9c98acf3f8db36
 -- a color has no bits
 one_is_gray : (g : FrameFormat) → is_alone_format g ≡ false → g ≡ Gray → ⊥
 one_is_gray Gray a b = cc
@@ -110,12 +89,6 @@ pass_depth p parts = elim parts.shape.depths [
   | inr more ↦ more
 ]
 
-<<<<<<< HEAD
-pub pass_deep : (p : Params) → is_pass p ≡ true → 8 ≤ p.depth
-pass_deep p pass = omega (arith, pass_depth p (pass_parts p pass))
-
-=======
->>>>>>> 480cdadc1cdcacaf3a86213d6c9c98acf3f8db36
 -- while frames are collected nothing moves
 pub collecting_rests : (s : Stage) → moves s ≡ true → (is_keeping s || is_between s) ≡ true → ⊥
 collecting_rests Idle a b = cc

@@ -1,9 +1,5 @@
 -- How the bytes of a file go out of a join.
-<<<<<<< HEAD
-use Rattle.std.proofs.Common.{◌≡◌, ℕ, zero, suc, ◌<◌, ◌≤◌, ◌+◌, ◌-◌, ◌*◌, ◌/◌, ◌⊎◌, inl, inr, Bool, true, false, not, List, [], ◌∷◌, ◌++◌, length, take, drop, set, arith, refl, sym, ap, ◌∙◌, subst, append_assoc}
-=======
 use Rattle.std.proofs.Common.{◌≡◌, ℕ, zero, suc, ◌<◌, ◌≤◌, ◌+◌, ◌*◌, ◌/◌, ◌⊎◌, inl, inr, Bool, true, false, List, [], ◌∷◌, ◌++◌, length, take, drop, set, arith, refl, sym, ap, ◌∙◌, subst, append_assoc}
->>>>>>> 480cdadc1cdcacaf3a86213d6c9c98acf3f8db36
 use Rattle.std.specs.Prelude.{nat_lt, nat_le, ◌==◌, ◌&&◌, ◌||◌, if◌then◌else◌, Option, Some, None, slice_index}
 use Rattle.std.proofs.lemmas.Bool.{and_parts, cases_lt}
 use Rattle.std.proofs.lemmas.List.{append-nil, take_all, take_more_set, drop-drop, drop-set-lt}
@@ -11,35 +7,20 @@ use Rattle.std.proofs.Math.Nat.{lt-div-mul-add, div-mul-le_self, lt_of_mul-lt-mu
 use Rattle.netpbm.specs.FileText.{header_text}
 use Rattle.sane_fixed.specs.declared.byte_order.ByteOrder.{ByteOrder}
 use Rattle.sane_fixed.specs.declared.params.Params.{Params}
-<<<<<<< HEAD
-use Rattle.pnm_writer.specs.declared.join_stage.JoinFault.{JoinFault}
-use Rattle.pnm_writer.specs.declared.join_stage.Stage.{Stage}
-use Rattle.pnm_writer.specs.declared.join_stage.Stage.TheVariants.{Idle, Under, Keeping, Between, Whole, WholeColors, Failed}
-use Rattle.page_picture.specs.Shows.{Frame}
-use Rattle.pnm_writer.specs.AloneFrame.{is_alone, is_alone_format, lines_in, most_lines, most_bytes, row_bytes}
-=======
 use Rattle.pnm_writer.specs.declared.join_stage.Stage.{Stage}
 use Rattle.pnm_writer.specs.declared.join_stage.Stage.TheVariants.{Idle, Under, Keeping, Between, Whole, WholeColors, Failed}
 use Rattle.page_picture.specs.Shows.{Frame}
 use Rattle.pnm_writer.specs.AloneFrame.{is_alone, lines_in, most_lines, most_bytes, row_bytes}
->>>>>>> 480cdadc1cdcacaf3a86213d6c9c98acf3f8db36
 use Rattle.pnm_writer.specs.ColorPlanes.{Planes, planes_of, side_by_side, side_byte}
 use Rattle.pnm_writer.specs.FrameHistory.{Past, after_pull}
 use Rattle.pnm_writer.specs.FrameFile.{header_alone, rows_front, row_front, file_front, raster_byte, trimmed, place_in, AllGone, GoesThrough, file_of, gone_under, rows_to_go, settled, height_of}
 use Rattle.pnm_writer.specs.JoinStages.{fault_in, is_under, is_keeping, is_whole, is_colors}
 use Rattle.pnm_writer.specs.Joining.{Joining, Stands, StandsAt, Goes, Streams, HasColors, IsDrained, AreColors, IsPart}
 use Rattle.pnm_writer.specs.JoinSteps.{moves, may_go, next_byte, next_sample, after_next, after_row, is_ready, is_held}
-<<<<<<< HEAD
-use Rattle.pnm_writer.proofs.TestLemmas.{lt_true, lt_false, lt_from, not_lt_from, le_true, eq_true, eq_false, or_false, or_other}
-use Rattle.pnm_writer.proofs.StreamLaws.{head_goes, column_goes, row_goes, goes_head, goes_column, goes_row, Ready, ready_is, held_byte, held_length, row_front-zero}
-use Rattle.pnm_writer.proofs.KeptLaws.{ready_row, pass_parts}
-use Rattle.pnm_writer.proofs.SideLaws.{three_parts, side_raster}
-=======
 use Rattle.pnm_writer.proofs.TestLemmas.{lt_true, lt_false, not_lt_from, le_true, eq_true, eq_false, or_false, or_other}
 use Rattle.pnm_writer.proofs.StreamLaws.{head_goes, column_goes, row_goes, goes_head, goes_column, goes_row, ready_is, held_byte, held_length, row_front-zero}
 use Rattle.pnm_writer.proofs.KeptLaws.{ready_row, pass_parts}
 use Rattle.pnm_writer.proofs.SideLaws.{side_raster}
->>>>>>> 480cdadc1cdcacaf3a86213d6c9c98acf3f8db36
 use Rattle.pnm_writer.proofs.AcceptLaws.{alone_is}
 use Rattle.pnm_writer.proofs.JoinLaws.{at_stage, fault_at}
 
@@ -394,14 +375,6 @@ drained past v stands through stop = by_stage v.stage refl
 
 -- ---- the loop of `pull`
 
-<<<<<<< HEAD
-pub pull_start : (past : Past) (v : Joining) (n : ℕ) (bytes : List ℕ) → n ≡ 0 → Stands past v → Stands (after_pull (take n bytes) past) v
-pull_start past v n bytes e stands =
-    let none : past.given ++ take n bytes ≡ past.given = ap (λ (k : ℕ). past.given ++ take k bytes) e ∙ append-nil past.given in
-    subst (λ (l : List ℕ). Stands (record past { given = l }) v) (sym none) stands
-
-=======
->>>>>>> 480cdadc1cdcacaf3a86213d6c9c98acf3f8db36
 pub pull_step : (past : Past) (now new : Joining) (before after : List ℕ) (byte : ℕ) → may_go now ≡ true → byte ≡ next_byte now → new ≡ after_next now → after ≡ before ++ byte ∷ [] → Stands (after_pull before past) now → Stands (after_pull after past) new
 pull_step past now new before after byte may b n a stands =
     let step = next_carries (after_pull before past) now may stands in
@@ -413,24 +386,6 @@ pub went_on : (i : ℕ) (first now : Joining) → (i ≡ 0 → now ≡ first) �
 went_on zero first now same went may = subst (λ (v : Joining). may_go v ≡ true) (same refl) may
 went_on (suc i) first now same went may = went (omega arith)
 
-<<<<<<< HEAD
-pub failed_stops : (past : Past) (v : Joining) (fault : JoinFault) → Stands past v → past.fault ≡ Some fault → may_go v ≡ false
-failed_stops past v fault stands e = by_stage v.stage refl
-  where
-    none : (s : Stage) → v.stage ≡ s → fault_in s ≡ None → may_go v ≡ false
-    none s is well = absurd (let y : None ≡ Some fault = sym (fault_at s past v is stands ∙ well) ∙ e in cc)
-
-    by_stage : (s : Stage) → v.stage ≡ s → may_go v ≡ false
-    by_stage Idle is = none Idle is refl
-    by_stage Under is = none Under is refl
-    by_stage Keeping is = none Keeping is refl
-    by_stage Between is = none Between is refl
-    by_stage Whole is = none Whole is refl
-    by_stage WholeColors is = none WholeColors is refl
-    by_stage (Failed x) is = ap (λ (s : Stage). moves s && (nat_lt v.headed (length v.head) || is_ready v)) is
-
-=======
->>>>>>> 480cdadc1cdcacaf3a86213d6c9c98acf3f8db36
 pub step_take : (xs : List ℕ) (i : ℕ) (y : ℕ) → i < length xs → take (i + 1) (set xs i y) ≡ take i xs ++ y ∷ []
 step_take xs i y h = take_more_set xs i y h
 

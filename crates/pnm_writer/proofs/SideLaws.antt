@@ -1,17 +1,8 @@
 -- The frame that has three colors side by side shows what the three show.
-<<<<<<< HEAD
-use Rattle.std.proofs.Common.{◌≡◌, ◌≢◌, ℕ, zero, suc, ◌<◌, ◌≤◌, ◌+◌, ◌*◌, ◌/◌, ◌%◌, ◌⊎◌, inl, inr, Bool, true, false, List, [], ◌∷◌, ◌++◌, length, get_or, arith, refl, sym, ap, ◌∙◌, subst}
-use Rattle.std.specs.Prelude.{◌==◌, ◌||◌, if◌then◌else◌, Option, Some, None, slice_index}
-use Rattle.std.proofs.lemmas.Nat.{mul-add-lt}
-use Rattle.std.proofs.lemmas.Bool.{cases_lt}
-use Rattle.netpbm.specs.FileText.{joined}
-use Rattle.netpbm.proofs.WritingLaws.{length-joined, joined_at, joined-zero, joined-more}
-=======
 use Rattle.std.proofs.Common.{◌≡◌, ◌≢◌, ℕ, zero, suc, ◌<◌, ◌≤◌, ◌+◌, ◌*◌, ◌/◌, ◌%◌, ◌⊎◌, inl, inr, Bool, true, false, List, [], ◌∷◌, length, get_or, arith, refl, sym, ap, ◌∙◌, subst}
 use Rattle.std.specs.Prelude.{◌==◌, if◌then◌else◌, Option, Some, slice_index}
 use Rattle.netpbm.specs.FileText.{joined}
 use Rattle.netpbm.proofs.WritingLaws.{length-joined, joined_at}
->>>>>>> 480cdadc1cdcacaf3a86213d6c9c98acf3f8db36
 use Rattle.netpbm.specs.Picture.{Picture, IsPlace, IsPicture}
 use Rattle.sane_fixed.specs.declared.params.Params.{Params}
 use Rattle.sane_fixed.specs.declared.byte_order.ByteOrder.{ByteOrder}
@@ -26,21 +17,12 @@ use Rattle.pnm_writer.specs.KeptFrame.{color_number}
 use Rattle.pnm_writer.specs.ColorPlanes.{Plane, Planes, plane_in, plane_of, planes_of, nth_plane, side_byte, side_rows, all_colors, side_by_side}
 use Rattle.pnm_writer.specs.FrameFile.{raster_byte, place_in, trimmed}
 use Rattle.pnm_writer.specs.FrameHistory.{is_full, is_full_at}
-<<<<<<< HEAD
-use Rattle.pnm_writer.specs.Joining.{IsColor, AreColors}
-use Rattle.pnm_writer.proofs.TestLemmas.{eq_true, eq_from, eq_false, not_eq_from}
-use Rattle.pnm_writer.proofs.FrameLaws.{sample_eight, sample_sixteen}
-use Rattle.pnm_writer.proofs.StreamLaws.{small_append, frame_picture, frame_sample_small, place_below}
-use Rattle.pnm_writer.proofs.KeptLaws.{PassParts, pass_parts, pass_depth}
-use Rattle.pnm_writer.proofs.ColorLaws.{nth_is, GoesWith, first_parts, second_parts, third_parts}
-=======
 use Rattle.pnm_writer.specs.Joining.{AreColors}
 use Rattle.pnm_writer.proofs.TestLemmas.{eq_true, eq_from, not_eq_from}
 use Rattle.pnm_writer.proofs.FrameLaws.{sample_eight, sample_sixteen}
 use Rattle.pnm_writer.proofs.StreamLaws.{small_append, frame_picture, frame_sample_small, place_below}
 use Rattle.pnm_writer.proofs.KeptLaws.{PassParts, pass_parts, pass_depth}
 use Rattle.pnm_writer.proofs.ColorLaws.{nth_is, first_parts, second_parts, third_parts}
->>>>>>> 480cdadc1cdcacaf3a86213d6c9c98acf3f8db36
 
 -- ---- bytes side by side
 
@@ -140,15 +122,9 @@ sixteen planes c f x y k one deep color low column row =
     let place = y * size + 2 * (3 * x + k) in
     let at = y * B + 2 * (1 * x + 0) in
     let byte : (b i j : ℕ) → b < 2 → i ≡ place + b → j ≡ at + b → get_or g.payload i 0 ≡ get_or f.payload j 0 = λ b i j less e h.
-<<<<<<< HEAD
-        side_at planes c.params.depth size (lines_in c.params.lines) y (2 * (3 * x + k) + b) i row (omega (arith, row_sixteen c.params deep, low, column, less)) (omega (arith, e))
-        ∙ (ap (λ (d : ℕ). side_byte planes d y (2 * (3 * x + k) + b)) deep
-        ∙ (deep_sixteen planes f y x k b plane low less ∙ ap (λ (n : ℕ). get_or f.payload n 0) (let z : y * B + (2 * x + b) ≡ j = omega (arith, h) in z))) in
-=======
     side_at planes c.params.depth size (lines_in c.params.lines) y (2 * (3 * x + k) + b) i row (omega (arith, row_sixteen c.params deep, low, column, less)) (omega (arith, e))
     ∙ (ap (λ (d : ℕ). side_byte planes d y (2 * (3 * x + k) + b)) deep
     ∙ (deep_sixteen planes f y x k b plane low less ∙ ap (λ (n : ℕ). get_or f.payload n 0) (let z : y * B + (2 * x + b) ≡ j = omega (arith, h) in z))) in
->>>>>>> 480cdadc1cdcacaf3a86213d6c9c98acf3f8db36
     sample_sixteen 3 g x y k deep
     ∙ (two_same c.order g.payload f.payload place at (byte 0 place at (omega arith) (omega arith) (omega arith)) (byte 1 (place + 1) (at + 1) (omega arith) refl refl)
     ∙ (ap (λ (o : ByteOrder). two_bytes o f.payload at) (sym one.order) ∙ sym (sample_sixteen 1 f x y 0 (one.depth ∙ deep))))

@@ -22,15 +22,11 @@ use Rattle.pnm_writer.specs.declared.join_stage.Stage.{Stage}
 use Rattle.pnm_writer.specs.declared.join_stage.Stage.TheVariants.{Idle, Under, Keeping, Between, Whole, WholeColors, Failed}
 use Rattle.page_picture.specs.Meaning.{greatest_at}
 use Rattle.page_picture.specs.Shows.{Frame, row_size, frame_sample, two_bytes, channels_within, channels_alone}
-use Rattle.pnm_writer.specs.AloneFrame.{AloneParts, row_bytes, lines_in, most_lines, is_alone_format, most_bytes}
+use Rattle.pnm_writer.specs.AloneFrame.{AloneParts, row_bytes, lines_in, is_alone_format, most_bytes}
 use Rattle.pnm_writer.specs.FrameFile.{header_alone, raster_byte, row_front, rows_front, file_front, place_in, trimmed}
 use Rattle.pnm_writer.specs.JoinStages.{is_under, is_whole, is_colors}
 use Rattle.pnm_writer.specs.Joining.{Joining, Goes, Streams}
-<<<<<<< HEAD
-use Rattle.pnm_writer.specs.JoinSteps.{is_ready, is_held}
-=======
 use Rattle.pnm_writer.specs.JoinSteps.{is_ready}
->>>>>>> 480cdadc1cdcacaf3a86213d6c9c98acf3f8db36
 use Rattle.pnm_writer.proofs.KeptLaws.{ready_row, ready_held}
 use Rattle.pnm_writer.proofs.FrameLaws.{length-row_front, length-rows_front, denotes_front}
 

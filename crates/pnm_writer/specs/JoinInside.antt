@@ -1,9 +1,5 @@
 -- What the fields of a join show, and what is true of them.
-<<<<<<< HEAD
-use Rattle.std.specs.Prelude.{◌+◌, ◌≤◌, ◌<◌, ◌≡◌, ◌||◌, true, length, drop, vec_len, vec_capacity}
-=======
 use Rattle.std.specs.Prelude.{◌+◌, ◌≤◌, ◌<◌, ◌≡◌, ◌||◌, true, drop, vec_len, vec_capacity}
->>>>>>> 480cdadc1cdcacaf3a86213d6c9c98acf3f8db36
 use Rattle.pnm_writer.specs.declared.frame_join.FrameJoin.TheInside.{Inside}
 use Rattle.pnm_writer.specs.AloneFrame.{lines_in, row_bytes, ShapeParts}
 use Rattle.pnm_writer.specs.KeptFrame.{is_open_ended, is_pass}

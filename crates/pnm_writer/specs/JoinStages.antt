@@ -1,9 +1,5 @@
 -- What a join's stage says by itself.
-<<<<<<< HEAD
-use Rattle.std.specs.Prelude.{Bool, true, false, ◌||◌, Option, Some, None}
-=======
 use Rattle.std.specs.Prelude.{Bool, true, false, Option, Some, None}
->>>>>>> 480cdadc1cdcacaf3a86213d6c9c98acf3f8db36
 use Rattle.pnm_writer.specs.declared.join_stage.JoinFault.{JoinFault}
 use Rattle.pnm_writer.specs.declared.join_stage.JoinFault.TheVariants.{Shape, Long, Short, NoMem}
 use Rattle.pnm_writer.specs.declared.join_stage.Stage.{Stage}

@@ -1,17 +1,9 @@
 -- The value of a join, and which histories it stands for.
-<<<<<<< HEAD
-use Rattle.std.specs.Prelude.{ℕ, ◌+◌, ◌*◌, ◌≤◌, ◌<◌, ◌≡◌, Bool, true, false, Option, Some, None, List, [], ◌∷◌, ◌++◌, length, slice_index, take, drop}
-=======
 use Rattle.std.specs.Prelude.{ℕ, ◌+◌, ◌*◌, ◌≤◌, ◌<◌, ◌≡◌, Bool, true, false, Some, None, List, [], ◌∷◌, ◌++◌, length, slice_index, take, drop}
->>>>>>> 480cdadc1cdcacaf3a86213d6c9c98acf3f8db36
 use Rattle.netpbm.specs.Pnm.{IsWhole}
 use Rattle.netpbm.specs.FileText.{header_text}
 use Rattle.sane_fixed.specs.declared.byte_order.ByteOrder.{ByteOrder}
 use Rattle.sane_fixed.specs.declared.params.Params.{Params}
-<<<<<<< HEAD
-use Rattle.pnm_writer.specs.declared.join_stage.JoinFault.{JoinFault}
-=======
->>>>>>> 480cdadc1cdcacaf3a86213d6c9c98acf3f8db36
 use Rattle.pnm_writer.specs.declared.join_stage.Stage.{Stage}
 use Rattle.pnm_writer.specs.declared.join_stage.Stage.TheVariants.{Idle, Under, Keeping, Between, Whole, WholeColors, Failed}
 use Rattle.page_picture.specs.Shows.{Frame}

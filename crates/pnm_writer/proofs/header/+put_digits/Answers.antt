@@ -1,8 +1,4 @@
-<<<<<<< HEAD
-use Rattle.std.proofs.Common.{◌≡◌, ◌+◌, ◌/◌, ◌%◌, ◌∷◌, [], ◌++◌, ap, sym, ◌∙◌, arith, List, ℕ, decimal}
-=======
 use Rattle.std.proofs.Common.{◌+◌, ◌/◌, ◌%◌, ◌∷◌, [], ◌++◌, ap, sym, ◌∙◌, arith, List, ℕ, decimal}
->>>>>>> 480cdadc1cdcacaf3a86213d6c9c98acf3f8db36
 use Rattle.std.proofs.lemmas.List.{append_assoc}
 use Rattle.pnm_writer.proofs.HeaderLemmas.{more_digits}
 use Rattle.pnm_writer.proofs.header.+put_digits.Goals as goal

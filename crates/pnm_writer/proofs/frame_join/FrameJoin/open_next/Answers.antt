@@ -1,8 +1,4 @@
-<<<<<<< HEAD
-use Rattle.std.proofs.Common.{◌≡◌, true, rules, arith, refl, sym, ap, ◌∙◌}
-=======
 use Rattle.std.proofs.Common.{◌≡◌, true, rules, arith, sym, ap, ◌∙◌}
->>>>>>> 480cdadc1cdcacaf3a86213d6c9c98acf3f8db36
 use Rattle.std.specs.Prelude.{◌||◌}
 use Rattle.pnm_writer.specs.KeptFrame.{is_open_ended, is_pass}
 use Rattle.pnm_writer.specs.Joining.{Joining}
