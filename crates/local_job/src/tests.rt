@@ -1,3 +1,4 @@
+mod shapes;
 mod tasks;
 
 use crate::{put, run_local};
