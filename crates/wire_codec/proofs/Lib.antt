@@ -12,3 +12,4 @@ pub mod Devices
 pub mod Options
 pub mod Descriptors
 pub mod Replies
+pub mod Begins

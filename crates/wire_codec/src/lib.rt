@@ -2,6 +2,7 @@
 #![tactic(auto)]
 
 mod array;
+mod begun;
 mod decoder;
 mod fault;
 mod laws;
