@@ -1,6 +1,6 @@
 //! Messages and records of a million bytes, for their speed. `tests/bench` runs it; without words it does nothing. The
-//! words are `decode PIECE`, a reply that comes in pieces of that size, `encode COUNT`, the same reply written so often,
-//! or `records COUNT`, so many records written and read.
+//! words are `decode PIECE`, a reply that comes in pieces of that size, `lists PIECE`, one of as many tiny strings as
+//! there may be, `encode COUNT`, the first reply written so often, or `records COUNT`, so many records written and read.
 #![tactic(auto)]
 
 ghost use Rattle.std.specs.Prelude.{◌≡◌, ◌<◌, length, IfOk};
@@ -45,8 +45,26 @@ fn reply(alloc: Global) -> Result<Vec<u8>, AllocError> {
     Ok(bytes)
 }
 
+/// A reply to GET_OPTION_DESCRIPTORS of 169 options, each with a list of 1,023 texts of one letter.
+fn lists(alloc: Global) -> Result<Vec<u8>, AllocError> {
+    let mut bytes = Vec::new(alloc);
+    put_word(&mut bytes, 169)?;
+    for _ in 0..169 {
+        // The pointer, a name, a title and a description without letters, STRING, NONE, a size and capabilities.
+        bytes.extend_from_slice(b"\0\0\0\0\0\0\0\x01\0\0\0\0\x01\0\0\0\0\x01\0")?;
+        for word in [3, 0, 2, 5, 3, 1024] {
+            put_word(&mut bytes, word)?;
+        }
+        for _ in 0..1023 {
+            bytes.extend_from_slice(b"\0\0\0\x02x\0")?;
+        }
+        put_word(&mut bytes, 0)?;
+    }
+    Ok(bytes)
+}
+
 /// Feeds the bytes in pieces, and tries after each whether the reply is there.
-fn decode(alloc: Global, bytes: &[u8], piece: usize) -> Option<Reply> {
+fn decode(alloc: Global, procedure: Procedure, bytes: &[u8], piece: usize) -> Option<Reply> {
     let mut decoder = Decoder::new(alloc);
     let mut rest = bytes;
     for _ in 0..bytes.len() {
@@ -54,7 +72,7 @@ fn decode(alloc: Global, bytes: &[u8], piece: usize) -> Option<Reply> {
         let (front, behind) = rest.split_at(n);
         decoder.feed(front).ok()?;
         rest = behind;
-        let reply = decoder.next_reply(alloc, Procedure::GetDevices).ok()?;
+        let reply = decoder.next_reply(alloc, procedure).ok()?;
         if reply.is_some() {
             return reply;
         }
@@ -69,11 +87,14 @@ fn tell(rt: &HostRuntime, what: &str, bytes: usize, took: Duration) -> anyhow::R
     Ok(())
 }
 
-fn decode_once(rt: &HostRuntime, piece: usize) -> anyhow::Result<()> {
-    let alloc = rt.alloc();
-    let bytes = reply(alloc)?;
+fn decode_once(
+    rt: &HostRuntime,
+    procedure: Procedure,
+    bytes: &[u8],
+    piece: usize,
+) -> anyhow::Result<()> {
     let start = Instant::now(rt)?;
-    let came = decode(alloc, bytes.as_slice(), piece).is_some();
+    let came = decode(rt.alloc(), procedure, bytes, piece).is_some();
     let took = start.elapsed(rt)?.as_millis();
     let count = bytes.len();
     eprintln!(rt; "{count} bytes, came: {came}, {took} ms")?;
@@ -84,7 +105,7 @@ fn decode_once(rt: &HostRuntime, piece: usize) -> anyhow::Result<()> {
 fn encode_often(rt: &HostRuntime, count: u32) -> anyhow::Result<()> {
     let alloc = rt.alloc();
     let bytes = reply(alloc)?;
-    let Some(reply) = decode(alloc, bytes.as_slice(), bytes.len()) else {
+    let Some(reply) = decode(alloc, Procedure::GetDevices, bytes.as_slice(), bytes.len()) else {
         return Ok(());
     };
     let start = Instant::now(rt)?;
@@ -171,7 +192,20 @@ fn main(rt: HostRuntime) -> anyhow::Result<()> {
     };
     let number = number.as_str().parse::<u32>().unwrap_or(0);
     match what.as_str() {
-        "decode" => decode_once(&rt, number as usize),
+        "decode" => {
+            let bytes = reply(rt.alloc())?;
+            decode_once(
+                &rt,
+                Procedure::GetDevices,
+                bytes.as_slice(),
+                number as usize,
+            )
+        }
+        "lists" => {
+            let bytes = lists(rt.alloc())?;
+            let procedure = Procedure::GetOptionDescriptors;
+            decode_once(&rt, procedure, bytes.as_slice(), number as usize)
+        }
         "encode" => encode_often(&rt, number),
         "records" => records(&rt, number),
         _ => Ok(()),

@@ -267,17 +267,53 @@ fn devices(rt: &impl Abort, alloc: Global, count: u32, each: usize, last: [usize
 }
 
 #[test]
-fn one_device(rt: HostRuntime) {
+fn three_devices(rt: HostRuntime) {
     let alloc = rt.alloc();
-    let reply = devices(&rt, alloc, 0, 0, [0, 1023, 1, 2]);
-    let mut bytes = words(&rt, alloc, &[0, 2, 0]);
-    for count in [0, 1023, 1, 2] {
-        put_letters(&rt, &mut bytes, count);
+    let reply = devices(&rt, alloc, 2, 0, [0, 1023, 1, 2]);
+    let mut bytes = words(&rt, alloc, &[0, 4]);
+    for counts in [[0; 4], [0; 4], [0, 1023, 1, 2]] {
+        put(&rt, &mut bytes, &[0; 4]);
+        for count in counts {
+            put_letters(&rt, &mut bytes, count);
+        }
     }
     put(&rt, &mut bytes, &[0, 0, 0, 1]);
     goes_round(&rt, alloc, Procedure::GetDevices, &reply, bytes.as_slice());
     let long = devices(&rt, alloc, 1, 0, [0, 0, 0, 1024]);
     has_fault(&rt, alloc, &long, WireFault::TooLong);
+}
+
+/// What was read of one reply is no part of another.
+#[test]
+fn another_reply_is_asked_for(rt: HostRuntime) {
+    let alloc = rt.alloc();
+    let mut decoder = Decoder::new(alloc);
+    // Of three devices and a NULL pointer, one and a part of another.
+    let mut bytes = words(&rt, alloc, &[0, 4, 0, 1]);
+    put(
+        &rt,
+        &mut bytes,
+        &[0, 0, 0, 0, 1, 0, 0, 0, 0, 1, 0, 0, 0, 0, 1, 0],
+    );
+    put(&rt, &mut bytes, &[0, 0, 0, 0, 0, 0]);
+    assert!(&rt; decoder.feed(bytes.as_slice()).is_ok());
+    assert!(&rt; matches!(decoder.next_reply(alloc, Procedure::GetDevices), Ok(None)));
+    // As a reply to GET_OPTION_DESCRIPTORS the same bytes tell of no options.
+    let options = decoder.next_reply(alloc, Procedure::GetOptionDescriptors);
+    let Ok(Some(Reply::GetOptionDescriptors { descriptors })) = options else {
+        panic!(&rt; "no options")
+    };
+    assert_eq!(&rt; descriptors.as_slice().len(), 0);
+    // And behind that word stand the status 4 and a version.
+    assert!(&rt;
+        matches!(
+            decoder.next_reply(alloc, Procedure::Init),
+            Ok(Some(Reply::Init {
+                status: Status::Inval,
+                version: 0,
+            }))
+        )
+    );
 }
 
 #[test]
