@@ -26,10 +26,10 @@ word_laws = from_to_laws 0 4294967295 (omega arith) (omega arith)
 null_laws : Lawful (from_to 0 0)
 null_laws = from_to_laws 0 0 (omega arith) (omega arith)
 
-up_to_laws : (high : ℕ) → Lawful (up_to high)
+pub up_to_laws : (high : ℕ) → Lawful (up_to high)
 up_to_laws high = kind-laws (between 0 high TooLong) (between-kind 0 high TooLong (omega arith) (omega arith))
 
-status_laws : Lawful status
+pub status_laws : Lawful status
 status_laws = made-laws _ _ (from_to_laws 0 11 (omega arith) (omega arith))
 
 text_laws : (n : ℕ) → Lawful (text_of n)
@@ -45,14 +45,18 @@ device_laws : Lawful device
 unfolding device
 device_laws = after-laws _ _ string_laws (λ name. after-laws _ _ string_laws (λ vendor. after-laws _ _ string_laws (λ model. made-laws _ _ string_laws)))
 
+pub next_device_laws : Lawful next_device
+unfolding next_device
+next_device_laws = after-laws _ _ null_laws (λ pointer. device_laws)
+
 last_device_of_laws : (pointer : ℕ) → Lawful (last_device_of pointer)
 last_device_of_laws zero = made-laws _ _ device_laws
 last_device_of_laws (suc pointer) = done-laws _
 
 devices_of_laws : (n : ℕ) → Lawful (devices_of n)
-unfolding devices_of next_device last_device
+unfolding devices_of last_device
 devices_of_laws zero = done-laws _
-devices_of_laws (suc n) = after-laws _ _ (places-laws n next_device (after-laws _ _ null_laws (λ pointer. device_laws))) (λ front. made-laws _ _ (after-laws _ _ word_laws last_device_of_laws))
+devices_of_laws (suc n) = after-laws _ _ (places-laws n next_device next_device_laws) (λ front. made-laws _ _ (after-laws _ _ word_laws last_device_of_laws))
 
 devices_laws : Lawful devices
 unfolding devices
@@ -110,9 +114,13 @@ unfolding descriptor
 descriptor_laws = after-laws _ _ string_laws (λ name. after-laws _ _ string_laws (λ title. after-laws _ _ string_laws (λ about. after-laws _ _ (from_to_laws 0 5 (omega arith) (omega arith)) (λ k.
     after-laws _ _ (from_to_laws 0 6 (omega arith) (omega arith)) (λ u. after-laws _ _ word_laws (λ size. after-laws _ _ word_laws (λ caps. made-laws _ _ constraint_laws)))))))
 
+pub next_descriptor_laws : Lawful next_descriptor
+unfolding next_descriptor
+next_descriptor_laws = after-laws _ _ null_laws (λ pointer. descriptor_laws)
+
 descriptors_laws : Lawful descriptors
-unfolding descriptors next_descriptor
-descriptors_laws = after-laws _ _ (up_to_laws 1024) (λ n. places-laws n next_descriptor (after-laws _ _ null_laws (λ pointer. descriptor_laws)))
+unfolding descriptors
+descriptors_laws = after-laws _ _ (up_to_laws 1024) (λ n. places-laws n next_descriptor next_descriptor_laws)
 
 size_value : (n x : ℕ) → words_size.judge n ≡ Ok x → x ≤ 4096
 size_value n x e = grind (arith, nat_tests)

@@ -1,7 +1,8 @@
 -- Where as many bytes as are wanted have not come, and none of them is a fault, more is wanted still.
 use Rattle.std.proofs.Common.{◌≡◌, ℕ, ◌-◌, ◌≤◌, ◌<◌, true, List, ◌++◌, length, take, drop, Option, Some, None, sym, ap, subst, ◌∙◌, arith}
 use Rattle.std.specs.List.{list_all}
-use Rattle.std.proofs.lemmas.List.{take-append-drop, take_all}
+use Rattle.std.specs.Prelude.{IfSome}
+use Rattle.std.proofs.lemmas.List.{take-append-drop, take-append-le, take_all, length-append}
 use Rattle.wire_format.specs.declared.fault.Wanted.{Wanted}
 use Rattle.wire_format.specs.Format.{IsBytes, is_from}
 use Rattle.wire_format.specs.Lawful.{IsStillWaiting, still_wanted}
@@ -38,4 +39,12 @@ pub now_pending : (rest : List ℕ) (procedure : Option Procedure) (wanted : Wan
 now_pending rest procedure wanted seen is stops = record {
   within = omega (arith, is);
   stops = subst (λ (l : List ℕ). StopsAt procedure l wanted) (sym (ap (λ (n : ℕ). take n rest) is ∙ take_all (length rest) rest (omega arith))) stops;
+}
+
+-- the same of more bytes
+pub pending_more : (rest more : List ℕ) (pending : Option Pending) → IfSome pending (IsPending rest) → IfSome pending (IsPending (rest ++ more))
+pending_more rest more None h = tt
+pending_more rest more (Some p) h = record {
+  within = omega (arith, h.within, length-append rest more);
+  stops = subst (λ (l : List ℕ). StopsAt p.procedure l p.wanted) (sym (take-append-le p.seen rest more h.within)) h.stops;
 }

@@ -17,8 +17,8 @@ use Rattle.wire_codec.specs.declared.message.WireValue.{WireValue}
 use Rattle.wire_codec.specs.declared.message.Request.{Request}
 use Rattle.wire_codec.specs.declared.message.Request.TheVariants as requests
 use Rattle.wire_codec.specs.Message.{from_to, word, string, value_of, kind_at, action_at, arguments, procedure_at, request}
-use Rattle.wire_codec.specs.Written.{write_from_to, write_any, write_string, write_value, value_text, action_code, code_text, write_request}
-use Rattle.wire_codec.proofs.Spelled.{any-writes, any_short, string-writes, value-writes}
+use Rattle.wire_codec.specs.Written.{write_from_to, write_any, write_string, write_resource, write_value, value_text, action_code, code_text, write_request}
+use Rattle.wire_codec.proofs.Spelled.{any-writes, any_short, string-writes, resource-writes, value-writes}
 
 -- the same text and the same limits by another writer
 as_writes : {A : Type 0} (F : Format A) (W V : Writer A) (a : A) → Writes F W a → V.long a ≡ W.long a → V.text a ≡ W.text a → Writes F V a
@@ -131,14 +131,14 @@ unfolding number_of procedure_of
 authorize-writes resource user password =
     let r : Request = requests.Authorize resource user password in
     as_writes request _ write_request (requests.Authorize resource user password)
-    (behind_code 9 (write_after (λ (r : Request). resource) write_string (λ x. write_after (λ (r : Request). user) write_string (λ y. write_by (λ (r : Request). password) write_string))) (requests.Authorize resource user password) refl
-    (after-writes (λ (r : Request). resource) string (λ x. after string (λ y. made (λ z. requests.Authorize x y z) string)) write_string (λ x. write_after (λ (r : Request). user) write_string (λ y. write_by (λ (r : Request). password) write_string)) (requests.Authorize resource user password)
-    (string-writes resource)
+    (behind_code 9 (write_after (λ (r : Request). resource) write_resource (λ x. write_after (λ (r : Request). user) write_string (λ y. write_by (λ (r : Request). password) write_string))) (requests.Authorize resource user password) refl
+    (after-writes (λ (r : Request). resource) string (λ x. after string (λ y. made (λ z. requests.Authorize x y z) string)) write_resource (λ x. write_after (λ (r : Request). user) write_string (λ y. write_by (λ (r : Request). password) write_string)) (requests.Authorize resource user password)
+    (resource-writes resource)
     (after-writes (λ (r : Request). user) string (λ y. made (λ z. requests.Authorize resource y z) string) write_string (λ y. write_by (λ (r : Request). password) write_string) (requests.Authorize resource user password)
     (string-writes user) (one_string (λ z. requests.Authorize resource user z) password (λ a e. cc))
     (only-part (λ (r : Request). user) string (λ y. made (λ z. requests.Authorize resource y z) string) (requests.Authorize resource user password) (λ a back s. let e = s.behind.1 in cc)))
     (only-part (λ (r : Request). resource) string (λ x. after string (λ y. made (λ z. requests.Authorize x y z) string)) (requests.Authorize resource user password) (λ a back s. let e = s.behind.behind.1 in cc))))
-    (or_assoc (write_string.long resource) (write_string.long user) (write_string.long password)) refl
+    (or_assoc (write_resource.long resource) (write_string.long user) (write_string.long password)) refl
 
 -- ---- the value of an option
 

@@ -18,10 +18,13 @@ use Rattle.wire_codec.specs.declared.message.WireValue.{WireValue}
 use Rattle.wire_codec.specs.declared.message.WireValue.TheVariants as values
 use Rattle.wire_codec.specs.Kinds.{words_size}
 use Rattle.wire_codec.specs.Message.{from_to, word, up_to, text_of, string, words_value, bytes_value, value_of}
-use Rattle.wire_codec.specs.Written.{write_any, write_up_to, write_text_of, write_string, value_long, words_text, bytes_text, write_value}
+use Rattle.wire_codec.specs.Written.{write_any, write_up_to, write_text_of, write_string, write_resource, value_long, words_text, bytes_text, write_value}
 use Rattle.wire_codec.proofs.Messages.{word_laws}
 
 -- ---- words
+
+some_is : (s t : List ℕ) → Some s ≡ Some t → s ≡ t
+some_is s t e = cc
 
 pub any-writes : (n : ℕ) → Writes word write_any n
 any-writes n = word-writes (between 0 4294967295 BadValue) (λ n. n) (between-number 0 4294967295 BadValue (omega arith)) n
@@ -29,7 +32,7 @@ any-writes n = word-writes (between 0 4294967295 BadValue) (λ n. n) (between-nu
 pub any_short : (n : ℕ) → write_any.long n ≡ false
 any_short n = grind (arith, nat_tests)
 
-up-writes : (high : ℕ) → high < 2 ^ 32 → (n : ℕ) → Writes (up_to high) (write_up_to high) n
+pub up-writes : (high : ℕ) → high < 2 ^ 32 → (n : ℕ) → Writes (up_to high) (write_up_to high) n
 up-writes high small n = word-writes (between 0 high TooLong) (λ n. n) (between-number 0 high TooLong small) n
 
 -- ---- strings
@@ -53,7 +56,7 @@ string_long text =
 nul_made : (text : List ℕ) → IsMadeOf (λ (t : List ℕ). 0) (byte_between 0 0) (λ nul. text) text
 nul_made text = record { again = refl; own = λ spelling a s e. (0 ∷ [], record { text_is = refl; fits = omega arith; from = omega arith; to = omega arith }) }
 
-text-writes : (n : ℕ) (text : List ℕ) → Writes (text_of (suc n)) (write_text_of (suc n)) text
+pub text-writes : (n : ℕ) (text : List ℕ) → Writes (text_of (suc n)) (write_text_of (suc n)) text
 unfolding text_of
 text-writes n text =
     after-writes (λ (t : List ℕ). t) (run 1 n) (λ t. made (λ nul. t) (byte_between 0 0)) (write_run 1 n) (λ t. write_by (λ (u : List ℕ). 0) (write_byte 0 0)) text
@@ -61,7 +64,7 @@ text-writes n text =
     (made-writes (λ (t : List ℕ). 0) (byte_between 0 0) (λ nul. text) (write_byte 0 0) text (byte-writes 0 0 (omega arith) 0) (nul_made text))
     (only-part (λ (t : List ℕ). t) (run 1 n) (λ t. made (λ nul. t) (byte_between 0 0)) text (λ a back s. sym s.behind.1))
 
-text_length : (n : ℕ) (back text : List ℕ) → (text_of (suc n)).spells back text → length text ≡ n
+pub text_length : (n : ℕ) (back text : List ℕ) → (text_of (suc n)).spells back text → length text ≡ n
 unfolding text_of
 text_length n back text s = ap length s.behind.behind.1 ∙ ap length s.in_front.is ∙ s.in_front.long
 
@@ -85,6 +88,23 @@ unfolding string write_string
 string-writes text =
     after-writes (λ (t : List ℕ). suc (length t)) (up_to 1024) text_of (write_up_to 1024) write_text_of text (up-writes 1024 (omega arith) (suc (length text))) (text-writes (length text) text) (string_part text)
 
+-- an empty resource is spelled without its NUL
+pub resource-writes : (text : List ℕ) → Writes string write_resource text
+unfolding string text_of write_string
+resource-writes [] = record {
+  spelled = λ text e. record {
+    first = 0;
+    front = text;
+    back = [];
+    whole = sym (append-nil text);
+    in_front = record { n = 0; text_is = sym (some_is (to_be_bytes w32 0) text e); fits = omega arith; is = refl };
+    behind = (refl, refl);
+  };
+  past = λ e. let no = sym (string_long []) ∙ e in absurd (cc no);
+  none = λ short e text s. absurd cc;
+}
+resource-writes (b ∷ bytes) = let w = string-writes (b ∷ bytes) in record { spelled = w.spelled; past = w.past; none = w.none }
+
 -- ---- values
 
 spelled_length : (n : ℕ) (text : List ℕ) (all : List ℕ) → (places n word).spells text all → length all ≡ n
@@ -93,14 +113,11 @@ spelled_length n text all s = places_length word n (text ++ []) [] all ((places-
 size_judge : (n : ℕ) → n ≤ 1024 → words_size.judge (n * 4) ≡ Ok (n * 4)
 size_judge n le = rw (le-ltb 4096 (n * 4) (omega arith), eq-eqb (n * 4 % 4) 0 (omega arith)) refl
 
-exact : (low n : ℕ) → n < 2 ^ 32 → low ≡ n → (from_to low low).spells (to_be_bytes w32 n) n
+pub exact : (low n : ℕ) → n < 2 ^ 32 → low ≡ n → (from_to low low).spells (to_be_bytes w32 n) n
 exact low n fits is = record { n = n; text_is = refl; fits = fits; is = judge }
   where
     judge : (between low low BadValue).judge n ≡ Ok n
     judge = rw (le-ltb n low (omega (arith, is)), le-ltb low n (omega (arith, is))) refl
-
-some_is : (s t : List ℕ) → Some s ≡ Some t → s ≡ t
-some_is s t e = cc
 
 -- a front that is there, and what stands behind it
 joined_front : (front : List ℕ) (back : Option (List ℕ)) (text : List ℕ) → joined (Some front) back ≡ Some text → (t : List ℕ) × (back ≡ Some t) × (text ≡ front ++ t)

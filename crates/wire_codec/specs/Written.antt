@@ -1,5 +1,5 @@
 -- The one way of writing each message.
-use Rattle.std.specs.Prelude.{ℕ, zero, suc, ◌*◌, ◌||◌, nat_lt, Bool, false, List, length, Option, Some, None, if◌then◌else◌}
+use Rattle.std.specs.Prelude.{ℕ, zero, suc, ◌*◌, ◌||◌, nat_lt, Bool, false, List, [], ◌∷◌, length, Option, Some, None, if◌then◌else◌}
 use Rattle.std.specs.Prelude.{Result, Ok, Err, ◌≡◌}
 use Rattle.std.specs.Int.{w32, to_be_bytes}
 use Rattle.wire_format.specs.declared.fault.Fault.{Fault}
@@ -27,6 +27,9 @@ write_any = write_from_to 0 4294967295
 abbrev pub write_up_to : ℕ → Writer ℕ
 write_up_to high = write_word (between 0 high TooLong) (λ n. n)
 
+abbrev pub code_text : ℕ → Option (List ℕ)
+code_text code = Some (to_be_bytes w32 code)
+
 -- ---- strings
 
 -- what stands behind a string's length
@@ -37,6 +40,14 @@ write_text_of (suc n) = write_after (λ text. text) (write_run 1 n) (λ text. wr
 -- the length counts the NUL
 unfoldable pub write_string : Writer (List ℕ)
 write_string = write_after (λ text. suc (length text)) (write_up_to 1024) write_text_of
+
+-- an empty resource is written without its NUL
+abbrev pub resource_text : List ℕ → Option (List ℕ)
+resource_text [] = code_text 0
+resource_text (b ∷ bytes) = write_string.text (b ∷ bytes)
+
+abbrev pub write_resource : Writer (List ℕ)
+write_resource = record { long = write_string.long; text = resource_text }
 
 -- ---- values
 
@@ -69,9 +80,6 @@ write_value kind = record { long = value_long; text = value_text kind }
 
 -- ---- requests
 
-abbrev pub code_text : ℕ → Option (List ℕ)
-code_text code = Some (to_be_bytes w32 code)
-
 abbrev pub action_code : Action → ℕ
 action_code actions.GetValue = 0
 action_code actions.SetValue = 1
@@ -86,7 +94,7 @@ request_long (requests.ControlOption device option action kind value) = value_lo
 request_long (requests.GetParameters device) = false
 request_long (requests.Start device) = false
 request_long (requests.Cancel device) = false
-request_long (requests.Authorize resource user password) = write_string.long resource || write_string.long user || write_string.long password
+request_long (requests.Authorize resource user password) = write_resource.long resource || write_string.long user || write_string.long password
 request_long requests.Exit = false
 
 -- a code and a word
@@ -104,7 +112,7 @@ request_text (requests.ControlOption device option action kind value) =
 request_text (requests.GetParameters device) = word_text 6 device
 request_text (requests.Start device) = word_text 7 device
 request_text (requests.Cancel device) = word_text 8 device
-request_text (requests.Authorize resource user password) = joined (code_text 9) (joined (write_string.text resource) (joined (write_string.text user) (write_string.text password)))
+request_text (requests.Authorize resource user password) = joined (code_text 9) (joined (write_resource.text resource) (joined (write_string.text user) (write_string.text password)))
 request_text requests.Exit = code_text 10
 
 abbrev pub write_request : Writer Request

@@ -7,8 +7,10 @@ ghost use Rattle.wire_format.specs.Limit.{limited, WantsMore, IsNoStart};
 ghost use Rattle.wire_format.specs.declared.fault.Wanted.{Wanted as AnyWanted};
 ghost use Rattle.wire_format.specs.declared.fault.Stop.TheVariants.{More};
 ghost use Rattle.wire_codec.specs.Pending.{IsPending, StopsAt};
+ghost use Rattle.wire_codec.specs.Begun.{HasBegun};
 ghost use Rattle.wire_codec.specs.Message.{message_limit, request as request_format, reply as reply_format};
 
+use crate::begun::{Begun, none_begun};
 use crate::fault::WireFault;
 use crate::message::{Procedure, Reply, Request};
 use crate::reading::{reply, request};
@@ -36,14 +38,17 @@ fn first_request(alloc: Global, bytes: &[u8]) -> Result<(Request, usize), ReadEr
 fn first_reply(
     alloc: Global,
     procedure: Procedure,
+    begun: &mut Begun,
     bytes: &[u8],
 ) -> Result<(Reply, usize), ReadError>
+    requires { HasBegun bytes.now begun.old }
+    ensures kept { HasBegun bytes.now begun.new }
     ensures read { Gives (λ x. (x.0, drop x.1 bytes.now)) result ((limited message_limit (reply_format procedure)).read bytes.now) }
     ensures used { IfOk result (λ x. x.1 ≤ length bytes.now) }
     ensures bytes { IsBytes bytes.now }
 {
     let window = front(bytes, MESSAGE_LIMIT);
-    match reply(alloc, procedure, window) {
+    match reply(alloc, procedure, begun, window) {
         Ok((reply, rest)) => Ok((reply, used(window, rest))),
         Err(e) => Err(past_limit(e, bytes.len() > MESSAGE_LIMIT)),
     }
@@ -75,28 +80,31 @@ struct Pending {
 /// was taken from, and the fault.
 ///
 /// A call reads the rest from its start, unless it was read before for the same message, fewer bytes came
-/// since than were wanted then, and none of them is a fault; then it looks at the new bytes alone. So where a
-/// message comes byte by byte, its rest is read again for each byte of a word and of a NUL, and once for all the
-/// bytes of a string: time of the order of n * u for n bytes with u words and strings in them. A request
-/// has at most some 6,200 bytes; only the replies to `GetDevices` and `GetOptionDescriptors` can be long.
+/// since than were wanted then, and none of them is a fault; then it looks at the new bytes alone. Of the replies to
+/// `GetDevices` and `GetOptionDescriptors`, the only ones that can be long, the devices or descriptors that came whole
+/// are kept, and the next call reads on behind them. So where a message comes byte by byte, a request, another reply, or
+/// the device or descriptor that has not come whole is read again for each byte of a word and of a NUL, and once for all
+/// the bytes of a string.
 #[derive(Drop)]
 pub struct Decoder {
     bytes: Vec<u8>,
     start: usize,
     fault: Option<WireFault>,
     pending: Option<Pending>,
+    begun: Begun,
 }
 
 impl Model for Decoder {
     ghost use Rattle.std.specs.Prelude.{◌≤◌, length, drop, IfSome};
     ghost use Rattle.wire_codec.specs.Waiting.{Waiting};
     ghost use Rattle.wire_codec.specs.Pending.{IsPending};
+    ghost use Rattle.wire_codec.specs.Begun.{HasBegun};
 
     ghost Value = { Waiting };
 
     ghost view = { λ d. record { rest = drop d.start d.bytes.items; fault = d.fault } };
 
-    ghost invariant = { λ d. (d.start ≤ length d.bytes.items) × IfSome d.pending (IsPending (drop d.start d.bytes.items)) };
+    ghost invariant = { λ d. (d.start ≤ length d.bytes.items) × IfSome d.pending (IsPending (drop d.start d.bytes.items)) × HasBegun (drop d.start d.bytes.items) d.begun };
 }
 
 /// Whether both are the same message.
@@ -148,6 +156,7 @@ impl Decoder {
             start: 0,
             fault: None,
             pending: None,
+            begun: none_begun(),
         }
     }
 
@@ -242,6 +251,7 @@ impl Decoder {
         match first_request(alloc, &self.bytes[self.start..]) {
             Ok((request, used)) => {
                 self.pending = None;
+                self.begun = none_begun();
                 self.start += used;
                 Ok(Some(request))
             }
@@ -265,9 +275,10 @@ impl Decoder {
         if self.still_waits(Some(procedure)) {
             return Ok(None);
         }
-        match first_reply(alloc, procedure, &self.bytes[self.start..]) {
+        match first_reply(alloc, procedure, &mut self.begun, &self.bytes[self.start..]) {
             Ok((reply, used)) => {
                 self.pending = None;
+                self.begun = none_begun();
                 self.start += used;
                 Ok(Some(reply))
             }

@@ -2,12 +2,14 @@
 #![tactic(auto)]
 
 mod array;
+mod begun;
 mod decoder;
 mod fault;
 mod laws;
 mod message;
 mod reading;
 mod records;
+mod reply_writing;
 mod words;
 mod writing;
 
@@ -20,6 +22,7 @@ pub use message::{Action, Procedure, Reply, Request, WireValue};
 pub use records::{
     Phase, RecordReader, Step, record_end, record_head, records_are_read_in_any_pieces,
 };
+pub use reply_writing::encode_reply;
 pub use writing::encode_request;
 
 #[cfg(test)]

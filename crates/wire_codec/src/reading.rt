@@ -1,11 +1,13 @@
 //! Messages out of bytes: a function for each format, of the same name.
 
-ghost use Rattle.std.specs.Prelude.{◌≡◌, ◌++◌, IfOk, IfErr, IsSome, IsNone};
+ghost use Rattle.std.specs.Prelude.{◌≡◌, ◌≤◌, ◌++◌, length, IfOk, IfErr, IsSome, IsNone};
 ghost use Rattle.sane_fixed.specs.Text.{IsText};
 ghost use Rattle.wire_format.specs.Format.{Gives, places};
-ghost use Rattle.wire_codec.specs.Message.{option_list, word, signed_word, text_of, string, device, next_device, last_device, devices_of, devices, range, word_list, entry, last_entry, last_of, last_in, string_list, constraint_of, constraint, descriptor, next_descriptor, descriptors, words_value, bytes_value, value_of, arguments, request, params, reply};
+ghost use Rattle.wire_codec.specs.Begun.{HasBegun};
+ghost use Rattle.wire_codec.specs.Message.{message_limit, option_list, word, signed_word, text_of, string, device, next_device, last_device, range, word_list, entry, last_entry, last_of, last_in, string_list, constraint_of, constraint, descriptor, next_descriptor, words_value, bytes_value, value_of, arguments, request, params, reply};
 
 use crate::array::Array;
+use crate::begun::{Begun, devices_reply, options_reply};
 use crate::message::{Procedure, Reply, Request, WireValue};
 use crate::words::{
     action_at, any_word, at_least, bad, frame_at, from_to, is_set, kind_at, length_from, lines_at,
@@ -75,7 +77,7 @@ fn device(alloc: Global, bytes: &[u8]) -> Result<(DeviceInfo, &[u8]), ReadError>
 }
 
 /// A pointer that is not NULL, and its device.
-struct NextDevice;
+pub(crate) struct NextDevice;
 
 impl Reader for NextDevice {
     ghost use Rattle.wire_codec.specs.Message.{next_device};
@@ -92,7 +94,10 @@ impl Reader for NextDevice {
 }
 
 #[tactic(auto, unfolding(crate::specs::Message::last_device))]
-fn last_device(alloc: Global, bytes: &[u8]) -> Result<(Option<DeviceInfo>, &[u8]), ReadError>
+pub(crate) fn last_device(
+    alloc: Global,
+    bytes: &[u8],
+) -> Result<(Option<DeviceInfo>, &[u8]), ReadError>
     ensures { Gives (λ x. (option_list x.0, x.1.now)) result (last_device.read bytes.now) }
 {
     let (pointer, rest) = any_word(bytes)?;
@@ -105,7 +110,7 @@ fn last_device(alloc: Global, bytes: &[u8]) -> Result<(Option<DeviceInfo>, &[u8]
 }
 
 /// The front, and the last behind it, if there is one.
-fn with_last<T: Drop>(front: Vec<T>, last: Option<T>) -> Result<Array<T>, ReadError>
+pub(crate) fn with_last<T: Drop>(front: Vec<T>, last: Option<T>) -> Result<Array<T>, ReadError>
     ensures ok { IfOk result (λ all. all ≡ front.items ++ option_list last) }
     ensures err { IfErr result (λ e. e ≡ ReadError.Memory) }
 {
@@ -114,31 +119,6 @@ fn with_last<T: Drop>(front: Vec<T>, last: Option<T>) -> Result<Array<T>, ReadEr
         all.push(last)?;
     }
     Ok(Array::from_vec(all))
-}
-
-#[tactic(auto, unfolding(crate::specs::Message::devices_of))]
-fn devices_of(
-    alloc: Global,
-    count: u32,
-    bytes: &[u8],
-) -> Result<(Array<DeviceInfo>, &[u8]), ReadError>
-    ensures { Gives (λ x. (x.0, x.1.now)) result ((devices_of count).read bytes.now) }
-{
-    if count == 0 {
-        return Ok((Array::from_vec(Vec::new(alloc)), bytes));
-    }
-    let (front, rest) = places::<NextDevice>(alloc, count - 1, bytes)?;
-    let (last, rest) = last_device(alloc, rest)?;
-    let all = with_last(front, last)?;
-    Ok((all, rest))
-}
-
-#[tactic(auto, unfolding(crate::specs::Message::devices))]
-pub(crate) fn devices(alloc: Global, bytes: &[u8]) -> Result<(Array<DeviceInfo>, &[u8]), ReadError>
-    ensures { Gives (λ x. (x.0, x.1.now)) result (devices.read bytes.now) }
-{
-    let (count, rest) = up_to(bytes, 1024)?;
-    devices_of(alloc, count, rest)
 }
 
 // ---- constraints
@@ -297,7 +277,7 @@ fn descriptor(alloc: Global, bytes: &[u8]) -> Result<(Descriptor, &[u8]), ReadEr
 }
 
 /// A pointer that is not NULL, and its descriptor.
-struct NextDescriptor;
+pub(crate) struct NextDescriptor;
 
 impl Reader for NextDescriptor {
     ghost use Rattle.wire_codec.specs.Message.{next_descriptor};
@@ -311,18 +291,6 @@ impl Reader for NextDescriptor {
         let rest = pointer(bytes)?;
         descriptor(alloc, rest)
     }
-}
-
-#[tactic(auto, unfolding(crate::specs::Message::descriptors))]
-pub(crate) fn descriptors(
-    alloc: Global,
-    bytes: &[u8],
-) -> Result<(Array<Descriptor>, &[u8]), ReadError>
-    ensures { Gives (λ x. (x.0, x.1.now)) result (descriptors.read bytes.now) }
-{
-    let (count, rest) = up_to(bytes, 1024)?;
-    let (all, rest) = places::<NextDescriptor>(alloc, count, rest)?;
-    Ok((Array::from_vec(all), rest))
 }
 
 // ---- values
@@ -546,15 +514,6 @@ fn init_reply(bytes: &[u8]) -> Result<(Reply, &[u8]), ReadError>
 }
 
 #[tactic(auto, unfolding(crate::specs::Message::reply))]
-fn devices_reply(alloc: Global, bytes: &[u8]) -> Result<(Reply, &[u8]), ReadError>
-    ensures { Gives (λ x. (x.0, x.1.now)) result ((reply Procedure.GetDevices).read bytes.now) }
-{
-    let (status, rest) = status(bytes)?;
-    let (devices, rest) = devices(alloc, rest)?;
-    Ok((Reply::GetDevices { status, devices }, rest))
-}
-
-#[tactic(auto, unfolding(crate::specs::Message::reply))]
 fn open_reply(alloc: Global, bytes: &[u8]) -> Result<(Reply, &[u8]), ReadError>
     ensures { Gives (λ x. (x.0, x.1.now)) result ((reply Procedure.Open).read bytes.now) }
 {
@@ -580,27 +539,28 @@ fn parameters_reply(bytes: &[u8]) -> Result<(Reply, &[u8]), ReadError>
     Ok((Reply::GetParameters { status, params }, rest))
 }
 
-/// The reply to a procedure.
+/// The reply to a procedure. What was read of an array before is kept.
 #[tactic(auto, unfolding(crate::specs::Message::reply))]
-pub(crate) fn reply(
+pub(crate) fn reply<'a>(
     alloc: Global,
     procedure: Procedure,
-    bytes: &[u8],
-) -> Result<(Reply, &[u8]), ReadError>
-    ensures { Gives (λ x. (x.0, x.1.now)) result ((reply procedure).read bytes.now) }
+    begun: &mut Begun,
+    bytes: &'a [u8],
+) -> Result<(Reply, &'a [u8]), ReadError>
+    requires short { length bytes.now ≤ message_limit }
+    requires begun { HasBegun bytes.now begun.old }
+    ensures kept { HasBegun bytes.now begun.new }
+    ensures read { Gives (λ x. (x.0, x.1.now)) result ((reply procedure).read bytes.now) }
 {
     match procedure {
         Procedure::Init => init_reply(bytes),
-        Procedure::GetDevices => devices_reply(alloc, bytes),
+        Procedure::GetDevices => devices_reply(alloc, &mut begun.devices, bytes),
         Procedure::Open => open_reply(alloc, bytes),
         Procedure::Close => {
             let (_, rest) = any_word(bytes)?;
             Ok((Reply::Close, rest))
         }
-        Procedure::GetOptionDescriptors => {
-            let (descriptors, rest) = descriptors(alloc, bytes)?;
-            Ok((Reply::GetOptionDescriptors { descriptors }, rest))
-        }
+        Procedure::GetOptionDescriptors => options_reply(alloc, &mut begun.options, bytes),
         Procedure::ControlOption => control_option_reply(alloc, bytes),
         Procedure::GetParameters => parameters_reply(bytes),
         Procedure::Start => start_reply(alloc, bytes),

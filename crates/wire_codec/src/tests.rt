@@ -1,3 +1,6 @@
+mod descriptors;
+mod replies;
+
 use super::*;
 use option_desc::Constraint;
 use sane_fixed::{ByteOrder, FrameFormat, Info, Kind, Params, Status, Text};
@@ -244,6 +247,13 @@ fn each_request_goes_round(rt: HostRuntime) -> Result<(), Fail> {
         0, 0, 0, 9, 0, 0, 0, 2, 0x72, 0, 0, 0, 0, 2, 255, 0, 0, 0, 0, 2, 1, 0,
     ];
     assert!(rt; goes_round(alloc, &authorize, &bytes));
+    let empty = Request::Authorize {
+        resource: Text::new(alloc, &[]).ok().ok_or("empty")?,
+        user: Text::new(alloc, &[]).ok().ok_or("empty")?,
+        password: Text::new(alloc, &[]).ok().ok_or("empty")?,
+    };
+    let bytes = [0, 0, 0, 9, 0, 0, 0, 0, 0, 0, 0, 1, 0, 0, 0, 0, 1, 0];
+    assert!(rt; goes_round(alloc, &empty, &bytes));
     assert!(rt; goes_round(alloc, &Request::Exit, &[0, 0, 0, 10]));
     Ok(())
 }

@@ -1,11 +1,11 @@
 //! Messages as bytes: the one way of writing each.
 
-ghost use Rattle.std.specs.Prelude.{◌≡◌, ◌≢◌, ℕ, List, Some, IfOk, IfErr};
+ghost use Rattle.std.specs.Prelude.{◌≡◌, ◌≢◌, ◌↔◌, ℕ, List, Some, IfOk, IfErr};
 ghost use Rattle.wire_format.specs.Limit.{limited};
 ghost use Rattle.wire_format.specs.Writer.{Puts, joined, written, write_limited, IsLong};
 ghost use Rattle.sane_fixed.specs.Kind.{kind_code};
 ghost use Rattle.wire_codec.specs.Message.{message_limit, request as request_format};
-ghost use Rattle.wire_codec.specs.Written.{Answers, write_any, write_string, value_long, words_text, bytes_text, write_value, action_code, code_text, word_text, write_request, request_long};
+ghost use Rattle.wire_codec.specs.Written.{Answers, write_any, write_string, write_resource, value_long, words_text, bytes_text, write_value, action_code, code_text, word_text, write_request, request_long};
 
 use crate::array::Array;
 use crate::decoder::MESSAGE_LIMIT;
@@ -33,19 +33,25 @@ impl Encoder for AnyWord {
     }
 
     fn put(out: &mut Vec<u8>, value: &u32) -> Result<(), WriteError> {
-        put_word_between(out, *value, 0, u32::MAX, Fault::BadValue)
+        put_any_word(out, *value)
     }
 }
 
+pub(crate) fn put_any_word(out: &mut Vec<u8>, n: u32) -> Result<(), WriteError>
+    ensures { Puts result out.old.items out.new.items (write_any.text n) }
+{
+    put_word_between(out, n, 0, u32::MAX, Fault::BadValue)
+}
+
 /// Whether a text has more bytes than a string with its NUL may have.
-fn is_long_string(text: &Text) -> bool
+pub(crate) fn is_long_string(text: &Text) -> bool
     ensures { result ≡ write_string.long text.now }
 {
     text.as_bytes().len() > 1023
 }
 
 #[tactic(auto, unfolding(crate::specs::Written::write_string))]
-fn put_string(out: &mut Vec<u8>, text: &Text) -> Result<(), WriteError>
+pub(crate) fn put_string(out: &mut Vec<u8>, text: &Text) -> Result<(), WriteError>
     ensures { Puts result out.old.items out.new.items (write_string.text text.now) }
 {
     let bytes = text.as_bytes();
@@ -57,7 +63,18 @@ fn put_string(out: &mut Vec<u8>, text: &Text) -> Result<(), WriteError>
     put_byte_between(out, 0, 0, 0)
 }
 
-fn is_long_value(value: &WireValue) -> bool
+/// Writes a resource: an empty one without its NUL.
+pub(crate) fn put_resource(out: &mut Vec<u8>, resource: &Text) -> Result<(), WriteError>
+    ensures { Puts result out.old.items out.new.items (write_resource.text resource.now) }
+{
+    if resource.as_bytes().is_empty() {
+        Ok(put_word(out, 0)?)
+    } else {
+        put_string(out, resource)
+    }
+}
+
+pub(crate) fn is_long_value(value: &WireValue) -> bool
     ensures { result ≡ value_long value.now }
 {
     match value {
@@ -91,7 +108,7 @@ fn put_bytes(out: &mut Vec<u8>, bytes: &Array<u8>) -> Result<(), WriteError>
 }
 
 /// Writes a value of a kind, which says whether it is words or bytes.
-fn put_value(out: &mut Vec<u8>, kind: Kind, value: &WireValue) -> Result<(), WriteError>
+pub(crate) fn put_value(out: &mut Vec<u8>, kind: Kind, value: &WireValue) -> Result<(), WriteError>
     ensures { Puts result out.old.items out.new.items ((write_value kind).text value.now) }
 {
     match kind {
@@ -111,7 +128,7 @@ fn put_code_and_word(out: &mut Vec<u8>, code: u32, n: u32) -> Result<(), WriteEr
     ensures { Puts result out.old.items out.new.items (word_text code n) }
 {
     put_word(out, code)?;
-    put_word_between(out, n, 0, u32::MAX, Fault::BadValue)
+    put_any_word(out, n)
 }
 
 fn action_code(action: Action) -> u32
@@ -136,13 +153,18 @@ fn is_long_request(request: &Request) -> bool
     }
 }
 
-fn put_strings(out: &mut Vec<u8>, one: &Text, two: &Text, three: &Text) -> Result<(), WriteError>
+fn put_authorize(
+    out: &mut Vec<u8>,
+    resource: &Text,
+    user: &Text,
+    password: &Text,
+) -> Result<(), WriteError>
     ensures { Puts result out.old.items out.new.items
-        (joined (write_string.text one.now) (joined (write_string.text two.now) (write_string.text three.now))) }
+        (joined (write_resource.text resource.now) (joined (write_string.text user.now) (write_string.text password.now))) }
 {
-    put_string(out, one)?;
-    put_string(out, two)?;
-    put_string(out, three)
+    put_resource(out, resource)?;
+    put_string(out, user)?;
+    put_string(out, password)
 }
 
 fn put_request(out: &mut Vec<u8>, request: &Request) -> Result<(), WriteError>
@@ -168,7 +190,7 @@ fn put_request(out: &mut Vec<u8>, request: &Request) -> Result<(), WriteError>
             value,
         } => {
             put_code_and_word(out, 5, *device)?;
-            put_word_between(out, *option, 0, u32::MAX, Fault::BadValue)?;
+            put_any_word(out, *option)?;
             put_word(out, action_code(*action))?;
             put_word(out, kind.code())?;
             put_value(out, *kind, value)
@@ -182,21 +204,40 @@ fn put_request(out: &mut Vec<u8>, request: &Request) -> Result<(), WriteError>
             password,
         } => {
             put_word(out, 9)?;
-            put_strings(out, resource, user, password)
+            put_authorize(out, resource, user, password)
         }
         Request::Exit => Ok(put_word(out, 10)?),
     }
 }
 
-/// What is answered of a request.
-fn request_text(alloc: Global, request: &Request) -> Result<Vec<u8>, WireFault>
-    ensures { Answers (λ v. v.items) result (written (write_limited message_limit write_request) request.now) }
+/// Requests.
+struct AnyRequest;
+
+impl Encoder for AnyRequest {
+    ghost use Rattle.wire_codec.specs.Written.{write_request};
+
+    type Value = Request;
+
+    ghost writer = { write_request };
+
+    fn is_long(value: &Request) -> bool {
+        is_long_request(value)
+    }
+
+    fn put(out: &mut Vec<u8>, value: &Request) -> Result<(), WriteError> {
+        put_request(out, value)
+    }
+}
+
+/// What is answered of a message.
+pub(crate) fn encode<E: Encoder>(alloc: Global, message: &E::Value) -> Result<Vec<u8>, WireFault>
+    ensures { Answers (λ v. v.items) result (written (write_limited message_limit E.writer) message.now) }
 {
-    if is_long_request(request) {
+    if E::is_long(message) {
         return Err(WireFault::TooLong);
     }
     let mut out = Vec::new(alloc);
-    match put_request(&mut out, request) {
+    match E::put(&mut out, message) {
         Ok(()) => {
             if out.len() > MESSAGE_LIMIT {
                 Err(WireFault::TooLong)
@@ -214,9 +255,9 @@ fn request_text(alloc: Global, request: &Request) -> Result<Vec<u8>, WireFault>
 pub fn encode_request(alloc: Global, request: &Request) -> Result<Vec<u8>, WireFault>
     ensures ok { IfOk result (λ v. (limited message_limit request_format).spells v.items request.now) }
     ensures text { IfOk result (λ v. write_request.text request.now ≡ Some v.items) }
-    ensures long { (result ≡ Err WireFault.TooLong) → IsLong message_limit write_request request.now }
+    ensures long { result ≢ Err WireFault.NoMem → (result ≡ Err WireFault.TooLong) ↔ IsLong message_limit write_request request.now }
     ensures bad { IfErr result (λ e. e ≢ WireFault.NoMem → e ≢ WireFault.TooLong
         → (e ≡ WireFault.BadValue) × (¬ IsLong message_limit write_request request.now) × ((text : List ℕ) → request_format.spells text request.now → ⊥)) }
 {
-    request_text(alloc, request)
+    encode::<AnyRequest>(alloc, request)
 }
