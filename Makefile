@@ -49,10 +49,11 @@ bench: need-rt
 	[ -x crates/scanimage/out/scanimage ] || $(MAKE) build
 	tests/bench-scanimage
 
-# Puts the proved program at $(PREFIX)/bin/scanimage.
+# Puts the proved program at $(PREFIX)/bin/scanimage, and its manual page where man looks.
 install: build
-	install -d $(PREFIX)/bin
+	install -d $(PREFIX)/bin $(PREFIX)/share/man/man1
 	install -m 755 crates/scanimage/out/scanimage $(PREFIX)/bin/scanimage
+	install -m 644 docs/scanimage.1 $(PREFIX)/share/man/man1/scanimage.1
 
 need-rt:
 	@command -v rt > /dev/null || { echo 'jufteard: the command rt of the Rattle kit is not on the PATH' >&2; exit 1; }
