@@ -3,3 +3,4 @@ pub mod Asked
 pub mod DeviceList
 pub mod WordCut
 pub mod Options
+pub mod Rounding

@@ -1,3 +1,6 @@
+ghost use Rattle.std.specs.Prelude.{◌≡◌};
+ghost use Rattle.scanimage_cli.specs.Rounding.{is_rounded, is_any_rounded};
+
 use net_backend::Report;
 use option_desc::{Descriptor, show_text};
 use sane_fixed::{Info, NoMem};
@@ -11,12 +14,16 @@ fn option_of<'a>(report: &Report, options: &'a [Descriptor]) -> Option<&'a Descr
 }
 
 /// Whether a setting was given another value than it asked for.
-fn is_rounded(report: &Report) -> bool {
-    report.info.0 & Info::INEXACT != 0
+fn is_rounded(report: &Report) -> bool
+    ensures { result ≡ is_rounded report.now }
+{
+    report.info.0 / Info::INEXACT % 2 == 1
 }
 
 /// Whether one of the settings was given another value than it asked for.
-pub fn is_any_rounded(reports: &[Report]) -> bool {
+pub fn is_any_rounded(reports: &[Report]) -> bool
+    ensures { result ≡ is_any_rounded reports.now }
+{
     reports.iter().any(|report| is_rounded(report))
 }
 
