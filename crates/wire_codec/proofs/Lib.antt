@@ -13,3 +13,4 @@ pub mod Options
 pub mod Descriptors
 pub mod Replies
 pub mod Begins
+pub mod Passing

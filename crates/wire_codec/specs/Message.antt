@@ -164,6 +164,10 @@ word_list = after (word_of_kind (length_from 2)) (λ n. after (from_to (n - 1) (
 unfoldable pub entry : Format (List ℕ)
 entry = after (word_of_kind (length_from 1)) text_of
 
+-- the same, of which nothing is kept
+abbrev pub passed_entry : Format ℕ
+passed_entry = made (λ text. 0) entry
+
 abbrev pub last_entry_of : ℕ → Format (List (List ℕ))
 last_entry_of zero = done []
 last_entry_of (suc n) = made (λ last. last ∷ []) (text_of (suc n))

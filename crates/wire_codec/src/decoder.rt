@@ -82,9 +82,9 @@ struct Pending {
 /// A call reads the rest from its start, unless it was read before for the same message, fewer bytes came
 /// since than were wanted then, and none of them is a fault; then it looks at the new bytes alone. Of the replies to
 /// `GetDevices` and `GetOptionDescriptors`, the only ones that can be long, the devices or descriptors that came whole
-/// are kept, and the next call reads on behind them. So where a message comes byte by byte, a request, another reply, or
-/// the device or descriptor that has not come whole is read again for each byte of a word and of a NUL, and once for all
-/// the bytes of a string.
+/// are kept, and the next call reads on behind them. So where a message comes byte by byte, what is read again for each
+/// byte of a word and of a NUL, and once for all the bytes of a string, is a request, another reply, or the one device or
+/// descriptor that has not come whole; its list of strings is passed over before memory is taken for it.
 #[derive(Drop)]
 pub struct Decoder {
     bytes: Vec<u8>,

@@ -182,6 +182,24 @@ impl Reader for Entry {
     }
 }
 
+/// A string of a list, passed over: the NUL at its end.
+struct PassedEntry;
+
+impl Reader for PassedEntry {
+    ghost use Rattle.wire_codec.specs.Message.{passed_entry};
+
+    type Value = u8;
+
+    ghost format = { passed_entry };
+
+    #[tactic(auto, unfolding(crate::specs::Message::entry, crate::specs::Message::text_of))]
+    fn read(_alloc: Global, bytes: &[u8]) -> Result<(u8, &[u8]), ReadError> {
+        let (length, rest) = length_from(bytes, 1)?;
+        let (_, rest) = run(rest, 1, length as usize - 1)?;
+        byte_between(rest, 0, 0)
+    }
+}
+
 #[tactic(auto, unfolding(crate::specs::Message::last_entry))]
 fn last_entry(alloc: Global, bytes: &[u8]) -> Result<(Option<Text>, &[u8]), ReadError>
     ensures { Gives (λ x. (option_list x.0, x.1.now)) result (last_entry.read bytes.now) }
@@ -218,6 +236,8 @@ fn string_list(alloc: Global, bytes: &[u8]) -> Result<(StringList, &[u8]), ReadE
     ensures { Gives (λ x. (x.0, x.1.now)) result (string_list.read bytes.now) }
 {
     let (count, rest) = length_from(bytes, 1)?;
+    // Where one is not there yet, no memory is taken for those before it.
+    places::<PassedEntry>(alloc, count - 1, rest)?;
     let (front, rest) = places::<Entry>(alloc, count - 1, rest)?;
     let (last, rest) = last_of(alloc, count, rest)?;
     let all = with_last(front, last)?;
