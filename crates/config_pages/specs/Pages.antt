@@ -1,5 +1,5 @@
 -- The pages that stand in the lines of a config, as `hex:` and the bytes of a page file in hexadecimal.
-use Rattle.std.specs.Prelude.{ℕ, ◌≡◌, ◌⊎◌, if◌then◌else◌, nat_eq, true, Option, Some, None, Result, Ok, IsErr, List, drop, codes}
+use Rattle.std.specs.Prelude.{ℕ, ◌≡◌, ◌⊎◌, if◌then◌else◌, nat_eq, true, Option, Some, None, Ok, IsErr, List, drop, codes}
 use Rattle.std.specs.List.{starts_with}
 use Rattle.hex.specs.Hex.{decode_of}
 use Rattle.page_picture.specs.PageFile.{TellsPage, HasFault}

@@ -1,10 +1,14 @@
+ghost use Rattle.std.specs.Prelude.{◌≡◌};
+
 use crate::{NoPage, page_source};
-use page_picture::{PageFault, PageSource, Source};
+use page_picture::{PageFault, PageSource};
 use std::fs;
 use std::test::Fail;
 
 /// The first row of a page of two gray places, and that there is no second.
-fn only_row(source: &mut Source) -> Result<[u16; 6], Fail> {
+fn only_row<S: PageSource>(source: &mut S) -> Result<[u16; 6], Fail>
+    requires { (S.source source.old).page.width ≡ 2 }
+{
     let mut row = [0u16; 6];
     let is_row = source.next_row(&mut row)?;
     let mut second = [0u16; 6];

@@ -1,19 +1,18 @@
 -- The passes of a scan, joined one after another: their frames are those of the scan.
-use Rattle.std.proofs.Common.{◌≡◌, ℕ, suc, ◌+◌, ◌*◌, ◌<◌, ◌≤◌, List, [], ◌∷◌, ◌++◌, Option, Some, None, Bool, true, false, length, take, refl, sym, ap, ◌∙◌, subst, arith, ◌⊎◌, inl, inr, add-one}
-use Rattle.std.specs.Prelude.{if◌then◌else◌, nat_lt}
+use Rattle.std.proofs.Common.{◌≡◌, ℕ, suc, ◌+◌, ◌≤◌, List, [], ◌∷◌, ◌++◌, Some, None, Bool, true, false, length, refl, sym, ap, ◌∙◌, arith}
+use Rattle.std.specs.Prelude.{if◌then◌else◌}
 use Rattle.page_picture.specs.Page.{Sheet}
 use Rattle.page_picture.specs.Shows.{Frame}
 use Rattle.page_picture.specs.declared.scene.Mode.{Mode}
 use Rattle.page_picture.specs.declared.scene.Mode.TheVariants.{Gray, Color}
 use Rattle.sane_fixed.specs.declared.byte_order.ByteOrder.{ByteOrder}
 use Rattle.sane_fixed.specs.declared.params.Params.{Params}
-use Rattle.std.proofs.Common.{Result, Ok, Err}
-use Rattle.scan_frames.specs.Frames.{frames_of, frame_of, payload, params_at, format_at, format_of, color_at, takes_colors, last_pass}
+use Rattle.std.proofs.Common.{Ok, Err}
+use Rattle.scan_frames.specs.Frames.{frames_of, frame_of, payload, format_at, format_of, color_at, takes_colors, last_pass}
 use Rattle.scan_frames.specs.declared.setup.Setup.{Setup}
 use Rattle.scan_frames.specs.declared.setup.PassOrder.{PassOrder}
 use Rattle.scan_frames.specs.declared.setup.PassOrder.TheVariants.{Rgb, Rbg, Gbr, Grb, Brg, Bgr}
 use Rattle.device_api.specs.State.{DeviceState}
-use Rattle.pnm_writer.specs.declared.join_stage.JoinFault.{JoinFault}
 use Rattle.pnm_writer.specs.declared.join_stage.JoinFault.TheVariants.{Shape, Short, NoMem}
 use Rattle.pnm_writer.specs.AloneFrame.{is_alone_format}
 use Rattle.pnm_writer.specs.FrameHistory.{Past, after_begin, after_end, answer_of, is_accepted, is_full, is_joined}

@@ -1,7 +1,6 @@
 -- A scan whose passes were joined: what is told of it after one more pass.
 use Rattle.std.proofs.Common.{◌≡◌, ℕ, ◌+◌, ◌*◌, ◌/◌, ◌<◌, ◌≤◌, ◌^◌, List, [], ◌∷◌, ◌++◌, Option, Some, None, Bool, true, false, length, take, refl, sym, ap, ◌∙◌, subst, arith, ◌⊎◌, inl, inr, length-append}
-use Rattle.std.specs.Prelude.{◌&&◌, ◌==◌, if◌then◌else◌, nat_lt, slice_index, OnOk, OnErr, IfOk, IfErr}
-use Rattle.std.specs.Io.KnownBytes.{Appends}
+use Rattle.std.specs.Prelude.{if◌then◌else◌, nat_lt, slice_index, OnOk, OnErr, IfOk, IfErr}
 use Rattle.std.proofs.Math.Seq.{take-length}
 use Rattle.std.proofs.lemmas.Bool.{eqb-true, ltb-false}
 use Rattle.std.proofs.Math.Nat.{div-le_of_le-mul}
@@ -18,7 +17,7 @@ use Rattle.scan_frames.specs.declared.setup.Setup.{Setup}
 use Rattle.device_api.specs.Allowed.{HasLimits}
 use Rattle.device_api.specs.State.{DeviceState, Phase, AtRest, Between, Reading, is_reading, with_phase, after_pass, params_of, params_in}
 use Rattle.device_api.proofs.RunLaws.{length-payload}
-use Rattle.pnm_writer.specs.FrameHistory.{Past, IsJoined, answer_of, after_pull, is_full, is_full_at, is_joined}
+use Rattle.pnm_writer.specs.FrameHistory.{Past, IsJoined, after_pull, is_full, is_full_at, is_joined}
 use Rattle.pnm_writer.specs.Joining.{Joining, Stands}
 use Rattle.local_job.specs.Draining.{IsDrainedTo, StopsShort}
 use Rattle.local_job.specs.FrameReading.{came, frames_came, AreOfPasses, IsAllOrNone, IsReadTo, IsScanned, EndsFrame, HasJoined, HasScanned}

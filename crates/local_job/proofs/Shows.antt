@@ -20,7 +20,7 @@ use Rattle.scan_frames.specs.declared.setup.Setup.{Setup}
 use Rattle.device_api.specs.declared.scan_option.ScanOption.{ScanOption}
 use Rattle.device_api.specs.declared.scan_option.ScanOption.TheVariants.{NumOptions, HandScanner}
 use Rattle.device_api.specs.Options.{options_of, option_at, option_caps, is_active, has_cap, caps_of, descriptor_of, descriptors_of}
-use Rattle.device_api.specs.Values.{passing, option_got, option_to_get, got, option_value}
+use Rattle.device_api.specs.Values.{passing, option_got, got, option_value}
 use Rattle.net_backend.specs.Shown.{tells_value}
 
 -- what the capabilities say of an option by whether it is active

@@ -1,5 +1,5 @@
 -- The frames of a scan on their way from a scanner to the output.
-use Rattle.std.specs.Prelude.{ℕ, suc, ◌+◌, ◌≡◌, ◌≢◌, ◌≤◌, ◌⊎◌, Option, Some, None, List, [], ◌∷◌, ◌++◌, take, length, Bool, true, false, IsSomeAnd}
+use Rattle.std.specs.Prelude.{ℕ, suc, ◌+◌, ◌≡◌, ◌≢◌, ◌≤◌, ◌⊎◌, Option, None, List, [], ◌∷◌, ◌++◌, take, length, Bool, true, false, IsSomeAnd}
 use Rattle.std.specs.Io.KnownBytes.{Appends}
 use Rattle.netpbm.specs.Pnm.{Denotes, IsWhole}
 use Rattle.page_picture.specs.Page.{Sheet}

@@ -1,5 +1,5 @@
 -- What the options of the program ask for.
-use Rattle.std.specs.Prelude.{ℕ, ◌≡◌, ◌++◌, if◌then◌else◌, Option, None, IsSome, IfSome, List, Contains, codes}
+use Rattle.std.specs.Prelude.{ℕ, ◌≡◌, ◌++◌, if◌then◌else◌, None, IsSome, IfSome, List, Contains, codes}
 use Rattle.net_backend.specs.declared.job.Task.{Task}
 use Rattle.net_backend.specs.declared.job.Task.TheVariants.{List as ListTask, Show, SetOnly, Scan}
 use Rattle.scanimage_cli.specs.declared.options.Options.{Options}

@@ -1,5 +1,5 @@
 -- The settings that were given another value than they asked for.
-use Rattle.std.specs.Prelude.{ℕ, ◌%◌, ◌==◌, Bool, List}
+use Rattle.std.specs.Prelude.{◌%◌, ◌==◌, Bool, List}
 use Rattle.std.specs.List.{list_any}
 use Rattle.net_backend.specs.declared.report.Report.{Report}
 

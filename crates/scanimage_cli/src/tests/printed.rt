@@ -262,7 +262,10 @@ fn rounded_values(rt: HostRuntime) -> Result<(), Fail> {
             4,
         ),
     ];
-    assert!(rt; is_any_rounded(&reports) && !is_any_rounded(&reports[1..]));
+    assert!(rt; is_any_rounded(&reports));
+    assert!(rt; !is_any_rounded(&[]));
+    let [_, exact] = &reports;
+    assert!(rt; !is_any_rounded(std::slice::from_ref(exact)));
     let lines = rounded_lines(alloc, &reports, &options)?;
     let wanted = b"scanimage: rounded value of name from 0.600006103515625 to 1\n";
     assert_eq!(rt; lines.as_slice(), wanted.as_slice());

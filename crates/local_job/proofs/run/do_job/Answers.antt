@@ -1,9 +1,9 @@
-use Rattle.std.proofs.Common.{◌≡◌, ◌≢◌, ◌∙◌, rules, refl, subst, sym, ap, Option, List, ℕ}
+use Rattle.std.proofs.Common.{◌≡◌, ◌≢◌, ◌∙◌, rules, subst, ap}
 use Rattle.device_api.specs.State.{DeviceState, with_setup}
 use Rattle.net_backend.specs.declared.job.Task.TheVariants.{Scan}
 use Rattle.local_job.proofs.Shows.{scan_writes, others_write}
 use Rattle.local_job.specs.FrameReading.{IsScanned}
-use Rattle.local_job.specs.LocalRun.{Writes, devices_told}
+use Rattle.local_job.specs.LocalRun.{devices_told}
 use Rattle.local_job.proofs.run.do_job.Goals.{then-eq+in_ok-scan_picture, else-eq}
 use Rattle.local_job.proofs.run.do_job.Goals as goal
 

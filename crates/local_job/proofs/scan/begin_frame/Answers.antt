@@ -1,6 +1,6 @@
 use Rattle.std.proofs.Common.{◌∙◌, sym, subst}
-use Rattle.device_api.specs.State.{DeviceState, params_of}
-use Rattle.pnm_writer.specs.FrameHistory.{Past, after_begin}
+use Rattle.device_api.specs.State.{DeviceState}
+use Rattle.pnm_writer.specs.FrameHistory.{Past}
 use Rattle.pnm_writer.specs.Joining.{Stands, is_starved}
 use Rattle.local_job.proofs.Passes.{begun_well}
 use Rattle.local_job.proofs.scan.begin_frame.Goals as goal

@@ -1,4 +1,4 @@
-use Rattle.std.proofs.Common.{◌≡◌, ◌∙◌, sym, subst, rules, Ok}
+use Rattle.std.proofs.Common.{◌≡◌, ◌∙◌, sym, subst, Ok}
 use Rattle.pnm_writer.specs.FrameHistory.{Past, after_end, answer_of}
 use Rattle.pnm_writer.specs.Joining.{Stands}
 use Rattle.local_job.proofs.Passes.{ended, ended_well}

@@ -1,4 +1,4 @@
-use Rattle.std.proofs.Common.{◌≡◌, ◌≤◌, ℕ, [], sym, ap, subst, refl, rules, arith, true, length}
+use Rattle.std.proofs.Common.{◌≡◌, ◌≤◌, ℕ, [], sym, ap, subst, refl, arith, true, length}
 use Rattle.std.proofs.lemmas.Result.{err_from_is_err_and}
 use Rattle.scan_frames.specs.Frames.{has_picture, last_pass}
 use Rattle.page_picture.specs.Shows.{Frame}

@@ -1,6 +1,5 @@
-use Rattle.std.proofs.Common.{◌≡◌, ◌∙◌, ◌<◌, rules, sym, ap, arith, true, false}
+use Rattle.std.proofs.Common.{◌≡◌, ◌∙◌, rules, sym, true, false}
 use Rattle.std.proofs.lemmas.Result.{err_from_is_err_and}
-use Rattle.scan_frames.specs.Frames.{has_picture}
 use Rattle.device_api.specs.State.{DeviceState}
 use Rattle.local_job.proofs.Scans.{none_gone, so_joined, one_gone, all_gone, stops_gone, further, picture_same}
 use Rattle.local_job.proofs.scan.scan_passes.Goals as goal

@@ -1,4 +1,3 @@
-use Rattle.std.proofs.Common.{◌≡◌}
 use Rattle.std.specs.Prelude.{codes}
 use Rattle.scanimage_cli.proofs.Lines.{nine}
 use Rattle.scanimage_cli.proofs.listing.add_device.Goals as goal

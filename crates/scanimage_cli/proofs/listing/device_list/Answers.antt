@@ -1,4 +1,4 @@
-use Rattle.std.proofs.Common.{rules, ◌≡◌, [], ◌∷◌, ◌+◌, ◌≤◌, drop, length}
+use Rattle.std.proofs.Common.{rules, ◌≡◌, ◌∷◌, ◌+◌, ◌≤◌, drop, length}
 use Rattle.std.proofs.Math.ListN.{drop_of_length-le}
 use Rattle.local_job.proofs.Puts.{cut_at}
 use Rattle.scanimage_cli.proofs.Lines.{one_more, no_more}
