@@ -1,5 +1,5 @@
 -- How the bytes of a file go out of a join.
-use Rattle.std.proofs.Common.{◌≡◌, ℕ, zero, suc, ◌<◌, ◌≤◌, ◌+◌, ◌*◌, ◌/◌, ◌⊎◌, inl, inr, Bool, true, false, List, [], ◌∷◌, ◌++◌, length, take, drop, set, arith, refl, sym, ap, ◌∙◌, subst, append_assoc}
+use Rattle.std.proofs.Common.{◌≡◌, ℕ, zero, suc, ◌<◌, ◌≤◌, ◌+◌, ◌-◌, ◌*◌, ◌/◌, ◌⊎◌, inl, inr, Bool, true, false, List, [], ◌∷◌, ◌++◌, length, take, drop, set, arith, refl, sym, ap, ◌∙◌, subst, append_assoc}
 use Rattle.std.specs.Prelude.{nat_lt, nat_le, ◌==◌, ◌&&◌, ◌||◌, if◌then◌else◌, Option, Some, None, slice_index}
 use Rattle.std.proofs.lemmas.Bool.{and_parts, cases_lt}
 use Rattle.std.proofs.lemmas.List.{append-nil, take_all, take_more_set, drop-drop, drop-set-lt}
@@ -16,8 +16,8 @@ use Rattle.pnm_writer.specs.FrameHistory.{Past, after_pull}
 use Rattle.pnm_writer.specs.FrameFile.{header_alone, rows_front, row_front, file_front, raster_byte, trimmed, place_in, AllGone, GoesThrough, file_of, gone_under, rows_to_go, settled, height_of}
 use Rattle.pnm_writer.specs.JoinStages.{fault_in, is_under, is_keeping, is_whole, is_colors}
 use Rattle.pnm_writer.specs.Joining.{Joining, Stands, StandsAt, Goes, Streams, HasColors, IsDrained, AreColors, IsPart}
-use Rattle.pnm_writer.specs.JoinSteps.{moves, may_go, next_byte, next_sample, after_next, after_row, is_ready, is_held}
-use Rattle.pnm_writer.proofs.TestLemmas.{lt_true, lt_false, not_lt_from, le_true, eq_true, eq_false, or_false, or_other}
+use Rattle.pnm_writer.specs.JoinSteps.{moves, may_go, sample_at, after_samples, after_row, is_ready, is_held}
+use Rattle.pnm_writer.proofs.TestLemmas.{lt_true, lt_false, not_lt_from, le_true, eq_true, eq_false, or_false, or_other, or_right}
 use Rattle.pnm_writer.proofs.StreamLaws.{head_goes, column_goes, row_goes, goes_head, goes_column, goes_row, ready_is, held_byte, held_length, row_front-zero}
 use Rattle.pnm_writer.proofs.KeptLaws.{ready_row, pass_parts}
 use Rattle.pnm_writer.proofs.SideLaws.{side_raster}
@@ -25,6 +25,18 @@ use Rattle.pnm_writer.proofs.AcceptLaws.{alone_is}
 use Rattle.pnm_writer.proofs.JoinLaws.{at_stage, fault_at}
 
 -- ---- a byte goes out
+
+-- the next byte of the raster
+abbrev pub next_sample : Joining → ℕ
+next_sample v = sample_at v v.column
+
+-- the next byte of the file
+abbrev pub next_byte : Joining → ℕ
+next_byte v = if nat_lt v.headed (length v.head) then slice_index v.head v.headed else next_sample v
+
+-- the value once a byte has gone
+abbrev pub after_next : Joining → Joining
+after_next v = if nat_lt v.headed (length v.head) then record v { headed = v.headed + 1 } else after_samples 1 v
 
 -- the next byte and the value after it, by what the tests say
 byte_head : (v : Joining) → v.headed < length v.head → next_byte v ≡ slice_index v.head v.headed
@@ -382,6 +394,33 @@ pull_step past now new before after byte may b n a stands =
     append_assoc past.given before (next_byte now ∷ []) ∙ ap (λ (l : List ℕ). past.given ++ l) (ap (λ (x : ℕ). before ++ x ∷ []) (sym b) ∙ sym a) in
     subst (λ (w : Joining). Stands (after_pull after past) w) (sym n) (subst (λ (l : List ℕ). Stands (record past { given = l }) (after_next now)) all step)
 
+-- the header gives a byte
+pub head_step : (past : Past) (now new : Joining) (before after : List ℕ) (byte : ℕ) → moves now.stage ≡ true → now.headed < length now.head → byte ≡ slice_index now.head now.headed → new ≡ record now { headed = now.headed + 1 } → after ≡ before ++ byte ∷ [] → Stands (after_pull before past) now → Stands (after_pull after past) new
+head_step past now new before after byte moving less b n a stands =
+    let may : may_go now ≡ true = ap (λ (t : Bool). t && (nat_lt now.headed (length now.head) || is_ready now)) moving ∙ ap (λ (t : Bool). t || is_ready now) (lt_true now.headed (length now.head) less) in
+    pull_step past now new before after byte may (b ∙ sym (byte_head now less)) (n ∙ sym (after_head now less)) a stands
+
+-- ---- bytes of one row
+
+row_on : (v : Joining) (n : ℕ) → v.column + n < row_bytes v.params → after_samples n v ≡ record v { column = v.column + n }
+row_on v n more = ap (λ (t : Bool). if t then after_row v else record v { column = v.column + n }) (eq_false (v.column + n) (row_bytes v.params) (λ e. omega (arith, e, more)))
+
+pub no_samples : (v : Joining) (n : ℕ) → n ≡ 0 → v.column < row_bytes v.params → after_samples n v ≡ v
+no_samples v n none less =
+    let same : v.column + n ≡ v.column = omega (arith, none) in
+    row_on v n (omega (arith, same, less)) ∙ ap (λ (c : ℕ). record v { column = c }) same
+
+pub row_may : (v : Joining) → moves v.stage ≡ true → is_ready v ≡ true → may_go v ≡ true
+row_may v moving ready = ap (λ (t : Bool). t && (nat_lt v.headed (length v.head) || is_ready v)) moving ∙ or_right (nat_lt v.headed (length v.head)) (is_ready v) ready
+
+pub row_step : (past : Past) (v : Joining) (n : ℕ) (before after : List ℕ) (byte : ℕ) → moves v.stage ≡ true → length v.head ≤ v.headed → is_ready v ≡ true → v.column + n < row_bytes v.params → byte ≡ sample_at v (v.column + n) → after ≡ before ++ byte ∷ [] → Stands (after_pull before past) (after_samples n v) → Stands (after_pull after past) (after_samples (n + 1) v)
+row_step past v n before after byte moving done ready more b a stands =
+    let w : Joining = record v { column = v.column + n } in
+    let here : Stands (after_pull before past) w = subst (λ (u : Joining). Stands (after_pull before past) u) (row_on v n more) stands in
+    let on : v.column + (n + 1) ≡ v.column + n + 1 = omega arith in
+    let next : after_samples (n + 1) v ≡ after_next w = ap (λ (c : ℕ). if c == row_bytes v.params then after_row v else record v { column = c }) on ∙ sym (after_raster w done) in
+    pull_step past w (after_samples (n + 1) v) before after byte (row_may w moving ready) (b ∙ sym (byte_raster w done)) next a here
+
 pub went_on : (i : ℕ) (first now : Joining) → (i ≡ 0 → now ≡ first) → (0 < i → may_go first ≡ true) → may_go now ≡ true → may_go first ≡ true
 went_on zero first now same went may = subst (λ (v : Joining). may_go v ≡ true) (same refl) may
 went_on (suc i) first now same went may = went (omega arith)
@@ -392,3 +431,9 @@ step_take xs i y h = take_more_set xs i y h
 pub step_drop : (xs first : List ℕ) (i y : ℕ) → drop i xs ≡ drop i first → drop (i + 1) (set xs i y) ≡ drop (i + 1) first
 step_drop xs first i y e =
     drop-set-lt (i + 1) xs i y (omega arith) ∙ (sym (drop-drop 1 i xs) ∙ (ap (drop 1) e ∙ drop-drop 1 i first))
+
+-- what stands past a run stood there before
+pub run_on : (at end : ℕ) (new now first : List ℕ) → at ≤ end → drop end new ≡ drop end now → drop at now ≡ drop at first → drop end new ≡ drop end first
+run_on at end new now first low rest before =
+    let e : at + (end - at) ≡ end = omega (arith, low) in
+    rest ∙ (sym (drop-drop (end - at) at now ∙ ap (λ (n : ℕ). drop n now) e) ∙ (ap (drop (end - at)) before ∙ (drop-drop (end - at) at first ∙ ap (λ (n : ℕ). drop n first) e)))

@@ -15,7 +15,7 @@ use Rattle.pnm_writer.specs.FrameFile.{header_alone, place_in, trimmed}
 use Rattle.pnm_writer.specs.JoinStages.{is_under, is_keeping, is_whole, is_colors}
 use Rattle.pnm_writer.specs.Joining.{Joining}
 
--- ---- a byte goes out
+-- ---- bytes go out
 
 abbrev pub moves : Stage → Bool
 moves s = is_under s || (is_whole s || is_colors s)
@@ -27,16 +27,12 @@ is_held v = nat_le v.params.bytes_per_line (length v.held) && (is_whole v.stage 
 abbrev pub is_ready : Joining → Bool
 is_ready v = nat_lt v.row (lines_in v.params.lines) && (is_colors v.stage || is_held v)
 
--- the next byte of the raster
-abbrev pub next_sample : Joining → ℕ
-next_sample v =
-    let place = place_in v.order v.params.depth v.column in
+-- the byte at a column of the row
+abbrev pub sample_at : Joining → ℕ → ℕ
+sample_at v column =
+    let place = place_in v.order v.params.depth column in
     if is_colors v.stage then side_byte v.planes v.params.depth v.row place
-    else trimmed v.params.pixels_per_line v.params.depth v.column (slice_index v.held place)
-
--- the next byte of the file
-abbrev pub next_byte : Joining → ℕ
-next_byte v = if nat_lt v.headed (length v.head) then slice_index v.head v.headed else next_sample v
+    else trimmed v.params.pixels_per_line v.params.depth column (slice_index v.held place)
 
 -- a byte may go out
 abbrev pub may_go : Joining → Bool
@@ -48,12 +44,11 @@ after_row v =
     if is_colors v.stage then record v { column = 0; row = v.row + 1 }
     else record v { column = 0; row = v.row + 1; held = drop v.params.bytes_per_line v.held }
 
--- the value once a byte has gone
-abbrev pub after_next : Joining → Joining
-after_next v =
-    if nat_lt v.headed (length v.head) then record v { headed = v.headed + 1 }
-    else (if v.column + 1 == row_bytes v.params then after_row v
-    else record v { column = v.column + 1 })
+-- the value once so many bytes of the row have gone
+abbrev pub after_samples : ℕ → Joining → Joining
+after_samples n v =
+    if v.column + n == row_bytes v.params then after_row v
+    else record v { column = v.column + n }
 
 -- ---- bytes come
 

@@ -1,13 +1,13 @@
-ghost use Rattle.std.specs.Prelude.{◌≡◌, ◌≤◌, ◌<◌, ◌+◌, ◌-◌, ◌*◌, ◌||◌, ◌↔◌, Ok, IfSome, IfNone, IfOk, true, false, None, length};
+ghost use Rattle.std.specs.Prelude.{◌≡◌, ◌≤◌, ◌<◌, ◌+◌, ◌-◌, ◌*◌, ◌||◌, ◌↔◌, Ok, IfOk, true, false, None, length, take, drop};
 ghost use Rattle.netpbm.specs.Picture.{Picture};
 ghost use Rattle.page_picture.specs.Shows.{ShowsFrames};
-ghost use Rattle.pnm_writer.specs.AloneFrame.{AloneParts, ShapeParts, most_lines};
+ghost use Rattle.pnm_writer.specs.AloneFrame.{AloneParts, ShapeParts, most_lines, row_bytes};
 ghost use Rattle.pnm_writer.specs.KeptFrame.{is_unknown, is_open_ended, is_pass};
-ghost use Rattle.pnm_writer.specs.FrameHistory.{Past, no_past, after_begin, after_feed, after_end, answer_of, frames_of};
+ghost use Rattle.pnm_writer.specs.FrameHistory.{Past, no_past, after_begin, after_feed, after_end, after_pull, answer_of, frames_of};
 ghost use Rattle.pnm_writer.specs.declared.join_stage.Stage.TheVariants.{Under, Keeping, Between};
 ghost use Rattle.pnm_writer.specs.JoinStages.{is_under, is_colors};
 ghost use Rattle.pnm_writer.specs.Joining.{Stands, is_starved, IsDrained};
-ghost use Rattle.pnm_writer.specs.JoinSteps.{moves, is_ready, next_sample, may_go, next_byte, after_next, value_fed, under_ended, kept_ended, color_ended, value_ended, first_begun, next_begun, value_begun, accepts_next, answer_at, fresh, keeping};
+ghost use Rattle.pnm_writer.specs.JoinSteps.{moves, is_ready, sample_at, may_go, after_samples, value_fed, under_ended, kept_ended, color_ended, value_ended, first_begun, next_begun, value_begun, accepts_next, answer_at, fresh, keeping};
 
 use crate::alone_frame::{
     header_alone, is_alone, lines_in, most_lines, place_in, row_size, trimmed,
@@ -120,53 +120,86 @@ impl FrameJoin {
         }
     }
 
-    /// The next byte of the raster, which may go out.
-    fn next_sample(&self) -> u8
-        requires { is_ready self.now ≡ true }
-        ensures { result ≡ next_sample self.now }
+    /// The byte at a column of the row, which may go out.
+    fn sample_at(&self, column: usize) -> u8
+        requires ready { is_ready self.now ≡ true }
+        requires inside { column < row_bytes self.now.params }
+        ensures { result ≡ sample_at self.now column }
     {
         let params = self.params;
-        let place = place_in(self.order, params.depth, self.column);
+        let place = place_in(self.order, params.depth, column);
         if self.has_colors() {
             return self.planes.side_byte(params.depth, self.row, place);
         }
         trimmed(
             params.pixels_per_line,
             params.depth,
-            self.column,
+            column,
             self.held[self.start + place],
         )
     }
 
-    /// The next byte that may go out.
-    pub(crate) fn next_byte(&mut self) -> Option<u8>
-        ensures may { IfSome result (λ _. may_go self.old ≡ true) }
-        ensures byte { IfSome result (λ byte. byte ≡ next_byte self.old) }
-        ensures after { IfSome result (λ _. self.new ≡ after_next self.old) }
-        ensures none { IfNone result ((may_go self.old ≡ false) × (self.new ≡ self.old)) }
+    /// Writes bytes of the row, which may go out, to `buf` between `at` and `end`.
+    fn write_row(&self, buf: &mut [u8], at: usize, end: usize)
+        requires moves { moves self.now.stage ≡ true }
+        requires head { length self.now.head ≤ self.now.headed }
+        requires ready { is_ready self.now ≡ true }
+        requires order { at ≤ end }
+        requires room { end ≤ length buf.old }
+        requires row { self.now.column + (end - at) ≤ row_bytes self.now.params }
+        ensures size { length buf.new ≡ length buf.old }
+        ensures rest { drop end buf.new ≡ drop end buf.old }
+        ensures carried { (past : Past) → Stands (after_pull (take at buf.old) past) self.now → Stands (after_pull (take end buf.new) past) (after_samples (end - at) self.now) }
     {
-        if !self.moves() {
-            return None;
+        for i in at..end {
+            buf[i] = self.sample_at(self.column + (i - at));
         }
-        if self.headed < self.head.len() {
-            let byte = self.head[self.headed];
-            self.headed += 1;
-            return Some(byte);
-        }
-        if !self.is_ready() {
-            return None;
-        }
-        let byte = self.next_sample();
-        if self.column + 1 == row_size(&self.params) {
+    }
+
+    /// So many bytes of the row have gone.
+    fn pass_over(&mut self, count: usize)
+        requires moves { moves self.old.stage ≡ true }
+        requires ready { is_ready self.old ≡ true }
+        requires row { self.old.column + count ≤ row_bytes self.old.params }
+        ensures { self.new ≡ after_samples count self.old }
+    {
+        self.column += count;
+        if self.column == row_size(&self.params) {
             self.column = 0;
             self.row += 1;
             if !self.has_colors() {
                 self.start += self.params.bytes_per_line as usize;
             }
-        } else {
-            self.column += 1;
         }
-        Some(byte)
+    }
+
+    /// Writes bytes that may go out to `buf` from `at` on, of the header one, else some of a row, and says where it
+    /// stopped; that is at `at` only where none may go out.
+    pub(crate) fn next_run(&mut self, buf: &mut [u8], at: usize) -> usize
+        requires { at < length buf.old }
+        ensures low { at ≤ result }
+        ensures high { result ≤ length buf.old }
+        ensures size { length buf.new ≡ length buf.old }
+        ensures rest { drop result buf.new ≡ drop result buf.old }
+        ensures carried { (past : Past) → Stands (after_pull (take at buf.old) past) self.old → Stands (after_pull (take result buf.new) past) self.new }
+        ensures none { result ≡ at → (may_go self.old ≡ false) × (self.new ≡ self.old) }
+        ensures some { at < result → may_go self.old ≡ true }
+    {
+        if !self.moves() {
+            return at;
+        }
+        if self.headed < self.head.len() {
+            buf[at] = self.head[self.headed];
+            self.headed += 1;
+            return at + 1;
+        }
+        if !self.is_ready() {
+            return at;
+        }
+        let more = (row_size(&self.params) - self.column).min(buf.len() - at);
+        self.write_row(buf, at, at + more);
+        self.pass_over(more);
+        at + more
     }
 
     /// The most bytes that the lines from the row on may have.

@@ -292,7 +292,11 @@ fn shapes_of_passes(rt: HostRuntime) {
     }
     let fault = second_fault(rt.alloc(), &green, ByteOrder::Little);
     assert_eq!(rt; fault, Some(JoinFault::Shape));
-    // First frames that are none: of unknown height, the last of three, of one bit, too short a line.
+}
+
+#[test]
+fn shapes_of_first_frames(rt: HostRuntime) {
+    // Of unknown height, the last of three, of one bit, too short a line, not the last, too wide.
     for params in [
         Params {
             lines: None,

@@ -1,13 +1,18 @@
-use Rattle.std.proofs.Common.{◌≡◌, ◌<◌, take, drop, true}
+use Rattle.std.proofs.Common.{◌≡◌, ◌≤◌, ◌<◌, ◌-◌, take, drop, length, true}
 use Rattle.pnm_writer.specs.FrameHistory.{Past, after_pull}
 use Rattle.pnm_writer.specs.Joining.{Stands}
 use Rattle.pnm_writer.specs.JoinSteps.{may_go}
 use Rattle.pnm_writer.proofs.pnm_out.PnmOut.pull.Given as goal
 
-abbrev pub invariant-loop-i : goal.invariant-loop-i
-invariant-loop-i l = record {
-  carried : (past : Past) → Stands past l.fn.join → Stands (after_pull (take l.i l.buf) past) l.join;
-  rest : drop l.i l.buf ≡ drop l.i l.fn.buf;
-  first : l.i ≡ 0 → l.join ≡ l.fn.join;
-  went : 0 < l.i → may_go l.fn.join ≡ true;
+abbrev pub invariant-loop-at : goal.invariant-loop-at
+invariant-loop-at l = record {
+  within : l.at ≤ length l.buf;
+  size : length l.buf ≡ length l.fn.buf;
+  carried : (past : Past) → Stands past l.fn.join → Stands (after_pull (take l.at l.buf) past) l.join;
+  rest : drop l.at l.buf ≡ drop l.at l.fn.buf;
+  first : l.at ≡ 0 → l.join ≡ l.fn.join;
+  went : 0 < l.at → may_go l.fn.join ≡ true;
 }
+
+abbrev pub decreases-loop-at : goal.decreases-loop-at
+decreases-loop-at l = length l.buf - l.at

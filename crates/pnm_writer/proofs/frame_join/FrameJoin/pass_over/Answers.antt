@@ -5,7 +5,7 @@ use Rattle.pnm_writer.specs.JoinStages.{is_colors}
 use Rattle.pnm_writer.specs.JoinInside.{seen}
 use Rattle.pnm_writer.specs.JoinSteps.{is_ready, moves}
 use Rattle.pnm_writer.proofs.KeptLaws.{collecting_rests, ready_row, ready_line}
-use Rattle.pnm_writer.proofs.frame_join.FrameJoin.next_byte.Goals as goal
+use Rattle.pnm_writer.proofs.frame_join.FrameJoin.pass_over.Goals as goal
 
 pub invariant_of-self-then-not-has_colors : goal.invariant_of-self-then-not-has_colors
 invariant_of-self-then-not-has_colors c =
