@@ -21,16 +21,15 @@ demo: need-rt
 build: need-rt
 	cd crates/scanimage && rt run -- $(DEMO_WORDS) < stdin > /dev/null
 
-# The gate: every proof from nothing, the must-fail edits, the tests, the stored runs, and what stands beside it.
+# The gate: rt ci (every proof from nothing, the must-fail edits, the tests, the stored runs) and the built program case by
+# case. It also says for which crates make more-edits is due.
 test: need-rt
-	rt ci
-	[ -x crates/scanimage/out/scanimage ] || $(MAKE) build
-	tests/programs
+	tests/gate
 
-# Tries the edits of crates/*/more-edits, which the prover must refuse as well. It takes an hour or two, so the gate
-# leaves it out.
+# Tries the edits of crates/*/more-edits, which the prover must refuse as well, of each crate that changed since
+# tests/edits.record, many in one check. Of all crates it takes about an hour on four cores.
 more-edits: need-rt
-	tests/more-edits
+	tests/edits --changed
 
 # Runs the proved program with each allocation refused in turn. It needs a C compiler, so the gate leaves it out.
 failing-allocations: build

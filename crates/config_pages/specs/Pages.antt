@@ -18,7 +18,7 @@ pub record GivesSpelled (digits : List ℕ) (dpi : ℕ) (source : SourceState) :
   pub file : List ℕ
   pub spelled : decode_of digits ≡ Ok file
   pub told : TellsPage file dpi source.page
-  pub begun : source ≡ record { page = source.page; given = 0; steady = true; failures = 0 }
+  pub begun : source ≡ record { page = source.page; given = 0; steady = true; firm = true; failures = 0 }
 
 -- the digits spell no file, which counts as a bad magic, or one that has the fault
 abbrev pub HasSpelledFault : PageFault → List ℕ → ℕ → Type 0

@@ -9,7 +9,7 @@ use std::fs::File;
 
 /// The page in the file of that path, relative to the current folder.
 fn file_page(rt: &HostRuntime, path: &[u8], dpi: u32) -> Result<PnmPage<File>, NoPage>
-    ensures dots { IfOk result (λ page. page.page.dpi ≡ dpi) }
+    ensures dots { IfOk result (λ page. page.shown.page.dpi ≡ dpi) }
 {
     let path = std::str::from_utf8(path).map_err(|_| NoPage::CannotRead)?;
     let file = File::open(rt, path).map_err(|_| NoPage::CannotRead)?;

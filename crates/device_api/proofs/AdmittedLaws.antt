@@ -15,10 +15,10 @@ use Rattle.option_desc.specs.declared.value.Value.TheVariants.{Flag, Int, Fixed,
 use Rattle.option_desc.specs.Fits.{fits_of}
 use Rattle.option_desc.specs.Put.{resolve, nearest_value, nearest_text, nearest_word}
 use Rattle.page_picture.specs.declared.scene.DeviceKind.{DeviceKind}
-use Rattle.page_picture.specs.declared.scene.DeviceKind.TheVariants.{Flatbed, Hand, ThreePass}
+use Rattle.page_picture.specs.declared.scene.DeviceKind.TheVariants.{Flatbed, Hand, ThreePass, Feeder}
 use Rattle.scan_frames.specs.declared.setup.Setup.{Setup}
 use Rattle.device_api.specs.declared.scan_option.ScanOption.{ScanOption}
-use Rattle.device_api.specs.declared.scan_option.ScanOption.TheVariants.{Depth, Resolution, TlX, TlY, BrX, BrY, GammaTable, PplLoss, ReadLimitSize}
+use Rattle.device_api.specs.declared.scan_option.ScanOption.TheVariants.{Depth, Resolution, TlX, TlY, BrX, BrY, GammaTable, RedGammaTable, GreenGammaTable, BlueGammaTable, PplLoss, ReadLimitSize}
 use Rattle.device_api.specs.Options.{depths_of, resolutions_of, option_constraint, descriptor_of}
 use Rattle.device_api.specs.Allowed.{IsBetween, IsOnBed, greatest_resolution}
 use Rattle.device_api.specs.Admitted.{IsByte, IsAdmittedNumber, IsAdmittedTable, IsAdmitted}
@@ -42,6 +42,7 @@ in_list P entries asked some all =
 
 depth_in : (k : DeviceKind) (asked : ℤ) → IsAdmittedNumber k Depth (nearest_in_list (depths_of k) asked)
 depth_in Flatbed asked = in_list (IsAdmittedNumber Flatbed Depth) (depths_of Flatbed) asked (omega arith) (inl refl, (inr (inl refl), (inr (inr refl), tt)))
+depth_in Feeder asked = in_list (IsAdmittedNumber Feeder Depth) (depths_of Feeder) asked (omega arith) (inl refl, (inr (inl refl), (inr (inr refl), tt)))
 depth_in Hand asked = in_list (IsAdmittedNumber Hand Depth) (depths_of Hand) asked (omega arith) (inl refl, (inr (inl refl), tt))
 depth_in ThreePass asked = in_list (IsAdmittedNumber ThreePass Depth) (depths_of ThreePass) asked (omega arith) (inr (inl refl), (inr (inr refl), tt))
 
@@ -54,6 +55,7 @@ resolution_in Hand asked =
     in_list (IsBetween 1 300) (pos 75 ∷ pos 100 ∷ pos 150 ∷ pos 300 ∷ []) asked (omega arith)
     (between 1 300 75 (omega arith) (omega arith), (between 1 300 100 (omega arith) (omega arith), (between 1 300 150 (omega arith) (omega arith), (between 1 300 300 (omega arith) (omega arith), tt))))
 resolution_in ThreePass asked = in_range 1 1200 1 1199 asked (omega arith) refl
+resolution_in Feeder asked = in_range 1 1200 1 1199 asked (omega arith) refl
 
 number_in : (k : DeviceKind) (o : ScanOption) (asked : ℤ) → IsAdmittedNumber k o (nearest_word (option_constraint k o) asked)
 number_in k Depth asked = depth_in k asked
@@ -79,6 +81,9 @@ bytes_in (w ∷ words) = All-cons IsByte _ (map (nearest_in_range (record { min 
 table_in : (k : DeviceKind) (o : ScanOption) (words : List ℤ) (s : Setup) → fits_of (descriptor_of s o) (Words words) ≡ true → IsAdmittedTable o (map (nearest_word (option_constraint k o)) words)
 unfolding descriptor_of
 table_in k GammaTable words s fits = (length-map words _ ∙ (Decides-eqb (length words) 256).0 fits, bytes_in words)
+table_in k RedGammaTable words s fits = (length-map words _ ∙ (Decides-eqb (length words) 256).0 fits, bytes_in words)
+table_in k GreenGammaTable words s fits = (length-map words _ ∙ (Decides-eqb (length words) 256).0 fits, bytes_in words)
+table_in k BlueGammaTable words s fits = (length-map words _ ∙ (Decides-eqb (length words) 256).0 fits, bytes_in words)
 table_in k _ words s fits = tt
 
 pub some_is : (a b : Value) → Some a ≡ Some b → b ≡ a

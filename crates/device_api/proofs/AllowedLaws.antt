@@ -1,6 +1,6 @@
 -- What the options say stays within its limits.
 use Rattle.std.proofs.Common.{◌≡◌, ◌≢◌, ◌<◌, ◌≤◌, ◌+◌, ◌*◌, ◌^◌, ◌⊎◌, inl, inr, sym, ap, subst, refl, ℕ, zero, suc, length, All, ℤ, pos, Bool, true, false, cond, List, [], ◌∷◌, map, arith}
-use Rattle.std.specs.Prelude.{Option, Some, unsigned_abs, slice_index, nat_lt}
+use Rattle.std.specs.Prelude.{Option, Some, unsigned_abs, slice_index, get_or, nat_lt}
 use Rattle.std.proofs.lemmas.Bool.Decides.{nat_tests}
 use Rattle.std.proofs.lemmas.List.{get_or_past}
 use Rattle.std.proofs.lemmas.List.Elements.{All-tail}
@@ -13,15 +13,15 @@ use Rattle.sane_fixed.specs.declared.status.Status.TheVariants as status
 use Rattle.option_desc.specs.declared.value.Value.{Value}
 use Rattle.option_desc.specs.declared.value.Value.TheVariants.{Flag, Int, Fixed, Words, Text}
 use Rattle.page_picture.specs.declared.scene.DeviceKind.{DeviceKind}
-use Rattle.page_picture.specs.declared.scene.DeviceKind.TheVariants.{Flatbed, Hand, ThreePass}
+use Rattle.page_picture.specs.declared.scene.DeviceKind.TheVariants.{Flatbed, Hand, ThreePass, Feeder}
 use Rattle.scan_frames.specs.Frames.{IsSetup}
 use Rattle.scan_frames.specs.declared.setup.Setup.{Setup}
 use Rattle.device_api.specs.declared.choice.Choice.{Choice}
 use Rattle.device_api.specs.declared.choice.Choice.TheVariants as choice
 use Rattle.device_api.specs.declared.scan_option.ScanOption.{ScanOption}
-use Rattle.device_api.specs.declared.scan_option.ScanOption.TheVariants.{Mode, Depth, Resolution, TlX, TlY, BrX, BrY, GammaTable, ThreePassOrder, PplLoss, ReadLimitSize, ReadReturnValue}
+use Rattle.device_api.specs.declared.scan_option.ScanOption.TheVariants.{Mode, Depth, Resolution, TlX, TlY, BrX, BrY, GammaTable, RedGammaTable, GreenGammaTable, BlueGammaTable, ThreePassOrder, PplLoss, ReadLimitSize, ReadReturnValue}
 use Rattle.device_api.specs.Options.{choices_of, choice_text}
-use Rattle.device_api.specs.Values.{identity, default_resolution, defaults, with_number, with_length, with_table, with_choice, choice_of, with_chosen, with_value}
+use Rattle.device_api.specs.Values.{identity, default_resolution, defaults, with_number, with_length, with_channels, with_table, channel_table, with_choice, choice_of, with_chosen, with_value}
 use Rattle.device_api.specs.Allowed.{IsOnBed, IsAllowed, greatest_resolution}
 use Rattle.device_api.specs.Admitted.{IsByte, IsAdmittedNumber, IsAdmittedTable, IsAdmitted}
 
@@ -29,6 +29,7 @@ most : (k : DeviceKind) → greatest_resolution k ≤ 1200
 most Flatbed = omega arith
 most Hand = omega arith
 most ThreePass = omega arith
+most Feeder = omega arith
 
 depth_is : (w : ℤ) → (w ≡ pos 1) ⊎ ((w ≡ pos 8) ⊎ (w ≡ pos 16)) → (unsigned_abs w ≡ 1) ⊎ ((unsigned_abs w ≡ 8) ⊎ (unsigned_abs w ≡ 16))
 depth_is w (inl e) = inl (ap unsigned_abs e)
@@ -44,6 +45,7 @@ number_allowed s Depth w a h = record {
   br_x = a.br_x;
   br_y = a.br_y;
   gamma = a.gamma;
+  channel_gamma = a.channel_gamma;
   told = a.told;
 }
 number_allowed s Resolution w a h =
@@ -59,6 +61,7 @@ number_allowed s Resolution w a h =
       br_x = a.br_x;
       br_y = a.br_y;
       gamma = a.gamma;
+      channel_gamma = a.channel_gamma;
       told = a.told;
     }
 number_allowed s PplLoss w a h =
@@ -72,6 +75,7 @@ number_allowed s PplLoss w a h =
       br_x = a.br_x;
       br_y = a.br_y;
       gamma = a.gamma;
+      channel_gamma = a.channel_gamma;
       told = a.told;
     }
 number_allowed s ReadLimitSize w a h =
@@ -86,6 +90,7 @@ number_allowed s ReadLimitSize w a h =
       br_x = a.br_x;
       br_y = a.br_y;
       gamma = a.gamma;
+      channel_gamma = a.channel_gamma;
       told = a.told;
     }
 number_allowed s _ w a h = a
@@ -102,10 +107,10 @@ same_limits s t d r l m a = record {
 }
 
 length_allowed : (s : Setup) (o : ScanOption) (l : Length) → IsAllowed s → IsAdmitted s.scene.kind o (Fixed l) → IsAllowed (with_length s o l)
-length_allowed s TlX l a h = record { limits = same_limits s (with_length s TlX l) refl refl refl refl a.limits; resolution = a.resolution; tl_x = h; tl_y = a.tl_y; br_x = a.br_x; br_y = a.br_y; gamma = a.gamma; told = a.told }
-length_allowed s TlY l a h = record { limits = same_limits s (with_length s TlY l) refl refl refl refl a.limits; resolution = a.resolution; tl_x = a.tl_x; tl_y = h; br_x = a.br_x; br_y = a.br_y; gamma = a.gamma; told = a.told }
-length_allowed s BrX l a h = record { limits = same_limits s (with_length s BrX l) refl refl refl refl a.limits; resolution = a.resolution; tl_x = a.tl_x; tl_y = a.tl_y; br_x = h; br_y = a.br_y; gamma = a.gamma; told = a.told }
-length_allowed s BrY l a h = record { limits = same_limits s (with_length s BrY l) refl refl refl refl a.limits; resolution = a.resolution; tl_x = a.tl_x; tl_y = a.tl_y; br_x = a.br_x; br_y = h; gamma = a.gamma; told = a.told }
+length_allowed s TlX l a h = record { limits = same_limits s (with_length s TlX l) refl refl refl refl a.limits; resolution = a.resolution; tl_x = h; tl_y = a.tl_y; br_x = a.br_x; br_y = a.br_y; gamma = a.gamma; channel_gamma = a.channel_gamma; told = a.told }
+length_allowed s TlY l a h = record { limits = same_limits s (with_length s TlY l) refl refl refl refl a.limits; resolution = a.resolution; tl_x = a.tl_x; tl_y = h; br_x = a.br_x; br_y = a.br_y; gamma = a.gamma; channel_gamma = a.channel_gamma; told = a.told }
+length_allowed s BrX l a h = record { limits = same_limits s (with_length s BrX l) refl refl refl refl a.limits; resolution = a.resolution; tl_x = a.tl_x; tl_y = a.tl_y; br_x = h; br_y = a.br_y; gamma = a.gamma; channel_gamma = a.channel_gamma; told = a.told }
+length_allowed s BrY l a h = record { limits = same_limits s (with_length s BrY l) refl refl refl refl a.limits; resolution = a.resolution; tl_x = a.tl_x; tl_y = a.tl_y; br_x = a.br_x; br_y = h; gamma = a.gamma; channel_gamma = a.channel_gamma; told = a.told }
 length_allowed s _ l a h = a
 
 -- words of 0 to 255 are bytes
@@ -119,8 +124,31 @@ bytes_of_words (w ∷ ws) all zero =
     small
 bytes_of_words (w ∷ ws) all (suc i) = bytes_of_words ws (All-tail IsByte w ws all) i
 
+-- three tables of bytes
+three_tables : (red green blue : List ℕ) → ((i : ℕ) → slice_index red i < 2 ^ 8) → ((i : ℕ) → slice_index green i < 2 ^ 8) → ((i : ℕ) → slice_index blue i < 2 ^ 8) → (k i : ℕ) → slice_index (get_or (red ∷ green ∷ blue ∷ []) k []) i < 2 ^ 8
+three_tables red green blue a b c zero i = a i
+three_tables red green blue a b c (suc zero) i = b i
+three_tables red green blue a b c (suc (suc zero)) i = c i
+three_tables red green blue a b c (suc (suc (suc k))) i = omega arith
+
+channels_allowed : (s : Setup) (red green blue : List ℕ) → IsAllowed s → ((i : ℕ) → slice_index red i < 2 ^ 8) → ((i : ℕ) → slice_index green i < 2 ^ 8) → ((i : ℕ) → slice_index blue i < 2 ^ 8) → IsAllowed (with_channels s red green blue)
+channels_allowed s red green blue a r g b = record {
+  limits = same_limits s (with_channels s red green blue) refl refl refl refl a.limits;
+  resolution = a.resolution;
+  tl_x = a.tl_x;
+  tl_y = a.tl_y;
+  br_x = a.br_x;
+  br_y = a.br_y;
+  gamma = a.gamma;
+  channel_gamma = three_tables red green blue r g b;
+  told = a.told;
+}
+
 table_allowed : (s : Setup) (o : ScanOption) (words : List ℤ) → IsAllowed s → IsAdmittedTable o words → IsAllowed (with_table s o (map (λ word. unsigned_abs word) words))
-table_allowed s GammaTable words a h = record { limits = same_limits s (with_table s GammaTable (map (λ word. unsigned_abs word) words)) refl refl refl refl a.limits; resolution = a.resolution; tl_x = a.tl_x; tl_y = a.tl_y; br_x = a.br_x; br_y = a.br_y; gamma = bytes_of_words words h.1; told = a.told }
+table_allowed s GammaTable words a h = record { limits = same_limits s (with_table s GammaTable (map (λ word. unsigned_abs word) words)) refl refl refl refl a.limits; resolution = a.resolution; tl_x = a.tl_x; tl_y = a.tl_y; br_x = a.br_x; br_y = a.br_y; gamma = bytes_of_words words h.1; channel_gamma = a.channel_gamma; told = a.told }
+table_allowed s RedGammaTable words a h = channels_allowed s (map (λ word. unsigned_abs word) words) (channel_table s 1) (channel_table s 2) a (bytes_of_words words h.1) (a.channel_gamma 1) (a.channel_gamma 2)
+table_allowed s GreenGammaTable words a h = channels_allowed s (channel_table s 0) (map (λ word. unsigned_abs word) words) (channel_table s 2) a (a.channel_gamma 0) (bytes_of_words words h.1) (a.channel_gamma 2)
+table_allowed s BlueGammaTable words a h = channels_allowed s (channel_table s 0) (channel_table s 1) (map (λ word. unsigned_abs word) words) a (a.channel_gamma 0) (a.channel_gamma 1) (bytes_of_words words h.1)
 table_allowed s _ words a h = a
 
 -- no choice tells GOOD
@@ -130,9 +158,9 @@ IsPlain (choice.Passes _) = Unit {0}
 IsPlain (choice.Told t) = t ≢ Some status.Good
 
 choice_allowed : (s : Setup) (c : Choice) → IsAllowed s → IsPlain c → IsAllowed (with_choice s c)
-choice_allowed s (choice.Mode m) a p = record { limits = same_limits s (with_choice s (choice.Mode m)) refl refl refl refl a.limits; resolution = a.resolution; tl_x = a.tl_x; tl_y = a.tl_y; br_x = a.br_x; br_y = a.br_y; gamma = a.gamma; told = a.told }
-choice_allowed s (choice.Passes q) a p = record { limits = same_limits s (with_choice s (choice.Passes q)) refl refl refl refl a.limits; resolution = a.resolution; tl_x = a.tl_x; tl_y = a.tl_y; br_x = a.br_x; br_y = a.br_y; gamma = a.gamma; told = a.told }
-choice_allowed s (choice.Told t) a p = record { limits = same_limits s (with_choice s (choice.Told t)) refl refl refl refl a.limits; resolution = a.resolution; tl_x = a.tl_x; tl_y = a.tl_y; br_x = a.br_x; br_y = a.br_y; gamma = a.gamma; told = p }
+choice_allowed s (choice.Mode m) a p = record { limits = same_limits s (with_choice s (choice.Mode m)) refl refl refl refl a.limits; resolution = a.resolution; tl_x = a.tl_x; tl_y = a.tl_y; br_x = a.br_x; br_y = a.br_y; gamma = a.gamma; channel_gamma = a.channel_gamma; told = a.told }
+choice_allowed s (choice.Passes q) a p = record { limits = same_limits s (with_choice s (choice.Passes q)) refl refl refl refl a.limits; resolution = a.resolution; tl_x = a.tl_x; tl_y = a.tl_y; br_x = a.br_x; br_y = a.br_y; gamma = a.gamma; channel_gamma = a.channel_gamma; told = a.told }
+choice_allowed s (choice.Told t) a p = record { limits = same_limits s (with_choice s (choice.Told t)) refl refl refl refl a.limits; resolution = a.resolution; tl_x = a.tl_x; tl_y = a.tl_y; br_x = a.br_x; br_y = a.br_y; gamma = a.gamma; channel_gamma = a.channel_gamma; told = p }
 
 chosen_allowed : (s : Setup) (cs : List Choice) (text : List ℕ) → IsAllowed s → AllByRecursion IsPlain cs → IsAllowed (with_chosen s (choice_of cs text))
 chosen_allowed s [] text a all = a
@@ -163,16 +191,19 @@ some_default : (k : DeviceKind) → 1 ≤ default_resolution k
 some_default Flatbed = omega arith
 some_default Hand = omega arith
 some_default ThreePass = omega arith
+some_default Feeder = omega arith
 
 most_default : (k : DeviceKind) → default_resolution k ≤ greatest_resolution k
 most_default Flatbed = omega arith
 most_default Hand = omega arith
 most_default ThreePass = omega arith
+most_default Feeder = omega arith
 
 few_default : (k : DeviceKind) → default_resolution k ≤ 1200
 few_default Flatbed = omega arith
 few_default Hand = omega arith
 few_default ThreePass = omega arith
+few_default Feeder = omega arith
 
 identity_bytes : (i : ℕ) → slice_index identity i < 2 ^ 8
 unfolding identity
@@ -200,5 +231,6 @@ defaults_allowed k order = record {
   br_x = fresh 5242880 (omega arith);
   br_y = fresh 6553600 (omega arith);
   gamma = identity_bytes;
+  channel_gamma = three_tables identity identity identity identity_bytes identity_bytes identity_bytes;
   told = λ e. (cc);
 }

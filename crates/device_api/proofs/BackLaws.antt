@@ -19,7 +19,7 @@ use Rattle.scan_frames.specs.declared.setup.Setup.{Setup}
 use Rattle.device_api.specs.declared.choice.Choice.{Choice}
 use Rattle.device_api.specs.declared.choice.Choice.TheVariants as choice
 use Rattle.device_api.specs.declared.scan_option.ScanOption.{ScanOption}
-use Rattle.device_api.specs.declared.scan_option.ScanOption.TheVariants.{NumOptions, Mode, Depth, Resolution, TlX, TlY, BrX, BrY, GammaTable, ThreePassOrder, PplLoss, ReadLimitSize, ReadReturnValue, HandScanner}
+use Rattle.device_api.specs.declared.scan_option.ScanOption.TheVariants.{NumOptions, Mode, Depth, Resolution, TlX, TlY, BrX, BrY, GammaTable, RedGammaTable, GreenGammaTable, BlueGammaTable, ThreePassOrder, PplLoss, ReadLimitSize, ReadReturnValue, HandScanner}
 use Rattle.device_api.specs.Options.{choice_text, choices_of, option_constraint, option_caps, has_cap, is_active, option_at, descriptor_of}
 use Rattle.device_api.specs.Values.{option_value, with_value, with_choice, with_chosen, choice_of, passing, got, option_got, option_set, set_to, with_given, setup_after}
 use Rattle.device_api.specs.Allowed.{IsBetween, greatest_resolution}
@@ -105,6 +105,9 @@ length_read s _ l t = absurd (false≢true t)
 words_read : (s : Setup) (o : ScanOption) (ws : List ℤ) (n : ℕ) → takes_words o n ≡ true → IsAdmittedTable o ws → option_value (with_value s o (Words ws)) o ≡ Words ws
 unfolding option_value with_value
 words_read s GammaTable ws n t a = ap (λ xs. Words xs) (table_back ws a.1)
+words_read s RedGammaTable ws n t a = ap (λ xs. Words xs) (table_back ws a.1)
+words_read s GreenGammaTable ws n t a = ap (λ xs. Words xs) (table_back ws a.1)
+words_read s BlueGammaTable ws n t a = ap (λ xs. Words xs) (table_back ws a.1)
 words_read s _ ws n t a = absurd (false≢true t)
 
 flag_read : (s : Setup) (o : ScanOption) (b : Bool) → has_cap (option_caps o) 1 ≡ true → takes_flag o ≡ true → option_value (with_value s o (Flag b)) o ≡ Flag b
@@ -171,6 +174,21 @@ still_active s GammaTable (Int _) = refl
 still_active s GammaTable (Fixed _) = refl
 still_active s GammaTable (Words _) = refl
 still_active s GammaTable (Text _) = refl
+still_active s RedGammaTable (Flag _) = refl
+still_active s RedGammaTable (Int _) = refl
+still_active s RedGammaTable (Fixed _) = refl
+still_active s RedGammaTable (Words _) = refl
+still_active s RedGammaTable (Text _) = refl
+still_active s GreenGammaTable (Flag _) = refl
+still_active s GreenGammaTable (Int _) = refl
+still_active s GreenGammaTable (Fixed _) = refl
+still_active s GreenGammaTable (Words _) = refl
+still_active s GreenGammaTable (Text _) = refl
+still_active s BlueGammaTable (Flag _) = refl
+still_active s BlueGammaTable (Int _) = refl
+still_active s BlueGammaTable (Fixed _) = refl
+still_active s BlueGammaTable (Words _) = refl
+still_active s BlueGammaTable (Text _) = refl
 still_active s ThreePassOrder (Flag _) = refl
 still_active s ThreePassOrder (Int _) = refl
 still_active s ThreePassOrder (Fixed _) = refl

@@ -5,11 +5,8 @@ pub mod AdmittedLaws
 pub mod AllowedLaws
 pub mod InfoLaws
 pub mod RunLaws
-pub mod Upto
-pub mod FramedLaws
 pub mod TableLaws
 pub mod SameLaws
 pub mod BackLaws
 pub mod OtherLaws
 pub mod ForceLaws
-pub mod PictureLaws

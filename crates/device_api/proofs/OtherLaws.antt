@@ -10,7 +10,7 @@ use Rattle.scan_frames.specs.declared.setup.Setup.{Setup}
 use Rattle.device_api.specs.declared.choice.Choice.{Choice}
 use Rattle.device_api.specs.declared.choice.Choice.TheVariants as choice
 use Rattle.device_api.specs.declared.scan_option.ScanOption.{ScanOption}
-use Rattle.device_api.specs.declared.scan_option.ScanOption.TheVariants.{Mode, Depth, Resolution, TlX, TlY, BrX, BrY, GammaTable, ThreePassOrder, PplLoss, ReadLimitSize, ReadReturnValue}
+use Rattle.device_api.specs.declared.scan_option.ScanOption.TheVariants.{Mode, Depth, Resolution, TlX, TlY, BrX, BrY, GammaTable, RedGammaTable, GreenGammaTable, BlueGammaTable, ThreePassOrder, PplLoss, ReadLimitSize, ReadReturnValue}
 use Rattle.device_api.specs.Options.{choice_text, choices_of}
 use Rattle.device_api.specs.Values.{option_value, with_value, with_number, with_length, with_table, with_choice, with_chosen, choice_of}
 use Rattle.device_api.proofs.BackLaws.{belongs, all_belong}
@@ -43,6 +43,12 @@ table_other : (s : Setup) (o p : ScanOption) (t : List ℕ) → o ≢ p → opti
 unfolding option_value
 table_other s GammaTable GammaTable t apart = absurd (apart refl)
 table_other s GammaTable _ t apart = refl
+table_other s RedGammaTable RedGammaTable t apart = absurd (apart refl)
+table_other s RedGammaTable _ t apart = refl
+table_other s GreenGammaTable GreenGammaTable t apart = absurd (apart refl)
+table_other s GreenGammaTable _ t apart = refl
+table_other s BlueGammaTable BlueGammaTable t apart = absurd (apart refl)
+table_other s BlueGammaTable _ t apart = refl
 table_other s _ p t apart = refl
 
 choice_other : (s : Setup) (o p : ScanOption) (c : Choice) → belongs o c → o ≢ p → option_value (with_choice s c) p ≡ option_value s p

@@ -10,7 +10,7 @@ use Rattle.option_desc.specs.declared.value.Value.TheVariants.{Flag, Int, Fixed,
 use Rattle.option_desc.specs.Put.{resolve}
 use Rattle.scan_frames.specs.declared.setup.Setup.{Setup}
 use Rattle.device_api.specs.declared.scan_option.ScanOption.{ScanOption}
-use Rattle.device_api.specs.declared.scan_option.ScanOption.TheVariants.{NumOptions, Mode, GammaTable, ThreePassOrder, ReadReturnValue, HandScanner}
+use Rattle.device_api.specs.declared.scan_option.ScanOption.TheVariants.{NumOptions, Mode, GammaTable, RedGammaTable, GreenGammaTable, BlueGammaTable, ThreePassOrder, ReadReturnValue, HandScanner}
 use Rattle.device_api.specs.Options.{choice_text, choices_of, descriptor_of}
 use Rattle.device_api.specs.Admitted.{takes, takes_flag, takes_number, takes_length, takes_words}
 
@@ -37,6 +37,9 @@ is_some-if false x = refl
 words_taken : (s : Setup) (o : ScanOption) (ws : List ℤ) → is_some (resolve (descriptor_of s o) (Words ws)) ≡ takes_words o (length ws)
 unfolding resolve descriptor_of
 words_taken s GammaTable ws = is_some-if (length ws == 256) _
+words_taken s RedGammaTable ws = is_some-if (length ws == 256) _
+words_taken s GreenGammaTable ws = is_some-if (length ws == 256) _
+words_taken s BlueGammaTable ws = is_some-if (length ws == 256) _
 words_taken s _ ws = refl
 
 -- the place of an entry is one of the list

@@ -7,7 +7,7 @@ use Rattle.page_picture.specs.declared.scene.DeviceKind.{DeviceKind}
 use Rattle.device_api.specs.Options.{choice_text, choices_of}
 use Rattle.device_api.specs.Allowed.{IsBetween, IsOnBed, greatest_resolution}
 use Rattle.device_api.specs.declared.scan_option.ScanOption.{ScanOption}
-use Rattle.device_api.specs.declared.scan_option.ScanOption.TheVariants.{NumOptions, Depth, Resolution, TlX, TlY, BrX, BrY, GammaTable, PplLoss, ReadLimitSize, HandScanner}
+use Rattle.device_api.specs.declared.scan_option.ScanOption.TheVariants.{NumOptions, Depth, Resolution, TlX, TlY, BrX, BrY, GammaTable, RedGammaTable, GreenGammaTable, BlueGammaTable, PplLoss, ReadLimitSize, HandScanner}
 
 abbrev pub IsByte : ℤ → Type 0
 IsByte word = IsBetween 0 255 word
@@ -21,6 +21,9 @@ IsAdmittedNumber k _ word = Unit {0}
 
 abbrev pub IsAdmittedTable : ScanOption → List ℤ → Type 0
 IsAdmittedTable GammaTable words = (length words ≡ 256) × All IsByte words
+IsAdmittedTable RedGammaTable words = (length words ≡ 256) × All IsByte words
+IsAdmittedTable GreenGammaTable words = (length words ≡ 256) × All IsByte words
+IsAdmittedTable BlueGammaTable words = (length words ≡ 256) × All IsByte words
 IsAdmittedTable _ words = Unit {0}
 
 abbrev pub IsAdmitted : DeviceKind → ScanOption → Value → Type 0
@@ -56,6 +59,9 @@ takes_length _ = false
 
 abbrev pub takes_words : ScanOption → ℕ → Bool
 takes_words GammaTable count = count == 256
+takes_words RedGammaTable count = count == 256
+takes_words GreenGammaTable count = count == 256
+takes_words BlueGammaTable count = count == 256
 takes_words _ count = false
 
 abbrev pub takes : ScanOption → Value → Bool

@@ -4,6 +4,4 @@ pub mod State
 pub mod InForce
 pub mod Allowed
 pub mod Admitted
-pub mod Runs
-pub mod Framed
 pub mod Same

@@ -1,6 +1,6 @@
 -- The options of the virtual scanners: which there are, and their descriptors (SANE Standard 1.06, "Option
 -- Descriptors"; the options are those of sane-test(5)).
-use Rattle.std.specs.Prelude.{ℕ, ◌+◌, ◌*◌, ◌/◌, ◌%◌, ◌==◌, ℤ, pos, Bool, true, false, not, if◌then◌else◌, Option, Some, None, List, [], ◌∷◌, map, slice_get, codes}
+use Rattle.std.specs.Prelude.{ℕ, ◌+◌, ◌*◌, ◌/◌, ◌%◌, ◌==◌, ℤ, pos, ◌&&◌, Bool, true, false, not, if◌then◌else◌, Option, Some, None, List, [], ◌∷◌, map, slice_get, codes}
 use Rattle.sane_fixed.specs.declared.kind.Kind.{Kind}
 use Rattle.sane_fixed.specs.declared.kind.Kind.TheVariants as kind
 use Rattle.sane_fixed.specs.declared.unit.Unit.{Unit as Measure}
@@ -12,7 +12,7 @@ use Rattle.option_desc.specs.declared.descriptor.Constraint.{Constraint}
 use Rattle.option_desc.specs.declared.descriptor.Constraint.TheVariants.{Free, Span, Words, Strings}
 use Rattle.option_desc.specs.declared.descriptor.Descriptor.{Descriptor}
 use Rattle.page_picture.specs.declared.scene.DeviceKind.{DeviceKind}
-use Rattle.page_picture.specs.declared.scene.DeviceKind.TheVariants.{Flatbed, Hand, ThreePass}
+use Rattle.page_picture.specs.declared.scene.DeviceKind.TheVariants.{Flatbed, Hand, ThreePass, Feeder}
 use Rattle.page_picture.specs.declared.scene.Mode.{Mode}
 use Rattle.page_picture.specs.declared.scene.Mode.TheVariants.{Gray, Color}
 use Rattle.scan_frames.specs.declared.setup.PassOrder.{PassOrder}
@@ -21,15 +21,21 @@ use Rattle.scan_frames.specs.declared.setup.Setup.{Setup}
 use Rattle.device_api.specs.declared.choice.Choice.{Choice}
 use Rattle.device_api.specs.declared.choice.Choice.TheVariants as choice
 use Rattle.device_api.specs.declared.scan_option.ScanOption.{ScanOption}
-use Rattle.device_api.specs.declared.scan_option.ScanOption.TheVariants.{NumOptions, Mode as ModeOption, Depth, Resolution, TlX, TlY, BrX, BrY, GammaTable, ThreePassOrder, PplLoss, ReadLimitSize, ReadReturnValue, HandScanner}
+use Rattle.device_api.specs.declared.scan_option.ScanOption.TheVariants.{NumOptions, Mode as ModeOption, Depth, Resolution, TlX, TlY, BrX, BrY, GammaTable, RedGammaTable, GreenGammaTable, BlueGammaTable, ThreePassOrder, PplLoss, ReadLimitSize, ReadReturnValue, HandScanner}
+
+abbrev pub flatbed_options : List ScanOption
+flatbed_options =
+    NumOptions ∷ ModeOption ∷ Depth ∷ Resolution ∷ TlX ∷ TlY ∷ BrX ∷ BrY ∷ GammaTable ∷ PplLoss ∷ ReadLimitSize ∷ ReadReturnValue
+    ∷ RedGammaTable ∷ GreenGammaTable ∷ BlueGammaTable ∷ []
 
 -- the options of each kind of scanner, in the order of their numbers from 0
 abbrev pub options_of : DeviceKind → List ScanOption
-options_of Flatbed =
-    NumOptions ∷ ModeOption ∷ Depth ∷ Resolution ∷ TlX ∷ TlY ∷ BrX ∷ BrY ∷ GammaTable ∷ PplLoss ∷ ReadLimitSize ∷ ReadReturnValue ∷ []
+options_of Flatbed = flatbed_options
+options_of Feeder = flatbed_options
 options_of Hand = NumOptions ∷ ModeOption ∷ Depth ∷ Resolution ∷ HandScanner ∷ []
 options_of ThreePass =
-    NumOptions ∷ ModeOption ∷ Depth ∷ Resolution ∷ TlX ∷ TlY ∷ BrX ∷ BrY ∷ ThreePassOrder ∷ GammaTable ∷ []
+    NumOptions ∷ ModeOption ∷ Depth ∷ Resolution ∷ TlX ∷ TlY ∷ BrX ∷ BrY ∷ ThreePassOrder ∷ GammaTable
+    ∷ RedGammaTable ∷ GreenGammaTable ∷ BlueGammaTable ∷ []
 
 -- the option of a number, if there is one
 unfoldable pub option_at : DeviceKind → ℕ → Option ScanOption
@@ -45,6 +51,9 @@ option_name TlY = codes "tl-y"
 option_name BrX = codes "br-x"
 option_name BrY = codes "br-y"
 option_name GammaTable = codes "gamma-table"
+option_name RedGammaTable = codes "red-gamma-table"
+option_name GreenGammaTable = codes "green-gamma-table"
+option_name BlueGammaTable = codes "blue-gamma-table"
 option_name ThreePassOrder = codes "three-pass-order"
 option_name PplLoss = codes "ppl-loss"
 option_name ReadLimitSize = codes "read-limit-size"
@@ -61,6 +70,9 @@ option_title TlY = codes "Top-left y"
 option_title BrX = codes "Bottom-right x"
 option_title BrY = codes "Bottom-right y"
 option_title GammaTable = codes "Gamma table"
+option_title RedGammaTable = codes "Red gamma table"
+option_title GreenGammaTable = codes "Green gamma table"
+option_title BlueGammaTable = codes "Blue gamma table"
 option_title ThreePassOrder = codes "Three-pass order"
 option_title PplLoss = codes "Lost pixels per line"
 option_title ReadLimitSize = codes "Read limit"
@@ -77,6 +89,9 @@ option_kind TlY = kind.Fixed
 option_kind BrX = kind.Fixed
 option_kind BrY = kind.Fixed
 option_kind GammaTable = kind.Int
+option_kind RedGammaTable = kind.Int
+option_kind GreenGammaTable = kind.Int
+option_kind BlueGammaTable = kind.Int
 option_kind ThreePassOrder = kind.String
 option_kind PplLoss = kind.Int
 option_kind ReadLimitSize = kind.Int
@@ -97,6 +112,9 @@ option_unit _ = measure.None
 abbrev pub option_size : ScanOption → ℕ
 option_size ModeOption = 6
 option_size GammaTable = 1024
+option_size RedGammaTable = 1024
+option_size GreenGammaTable = 1024
+option_size BlueGammaTable = 1024
 option_size ThreePassOrder = 4
 option_size ReadReturnValue = 26
 option_size _ = 4
@@ -139,16 +157,22 @@ abbrev pub depths_of : DeviceKind → List ℤ
 depths_of Flatbed = pos 1 ∷ pos 8 ∷ pos 16 ∷ []
 depths_of Hand = pos 1 ∷ pos 8 ∷ []
 depths_of ThreePass = pos 8 ∷ pos 16 ∷ []
+depths_of Feeder = pos 1 ∷ pos 8 ∷ pos 16 ∷ []
 
 -- dots per inch
 abbrev pub resolutions_of : DeviceKind → Constraint
 resolutions_of Flatbed = Span (record { min = pos 1; max = pos 1200; quant = pos 1 })
 resolutions_of Hand = Words (pos 75 ∷ pos 100 ∷ pos 150 ∷ pos 300 ∷ [])
 resolutions_of ThreePass = Span (record { min = pos 1; max = pos 1200; quant = pos 1 })
+resolutions_of Feeder = Span (record { min = pos 1; max = pos 1200; quant = pos 1 })
 
 -- whole mm from 0 to 200
 abbrev pub lengths : Constraint
 lengths = Span (record { min = pos 0; max = pos (200 * 65536); quant = pos 65536 })
+
+-- an upper byte
+abbrev pub tones : Constraint
+tones = Span (record { min = pos 0; max = pos 255; quant = pos 1 })
 
 abbrev pub option_constraint : DeviceKind → ScanOption → Constraint
 option_constraint k NumOptions = Free
@@ -159,7 +183,10 @@ option_constraint k TlX = lengths
 option_constraint k TlY = lengths
 option_constraint k BrX = lengths
 option_constraint k BrY = lengths
-option_constraint k GammaTable = Span (record { min = pos 0; max = pos 255; quant = pos 1 })
+option_constraint k GammaTable = tones
+option_constraint k RedGammaTable = tones
+option_constraint k GreenGammaTable = tones
+option_constraint k BlueGammaTable = tones
 option_constraint k ThreePassOrder = Strings (map choice_text (choices_of ThreePassOrder))
 option_constraint k PplLoss = Span (record { min = pos 0; max = pos 64; quant = pos 1 })
 option_constraint k ReadLimitSize = Span (record { min = pos 1; max = pos 65536; quant = pos 1 })
@@ -170,9 +197,16 @@ abbrev pub is_color : Mode → Bool
 is_color Gray = false
 is_color Color = true
 
--- no gamma table at depth 16, and no order of passes in gray
+-- the channels have tables of their own
+abbrev pub has_channels : Setup → Bool
+has_channels s = is_color s.scene.mode && (s.scene.depth == 8)
+
+-- no gamma table at depth 16, one of a channel only in color at depth 8, and no order of passes in gray
 abbrev pub is_active : Setup → ScanOption → Bool
 is_active s GammaTable = not (s.scene.depth == 16)
+is_active s RedGammaTable = has_channels s
+is_active s GreenGammaTable = has_channels s
+is_active s BlueGammaTable = has_channels s
 is_active s ThreePassOrder = is_color s.scene.mode
 is_active s _ = true
 

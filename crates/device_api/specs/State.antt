@@ -1,5 +1,5 @@
 -- What a device is to its callers, and what each call does to it.
-use Rattle.std.specs.Prelude.{ℕ, ◌+◌, ◌-◌, ◌<◌, ◌≤◌, ◌≡◌, nat_lt, ◌==◌, Bool, true, false, if◌then◌else◌, Option, Some, None, Result, Ok, Err, List, take, drop, length}
+use Rattle.std.specs.Prelude.{ℕ, ◌+◌, ◌-◌, ◌<◌, ◌≤◌, ◌≡◌, nat_lt, ◌==◌, ◌&&◌, ◌||◌, not, Bool, true, false, if◌then◌else◌, Option, Some, None, Result, Ok, Err, List, [], ◌∷◌, ◌++◌, take, drop, length}
 use Rattle.sane_fixed.specs.declared.info.Info.{Info}
 use Rattle.sane_fixed.specs.declared.params.Params.{Params}
 use Rattle.sane_fixed.specs.declared.status.Status.{Status}
@@ -7,7 +7,9 @@ use Rattle.sane_fixed.specs.declared.status.Status.TheVariants.{Good, Unsupporte
 use Rattle.option_desc.specs.declared.value.Value.{Value}
 use Rattle.page_picture.specs.Page.{Sheet}
 use Rattle.page_picture.specs.Source.{SourceState, CountsFailure}
-use Rattle.scan_frames.specs.Frames.{has_picture, last_pass, payload, pass_length, params_at}
+use Rattle.page_picture.specs.declared.scene.DeviceKind.{DeviceKind}
+use Rattle.page_picture.specs.declared.scene.DeviceKind.TheVariants.{Flatbed, Hand, ThreePass, Feeder}
+use Rattle.scan_frames.specs.Frames.{has_picture, last_pass, payload, pass_length, params_at, params_without}
 use Rattle.scan_frames.specs.declared.setup.Setup.{Setup}
 use Rattle.device_api.specs.declared.device_info.DeviceInfo.{DeviceInfo}
 use Rattle.device_api.specs.Values.{defaults, option_got, option_set, setup_after}
@@ -21,15 +23,58 @@ pub data Phase : Type 0 where
   -- of the pass of that number, from 0, so many bytes were given
   Reading : ℕ → ℕ → Phase
 
+-- a page in a device: whether its source shows it at each pass, whether that can fail, and how often it did
+pub record Held : Type 0 where
+  pub page : Sheet
+  pub steady : Bool
+  pub firm : Bool
+  pub failures : ℕ
+
+abbrev pub held_from : SourceState → Held
+held_from source = record { page = source.page; steady = source.steady; firm = source.firm; failures = source.failures }
+
 -- What a device is to its callers. Its kind is that of the setup's scene; that, the byte order and the info never change.
+-- The first page is the one that is scanned, or that a start would scan. A scanner that is no feeder has one and keeps it;
+-- a feeder lets go of the first when its scan is over.
 pub record DeviceState : Type 0 where
   pub info : DeviceInfo
   pub setup : Setup
-  pub page : Sheet
-  -- whether the page's source shows that page at each pass, and how often it failed
-  pub steady : Bool
-  pub failures : ℕ
+  pub pages : List Held
   pub phase : Phase
+
+abbrev pub is_feeder : DeviceKind → Bool
+is_feeder Flatbed = false
+is_feeder Hand = false
+is_feeder ThreePass = false
+is_feeder Feeder = true
+
+abbrev pub feeds : DeviceState → Bool
+feeds s = is_feeder s.setup.scene.kind
+
+-- the most pages that lie in a feeder's tray
+abbrev pub tray_room : ℕ
+tray_room = 16
+
+-- what stands for the first page where there is none
+abbrev pub no_page : Held
+no_page = record { page = record { width = 0; height = 0; dpi = 0; samples = [] }; steady = false; firm = false; failures = 0 }
+
+abbrev pub first_of : List Held → Held
+first_of [] = no_page
+first_of (held ∷ _) = held
+
+-- the first page, whether its source shows it at each pass, whether that can fail, and how often it did
+abbrev pub page_of : DeviceState → Sheet
+page_of s = (first_of s.pages).page
+
+abbrev pub steady_of : DeviceState → Bool
+steady_of s = (first_of s.pages).steady
+
+abbrev pub firm_of : DeviceState → Bool
+firm_of s = (first_of s.pages).firm
+
+abbrev pub failures_of : DeviceState → ℕ
+failures_of s = (first_of s.pages).failures
 
 abbrev pub is_at_rest : Phase → Bool
 is_at_rest (AtRest _) = true
@@ -58,35 +103,87 @@ set_answer s n asked = if is_at_rest s.phase then option_set s.setup n asked els
 abbrev pub after_set : DeviceState → ℕ → Value → DeviceState
 after_set s n given = with_setup s (setup_after s.setup n given)
 
+-- the pages that are left once a scan is over
+abbrev pub left_behind : {A : Type 0} → Bool → List A → List A
+left_behind false pages = pages
+left_behind true [] = []
+left_behind true (_ ∷ pages) = pages
+
+-- a scan is over; whether it was cancelled
+abbrev pub rests : DeviceState → Bool → DeviceState
+rests s cancelled = record s { pages = left_behind (feeds s) s.pages; phase = AtRest cancelled }
+
+-- a pass is over: the next one is awaited, or the scan is over
+abbrev pub goes_to : DeviceState → Phase → DeviceState
+goes_to s (AtRest cancelled) = rests s cancelled
+goes_to s (Between ended) = with_phase s (Between ended)
+goes_to s (Reading pass given) = with_phase s (Reading pass given)
+
 -- what is told of the frame that was started last, and at rest of the first one that a start would give
-abbrev pub params_in : Phase → Setup → Sheet → Params
-params_in (AtRest _) setup page = params_at setup page 0
-params_in (Between ended) setup page = params_at setup page (ended - 1)
-params_in (Reading pass _) setup page = params_at setup page pass
+abbrev pub pass_told : Phase → ℕ
+pass_told (AtRest _) = 0
+pass_told (Between ended) = ended - 1
+pass_told (Reading pass _) = pass
+
+abbrev pub params_in : List Held → Setup → ℕ → Params
+params_in [] setup pass = params_without setup pass
+params_in (held ∷ _) setup pass = params_at setup held.page pass
 
 abbrev pub params_of : DeviceState → Params
-params_of s = params_in s.phase s.setup s.page
+params_of s = params_in s.pages s.setup (pass_told s.phase)
 
 -- a cancel at rest does nothing
-abbrev pub cancelled_in : Phase → Phase
-cancelled_in (AtRest cancelled) = AtRest cancelled
-cancelled_in (Between _) = AtRest true
-cancelled_in (Reading _ _) = AtRest true
+abbrev pub cancelled_in : Phase → DeviceState → DeviceState
+cancelled_in (AtRest _) s = s
+cancelled_in (Between _) s = rests s true
+cancelled_in (Reading _ _) s = rests s true
 
 abbrev pub after_cancel : DeviceState → DeviceState
-after_cancel s = with_phase s (cancelled_in s.phase)
+after_cancel s = cancelled_in s.phase s
 
--- all options at their defaults; the page is kept
+-- all options at their defaults, and no scan was cancelled
+abbrev pub with_defaults : DeviceState → DeviceState
+with_defaults s = record s { setup = defaults s.setup.scene.kind s.setup.order; phase = AtRest false }
+
+-- a scan under way is over; all other pages are kept
 abbrev pub after_reset : DeviceState → DeviceState
-after_reset s = record s { phase = AtRest false; setup = defaults s.setup.scene.kind s.setup.order }
+after_reset s = with_defaults (after_cancel s)
 
--- the state with another page
-abbrev pub with_source : DeviceState → SourceState → DeviceState
-with_source s source = record s { page = source.page; steady = source.steady; failures = source.failures }
+-- a device takes a page at rest, and a feeder while its tray has room
+abbrev pub takes_page : DeviceState → Bool
+takes_page s = is_at_rest s.phase && (not (feeds s) || nat_lt (length s.pages) tray_room)
 
--- the source failed, and the device is at rest
-abbrev pub HasStopped : DeviceState → DeviceState → Type 0
-HasStopped old new = CountsFailure old.failures new.failures × (new ≡ record old { phase = AtRest false; failures = new.failures })
+-- a feeder's new page is its last; that of another takes the place of the one it had
+abbrev pub pages_with : {A : Type 0} → Bool → List A → A → List A
+pages_with false pages page = page ∷ []
+pages_with true pages page = pages ++ page ∷ []
+
+abbrev pub after_load : DeviceState → SourceState → DeviceState
+after_load s source = record s { pages = pages_with (feeds s) s.pages (held_from source) }
+
+-- the first page with another count of failures
+abbrev pub counted : ℕ → List Held → List Held
+counted n [] = []
+counted n (held ∷ pages) = record held { failures = n } ∷ pages
+
+abbrev pub with_failures : DeviceState → ℕ → DeviceState
+with_failures s n = record s { pages = counted n s.pages }
+
+-- a start that did not succeed leaves all pages at rest; between passes and in a pass the scan is over
+abbrev pub stopped_in : Phase → DeviceState → DeviceState
+stopped_in (AtRest _) s = with_phase s (AtRest false)
+stopped_in (Between _) s = rests s false
+stopped_in (Reading _ _) s = rests s false
+
+abbrev pub stopped : DeviceState → DeviceState
+stopped s = stopped_in s.phase s
+
+-- the source of the first page, one that can fail, did so; that was counted, and no scan is under way
+pub record HasStopped (old new : DeviceState) : Type 0 where
+  pub can_fail : firm_of old ≡ false
+  pub failures : ℕ
+  pub counted : CountsFailure (failures_of old) failures
+  pub after : new ≡ stopped (with_failures old failures)
 
 -- the pass that a start begins
 abbrev pub next_pass : Phase → ℕ
@@ -96,10 +193,10 @@ next_pass (Reading pass _) = pass
 
 -- a frame is begun, and what stands in the way of that
 abbrev pub StartsFrame : DeviceState → Result Unit Status → DeviceState → Type 0
-StartsFrame old (Ok _) new = (has_picture old.setup old.page ≡ true) × (new ≡ with_phase old (Reading (next_pass old.phase) 0))
-StartsFrame old (Err Inval) new = (has_picture old.setup old.page ≡ false) × (new ≡ with_phase old (AtRest false))
-StartsFrame old (Err IoError) new = (has_picture old.setup old.page ≡ true) × HasStopped old new
-StartsFrame old (Err NoMem) new = (has_picture old.setup old.page ≡ true) × (new ≡ with_phase old (AtRest false))
+StartsFrame old (Ok _) new = (has_picture old.setup (page_of old) ≡ true) × (new ≡ with_phase old (Reading (next_pass old.phase) 0))
+StartsFrame old (Err Inval) new = (has_picture old.setup (page_of old) ≡ false) × (new ≡ stopped old)
+StartsFrame old (Err IoError) new = (has_picture old.setup (page_of old) ≡ true) × HasStopped old new
+StartsFrame old (Err NoMem) new = (has_picture old.setup (page_of old) ≡ true) × (new ≡ stopped old)
 StartsFrame old (Err Good) new = ⊥
 StartsFrame old (Err Unsupported) new = ⊥
 StartsFrame old (Err Cancelled) new = ⊥
@@ -110,9 +207,14 @@ StartsFrame old (Err NoDocs) new = ⊥
 StartsFrame old (Err CoverOpen) new = ⊥
 StartsFrame old (Err AccessDenied) new = ⊥
 
+-- where no page is left, there is nothing to scan
+abbrev pub StartsOn : List Held → DeviceState → Result Unit Status → DeviceState → Type 0
+StartsOn [] old result new = (result ≡ Err NoDocs) × (new ≡ stopped old)
+StartsOn (_ ∷ _) old result new = StartsFrame old result new
+
 abbrev pub StartsIn : Phase → DeviceState → Result Unit Status → DeviceState → Type 0
-StartsIn (AtRest _) old result new = StartsFrame old result new
-StartsIn (Between _) old result new = StartsFrame old result new
+StartsIn (AtRest _) old result new = StartsOn old.pages old result new
+StartsIn (Between _) old result new = StartsOn old.pages old result new
 StartsIn (Reading _ _) old result new = (result ≡ Err DeviceBusy) × (new ≡ old)
 
 -- what a start answers, and what it leaves
@@ -133,15 +235,15 @@ pub record GivesBytes (old : DeviceState) (pass given n : ℕ) (new : DeviceStat
   pub some : 0 < n
   pub room : n ≤ length buf
   pub limit : n ≤ old.setup.limit
-  pub left : given + n ≤ pass_length old.setup old.page pass
-  pub bytes : old.steady ≡ true → take n buf ≡ take n (drop given (payload old.setup old.page pass))
+  pub left : given + n ≤ pass_length old.setup (page_of old) pass
+  pub bytes : steady_of old ≡ true → take n buf ≡ take n (drop given (payload old.setup (page_of old) pass))
   pub after : new ≡ with_phase old (Reading pass (given + n))
 
--- a read inside a pass: bytes, the end of the pass, or a failure of the source
+-- a read inside a pass: bytes, the end of the pass, or, before its last byte, a failure of the source
 abbrev pub ReadsOn : DeviceState → ℕ → ℕ → Result ℕ Status → DeviceState → List ℕ → Type 0
 ReadsOn old pass given (Ok n) new buf = GivesBytes old pass given n new buf
-ReadsOn old pass given (Err Eof) new buf = (given ≡ pass_length old.setup old.page pass) × (new ≡ with_phase old (after_pass old.setup pass))
-ReadsOn old pass given (Err IoError) new buf = HasStopped old new
+ReadsOn old pass given (Err Eof) new buf = (given ≡ pass_length old.setup (page_of old) pass) × (new ≡ goes_to old (after_pass old.setup pass))
+ReadsOn old pass given (Err IoError) new buf = (given < pass_length old.setup (page_of old) pass) × HasStopped old new
 ReadsOn old pass given (Err Good) new buf = ⊥
 ReadsOn old pass given (Err Unsupported) new buf = ⊥
 ReadsOn old pass given (Err Cancelled) new buf = ⊥
@@ -159,7 +261,7 @@ told_at told given = if given == 0 then told else None
 
 abbrev pub FrameReads : Option Status → DeviceState → ℕ → ℕ → Result ℕ Status → DeviceState → List ℕ → Type 0
 FrameReads None old pass given result new buf = ReadsOn old pass given result new buf
-FrameReads (Some status) old pass given result new buf = (result ≡ Err status) × (new ≡ with_phase old (after_told old.setup pass status))
+FrameReads (Some status) old pass given result new buf = (result ≡ Err status) × (new ≡ goes_to old (after_told old.setup pass status))
 
 abbrev pub ReadsIn : Phase → DeviceState → Result ℕ Status → DeviceState → List ℕ → Type 0
 ReadsIn (AtRest cancelled) old result new buf = (result ≡ Err (if cancelled then Cancelled else Inval)) × (new ≡ old)

@@ -1,5 +1,5 @@
 -- The values of options: what is read, what is set, and what a set tells (SANE Standard 1.06, "Option Control").
-use Rattle.std.specs.Prelude.{ℕ, ◌+◌, ◌*◌, ◌&&◌, pos, unsigned_abs, Bool, true, false, not, if◌then◌else◌, Option, Some, None, Result, Ok, Err, List, [], ◌∷◌, length, map}
+use Rattle.std.specs.Prelude.{ℕ, ◌+◌, ◌*◌, ◌&&◌, pos, unsigned_abs, Bool, true, false, not, if◌then◌else◌, Option, Some, None, Result, Ok, Err, List, [], ◌∷◌, get_or, length, map}
 use Rattle.std.specs.List.{list_any, range_with_len}
 use Rattle.std.specs.Str.{bytes_eq}
 use Rattle.std.specs.Ordering.{int_eq}
@@ -13,14 +13,14 @@ use Rattle.option_desc.specs.declared.value.Value.{Value}
 use Rattle.option_desc.specs.declared.value.Value.TheVariants.{Flag, Int, Fixed, Words, Text}
 use Rattle.option_desc.specs.Put.{resolve}
 use Rattle.page_picture.specs.declared.scene.DeviceKind.{DeviceKind}
-use Rattle.page_picture.specs.declared.scene.DeviceKind.TheVariants.{Flatbed, Hand, ThreePass}
+use Rattle.page_picture.specs.declared.scene.DeviceKind.TheVariants.{Flatbed, Hand, ThreePass, Feeder}
 use Rattle.page_picture.specs.declared.scene.Mode.TheVariants.{Gray}
 use Rattle.scan_frames.specs.declared.setup.PassOrder.TheVariants.{Rgb}
 use Rattle.scan_frames.specs.declared.setup.Setup.{Setup}
 use Rattle.device_api.specs.declared.choice.Choice.{Choice}
 use Rattle.device_api.specs.declared.choice.Choice.TheVariants as choice
 use Rattle.device_api.specs.declared.scan_option.ScanOption.{ScanOption}
-use Rattle.device_api.specs.declared.scan_option.ScanOption.TheVariants.{NumOptions, Mode, Depth, Resolution, TlX, TlY, BrX, BrY, GammaTable, ThreePassOrder, PplLoss, ReadLimitSize, ReadReturnValue, HandScanner}
+use Rattle.device_api.specs.declared.scan_option.ScanOption.TheVariants.{NumOptions, Mode, Depth, Resolution, TlX, TlY, BrX, BrY, GammaTable, RedGammaTable, GreenGammaTable, BlueGammaTable, ThreePassOrder, PplLoss, ReadLimitSize, ReadReturnValue, HandScanner}
 use Rattle.device_api.specs.Options.{options_of, option_at, choices_of, choice_text, is_active, option_caps, has_cap, descriptor_of}
 
 -- the table that gives each upper byte itself: 0 to 255
@@ -32,6 +32,7 @@ abbrev pub default_resolution : DeviceKind → ℕ
 default_resolution Flatbed = 50
 default_resolution Hand = 75
 default_resolution ThreePass = 50
+default_resolution Feeder = 50
 
 abbrev pub mm : ℕ → Length
 mm n = record { 0 = pos (n * 65536) }
@@ -48,6 +49,7 @@ defaults k order = record {
     br_x = mm 80;
     br_y = mm 100;
     gamma = identity;
+    channel_gamma = identity ∷ identity ∷ identity ∷ [];
   };
   order = order;
   passes = Rgb;
@@ -55,6 +57,10 @@ defaults k order = record {
   limit = 65536;
   told = None;
 }
+
+-- the table of a channel of color
+abbrev pub channel_table : Setup → ℕ → List ℕ
+channel_table s k = get_or s.scene.channel_gamma k []
 
 -- the value of an option
 unfoldable pub option_value : Setup → ScanOption → Value
@@ -67,6 +73,9 @@ option_value s TlY = Fixed s.scene.tl_y
 option_value s BrX = Fixed s.scene.br_x
 option_value s BrY = Fixed s.scene.br_y
 option_value s GammaTable = Words (map (λ b. pos b) s.scene.gamma)
+option_value s RedGammaTable = Words (map (λ b. pos b) (channel_table s 0))
+option_value s GreenGammaTable = Words (map (λ b. pos b) (channel_table s 1))
+option_value s BlueGammaTable = Words (map (λ b. pos b) (channel_table s 2))
 option_value s ThreePassOrder = Text (choice_text (choice.Passes s.passes))
 option_value s PplLoss = Int (pos s.loss)
 option_value s ReadLimitSize = Int (pos s.limit)
@@ -88,8 +97,14 @@ with_length s BrX length = record s { scene = record s.scene { br_x = length } }
 with_length s BrY length = record s { scene = record s.scene { br_y = length } }
 with_length s _ length = s
 
+abbrev pub with_channels : Setup → List ℕ → List ℕ → List ℕ → Setup
+with_channels s red green blue = record s { scene = record s.scene { channel_gamma = red ∷ green ∷ blue ∷ [] } }
+
 abbrev pub with_table : Setup → ScanOption → List ℕ → Setup
 with_table s GammaTable table = record s { scene = record s.scene { gamma = table } }
+with_table s RedGammaTable table = with_channels s table (channel_table s 1) (channel_table s 2)
+with_table s GreenGammaTable table = with_channels s (channel_table s 0) table (channel_table s 2)
+with_table s BlueGammaTable table = with_channels s (channel_table s 0) (channel_table s 1) table
 with_table s _ table = s
 
 abbrev pub with_choice : Setup → Choice → Setup
@@ -153,6 +168,9 @@ reloads s t = list_any (λ o. differ (is_active s o) (is_active t o)) (options_o
 abbrev pub bears_on_params : ScanOption → Bool
 bears_on_params NumOptions = false
 bears_on_params GammaTable = false
+bears_on_params RedGammaTable = false
+bears_on_params GreenGammaTable = false
+bears_on_params BlueGammaTable = false
 bears_on_params ReadLimitSize = false
 bears_on_params ReadReturnValue = false
 bears_on_params HandScanner = false

@@ -1,7 +1,7 @@
 ghost use Rattle.std.specs.Prelude.{◌≡◌, ◌≢◌, ◌<◌, ◌≤◌, IfOk, IfErr, IsOk, OnOk, OnErr, length, true, false};
 ghost use Rattle.device_api.specs.Allowed.{HasLimits};
 ghost use Rattle.device_api.specs.Options.{descriptors_of};
-ghost use Rattle.device_api.specs.State.{DeviceState, is_at_rest, get_answer, set_answer, after_set, params_of, Starts, Reads, after_cancel, after_reset, with_source};
+ghost use Rattle.device_api.specs.State.{DeviceState, is_at_rest, get_answer, set_answer, after_set, params_of, Starts, Reads, after_cancel, after_reset, takes_page, after_load};
 
 use crate::device_info::DeviceInfo;
 use option_desc::{Descriptor, Value};
@@ -11,7 +11,7 @@ use std::alloc::Global;
 
 /// A scanner (SANE Standard 1.06, "The SANE Application Programmer Interface").
 pub trait Device: Drop {
-    // What it is, what its options say, its page, and where it is in a scan.
+    // What it is, what its options say, its pages, and where it is in a scan.
     ghost state: { Self → DeviceState };
 
     /// What the scanner is. It never changes.
@@ -27,9 +27,11 @@ pub trait Device: Drop {
         ensures ok { IfOk result (λ all. all.items ≡ descriptors_of (state self.now).setup) }
         ensures err { IfErr result (λ status. status ≡ Status.NoMem) };
 
-    /// Ends the scan, if one is under way, and puts all options to their defaults. The page is kept.
+    /// Ends the scan, if one is under way, and puts all options to their defaults. The pages are kept, but a feeder's of
+    /// which a scan was under way.
     fn reset(&mut self)
-        ensures { state self.new ≡ after_reset (state self.old) };
+        ensures after { state self.new ≡ after_reset (state self.old) }
+        ensures limits { HasLimits (state self.new) };
 
     /// The value of option `n`, also during a scan: `Inval` where there is no such option, or it is
     /// inactive or cannot be read, and `NoMem`.
@@ -48,19 +50,20 @@ pub trait Device: Drop {
         ensures err { OnErr result (state self.new ≡ state self.old) };
 
     /// What is told of the frame that was started last; at rest, of the first frame that a start would
-    /// give, with width, lines and bytes per line 0 where there is no picture.
+    /// give, with width, lines and bytes per line 0 where there is no picture or no page.
     fn params(&self) -> Params
         ensures value { result ≡ params_of (state self.now) }
         ensures limits { HasLimits (state self.now) };
 
-    /// Begins the first frame of a scan, or the next one. Refuses: `DeviceBusy` where a frame is being
-    /// read, and then nothing changes; `Inval` where the options mean no picture on the page; `IoError`
-    /// where the page's source failed; and `NoMem`. After these three the scanner is at rest.
+    /// Begins the first frame of a scan of the first page, or the next one. Refuses, in this order: `DeviceBusy` where a
+    /// frame is being read, and then nothing changes; `NoDocs` where there is no page; `Inval` where the options mean no
+    /// picture on the page; `IoError` where the page's source failed; and `NoMem`. After these four the scanner is at rest.
+    /// A first start that is refused leaves all pages where they are.
     fn start(&mut self, alloc: Global) -> Result<(), Status>
         ensures { Starts (state self.old) result (state self.new) };
 
     /// The next bytes of the frame, at least one. Refuses: `Eof` at the frame's end, after which the
-    /// scanner waits for the next start, or is at rest if it was the last frame; `IoError` where the
+    /// scanner waits for the next start, or is at rest if it was the last frame; before that `IoError` where the
     /// page's source failed; what `read-return-value` says; `Cancelled` after a cancelled scan, until the
     /// next start or reset; and `Inval` where no frame is being read. It takes no memory.
     fn read(&mut self, buf: &mut [u8]) -> Result<usize, Status>
@@ -68,7 +71,7 @@ pub trait Device: Drop {
         ensures reads { Reads (state self.old) result (state self.new) buf.new }
         ensures room { IfOk result (λ n. n ≤ length buf.new) };
 
-    /// Ends the scan, if one is under way.
+    /// Ends the scan, if one is under way; a feeder then lets go of the page that was scanned.
     fn cancel(&mut self)
         ensures { state self.new ≡ after_cancel (state self.old) };
 
@@ -77,11 +80,11 @@ pub trait Device: Drop {
     fn at_rest(&self) -> bool
         ensures { result ≡ is_at_rest (state self.now).phase };
 
-    /// Puts another page in, and drops the old one. Gives the new page back where the scanner is not at
-    /// rest.
+    /// Puts another page in, and drops the old one; a feeder lays it behind those that it has. Gives the page back where
+    /// the scanner is not at rest, or a feeder has 16 pages.
     fn load(&mut self, page: Source) -> Result<(), Source>
-        ensures loaded { is_at_rest (state self.old).phase ≡ true → IsOk result }
-        ensures busy { is_at_rest (state self.old).phase ≡ false → result ≡ Err page }
-        ensures ok { OnOk result (state self.new ≡ with_source (state self.old) (⟦<Source as PageSource>⟧.source page)) }
+        ensures loaded { takes_page (state self.old) ≡ true → IsOk result }
+        ensures refused { takes_page (state self.old) ≡ false → result ≡ Err page }
+        ensures ok { OnOk result (state self.new ≡ after_load (state self.old) (⟦<Source as PageSource>⟧.source page)) }
         ensures err { OnErr result (state self.new ≡ state self.old) };
 }

@@ -1,10 +1,10 @@
-ghost use Rattle.std.specs.Prelude.{◌≡◌, ◌≢◌, ◌↔◌, ℕ, List, Result, Ok, Some, false, true, slice_get};
+ghost use Rattle.std.specs.Prelude.{◌≡◌, ◌≢◌, ◌↔◌, ℕ, List, Result, Ok, Err, Some, false, true, map, slice_get};
 ghost use Rattle.sane_fixed.specs.declared.info.Info.{Info};
 ghost use Rattle.sane_fixed.specs.declared.status.Status.{Status};
 ghost use Rattle.sane_fixed.specs.declared.byte_order.ByteOrder.{ByteOrder};
 ghost use Rattle.page_picture.specs.declared.scene.DeviceKind.{DeviceKind};
 ghost use Rattle.page_picture.specs.Source.{SourceState};
-ghost use Rattle.device_api.specs.State.{DeviceState, after_set, after_reset, after_cancel, with_source, Starts, Reads};
+ghost use Rattle.device_api.specs.State.{DeviceState, Held, is_at_rest, after_set, after_reset, after_cancel, after_load, Starts, Reads};
 ghost use Rattle.device_api.specs.declared.scan_option.ScanOption.{ScanOption};
 ghost use Rattle.device_api.specs.Allowed.{IsAllowed};
 ghost use Rattle.device_api.specs.Same.{IsSameDevice};
@@ -41,9 +41,15 @@ pub fn a_scanner_stays_what_it_is()
     ensures set { (s : DeviceState) (n : ℕ) (given : Value) → IsSameDevice s (after_set s n given) }
     ensures reset { (s : DeviceState) → IsSameDevice s (after_reset s) }
     ensures cancel { (s : DeviceState) → IsSameDevice s (after_cancel s) }
-    ensures load { (s : DeviceState) (source : SourceState) → IsSameDevice s (with_source s source) }
+    ensures load { (s : DeviceState) (source : SourceState) → IsSameDevice s (after_load s source) }
     ensures start { (s t : DeviceState) (result : Result Unit Status) → Starts s result t → IsSameDevice s t }
     ensures read { (s t : DeviceState) (result : Result ℕ Status) (buf : List ℕ) → Reads s result t buf → IsSameDevice s t }
+{}
+
+/// A law: a first start that is refused leaves all pages where they are.
+pub fn a_refused_start_takes_no_page()
+    ensures { (s t : DeviceState) (status : Status) → is_at_rest s.phase ≡ true → Starts s (Err status) t
+        → map (λ (held : Held). held.page) t.pages ≡ map (λ (held : Held). held.page) s.pages }
 {}
 
 /// A law: what a set gave, a get gives.

@@ -16,9 +16,9 @@ pub use choice::Choice;
 pub use device::Device;
 pub use device_info::DeviceInfo;
 pub use laws::{
-    a_scanner_stays_what_it_is, a_set_changes_one_option, reload_tells_of_changed_descriptors,
-    same_values_are_equal, settings_are_put_as_they_are_set, settings_in_force_are_allowed,
-    what_is_set_is_read,
+    a_refused_start_takes_no_page, a_scanner_stays_what_it_is, a_set_changes_one_option,
+    reload_tells_of_changed_descriptors, same_values_are_equal, settings_are_put_as_they_are_set,
+    settings_in_force_are_allowed, what_is_set_is_read,
 };
 pub use scan_option::{ScanOption, option_at, options_of};
 pub use setting::set_option;

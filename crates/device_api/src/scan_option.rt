@@ -24,6 +24,10 @@ pub enum ScanOption {
     BrY,
     /// The tone of each upper byte of a brightness.
     GammaTable,
+    /// What becomes of the tones of a channel, in color at depth 8.
+    RedGammaTable,
+    GreenGammaTable,
+    BlueGammaTable,
     /// The colors of the passes.
     ThreePassOrder,
     /// The pixels that are lost at the end of each line.
@@ -36,7 +40,7 @@ pub enum ScanOption {
     HandScanner,
 }
 
-const FLATBED: [ScanOption; 12] = [
+const FLATBED: [ScanOption; 15] = [
     ScanOption::NumOptions,
     ScanOption::Mode,
     ScanOption::Depth,
@@ -49,6 +53,9 @@ const FLATBED: [ScanOption; 12] = [
     ScanOption::PplLoss,
     ScanOption::ReadLimitSize,
     ScanOption::ReadReturnValue,
+    ScanOption::RedGammaTable,
+    ScanOption::GreenGammaTable,
+    ScanOption::BlueGammaTable,
 ];
 
 const HAND: [ScanOption; 5] = [
@@ -59,7 +66,7 @@ const HAND: [ScanOption; 5] = [
     ScanOption::HandScanner,
 ];
 
-const THREE_PASS: [ScanOption; 10] = [
+const THREE_PASS: [ScanOption; 13] = [
     ScanOption::NumOptions,
     ScanOption::Mode,
     ScanOption::Depth,
@@ -70,6 +77,9 @@ const THREE_PASS: [ScanOption; 10] = [
     ScanOption::BrY,
     ScanOption::ThreePassOrder,
     ScanOption::GammaTable,
+    ScanOption::RedGammaTable,
+    ScanOption::GreenGammaTable,
+    ScanOption::BlueGammaTable,
 ];
 
 const MODES: [Choice; 2] = [Choice::Mode(Mode::Gray), Choice::Mode(Mode::Color)];
@@ -103,7 +113,7 @@ pub fn options_of(kind: DeviceKind) -> &'static [ScanOption]
     ensures { result.now ≡ options_of kind }
 {
     match kind {
-        DeviceKind::Flatbed => &FLATBED,
+        DeviceKind::Flatbed | DeviceKind::Feeder => &FLATBED,
         DeviceKind::Hand => &HAND,
         DeviceKind::ThreePass => &THREE_PASS,
     }
@@ -135,6 +145,9 @@ impl ScanOption {
             ScanOption::BrX => "br-x",
             ScanOption::BrY => "br-y",
             ScanOption::GammaTable => "gamma-table",
+            ScanOption::RedGammaTable => "red-gamma-table",
+            ScanOption::GreenGammaTable => "green-gamma-table",
+            ScanOption::BlueGammaTable => "blue-gamma-table",
             ScanOption::ThreePassOrder => "three-pass-order",
             ScanOption::PplLoss => "ppl-loss",
             ScanOption::ReadLimitSize => "read-limit-size",
@@ -157,6 +170,9 @@ impl ScanOption {
             ScanOption::BrX => "Bottom-right x",
             ScanOption::BrY => "Bottom-right y",
             ScanOption::GammaTable => "Gamma table",
+            ScanOption::RedGammaTable => "Red gamma table",
+            ScanOption::GreenGammaTable => "Green gamma table",
+            ScanOption::BlueGammaTable => "Blue gamma table",
             ScanOption::ThreePassOrder => "Three-pass order",
             ScanOption::PplLoss => "Lost pixels per line",
             ScanOption::ReadLimitSize => "Read limit",
@@ -174,6 +190,9 @@ impl ScanOption {
             | ScanOption::Depth
             | ScanOption::Resolution
             | ScanOption::GammaTable
+            | ScanOption::RedGammaTable
+            | ScanOption::GreenGammaTable
+            | ScanOption::BlueGammaTable
             | ScanOption::PplLoss
             | ScanOption::ReadLimitSize => Kind::Int,
             ScanOption::TlX | ScanOption::TlY | ScanOption::BrX | ScanOption::BrY => Kind::Fixed,
@@ -203,7 +222,10 @@ impl ScanOption {
     {
         match self {
             ScanOption::Mode => 6,
-            ScanOption::GammaTable => 1024,
+            ScanOption::GammaTable
+            | ScanOption::RedGammaTable
+            | ScanOption::GreenGammaTable
+            | ScanOption::BlueGammaTable => 1024,
             ScanOption::ThreePassOrder => 4,
             ScanOption::ReadReturnValue => 26,
             _ => 4,
@@ -240,6 +262,9 @@ impl ScanOption {
             self,
             ScanOption::NumOptions
                 | ScanOption::GammaTable
+                | ScanOption::RedGammaTable
+                | ScanOption::GreenGammaTable
+                | ScanOption::BlueGammaTable
                 | ScanOption::ReadLimitSize
                 | ScanOption::ReadReturnValue
                 | ScanOption::HandScanner

@@ -58,7 +58,10 @@ fn takes_words(option: ScanOption, words: &Words) -> bool
     ensures { result ≡ takes_words option (length words.now) }
 {
     match option {
-        ScanOption::GammaTable => words.as_slice().len() == 256,
+        ScanOption::GammaTable
+        | ScanOption::RedGammaTable
+        | ScanOption::GreenGammaTable
+        | ScanOption::BlueGammaTable => words.as_slice().len() == 256,
         _ => false,
     }
 }
@@ -125,8 +128,20 @@ fn put_table(setup: &mut Setup, option: ScanOption, words: &Words)
     requires { IsAdmitted setup.old.scene.kind option (WordsOf words.now) }
     ensures { setup.new ≡ with_table setup.old option (map (λ word. unsigned_abs word) words.now) }
 {
-    if option == ScanOption::GammaTable {
-        setup.scene.gamma = table_of(words.as_slice());
+    let scene = &mut setup.scene;
+    let [red, green, blue] = scene.channel_gamma;
+    match option {
+        ScanOption::GammaTable => scene.gamma = table_of(words.as_slice()),
+        ScanOption::RedGammaTable => {
+            scene.channel_gamma = [table_of(words.as_slice()), green, blue];
+        }
+        ScanOption::GreenGammaTable => {
+            scene.channel_gamma = [red, table_of(words.as_slice()), blue];
+        }
+        ScanOption::BlueGammaTable => {
+            scene.channel_gamma = [red, green, table_of(words.as_slice())];
+        }
+        _ => {}
     }
 }
 

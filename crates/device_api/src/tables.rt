@@ -26,6 +26,9 @@ pub fn is_active(setup: &Setup, option: ScanOption) -> bool
 {
     match option {
         ScanOption::GammaTable => setup.scene.depth != 16,
+        ScanOption::RedGammaTable | ScanOption::GreenGammaTable | ScanOption::BlueGammaTable => {
+            matches!(setup.scene.mode, Mode::Color) && setup.scene.depth == 8
+        }
         ScanOption::ThreePassOrder => matches!(setup.scene.mode, Mode::Color),
         _ => true,
     }
@@ -90,7 +93,7 @@ fn depths(alloc: Global, kind: DeviceKind) -> Result<Constraint, NoMem>
     ensures { IfOk result (λ list. list ≡ Words (depths_of kind)) }
 {
     match kind {
-        DeviceKind::Flatbed => words(alloc, &[1, 8, 16]),
+        DeviceKind::Flatbed | DeviceKind::Feeder => words(alloc, &[1, 8, 16]),
         DeviceKind::Hand => words(alloc, &[1, 8]),
         DeviceKind::ThreePass => words(alloc, &[8, 16]),
     }
@@ -100,9 +103,8 @@ fn resolutions(alloc: Global, kind: DeviceKind) -> Result<Constraint, NoMem>
     ensures { IfOk result (λ constraint. constraint ≡ resolutions_of kind) }
 {
     match kind {
-        DeviceKind::Flatbed => Ok(range(1, 1200, 1)),
         DeviceKind::Hand => words(alloc, &[75, 100, 150, 300]),
-        DeviceKind::ThreePass => Ok(range(1, 1200, 1)),
+        DeviceKind::Flatbed | DeviceKind::ThreePass | DeviceKind::Feeder => Ok(range(1, 1200, 1)),
     }
 }
 
@@ -119,6 +121,9 @@ fn constraint(alloc: Global, kind: DeviceKind, option: ScanOption) -> Result<Con
         ScanOption::BrX => Ok(range(0, BED, MM)),
         ScanOption::BrY => Ok(range(0, BED, MM)),
         ScanOption::GammaTable => Ok(range(0, 255, 1)),
+        ScanOption::RedGammaTable => Ok(range(0, 255, 1)),
+        ScanOption::GreenGammaTable => Ok(range(0, 255, 1)),
+        ScanOption::BlueGammaTable => Ok(range(0, 255, 1)),
         ScanOption::ThreePassOrder => texts(alloc, option.choices()),
         ScanOption::PplLoss => Ok(range(0, 64, 1)),
         ScanOption::ReadLimitSize => Ok(range(1, 65536, 1)),

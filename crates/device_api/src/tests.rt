@@ -1,5 +1,2 @@
-mod devices;
 mod options;
-mod scan;
-mod scanner;
 mod tables;

@@ -29,7 +29,7 @@ fn default_resolution(kind: DeviceKind) -> u32
 {
     match kind {
         DeviceKind::Hand => 75,
-        DeviceKind::Flatbed | DeviceKind::ThreePass => 50,
+        DeviceKind::Flatbed | DeviceKind::ThreePass | DeviceKind::Feeder => 50,
     }
 }
 
@@ -50,6 +50,7 @@ pub fn defaults(kind: DeviceKind, order: ByteOrder) -> Setup
             br_x: Fixed(80 * 65536),
             br_y: Fixed(100 * 65536),
             gamma: identity(),
+            channel_gamma: [identity(), identity(), identity()],
         },
         order,
         passes: PassOrder::Rgb,
@@ -122,6 +123,9 @@ pub fn option_value(alloc: Global, setup: &Setup, option: ScanOption) -> Result<
         ScanOption::BrX => Value::Fixed(scene.br_x),
         ScanOption::BrY => Value::Fixed(scene.br_y),
         ScanOption::GammaTable => table_value(alloc, &scene.gamma)?,
+        ScanOption::RedGammaTable => table_value(alloc, &scene.channel_gamma[0])?,
+        ScanOption::GreenGammaTable => table_value(alloc, &scene.channel_gamma[1])?,
+        ScanOption::BlueGammaTable => table_value(alloc, &scene.channel_gamma[2])?,
         ScanOption::ThreePassOrder => text_value(alloc, Choice::Passes(setup.passes))?,
         ScanOption::PplLoss => Value::Int(setup.loss as i32),
         ScanOption::ReadLimitSize => Value::Int(setup.limit as i32),

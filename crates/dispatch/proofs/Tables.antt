@@ -1,14 +1,17 @@
-use Rattle.std.proofs.Common.{◌≡◌, ℕ, ◌<◌, List, [], ◌∷◌, ◌++◌, map, take, drop, length, Option, Some, None, Bool, refl, ap, ◌∙◌, sym, arith, not, zero, suc, slice_get, slice_set, slice_index_or, Ok, Err}
+use Rattle.std.proofs.Common.{◌≡◌, ℕ, ◌<◌, ◌≤◌, List, [], ◌∷◌, ◌++◌, map, take, drop, length, Option, Some, None, Bool, true, false, cond, ◌&&◌, refl, ap, ◌∙◌, sym, arith, not, zero, suc, slice_get, slice_set, slice_index_or, Ok, Err}
 use Rattle.std.specs.List.{prefix_len}
 use Rattle.std.specs.Option.{option_map, OnSome}
+use Rattle.std.specs.Prelude.{nat_eq}
+use Rattle.std.specs.Cmp.Lexicographic.{pointwise}
 use Rattle.std.proofs.lemmas.List.{length-map}
+use Rattle.std.proofs.lemmas.Option.{slice_get-map, slice_get_within}
 use Rattle.std.proofs.Math.Seq.{take-append_seam}
 use Rattle.device_api.specs.State.{DeviceState, after_reset, after_cancel}
 use Rattle.sane_fixed.specs.declared.status.Status.TheVariants.{DeviceBusy, Inval}
 use Rattle.dispatch.specs.declared.table.place.Slot.{Slot}
 use Rattle.dispatch.specs.declared.table.place.Slot.TheVariants.{In, Out, Gone}
 use Rattle.dispatch.specs.declared.table.place.Place.{Place}
-use Rattle.dispatch.specs.Table.{seen_slot, seen_place, table, is_named, find_name, held, held_at, with_slot, take_answer, after_take, unplug_answer, after_unplug, after_give_back, filled, vacant_table, fresh_table, fresh_place, Table, take_at, take_of, leased, unplug_at, unplug_of, unplugged_at, unplugged_of}
+use Rattle.dispatch.specs.Table.{seen_slot, seen_place, table, is_named, is_out, awaits, awaits_in, find_name, held, held_at, with_slot, take_answer, after_take, unplug_answer, after_unplug, after_give_back, filled, vacant_table, fresh_table, fresh_place, Table, take_at, take_of, leased, unplug_at, unplug_of, unplugged_at, unplugged_of}
 use Rattle.device_api.specs.declared.device_info.DeviceInfo.{DeviceInfo}
 
 prefix_len-map : {X Y : Type 0} (f : X → Y) (p : Y → Bool) (q : X → Bool) → ((x : X) → p (f x) ≡ q x) → (xs : List X) → prefix_len p (map f xs) ≡ prefix_len q xs
@@ -99,9 +102,40 @@ unplug_gives f ps name k d h o =
     let a = held_at-table f ps k ∙ ap (option_map f) o in
     (ap (unplug_at t) e ∙ ap unplug_of a, ap (unplugged_at t) e ∙ ap (unplugged_of t k) a ∙ with_slot-table f ps k Gone)
 
-pub give_back_is : {D : Type 0} (f : D → DeviceState) (ps : List (Place D)) (k : ℕ) (d : D) (s : DeviceState) → f d ≡ after_cancel s → table f (with_slot ps k (In d)) ≡ after_give_back (table f ps) (record { device = s; place = k })
+out-seen : {D S : Type 0} (f : D → S) (s : Slot D) → is_out (seen_slot f s) ≡ is_out s
+out-seen f (In d) = refl
+out-seen f Out = refl
+out-seen f Gone = refl
+
+awaits-seen : {D S : Type 0} (f : D → S) (name : List ℕ) (o : Option (Place D)) → awaits_in name (option_map (seen_place f) o) ≡ awaits_in name o
+awaits-seen f name None = refl
+awaits-seen f name (Some p) = ap (λ b. b && pointwise nat_eq p.info.name name) (out-seen f p.slot)
+
+pub awaits-table : {D S : Type 0} (f : D → S) (name : List ℕ) (k : ℕ) (ps : List (Place D)) → awaits name k (table f ps) ≡ awaits name k ps
+unfolding awaits table
+awaits-table f name k ps = ap (awaits_in name) (slice_get-map (seen_place f) ps k) ∙ awaits-seen f name (slice_get ps k)
+
+-- there is such a place
+pub awaits_within : {D : Type 0} (name : List ℕ) (k : ℕ) (ps : List (Place D)) → awaits name k ps ≡ true → k < length ps
+unfolding awaits
+awaits_within name k ps e = pick (slice_get ps k) refl e
+  where
+    pick : (o : Option (Place _)) → slice_get ps k ≡ o → awaits_in name o ≡ true → k < length ps
+    pick (Some p) at h = slice_get_within ps k p at
+    pick None at h = absurd (cc)
+
+pub give_back_is : {D : Type 0} (f : D → DeviceState) (ps : List (Place D)) (k : ℕ) (d : D) (s : DeviceState) → f d ≡ after_cancel s → awaits s.info.name k ps ≡ true → table f (with_slot ps k (In d)) ≡ after_give_back (table f ps) (record { device = s; place = k })
 unfolding after_give_back
-give_back_is f ps k d s h = sym (with_slot-table f ps k (In d)) ∙ ap (λ (x : DeviceState). with_slot (table f ps) k (In x)) h
+give_back_is f ps k d s h e =
+    let seen : awaits s.info.name k (table f ps) ≡ true = awaits-table f s.info.name k ps ∙ e in
+    sym (with_slot-table f ps k (In d)) ∙ ap (λ (x : DeviceState). with_slot (table f ps) k (In x)) h
+    ∙ sym (ap (λ b. cond b (with_slot (table f ps) k (In (after_cancel s))) (table f ps)) seen)
+
+pub no_lease_is : {D : Type 0} (f : D → DeviceState) (ps : List (Place D)) (k : ℕ) (s : DeviceState) → awaits s.info.name k ps ≡ false → table f ps ≡ after_give_back (table f ps) (record { device = s; place = k })
+unfolding after_give_back
+no_lease_is f ps k s e =
+    let seen : awaits s.info.name k (table f ps) ≡ false = awaits-table f s.info.name k ps ∙ e in
+    sym (ap (λ b. cond b (with_slot (table f ps) k (In (after_cancel s))) (table f ps)) seen)
 
 -- what a write of a slot does to a list
 pub slice_set_slot : {D : Type 0} (ps : List (Place D)) (k : ℕ) (d : Place D) (s : Slot D) → slice_set ps k (record { info = (slice_index_or ps k d).info; slot = s }) ≡ with_slot ps k s
@@ -176,3 +210,9 @@ put_back n xs new e h = rw (e, ← h) (take-append_seam new _)
 pub length-table : {D S : Type 0} (f : D → S) (ps : List (Place D)) → length (table f ps) ≡ length ps
 unfolding table
 length-table f ps = length-map ps (seen_place f)
+
+pub with_slot_past : {D : Type 0} (ps : List (Place D)) (k : ℕ) (s : Slot D) → length ps ≤ k → with_slot ps k s ≡ ps
+unfolding with_slot
+with_slot_past [] k s h = refl
+with_slot_past (p ∷ ps) zero s h = absurd (omega arith)
+with_slot_past (p ∷ ps) (suc k) s h = ap (λ xs. p ∷ xs) (with_slot_past ps k s (omega arith))

@@ -1,6 +1,8 @@
-use Rattle.std.specs.Prelude.{◌≡◌, ℕ, zero, suc, nat_eq, ◌||◌, List, [], ◌∷◌, map, Option, Some, None, Bool, true, false, Result, Ok, Err, position, slice_get, if◌then◌else◌}
+use Rattle.std.specs.Prelude.{◌≡◌, ℕ, zero, suc, nat_eq, ◌||◌, ◌&&◌, List, [], ◌∷◌, map, Option, Some, None, Bool, true, false, Result, Ok, Err, position, slice_get, if◌then◌else◌}
 use Rattle.std.specs.Cmp.Lexicographic.{pointwise}
-use Rattle.device_api.specs.State.{DeviceState, after_reset, after_cancel}
+use Rattle.device_api.specs.State.{DeviceState, after_reset, after_cancel, takes_page}
+use Rattle.device_api.specs.State.{after_load as page_loaded}
+use Rattle.page_picture.specs.Source.{SourceState}
 use Rattle.device_api.specs.declared.device_info.DeviceInfo.{DeviceInfo}
 use Rattle.sane_fixed.specs.declared.status.Status.{Status}
 use Rattle.sane_fixed.specs.declared.status.Status.TheVariants.{DeviceBusy, Inval}
@@ -84,9 +86,22 @@ leased t (Err e) = t
 unfoldable pub after_take : Table → List ℕ → Table
 after_take t name = leased t (take_answer t name)
 
--- the table after a lease is given back
+-- whether the device of a place is out, and has that name
+abbrev pub is_out : {D : Type 0} → Slot D → Bool
+is_out (In d) = false
+is_out Out = true
+is_out Gone = false
+
+abbrev pub awaits_in : {D : Type 0} → List ℕ → Option (Place D) → Bool
+awaits_in name None = false
+awaits_in name (Some p) = is_out p.slot && pointwise nat_eq p.info.name name
+
+unfoldable pub awaits : {D : Type 0} → List ℕ → ℕ → List (Place D) → Bool
+awaits name k ps = awaits_in name (slice_get ps k)
+
+-- the table after a lease is given back; one that is not of this table changes nothing
 unfoldable pub after_give_back : Table → Lease DeviceState → Table
-after_give_back t l = with_slot t l.place (In (after_cancel l.device))
+after_give_back t l = if awaits l.device.info.name l.place t then with_slot t l.place (In (after_cancel l.device)) else t
 
 -- a lease of this table: its place is out, and its device has that place's name
 pub record IsLeaseOf (lease : Lease DeviceState) (t : Table) : Type 0 where
@@ -162,3 +177,49 @@ abbrev pub filled : {D : Type 0} → List (Place D) → List D → List (Place D
 filled [] ds = []
 filled (p ∷ ps) [] = p ∷ ps
 filled (p ∷ ps) (d ∷ ds) = record { info = p.info; slot = In d } ∷ filled ps ds
+
+-- ---- another page
+
+-- without what comes back
+abbrev pub told_of : {A E P : Type 0} → Result A (E × P) → Result A E
+told_of (Ok a) = Ok a
+told_of (Err e) = Err e.0
+
+abbrev pub load_into : DeviceState → Result Unit Status
+load_into s = if takes_page s then Ok tt else Err DeviceBusy
+
+abbrev pub load_of : Slot DeviceState → Result Unit Status
+load_of (In s) = load_into s
+load_of Out = Err DeviceBusy
+load_of Gone = Err DeviceBusy
+
+abbrev pub loaded_device : DeviceState → SourceState → DeviceState
+loaded_device s source = if takes_page s then page_loaded s source else s
+
+abbrev pub loaded_slot : Slot DeviceState → SourceState → Slot DeviceState
+loaded_slot (In s) source = In (loaded_device s source)
+loaded_slot Out source = Out
+loaded_slot Gone source = Gone
+
+abbrev pub slot_load : Option (Place DeviceState) → Result Unit Status
+slot_load (Some p) = load_of p.slot
+slot_load None = Err Inval
+
+abbrev pub load_at : Table → Option ℕ → Result Unit Status
+load_at t (Some k) = slot_load (slice_get t k)
+load_at t None = Err Inval
+
+unfoldable pub load_answer : Table → List ℕ → Result Unit Status
+load_answer t name = load_at t (find_name name t)
+
+unfoldable pub with_loaded : Table → ℕ → SourceState → Table
+with_loaded [] k source = []
+with_loaded (p ∷ ps) zero source = record { info = p.info; slot = loaded_slot p.slot source } ∷ ps
+with_loaded (p ∷ ps) (suc k) source = p ∷ with_loaded ps k source
+
+abbrev pub loaded_at : Table → Option ℕ → SourceState → Table
+loaded_at t (Some k) source = with_loaded t k source
+loaded_at t None source = t
+
+unfoldable pub after_load : Table → List ℕ → SourceState → Table
+after_load t name source = loaded_at t (find_name name t) source

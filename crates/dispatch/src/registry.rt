@@ -1,18 +1,21 @@
-ghost use Rattle.std.specs.Prelude.{◌≡◌, ◌≢◌, ◌≤◌, ◌<◌, length, [], List, map, IfOk, IfErr, OnErr, OnOk, IsOk, IsTrue};
+ghost use Rattle.std.specs.Prelude.{◌≡◌, ◌≢◌, ◌≤◌, ◌<◌, length, [], List, map, IfOk, IfErr, OnErr, OnOk, IsOk, IsTrue, is_some};
 ghost use Rattle.device_api.specs.State.{after_reset, DeviceState};
 ghost use Rattle.dispatch.specs.RegistryFault.{HasFault, MayStand};
-ghost use Rattle.dispatch.specs.Table.{fresh_table, table, seen_take, seen_unplug, seen_lease, take_answer, after_take, after_give_back, unplug_answer, after_unplug, IsLeaseOf, listed};
+ghost use Rattle.dispatch.specs.Table.{fresh_table, table, seen_take, seen_unplug, seen_lease, take_answer, after_take, after_give_back, unplug_answer, after_unplug, listed, with_slot, told_of, load_answer, after_load, find_name};
 
 use crate::table::fresh::{fill, repeats, vacant};
 use crate::table::listing::listed;
+use crate::table::loading::load_slot;
 use crate::table::place::{Lease, Place, Slot};
 use crate::table::reset::reset_all;
-use crate::table::slot::{find_name, put_into, take_from};
+use crate::table::slot::{awaits, find_name, put_back, put_into, take_from};
 use device_api::{Device, DeviceInfo};
+use page_picture::{PageSource, Source};
 use sane_fixed::{NoMem, Status};
 use std::alloc::Global;
 use std::marker::Model;
 use std::mem;
+use thiserror::Error;
 
 #[derive(Drop)]
 pub struct Registry<D = Box<dyn Device>> {
@@ -30,12 +33,24 @@ impl<D> Model for Registry<D> {
     ghost invariant = { λ r. length r.places.items ≤ 16 };
 }
 
-#[derive(Clone, Copy, Debug, PartialEq, Eq)]
+/// Why devices are refused.
+#[derive(Clone, Copy, Debug, PartialEq, Eq, Error)]
 pub enum RegistryFault {
-    SameName,
-    TooMany,
-    NoMem,
+    /// Two devices have one name.
+    #[error("same name twice")]
+    SameName = 1,
+    /// More than sixteen devices were handed in.
+    #[error("more than 16 devices")]
+    TooMany = 2,
+    #[error("out of memory")]
+    NoMem = 3,
 }
+
+const _: () = prove!(RegistryFault::SameName as u32 == 1);
+
+const _: () = prove!(RegistryFault::TooMany as u32 == 2);
+
+const _: () = prove!(RegistryFault::NoMem as u32 == 3);
 
 impl<D: Device> Registry<D> {
     /// The devices in order, each of them reset. Refused devices are given back as they were.
@@ -88,14 +103,16 @@ impl<D: Device> Registry<D> {
 }
 
 impl<D: Device> Registry<D> {
-    /// The device is cancelled, and its place is in again.
+    /// The device is cancelled, and its place is in again. A lease that is not of this registry is dropped with its device,
+    /// and changes nothing: one whose place is not out, or has another name than its device.
     pub fn give_back(&mut self, lease: Lease<D>)
-        requires { IsLeaseOf (seen_lease D.state lease) (table D.state self.old) }
         ensures { table D.state self.new ≡ after_give_back (table D.state self.old) (seen_lease D.state lease) }
     {
         let Lease { mut device, place } = lease;
-        device.cancel();
-        put_into(&mut self.places, place, Slot::In(device));
+        if awaits(&self.places, place, device.info().name.as_bytes()) {
+            device.cancel();
+            put_into(&mut self.places, place, Slot::In(device));
+        }
     }
 
     pub fn unplug(&mut self, name: &[u8]) -> Result<D, Status>
@@ -110,5 +127,41 @@ impl<D: Device> Registry<D> {
         };
         put_into(&mut self.places, k, Slot::Gone);
         Ok(device)
+    }
+}
+
+impl<D: Drop> Registry<D> {
+    /// The device is in its place again, as it is: for one that is dropped together with its registry.
+    pub fn put_back(&mut self, lease: Lease<D>)
+        ensures { self.new ≡ with_slot self.old lease.place (Slot.In lease.device) }
+    {
+        let Lease { device, place } = lease;
+        put_back(&mut self.places, place, Slot::In(device));
+    }
+}
+
+impl<D: Device> Registry<D> {
+    /// Puts another page into the device of that name. Refuses: `Inval` where none is listed under it; `DeviceBusy` where
+    /// it is leased, is not at rest, or has no room for a page. Then the page comes back.
+    pub fn load(&mut self, name: &[u8], page: Source) -> Result<(), (Status, Source)>
+        ensures answer { told_of result ≡ load_answer (table D.state self.old) name.now }
+        ensures after { table D.state self.new ≡ after_load (table D.state self.old) name.now (⟦<Source as PageSource>⟧.source page) }
+        ensures given_back { IfErr result (λ e. e.1 ≡ page) }
+    {
+        let Some(k) = find_name(&self.places, name) else {
+            return Err((Status::Inval, page));
+        };
+        load_slot(&mut self.places[k].slot, page)
+    }
+
+    /// Whether a device is listed under the name, leased or not.
+    pub fn lists(&self, name: &[u8]) -> bool
+        ensures { result ≡ is_some (find_name name.now (table D.state self.now)) }
+    {
+        let place = find_name(&self.places, name);
+        match place {
+            Some(_) => true,
+            None => false,
+        }
     }
 }

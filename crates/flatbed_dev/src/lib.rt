@@ -1,8 +1,10 @@
-//! The virtual flatbed scanner.
+//! The virtual flatbed scanner, and the one to which pages are fed.
 #![tactic(auto)]
 
+mod feeder;
 mod flatbed;
 
+pub use feeder::{Feeder, FeederFault};
 pub use flatbed::Flatbed;
 
 #[cfg(test)]

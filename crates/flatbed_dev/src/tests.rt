@@ -1,3 +1,5 @@
+mod feeder;
+
 use crate::Flatbed;
 use device_api::Device;
 use option_desc::{Value, Words};
@@ -17,6 +19,8 @@ const BR_X: u32 = 6;
 const BR_Y: u32 = 7;
 
 const GAMMA_TABLE: u32 = 8;
+
+const RED_GAMMA_TABLE: u32 = 12;
 
 const PPL_LOSS: u32 = 9;
 
@@ -109,10 +113,10 @@ fn what_it_is(rt: HostRuntime) {
     assert_eq!(&rt; flatbed.order(), ByteOrder::Big);
     assert!(&rt; flatbed.at_rest());
     let descriptors = flatbed.descriptors(alloc).expect(&rt, "descriptors");
-    assert_eq!(&rt; descriptors.len(), 12);
+    assert_eq!(&rt; descriptors.len(), 15);
     assert_eq!(&rt;
         flatbed.get(alloc, 0).expect(&rt, "a count"),
-        Value::Int(12)
+        Value::Int(15)
     );
 }
 
@@ -229,6 +233,32 @@ fn gamma_tables(rt: HostRuntime) {
         flatbed.get(alloc, GAMMA_TABLE).expect(&rt, "a table"),
         table
     );
+}
+
+/// The channel's table has the entry for the gamma table's entry, in color at depth 8 alone.
+#[test]
+fn a_table_per_channel(rt: HostRuntime) {
+    let alloc = rt.alloc();
+    let mut flatbed = flatbed_on(&rt, alloc, b"P6\n1 1\n255\n\x0a\x0b\x0c", 26);
+    set_window(&rt, alloc, &mut flatbed, 1, 1);
+    let mut halves = Vec::new(alloc);
+    for i in 0..256i32 {
+        halves.push(i / 2).expect(&rt, "memory");
+    }
+    let halves = Value::Words(Words::from_vec(halves));
+    assert_eq!(&rt;
+        flatbed.set(alloc, RED_GAMMA_TABLE, &halves).err(),
+        Some(Status::Inval)
+    );
+    let color = Value::Text(text(&rt, alloc, b"Color"));
+    let (_, info) = set(&rt, alloc, &mut flatbed, MODE, color);
+    assert_eq!(&rt; info, Info(Info::RELOAD_OPTIONS + Info::RELOAD_PARAMS));
+    let (_, info) = set(&rt, alloc, &mut flatbed, RED_GAMMA_TABLE, halves);
+    assert_eq!(&rt; info, Info(0));
+    scans(&rt, alloc, &mut flatbed, &[0x05, 0x0B, 0x0C]);
+    let table = Value::Words(Words::from_vec(inverted(&rt, alloc, 256)));
+    set(&rt, alloc, &mut flatbed, GAMMA_TABLE, table);
+    scans(&rt, alloc, &mut flatbed, &[0x7A, 0xF4, 0xF3]);
 }
 
 /// A table that is not linear is put to the gray sum, and not to the colors before it.
@@ -403,7 +433,7 @@ fn the_nearest_admitted_value(rt: HostRuntime) {
         (Value::Int(1), Info(Info::INEXACT))
     );
     assert_eq!(&rt;
-        flatbed.set(alloc, 12, &Value::Int(1)).err(),
+        flatbed.set(alloc, 15, &Value::Int(1)).err(),
         Some(Status::Inval)
     );
     assert_eq!(&rt;

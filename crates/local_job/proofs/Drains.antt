@@ -7,8 +7,8 @@ use Rattle.netpbm.specs.Picture.{Picture}
 use Rattle.netpbm.specs.Pnm.{Denotes, IsWhole}
 use Rattle.page_picture.specs.Shows.{ShowsFrames}
 use Rattle.local_job.specs.Draining.{IsDrainedTo, StopsShort}
-use Rattle.pnm_writer.specs.FrameHistory.{Past, IsJoined, after_pull}
-use Rattle.pnm_writer.specs.Joining.{Joining, Stands}
+use Rattle.frame_join.specs.FrameHistory.{Past, IsJoined, after_pull}
+use Rattle.frame_join.specs.Joining.{Joining, Stands}
 
 -- after so many pulls: what was given, and that the output took it
 pub record IsUnderway (past : Past) (first : Option (List ℕ)) (pulls : ℕ) (join : Joining) (contents : Option (List ℕ)) : Type 0 where

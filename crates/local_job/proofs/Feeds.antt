@@ -1,12 +1,14 @@
 -- Bytes that come into a join, and a fault that comes to stand.
-use Rattle.std.proofs.Common.{◌≡◌, ◌+◌, ℕ, List, ◌++◌, Option, Some, None, Bool, true, false, length, refl, sym, ap, ◌∙◌}
+use Rattle.std.proofs.Common.{◌≡◌, ◌≤◌, ◌+◌, arith, ℕ, List, ◌++◌, Option, Some, None, Bool, true, false, length, refl, sym, ap, ◌∙◌}
 use Rattle.std.specs.Prelude.{nat_lt, if◌then◌else◌}
+use Rattle.std.proofs.lemmas.Bool.Decides.{nat_tests}
 use Rattle.page_picture.specs.Shows.{Frame}
-use Rattle.pnm_writer.specs.declared.join_stage.JoinFault.{JoinFault}
-use Rattle.pnm_writer.specs.declared.join_stage.JoinFault.TheVariants.{Long, NoMem}
-use Rattle.pnm_writer.specs.AloneFrame.{most_bytes}
-use Rattle.pnm_writer.specs.FrameHistory.{Past, fed, failed, after_feed}
-use Rattle.pnm_writer.specs.Joining.{Joining}
+use Rattle.frame_join.specs.declared.join_stage.JoinFault.{JoinFault}
+use Rattle.frame_join.specs.declared.join_stage.JoinFault.TheVariants.{Long, NoMem}
+use Rattle.frame_join.specs.AloneFrame.{most_bytes}
+use Rattle.frame_join.specs.FrameHistory.{Past, fed, failed, after_feed}
+use Rattle.frame_join.specs.Joining.{Joining}
+use Rattle.local_job.specs.Stops.{no_memory, unjoined}
 use Rattle.local_job.specs.Draining.{IsDrainedTo, Feeds}
 
 -- the history with more bytes in its frame
@@ -30,3 +32,19 @@ fed_well past f bytes starved no_fault under none =
 
 pub feeds : (past : Past) (f : Frame) (first contents : Option (List ℕ)) (join : Joining) → IsDrainedTo (record past { under = Some f }) first join contents → Feeds past f first join contents
 feeds past f first contents join d = record { given = past.given ++ d.bytes; stands = d.stands; taken = d.taken }
+
+-- bytes for which there is room are refused for want of memory alone
+fed_fault : (past : Past) (f : Frame) (bytes : List ℕ) (starved : Bool) (fault : JoinFault) → past.fault ≡ None → (if starved then failed NoMem past else grown past f bytes).fault ≡ Some fault → unjoined fault ≡ no_memory
+fed_fault past f bytes true fault no_fault e = let same : NoMem ≡ fault = cc in ap unjoined (sym same)
+fed_fault past f bytes false fault no_fault e = absurd (let clash : None ≡ Some fault = sym no_fault ∙ e in cc)
+
+fed_room : (past : Past) (f : Frame) (bytes : List ℕ) (long starved : Bool) (fault : JoinFault) → long ≡ false → past.fault ≡ None
+    → (if long then failed Long past else (if starved then failed NoMem past else grown past f bytes)).fault ≡ Some fault → unjoined fault ≡ no_memory
+fed_room past f bytes true starved fault room no_fault e = absurd (let clash : true ≡ false = room in cc)
+fed_room past f bytes false starved fault room no_fault e = fed_fault past f bytes starved fault no_fault e
+
+pub fed_cause : (past : Past) (f : Frame) (bytes : List ℕ) (starved : Bool) (fault : JoinFault) → past.fault ≡ None → past.under ≡ Some f → length f.payload + length bytes ≤ most_bytes f.params
+    → (after_feed bytes starved past).fault ≡ Some fault → unjoined fault ≡ no_memory
+fed_cause past f bytes starved fault no_fault under room e =
+    let here = fed_here past f bytes starved no_fault under in
+    fed_room past f bytes (nat_lt (most_bytes f.params) (length f.payload + length bytes)) starved fault (grind (arith, nat_tests, room)) no_fault (ap (λ (q : Past). q.fault) (sym here) ∙ e)

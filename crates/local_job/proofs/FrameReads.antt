@@ -8,15 +8,23 @@ use Rattle.sane_fixed.specs.declared.status.Status.{Status}
 use Rattle.sane_fixed.specs.declared.status.Status.TheVariants.{Good, Unsupported, Cancelled, DeviceBusy, Inval, Eof, Jammed, NoDocs, CoverOpen, IoError, NoMem, AccessDenied}
 use Rattle.page_picture.specs.Shows.{Frame}
 use Rattle.scan_frames.specs.Frames.{payload, pass_length}
-use Rattle.device_api.specs.State.{DeviceState, Phase, AtRest, Between, Reading, with_phase, Reads, ReadsIn, ReadsOn, FrameReads, GivesBytes, told_at, after_pass, after_told}
-use Rattle.pnm_writer.specs.declared.join_stage.JoinFault.{JoinFault}
-use Rattle.pnm_writer.specs.FrameHistory.{Past, IsJoined, answer_by}
-use Rattle.pnm_writer.specs.Joining.{Joining, Stands}
+use Rattle.device_api.specs.State.{DeviceState, Phase, AtRest, Between, Reading, with_phase, Reads, ReadsIn, ReadsOn, FrameReads, GivesBytes, told_at, after_pass, after_told, goes_to, is_at_rest, page_of, steady_of}
+use Rattle.frame_join.specs.declared.join_stage.JoinFault.{JoinFault}
+use Rattle.frame_join.specs.FrameHistory.{Past, IsJoined, answer_by}
+use Rattle.frame_join.specs.Joining.{Joining, Stands}
 use Rattle.local_job.specs.Draining.{Feeds, StopsShort}
 use Rattle.std.proofs.Common.{cond, Bool, inl, inr}
 use Rattle.std.specs.Prelude.{◌==◌}
 use Rattle.std.proofs.lemmas.Bool.{eqb-true}
-use Rattle.local_job.specs.FrameReading.{IsAllOrNone, IsReadTo, Keeps}
+use Rattle.std.specs.Prelude.{◌≢◌}
+use Rattle.page_picture.specs.Source.{CountsFailure}
+use Rattle.local_job.specs.Causes.{HasCause}
+use Rattle.local_job.specs.Stops.{no_memory, bad_output, read_refused}
+use Rattle.local_job.specs.declared.stop.Stop.{Stop}
+use Rattle.std.proofs.Common.{◌≤◌, ◌⊎◌, length}
+use Rattle.std.proofs.lemmas.Bool.{false≢true}
+use Rattle.local_job.specs.FrameReading.{IsAllOrNone, IsInside, IsReadTo, Keeps}
+use Rattle.local_job.proofs.Lets.{cause_before, failed, further, of_failure, of_goes, of_nothing, of_phase}
 
 -- the pass under way, and how many of its bytes were given
 abbrev pass_of : Phase → ℕ
@@ -31,7 +39,7 @@ given_of (Reading _ given) = given
 
 -- the bytes that are left of the pass
 abbrev pub left_in : DeviceState → ℕ
-left_in s = pass_length s.setup s.page (pass_of s.phase) - given_of s.phase
+left_in s = pass_length s.setup (page_of s) (pass_of s.phase) - given_of s.phase
 
 -- where a read gave bytes, the phase was that of a pass, and nothing was told in their place
 gave : (phase : Phase) (old : DeviceState) (n : ℕ) (new : DeviceState) (buf : List ℕ) → ReadsIn phase old (Ok n) new buf → (pass given : ℕ) × (phase ≡ Reading pass given) × GivesBytes old pass given n new buf
@@ -46,25 +54,16 @@ gave (Reading pass given) old n new buf reads = (pass, given, refl, by_told (tol
 pub less_left : (old new : DeviceState) (n : ℕ) (buf : List ℕ) → Reads old (Ok n) new buf → left_in new < left_in old
 less_left old new n buf reads =
     let g = gave old.phase old n new buf reads in
-    let was : left_in old ≡ pass_length old.setup old.page g.0 - g.1 = ap (λ (p : Phase). pass_length old.setup old.page (pass_of p) - given_of p) g.2 in
-    let now : left_in new ≡ pass_length old.setup old.page g.0 - (g.1 + n) = ap left_in g.3.after in
+    let was : left_in old ≡ pass_length old.setup (page_of old) g.0 - g.1 = ap (λ (p : Phase). pass_length old.setup (page_of old) (pass_of p) - given_of p) g.2 in
+    let now : left_in new ≡ pass_length old.setup (page_of old) g.0 - (g.1 + n) = ap left_in g.3.after in
     omega (arith, was, now, g.3.some, g.3.left)
 
 -- ---- what a read leaves alone
 
-of_phase : (old new : DeviceState) (p : Phase) → new ≡ with_phase old p → Keeps old new
-of_phase old new p e = subst (λ (s : DeviceState). Keeps old s) (sym e) refl
-
-of_nothing : (old new : DeviceState) → new ≡ old → Keeps old new
-of_nothing old new e = subst (λ (s : DeviceState). Keeps old s) (sym e) refl
-
-of_stop : (old new : DeviceState) → new ≡ record old { phase = AtRest false; failures = new.failures } → Keeps old new
-of_stop old new e = e ∙ ap (λ (p : Phase). record old { phase = p; failures = new.failures }) (sym (ap (λ (s : DeviceState). s.phase) e))
-
 keeps_on : (old : DeviceState) (pass given : ℕ) (result : Result ℕ Status) (new : DeviceState) (buf : List ℕ) → ReadsOn old pass given result new buf → Keeps old new
 keeps_on old pass given (Ok n) new buf reads = of_phase old new _ reads.after
-keeps_on old pass given (Err Eof) new buf reads = of_phase old new _ reads.1
-keeps_on old pass given (Err IoError) new buf reads = of_stop old new reads.1
+keeps_on old pass given (Err Eof) new buf reads = of_goes old new (after_pass old.setup pass) reads.1
+keeps_on old pass given (Err IoError) new buf reads = of_failure old new reads.1
 keeps_on old pass given (Err Good) new buf reads = absurd reads
 keeps_on old pass given (Err Unsupported) new buf reads = absurd reads
 keeps_on old pass given (Err Cancelled) new buf reads = absurd reads
@@ -78,54 +77,109 @@ keeps_on old pass given (Err AccessDenied) new buf reads = absurd reads
 
 keeps_told : (told : Option Status) (old : DeviceState) (pass given : ℕ) (result : Result ℕ Status) (new : DeviceState) (buf : List ℕ) → FrameReads told old pass given result new buf → Keeps old new
 keeps_told None old pass given result new buf reads = keeps_on old pass given result new buf reads
-keeps_told (Some status) old pass given result new buf reads = of_phase old new _ reads.1
+keeps_told (Some status) old pass given result new buf reads = of_goes old new (after_told old.setup pass status) reads.1
 
 keeps_in : (phase : Phase) (old : DeviceState) (result : Result ℕ Status) (new : DeviceState) (buf : List ℕ) → ReadsIn phase old result new buf → Keeps old new
 keeps_in (AtRest c) old result new buf reads = of_nothing old new reads.1
 keeps_in (Between p) old result new buf reads = of_nothing old new reads.1
 keeps_in (Reading pass given) old result new buf reads = keeps_told (told_at old.setup.told given) old pass given result new buf reads
 
+-- a read of a scanner at rest leaves it
+rests_on : (phase : Phase) (old : DeviceState) (result : Result ℕ Status) (new : DeviceState) (buf : List ℕ) → ReadsIn phase old result new buf → is_at_rest phase ≡ true → new ≡ old
+rests_on (AtRest c) old result new buf reads rest = reads.1
+rests_on (Between p) old result new buf reads rest = absurd (false≢true rest)
+rests_on (Reading p n) old result new buf reads rest = absurd (false≢true rest)
+
 pub keeps : (first old : DeviceState) (result : Result ℕ Status) (new : DeviceState) (buf : List ℕ) → Keeps first old → Reads old result new buf → Keeps first new
-keeps first old result new buf before reads =
-    keeps_in old.phase old result new buf reads ∙ ap (λ (s : DeviceState). record s { phase = new.phase; failures = new.failures }) before
+keeps first old result new buf before reads = further first old new before (keeps_in old.phase old result new buf reads) (rests_on old.phase old result new buf reads)
 
 -- ---- the end of a frame
 
-pub ends : (old now new : DeviceState) (pass given : ℕ) (buf : List ℕ) → now ≡ with_phase old (Reading pass given) → Reads now (Err Eof) new buf → new.phase ≡ after_pass old.setup pass
+pub ends : (old now new : DeviceState) (pass given : ℕ) (buf : List ℕ) → now ≡ with_phase old (Reading pass given) → Reads now (Err Eof) new buf → new ≡ goes_to old (after_pass old.setup pass)
 ends old now new pass given buf is reads =
     by_told (told_at now.setup.told given) (subst (λ (p : Phase). ReadsIn p now (Err Eof) new buf) (ap (λ (s : DeviceState). s.phase) is) reads)
-    ∙ ap (λ (s : DeviceState). after_pass s.setup pass) is
+    ∙ ap (λ (s : DeviceState). goes_to s (after_pass s.setup pass)) is ∙ goes_from old (Reading pass given) (after_pass old.setup pass)
   where
-    by_told : (told : Option Status) → FrameReads told now pass given (Err Eof) new buf → new.phase ≡ after_pass now.setup pass
-    by_told None reads = ap (λ (s : DeviceState). s.phase) reads.1
+    goes_from : (s : DeviceState) (p q : Phase) → goes_to (with_phase s p) q ≡ goes_to s q
+    goes_from s p (AtRest c) = refl
+    goes_from s p (Between n) = refl
+    goes_from s p (Reading k n) = refl
+
+    by_told : (told : Option Status) → FrameReads told now pass given (Err Eof) new buf → new ≡ goes_to now (after_pass now.setup pass)
+    by_told None reads = reads.1
     by_told (Some status) reads =
         let e = reads.0 in
         let same : status ≡ Eof = cc in
-        ap (λ (s : DeviceState). s.phase) reads.1 ∙ ap (after_told now.setup pass) same
+        reads.1 ∙ ap (λ (status : Status). goes_to now (after_told now.setup pass status)) same
 
 -- the end of a pass comes behind its last byte, or, where it is told, in place of the first
-told_by : (told : Option Status) (given : ℕ) (b : Bool) → (given == 0) ≡ b → (now new : DeviceState) (pass : ℕ) (buf : List ℕ) → FrameReads (cond b told None) now pass given (Err Eof) new buf → IsAllOrNone now pass given
-told_by told given true e now new pass buf reads = inr (eqb-true given 0 e)
-told_by told given false e now new pass buf reads = inl reads.0
+told_by : (told : Option Status) (given : ℕ) (b : Bool) → (given == 0) ≡ b → (now new : DeviceState) (pass : ℕ) (buf : List ℕ) → now.setup.told ≡ told → FrameReads (cond b told None) now pass given (Err Eof) new buf → IsAllOrNone now pass given
+told_by None given true e now new pass buf is reads = inl reads.0
+told_by None given false e now new pass buf is reads = inl reads.0
+told_by (Some status) given true e now new pass buf is reads =
+    let told = reads.0 in
+    let same : status ≡ Eof = cc in
+    inr (eqb-true given 0 e, is ∙ ap (λ (status : Status). Some status) same)
+told_by (Some status) given false e now new pass buf is reads = inl reads.0
 
 pub all_or_none : (old now new : DeviceState) (pass given : ℕ) (buf : List ℕ) → now ≡ with_phase old (Reading pass given) → Reads now (Err Eof) new buf → IsAllOrNone old pass given
 all_or_none old now new pass given buf is reads =
     let here : FrameReads (told_at now.setup.told given) now pass given (Err Eof) new buf = subst (λ (p : Phase). ReadsIn p now (Err Eof) new buf) (ap (λ (s : DeviceState). s.phase) is) reads in
-    subst (λ (s : DeviceState). IsAllOrNone s pass given) is (told_by now.setup.told given (given == 0) refl now new pass buf here)
+    subst (λ (s : DeviceState). IsAllOrNone s pass given) is (told_by now.setup.told given (given == 0) refl now new pass buf refl here)
+
+-- ---- what refuses a read
+
+refused_on : (now new : DeviceState) (pass given : ℕ) (status : Status) (buf : List ℕ) → ReadsOn now pass given (Err status) new buf → status ≢ Eof → HasCause (read_refused status) now new
+refused_on now new pass given IoError buf reads other = inr (refl, failed now new reads.1)
+refused_on now new pass given Eof buf reads other = absurd (other refl)
+refused_on now new pass given Good buf reads other = absurd reads
+refused_on now new pass given Unsupported buf reads other = absurd reads
+refused_on now new pass given Cancelled buf reads other = absurd reads
+refused_on now new pass given DeviceBusy buf reads other = absurd reads
+refused_on now new pass given Inval buf reads other = absurd reads
+refused_on now new pass given Jammed buf reads other = absurd reads
+refused_on now new pass given NoDocs buf reads other = absurd reads
+refused_on now new pass given CoverOpen buf reads other = absurd reads
+refused_on now new pass given NoMem buf reads other = absurd reads
+refused_on now new pass given AccessDenied buf reads other = absurd reads
+
+refused_by : (told : Option Status) (b : Bool) (now new : DeviceState) (pass given : ℕ) (status : Status) (buf : List ℕ) → now.setup.told ≡ told → FrameReads (cond b told None) now pass given (Err status) new buf → status ≢ Eof
+    → HasCause (read_refused status) now new
+refused_by None true now new pass given status buf is reads other = refused_on now new pass given status buf reads other
+refused_by None false now new pass given status buf is reads other = refused_on now new pass given status buf reads other
+refused_by (Some s) true now new pass given status buf is reads other =
+    let told = reads.0 in
+    let same : s ≡ status = cc in
+    inl (is ∙ ap (λ (status : Status). Some status) same, other)
+refused_by (Some s) false now new pass given status buf is reads other = refused_on now new pass given status buf reads other
+
+pub read_cause : (old now new : DeviceState) (pass given : ℕ) (status : Status) (buf : List ℕ) → now ≡ with_phase old (Reading pass given) → Reads now (Err status) new buf → status ≢ Eof → HasCause (read_refused status) old new
+read_cause old now new pass given status buf is reads other =
+    let here : FrameReads (told_at now.setup.told given) now pass given (Err status) new buf = subst (λ (p : Phase). ReadsIn p now (Err status) new buf) (ap (λ (s : DeviceState). s.phase) is) reads in
+    cause_before old now new (Reading pass given) (read_refused status) is (refused_by now.setup.told (given == 0) now new pass given status buf refl here other)
 
 -- ---- the bytes so far
 
-pub first_bytes : (s : DeviceState) (pass : ℕ) (past : Past) (frame : Frame) (first contents : Option (List ℕ)) (join : Joining) → Stands past join → past.under ≡ Some frame → frame.payload ≡ []
-    → Appends first contents past.given → IsReadTo s pass 0 past frame first join contents
-first_bytes s pass past frame first contents join stands under empty taken =
+-- the history with the bytes so far
+abbrev pub so_far : Past → Frame → List ℕ → List ℕ → Past
+so_far past frame bytes given = record past { under = Some (record frame { payload = bytes }); given = given }
+
+pub first_bytes : (s : DeviceState) (pass : ℕ) (past : Past) (frame : Frame) (first contents : Option (List ℕ)) (join : Joining) → IsInside past frame first join contents → frame.payload ≡ []
+    → IsReadTo s pass 0 past frame first join contents
+first_bytes s pass past frame first contents join is empty =
     let same : past ≡ record past { under = Some (record frame { payload = [] }) } =
-    ap (λ (u : Option Frame). record past { under = u }) (under ∙ ap (λ (l : List ℕ). Some (record frame { payload = l })) empty) in
+    ap (λ (u : Option Frame). record past { under = u }) (is.under ∙ ap (λ (l : List ℕ). Some (record frame { payload = l })) empty) in
     record {
       bytes = [];
       count = refl;
-      feeds = record { given = past.given; stands = subst (λ (q : Past). Stands q join) same stands; taken = taken };
+      feeds = record { given = past.given; stands = subst (λ (q : Past). Stands q join) same is.stands; taken = is.taken };
       right = λ steady. refl;
     }
+
+-- so the join is inside the frame with the bytes so far
+pub still_inside : (s : DeviceState) (pass given : ℕ) (past : Past) (frame : Frame) (first contents : Option (List ℕ)) (join : Joining) → past.fault ≡ None → (r : IsReadTo s pass given past frame first join contents)
+    → IsInside (so_far past frame r.bytes r.feeds.given) (record frame { payload = r.bytes }) first join contents
+still_inside s pass given past frame first contents join no_fault r = record { stands = r.feeds.stands; no_fault = no_fault; under = refl; taken = r.feeds.taken }
 
 pub gives : (old now new : DeviceState) (pass given n : ℕ) (buf : List ℕ) → now ≡ with_phase old (Reading pass given) → Reads now (Ok n) new buf → GivesBytes now pass given n new buf
 gives old now new pass given n buf is reads =
@@ -138,10 +192,6 @@ gives old now new pass given n buf is reads =
 pub still : (old now new : DeviceState) (pass given n : ℕ) (buf : List ℕ) → now ≡ with_phase old (Reading pass given) → GivesBytes now pass given n new buf → new ≡ with_phase old (Reading pass (given + n))
 still old now new pass given n buf is g = g.after ∙ ap (λ (s : DeviceState). with_phase s (Reading pass (given + n))) is
 
--- the history with the bytes so far
-abbrev pub so_far : Past → Frame → List ℕ → List ℕ → Past
-so_far past frame bytes given = record past { under = Some (record frame { payload = bytes }); given = given }
-
 pub more_bytes : (old now new : DeviceState) (pass given n : ℕ) (buf : List ℕ) (past : Past) (frame : Frame) (first before after : Option (List ℕ)) (was join : Joining)
     → now ≡ with_phase old (Reading pass given) → GivesBytes now pass given n new buf → (r : IsReadTo old pass given past frame first was before)
     → Feeds (so_far past frame r.bytes r.feeds.given) (record frame { payload = r.bytes ++ take n buf }) first join after → IsReadTo old pass (given + n) past frame first join after
@@ -150,9 +200,9 @@ more_bytes old now new pass given n buf past frame first before after was join i
   count = omega (arith, length-append r.bytes (take n buf), r.count, length-take n buf, g.room);
   feeds = record { given = f.given; stands = f.stands; taken = f.taken };
   right = λ steady.
-      let all = payload old.setup old.page pass in
+      let all = payload old.setup (page_of old) pass in
       let here : take n buf ≡ take n (drop given all) =
-      subst (λ (s : DeviceState). s.steady ≡ true → take n buf ≡ take n (drop given (payload s.setup s.page pass))) is g.bytes steady in
+      subst (λ (s : DeviceState). (steady_of s) ≡ true → take n buf ≡ take n (drop given (payload s.setup (page_of s) pass))) is g.bytes steady in
       ap (λ (l : List ℕ). l ++ take n buf) (r.right steady) ∙ ap (λ (l : List ℕ). take given all ++ l) here ∙ sym (take-add given n all);
 }
 
@@ -165,3 +215,15 @@ cut_off s pass given past frame first contents join no_fault law r = record {
       let clash : Ok false ≡ Ok true = ap (λ (o : Option JoinFault). answer_by o (Some (record frame { payload = r.bytes })) past.ended) (sym no_fault) ∙ joined in
       absurd (cc));
 }
+
+-- a piece for which there is room is refused for want of memory, or by the output
+pub piece_cause : (old now new : DeviceState) (pass given n : ℕ) (buf bytes : List ℕ) (most : ℕ) (stop : Stop) → now ≡ with_phase old (Reading pass given) → GivesBytes now pass given n new buf → length bytes ≡ given
+    → pass_length old.setup (page_of old) pass ≤ most → (length bytes + length (take n buf) ≤ most → (stop ≡ no_memory) ⊎ (stop ≡ bad_output)) → HasCause stop old new
+piece_cause old now new pass given n buf bytes most stop is g count room cause =
+    let left : given + n ≤ pass_length old.setup (page_of old) pass = subst (λ (s : DeviceState). given + n ≤ pass_length s.setup (page_of s) pass) is g.left in
+    let fits : length bytes + length (take n buf) ≤ most = omega (arith, count, length-take n buf, g.room, left, room) in
+    by_cause (cause fits)
+  where
+    by_cause : (stop ≡ no_memory) ⊎ (stop ≡ bad_output) → HasCause stop old new
+    by_cause (inl memory) = subst (λ (s : Stop). HasCause s old new) (sym memory) refl
+    by_cause (inr output) = subst (λ (s : Stop). HasCause s old new) (sym output) refl

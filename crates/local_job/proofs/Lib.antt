@@ -1,4 +1,4 @@
-pub mod Bytes
+pub mod Lets
 pub mod Puts
 pub mod Drains
 pub mod Feeds
@@ -7,3 +7,9 @@ pub mod Pictures
 pub mod Shows
 pub mod Passes
 pub mod Scans
+pub mod Forced
+pub mod Runs
+pub mod Trays
+pub mod Filed
+pub mod Batches
+pub mod BatchRuns

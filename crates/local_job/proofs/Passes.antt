@@ -1,5 +1,5 @@
 -- The passes of a scan, joined one after another: their frames are those of the scan.
-use Rattle.std.proofs.Common.{◌≡◌, ℕ, suc, ◌+◌, ◌≤◌, List, [], ◌∷◌, ◌++◌, Some, None, Bool, true, false, length, refl, sym, ap, ◌∙◌, arith}
+use Rattle.std.proofs.Common.{◌≡◌, ℕ, zero, suc, ◌+◌, ◌≤◌, List, [], ◌∷◌, ◌++◌, Some, None, Bool, true, false, length, refl, sym, ap, ◌∙◌, arith}
 use Rattle.std.specs.Prelude.{if◌then◌else◌}
 use Rattle.page_picture.specs.Page.{Sheet}
 use Rattle.page_picture.specs.Shows.{Frame}
@@ -7,16 +7,23 @@ use Rattle.page_picture.specs.declared.scene.Mode.{Mode}
 use Rattle.page_picture.specs.declared.scene.Mode.TheVariants.{Gray, Color}
 use Rattle.sane_fixed.specs.declared.byte_order.ByteOrder.{ByteOrder}
 use Rattle.sane_fixed.specs.declared.params.Params.{Params}
-use Rattle.std.proofs.Common.{Ok, Err}
-use Rattle.scan_frames.specs.Frames.{frames_of, frame_of, payload, format_at, format_of, color_at, takes_colors, last_pass}
+use Rattle.std.proofs.Common.{Ok, Err, Option, subst}
+use Rattle.std.proofs.lemmas.List.{append-nil}
+use Rattle.scan_frames.specs.Frames.{frames_of, frame_of, payload, format_at, format_of, color_at, params_at, pass_length, takes_colors, last_pass}
 use Rattle.scan_frames.specs.declared.setup.Setup.{Setup}
 use Rattle.scan_frames.specs.declared.setup.PassOrder.{PassOrder}
 use Rattle.scan_frames.specs.declared.setup.PassOrder.TheVariants.{Rgb, Rbg, Gbr, Grb, Brg, Bgr}
-use Rattle.device_api.specs.State.{DeviceState}
-use Rattle.pnm_writer.specs.declared.join_stage.JoinFault.TheVariants.{Shape, Short, NoMem}
-use Rattle.pnm_writer.specs.AloneFrame.{is_alone_format}
-use Rattle.pnm_writer.specs.FrameHistory.{Past, after_begin, after_end, answer_of, is_accepted, is_full, is_joined}
-use Rattle.local_job.specs.FrameReading.{came, frames_came, AreOfPasses}
+use Rattle.device_api.specs.State.{DeviceState, page_of, steady_of}
+use Rattle.frame_join.specs.declared.join_stage.JoinFault.TheVariants.{Shape, Short, NoMem}
+use Rattle.frame_join.specs.AloneFrame.{is_alone_format}
+use Rattle.frame_join.specs.FrameHistory.{Past, after_begin, after_end, answer_by, answer_of, failed, is_accepted, is_full, is_full_at, is_joined}
+use Rattle.frame_join.specs.Joining.{Joining}
+use Rattle.frame_join.specs.AloneFrame.{most_bytes}
+use Rattle.frame_join.specs.declared.join_stage.JoinFault.{JoinFault}
+use Rattle.device_api.proofs.RunLaws.{length-payload}
+use Rattle.scan_laws.specs.Joins.{Takes, TakesAll}
+use Rattle.local_job.specs.Stops.{no_memory, unjoined}
+use Rattle.local_job.specs.FrameReading.{came, frames_came, AreOfPasses, EndsAs, IsBetween}
 
 -- ---- a frame begins, and ends
 
@@ -35,6 +42,25 @@ pub begun_well : (past : Past) (params : Params) (order : ByteOrder) (starved : 
     → (after_begin params order starved past).fault ≡ None → after_begin params order starved past ≡ begun past params order
 begun_well past params order starved no_fault under waits none = begun_by past params order (is_accepted past.ended params order) starved refl no_fault under waits none
 
+-- a frame that is accepted is refused for want of memory alone
+begin_fault : (past : Past) (params : Params) (order : ByteOrder) (starved : Bool) (fault : JoinFault) → past.fault ≡ None → (if starved then failed NoMem past else begun past params order).fault ≡ Some fault → unjoined fault ≡ no_memory
+begin_fault past params order true fault no_fault e = let same : NoMem ≡ fault = cc in ap unjoined (sym same)
+begin_fault past params order false fault no_fault e = absurd (let clash : None ≡ Some fault = sym no_fault ∙ e in cc)
+
+begin_here : (past : Past) (join : Joining) (params : Params) (order : ByteOrder) (starved : Bool) → IsBetween past join → is_accepted past.ended params order ≡ true
+    → after_begin params order starved past ≡ (if starved then failed NoMem past else begun past params order)
+unfolding after_begin
+begin_here past join params order starved is accepted =
+    let none = is.no_fault in
+    let under = is.none_under in
+    let waits = is.not_whole in
+    rw (none, under, waits, accepted) refl
+
+pub begin_cause : (past : Past) (join : Joining) (params : Params) (order : ByteOrder) (starved : Bool) (fault : JoinFault) → IsBetween past join → is_accepted past.ended params order ≡ true
+    → (after_begin params order starved past).fault ≡ Some fault → unjoined fault ≡ no_memory
+begin_cause past join params order starved fault is accepted e =
+    begin_fault past params order starved fault is.no_fault (sym (ap (λ (q : Past). q.fault) (begin_here past join params order starved is accepted)) ∙ e)
+
 -- the history in which it ended
 abbrev pub ended : Past → Frame → Past
 ended past f = record past { ended = past.ended ++ f ∷ []; under = None }
@@ -49,6 +75,20 @@ ended_by past f false is_whole e no_fault under answer = absurd (let clash : Err
 pub ended_well : (past : Past) (f : Frame) (is_whole : Bool) → past.fault ≡ None → past.under ≡ Some f → answer_of (after_end past) ≡ Ok is_whole
     → (is_full f ≡ true) × (after_end past ≡ ended past f) × (is_joined (past.ended ++ f ∷ []) ≡ is_whole)
 ended_well past f is_whole no_fault under answer = ended_by past f (is_full f) is_whole refl no_fault under answer
+
+-- a frame that has all its bytes is not refused at its end, and another is short
+end_by : (past : Past) (f : Frame) (fault : JoinFault) (full : Bool) → past.fault ≡ None → answer_of (if full then ended past f else failed Short past) ≡ Err fault → EndsAs full (unjoined fault)
+end_by past f fault true no_fault answer =
+    absurd (let clash : Ok (is_joined (past.ended ++ f ∷ [])) ≡ Err fault = sym (ap (λ (o : Option JoinFault). answer_by o None (past.ended ++ f ∷ [])) no_fault) ∙ answer in cc)
+end_by past f fault false no_fault answer = let same : Short ≡ fault = (let e : Err Short ≡ Err fault = answer in cc) in ap unjoined (sym same)
+
+end_here : (past : Past) (f : Frame) → past.fault ≡ None → past.under ≡ Some f → after_end past ≡ (if is_full f then ended past f else failed Short past)
+unfolding after_end
+end_here past f no_fault under = rw (no_fault, under) refl
+
+pub end_cause : (past : Past) (f : Frame) (fault : JoinFault) → past.fault ≡ None → past.under ≡ Some f → answer_of (after_end past) ≡ Err fault → EndsAs (is_full f) (unjoined fault)
+end_cause past f fault no_fault under answer =
+    end_by past f fault (is_full f) no_fault (sym (ap (λ (q : Past). answer_of q) (end_here past f no_fault under)) ∙ answer)
 
 -- ---- which frames are a picture
 
@@ -104,27 +144,97 @@ pub more_come : (s : Setup) (page : Sheet) (passes : List (List ℕ)) (bytes : L
     → is_joined (frames_came s page 0 (passes ++ bytes ∷ [])) ≡ false → length passes + 1 ≤ last_pass s
 more_come s page passes bytes more waits = more_by s page passes bytes (colors s) refl more waits
 
+-- where it makes a picture, it was the last
+last_by : (s : Setup) (page : Sheet) (passes : List (List ℕ)) (bytes : List ℕ) (t : Bool) → colors s ≡ t → length passes ≤ last_pass s
+    → is_joined (frames_came s page 0 (passes ++ bytes ∷ [])) ≡ true → last_pass s ≤ length passes
+last_by s page [] bytes true e more whole = absurd (let clash : false ≡ true = sym (one_color s e) ∙ whole in cc)
+last_by s page [] bytes false e more whole = let few = last_is s false e in omega (arith, few)
+last_by s page (a ∷ []) bytes t e more whole = absurd (let clash : false ≡ true = whole in cc)
+last_by s page (a ∷ b ∷ []) bytes true e more whole = let few = last_is s true e in omega (arith, few)
+last_by s page (a ∷ b ∷ []) bytes false e more whole = let few = last_is s false e in omega (arith, few)
+last_by s page (a ∷ b ∷ c ∷ rest) bytes true e more whole = let few = last_is s true e in omega (arith, few)
+last_by s page (a ∷ b ∷ c ∷ rest) bytes false e more whole = let few = last_is s false e in omega (arith, few)
+
+pub was_last : (s : Setup) (page : Sheet) (passes : List (List ℕ)) (bytes : List ℕ) → length passes ≤ last_pass s
+    → is_joined (frames_came s page 0 (passes ++ bytes ∷ [])) ≡ true → last_pass s ≤ length passes
+was_last s page passes bytes more whole = last_by s page passes bytes (colors s) refl more whole
+
+pub few_passes : (s : Setup) → last_pass s ≤ 2
+few_passes s = by_colors (colors s) refl
+  where
+    by_colors : (t : Bool) → colors s ≡ t → last_pass s ≤ 2
+    by_colors true e = let few = last_is s true e in omega (arith, few)
+    by_colors false e = let few = last_is s false e in omega (arith, few)
+
+-- ---- a join takes each frame of the scan
+
+abbrev scan_frames : Bool → Setup → Sheet → List Frame
+scan_frames t s page = if t then frame_of s page 0 ∷ frame_of s page 1 ∷ frame_of s page 2 ∷ [] else frame_of s page 0 ∷ []
+
+accepted_by : (s : Setup) (page : Sheet) (passes : List (List ℕ)) (t : Bool) → colors s ≡ t → TakesAll [] (scan_frames t s page) → length passes ≤ last_pass s
+    → is_accepted (frames_came s page 0 passes) (params_at s page (length passes)) s.order ≡ true
+accepted_by s page [] true e takes more = takes.0.accepted
+accepted_by s page [] false e takes more = takes.0.accepted
+accepted_by s page (a ∷ []) true e takes more = takes.1.0.accepted
+accepted_by s page (a ∷ []) false e takes more = absurd (let few = last_is s false e in omega (arith, more, few))
+accepted_by s page (a ∷ b ∷ []) true e takes more = takes.1.1.0.accepted
+accepted_by s page (a ∷ b ∷ []) false e takes more = absurd (let few = last_is s false e in omega (arith, more, few))
+accepted_by s page (a ∷ b ∷ c ∷ rest) true e takes more = absurd (let few = last_is s true e in omega (arith, more, few))
+accepted_by s page (a ∷ b ∷ c ∷ rest) false e takes more = absurd (let few = last_is s false e in omega (arith, more, few))
+
+pub accepted_next : (s : Setup) (page : Sheet) (pass : ℕ) (passes : List (List ℕ)) → TakesAll [] (frames_of s page) → length passes ≡ pass → pass ≤ last_pass s → is_accepted (frames_came s page 0 passes) (params_at s page pass) s.order ≡ true
+accepted_next s page pass passes takes count more =
+    ap (λ (n : ℕ). is_accepted (frames_came s page 0 passes) (params_at s page n) s.order) (sym count)
+    ∙ accepted_by s page passes (colors s) refl takes (omega (arith, count, more))
+
+-- it has room for all bytes of a pass, which are all of its frame
+pub record IsTakenAt (s : Setup) (page : Sheet) (pass : ℕ) : Type 0 where
+  pub room : pass_length s page pass ≤ most_bytes (params_at s page pass)
+  pub full : is_full (frame_of s page pass) ≡ true
+
+takes_one : (s : Setup) (page : Sheet) (pass : ℕ) (before more : List Frame) → Takes before (frame_of s page pass) more → IsTakenAt s page pass
+takes_one s page pass before more t =
+    let all : length (payload s page pass) ≤ most_bytes (params_at s page pass) = t.fits (payload s page pass) [] (append-nil (payload s page pass)) in
+    record { room = subst (λ (n : ℕ). n ≤ most_bytes (params_at s page pass)) (length-payload s page pass) all; full = t.full }
+
+taken_by : (s : Setup) (page : Sheet) (pass : ℕ) (t : Bool) → colors s ≡ t → TakesAll [] (scan_frames t s page) → pass ≤ last_pass s → IsTakenAt s page pass
+taken_by s page zero true e takes more = takes_one s page 0 _ _ takes.0
+taken_by s page zero false e takes more = takes_one s page 0 _ _ takes.0
+taken_by s page (suc zero) true e takes more = takes_one s page 1 _ _ takes.1.0
+taken_by s page (suc zero) false e takes more = absurd (let few = last_is s false e in omega (arith, more, few))
+taken_by s page (suc (suc zero)) true e takes more = takes_one s page 2 _ _ takes.1.1.0
+taken_by s page (suc (suc zero)) false e takes more = absurd (let few = last_is s false e in omega (arith, more, few))
+taken_by s page (suc (suc (suc n))) true e takes more = absurd (let few = last_is s true e in omega (arith, more, few))
+taken_by s page (suc (suc (suc n))) false e takes more = absurd (let few = last_is s false e in omega (arith, more, few))
+
+pub taken_at : (s : Setup) (page : Sheet) (pass : ℕ) → TakesAll [] (frames_of s page) → pass ≤ last_pass s → IsTakenAt s page pass
+taken_at s page pass takes more = taken_by s page pass (colors s) refl takes more
+
+pub full_with : (s : Setup) (page : Sheet) (pass : ℕ) (bytes : List ℕ) → IsTakenAt s page pass → length bytes ≡ pass_length s page pass → is_full (came s page pass bytes) ≡ true
+full_with s page pass bytes t size =
+    ap (λ (n : ℕ). is_full_at (params_at s page pass).lines (params_at s page pass).bytes_per_line n) (size ∙ sym (length-payload s page pass)) ∙ t.full
+
 -- where it makes a picture, the frames are those of the scan
 same_frame : (s : Setup) (page : Sheet) (pass : ℕ) (bytes : List ℕ) → bytes ≡ payload s page pass → came s page pass bytes ≡ frame_of s page pass
 same_frame s page pass bytes same = ap (came s page pass) same
 
 all_by : (s : DeviceState) (passes : List (List ℕ)) (bytes : List ℕ) (t : Bool) → colors s.setup ≡ t → length passes ≤ last_pass s.setup
-    → is_joined (frames_came s.setup s.page 0 (passes ++ bytes ∷ [])) ≡ true → AreOfPasses s 0 (passes ++ bytes ∷ []) → s.steady ≡ true
-    → frames_came s.setup s.page 0 (passes ++ bytes ∷ []) ≡ (if t then frame_of s.setup s.page 0 ∷ frame_of s.setup s.page 1 ∷ frame_of s.setup s.page 2 ∷ [] else frame_of s.setup s.page 0 ∷ [])
+    → is_joined (frames_came s.setup (page_of s) 0 (passes ++ bytes ∷ [])) ≡ true → AreOfPasses s 0 (passes ++ bytes ∷ []) → (steady_of s) ≡ true
+    → frames_came s.setup (page_of s) 0 (passes ++ bytes ∷ []) ≡ (if t then frame_of s.setup (page_of s) 0 ∷ frame_of s.setup (page_of s) 1 ∷ frame_of s.setup (page_of s) 2 ∷ [] else frame_of s.setup (page_of s) 0 ∷ [])
 all_by s [] bytes true e more joined right steady = absurd (let clash : false ≡ true = sym (one_color s.setup e) ∙ joined in cc)
-all_by s [] bytes false e more joined right steady = ap (λ (f : Frame). f ∷ []) (same_frame s.setup s.page 0 bytes (right.0 steady))
+all_by s [] bytes false e more joined right steady = ap (λ (f : Frame). f ∷ []) (same_frame s.setup (page_of s) 0 bytes (right.0 steady))
 all_by s (a ∷ []) bytes t e more joined right steady = absurd (let clash : false ≡ true = joined in cc)
 all_by s (a ∷ b ∷ []) bytes true e more joined right steady =
-    ap (λ (f : Frame). f ∷ came s.setup s.page 1 b ∷ came s.setup s.page 2 bytes ∷ []) (same_frame s.setup s.page 0 a (right.0 steady))
-    ∙ ap (λ (f : Frame). frame_of s.setup s.page 0 ∷ f ∷ came s.setup s.page 2 bytes ∷ []) (same_frame s.setup s.page 1 b (right.1.0 steady))
-    ∙ ap (λ (f : Frame). frame_of s.setup s.page 0 ∷ frame_of s.setup s.page 1 ∷ f ∷ []) (same_frame s.setup s.page 2 bytes (right.1.1.0 steady))
+    ap (λ (f : Frame). f ∷ came s.setup (page_of s) 1 b ∷ came s.setup (page_of s) 2 bytes ∷ []) (same_frame s.setup (page_of s) 0 a (right.0 steady))
+    ∙ ap (λ (f : Frame). frame_of s.setup (page_of s) 0 ∷ f ∷ came s.setup (page_of s) 2 bytes ∷ []) (same_frame s.setup (page_of s) 1 b (right.1.0 steady))
+    ∙ ap (λ (f : Frame). frame_of s.setup (page_of s) 0 ∷ frame_of s.setup (page_of s) 1 ∷ f ∷ []) (same_frame s.setup (page_of s) 2 bytes (right.1.1.0 steady))
 all_by s (a ∷ b ∷ []) bytes false e more joined right steady = absurd (let few = last_is s.setup false e in omega (arith, more, few))
 all_by s (a ∷ b ∷ c ∷ rest) bytes true e more joined right steady = absurd (let few = last_is s.setup true e in omega (arith, more, few))
 all_by s (a ∷ b ∷ c ∷ rest) bytes false e more joined right steady = absurd (let few = last_is s.setup false e in omega (arith, more, few))
 
 pub all_frames : (s : DeviceState) (passes : List (List ℕ)) (bytes : List ℕ) → length passes ≤ last_pass s.setup
-    → is_joined (frames_came s.setup s.page 0 (passes ++ bytes ∷ [])) ≡ true → AreOfPasses s 0 (passes ++ bytes ∷ []) → s.steady ≡ true
-    → frames_came s.setup s.page 0 (passes ++ bytes ∷ []) ≡ frames_of s.setup s.page
+    → is_joined (frames_came s.setup (page_of s) 0 (passes ++ bytes ∷ [])) ≡ true → AreOfPasses s 0 (passes ++ bytes ∷ []) → (steady_of s) ≡ true
+    → frames_came s.setup (page_of s) 0 (passes ++ bytes ∷ []) ≡ frames_of s.setup (page_of s)
 all_frames s passes bytes more joined right steady = all_by s passes bytes (colors s.setup) refl more joined right steady
 
 -- ---- one more pass
@@ -139,11 +249,11 @@ pub frames_more : (s : Setup) (page : Sheet) (pass : ℕ) (passes : List (List �
 frames_more s page pass passes bytes count =
     ap (λ (k : ℕ). frames_came s page 0 passes ++ came s page k bytes ∷ []) (let e : pass ≡ 0 + length passes = omega (arith, count) in e) ∙ frames_from s page 0 passes bytes
 
-right_from : (s : DeviceState) (n : ℕ) (passes : List (List ℕ)) (bytes : List ℕ) → AreOfPasses s n passes → (s.steady ≡ true → bytes ≡ payload s.setup s.page (n + length passes)) → AreOfPasses s n (passes ++ bytes ∷ [])
-right_from s n [] bytes are right = (λ steady. right steady ∙ ap (payload s.setup s.page) (let e : n + 0 ≡ n = omega arith in e), tt)
+right_from : (s : DeviceState) (n : ℕ) (passes : List (List ℕ)) (bytes : List ℕ) → AreOfPasses s n passes → ((steady_of s) ≡ true → bytes ≡ payload s.setup (page_of s) (n + length passes)) → AreOfPasses s n (passes ++ bytes ∷ [])
+right_from s n [] bytes are right = (λ steady. right steady ∙ ap (payload s.setup (page_of s)) (let e : n + 0 ≡ n = omega arith in e), tt)
 right_from s n (a ∷ more) bytes are right =
-    (are.0, right_from s (suc n) more bytes are.1 (λ steady. right steady ∙ ap (payload s.setup s.page) (let e : n + suc (length more) ≡ suc n + length more = omega arith in e)))
+    (are.0, right_from s (suc n) more bytes are.1 (λ steady. right steady ∙ ap (payload s.setup (page_of s)) (let e : n + suc (length more) ≡ suc n + length more = omega arith in e)))
 
-pub right_more : (s : DeviceState) (pass : ℕ) (passes : List (List ℕ)) (bytes : List ℕ) → length passes ≡ pass → AreOfPasses s 0 passes → (s.steady ≡ true → bytes ≡ payload s.setup s.page pass) → AreOfPasses s 0 (passes ++ bytes ∷ [])
+pub right_more : (s : DeviceState) (pass : ℕ) (passes : List (List ℕ)) (bytes : List ℕ) → length passes ≡ pass → AreOfPasses s 0 passes → ((steady_of s) ≡ true → bytes ≡ payload s.setup (page_of s) pass) → AreOfPasses s 0 (passes ++ bytes ∷ [])
 right_more s pass passes bytes count are right =
-    right_from s 0 passes bytes are (λ steady. right steady ∙ ap (payload s.setup s.page) (let e : pass ≡ 0 + length passes = omega (arith, count) in e))
+    right_from s 0 passes bytes are (λ steady. right steady ∙ ap (payload s.setup (page_of s)) (let e : pass ≡ 0 + length passes = omega (arith, count) in e))

@@ -13,7 +13,7 @@ use Rattle.option_desc.specs.Put.{resolve}
 use Rattle.device_api.specs.declared.scan_option.ScanOption.{ScanOption}
 use Rattle.device_api.specs.Options.{descriptor_of}
 use Rattle.device_api.specs.Values.{put_answer, set_to, option_set, option_to_set}
-use Rattle.net_backend.specs.declared.report.Report.{Report}
+use Rattle.scan_job.specs.declared.report.Report.{Report}
 use Rattle.local_job.specs.declared.stop.Stop.{Stop}
 use Rattle.std.proofs.Common.{subst}
 use Rattle.local_job.specs.FrameReading.{IsRefusal}

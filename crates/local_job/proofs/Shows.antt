@@ -4,8 +4,8 @@ use Rattle.std.specs.List.{enumerate_from}
 use Rattle.std.proofs.lemmas.List.{append-nil, append_assoc}
 use Rattle.std.specs.Io.KnownBytes.{Appends}
 use Rattle.device_api.specs.State.{DeviceState}
-use Rattle.net_backend.specs.declared.job.Task.{Task}
-use Rattle.net_backend.specs.declared.job.Task.TheVariants.{List as ListTask, Show, SetOnly, Scan}
+use Rattle.scan_job.specs.declared.job.Task.{Task}
+use Rattle.scan_job.specs.declared.job.Task.TheVariants.{List as ListTask, Show, SetOnly, Scan, Batch}
 use Rattle.local_job.specs.FrameReading.{IsScanned}
 use Rattle.local_job.specs.LocalRun.{Writes}
 use Rattle.local_job.specs.Showing.{value_told, shown}
@@ -21,7 +21,7 @@ use Rattle.device_api.specs.declared.scan_option.ScanOption.{ScanOption}
 use Rattle.device_api.specs.declared.scan_option.ScanOption.TheVariants.{NumOptions, HandScanner}
 use Rattle.device_api.specs.Options.{options_of, option_at, option_caps, is_active, has_cap, caps_of, descriptor_of, descriptors_of}
 use Rattle.device_api.specs.Values.{passing, option_got, got, option_value}
-use Rattle.net_backend.specs.Shown.{tells_value}
+use Rattle.scan_job.specs.Shown.{tells_value}
 
 -- what the capabilities say of an option by whether it is active
 detect_is : (o : ScanOption) (a : Bool) → has_cap (option_caps o + (if a then 0 else 32)) 4 ≡ has_cap (option_caps o) 4
@@ -98,6 +98,7 @@ pub others_write : (task : Task) (s : DeviceState) (before after : Option (List 
 others_write ListTask s before after other same = same
 others_write Show s before after other same = same
 others_write SetOnly s before after other same = same
+others_write (Batch count) s before after other same = same
 others_write Scan s before after other same = absurd (other refl)
 
 pub scan_writes : (task : Task) (s : DeviceState) (before after : Option (List ℕ)) → task ≡ Scan → ((first : Option (List ℕ)) → Appends first before [] → IsScanned s first after) → Writes task s before after

@@ -4,8 +4,8 @@ use Rattle.std.specs.Io.KnownBytes.{Appends}
 use Rattle.netpbm.specs.Picture.{Picture}
 use Rattle.netpbm.specs.Pnm.{Denotes, IsWhole}
 use Rattle.page_picture.specs.Shows.{Frame, ShowsFrames}
-use Rattle.pnm_writer.specs.FrameHistory.{Past, IsJoined, after_pull}
-use Rattle.pnm_writer.specs.Joining.{Joining, Stands}
+use Rattle.frame_join.specs.FrameHistory.{Past, IsJoined, after_pull}
+use Rattle.frame_join.specs.Joining.{Joining, Stands}
 
 -- more bytes were given, the output took all that were given so far, and once the picture is whole they denote it
 pub record IsDrainedTo (past : Past) (first : Option (List ℕ)) (join : Joining) (contents : Option (List ℕ)) : Type 0 where

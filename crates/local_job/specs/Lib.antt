@@ -1,6 +1,11 @@
 pub mod Stops
 pub mod Putting
+pub mod InForce
 pub mod Draining
 pub mod FrameReading
+pub mod Causes
 pub mod Showing
 pub mod LocalRun
+pub mod Asking
+pub mod Pages
+pub mod LocalBatch

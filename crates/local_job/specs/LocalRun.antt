@@ -1,22 +1,25 @@
 -- What a job on a scanner of this machine leaves.
-use Rattle.std.specs.Prelude.{ℕ, ◌≡◌, ◌≢◌, ◌⊎◌, Option, List, [], ◌∷◌, Ok, Err, false}
+use Rattle.std.specs.Prelude.{ℕ, ◌≡◌, ◌≢◌, ◌⊎◌, Option, Some, List, [], ◌∷◌, true, false}
 use Rattle.std.specs.Io.KnownBytes.{Appends}
-use Rattle.sane_fixed.specs.declared.status.Status.TheVariants.{Inval}
+use Rattle.sane_fixed.specs.declared.status.Status.TheVariants.{Inval, NoDocs}
 use Rattle.scan_frames.specs.declared.setup.Setup.{Setup}
 use Rattle.scan_frames.specs.Frames.{has_picture}
 use Rattle.option_desc.specs.declared.descriptor.Descriptor.{Descriptor}
 use Rattle.option_desc.specs.declared.value.Value.{Value}
 use Rattle.device_api.specs.declared.device_info.DeviceInfo.{DeviceInfo}
-use Rattle.device_api.specs.State.{DeviceState, with_setup}
-use Rattle.net_backend.specs.JobSize.{HasJobSize}
-use Rattle.net_backend.specs.declared.job.Job.{Job}
-use Rattle.net_backend.specs.declared.job.Task.{Task}
-use Rattle.net_backend.specs.declared.job.Task.TheVariants.{List as ListTask, Show, SetOnly, Scan}
-use Rattle.net_backend.specs.declared.report.Report.{Report}
-use Rattle.net_backend.specs.declared.report.Reports.{Reports}
+use Rattle.device_api.specs.State.{DeviceState, after_reset, feeds, left_behind, rests, with_setup, page_of}
+use Rattle.device_api.specs.InForce.{Placed, in_force}
+use Rattle.device_api.specs.Values.{defaults}
+use Rattle.scan_job.specs.JobSize.{HasJobSize, IsBatch}
+use Rattle.scan_job.specs.declared.job.Job.{Job}
+use Rattle.scan_job.specs.declared.job.Task.{Task}
+use Rattle.scan_job.specs.declared.job.Task.TheVariants.{List as ListTask, Show, SetOnly, Scan, Batch}
+use Rattle.scan_job.specs.declared.report.Reports.{Reports}
+use Rattle.scan_laws.specs.Stays.{AreSamePages, LetsGo}
 use Rattle.local_job.specs.declared.stop.Stop.{Stop}
 use Rattle.local_job.specs.Stops.{no_memory, bad_setting, answered}
-use Rattle.local_job.specs.Putting.{put_all}
+use Rattle.local_job.specs.InForce.{AreReported, FailsAt}
+use Rattle.local_job.specs.Causes.{HasCause}
 use Rattle.local_job.specs.Showing.{shown}
 use Rattle.local_job.specs.Draining.{StopsShort}
 use Rattle.local_job.specs.FrameReading.{IsScanned}
@@ -27,6 +30,7 @@ settings_put ListTask settings = []
 settings_put Show settings = settings
 settings_put SetOnly settings = settings
 settings_put Scan settings = settings
+settings_put (Batch count) settings = settings
 
 -- the devices that a task reports: one that lists them this one
 abbrev pub devices_told : Task → DeviceInfo → List DeviceInfo
@@ -34,6 +38,7 @@ devices_told ListTask info = info ∷ []
 devices_told Show info = []
 devices_told SetOnly info = []
 devices_told Scan info = []
+devices_told (Batch count) info = []
 
 -- the options that a task reports: one that shows them all
 abbrev pub options_told : Task → Setup → List (Descriptor × Option Value)
@@ -41,6 +46,12 @@ options_told ListTask setup = []
 options_told Show setup = shown setup
 options_told SetOnly setup = []
 options_told Scan setup = []
+options_told (Batch count) setup = []
+
+-- a job of a size that is taken, with one file at most: a batch has an output for each file
+pub record IsTaken (job : Job) : Type 0 where
+  pub size : HasJobSize job
+  pub one_file : IsBatch job.task → ⊥
 
 -- A scan wrote the file of the picture that the settings in force mean, and other tasks wrote nothing. `before` and
 -- `after` are what the output holds.
@@ -49,29 +60,58 @@ Writes ListTask s before after = after ≡ before
 Writes Show s before after = after ≡ before
 Writes SetOnly s before after = after ≡ before
 Writes Scan s before after = (first : Option (List ℕ)) → Appends first before [] → IsScanned s first after
+Writes (Batch count) s before after = after ≡ before
 
--- The job was done, from the options as they stood: each setting was put and reported, and then its task was done and
--- reported.
-pub record IsDone (s : DeviceState) (job : Job) (reports : Reports) (before after : Option (List ℕ)) : Type 0 where
-  pub size : HasJobSize job
+-- The job has a size that is taken, and its settings are in force on this scanner: the options that they leave, and what
+-- each was given.
+pub record IsPut (s : DeviceState) (job : Job) (forced : Setup × List Placed) : Type 0 where
+  pub taken : IsTaken job
+  pub put : in_force s.setup.scene.kind s.setup.order (settings_put job.task job.settings.items) ≡ Some forced
+
+-- what a task that was done leaves of a scanner at rest: a scan is over, and a feeder let go of its page
+abbrev pub left_by : Task → DeviceState → DeviceState
+left_by ListTask s = s
+left_by Show s = s
+left_by SetOnly s = s
+left_by Scan s = rests s false
+left_by (Batch count) s = s
+
+-- The job was done on this scanner: its settings are in force and reported, its task was done and reported, and the
+-- scanner is left as after a reset, at rest, with the options of the settings.
+pub record IsDone (old : DeviceState) (job : Job) (reports : Reports) (before after : Option (List ℕ)) (new : DeviceState) : Type 0 where
   pub setup : Setup
-  pub put : put_all s.setup (settings_put job.task job.settings.items) ≡ Ok (setup, reports.settings)
-  pub devices : reports.devices ≡ devices_told job.task s.info
+  pub placed : List Placed
+  pub put : IsPut old job (setup, placed)
+  pub told : AreReported (defaults old.setup.scene.kind old.setup.order) (settings_put job.task job.settings.items) placed reports.settings
+  pub devices : reports.devices ≡ devices_told job.task old.info
   pub options : reports.options ≡ options_told job.task setup
-  pub output : Writes job.task (with_setup s setup) before after
+  pub output : Writes job.task (with_setup (after_reset old) setup) before after
+  pub left : new ≡ left_by job.task (with_setup (after_reset old) setup)
 
--- What ends a job that is not done, want of memory aside: its size ends it so, the setting that fails does, or settings
--- that mean no picture on the page; and a task other than a scan, with its settings put, wants memory alone.
-pub record IsEndedBy (s : DeviceState) (job : Job) (stop : Stop) : Type 0 where
-  pub size : (HasJobSize job → ⊥) → stop ≡ bad_setting
-  pub setting : HasJobSize job → (why : Stop) → put_all s.setup (settings_put job.task job.settings.items) ≡ Err why → (stop ≡ no_memory) ⊎ (stop ≡ why)
-  pub put : HasJobSize job → (setup : Setup) (reports : List Report) → put_all s.setup (settings_put job.task job.settings.items) ≡ Ok (setup, reports) → job.task ≢ Scan → stop ≡ no_memory
-  pub picture : HasJobSize job → (setup : Setup) (reports : List Report) → put_all s.setup (settings_put job.task job.settings.items) ≡ Ok (setup, reports) → job.task ≡ Scan → has_picture setup s.page ≡ false → (stop ≡ no_memory) ⊎ (stop ≡ answered Inval)
+-- What ends a job that is not done: its size, or more than one file; the setting that is not put; a feeder without a page; settings that mean no
+-- picture on the page; what ends a scan of one; and want of memory. The page is that of the scanner after its reset.
+pub record IsEndedBy (old : DeviceState) (job : Job) (new : DeviceState) (stop : Stop) : Type 0 where
+  pub size : (IsTaken job → ⊥) → stop ≡ bad_setting
+  pub setting : IsTaken job → (why : Stop) → FailsAt (defaults old.setup.scene.kind old.setup.order) (settings_put job.task job.settings.items) why → (stop ≡ no_memory) ⊎ (stop ≡ why)
+  pub put : (forced : Setup × List Placed) → IsPut old job forced → job.task ≢ Scan → stop ≡ no_memory
+  pub no_page : (forced : Setup × List Placed) → IsPut old job forced → job.task ≡ Scan → (after_reset old).pages ≡ [] → (stop ≡ no_memory) ⊎ (stop ≡ answered NoDocs)
+  pub no_picture : (forced : Setup × List Placed) → IsPut old job forced → job.task ≡ Scan → (after_reset old).pages ≢ [] → has_picture forced.0 (page_of (after_reset old)) ≡ false
+      → (stop ≡ no_memory) ⊎ (stop ≡ answered Inval)
+  pub scan : (forced : Setup × List Placed) → IsPut old job forced → job.task ≡ Scan → (after_reset old).pages ≢ [] → has_picture forced.0 (page_of (after_reset old)) ≡ true
+      → HasCause stop (with_setup (after_reset old) forced.0) new
 
 -- the output took no whole file
 abbrev pub LeavesNoFile : Option (List ℕ) → Option (List ℕ) → Type 0
 LeavesNoFile before after = (first : Option (List ℕ)) → Appends first before [] → StopsShort first after
 
--- of a device only its options, its phase and its count of failures changed
-abbrev pub Runs : DeviceState → DeviceState → Type 0
-Runs old new = new ≡ record old { setup = new.setup; phase = new.phase; failures = new.failures }
+-- of a device that was reset only the options, the phase and the count of failures changed, and a feeder that is at rest
+-- let go of its first page
+pub record KeepsPages (old new : DeviceState) : Type 0 where
+  pub info : new.info ≡ old.info
+  pub pages : AreSamePages old.pages new.pages ⊎ LetsGo (with_setup old new.setup) new
+
+-- Of a device only its options, its phase and its count of failures changed, and a feeder let go of the page that was
+-- scanned; the reset before let go of one under way.
+pub record Runs (old new : DeviceState) : Type 0 where
+  pub info : new.info ≡ old.info
+  pub pages : AreSamePages (after_reset old).pages new.pages ⊎ (new.pages ≡ left_behind (feeds new) (after_reset old).pages)

@@ -8,7 +8,7 @@ use Rattle.scan_frames.specs.declared.setup.Setup.{Setup}
 use Rattle.device_api.specs.Options.{descriptors_of}
 use Rattle.device_api.specs.Values.{option_set, setup_after}
 use Rattle.device_api.specs.InForce.{number_named}
-use Rattle.net_backend.specs.declared.report.Report.{Report}
+use Rattle.scan_job.specs.declared.report.Report.{Report}
 use Rattle.local_job.specs.declared.stop.Stop.{Stop}
 use Rattle.local_job.specs.Stops.{bad_setting, answered}
 

@@ -7,7 +7,7 @@ use Rattle.sane_fixed.specs.declared.status.Status.{Status}
 use Rattle.scan_frames.specs.declared.setup.Setup.{Setup}
 use Rattle.device_api.specs.Options.{descriptors_of}
 use Rattle.device_api.specs.Values.{option_got}
-use Rattle.net_backend.specs.Shown.{tells_value}
+use Rattle.scan_job.specs.Shown.{tells_value}
 
 -- the value that was got, if one was
 abbrev pub value_got : Result Value Status → Option Value

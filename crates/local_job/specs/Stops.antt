@@ -1,10 +1,10 @@
 -- What ends a local job before it is done.
 use Rattle.sane_fixed.specs.declared.status.Status.{Status}
 use Rattle.sane_fixed.specs.declared.status.Status.TheVariants.{Inval, IoError, NoMem}
-use Rattle.net_backend.specs.declared.outcome.Why.{Why}
-use Rattle.net_backend.specs.declared.outcome.Why.TheVariants.{Answer, Malformed, Short, Long, Setting, Memory, Sink}
-use Rattle.pnm_writer.specs.declared.join_stage.JoinFault.{JoinFault}
-use Rattle.pnm_writer.specs.declared.join_stage.JoinFault.TheVariants as fault
+use Rattle.scan_job.specs.declared.outcome.Why.{Why}
+use Rattle.scan_job.specs.declared.outcome.Why.TheVariants.{Answer, Malformed, Short, Long, Setting, Memory, Sink}
+use Rattle.frame_join.specs.declared.join_stage.JoinFault.{JoinFault}
+use Rattle.frame_join.specs.declared.join_stage.JoinFault.TheVariants as fault
 use Rattle.local_job.specs.declared.stop.Stop.{Stop}
 
 abbrev pub no_memory : Stop

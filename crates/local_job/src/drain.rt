@@ -1,22 +1,22 @@
 ghost use Rattle.std.specs.Prelude.{◌≡◌, ◌<◌, true, false, None, Option, List, ℕ, length};
 ghost use Rattle.std.specs.Io.KnownBytes.{Appends};
 ghost use Rattle.netpbm.specs.Pnm.{IsWhole};
-ghost use Rattle.pnm_writer.specs.FrameHistory.{Past};
-ghost use Rattle.pnm_writer.specs.Joining.{Stands};
+ghost use Rattle.frame_join.specs.FrameHistory.{Past};
+ghost use Rattle.frame_join.specs.Joining.{Stands};
 ghost use Rattle.local_job.specs.Draining.{IsDrainedTo, StopsShort};
 
-use crate::output::put;
+use crate::outlet::Outlet;
 use pnm_writer::{FrameJoin, PnmOut, no_file_is_endless, no_front_is_whole};
-use std::io::Write;
 
 /// More than a file has bytes.
 const MOST_PULLS: u64 = 1 << 40;
 
 /// Writes all bytes of the file that may go out. Says whether the output took them; if not, what it
 /// took in all is no whole file.
-pub fn drain<W: Write>(join: &mut FrameJoin, room: &mut [u8], out: &mut W) -> bool
+pub fn drain<W: Outlet>(join: &mut FrameJoin, room: &mut [u8], out: &mut W, again: &mut u64) -> bool
     requires { 0 < length room.old }
     ensures room { length room.new ≡ length room.old }
+    ensures becomes { (first : W) → W.Becomes first out.old → W.Becomes first out.new }
     // `first` is what the output held before the file, and `past` what the join was told and gave.
     ensures drained { result ≡ true → (first : Option (List ℕ)) (past : Past) → Stands past join.old →
         Appends first (W.contents out.old) past.given → IsDrainedTo past first join.new (W.contents out.new) }
@@ -31,7 +31,7 @@ pub fn drain<W: Write>(join: &mut FrameJoin, room: &mut [u8], out: &mut W) -> bo
         if n == 0 {
             return true;
         }
-        if !put(out, &room[..n]) {
+        if !out.put(&room[..n], again) {
             return false;
         }
     }

@@ -1,42 +1,49 @@
-ghost use Rattle.std.specs.Prelude.{◌≡◌, ◌<◌, ◌++◌, Some, None, Option, List, ℕ, OnOk, OnErr, length};
-ghost use Rattle.std.specs.Io.KnownBytes.{Appends};
+ghost use Rattle.std.specs.Prelude.{◌≡◌, ◌<◌, ◌≤◌, ◌+◌, ◌++◌, ◌⊎◌, Some, Option, List, ℕ, OnOk, OnErr, length};
 ghost use Rattle.page_picture.specs.Shows.{Frame};
-ghost use Rattle.pnm_writer.specs.FrameHistory.{Past};
-ghost use Rattle.pnm_writer.specs.Joining.{Stands};
+ghost use Rattle.frame_join.specs.FrameHistory.{Past};
+ghost use Rattle.frame_join.specs.AloneFrame.{most_bytes};
+ghost use Rattle.scan_frames.specs.Frames.{pass_length};
 ghost use Rattle.local_job.specs.Draining.{Feeds, StopsShort};
-ghost use Rattle.std.specs.Prelude.{◌≢◌, [], IfErr, true};
-ghost use Rattle.sane_fixed.specs.declared.status.Status.TheVariants.{Good};
-ghost use Rattle.device_api.specs.State.{Reading, after_pass};
-ghost use Rattle.local_job.specs.FrameReading.{IsAllOrNone, IsReadTo, IsRefusal, Keeps};
+ghost use Rattle.std.specs.Prelude.{◌≢◌, IfErr};
+ghost use Rattle.sane_fixed.specs.declared.status.Status.TheVariants.{Good, NoDocs};
+ghost use Rattle.device_api.specs.State.{Reading, after_pass, goes_to, page_of};
+ghost use Rattle.local_job.specs.FrameReading.{IsAllOrNone, IsBegun, IsInside, IsReadTo, IsRefusal, Keeps};
+ghost use Rattle.local_job.specs.Causes.{HasCause};
+ghost use Rattle.local_job.specs.Stops.{no_memory, bad_output};
 
 use crate::drain::drain;
+use crate::outlet::Outlet;
 use crate::stop::{Stop, bad_output, read_refused, unjoined};
 use device_api::Device;
 use pnm_writer::{FrameJoin, not_whole_before};
 use sane_fixed::Status;
-use std::io::Write;
 
 /// Takes the next bytes of a frame into the join, and the output takes what may go out.
-fn take_piece<W: Write>(
+fn take_piece<W: Outlet>(
     join: &mut FrameJoin,
     bytes: &[u8],
     room: &mut [u8],
     out: &mut W,
+    again: &mut u64,
 ) -> Result<(), Stop>
     requires { 0 < length room.old }
     ensures room { length room.new ≡ length room.old }
-    ensures taken { OnOk result ((first : Option (List ℕ)) (past : Past) (frame : Frame) → Stands past join.old → past.fault ≡ None → past.under ≡ Some frame →
-        Appends first (W.contents out.old) past.given → Feeds past (record frame { payload = frame.payload ++ bytes.now }) first join.new (W.contents out.new)) }
-    ensures short { OnErr result ((first : Option (List ℕ)) (past : Past) (frame : Frame) → Stands past join.old → past.fault ≡ None → past.under ≡ Some frame →
-        Appends first (W.contents out.old) past.given → StopsShort first (W.contents out.new)) }
+    ensures becomes { (first : W) → W.Becomes first out.old → W.Becomes first out.new }
+    ensures taken { OnOk result ((first : Option (List ℕ)) (past : Past) (frame : Frame) → IsInside past frame first join.old (W.contents out.old) →
+        Feeds past (record frame { payload = frame.payload ++ bytes.now }) first join.new (W.contents out.new)) }
+    ensures short { OnErr result ((first : Option (List ℕ)) (past : Past) (frame : Frame) → IsInside past frame first join.old (W.contents out.old) →
+        StopsShort first (W.contents out.new)) }
     ensures refusal { IfErr result (λ stop. IsRefusal stop) }
+    // Bytes that the frame has room for are never too many.
+    ensures cause { IfErr result (λ stop. (first : Option (List ℕ)) (past : Past) (frame : Frame) → IsInside past frame first join.old (W.contents out.old) →
+        length frame.payload + length bytes.now ≤ most_bytes frame.params → (stop ≡ no_memory) ⊎ (stop ≡ bad_output)) }
 {
     not_whole_before();
     join.feed(bytes);
     if let Some(fault) = join.fault() {
         return Err(unjoined(fault));
     }
-    if drain(join, room, out) {
+    if drain(join, room, out, again) {
         Ok(())
     } else {
         Err(bad_output())
@@ -44,25 +51,30 @@ fn take_piece<W: Write>(
 }
 
 /// Reads a frame to its end: its bytes go into the join, and the output takes what may go out.
-pub fn read_frame<W: Write>(
+pub fn read_frame<W: Outlet>(
     device: &mut dyn Device,
     join: &mut FrameJoin,
     piece: &mut [u8],
     room: &mut [u8],
     out: &mut W,
+    again: &mut u64,
 ) -> Result<(), Stop>
     requires piece { 0 < length piece.old }
     requires room { 0 < length room.old }
     requires told { (state device.old).setup.told ≢ Some Good }
     ensures room { length room.new ≡ length room.old }
-    ensures read { OnOk result ((pass : ℕ) (past : Past) (frame : Frame) (first : Option (List ℕ)) → (state device.old).phase ≡ Reading pass 0 →
-        Stands past join.old → past.fault ≡ None → past.under ≡ Some frame → frame.payload ≡ [] → Appends first (W.contents out.old) past.given →
+    ensures becomes { (first : W) → W.Becomes first out.old → W.Becomes first out.new }
+    ensures read { OnOk result ((pass : ℕ) (past : Past) (frame : Frame) (first : Option (List ℕ)) → IsBegun (state device.old) pass past frame first join.old (W.contents out.old) →
         (given : ℕ) × IsAllOrNone (state device.old) pass given × IsReadTo (state device.old) pass given past frame first join.new (W.contents out.new)) }
-    ensures short { OnErr result ((pass : ℕ) (past : Past) (frame : Frame) (first : Option (List ℕ)) → (state device.old).phase ≡ Reading pass 0 →
-        Stands past join.old → past.fault ≡ None → past.under ≡ Some frame → frame.payload ≡ [] → Appends first (W.contents out.old) past.given →
+    ensures short { OnErr result ((pass : ℕ) (past : Past) (frame : Frame) (first : Option (List ℕ)) → IsBegun (state device.old) pass past frame first join.old (W.contents out.old) →
         StopsShort first (W.contents out.new)) }
-    ensures ended { OnOk result ((pass : ℕ) → (state device.old).phase ≡ Reading pass 0 → (state device.new).phase ≡ after_pass (state device.old).setup pass) }
+    ensures ended { OnOk result ((pass : ℕ) → (state device.old).phase ≡ Reading pass 0 → state device.new ≡ goes_to (state device.old) (after_pass (state device.old).setup pass)) }
     ensures refusal { IfErr result (λ stop. (pass : ℕ) → (state device.old).phase ≡ Reading pass 0 → IsRefusal stop) }
+    // After its first byte no status is told, and before it EOF alone ends a frame.
+    ensures untold { OnOk result ((pass : ℕ) → (state device.old).phase ≡ Reading pass 0 → (state device.old).setup.told ≢ Some NoDocs) }
+    // Where the frame has room for the bytes of its pass.
+    ensures cause { IfErr result (λ stop. (pass : ℕ) (past : Past) (frame : Frame) (first : Option (List ℕ)) → IsBegun (state device.old) pass past frame first join.old (W.contents out.old) →
+        pass_length (state device.old).setup (page_of (state device.old)) pass ≤ most_bytes frame.params → HasCause stop (state device.old) (state device.new)) }
     ensures same { Keeps (state device.old) (state device.new) }
 {
     not_whole_before();
@@ -72,6 +84,6 @@ pub fn read_frame<W: Write>(
             Err(status) if status == Status::Eof => return Ok(()),
             Err(status) => return Err(read_refused(status)),
         };
-        take_piece(join, &piece[..n], room, out)?;
+        take_piece(join, &piece[..n], room, out, again)?;
     }
 }

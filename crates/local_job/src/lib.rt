@@ -1,16 +1,21 @@
-//! A job on a scanner of this machine: its settings put, its picture scanned to a Netpbm file.
+//! A job on a scanner of this machine: its settings put, its picture scanned to a Netpbm file, or the pages of a feeder
+//! each to a file of its own.
 #![tactic(auto)]
 
+mod batch;
 mod drain;
 mod frames;
-mod output;
+mod outlet;
+mod page_out;
+mod pages;
 mod run;
 mod scan;
 mod settings;
 mod showing;
 mod stop;
 
-pub use output::put;
+pub use batch::run_local_batch;
+pub use byte_output::{MOST_AGAIN, put};
 pub use run::run_local;
 pub use stop::Stop;
 

@@ -1,34 +1,38 @@
-ghost use Rattle.std.specs.Prelude.{◌≡◌, ◌≢◌, true, IfOk, IfErr, OnErr};
+ghost use Rattle.std.specs.Prelude.{◌≡◌, ◌≢◌, ◌↔◌, IsTrue, true, IfOk, IfErr, OnErr};
 ghost use Rattle.sane_fixed.specs.declared.status.Status.TheVariants.{Good, Eof};
 ghost use Rattle.device_api.specs.State.{is_at_rest, after_reset};
-ghost use Rattle.net_backend.specs.Outcomes.{IfDone, IfEnded, IsOver};
+ghost use Rattle.scan_job.specs.Outcomes.{IfDone, IfEnded, IsOver};
 ghost use Rattle.local_job.specs.FrameReading.{IsRefusal};
 ghost use Rattle.local_job.specs.Stops.{no_memory};
-ghost use Rattle.local_job.specs.LocalRun.{settings_put, devices_told, options_told, IsDone, IsEndedBy, LeavesNoFile, Runs};
+ghost use Rattle.local_job.specs.LocalRun.{settings_put, devices_told, options_told, IsDone, IsEndedBy, IsTaken, KeepsPages, LeavesNoFile, Runs};
 
 use crate::scan::scan_picture;
 use crate::settings::put_settings;
 use crate::showing::show_options;
 use crate::stop::{Stop, bad_setting};
 use device_api::{Device, DeviceInfo};
-use net_backend::{Job, Listed, Outcome, Reports, Task};
 use option_desc::{Descriptor, Value};
 use sane_fixed::Text;
+use scan_job::{Job, Listed, Outcome, Reports, Task};
 use std::alloc::Global;
 use std::io::Write;
 
 /// The settings that a task puts.
-fn settings_put(task: Task, settings: &[(Text, Text)]) -> &[(Text, Text)]
+pub fn settings_put(task: Task, settings: &[(Text, Text)]) -> &[(Text, Text)]
     ensures { result.now ≡ settings_put task settings.now }
 {
     match task {
         Task::List => &[],
-        Task::Show | Task::SetOnly | Task::Scan => settings,
+        Task::Show | Task::SetOnly | Task::Scan | Task::Batch(_) => settings,
     }
 }
 
 /// The devices that a task reports.
-fn devices_told(alloc: Global, task: Task, device: &dyn Device) -> Result<Listed<DeviceInfo>, Stop>
+pub fn devices_told(
+    alloc: Global,
+    task: Task,
+    device: &dyn Device,
+) -> Result<Listed<DeviceInfo>, Stop>
     ensures told { IfOk result (λ devices. devices ≡ devices_told task (state device.now).info) }
     ensures memory { IfErr result (λ stop. stop ≡ no_memory) }
 {
@@ -40,7 +44,7 @@ fn devices_told(alloc: Global, task: Task, device: &dyn Device) -> Result<Listed
 }
 
 /// The options that a task reports.
-fn options_told(
+pub fn options_told(
     alloc: Global,
     task: Task,
     device: &dyn Device,
@@ -50,25 +54,34 @@ fn options_told(
 {
     match task {
         Task::Show => show_options(alloc, device),
-        Task::List | Task::SetOnly | Task::Scan => Ok(Listed::from_vec(Vec::new(alloc))),
+        Task::List | Task::SetOnly | Task::Scan | Task::Batch(_) => {
+            Ok(Listed::from_vec(Vec::new(alloc)))
+        }
     }
 }
 
-/// Does a job on a scanner at rest.
+/// Whether a job's size is one that is taken, and it has one file at most.
+fn is_taken(job: &Job) -> bool
+    ensures { IsTrue result ↔ IsTaken job.now }
+{
+    !job.task.is_batch() && job.has_size()
+}
+
+/// Does a job on a scanner that was reset.
 fn do_job<W: Write>(
     alloc: Global,
     device: &mut dyn Device,
     job: &Job,
     out: &mut W,
 ) -> Result<Reports, Stop>
-    requires { is_at_rest (state device.old).phase ≡ true }
-    ensures done { IfOk result (λ reports. IsDone (state device.old) job.now reports (W.contents out.old) (W.contents out.new)) }
+    requires { state device.old ≡ after_reset (state device.old) }
+    ensures done { IfOk result (λ reports. IsDone (state device.old) job.now reports (W.contents out.old) (W.contents out.new) (state device.new)) }
     ensures no_file { OnErr result (LeavesNoFile (W.contents out.old) (W.contents out.new)) }
     ensures refusal { IfErr result (λ stop. IsRefusal stop) }
-    ensures stop { IfErr result (λ stop. IsEndedBy (state device.old) job.now stop) }
-    ensures runs { Runs (state device.old) (state device.new) }
+    ensures stop { IfErr result (λ stop. IsEndedBy (state device.old) job.now (state device.new) stop) }
+    ensures runs { KeepsPages (state device.old) (state device.new) }
 {
-    if !job.has_size() {
+    if !is_taken(job) {
         return Err(bad_setting());
     }
     let settings = put_settings(alloc, device, settings_put(job.task, &job.settings))?;
@@ -85,7 +98,7 @@ fn do_job<W: Write>(
 }
 
 /// Does a job on a scanner of this machine: resets it, puts each setting, does the task, and cancels it
-/// at the end. A scan's file goes to the output, which is not flushed.
+/// at the end. A scan's file goes to the output, which is not flushed. A batch, which has more than one file, is refused.
 pub fn run_local<W: Write>(
     alloc: Global,
     device: &mut dyn Device,
@@ -93,9 +106,9 @@ pub fn run_local<W: Write>(
     out: &mut W,
 ) -> Outcome
     ensures over { IsOver result }
-    ensures done { IfDone result (λ reports. IsDone (after_reset (state device.old)) job.now reports (W.contents out.old) (W.contents out.new)) }
+    ensures done { IfDone result (λ reports. IsDone (state device.old) job.now reports (W.contents out.old) (W.contents out.new) (state device.new)) }
     ensures ended { IfEnded result (λ status why. (status ≢ Good) × (status ≢ Eof) × LeavesNoFile (W.contents out.old) (W.contents out.new)) }
-    ensures stop { IfEnded result (λ status why. IsEndedBy (after_reset (state device.old)) job.now (record { status = status; why = why })) }
+    ensures stop { IfEnded result (λ status why. IsEndedBy (state device.old) job.now (state device.new) (record { status = status; why = why })) }
     ensures runs { Runs (state device.old) (state device.new) }
     ensures rest { is_at_rest (state device.new).phase ≡ true }
 {

@@ -1,30 +1,34 @@
 ghost use Rattle.std.specs.Prelude.{◌≡◌, ◌≢◌, ◌<◌, ◌⊎◌, true, false, Some, None, length, Option, List, ℕ, [], IfErr, OnOk, OnErr, IfOk};
 ghost use Rattle.std.specs.Io.KnownBytes.{Appends};
-ghost use Rattle.sane_fixed.specs.declared.status.Status.TheVariants.{Inval};
+ghost use Rattle.sane_fixed.specs.declared.status.Status.TheVariants.{Inval, NoDocs};
 ghost use Rattle.page_picture.specs.Shows.{Frame};
-ghost use Rattle.pnm_writer.specs.FrameHistory.{Past, no_past, is_joined};
-ghost use Rattle.pnm_writer.specs.Joining.{Stands};
+ghost use Rattle.frame_join.specs.FrameHistory.{Past, no_past, is_accepted, is_full};
+ghost use Rattle.frame_join.specs.Joining.{Stands};
 ghost use Rattle.scan_frames.specs.Frames.{has_picture};
 ghost use Rattle.device_api.specs.Allowed.{HasLimits};
-ghost use Rattle.device_api.specs.State.{is_at_rest, is_reading, next_pass, params_of, with_phase, Reading};
+ghost use Rattle.device_api.specs.State.{goes_to, is_at_rest, is_reading, next_pass, page_of, params_of, rests, with_phase, AtRest, Reading};
 ghost use Rattle.local_job.specs.Draining.{StopsShort};
 ghost use Rattle.local_job.specs.Stops.{no_memory, answered};
-ghost use Rattle.local_job.specs.FrameReading.{IsRefusal, Keeps, IsScanned, EndsFrame, HasJoined, HasScanned};
+ghost use Rattle.local_job.specs.FrameReading.{IsBetween, IsInside, IsRefusal, Keeps, IsScanned, EndsAs, EndsFrame, HasJoined, HasScanned};
+ghost use Rattle.local_job.specs.Causes.{HasCause};
 
 use crate::drain::drain;
 use crate::frames::read_frame;
+use crate::outlet::{Outlet, Plain};
+use byte_output::MOST_AGAIN;
 use crate::stop::{Stop, answered, bad_output, malformed, unjoined};
 use device_api::Device;
 use pnm_writer::{FrameJoin, not_whole_before, whole_shows};
 use scan_frames::frames_show_the_picture;
+use scan_laws::a_join_takes_the_frames_of_a_scan;
 use std::alloc::{AllocError, Global};
 use std::io::Write;
 
 /// The most bytes that are read at once.
-const PIECE: usize = 4096;
+pub const PIECE: usize = 4096;
 
 /// The most bytes that are written at once.
-const ROOM: usize = 4096;
+pub const ROOM: usize = 4096;
 
 /// A picture has one frame, or three.
 const MOST_PASSES: u32 = 3;
@@ -32,10 +36,14 @@ const MOST_PASSES: u32 = 3;
 /// Begins a scan, or its next pass.
 fn start_pass(alloc: Global, device: &mut dyn Device) -> Result<(), Stop>
     requires { is_reading (state device.old).phase ≡ false }
-    ensures picture { OnOk result (has_picture (state device.old).setup (state device.old).page ≡ true) }
-    ensures none { IfErr result (λ stop. has_picture (state device.old).setup (state device.old).page ≡ false → stop ≡ answered Inval) }
+    ensures some { OnOk result ((state device.old).pages ≢ []) }
+    ensures picture { OnOk result (has_picture (state device.old).setup (page_of (state device.old)) ≡ true) }
+    ensures empty { IfErr result (λ stop. (state device.old).pages ≡ [] → stop ≡ answered NoDocs) }
+    ensures stays { OnErr result ((state device.old).pages ≡ [] → state device.new ≡ with_phase (state device.old) (AtRest false)) }
+    ensures none { IfErr result (λ stop. (state device.old).pages ≢ [] → has_picture (state device.old).setup (page_of (state device.old)) ≡ false → stop ≡ answered Inval) }
     ensures started { OnOk result (state device.new ≡ with_phase (state device.old) (Reading (next_pass (state device.old).phase) 0)) }
     ensures refusal { IfErr result (λ stop. IsRefusal stop) }
+    ensures cause { IfErr result (λ stop. (state device.old).pages ≢ [] → has_picture (state device.old).setup (page_of (state device.old)) ≡ true → HasCause stop (state device.old) (state device.new)) }
     ensures same { Keeps (state device.old) (state device.new) }
 {
     match device.start(alloc) {
@@ -46,10 +54,12 @@ fn start_pass(alloc: Global, device: &mut dyn Device) -> Result<(), Stop>
 
 /// Begins the frame of the pass that the scanner reads.
 fn begin_frame(alloc: Global, device: &dyn Device, join: &mut FrameJoin) -> Result<(), Stop>
-    ensures begun { OnOk result ((past : Past) → Stands past join.old → past.fault ≡ None → past.under ≡ None → is_joined past.ended ≡ false →
+    ensures begun { OnOk result ((past : Past) → IsBetween past join.old →
         Stands (record past { under = Some (record { params = params_of (state device.now); order = (state device.now).setup.order; payload = [] }) }) join.new) }
     ensures limits { HasLimits (state device.now) }
     ensures refusal { IfErr result (λ stop. IsRefusal stop) }
+    ensures cause { IfErr result (λ stop. (past : Past) → IsBetween past join.old →
+        is_accepted past.ended (params_of (state device.now)) (state device.now).setup.order ≡ true → stop ≡ no_memory) }
 {
     let params = device.params();
     join.begin(alloc, &params, device.order());
@@ -60,21 +70,30 @@ fn begin_frame(alloc: Global, device: &dyn Device, join: &mut FrameJoin) -> Resu
 }
 
 /// Ends the frame, and the output takes what may go out then. Says whether the picture is whole.
-fn end_frame<W: Write>(join: &mut FrameJoin, room: &mut [u8], out: &mut W) -> Result<bool, Stop>
+fn end_frame<W: Outlet>(
+    join: &mut FrameJoin,
+    room: &mut [u8],
+    out: &mut W,
+    again: &mut u64,
+) -> Result<bool, Stop>
     requires { 0 < length room.old }
     ensures room { length room.new ≡ length room.old }
-    ensures ended { IfOk result (λ is_whole. (first : Option (List ℕ)) (past : Past) (frame : Frame) → Stands past join.old → past.fault ≡ None → past.under ≡ Some frame →
-        Appends first (W.contents out.old) past.given → EndsFrame past frame is_whole first join.new (W.contents out.new)) }
-    ensures short { OnErr result ((first : Option (List ℕ)) (past : Past) (frame : Frame) → Stands past join.old → past.fault ≡ None → past.under ≡ Some frame →
-        Appends first (W.contents out.old) past.given → StopsShort first (W.contents out.new)) }
+    ensures becomes { (first : W) → W.Becomes first out.old → W.Becomes first out.new }
+    ensures ended { IfOk result (λ is_whole. (first : Option (List ℕ)) (past : Past) (frame : Frame) → IsInside past frame first join.old (W.contents out.old) →
+        EndsFrame past frame is_whole first join.new (W.contents out.new)) }
+    ensures short { OnErr result ((first : Option (List ℕ)) (past : Past) (frame : Frame) → IsInside past frame first join.old (W.contents out.old) →
+        StopsShort first (W.contents out.new)) }
     ensures refusal { IfErr result (λ stop. IsRefusal stop) }
+    // A frame that has all its bytes is not refused, and another is short.
+    ensures cause { IfErr result (λ stop. (first : Option (List ℕ)) (past : Past) (frame : Frame) → IsInside past frame first join.old (W.contents out.old) →
+        EndsAs (is_full frame) stop) }
 {
     not_whole_before();
     let is_whole = match join.end() {
         Ok(is_whole) => is_whole,
         Err(fault) => return Err(unjoined(fault)),
     };
-    if drain(join, room, out) {
+    if drain(join, room, out, again) {
         Ok(is_whole)
     } else {
         Err(bad_output())
@@ -82,67 +101,88 @@ fn end_frame<W: Write>(join: &mut FrameJoin, room: &mut [u8], out: &mut W) -> Re
 }
 
 /// So many bytes to read or write through.
-fn zeros(alloc: Global, size: usize) -> Result<Vec<u8>, AllocError>
+pub fn zeros(alloc: Global, size: usize) -> Result<Vec<u8>, AllocError>
     ensures { IfOk result (λ bytes. length bytes.items ≡ size) }
 {
     vec![in alloc; 0u8; size]
 }
 
 /// Reads the next pass of a scan, and the output takes what may go out. Says whether the picture is whole.
-fn scan_pass<W: Write>(
+fn scan_pass<W: Outlet>(
     alloc: Global,
     device: &mut dyn Device,
     join: &mut FrameJoin,
     piece: &mut [u8],
     room: &mut [u8],
     out: &mut W,
+    again: &mut u64,
 ) -> Result<bool, Stop>
     requires rest { is_reading (state device.old).phase ≡ false }
     requires piece { 0 < length piece.old }
     requires room { 0 < length room.old }
     ensures piece { length piece.new ≡ length piece.old }
     ensures room { length room.new ≡ length room.old }
+    ensures becomes { (first : W) → W.Becomes first out.old → W.Becomes first out.new }
     ensures scanned { IfOk result (λ is_whole. (first : Option (List ℕ)) → HasJoined (state device.old) (next_pass (state device.old).phase) first join.old (W.contents out.old) →
         HasScanned (state device.old) (next_pass (state device.old).phase) is_whole first (state device.new) join.new (W.contents out.new)) }
     ensures short { OnErr result ((first : Option (List ℕ)) → HasJoined (state device.old) (next_pass (state device.old).phase) first join.old (W.contents out.old) →
         StopsShort first (W.contents out.new)) }
-    ensures picture { OnOk result (has_picture (state device.old).setup (state device.old).page ≡ true) }
-    ensures none { IfErr result (λ stop. has_picture (state device.old).setup (state device.old).page ≡ false → stop ≡ answered Inval) }
+    ensures some { OnOk result ((state device.old).pages ≢ []) }
+    ensures picture { OnOk result (has_picture (state device.old).setup (page_of (state device.old)) ≡ true) }
+    ensures empty { IfErr result (λ stop. (state device.old).pages ≡ [] → stop ≡ answered NoDocs) }
+    ensures stays { OnErr result ((state device.old).pages ≡ [] → state device.new ≡ with_phase (state device.old) (AtRest false)) }
+    ensures silent { OnErr result ((state device.old).pages ≡ [] → out.new ≡ out.old) }
+    ensures none { IfErr result (λ stop. (state device.old).pages ≢ [] → has_picture (state device.old).setup (page_of (state device.old)) ≡ false → stop ≡ answered Inval) }
+    ensures untold { OnOk result ((state device.old).setup.told ≢ Some NoDocs) }
     ensures ended { OnOk result (is_reading (state device.new).phase ≡ false) }
     ensures refusal { IfErr result (λ stop. IsRefusal stop) }
+    ensures cause { IfErr result (λ stop. (first : Option (List ℕ)) → HasJoined (state device.old) (next_pass (state device.old).phase) first join.old (W.contents out.old) →
+        (state device.old).pages ≢ [] → has_picture (state device.old).setup (page_of (state device.old)) ≡ true → HasCause stop (state device.old) (state device.new)) }
+    ensures well { OnOk result (state device.new ≡ goes_to (state device.old) (state device.new).phase) }
     ensures same { Keeps (state device.old) (state device.new) }
 {
     frames_show_the_picture();
     not_whole_before();
     whole_shows();
+    a_join_takes_the_frames_of_a_scan();
     start_pass(alloc, device)?;
     begin_frame(alloc, &*device, join)?;
-    read_frame(device, join, piece, room, out)?;
-    end_frame(join, room, out)
+    read_frame(device, join, piece, room, out, again)?;
+    end_frame(join, room, out, again)
 }
 
 /// Reads the passes of a scan, from the first, until the picture is whole.
-fn scan_passes<W: Write>(
+pub fn scan_passes<W: Outlet>(
     alloc: Global,
     device: &mut dyn Device,
     join: &mut FrameJoin,
     piece: &mut [u8],
     room: &mut [u8],
     out: &mut W,
+    again: &mut u64,
 ) -> Result<(), Stop>
     requires rest { is_at_rest (state device.old).phase ≡ true }
     requires join { Stands no_past join.old }
     requires piece { 0 < length piece.old }
     requires room { 0 < length room.old }
+    ensures piece { length piece.new ≡ length piece.old }
+    ensures room { length room.new ≡ length room.old }
     ensures done { OnOk result ((first : Option (List ℕ)) → Appends first (W.contents out.old) [] → IsScanned (state device.old) first (W.contents out.new)) }
     ensures short { OnErr result ((first : Option (List ℕ)) → Appends first (W.contents out.old) [] → StopsShort first (W.contents out.new)) }
+    ensures becomes { (first : W) → W.Becomes first out.old → W.Becomes first out.new }
     ensures refusal { IfErr result (λ stop. IsRefusal stop) }
-    ensures none { IfErr result (λ stop. has_picture (state device.old).setup (state device.old).page ≡ false → stop ≡ answered Inval) }
+    ensures empty { IfErr result (λ stop. (state device.old).pages ≡ [] → stop ≡ answered NoDocs) }
+    ensures stays { OnErr result ((state device.old).pages ≡ [] → state device.new ≡ with_phase (state device.old) (AtRest false)) }
+    ensures silent { OnErr result ((state device.old).pages ≡ [] → out.new ≡ out.old) }
+    ensures none { IfErr result (λ stop. (state device.old).pages ≢ [] → has_picture (state device.old).setup (page_of (state device.old)) ≡ false → stop ≡ answered Inval) }
+    ensures cause { IfErr result (λ stop. (state device.old).pages ≢ [] → has_picture (state device.old).setup (page_of (state device.old)) ≡ true → HasCause stop (state device.old) (state device.new)) }
+    ensures untold { OnOk result ((state device.old).setup.told ≢ Some NoDocs) }
+    ensures rest { OnOk result (state device.new ≡ rests (state device.old) false) }
     ensures same { Keeps (state device.old) (state device.new) }
 {
     not_whole_before();
     for _pass in 0..MOST_PASSES {
-        if scan_pass(alloc, device, join, piece, room, out)? {
+        if scan_pass(alloc, device, join, piece, room, out, again)? {
             return Ok(());
         }
     }
@@ -160,12 +200,21 @@ pub fn scan_picture<W: Write>(
     ensures done { OnOk result ((first : Option (List ℕ)) → Appends first (W.contents out.old) [] → IsScanned (state device.old) first (W.contents out.new)) }
     ensures short { OnErr result ((first : Option (List ℕ)) → Appends first (W.contents out.old) [] → StopsShort first (W.contents out.new)) }
     ensures refusal { IfErr result (λ stop. IsRefusal stop) }
-    ensures none { IfErr result (λ stop. has_picture (state device.old).setup (state device.old).page ≡ false → (stop ≡ no_memory) ⊎ (stop ≡ answered Inval)) }
+    ensures empty { IfErr result (λ stop. (state device.old).pages ≡ [] → (stop ≡ no_memory) ⊎ (stop ≡ answered NoDocs)) }
+    ensures none { IfErr result (λ stop. (state device.old).pages ≢ [] → has_picture (state device.old).setup (page_of (state device.old)) ≡ false → (stop ≡ no_memory) ⊎ (stop ≡ answered Inval)) }
+    ensures cause { IfErr result (λ stop. (state device.old).pages ≢ [] → has_picture (state device.old).setup (page_of (state device.old)) ≡ true → HasCause stop (state device.old) (state device.new)) }
+    ensures rest { OnOk result (state device.new ≡ rests (state device.old) false) }
     ensures same { Keeps (state device.old) (state device.new) }
 {
     not_whole_before();
     let mut piece = zeros(alloc, PIECE)?;
     let mut room = zeros(alloc, ROOM)?;
     let mut join = FrameJoin::new(alloc);
-    scan_passes(alloc, device, &mut join, &mut piece, &mut room, out)
+    let mut again = MOST_AGAIN;
+    let mut plain = Plain { out };
+    let scanned = scan_passes(
+        alloc, device, &mut join, &mut piece, &mut room, &mut plain, &mut again,
+    );
+    let Plain { out: _ } = plain;
+    scanned
 }

@@ -10,9 +10,9 @@ ghost use Rattle.local_job.specs.FrameReading.{IsRefusal};
 
 use crate::stop::{Stop, answered, bad_setting, no_memory};
 use device_api::Device;
-use net_backend::{Listed, Report};
 use option_desc::{Descriptor, Value, read_text};
 use sane_fixed::{Info, Status, Text};
+use scan_job::{Listed, Report};
 use std::alloc::Global;
 
 /// The number of the first option of that name.

@@ -5,8 +5,8 @@ ghost use Rattle.local_job.specs.Showing.{shown, value_told};
 
 use crate::stop::{Stop, answered};
 use device_api::Device;
-use net_backend::{Listed, tells_value};
 use option_desc::{Descriptor, Value};
+use scan_job::{Listed, tells_value};
 use std::alloc::Global;
 
 /// The value of an option, where it has one to tell.

@@ -2,9 +2,9 @@ ghost use Rattle.std.specs.Prelude.{◌≡◌};
 ghost use Rattle.local_job.specs.declared.stop.Stop.{Stop as AnyStop};
 ghost use Rattle.local_job.specs.Stops.{no_memory, bad_setting, answered, read_refused, bad_output, unjoined, malformed};
 
-use net_backend::Why;
 use pnm_writer::JoinFault;
 use sane_fixed::{NoMem, Status};
+use scan_job::Why;
 use std::alloc::{AllocError, AllocFailed};
 
 /// Why a job ended before it was done.

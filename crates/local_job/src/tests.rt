@@ -1,14 +1,15 @@
+mod batches;
 mod shapes;
 mod tasks;
 
-use crate::{put, run_local};
+use crate::{MOST_AGAIN, put, run_local};
 use device_api::Device;
 use flatbed_dev::Flatbed;
-use net_backend::{Job, Outcome, Report, Reports, Task, Why};
 use option_desc::Value;
 use page_picture::{FailingPage, MemoryPage, Source, read_page};
 use pnm_writer::read_pnm;
 use sane_fixed::{ByteOrder, Fixed, Info, Status, Text};
+use scan_job::{Job, Outcome, Report, Reports, Task, Why};
 use std::alloc::Global;
 use std::io::{ErrorKind, Write};
 use std::process::Abort;
@@ -426,6 +427,17 @@ fn a_job_of_too_many_settings(rt: HostRuntime) {
 }
 
 #[test]
+fn a_batch_is_no_job_of_one_file(rt: HostRuntime) {
+    let alloc = rt.alloc();
+    let mut device = flatbed_on(&rt, alloc, TWO_ROWS, 26);
+    let mut file = Vec::new(alloc);
+    let batch = job(&rt, alloc, &[], Task::Batch(1));
+    let outcome = run_local(alloc, &mut device, &batch, &mut file);
+    ends(&rt, &outcome, Status::Inval, Why::Setting);
+    assert!(&rt; file.is_empty());
+}
+
+#[test]
 fn a_job_with_a_long_text(rt: HostRuntime) {
     let alloc = rt.alloc();
     let mut device = flatbed_on(&rt, alloc, TWO_ROWS, 26);
@@ -537,11 +549,25 @@ fn an_output_that_is_interrupted(rt: HostRuntime) {
 fn bytes_put(rt: HostRuntime) {
     let alloc = rt.alloc();
     let mut out = disk_with(alloc, 12, 2, true);
-    assert!(&rt; put(&mut out, b"twelve bytes"));
+    let mut again = 2;
+    assert!(&rt; put(&mut out, b"twelve bytes", &mut again));
     assert_eq!(&rt; out.taken.as_slice(), b"twelve bytes".as_slice());
-    assert!(&rt; put(&mut out, b""));
-    assert!(&rt; !put(&mut out, b"more"));
+    assert_eq!(&rt; again, 0);
+    assert!(&rt; put(&mut out, b"", &mut again));
+    assert!(&rt; !put(&mut out, b"more", &mut again));
     assert_eq!(&rt; out.taken.len(), 12);
+}
+
+/// Interrupted writes are counted over all that is put.
+#[test]
+fn interrupted_too_often(rt: HostRuntime) {
+    let alloc = rt.alloc();
+    let mut again = 3;
+    for (interrupts, takes) in [(2, true), (1, true), (1, false), (0, true)] {
+        let mut out = disk_with(alloc, 4, interrupts, true);
+        assert_eq!(&rt; put(&mut out, b"four", &mut again), takes);
+    }
+    assert_eq!(&rt; MOST_AGAIN, 1_099_511_627_776);
 }
 
 /// In a box it is the same scanner.

@@ -1,11 +1,11 @@
 use sane_fixed::NoMem;
 use std::alloc::AllocFailed;
-use std::error::Error;
-use std::fmt;
 use text_lines::LimitFault;
+use thiserror::Error;
 
 /// Why a line of a users file is refused, in the order of the tests.
-#[derive(Clone, Copy, Debug, PartialEq, Eq)]
+#[derive(Clone, Copy, Debug, PartialEq, Eq, Error)]
+#[error("{text}", text = self.text())]
 pub enum LineReason {
     /// The file has more than 256 lines.
     TooMany = 1,
@@ -21,8 +21,21 @@ pub enum LineReason {
     NoMem = 6,
 }
 
+const _: () = prove!(LineReason::TooMany as u32 == 1);
+
+const _: () = prove!(LineReason::TooLong as u32 == 2);
+
+const _: () = prove!(LineReason::BadByte as u32 == 3);
+
+const _: () = prove!(LineReason::Colons as u32 == 4);
+
+const _: () = prove!(LineReason::EmptyField as u32 == 5);
+
+const _: () = prove!(LineReason::NoMem as u32 == 6);
+
 /// The first line that is refused, counted from 1, and why.
-#[derive(Clone, Copy, Debug, PartialEq, Eq)]
+#[derive(Clone, Copy, Debug, PartialEq, Eq, Error)]
+#[error("line {line}: {reason}")]
 pub struct LineFault {
     pub line: u32,
     pub reason: LineReason,
@@ -46,19 +59,6 @@ impl LineReason {
         }
     }
 }
-
-impl fmt::Display for LineReason {
-    ghost use Rattle.std.specs.Prelude.{Some};
-    ghost use Rattle.md5_auth.specs.Reasons.{reason_text};
-
-    ghost output = { λ reason. Some (reason_text reason) };
-
-    fn fmt<W: fmt::Write>(&self, f: &mut fmt::Formatter<W>) -> fmt::Result {
-        f.write_str(self.text())
-    }
-}
-
-impl Error for LineReason {}
 
 impl From<LimitFault> for LineReason {
     ghost use Rattle.std.specs.Prelude.{◌≡◌};

@@ -235,5 +235,11 @@ fn texts_of_reasons(rt: HostRuntime) -> Result<(), Fail> {
         let printed = format!(in rt.alloc(); "{reason}")?;
         assert_eq!(rt; printed.as_str(), text);
     }
+    let fault = LineFault {
+        line: 7,
+        reason: LineReason::Colons,
+    };
+    let printed = format!(in rt.alloc(); "{fault}")?;
+    assert_eq!(rt; printed.as_str(), "line 7: wrong number of fields");
     Ok(())
 }

@@ -1,17 +1,9 @@
-//! Jobs, and what becomes of them.
+//! The client of a job over the net: its value, and the loops that run it over streams.
 #![tactic(auto)]
 
-mod job;
-mod listed;
-mod outcome;
-mod report;
-mod shown;
-
-pub use job::{Job, Task};
-pub use listed::Listed;
-pub use outcome::{Outcome, Why};
-pub use report::{Report, Reports};
-pub use shown::tells_value;
-
-#[cfg(test)]
-mod tests;
+pub use net_client::{Client, Link};
+pub use net_jobs::{Dial, DialFault, run_batch, run_job};
+pub use scan_job::{
+    Job, JobFault, Listed, MOST_PAGES, Outcome, Report, Reports, Shelf, ShelfFault, Task, Why,
+    tells_value,
+};

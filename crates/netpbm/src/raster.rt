@@ -24,6 +24,10 @@ pub fn none_above(maxval: u32, raster: &[u8], count: usize) -> bool
     requires { length raster.now ≡ count * sample_bytes maxval }
     ensures { MatchBool result (NoneAbove maxval raster.now count) (SomeAbove maxval raster.now count) }
 {
+    // No byte is above 255, and no two bytes are above 65,535.
+    if maxval == 255 || maxval >= 65535 {
+        return true;
+    }
     for i in 0..count {
         if number_at(maxval, raster, i, count) > maxval {
             return false;

@@ -1,5 +1,5 @@
 -- The tests of what fits say what fits.
-use Rattle.std.proofs.Common.{◌≡◌, ◌<◌, ◌≤◌, ◌+◌, ◌/◌, ◌==◌, ◌&&◌, ℕ, Bool, true, false, ℤ, ◌⊎◌, inl, inr, List, length, arith, refl, sym, ap, ◌∙◌, Decides, nat_lt}
+use Rattle.std.proofs.Common.{◌≡◌, ◌<◌, ◌≤◌, ◌+◌, ◌/◌, ◌==◌, ◌&&◌, ℕ, Bool, true, false, ℤ, ◌⊎◌, inl, inr, List, length, arith, refl, Decides, nat_lt}
 use Rattle.std.proofs.lemmas.Bool.{false≢true, and_parts}
 use Rattle.std.proofs.lemmas.Bool.Decides.{nat_tests}
 use Rattle.sane_fixed.specs.declared.fixed.Fixed.{Fixed as Number}

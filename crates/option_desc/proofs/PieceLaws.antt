@@ -1,11 +1,11 @@
 -- Words that are read piece by piece.
-use Rattle.std.proofs.Common.{◌≡◌, ◌<◌, ◌≤◌, ◌+◌, ℕ, ℤ, zero, suc, Bool, true, false, List, [], ◌∷◌, ◌++◌, length, take, get_or, arith, refl, sym, ap, ◌∙◌, subst}
+use Rattle.std.proofs.Common.{◌≡◌, ◌<◌, ◌≤◌, ◌+◌, ℕ, ℤ, zero, suc, true, false, List, [], ◌∷◌, ◌++◌, length, take, get_or, arith, refl, sym, ap, ◌∙◌, subst}
 use Rattle.std.specs.Prelude.{Option, Some, None, is_some}
 use Rattle.std.proofs.lemmas.Bool.{false≢true}
 use Rattle.std.proofs.lemmas.List.{take_more, take_all}
 use Rattle.sane_fixed.specs.declared.kind.Kind.{Kind}
 use Rattle.option_desc.specs.Reads.{SpellsWord, SpellsEach, word_in, words_in}
-use Rattle.option_desc.proofs.ReadsLaws.{some_is, no_some, word_found, word_is, words_found, words_are}
+use Rattle.option_desc.proofs.ReadsLaws.{no_some, word_found, word_is, words_found, words_are}
 
 -- the first n pieces spell words
 pub record ReadBelow (k : Kind) (pieces : List (List ℕ)) (n : ℕ) : Type 0 where

@@ -1,21 +1,19 @@
 -- The value computed is the one that is put, and the only one.
-use Rattle.std.proofs.Common.{◌≡◌, ℤ, ℕ, Bool, true, false, cond, List, [], ◌∷◌, length, map, get_or, inl, inr, refl, sym, ap, ◌∙◌, subst}
+use Rattle.std.proofs.Common.{◌≡◌, ℤ, ℕ, Bool, true, false, cond, List, [], ◌∷◌, map, get_or, inl, inr, refl, sym, ap, ◌∙◌, subst}
 use Rattle.std.specs.Prelude.{Option, Some, None, IfSome, option_map, option_and_then, slice_get}
-use Rattle.std.proofs.lemmas.Bool.{false≢true}
 use Rattle.std.proofs.lemmas.Option.{option_and_then_some, get_or_from_slice_get}
-use Rattle.constraint.specs.Nearest.{PlaceByPlace, NearestEntry, IsFirstEqual, IsOnlyBeginning, TellsDifference}
+use Rattle.constraint.specs.Nearest.{PlaceByPlace, NearestEntry, TellsDifference}
 use Rattle.constraint.specs.NearestComputed.{nearest_entry}
 use Rattle.constraint.proofs.RangeLaws.{NearestInRange-nearest_in_range, NearestInRange-unique}
 use Rattle.constraint.proofs.ListLaws.{NearestInList-nearest_in_list, NearestInList-unique, PlaceByPlace-map, PlaceByPlace-unique}
-use Rattle.constraint.proofs.EntryLaws.{NearestEntry-nearest_entry, NearestEntry-unique, nearest_entry-none, nearest_entry-is}
-use Rattle.sane_fixed.specs.declared.fixed.Fixed.{Fixed as Number}
+use Rattle.constraint.proofs.EntryLaws.{NearestEntry-nearest_entry, nearest_entry-is}
 use Rattle.option_desc.specs.declared.descriptor.Constraint.{Constraint}
 use Rattle.option_desc.specs.declared.descriptor.Constraint.TheVariants.{Free, Span, Words as WordsOf, Strings}
 use Rattle.option_desc.specs.declared.descriptor.Descriptor.{Descriptor}
 use Rattle.option_desc.specs.declared.value.Value.{Value}
 use Rattle.option_desc.specs.declared.value.Value.TheVariants.{Flag, Int, Fixed, Words, Text}
 use Rattle.option_desc.specs.Sound.{IsSound}
-use Rattle.option_desc.specs.Fits.{Fits, fits_of}
+use Rattle.option_desc.specs.Fits.{fits_of}
 use Rattle.option_desc.specs.Put.{NearestWord, NearestText, NearestValue, Puts, nearest_word, nearest_text, nearest_value, resolve}
 use Rattle.option_desc.proofs.FitsLaws.{fits_of-Decides}
 

@@ -1,5 +1,5 @@
 -- What is computed of a text is the value that it reads as, and the only one.
-use Rattle.std.proofs.Common.{◌≡◌, ◌≢◌, ◌<◌, ◌≤◌, ◌==◌, ◌||◌, ℕ, ℤ, Bool, true, false, cond, List, [], ◌∷◌, length, inl, inr, arith, refl, sym, ap, ◌∙◌, subst, Decides}
+use Rattle.std.proofs.Common.{◌≡◌, ◌≢◌, ◌<◌, ◌≤◌, ◌==◌, ◌||◌, ℕ, ℤ, Bool, true, false, cond, List, [], ◌∷◌, length, arith, refl, sym, ap, ◌∙◌, subst}
 use Rattle.std.specs.Prelude.{Option, Some, None, option_map, nat_lt, Contains, codes, IsSome, is_some}
 use Rattle.std.specs.List.{list_any}
 use Rattle.std.specs.Str.{bytes_eq}
@@ -7,7 +7,6 @@ use Rattle.std.proofs.lemmas.Bool.{false≢true}
 use Rattle.std.proofs.lemmas.Bool.Decides.{nat_tests}
 use Rattle.std.proofs.lemmas.List.Elements.{Contains-append_left, Contains-append_right, Contains-push}
 use Rattle.std.proofs.lemmas.Slice.Eq.{bytes_eq-Decides}
-use Rattle.sane_fixed.specs.declared.fixed.Fixed.{Fixed as Number}
 use Rattle.sane_fixed.specs.declared.kind.Kind.{Kind}
 use Rattle.sane_fixed.specs.declared.kind.Kind.TheVariants as kind
 use Rattle.sane_fixed.specs.Text.{IsText}
@@ -16,7 +15,7 @@ use Rattle.option_desc.specs.declared.descriptor.Descriptor.{Descriptor}
 use Rattle.option_desc.specs.declared.value.Value.{Value}
 use Rattle.option_desc.specs.declared.value.Value.TheVariants.{Flag, Int, Fixed, Words, Text}
 use Rattle.option_desc.specs.Reads.{SpellsInteger, SpellsWord, SpellsEach, SpellsWords, Reads, flag_of, word_in, words_in, pieces_of, one_word, number_of, text_of, read_as, read}
-use Rattle.option_desc.proofs.ReadsLaws.{some_is, no_some, cond_option, word_found, word_is, spells_found, spells_is}
+use Rattle.option_desc.proofs.ReadsLaws.{some_is, no_some, word_found, word_is, spells_found, spells_is}
 
 -- ---- a NUL
 

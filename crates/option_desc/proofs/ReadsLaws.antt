@@ -1,29 +1,22 @@
 -- What is computed of a text is what it reads as.
-use Rattle.std.proofs.Common.{◌≡◌, ◌≢◌, ◌<◌, ◌≤◌, ◌+◌, ◌==◌, ◌&&◌, ℕ, ℤ, suc, Bool, true, false, cond, List, [], ◌∷◌, ◌++◌, length, inl, inr, arith, refl, sym, ap, ◌∙◌, subst, Decides}
-use Rattle.std.specs.Prelude.{Option, Some, None, option_map, option_and_then, nat_lt, nat_le, All, Contains, codes, ◌⊎◌}
+use Rattle.std.proofs.Common.{◌≡◌, ◌<◌, ◌≤◌, ◌==◌, ◌&&◌, ℕ, ℤ, Bool, true, false, cond, List, [], ◌∷◌, ◌++◌, length, arith, refl, sym, ap, ◌∙◌, subst}
+use Rattle.std.specs.Prelude.{Option, Some, None, option_map, nat_le, All}
 use Rattle.std.specs.Char.{digit_value}
-use Rattle.std.specs.List.{slice_split, join_with_byte, list_any}
-use Rattle.std.specs.Str.{bytes_eq}
+use Rattle.std.specs.List.{join_with_byte}
 use Rattle.std.specs.Str.Parse.{AllDigits, digits_value}
-use Rattle.std.proofs.lemmas.Bool.{false≢true, and_parts}
+use Rattle.std.proofs.lemmas.Bool.{and_parts}
 use Rattle.std.proofs.lemmas.Bool.Decides.{nat_tests}
-use Rattle.std.proofs.lemmas.Option.{option_and_then_some, cond_some}
+use Rattle.std.proofs.lemmas.Option.{option_and_then_some}
 use Rattle.std.proofs.lemmas.List.Elements.{All-nil, All-cons, All-append}
 use Rattle.std.proofs.lemmas.List.Splits.{slice_split_none, slice_split_at, join_with_byte-slice_split, length-slice_split}
-use Rattle.std.proofs.lemmas.Slice.Eq.{bytes_eq-Decides}
-use Rattle.sane_fixed.specs.declared.fixed.Fixed.{Fixed as Number}
 use Rattle.sane_fixed.specs.declared.kind.Kind.{Kind}
 use Rattle.sane_fixed.specs.declared.kind.Kind.TheVariants as kind
-use Rattle.sane_fixed.specs.Text.{IsText}
 use Rattle.sane_fixed.specs.Digits.{digit_count}
-use Rattle.sane_fixed.specs.Decimal.{sign_text, fraction_text, word_of, IsDecimal, SpellsFixed}
-use Rattle.sane_fixed.specs.DecimalReading.{sign_at, fixed_of}
+use Rattle.sane_fixed.specs.Decimal.{sign_text, fraction_text, word_of}
+use Rattle.sane_fixed.specs.DecimalReading.{sign_at}
 use Rattle.sane_fixed.proofs.DigitLemmas.{AllDigits-whole, digit_count-whole}
 use Rattle.sane_fixed.proofs.DecimalLaws.{spells_from_fixed_of, fixed_of-spells}
-use Rattle.option_desc.specs.declared.descriptor.Descriptor.{Descriptor}
-use Rattle.option_desc.specs.declared.value.Value.{Value}
-use Rattle.option_desc.specs.declared.value.Value.TheVariants.{Flag, Int, Fixed, Words, Text}
-use Rattle.option_desc.specs.Reads.{SpellsInteger, SpellsWord, SpellsEach, SpellsWords, Reads, flag_of, integer_of, word_in, words_in, pieces_of, one_word, number_of, text_of, read_as, read}
+use Rattle.option_desc.specs.Reads.{SpellsInteger, SpellsWord, SpellsEach, SpellsWords, integer_of, word_in, words_in, pieces_of}
 
 pub some_is : {X : Type 0} (a b : X) → ◌≡◌ {A = Option X} (Some a) (Some b) → a ≡ b
 some_is a b e = (cc)

@@ -1,21 +1,20 @@
 -- What is shown of a value that fits reads as that value.
-use Rattle.std.proofs.Common.{◌≡◌, ◌<◌, ◌≤◌, ◌+◌, ◌^◌, ◌/◌, ◌⊎◌, ℕ, ℤ, pos, negsuc, zero, suc, Bool, true, false, List, [], ◌∷◌, ◌++◌, length, take, map, get_or, inl, inr, arith, refl, sym, ap, ◌∙◌, subst, FitsSigned, w32}
+use Rattle.std.proofs.Common.{◌≡◌, ◌<◌, ◌≤◌, ◌+◌, ◌^◌, ◌/◌, ◌⊎◌, ℕ, ℤ, pos, negsuc, suc, Bool, true, false, List, [], ◌∷◌, ◌++◌, length, take, map, get_or, inl, inr, arith, refl, sym, ap, ◌∙◌, subst, FitsSigned, w32}
 use Rattle.std.specs.Prelude.{Result, Ok, Err, IfOk, OnOk, Some, All, codes, if◌then◌else◌, unsigned_abs, nat_lt, nat_le}
 use Rattle.std.specs.Fmt.{decimal, signed_decimal}
 use Rattle.std.specs.List.{join_with_byte}
-use Rattle.std.specs.Str.Parse.{digits_value}
 use Rattle.std.proofs.lemmas.Int.{ints}
 use Rattle.std.proofs.lemmas.Bool.Decides.{nat_tests}
 use Rattle.std.proofs.lemmas.Fmt.{decimal_is_IsNumeral, length-decimal-le}
-use Rattle.std.proofs.lemmas.List.{take_more, take_all, append-nil, append_assoc, length-take}
+use Rattle.std.proofs.lemmas.List.{take_more, take_all, append_assoc, length-take}
 use Rattle.std.proofs.lemmas.List.Elements.{All-nil, All-push}
 use Rattle.sane_fixed.specs.declared.kind.Kind.{Kind}
 use Rattle.sane_fixed.specs.declared.kind.Kind.TheVariants as kind
 use Rattle.sane_fixed.specs.Text.{IsText}
 use Rattle.sane_fixed.specs.Decimal.{sign_text, word_of}
 use Rattle.sane_fixed.specs.ExactDecimal.{exact_decimal}
-use Rattle.sane_fixed.proofs.TextLaws.{IsText-none, IsText-one, IsText-cons, IsText-append, IsText-digits}
-use Rattle.sane_fixed.proofs.ExactDecimalLaws.{IsExactDecimal-exact_decimal, IsText-exact_decimal, SpellsFixed-exact}
+use Rattle.sane_fixed.proofs.TextLaws.{IsText-none, IsText-cons, IsText-append, IsText-digits}
+use Rattle.sane_fixed.proofs.ExactDecimalLaws.{IsExactDecimal-exact_decimal, SpellsFixed-exact}
 use Rattle.option_desc.specs.declared.descriptor.Descriptor.{Descriptor}
 use Rattle.option_desc.specs.declared.value.Value.{Value}
 use Rattle.option_desc.specs.declared.value.Value.TheVariants.{Flag, Int, Fixed, Words, Text}

@@ -16,8 +16,9 @@ pub enum Constraint {
 }
 
 impl Constraint {
-    ghost use Rattle.std.specs.Prelude.{◌≡◌, IfOk};
+    ghost use Rattle.std.specs.Prelude.{◌≡◌, true, IfOk, OnErr};
     ghost use Rattle.option_desc.specs.Sound.{IsSound};
+    ghost use Rattle.option_desc.specs.Held.{lists_take_memory};
 
     /// A law: what the constructors of ranges and lists promise.
     pub fn keeps(&self)
@@ -37,9 +38,10 @@ impl Constraint {
         }
     }
 
-    /// An equal constraint. The only error is want of memory.
+    /// An equal constraint. The only error is want of memory, of a list.
     pub fn try_clone(&self, alloc: Global) -> Result<Constraint, NoMem>
-        ensures { IfOk result (λ copy. copy ≡ self.now) }
+        ensures equal { IfOk result (λ copy. copy ≡ self.now) }
+        ensures memory { OnErr result (lists_take_memory self.now ≡ true) }
     {
         Ok(match self {
             Constraint::Free => Constraint::Free,

@@ -1,6 +1,7 @@
-ghost use Rattle.std.specs.Prelude.{◌≡◌, ◌↔◌, ◌/◌, ◌==◌, ◌&&◌, nat_lt, length, map, IfOk, MatchResult, IsTrue, Some, option_map};
+ghost use Rattle.std.specs.Prelude.{◌≡◌, ◌↔◌, ◌/◌, ◌==◌, ◌&&◌, nat_lt, length, map, true, IfOk, MatchResult, IsTrue, Some, option_map};
 ghost use Rattle.constraint.specs.Nearest.{PlaceByPlace, TellsDifference};
 ghost use Rattle.option_desc.specs.declared.value.Value.{Value as AnyValue};
+ghost use Rattle.option_desc.specs.Held.{takes_memory};
 ghost use Rattle.option_desc.specs.Fits.{Fits, fits_of, has_room_for};
 ghost use Rattle.option_desc.specs.Put.{Puts, nearest_word, nearest_text, nearest_value, resolve};
 ghost use Rattle.option_desc.specs.Refuses.{Refuses};
@@ -89,6 +90,7 @@ fn put_value(alloc: Global, constraint: &Constraint, value: &Value) -> Result<(V
     ensures value { MatchResult result
         (λ given. nearest_value constraint.now value.now ≡ Some given.0)
         (λ status. Refuses status (nearest_value constraint.now value.now)) }
+    ensures memory { result ≡ Err Status.NoMem → takes_memory value.now ≡ true }
     ensures differs { IfOk result (λ given. TellsDifference given.1 value.now given.0) }
 {
     match value {
@@ -124,6 +126,8 @@ pub fn put(alloc: Global, desc: &Descriptor, value: &Value) -> Result<(Value, bo
     ensures value { MatchResult result
         (λ given. resolve desc.now value.now ≡ Some given.0)
         (λ status. Refuses status (resolve desc.now value.now)) }
+    // One word is put without memory.
+    ensures memory { result ≡ Err Status.NoMem → takes_memory value.now ≡ true }
 {
     desc.constraint.keeps();
     if !fits(desc, value) {

@@ -1,8 +1,9 @@
-ghost use Rattle.std.specs.Prelude.{◌≡◌, ◌↔◌, option_map, is_some, IfOk, MatchResult, Some};
+ghost use Rattle.std.specs.Prelude.{◌≡◌, ◌↔◌, option_map, is_some, true, IfOk, MatchResult, Some};
 ghost use Rattle.sane_fixed.specs.Decimal.{word_of};
 ghost use Rattle.sane_fixed.specs.DecimalReading.{sign_at};
 ghost use Rattle.option_desc.specs.declared.value.Value.{Value as AnyValue};
 ghost use Rattle.option_desc.specs.Reads.{Reads, flag_of, integer_of, word_in, words_in, pieces_of, number_of, one_word, text_of, read_as, read};
+ghost use Rattle.option_desc.specs.Held.{takes_memory};
 ghost use Rattle.option_desc.specs.Refuses.{Refuses};
 
 use crate::descriptor::Descriptor;
@@ -112,9 +113,10 @@ fn read_words(alloc: Global, kind: Kind, text: &[u8]) -> Result<Words, Status>
 
 /// One word where the option has 4 bytes, and words joined by commas where it has more.
 fn read_number(alloc: Global, kind: Kind, size: u32, text: &[u8]) -> Result<Value, Status>
-    ensures { MatchResult result
+    ensures answer { MatchResult result
         (λ value. number_of kind size text.now ≡ Some value)
         (λ status. Refuses status (number_of kind size text.now)) }
+    ensures memory { result ≡ Err Status.NoMem → (value : AnyValue) → number_of kind size text.now ≡ Some value → takes_memory value ≡ true }
 {
     if size == 4 {
         let word = read_word(kind, text).ok_or(Status::Inval)?;
@@ -159,14 +161,17 @@ pub fn read_text(alloc: Global, desc: &Descriptor, text: &[u8]) -> Result<Value,
     ensures value { MatchResult result
         (λ value. read desc.now text.now ≡ Some value)
         (λ status. Refuses status (read desc.now text.now)) }
+    // One word is read without memory.
+    ensures memory { result ≡ Err Status.NoMem → (value : AnyValue) → read desc.now text.now ≡ Some value → takes_memory value ≡ true }
 {
     read_as(alloc, desc.kind, desc.size, text)
 }
 
 fn read_as(alloc: Global, kind: Kind, size: u32, text: &[u8]) -> Result<Value, Status>
-    ensures { MatchResult result
+    ensures answer { MatchResult result
         (λ value. read_as kind size text.now ≡ Some value)
         (λ status. Refuses status (read_as kind size text.now)) }
+    ensures memory { result ≡ Err Status.NoMem → (value : AnyValue) → read_as kind size text.now ≡ Some value → takes_memory value ≡ true }
 {
     match kind {
         Kind::Bool => read_flag(text).ok_or(Status::Inval),

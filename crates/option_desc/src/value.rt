@@ -84,11 +84,13 @@ pub enum Value {
 }
 
 impl Value {
-    ghost use Rattle.std.specs.Prelude.{◌≡◌, IfOk};
+    ghost use Rattle.std.specs.Prelude.{◌≡◌, true, IfOk, OnErr};
+    ghost use Rattle.option_desc.specs.Held.{takes_memory};
 
-    /// An equal value. The only error is want of memory.
+    /// An equal value. The only error is want of memory, of words in a row and of texts.
     pub fn try_clone(&self, alloc: Global) -> Result<Value, NoMem>
-        ensures { IfOk result (λ copy. copy ≡ self.now) }
+        ensures equal { IfOk result (λ copy. copy ≡ self.now) }
+        ensures memory { OnErr result (takes_memory self.now ≡ true) }
     {
         Ok(match self {
             Value::Flag(flag) => Value::Flag(*flag),

@@ -1,8 +1,8 @@
 -- What an extent tells of its scene.
-use Rattle.std.proofs.Common.{◌≡◌, ℕ, ◌<◌, ◌≤◌, ◌*◌, ◌+◌, ◌-◌, ◌/◌, ◌&&◌, Bool, true, false, ℤ, pos, negsuc, arith, zero, suc, ap, sym}
-use Rattle.std.specs.Prelude.{Option, Some, None, IfSome, nat_le, nat_lt, ◌==◌, if◌then◌else◌, slice_index, List, ◌^◌}
+use Rattle.std.proofs.Common.{◌≡◌, ℕ, ◌<◌, ◌≤◌, ◌*◌, ◌+◌, ◌-◌, ◌/◌, ◌&&◌, Bool, true, false, ℤ, pos, negsuc, arith, zero, suc, ap, sym, refl, subst}
+use Rattle.std.specs.Prelude.{Option, Some, None, IfSome, nat_le, nat_lt, ◌==◌, if◌then◌else◌, slice_index, get_or, List, [], ◌^◌}
 use Rattle.std.proofs.lemmas.Option.{cond_some}
-use Rattle.std.proofs.lemmas.Bool.{and_parts}
+use Rattle.std.proofs.lemmas.Bool.{and_parts, eqb-true}
 use Rattle.std.proofs.lemmas.Nat.{div_below, le-div, mod_below, div-add-mod'}
 use Rattle.std.proofs.Math.Nat.{mul-le-mul_right}
 use Rattle.std.proofs.lemmas.Bool.Decides.{nat_tests}
@@ -13,10 +13,10 @@ use Rattle.page_picture.specs.declared.scene.Mode.{Mode}
 use Rattle.page_picture.specs.declared.scene.Mode.TheVariants.{Gray, Color}
 use Rattle.page_picture.specs.declared.scene.Scene.{Scene}
 use Rattle.page_picture.specs.declared.scene.DeviceKind.{DeviceKind}
-use Rattle.page_picture.specs.declared.scene.DeviceKind.TheVariants.{Flatbed, Hand, ThreePass}
+use Rattle.page_picture.specs.declared.scene.DeviceKind.TheVariants.{Flatbed, Hand, ThreePass, Feeder}
 use Rattle.page_picture.specs.Extent.{extent_of, across, down, is_side, shows_depth, hand_width, IsInside, lines_over}
 use Rattle.page_picture.specs.Seen.{dot_at, seen_at}
-use Rattle.page_picture.specs.Tone.{brightness, tone}
+use Rattle.page_picture.specs.Tone.{brightness, in_channel, tone}
 use Rattle.page_picture.specs.Meaning.{sample_of, greatest_at, picture_of}
 
 pub px_of-zero : (length : ℤ) → px_of length 0 ≡ 0
@@ -31,6 +31,7 @@ resolution_from_px length (suc r) h = omega arith
 pub resolution_from_across : (kind : DeviceKind) (scene : Scene) → 1 ≤ across kind scene → 1 ≤ scene.resolution
 resolution_from_across Flatbed scene h = resolution_from_px _ scene.resolution h
 resolution_from_across ThreePass scene h = resolution_from_px _ scene.resolution h
+resolution_from_across Feeder scene h = resolution_from_px _ scene.resolution h
 resolution_from_across Hand scene h = resolution_from_px hand_width scene.resolution h
 
 pub side_from_test : (n : ℕ) → is_side n ≡ true → (1 ≤ n) × (n ≤ 65536)
@@ -97,6 +98,18 @@ tone_limit depth table v small bytes =
       ]
     ]
 
+-- the entries of each table are bytes
+abbrev pub AreBytes : List (List ℕ) → Type 0
+AreBytes tables = (k i : ℕ) → slice_index (get_or tables k []) i < 2 ^ 8
+
+pub channel_limit : (mode : Mode) (depth : ℕ) (tables : List (List ℕ)) (k v : ℕ) → v ≤ greatest_at depth → AreBytes tables → in_channel mode depth tables k v ≤ greatest_at depth
+channel_limit Gray depth tables k v small bytes = small
+channel_limit Color depth tables k v small bytes = by_depth (depth == 8) refl
+  where
+    by_depth : (t : Bool) → (depth == 8) ≡ t → (if t then slice_index (get_or tables k []) v else v) ≤ greatest_at depth
+    by_depth true e = subst (λ (d : ℕ). slice_index (get_or tables k []) v ≤ greatest_at d) (sym (eqb-true depth 8 e)) (omega (arith, bytes k v))
+    by_depth false e = small
+
 pub greatest_limits : (depth : ℕ) → (1 ≤ greatest_at depth) × (greatest_at depth ≤ 65535)
 greatest_limits depth =
     let P : Bool → Type 0 = λ t. (1 ≤ (if t then 65535 else (if depth == 8 then 255 else 1))) × ((if t then 65535 else (if depth == 8 then 255 else 1)) ≤ 65535) in
@@ -104,9 +117,9 @@ greatest_limits depth =
     elim (depth == 16) as P [ true ↦ (omega arith, omega arith) | false ↦ elim (depth == 8) as Q [ true ↦ (omega arith, omega arith) | false ↦ (omega arith, omega arith) ] ]
 
 -- what a scene means on a page is a picture
-pub is_picture : (sheet : Sheet) (scene : Scene) (size : ℕ × ℕ) → IsSheet sheet → ((i : ℕ) → slice_index scene.gamma i < 2 ^ 8) → extent_of sheet scene ≡ Some size → IsPicture (picture_of sheet scene size)
+pub is_picture : (sheet : Sheet) (scene : Scene) (size : ℕ × ℕ) → IsSheet sheet → ((i : ℕ) → slice_index scene.gamma i < 2 ^ 8) → AreBytes scene.channel_gamma → extent_of sheet scene ≡ Some size → IsPicture (picture_of sheet scene size)
 unfolding sample_of
-is_picture sheet scene size is bytes e =
+is_picture sheet scene size is bytes channels e =
     let sides = has_extent sheet scene size e in
     let limits = greatest_limits scene.depth in
     record {
@@ -116,10 +129,12 @@ is_picture sheet scene size is bytes e =
       height_most = sides.height_in.1;
       greatest_some = limits.0;
       greatest_most = limits.1;
-      in_range = λ x y k place. tone_limit scene.depth scene.gamma (brightness scene.mode (seen_at sheet scene x y) k) (brightness_limit scene.mode (seen_at sheet scene x y) k (λ k. dot_limit sheet _ _ k is)) bytes;
+      in_range = λ x y k place.
+          channel_limit scene.mode scene.depth scene.channel_gamma k _
+          (tone_limit scene.depth scene.gamma (brightness scene.mode (seen_at sheet scene x y) k) (brightness_limit scene.mode (seen_at sheet scene x y) k (λ k. dot_limit sheet _ _ k is)) bytes) channels;
     }
 
 -- where the extent is some, what the scene means is a picture
-pub is_picture_where : (r : Option (ℕ × ℕ)) (sheet : Sheet) (scene : Scene) → IsSheet sheet → ((i : ℕ) → slice_index scene.gamma i < 2 ^ 8) → r ≡ extent_of sheet scene → IfSome r (λ size. IsPicture (picture_of sheet scene size))
-is_picture_where None sheet scene is bytes e = tt
-is_picture_where (Some size) sheet scene is bytes e = is_picture sheet scene size is bytes (sym e)
+pub is_picture_where : (r : Option (ℕ × ℕ)) (sheet : Sheet) (scene : Scene) → IsSheet sheet → ((i : ℕ) → slice_index scene.gamma i < 2 ^ 8) → AreBytes scene.channel_gamma → r ≡ extent_of sheet scene → IfSome r (λ size. IsPicture (picture_of sheet scene size))
+is_picture_where None sheet scene is bytes channels e = tt
+is_picture_where (Some size) sheet scene is bytes channels e = is_picture sheet scene size is bytes channels (sym e)

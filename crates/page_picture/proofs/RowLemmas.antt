@@ -1,9 +1,9 @@
 -- Rows of a raster: reading them one by one agrees with the whole raster.
-use Rattle.std.proofs.Common.{◌≡◌, ℕ, ◌+◌, ◌-◌, ◌*◌, ◌<◌, ◌≤◌, ◌⊎◌, inl, inr, List, ◌++◌, arith, length, take, drop, slice_range, get_or, sym, ap, ◌∙◌, subst, refl, drop_at, length-take-le, length-append, Bool, true, false, cond, suc}
-use Rattle.std.specs.Prelude.{slice_index, nat_lt, ◌&&◌, MatchBool}
-use Rattle.std.proofs.Math.Seq.{take-add, take-append-le, drop-append_seam}
+use Rattle.std.proofs.Common.{◌≡◌, ℕ, ◌+◌, ◌-◌, ◌*◌, ◌<◌, ◌≤◌, ◌⊎◌, inl, inr, List, ◌++◌, arith, length, take, drop, slice_range, get_or, sym, ap, ◌∙◌, subst, refl, drop_at, length-take-le, take-append-drop, length-append, Bool, true, false, cond, suc}
+use Rattle.std.specs.Prelude.{slice_index, nat_lt, ◌&&◌, MatchBool, IfErr, Result, Ok, Err}
+use Rattle.std.proofs.Math.Seq.{take-add, take-append-le, take-append_seam, drop-append_seam}
 use Rattle.std.proofs.lemmas.List.{drop-drop, length-drop, get_or-drop, get_or_append_left}
-use Rattle.std.proofs.Math.Nat.{mul-le-mul_right}
+use Rattle.std.proofs.Math.Nat.{mul-le-mul_right, mul-le-mul_left}
 use Rattle.std.proofs.lemmas.Bool.Decides.{nat_tests}
 use borrow.Rule.Slice.PartMut.{put_mid, post_of}
 use Rattle.std.specs.Prelude.{Some}
@@ -12,8 +12,15 @@ use Rattle.netpbm.specs.declared.format.Format.TheVariants.{Pbm, Pgm, Ppm}
 use Rattle.netpbm.specs.declared.format.Header.{Header}
 use Rattle.netpbm.specs.Pnm.{number_in, sample_bytes, raster_length, channels_of}
 use Rattle.netpbm.specs.Raster.{NoneAbove, SomeAbove, raster_size, sample_count}
+use Rattle.page_picture.specs.declared.sources.open_fault.OpenFault.{OpenFault}
+use Rattle.page_picture.specs.declared.sources.open_fault.OpenFault.TheVariants.{Device}
 use Rattle.page_picture.specs.PageFile.{IsPageFormat}
-use Rattle.page_picture.specs.PageRows.{row_size, row_count, ReadsRaster}
+use Rattle.page_picture.specs.PageRows.{row_size, row_count, HasRow, IsPageHeader, IsRaster, ReadsRaster}
+
+-- what holds wherever the fault is the reader's
+pub of_device : {A : Type 0} (r : Result A OpenFault) (X : Type 0) → X → IfErr r (λ fault. fault ≡ Device → X)
+of_device (Ok _) X h = tt
+of_device (Err fault) X h = λ _. h
 
 -- ---- a piece that was read into a buffer
 
@@ -87,6 +94,20 @@ row_size-count h is = by_format h.format h.width h.maxval is
     by_format Pgm w m is = omega arith
     by_format Ppm w m is = refl
 
+pub row_size-most : (h : Header) → IsPageFormat (Some h.format) → h.width ≤ 16384 → row_size h ≤ 98304
+row_size-most h is most = by_format h.format h.width h.maxval is most
+  where
+    bytes : (m : ℕ) → sample_bytes m ≤ 2
+    bytes m = elim (nat_lt m 256) as (λ t. cond t 1 2 ≤ 2) [ true ↦ omega arith | false ↦ omega arith ]
+
+    product : (n b : ℕ) → b ≤ 2 → n * b ≤ n * 2
+    product n b h = mul-le-mul_left n h
+
+    by_format : (f : Format) (w m : ℕ) → IsPageFormat (Some f) → w ≤ 16384 → raster_length f w 1 m ≤ 98304
+    by_format Pbm w m is most = absurd is
+    by_format Pgm w m is most = let two = product (w * 1) (sample_bytes m) (bytes m) in omega arith
+    by_format Ppm w m is most = let two = product (w * 1 * 3) (sample_bytes m) (bytes m) in omega arith
+
 pub raster_size-rows : (h : Header) → IsPageFormat (Some h.format) → raster_size h ≡ h.height * row_size h
 raster_size-rows h is = by_format h.format h.width h.height h.maxval is
   where
@@ -104,7 +125,8 @@ pub record RowsRead (h : Header) (raster left : List ℕ) (y : ℕ) : Type 0 whe
   pub left_is : left ≡ drop (y * row_size h) raster
   pub within : y * row_size h ≤ length raster
 
-rows_left : (h : Header) (raster left : List ℕ) (y : ℕ) → RowsRead h raster left y → length left + y * row_size h ≡ length raster
+-- the bytes that are left, and those of the rows
+pub rows_left : (h : Header) (raster left : List ℕ) (y : ℕ) → RowsRead h raster left y → length left + y * row_size h ≡ length raster
 rows_left h raster left y r = let size = length-drop (y * row_size h) raster in let same = ap length r.left_is in let low = r.within in omega arith
 
 pub rows_short : (h : Header) (raster left : List ℕ) (y : ℕ) → RowsRead h raster left y → y < h.height → length left < row_size h → length raster < raster_size h
@@ -150,3 +172,32 @@ rows_fit h raster y fit all none some =
     by_fit : (fit : Bool) → (fit ≡ true → NoneAbove h.maxval raster (y * row_count h)) → (fit ≡ false → SomeAbove h.maxval raster (y * row_count h)) → y * row_count h ≡ sample_count h → MatchBool fit (NoneAbove h.maxval raster (sample_count h)) (SomeAbove h.maxval raster (sample_count h))
     by_fit true none some count = subst (NoneAbove h.maxval raster) count (none refl)
     by_fit false none some count = subst (SomeAbove h.maxval raster) count (some refl)
+
+-- a row that stands at the front is the one that is read, and no number of it is above the greatest
+pub row_fits : (h : Header) (left bytes more : List ℕ) → HasRow h left → left ≡ bytes ++ more → length bytes ≡ row_size h → SomeAbove h.maxval bytes (row_count h) → ⊥
+row_fits h left bytes more row e size (i, inside, above) =
+    let front : take (row_size h) left ≡ bytes = ap (take (row_size h)) e ∙ ap (λ n. take n (bytes ++ more)) (sym size) ∙ take-append_seam bytes more in
+    let below : number_in h.maxval bytes i ≤ h.maxval = subst (λ l. number_in h.maxval l i ≤ h.maxval) front (row.none_above i inside) in
+    omega arith
+
+-- the next row of a whole raster stands at the front of what is left
+pub has_row : (h : Header) (raster left : List ℕ) (y : ℕ) → IsPageHeader h → IsRaster h raster → y < h.height → left ≡ drop (y * row_size h) raster → HasRow h left
+has_row h raster left y page is less e =
+    let n = row_size h in
+    let all : length raster ≡ h.height * n = is.size ∙ raster_size-rows h page.format in
+    let rest : length left ≡ length raster - y * n = ap length e ∙ length-drop (y * n) raster in
+    let up : suc y * n ≤ h.height * n = mul-le-mul_right n less in
+    let within : n ≤ length left = omega arith in
+    let narrow : h.height * n ≤ h.height * 98304 = mul-le-mul_left h.height (row_size-most h page.format page.width_most) in
+    let low = page.height_most in
+    let whole : drop (y * n) raster ≡ take n left ++ drop n left = sym e ∙ sym (take-append-drop n left) in
+    let size : length (take n left) ≡ n = length-take-le n left within in
+    let count = row_size-count h page.format in
+    record {
+      size = within;
+      few = omega arith;
+      none_above = λ i inside.
+          let number = number_in_row h.maxval y (row_count h) (y * n) i raster (take n left) (drop n left) whole (row_place h y page.format) (size ∙ count) inside in
+          let place : y * row_count h + i < sample_count h = rw (sample_count-rows h) (let up2 : suc y * row_count h ≤ h.height * row_count h = mul-le-mul_right (row_count h) less in omega arith) in
+          subst (λ v. v ≤ h.maxval) number (is.none_above (y * row_count h + i) place);
+    }

@@ -1,5 +1,5 @@
 -- Reading a header one byte at a time agrees with reading it from the whole text.
-use Rattle.std.proofs.Common.{◌≡◌, ℕ, ◌+◌, ◌*◌, ◌<◌, ◌&&◌, Bool, true, false, List, [], ◌∷◌, take, drop, cond, suc, arith, refl, sym, ap, ◌∙◌, subst}
+use Rattle.std.proofs.Common.{◌≡◌, ℕ, ◌+◌, ◌*◌, ◌<◌, ◌&&◌, Bool, true, false, List, [], ◌∷◌, length, take, drop, cond, suc, arith, refl, sym, ap, ◌∙◌, subst}
 use Rattle.std.specs.Prelude.{Option, Some, None, nat_le}
 use Rattle.std.specs.Char.{is_ascii_digit, digit_value}
 use Rattle.std.specs.Str.Parse.{digits_value, digits_value_after}
@@ -18,6 +18,16 @@ byte_taken new old after text at b front more e same before hand is taken h =
     let kept : old ≡ true = sym e ∙ h in
     let first : from_hand hand more ≡ b ∷ more = ap (λ (o : Option ℕ). from_hand o more) is in
     ap (drop (at + 1)) same ∙ sym (drop-drop 1 at text) ∙ ap (drop 1) (before kept ∙ taken kept ∙ first)
+
+-- and the bytes are one fewer
+pub byte_counted : (new old : Bool) (after text : List ℕ) (at b : ℕ) (front more : List ℕ) → new ≡ old → after ≡ text → (old ≡ true → at + length front ≡ length text) → (hand : Option ℕ) → hand ≡ Some b → (old ≡ true → front ≡ from_hand hand more) → new ≡ true → (at + 1) + length more ≡ length after
+byte_counted new old after text at b front more e same before hand is taken h =
+    let kept : old ≡ true = sym e ∙ h in
+    let first : from_hand hand more ≡ b ∷ more = ap (λ (o : Option ℕ). from_hand o more) is in
+    let size : length front ≡ suc (length more) = ap length (taken kept ∙ first) in
+    let whole : at + length front ≡ length text = before kept in
+    let all : length after ≡ length text = ap length same in
+    omega arith
 
 -- ---- numbers
 

@@ -106,14 +106,14 @@ header_fault (Page BadDpi) text dpi dots h = absurd h
 header_fault (Page Short) text dpi dots h = absurd h
 header_fault (Page Trailing) text dpi dots h = absurd h
 header_fault (Page SampleTooLarge) text dpi dots h = absurd h
-header_fault (Page NoMem) text dpi dots h = tt
+header_fault (Page NoMem) text dpi dots h = absurd h
 header_fault Device text dpi dots h = tt
 
 pub raster_fault : (fault : OpenFault) (text raster : List ℕ) (h : Header) (dpi : ℕ) → IsDpi dpi → BeginsPage text h raster → HasOpenFaultAfter fault h raster → HasOpenFault fault text dpi
 raster_fault (Page Short) text raster h dpi dots begins has = (dots, (h, raster, begins, has))
 raster_fault (Page Trailing) text raster h dpi dots begins has = (dots, (h, raster, begins, has))
 raster_fault (Page SampleTooLarge) text raster h dpi dots begins has = (dots, (h, raster, begins, has.0, has.1))
-raster_fault (Page NoMem) text raster h dpi dots begins has = tt
+raster_fault (Page NoMem) text raster h dpi dots begins has = record { dots = dots; header = h; raster = raster; begins = begins; size = has.size; none_above = has.none_above }
 raster_fault (Page BadDpi) text raster h dpi dots begins has = absurd has
 raster_fault (Page BadMagic) text raster h dpi dots begins has = absurd has
 raster_fault (Page BadHeader) text raster h dpi dots begins has = absurd has

@@ -4,7 +4,7 @@ use Rattle.std.specs.Prelude.{ℕ, ◌+◌, ◌-◌, ◌*◌, ◌/◌, ◌<◌, 
 use Rattle.sane_fixed.specs.Length.{px_of}
 use Rattle.page_picture.specs.Page.{Sheet}
 use Rattle.page_picture.specs.declared.scene.DeviceKind.{DeviceKind}
-use Rattle.page_picture.specs.declared.scene.DeviceKind.TheVariants.{Flatbed, Hand, ThreePass}
+use Rattle.page_picture.specs.declared.scene.DeviceKind.TheVariants.{Flatbed, Hand, ThreePass, Feeder}
 use Rattle.page_picture.specs.declared.scene.Mode.{Mode}
 use Rattle.page_picture.specs.declared.scene.Mode.TheVariants.{Gray, Color}
 use Rattle.page_picture.specs.declared.scene.Scene.{Scene}
@@ -17,6 +17,7 @@ hand_width = pos (110 * 65536)
 abbrev pub first_dot : DeviceKind → ℤ → ℕ → ℕ
 first_dot Flatbed start resolution = px_of start resolution
 first_dot ThreePass start resolution = px_of start resolution
+first_dot Feeder start resolution = px_of start resolution
 first_dot Hand _ _ = 0
 
 abbrev pub left_of : Scene → ℕ
@@ -29,6 +30,7 @@ top_of scene = first_dot scene.kind scene.tl_y.0 scene.resolution
 abbrev pub across : DeviceKind → Scene → ℕ
 across Flatbed scene = px_of (scene.br_x.0 -ℤ scene.tl_x.0) scene.resolution
 across ThreePass scene = px_of (scene.br_x.0 -ℤ scene.tl_x.0) scene.resolution
+across Feeder scene = px_of (scene.br_x.0 -ℤ scene.tl_x.0) scene.resolution
 across Hand scene = px_of hand_width scene.resolution
 
 -- how many y from 0 on have floor (y * dpi / resolution) below the page's height, as `lines_show_the_page` says
@@ -39,6 +41,7 @@ lines_over height dpi resolution = (height * resolution + (dpi - 1)) / dpi
 abbrev pub down : DeviceKind → ℕ → ℕ → Scene → ℕ
 down Flatbed _ _ scene = px_of (scene.br_y.0 -ℤ scene.tl_y.0) scene.resolution
 down ThreePass _ _ scene = px_of (scene.br_y.0 -ℤ scene.tl_y.0) scene.resolution
+down Feeder _ _ scene = px_of (scene.br_y.0 -ℤ scene.tl_y.0) scene.resolution
 down Hand height dpi scene = lines_over height dpi scene.resolution
 
 -- a side of a picture

@@ -6,11 +6,12 @@ use Rattle.netpbm.specs.declared.format.Format.{Format}
 use Rattle.netpbm.specs.declared.format.Header.{Header}
 use Rattle.netpbm.specs.HeaderReading.{field_at, end_at, ◌>>=◌}
 
--- whether the reader keeps its bytes, the bytes, and how many of them were read
+-- whether the reader keeps its bytes, the bytes, how many of them were read, and how many calls of the reader failed
 pub record Scanned : Type 0 where
   pub kept : Bool
   pub text : List ℕ
   pub at : ℕ
+  pub faults : ℕ
 
 -- the bytes that are not read yet
 abbrev pub rest_of : Scanned → List ℕ

@@ -10,6 +10,7 @@ pub mod PageRows
 pub mod Opening
 pub mod Source
 pub mod Failing
+pub mod PnmState
 pub mod Kept
 pub mod HeaderScan
 pub mod Shown

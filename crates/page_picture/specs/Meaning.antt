@@ -4,14 +4,15 @@ use Rattle.netpbm.specs.Picture.{Picture}
 use Rattle.page_picture.specs.Page.{Sheet}
 use Rattle.page_picture.specs.Extent.{extent_of}
 use Rattle.page_picture.specs.Seen.{seen_at}
-use Rattle.page_picture.specs.Tone.{brightness, tone}
+use Rattle.page_picture.specs.Tone.{brightness, in_channel, tone}
 use Rattle.page_picture.specs.declared.scene.Mode.{Mode}
 use Rattle.page_picture.specs.declared.scene.Mode.TheVariants.{Gray, Color}
 use Rattle.page_picture.specs.declared.scene.Scene.{Scene}
 
 -- the tone of what is seen at column x of row y, in channel k
 unfoldable pub sample_of : Sheet → Scene → ℕ → ℕ → ℕ → ℕ
-sample_of sheet scene x y k = tone scene.depth scene.gamma (brightness scene.mode (seen_at sheet scene x y) k)
+sample_of sheet scene x y k =
+    in_channel scene.mode scene.depth scene.channel_gamma k (tone scene.depth scene.gamma (brightness scene.mode (seen_at sheet scene x y) k))
 
 abbrev pub channels_in : Mode → ℕ
 channels_in Gray = 1

@@ -7,6 +7,7 @@ use Rattle.page_picture.specs.declared.page_file.PageFault.TheVariants.{BadMagic
 use Rattle.page_picture.specs.declared.sources.open_fault.OpenFault.{OpenFault}
 use Rattle.page_picture.specs.declared.sources.open_fault.OpenFault.TheVariants.{Page, Device}
 use Rattle.page_picture.specs.PageFile.{HasFault, IsPageFormat, BeginsPage}
+use Rattle.page_picture.specs.PageRows.{IsRaster}
 use Rattle.netpbm.specs.HeaderReading.{format_of}
 
 -- the text has the fault
@@ -24,7 +25,7 @@ abbrev pub HasRasterFault : PageFault → Header → List ℕ → Type 0
 HasRasterFault Short h raster = length raster < raster_size h
 HasRasterFault Trailing h raster = raster_size h < length raster
 HasRasterFault SampleTooLarge h raster = (length raster ≡ raster_size h) × SomeAbove h.maxval raster (sample_count h)
-HasRasterFault NoMem h raster = Unit {0}
+HasRasterFault NoMem h raster = IsRaster h raster
 HasRasterFault BadDpi h raster = ⊥
 HasRasterFault BadMagic h raster = ⊥
 HasRasterFault BadHeader h raster = ⊥

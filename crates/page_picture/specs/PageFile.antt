@@ -9,7 +9,7 @@ use Rattle.page_picture.specs.declared.page_file.PageFault.TheVariants.{BadMagic
 use Rattle.netpbm.specs.Picture.{Picture}
 use Rattle.page_picture.specs.Page.{Sheet, sheet_at}
 use Rattle.netpbm.specs.Pnm.{Begins, Denotes}
-use Rattle.netpbm.specs.Raster.{raster_size, sample_count, SomeAbove}
+use Rattle.netpbm.specs.Raster.{raster_size, sample_count, NoneAbove, SomeAbove}
 use Rattle.netpbm.specs.HeaderReading.{format_of}
 
 -- the channel of the file that stands for channel k of the page: a gray stands for all three
@@ -46,7 +46,17 @@ pub record BeginsPage (text : List ℕ) (h : Header) (raster : List ℕ) : Type 
   pub width_most : h.width ≤ 16384
   pub height_most : h.height ≤ 16384
 
--- A text has a fault only where it has none of those that are tested before it.
+-- the text is a page file, at dots per inch that a page may have
+pub record IsPageText (text : List ℕ) (dpi : ℕ) : Type 0 where
+  pub dots : IsDpi dpi
+  pub header : Header
+  pub raster : List ℕ
+  pub begins : BeginsPage text header raster
+  pub size : length raster ≡ raster_size header
+  pub none_above : NoneAbove header.maxval raster (sample_count header)
+
+-- A text has a fault only where it has none of those that are tested before it; memory is wanting only for a text that
+-- has none.
 abbrev pub HasFault : PageFault → List ℕ → ℕ → Type 0
 HasFault BadDpi text dpi = ¬ IsDpi dpi
 HasFault BadMagic text dpi = IsDpi dpi × (¬ IsPageFormat (format_of text))
@@ -54,4 +64,4 @@ HasFault BadHeader text dpi = IsDpi dpi × IsPageFormat (format_of text) × ((h 
 HasFault Short text dpi = IsDpi dpi × ((h : Header) × (raster : List ℕ) × BeginsPage text h raster × (length raster < raster_size h))
 HasFault Trailing text dpi = IsDpi dpi × ((h : Header) × (raster : List ℕ) × BeginsPage text h raster × (raster_size h < length raster))
 HasFault SampleTooLarge text dpi = IsDpi dpi × ((h : Header) × (raster : List ℕ) × BeginsPage text h raster × (length raster ≡ raster_size h) × SomeAbove h.maxval raster (sample_count h))
-HasFault NoMem text dpi = Unit {0}
+HasFault NoMem text dpi = IsPageText text dpi

@@ -1,5 +1,5 @@
 -- The rows of a page file: what its raster has for each row of the page.
-use Rattle.std.specs.Prelude.{ℕ, ◌*◌, ◌<◌, ◌≤◌, ◌≡◌, Some, List, [], ◌∷◌, length, drop, slice_index}
+use Rattle.std.specs.Prelude.{ℕ, ◌*◌, ◌^◌, ◌<◌, ◌≤◌, ◌≡◌, Some, List, [], ◌∷◌, length, take, drop, slice_index}
 use Rattle.netpbm.specs.declared.format.Header.{Header}
 use Rattle.netpbm.specs.Raster.{raster_size, sample_count, NoneAbove}
 use Rattle.netpbm.specs.FileText.{joined}
@@ -31,6 +31,12 @@ pub record IsPageHeader (h : Header) : Type 0 where
 -- these are the samples that the bytes of one row show
 pub record ShowsRow (h : Header) (bytes row : List ℕ) : Type 0 where
   pub each : (j : ℕ) → j < 3 * h.width → slice_index row j ≡ page_number h bytes j
+
+-- a row stands at the front of these bytes, fewer than 2^40, and no number of it is above the greatest
+pub record HasRow (h : Header) (bytes : List ℕ) : Type 0 where
+  pub size : row_size h ≤ length bytes
+  pub few : length bytes < 2 ^ 40
+  pub none_above : NoneAbove h.maxval (take (row_size h) bytes) (row_count h)
 
 -- the samples of the page that a raster shows
 unfoldable pub samples_shown : Header → List ℕ → List ℕ

@@ -6,4 +6,4 @@ use Rattle.page_picture.specs.declared.sources.kinds.Source.TheVariants.{Memory,
 abbrev pub shown : Source → SourceState
 shown (Memory page) = page
 shown (Failing page) = page.shown
-shown (Pnm page) = page
+shown (Pnm page) = page.shown

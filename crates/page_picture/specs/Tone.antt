@@ -1,5 +1,5 @@
 -- What a seen brightness becomes in a picture: the tone.
-use Rattle.std.specs.Prelude.{ℕ, ◌+◌, ◌*◌, ◌/◌, ◌==◌, nat_lt, if◌then◌else◌, List, slice_index}
+use Rattle.std.specs.Prelude.{ℕ, ◌+◌, ◌*◌, ◌/◌, ◌==◌, nat_lt, if◌then◌else◌, List, [], get_or, slice_index}
 use Rattle.page_picture.specs.declared.scene.Mode.{Mode}
 use Rattle.page_picture.specs.declared.scene.Mode.TheVariants.{Gray, Color}
 
@@ -15,3 +15,8 @@ tone depth table v =
     if depth == 16 then v
     else (if depth == 8 then slice_index table (v / 256)
     else (if nat_lt (slice_index table (v / 256)) 128 then 1 else 0))
+
+-- In color at depth 8 the channel's table has the entry for that.
+abbrev pub in_channel : Mode → ℕ → List (List ℕ) → ℕ → ℕ → ℕ
+in_channel Gray depth tables k v = v
+in_channel Color depth tables k v = if depth == 8 then slice_index (get_or tables k []) v else v

@@ -1,4 +1,4 @@
-ghost use Rattle.std.specs.Prelude.{◌≡◌, ◌≤◌, ◌<◌, ◌^◌, ℕ, slice_index, IfSome};
+ghost use Rattle.std.specs.Prelude.{◌≡◌, ◌≤◌, ◌<◌, ◌^◌, ℕ, [], get_or, slice_index, IfSome};
 ghost use Rattle.netpbm.specs.Picture.{IsPicture};
 ghost use Rattle.page_picture.specs.Page.{IsSheet};
 ghost use Rattle.page_picture.specs.Extent.{extent_on, extent_of, down, is_side, shows_depth, lines_over};
@@ -29,7 +29,7 @@ fn dots_down(height: u32, dpi: u32, scene: &Scene) -> u32
 {
     match scene.kind {
         DeviceKind::Hand => lines_on(height, dpi, scene.resolution),
-        DeviceKind::Flatbed | DeviceKind::ThreePass => {
+        DeviceKind::Flatbed | DeviceKind::ThreePass | DeviceKind::Feeder => {
             px_between(scene.tl_y, scene.br_y, scene.resolution)
         }
     }
@@ -72,6 +72,15 @@ fn entries_are_bytes(table: &[u8])
     ensures { (i : ℕ) → slice_index table.now i < 2 ^ 8 }
 {}
 
+/// Each entry of three tables is a byte.
+fn tables_are_bytes(tables: &[[u8; 256]; 3])
+    ensures { (k i : ℕ) → slice_index (get_or tables.now k []) i < 2 ^ 8 }
+{
+    entries_are_bytes(&tables[0][..]);
+    entries_are_bytes(&tables[1][..]);
+    entries_are_bytes(&tables[2][..]);
+}
+
 /// The width and the height of the picture that the scene means on the page, 1 to 65,536 each;
 /// `None` where there is no such picture.
 pub fn extent(page: &Page, scene: &Scene) -> Option<(u32, u32)>
@@ -81,5 +90,6 @@ pub fn extent(page: &Page, scene: &Scene) -> Option<(u32, u32)>
     ensures picture { IfSome result (λ size. IsPicture (picture_of page.now scene.now size)) }
 {
     entries_are_bytes(&scene.gamma[..]);
+    tables_are_bytes(&scene.channel_gamma);
     extent_at(page.height(), page.dpi(), scene)
 }

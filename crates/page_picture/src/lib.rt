@@ -19,7 +19,7 @@ pub use page_file::{PageFault, read_page};
 pub use rereadable::Rereadable;
 pub use scene::{DeviceKind, HAND_WIDTH, Mode, Scene};
 pub use sources::{FailingPage, MemoryPage, OpenFault, PageSource, PnmPage, Source, SourceFault};
-pub use tones::{sample, toned};
+pub use tones::{greatest, in_channel, sample, toned};
 
 #[cfg(test)]
 mod tests;

@@ -1,4 +1,4 @@
-ghost use Rattle.std.specs.Prelude.{◌≡◌, ◌≤◌, ◌<◌, ◌*◌, length, IfOk, IfErr, MatchBool};
+ghost use Rattle.std.specs.Prelude.{◌≡◌, ◌≤◌, ◌<◌, ◌*◌, ◌/◌, ◌^◌, length, IfOk, IfErr, MatchBool};
 ghost use Rattle.netpbm.specs.Pnm.{sample_bytes};
 ghost use Rattle.netpbm.specs.Raster.{sample_count, NoneAbove};
 ghost use Rattle.page_picture.specs.PageFile.{HasFault, TellsPage, IsPageFormat, IsDpi, BeginsPage};
@@ -9,25 +9,47 @@ use netpbm::{
     Format, Header, format_of, none_above, number_at, raster_size, read_header, sample_count,
 };
 use std::alloc::{AllocError, Global};
+use thiserror::Error;
 
 /// Why a text is no page.
-#[derive(Clone, Copy, Debug, PartialEq, Eq)]
+#[derive(Clone, Copy, Debug, PartialEq, Eq, Error)]
 pub enum PageFault {
     /// Its first two bytes are not `P5` or `P6`.
+    #[error("the page is neither a PGM file (P5) nor a PPM file (P6)")]
     BadMagic = 1,
     /// It begins with no header of a page.
+    #[error("the page begins with no header, or its sides are not 1 to 16384")]
     BadHeader = 2,
     /// A sample is above the greatest value that the header tells.
+    #[error("a sample of the page is above the greatest that its header tells")]
     SampleTooLarge = 3,
     /// The raster has fewer bytes than the header tells.
+    #[error("the page is cut short")]
     Short = 4,
     /// Something follows the raster.
+    #[error("something follows the page's last sample")]
     Trailing = 5,
     /// The dots per inch are not 1 to 1,200.
+    #[error("the page's dots per inch are not 1 to 1200")]
     BadDpi = 6,
     /// No memory for the page.
+    #[error("out of memory")]
     NoMem = 7,
 }
+
+const _: () = prove!(PageFault::BadMagic as u32 == 1);
+
+const _: () = prove!(PageFault::BadHeader as u32 == 2);
+
+const _: () = prove!(PageFault::SampleTooLarge as u32 == 3);
+
+const _: () = prove!(PageFault::Short as u32 == 4);
+
+const _: () = prove!(PageFault::Trailing as u32 == 5);
+
+const _: () = prove!(PageFault::BadDpi as u32 == 6);
+
+const _: () = prove!(PageFault::NoMem as u32 == 7);
 
 impl From<AllocError> for PageFault {
     ghost use Rattle.std.specs.Prelude.{◌≡◌};
@@ -50,6 +72,22 @@ fn source(format: Format, j: usize) -> usize
     }
 }
 
+/// A number up to `maxval` as one up to 65,535. The usual greatest values need no division.
+fn scaled(number: u32, maxval: u32) -> u16
+    requires maxval { 1 ≤ maxval }
+    requires limit { number ≤ maxval }
+    requires most { number < 2 ^ 16 }
+    ensures { result ≡ number * 65535 / maxval }
+{
+    if maxval == 255 {
+        (257 * number) as u16
+    } else if maxval == 65535 {
+        number as u16
+    } else {
+        (number * 65535 / maxval) as u16
+    }
+}
+
 /// The page's sample at place `j`, by a raster of `count` numbers.
 pub fn page_number(header: &Header, raster: &[u8], j: usize, count: usize) -> u16
     requires maxval { 1 ≤ header.now.maxval }
@@ -59,7 +97,7 @@ pub fn page_number(header: &Header, raster: &[u8], j: usize, count: usize) -> u1
     ensures { result ≡ page_number header.now raster.now j }
 {
     let number = number_at(header.maxval, raster, source(header.format, j), count);
-    (number * 65535 / header.maxval) as u16
+    scaled(number, header.maxval)
 }
 
 /// The samples of the page that a raster shows.

@@ -2,7 +2,7 @@ ghost use Rattle.std.specs.Prelude.{◌≡◌, Bool, List, ℕ, Some, [], OnOk, 
 ghost use Rattle.std.specs.Io.{ReadsAtMost};
 ghost use Rattle.std.specs.Io.KnownBytes.{ReadConsumes};
 ghost use Rattle.std.specs.Io.Cursor.{cursor_inner, cursor_position};
-ghost use Rattle.page_picture.specs.Kept.{are_told, bytes_told};
+ghost use Rattle.page_picture.specs.Kept.{are_told, bytes_told, CountsFault};
 
 use std::fs::File;
 use std::io;
@@ -20,16 +20,21 @@ pub trait Rereadable: Read + Seek {
     // Those that are left to be read, where it keeps them.
     ghost left: { Self → List ℕ } = { λ _. [] };
 
+    // How many of its calls failed or were interrupted, where it keeps its bytes.
+    ghost faults: { Self → ℕ } = { λ _. 0 };
+
     /// Reads on, as `read`.
     fn read_on(&mut self, buf: &mut [u8]) -> io::Result<usize>
         ensures bound { ReadsAtMost result buf.new }
         ensures bytes { is_kept self.old ≡ true → ReadConsumes (Some (left self.old)) (Some (left self.new)) result buf.new }
+        ensures faults { is_kept self.old ≡ true → CountsFault (faults self.old) result (faults self.new) }
         ensures kept { is_kept self.new ≡ is_kept self.old }
         ensures text { text self.new ≡ text self.old };
 
     /// Goes to a place, counted in bytes from the start.
     fn start_from(&mut self, place: u64) -> io::Result<()>
         ensures place { OnOk result (is_kept self.old ≡ true → left self.new ≡ drop place (text self.old)) }
+        ensures faults { is_kept self.old ≡ true → CountsFault (faults self.old) result (faults self.new) }
         ensures kept { is_kept self.new ≡ is_kept self.old }
         ensures text { text self.new ≡ text self.old };
 }

@@ -9,6 +9,8 @@ pub enum DeviceKind {
     Flatbed,
     Hand,
     ThreePass,
+    /// A flatbed to which pages are fed one after another.
+    Feeder,
 }
 
 /// Gray has one channel, color three.
@@ -34,6 +36,8 @@ pub struct Scene {
     pub br_y: Fixed,
     /// The tone of each upper byte of a brightness, at depths 1 and 8.
     pub gamma: [u8; 256],
+    /// In color at depth 8 what becomes of the tone of red, green and blue.
+    pub channel_gamma: [[u8; 256]; 3],
 }
 
 impl Scene {
@@ -47,7 +51,9 @@ impl Scene {
     {
         match self.kind {
             DeviceKind::Hand => 0,
-            DeviceKind::Flatbed | DeviceKind::ThreePass => px(self.tl_x, self.resolution),
+            DeviceKind::Flatbed | DeviceKind::ThreePass | DeviceKind::Feeder => {
+                px(self.tl_x, self.resolution)
+            }
         }
     }
 
@@ -58,7 +64,9 @@ impl Scene {
     {
         match self.kind {
             DeviceKind::Hand => 0,
-            DeviceKind::Flatbed | DeviceKind::ThreePass => px(self.tl_y, self.resolution),
+            DeviceKind::Flatbed | DeviceKind::ThreePass | DeviceKind::Feeder => {
+                px(self.tl_y, self.resolution)
+            }
         }
     }
 
@@ -69,7 +77,7 @@ impl Scene {
     {
         match self.kind {
             DeviceKind::Hand => px(HAND_WIDTH, self.resolution),
-            DeviceKind::Flatbed | DeviceKind::ThreePass => {
+            DeviceKind::Flatbed | DeviceKind::ThreePass | DeviceKind::Feeder => {
                 px_between(self.tl_x, self.br_x, self.resolution)
             }
         }

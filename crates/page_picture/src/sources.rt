@@ -19,14 +19,17 @@ pub use kinds::Source;
 pub use memory_page::MemoryPage;
 pub use open_fault::OpenFault;
 pub use pnm_page::PnmPage;
+use thiserror::Error;
 
 /// A source failed to give a row or to go back to the first; its count of failures tells so.
-#[derive(Clone, Copy, Debug, PartialEq, Eq)]
+#[derive(Clone, Copy, Debug, PartialEq, Eq, Error)]
+#[error("a row of the page cannot be read")]
 pub struct SourceFault;
 
 /// A page, row by row from the top.
 pub trait PageSource: Drop {
-    // The page, how many rows were given since the last rewind, whether they are the page's, and the failures.
+    // The page, how many rows were given since the last rewind, whether they are the page's, whether a call can fail,
+    // and the failures.
     ghost source: { Self → SourceState };
 
     /// The columns and the rows of the page, 1 to 16,384 each. They never change.

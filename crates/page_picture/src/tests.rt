@@ -21,6 +21,7 @@ fn scene(kind: DeviceKind, mode: Mode, depth: u32, resolution: u32) -> Scene
         br_x: Fixed(80 * 65536),
         br_y: Fixed(100 * 65536),
         gamma,
+        channel_gamma: [gamma; 3],
     }
 }
 

@@ -1,7 +1,7 @@
 ghost use Rattle.std.specs.Prelude.{◌≡◌, ◌≤◌, ◌<◌, ◌^◌};
 ghost use Rattle.page_picture.specs.Extent.{IsInside};
 ghost use Rattle.page_picture.specs.Seen.{dot_at, seen_at};
-ghost use Rattle.page_picture.specs.Tone.{brightness, tone};
+ghost use Rattle.page_picture.specs.Tone.{brightness, in_channel, tone};
 ghost use Rattle.page_picture.specs.Meaning.{sample_of, channels_in, greatest_at};
 
 use crate::page::Page;
@@ -51,6 +51,19 @@ fn light(page: &Page, scene: &Scene, x: u32, y: u32, k: u32) -> u16
     }
 }
 
+/// The greatest sample at a depth.
+pub fn greatest(depth: u32) -> u32
+    ensures { result ≡ greatest_at depth }
+{
+    if depth == 16 {
+        65535
+    } else if depth == 8 {
+        255
+    } else {
+        1
+    }
+}
+
 /// What a brightness becomes at a depth of 1, 8 or 16 bits, under the tone table.
 pub fn toned(depth: u32, table: &[u8; 256], light: u16) -> u16
     ensures value { result ≡ tone depth table.now light }
@@ -68,6 +81,25 @@ pub fn toned(depth: u32, table: &[u8; 256], light: u16) -> u16
     }
 }
 
+/// What a tone becomes in a channel.
+pub fn in_channel(scene: &Scene, k: u32, tone: u16) -> u16
+    requires channel { k < 3 }
+    requires tone { tone ≤ greatest_at scene.now.depth }
+    ensures value { result ≡ in_channel scene.now.mode scene.now.depth scene.now.channel_gamma k tone }
+    ensures limit { result ≤ greatest_at scene.now.depth }
+{
+    match scene.mode {
+        Mode::Gray => tone,
+        Mode::Color => {
+            if scene.depth == 8 {
+                u16::from(scene.channel_gamma[k as usize][tone as usize])
+            } else {
+                tone
+            }
+        }
+    }
+}
+
 /// The sample of the picture at column `x` of row `y` in channel `k`.
 #[tactic(auto, unfolding(crate::specs::Meaning::sample_of))]
 pub fn sample(page: &Page, scene: &Scene, x: u32, y: u32, k: u32) -> u16
@@ -77,5 +109,6 @@ pub fn sample(page: &Page, scene: &Scene, x: u32, y: u32, k: u32) -> u16
     ensures value { result ≡ sample_of page.now scene.now x y k }
     ensures limit { result ≤ greatest_at scene.now.depth }
 {
-    toned(scene.depth, &scene.gamma, light(page, scene, x, y, k))
+    let tone = toned(scene.depth, &scene.gamma, light(page, scene, x, y, k));
+    in_channel(scene, k, tone)
 }

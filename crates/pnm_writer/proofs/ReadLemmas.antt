@@ -1,16 +1,18 @@
 -- What read_pnm answers is what the text denotes.
 use Rattle.std.proofs.Common.{◌≡◌, ℕ, ◌+◌, ◌*◌, ◌<◌, ◌≤◌, List, length, refl, subst, arith, ◌⊎◌, inl, inr}
-use Rattle.std.specs.Prelude.{Some, slice_index}
+use Rattle.std.specs.Prelude.{Some, slice_index, Result, Ok, Err, IfErr}
 use Rattle.netpbm.specs.declared.format.Format.{Format}
 use Rattle.netpbm.specs.declared.format.Format.TheVariants.{Pbm, Pgm, Ppm}
 use Rattle.netpbm.specs.declared.format.Header.{Header}
-use Rattle.netpbm.specs.Pnm.{Begins, Denotes, IsMaxval, sample_in, channels_of}
-use Rattle.netpbm.specs.FileText.{joined, samples_text}
+use Rattle.netpbm.specs.Pnm.{Begins, Denotes, IsWhole, IsMaxval, sample_in, channels_of}
+use Rattle.netpbm.specs.FileText.{joined, samples_text, sample_text}
 use Rattle.netpbm.specs.Raster.{raster_size, sample_count, NoneAbove}
-use Rattle.netpbm.proofs.WritingLaws.{sample_back}
+use Rattle.netpbm.proofs.WritingLaws.{sample_back, length-joined}
 use Rattle.page_picture.specs.PageFile.{IsPageFormat}
 use Rattle.page_picture.proofs.PageLemmas.{sample_in_range}
-use Rattle.pnm_writer.specs.Reading.{shown}
+use Rattle.pnm_writer.specs.declared.read.PnmFault.{PnmFault}
+use Rattle.pnm_writer.specs.declared.read.PnmFault.TheVariants.{NoMem}
+use Rattle.pnm_writer.specs.Reading.{shown, HasFault}
 
 -- no sample is above the greatest value
 abbrev pub InRange : Header → List ℕ → Type 0
@@ -46,5 +48,38 @@ pnm_denotes text h raster channels samples b size in_range c s =
       };
     }
 
+-- whatever the samples are held in, the text denotes a picture
+pub is_whole : (text : List ℕ) (h : Header) (raster : List ℕ) → Begins text h raster → length raster ≡ raster_size h → InRange h raster → IsWhole text
+is_whole text h raster b size in_range = (
+  record { width = h.width; height = h.height; channels = channels_of h.format; greatest = h.maxval; at = sample_in h.format h.width h.maxval raster },
+  record {
+    header = h;
+    raster = raster;
+    begins = b;
+    shows = record {
+      size = size;
+      width = refl;
+      height = refl;
+      channels = refl;
+      greatest = refl;
+      samples = λ x y k place. refl;
+      in_range = λ x y k place. in_range x y k place.column place.row place.channel;
+    };
+  },
+)
+
+pub no_memory : {A : Type 0} (r : Result A PnmFault) (text : List ℕ) → IfErr r (λ fault. fault ≡ NoMem) → IsWhole text → IfErr r (λ fault. HasFault fault text)
+no_memory (Ok _) text is whole = tt
+no_memory (Err fault) text is whole = rw is whole
+
 pub page_format : (f : Format) → (f ≡ Pgm) ⊎ (f ≡ Ppm) → IsPageFormat (Some f)
 page_format f e = elim e as (λ _. IsPageFormat (Some f)) [ inl g ↦ rw g tt | inr g ↦ rw g tt ]
+
+place_size : (c : ℕ) (at : ℕ → ℕ) → length (joined (λ k. sample_text 0 (at k)) c) ≡ c
+place_size c at = omega (arith, length-joined (λ k. sample_text 0 (at k)) 1 c (λ k. refl))
+
+row_length : (c w : ℕ) (at : ℕ → ℕ → ℕ) → length (samples_text c 0 w at) ≡ w * c
+row_length c w at = length-joined (λ x. joined (λ k. sample_text 0 (at x k)) c) c w (λ x. place_size c (at x))
+
+pub samples_size : (c w h : ℕ) (at : ℕ → ℕ → ℕ → ℕ) → length (joined (λ y. samples_text c 0 w (λ x k. at x y k)) h) ≡ w * h * c
+samples_size c w h at = omega (arith, length-joined (λ y. samples_text c 0 w (λ x k. at x y k)) (w * c) h (λ y. row_length c w (λ x k. at x y k)))

@@ -1,13 +1,6 @@
 pub mod Writing
 pub mod Reading
-pub mod AloneFrame
-pub mod KeptFrame
-pub mod ColorPlanes
-pub mod FrameHistory
-pub mod FrameFile
-pub mod JoinStages
-pub mod Joining
-pub mod JoinSteps
-pub mod PlaneInside
-pub mod PlanesInside
-pub mod JoinInside
+pub use Rattle.frame_join.specs.AloneFrame
+pub use Rattle.frame_join.specs.FrameHistory
+pub use Rattle.frame_join.specs.FrameFile
+pub use Rattle.frame_join.specs.Joining

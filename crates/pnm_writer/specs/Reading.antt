@@ -3,7 +3,7 @@ use Rattle.std.specs.Prelude.{ℕ, ◌+◌, ◌*◌, ◌<◌, ◌≡◌, ◌≢�
 use Rattle.netpbm.specs.declared.format.Format.TheVariants.{Pbm}
 use Rattle.netpbm.specs.declared.format.Header.{Header}
 use Rattle.netpbm.specs.Picture.{Picture}
-use Rattle.netpbm.specs.Pnm.{Begins}
+use Rattle.netpbm.specs.Pnm.{Begins, IsWhole}
 use Rattle.netpbm.specs.HeaderReading.{format_of}
 use Rattle.netpbm.specs.Raster.{raster_size, sample_count, SomeAbove}
 use Rattle.pnm_writer.specs.declared.read.Picture.{Picture as HeldPicture}
@@ -20,11 +20,12 @@ shown p = record {
   at = λ x y k. slice_index p.samples ((y * p.width + x) * p.channels + k);
 }
 
--- A text has a fault only where it has none of those that are tested before it.
+-- A text has a fault only where it has none of those that are tested before it; memory is wanting only for a text that
+-- denotes a picture.
 abbrev pub HasFault : PnmFault → List ℕ → Type 0
 HasFault BadMagic text = format_of text ≡ None
 HasFault BadHeader text = IsSome (format_of text) × ((h : Header) (raster : List ℕ) → Begins text h raster → ⊥)
 HasFault Short text = (h : Header) × (raster : List ℕ) × Begins text h raster × (length raster < raster_size h)
 HasFault Trailing text = (h : Header) × (raster : List ℕ) × Begins text h raster × (raster_size h < length raster)
 HasFault SampleTooLarge text = (h : Header) × (raster : List ℕ) × Begins text h raster × (h.format ≢ Pbm) × (length raster ≡ raster_size h) × SomeAbove h.maxval raster (sample_count h)
-HasFault NoMem text = Unit {0}
+HasFault NoMem text = IsWhole text

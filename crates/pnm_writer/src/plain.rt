@@ -6,17 +6,24 @@ ghost use Rattle.netpbm.specs.FileText.{joined, bits_byte, header_text, sample_t
 ghost use Rattle.pnm_writer.specs.Writing.{format_in, header_of, IsPlainFile};
 
 use netpbm::{Format, Header};
-use page_picture::{Mode, Page, Scene, extent, sample};
+use page_picture::{Mode, Page, Scene, extent, greatest, sample};
 use std::alloc::{AllocError, Global};
+use thiserror::Error;
 
 /// Why a scene makes no file.
-#[derive(Clone, Copy, Debug, PartialEq, Eq)]
+#[derive(Clone, Copy, Debug, PartialEq, Eq, Error)]
 pub enum PlainFault {
     /// The scene means no picture on the page.
+    #[error("the settings mean no picture")]
     NoPicture = 1,
     /// No memory for the file.
+    #[error("out of memory")]
     NoMem = 2,
 }
+
+const _: () = prove!(PlainFault::NoPicture as u32 == 1);
+
+const _: () = prove!(PlainFault::NoMem as u32 == 2);
 
 impl From<AllocError> for PlainFault {
     ghost use Rattle.std.specs.Prelude.{◌≡◌};
@@ -30,7 +37,7 @@ impl From<AllocError> for PlainFault {
 }
 
 /// The bytes of a header.
-pub(crate) fn header_bytes(alloc: Global, header: &Header) -> Result<String, AllocError>
+fn header_bytes(alloc: Global, header: &Header) -> Result<String, AllocError>
     ensures { IfOk result (λ s. string_bytes s ≡ header_text header.now) }
 {
     let width = header.width;
@@ -55,19 +62,6 @@ fn push_sample(file: &mut Vec<u8>, greatest: u32, sample: u16) -> Result<(), All
         file.push((sample % 256) as u8)?;
     }
     Ok(())
-}
-
-/// The greatest sample at a depth.
-pub(crate) fn greatest(depth: u32) -> u32
-    ensures { result ≡ greatest_at depth }
-{
-    if depth == 16 {
-        65535
-    } else if depth == 8 {
-        255
-    } else {
-        1
-    }
 }
 
 fn channels(mode: Mode) -> u32

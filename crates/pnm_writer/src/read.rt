@@ -9,6 +9,7 @@ use netpbm::{
 };
 use std::alloc::{AllocError, Global};
 use std::marker::Model;
+use thiserror::Error;
 
 /// Samples, which contracts see as the list of them.
 #[derive(Drop, Debug)]
@@ -66,21 +67,39 @@ pub struct Picture {
 }
 
 /// Why a text is no picture. The numbers are those of the same faults of a page.
-#[derive(Clone, Copy, Debug, PartialEq, Eq)]
+#[derive(Clone, Copy, Debug, PartialEq, Eq, Error)]
 pub enum PnmFault {
     /// Its first two bytes are not `P4`, `P5` or `P6`.
+    #[error("the file is no PBM, PGM or PPM file (P4, P5, P6)")]
     BadMagic = 1,
     /// It begins with no header.
+    #[error("the file begins with no header")]
     BadHeader = 2,
     /// A sample is above the greatest value that the header tells.
+    #[error("a sample is above the greatest that the header tells")]
     SampleTooLarge = 3,
     /// The raster has fewer bytes than the header tells.
+    #[error("the file is cut short")]
     Short = 4,
     /// Something follows the raster.
+    #[error("something follows the last sample")]
     Trailing = 5,
     /// No memory for the samples.
+    #[error("out of memory")]
     NoMem = 7,
 }
+
+const _: () = prove!(PnmFault::BadMagic as u32 == 1);
+
+const _: () = prove!(PnmFault::BadHeader as u32 == 2);
+
+const _: () = prove!(PnmFault::SampleTooLarge as u32 == 3);
+
+const _: () = prove!(PnmFault::Short as u32 == 4);
+
+const _: () = prove!(PnmFault::Trailing as u32 == 5);
+
+const _: () = prove!(PnmFault::NoMem as u32 == 7);
 
 impl From<AllocError> for PnmFault {
     ghost use Rattle.std.specs.Prelude.{◌≡◌};
@@ -184,9 +203,11 @@ fn read_samples(alloc: Global, header: &Header, raster: &[u8]) -> Result<Samples
 
 /// The picture that a whole Netpbm text (`P4`, `P5` or `P6`: pbm(5), pgm(5), ppm(5)) denotes. The first of its faults
 /// is answered in the order `BadMagic`, `BadHeader`, `Short`, `Trailing`, `SampleTooLarge`; `NoMem` where a growth is
-/// refused.
+/// refused, of a text that has no fault.
 pub fn read_pnm(alloc: Global, text: &[u8]) -> Result<Picture, PnmFault>
     ensures found { IfOk result (λ picture. Denotes text.now (shown picture)) }
+    // It holds a sample for each channel of each place, and no more.
+    ensures size { IfOk result (λ picture. length picture.samples ≡ picture.width * picture.height * picture.channels) }
     // A refusal says the first fault that the text has.
     ensures fault { IfErr result (λ fault. HasFault fault text.now) }
 {

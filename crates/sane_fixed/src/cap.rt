@@ -19,3 +19,17 @@ impl Cap {
     /// The option is for advanced users.
     pub const ADVANCED: u32 = 64;
 }
+
+const _: () = prove!(Cap::SOFT_SELECT == 1);
+
+const _: () = prove!(Cap::HARD_SELECT == 2);
+
+const _: () = prove!(Cap::SOFT_DETECT == 4);
+
+const _: () = prove!(Cap::EMULATED == 8);
+
+const _: () = prove!(Cap::AUTOMATIC == 16);
+
+const _: () = prove!(Cap::INACTIVE == 32);
+
+const _: () = prove!(Cap::ADVANCED == 64);

@@ -10,3 +10,9 @@ impl Info {
     /// The parameters of the scan may have changed.
     pub const RELOAD_PARAMS: u32 = 4;
 }
+
+const _: () = prove!(Info::INEXACT == 1);
+
+const _: () = prove!(Info::RELOAD_OPTIONS == 2);
+
+const _: () = prove!(Info::RELOAD_PARAMS == 4);

@@ -1,8 +1,10 @@
 use crate::status::Status;
 use std::alloc::{AllocError, AllocFailed};
+use thiserror::Error;
 
 /// Want of memory.
-#[derive(Clone, Copy, Debug, PartialEq, Eq)]
+#[derive(Clone, Copy, Debug, PartialEq, Eq, Error)]
+#[error("out of memory")]
 pub struct NoMem;
 
 impl From<AllocError> for NoMem {

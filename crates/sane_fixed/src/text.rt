@@ -1,6 +1,7 @@
 use crate::no_mem::NoMem;
 use std::alloc::{AllocError, Global};
 use std::marker::Model;
+use thiserror::Error;
 
 /// A text as SANE means it: bytes without NUL (SANE Standard 1.06, "Text"). Contracts see the list of
 /// its bytes.
@@ -10,13 +11,19 @@ pub struct Text {
 }
 
 /// Why bytes make no text.
-#[derive(Clone, Copy, Debug, PartialEq, Eq)]
+#[derive(Clone, Copy, Debug, PartialEq, Eq, Error)]
 pub enum TextFault {
     /// A byte is NUL.
+    #[error("a byte of the text is NUL")]
     Nul = 1,
     /// No memory for a copy of the bytes.
+    #[error("out of memory")]
     NoMem = 2,
 }
+
+const _: () = prove!(TextFault::Nul as u32 == 1);
+
+const _: () = prove!(TextFault::NoMem as u32 == 2);
 
 impl From<AllocError> for TextFault {
     ghost use Rattle.std.specs.Prelude.{◌≡◌};

@@ -111,6 +111,7 @@ first_frame s t setup pass height f after picture tall fresh =
     let frame : IsFrame (record s { given = 0 }) setup f = record {
       picture = picture;
       columns = fresh.columns;
+      tables = fresh.tables;
       height = fresh.height_is ∙ tall;
       row = fresh.row;
       taken = fresh.taken;
@@ -232,6 +233,7 @@ gives_bytes s t setup old mid new n buf limit room has gives =
     let after : IsFrame t setup (record mid { left = mid.left - n }) = record {
       picture = is.picture;
       columns = is.columns;
+      tables = is.tables;
       height = is.height;
       row = is.row;
       taken = is.taken;

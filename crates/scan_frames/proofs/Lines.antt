@@ -7,7 +7,7 @@ use Rattle.std.proofs.lemmas.List.{ext_get_or}
 use Rattle.netpbm.specs.FileText.{binary}
 use Rattle.netpbm.proofs.WritingLaws.{joined_at, length-joined}
 use Rattle.page_picture.specs.Shows.{channels_within}
-use Rattle.page_picture.specs.Tone.{tone, brightness}
+use Rattle.page_picture.specs.Tone.{tone, brightness, in_channel}
 use Rattle.page_picture.specs.Columns.{Columns, place_at}
 use Rattle.page_picture.specs.declared.scene.Mode.{Mode}
 use Rattle.page_picture.specs.declared.scene.Mode.TheVariants.{Gray}
@@ -18,7 +18,7 @@ use Rattle.sane_fixed.specs.declared.frame_format.FrameFormat.TheVariants.{Gray 
 use Rattle.scan_frames.specs.declared.setup.Packing.{Packing}
 use Rattle.scan_frames.specs.declared.setup.Packing.TheVariants.{Bits, Bytes, Words}
 use Rattle.page_picture.specs.declared.scene.DeviceKind.{DeviceKind}
-use Rattle.page_picture.specs.declared.scene.DeviceKind.TheVariants.{Flatbed, Hand, ThreePass}
+use Rattle.page_picture.specs.declared.scene.DeviceKind.TheVariants.{Flatbed, Hand, ThreePass, Feeder}
 use Rattle.scan_frames.specs.declared.setup.Setup.{Setup}
 use Rattle.scan_frames.specs.Line.{packing_of, line_byte, numbers, line_of, half}
 use Rattle.scan_frames.specs.Frames.{channel_in, color_at, format_at, format_of, takes_colors}
@@ -150,7 +150,8 @@ tone_bytes depth table v =
 
 gray_value : (scene : Scene) (row : List ℕ) (place k : ℕ) → packing_of scene.depth ≡ Bytes → scene.mode ≡ Gray → value_in scene row place k ≡ slice_index scene.gamma (gray_in row place / 256)
 gray_value scene row place k is mode =
-    tone_bytes scene.depth scene.gamma (brightness scene.mode (λ i. slice_index row (3 * place + i)) k) is
+    ap (λ (m : Mode). in_channel m scene.depth scene.channel_gamma k (tone scene.depth scene.gamma (brightness scene.mode (λ i. slice_index row (3 * place + i)) k))) mode
+    ∙ tone_bytes scene.depth scene.gamma (brightness scene.mode (λ i. slice_index row (3 * place + i)) k) is
     ∙ (ap (λ (m : Mode). slice_index scene.gamma (brightness m (λ i. slice_index row (3 * place + i)) k / 256)) mode
     ∙ ap (λ (t : ℕ). slice_index scene.gamma ((299 * slice_index row t + 587 * slice_index row (3 * place + 1) + 114 * slice_index row (3 * place + 2)) / 1000 / 256)) (let e : 3 * place + 0 ≡ 3 * place = omega arith in e))
 
@@ -165,6 +166,7 @@ gray_format kind s pass of mode =
     by_kind Flatbed = refl
     by_kind Hand = refl
     by_kind ThreePass = refl
+    by_kind Feeder = refl
 
 pub grays_line : (order : ByteOrder) (format : FrameFormat) (scene : Scene) (row places : List ℕ) (columns : Columns) (line : List ℕ) (n : ℕ) → packing_of scene.depth ≡ Bytes → scene.mode ≡ Gray → format ≡ GrayFrame → length line ≡ n → length places ≡ columns.count → ArePlaces columns places → ((x : ℕ) → x < length places → slice_index line x ≡ slice_index scene.gamma (gray_in row (slice_index places x) / 256)) → HasZeros (packing_of scene.depth) (channels_within format * columns.count) line → IsLine order format scene row columns line n
 grays_line order format scene row places columns line n is mode gray size count each here zeros =

@@ -15,7 +15,7 @@ use Rattle.sane_fixed.specs.declared.frame_format.FrameFormat.TheVariants.{Gray 
 use Rattle.page_picture.specs.Page.{Sheet, IsRow}
 use Rattle.page_picture.specs.Extent.{top_of}
 use Rattle.page_picture.specs.Seen.{dot_at, seen_at, row_seen, column_seen}
-use Rattle.page_picture.specs.Tone.{tone, brightness}
+use Rattle.page_picture.specs.Tone.{tone, brightness, in_channel}
 use Rattle.page_picture.specs.Meaning.{sample_of}
 use Rattle.page_picture.specs.Columns.{Columns, columns_of, place_at}
 use Rattle.page_picture.specs.Shows.{channels_within}
@@ -30,6 +30,7 @@ use Rattle.scan_frames.specs.Line.{packing_of, line_byte, numbers, line_of, half
 use Rattle.scan_frames.specs.Frames.{width_of, channel_in, format_at, bytes_per_line, line_bytes}
 use Rattle.scan_frames.specs.Samples.{HasZeros, value_at}
 use Rattle.scan_frames.specs.Rows.{IsSeen, Sees, HasRow, IsWhiteBehind, TakesRows}
+use Rattle.scan_frames.specs.Tables.{AreComposed}
 use Rattle.scan_frames.specs.Reading.{FrameState, IsFrame, IsCounted, given_in, left_of_line, row_of}
 use Rattle.scan_frames.specs.Buffers.{MakesLine}
 use Rattle.scan_frames.proofs.Lines.{length-numbers, numbers_at, sample_place, binary-same}
@@ -112,7 +113,7 @@ place_seen page scene row x y i seen less =
 value_seen : (page : Sheet) (scene : Scene) (format : FrameFormat) (row : List ℕ) (x y k : ℕ) → IsSeen page (row_seen scene page.dpi y) row → k < channels_within format → value_at scene format row (columns_of scene page.width page.dpi) x k ≡ sample_of page scene x y (channel_in format k)
 unfolding sample_of
 value_seen page scene format row x y k seen less =
-    ap (tone scene.depth scene.gamma) (brightness-same scene.mode (λ i. slice_index row (3 * place_at (columns_of scene page.width page.dpi) x + i)) (seen_at page scene x y) (channel_in format k) (three_channels format k less) (λ i h. place_seen page scene row x y i seen h))
+    ap (λ v. in_channel scene.mode scene.depth scene.channel_gamma (channel_in format k) (tone scene.depth scene.gamma v)) (brightness-same scene.mode (λ i. slice_index row (3 * place_at (columns_of scene page.width page.dpi) x + i)) (seen_at page scene x y) (channel_in format k) (three_channels format k less) (λ i h. place_seen page scene row x y i seen h))
 
 -- the line that was made is the line of the frame
 pub made_line : (page : Sheet) (setup : Setup) (pass : ℕ) (row : List ℕ) (y n : ℕ) → IsSeen page (row_of setup page y) row → n ≡ bytes_per_line setup pass → line_of (packing_of setup.scene.depth) setup.order (channels_within (format_at setup pass)) (width_of setup) (value_at setup.scene (format_at setup pass) row (columns_of setup.scene page.width page.dpi)) n ≡ line_bytes setup page pass y
@@ -133,8 +134,8 @@ rows_grow setup page y some =
     let below : n / setup.scene.resolution * setup.scene.resolution ≤ (top_of setup.scene + (y + 1)) * page.dpi = omega (arith, div-mul-le_self n setup.scene.resolution) in
     le-div (n / setup.scene.resolution) ((top_of setup.scene + (y + 1)) * page.dpi) setup.scene.resolution (omega arith) below
 
-pub next_frame : (s t : SourceState) (setup : Setup) (f g : FrameState) (n : ℕ) → 1 ≤ setup.scene.resolution → IsFrame s setup f → f.made < f.height → t ≡ record s { given = n } → f.taken ≤ n → n ≤ s.page.height → IsWhiteBehind s.page.width g.row → Sees s (row_of setup s.page f.made) g.row → HasRow s (row_of setup s.page f.made) n g.row → n ≤ row_of setup s.page f.made + 1 → HasZeros (packing_of setup.scene.depth) (channels_within (format_at setup f.pass) * f.columns.count) g.line → g.line ≡ line_of (packing_of setup.scene.depth) setup.order (channels_within (format_at setup f.pass)) f.columns.count (value_at setup.scene (format_at setup f.pass) g.row f.columns) (length f.line) → g.pass ≡ f.pass → g.columns ≡ f.columns → g.height ≡ f.height → g.taken ≡ n → g.made ≡ f.made + 1 → g.left ≡ length g.line → MakesLine s setup f t g
-next_frame s t setup f g n some is more after further within white sees has behind zeros bytes gp gc gh gt gm gf =
+pub next_frame : (s t : SourceState) (setup : Setup) (f g : FrameState) (n : ℕ) → 1 ≤ setup.scene.resolution → IsFrame s setup f → f.made < f.height → t ≡ record s { given = n } → f.taken ≤ n → n ≤ s.page.height → IsWhiteBehind s.page.width g.row → Sees s (row_of setup s.page f.made) g.row → HasRow s (row_of setup s.page f.made) n g.row → n ≤ row_of setup s.page f.made + 1 → HasZeros (packing_of setup.scene.depth) (channels_within (format_at setup f.pass) * f.columns.count) g.line → g.line ≡ line_of (packing_of setup.scene.depth) setup.order (channels_within (format_at setup f.pass)) f.columns.count (value_at setup.scene (format_at setup f.pass) g.row f.columns) (length f.line) → g.pass ≡ f.pass → g.columns ≡ f.columns → g.tables ≡ f.tables → g.height ≡ f.height → g.taken ≡ n → g.made ≡ f.made + 1 → g.left ≡ length g.line → MakesLine s setup f t g
+next_frame s t setup f g n some is more after further within white sees has behind zeros bytes gp gc gs gh gt gm gf =
     let grows = rows_grow setup s.page f.made some in
     let next : row_of setup s.page g.made ≡ row_of setup s.page (f.made + 1) = ap (row_of setup s.page) gm in
     let format = format_at setup f.pass in
@@ -143,6 +144,7 @@ next_frame s t setup f g n some is more after further within white sees has behi
     let made : IsFrame (record s { given = n }) setup g = record {
       picture = is.picture;
       columns = gc ∙ is.columns;
+      tables = subst (AreComposed setup.scene) (sym gs) is.tables;
       height = gh ∙ is.height;
       row = white;
       taken = gt;

@@ -12,16 +12,16 @@ use Rattle.sane_fixed.specs.declared.frame_format.FrameFormat.{FrameFormat}
 use Rattle.sane_fixed.specs.declared.frame_format.FrameFormat.TheVariants.{Gray as GrayFrame, Rgb as RgbFrame, Red as RedFrame, Green as GreenFrame, Blue as BlueFrame}
 use Rattle.page_picture.specs.Page.{Sheet, IsSheet}
 use Rattle.page_picture.specs.Seen.{seen_at}
-use Rattle.page_picture.specs.Tone.{tone, brightness}
+use Rattle.page_picture.specs.Tone.{tone, brightness, in_channel}
 use Rattle.page_picture.specs.Meaning.{channels_in, sample_of, picture_of}
 use Rattle.page_picture.specs.Extent.{shows_depth}
 use Rattle.page_picture.specs.Shows.{Frame, two_bytes, frame_sample, channels_within, channels_alone, color_of, row_size, IsDepth, HasLineShape, HasLines, FitsPicture, ShowsAlone, ShowsColor, ShowsColors, ShowsFrames}
 use Rattle.page_picture.specs.declared.scene.DeviceKind.{DeviceKind}
-use Rattle.page_picture.specs.declared.scene.DeviceKind.TheVariants.{Flatbed, Hand, ThreePass}
+use Rattle.page_picture.specs.declared.scene.DeviceKind.TheVariants.{Flatbed, Hand, ThreePass, Feeder}
 use Rattle.page_picture.specs.declared.scene.Mode.{Mode}
 use Rattle.page_picture.specs.declared.scene.Mode.TheVariants.{Gray, Color}
 use Rattle.page_picture.specs.declared.scene.Scene.{Scene}
-use Rattle.page_picture.proofs.MeaningLemmas.{is_picture}
+use Rattle.page_picture.proofs.MeaningLemmas.{is_picture, AreBytes}
 use Rattle.scan_frames.specs.declared.setup.Packing.{Packing}
 use Rattle.scan_frames.specs.declared.setup.Packing.TheVariants.{Bits, Bytes, Words}
 use Rattle.scan_frames.specs.declared.setup.PassOrder.{PassOrder}
@@ -84,13 +84,18 @@ halves : (order : ByteOrder) (bytes : List ℕ) (i v : ℕ) → slice_index byte
 halves Little bytes i v a b = omega arith
 halves Big bytes i v a b = omega arith
 
+-- no channel's table bears on a bit
+one_bit : (m : Mode) (tables : List (List ℕ)) (k v : ℕ) → v ≤ 1 → in_channel m 1 tables k v ≤ 1
+one_bit Gray tables k v small = small
+one_bit Color tables k v small = small
+
 -- a sample at depth 1 is a bit
 pub bit_sample : (page : Sheet) (scene : Scene) (x y k : ℕ) → scene.depth ≡ 1 → sample_of page scene x y k ≤ 1
 unfolding sample_of
 bit_sample page scene x y k is =
     let v = brightness scene.mode (seen_at page scene x y) k in
-    subst (λ (d : ℕ). tone d scene.gamma v ≤ 1) (sym is)
-    (elim (nat_lt (slice_index scene.gamma (v / 256)) 128) as (λ t. (if t then 1 else 0) ≤ 1) [ true ↦ omega arith | false ↦ omega arith ])
+    subst (λ (d : ℕ). in_channel scene.mode d scene.channel_gamma k (tone d scene.gamma v) ≤ 1) (sym is)
+    (one_bit scene.mode scene.channel_gamma k (tone 1 scene.gamma v) (elim (nat_lt (slice_index scene.gamma (v / 256)) 128) as (λ t. (if t then 1 else 0) ≤ 1) [ true ↦ omega arith | false ↦ omega arith ]))
 
 gray_bits : (m : Mode) (depth : ℕ) → depth ≡ 1 → shows_depth m depth ≡ true → m ≡ Gray
 gray_bits Gray depth is e = refl
@@ -237,14 +242,15 @@ has_lines : (kind : DeviceKind) (n : ℕ) → HasLines (lines_told kind n) n
 has_lines Flatbed n = refl
 has_lines Hand n = tt
 has_lines ThreePass n = refl
+has_lines Feeder n = refl
 
 -- the picture that the frames are to show
 abbrev pub meant : Setup → Sheet → Picture
 meant setup page = picture_of page setup.scene (width_of setup, height_of setup page)
 
-pub is_meant : (setup : Setup) (page : Sheet) → IsSheet page → ((i : ℕ) → slice_index setup.scene.gamma i < 2 ^ 8) → has_picture setup page ≡ true → IsPicture (meant setup page)
-is_meant setup page sheet table has =
-    is_picture page setup.scene (width_of setup, height_of setup page) sheet table (ap (λ (t : Bool). if t then Some (width_of setup, height_of setup page) else None) has)
+pub is_meant : (setup : Setup) (page : Sheet) → IsSheet page → ((i : ℕ) → slice_index setup.scene.gamma i < 2 ^ 8) → AreBytes setup.scene.channel_gamma → has_picture setup page ≡ true → IsPicture (meant setup page)
+is_meant setup page sheet table channels has =
+    is_picture page setup.scene (width_of setup, height_of setup page) sheet table channels (ap (λ (t : Bool). if t then Some (width_of setup, height_of setup page) else None) has)
 
 fits : (setup : Setup) (page : Sheet) (pass : ℕ) → IsSetup setup → IsPicture (meant setup page) → has_picture setup page ≡ true → FitsPicture (frame_of setup page pass) (meant setup page)
 fits setup page pass is picture has = record {
@@ -382,9 +388,10 @@ by_kind kind mode setup page k m is picture has =
     cases : (kind : DeviceKind) (mode : Mode) → (takes_colors kind mode ≡ false → ShowsFrames (frames_of setup page) (meant setup page)) → (kind ≡ ThreePass → mode ≡ Color → ShowsFrames (frames_of setup page) (meant setup page)) → ShowsFrames (frames_of setup page) (meant setup page)
     cases Flatbed mode alone three = alone refl
     cases Hand mode alone three = alone refl
+    cases Feeder mode alone three = alone refl
     cases ThreePass Gray alone three = alone refl
     cases ThreePass Color alone three = three refl refl
 
-pub shows_frames : (setup : Setup) (page : Sheet) → IsSetup setup → IsSheet page → ((i : ℕ) → slice_index setup.scene.gamma i < 2 ^ 8) → has_picture setup page ≡ true → ShowsFrames (frames_of setup page) (meant setup page)
-shows_frames setup page is sheet table has =
-    by_kind setup.scene.kind setup.scene.mode setup page refl refl is (is_meant setup page sheet table has) has
+pub shows_frames : (setup : Setup) (page : Sheet) → IsSetup setup → IsSheet page → ((i : ℕ) → slice_index setup.scene.gamma i < 2 ^ 8) → AreBytes setup.scene.channel_gamma → has_picture setup page ≡ true → ShowsFrames (frames_of setup page) (meant setup page)
+shows_frames setup page is sheet table channels has =
+    by_kind setup.scene.kind setup.scene.mode setup page refl refl is (is_meant setup page sheet table channels has) has

@@ -5,6 +5,7 @@ use Rattle.page_picture.specs.Columns.{columns_of}
 use Rattle.page_picture.specs.Source.{SourceState}
 use Rattle.scan_frames.specs.Frames.{bytes_per_line, pass_length}
 use Rattle.scan_frames.specs.Samples.{IsZeroFrom}
+use Rattle.scan_frames.specs.Tables.{AreComposed}
 use Rattle.scan_frames.specs.Rows.{IsWhiteBehind, TakesRows, StopsFailing}
 use Rattle.scan_frames.specs.Reading.{FrameState, IsFrame, IsCounted, given_in, left_of_line}
 use Rattle.scan_frames.specs.declared.buffers.Buffers.{Buffers}
@@ -16,6 +17,7 @@ abbrev pub state_of : Buffers → FrameState
 state_of b = record {
   pass = b.pass;
   columns = b.columns;
+  tables = b.tables;
   height = b.height;
   row = b.row.items;
   taken = b.taken;
@@ -28,6 +30,7 @@ state_of b = record {
 pub record IsFresh (page : Sheet) (setup : Setup) (pass height : ℕ) (f : FrameState) : Type 0 where
   pub pass_is : f.pass ≡ pass
   pub columns : f.columns ≡ columns_of setup.scene page.width page.dpi
+  pub tables : AreComposed setup.scene f.tables
   pub height_is : f.height ≡ height
   pub row : IsWhiteBehind page.width f.row
   pub taken : f.taken ≡ 0

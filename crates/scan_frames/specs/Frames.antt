@@ -9,7 +9,7 @@ use Rattle.page_picture.specs.Extent.{across, down, is_side, shows_depth}
 use Rattle.page_picture.specs.Meaning.{sample_of}
 use Rattle.page_picture.specs.Shows.{Frame, channels_within}
 use Rattle.page_picture.specs.declared.scene.DeviceKind.{DeviceKind}
-use Rattle.page_picture.specs.declared.scene.DeviceKind.TheVariants.{Flatbed, Hand, ThreePass}
+use Rattle.page_picture.specs.declared.scene.DeviceKind.TheVariants.{Flatbed, Hand, ThreePass, Feeder}
 use Rattle.page_picture.specs.declared.scene.Mode.{Mode}
 use Rattle.page_picture.specs.declared.scene.Mode.TheVariants.{Gray, Color}
 use Rattle.scan_frames.specs.Line.{packing_of, line_size, line_of}
@@ -47,6 +47,7 @@ has_picture s page = has_picture_on s page.height page.dpi
 abbrev pub takes_colors : DeviceKind → Mode → Bool
 takes_colors Flatbed _ = false
 takes_colors Hand _ = false
+takes_colors Feeder _ = false
 takes_colors ThreePass Gray = false
 takes_colors ThreePass Color = true
 
@@ -103,6 +104,7 @@ abbrev pub lines_told : DeviceKind → ℕ → Option ℕ
 lines_told Flatbed lines = Some lines
 lines_told Hand _ = None
 lines_told ThreePass lines = Some lines
+lines_told Feeder lines = Some lines
 
 -- what is told of a pass, with 0 in the places of width, lines and bytes where there is no picture
 abbrev pub if_picture : Bool → ℕ → ℕ
@@ -115,6 +117,17 @@ params_on s rows dpi pass = record {
   bytes_per_line = if_picture (has_picture_on s rows dpi) (bytes_per_line s pass);
   pixels_per_line = if_picture (has_picture_on s rows dpi) (width_of s);
   lines = if has_picture_on s rows dpi then lines_told s.scene.kind (height_on s rows dpi) else Some 0;
+  depth = s.scene.depth;
+}
+
+-- what is told of a pass where no picture can be: 0 pixels, lines and bytes
+abbrev pub params_without : Setup → ℕ → Params
+params_without s pass = record {
+  format = format_at s pass;
+  last_frame = last_pass s == pass;
+  bytes_per_line = 0;
+  pixels_per_line = 0;
+  lines = Some 0;
   depth = s.scene.depth;
 }
 

@@ -2,6 +2,7 @@ pub mod Line
 pub mod Frames
 pub mod Filler
 pub mod Samples
+pub mod Tables
 pub mod Rows
 pub mod Reading
 pub mod Buffers

@@ -8,6 +8,7 @@ use Rattle.page_picture.specs.Source.{SourceState, Fails}
 use Rattle.scan_frames.specs.Line.{packing_of}
 use Rattle.scan_frames.specs.Frames.{has_picture, width_of, height_of, format_at, bytes_per_line, line_bytes, payload, pass_length}
 use Rattle.scan_frames.specs.Samples.{HasZeros}
+use Rattle.scan_frames.specs.Tables.{AreComposed}
 use Rattle.scan_frames.specs.Rows.{IsWhiteBehind, TakesRows, StopsFailing}
 use Rattle.scan_frames.specs.declared.setup.Setup.{Setup}
 use Rattle.scan_frames.specs.declared.faults.BeginFault.{BeginFault}
@@ -20,6 +21,8 @@ pub record FrameState : Type 0 where
   pub pass : ℕ
   -- which columns of the page its pixels show
   pub columns : Columns
+  -- what becomes of a sample in red, green and blue at depth 8, by its upper byte
+  pub tables : List (List ℕ)
   pub height : ℕ
   -- the last row that was taken, with a white place behind it, and how many were taken
   pub row : List ℕ
@@ -50,6 +53,7 @@ KeepsLastRow s setup f = s.steady ≡ true → row_of setup s.page f.made < s.pa
 pub record IsFrame (s : SourceState) (setup : Setup) (f : FrameState) : Type 0 where
   pub picture : has_picture setup s.page ≡ true
   pub columns : f.columns ≡ columns_of setup.scene s.page.width s.page.dpi
+  pub tables : AreComposed setup.scene f.tables
   pub height : f.height ≡ height_of setup s.page
   pub row : IsWhiteBehind s.page.width f.row
   pub taken : f.taken ≡ s.given

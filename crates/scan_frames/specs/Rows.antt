@@ -1,5 +1,5 @@
 -- The row of a page that a line shows.
-use Rattle.std.specs.Prelude.{ℕ, ◌+◌, ◌-◌, ◌*◌, ◌<◌, ◌≤◌, ◌≡◌, true, List, length, slice_index}
+use Rattle.std.specs.Prelude.{ℕ, ◌+◌, ◌-◌, ◌*◌, ◌<◌, ◌≤◌, ◌≡◌, true, false, List, length, slice_index}
 use Rattle.page_picture.specs.Page.{Sheet, IsRow}
 use Rattle.page_picture.specs.Seen.{dot_at}
 use Rattle.page_picture.specs.Source.{SourceState, CountsFailure}
@@ -9,8 +9,9 @@ pub record TakesRows (old new : SourceState) : Type 0 where
   pub further : old.given ≤ new.given
   pub after : new ≡ record old { given = new.given }
 
--- rows were taken, then a call failed: that was counted, and nothing else happened
+-- rows were taken, then a call failed, of a source that can fail: that was counted, and nothing else happened
 pub record StopsFailing (old new : SourceState) : Type 0 where
+  pub not_firm : old.firm ≡ false
   pub further : old.given ≤ new.given
   pub counted : CountsFailure old.failures new.failures
   pub after : new ≡ record old { given = new.given; failures = new.failures }

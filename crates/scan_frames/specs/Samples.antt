@@ -4,7 +4,7 @@ use Rattle.netpbm.specs.FileText.{binary}
 use Rattle.sane_fixed.specs.declared.byte_order.ByteOrder.{ByteOrder}
 use Rattle.sane_fixed.specs.declared.frame_format.FrameFormat.{FrameFormat}
 use Rattle.page_picture.specs.Columns.{Columns, place_at}
-use Rattle.page_picture.specs.Tone.{brightness, tone}
+use Rattle.page_picture.specs.Tone.{brightness, in_channel, tone}
 use Rattle.page_picture.specs.declared.scene.Scene.{Scene}
 use Rattle.scan_frames.specs.Frames.{channel_in}
 use Rattle.scan_frames.specs.Line.{half}
@@ -39,7 +39,8 @@ gray_in row place = (299 * slice_index row (3 * place) + 587 * slice_index row (
 
 -- the sample that a scene makes of a place in a row, in a channel of the picture
 abbrev pub value_in : Scene → List ℕ → ℕ → ℕ → ℕ
-value_in scene row place k = tone scene.depth scene.gamma (brightness scene.mode (λ i. slice_index row (3 * place + i)) k)
+value_in scene row place k =
+    in_channel scene.mode scene.depth scene.channel_gamma k (tone scene.depth scene.gamma (brightness scene.mode (λ i. slice_index row (3 * place + i)) k))
 
 -- the sample that stands as number k at column x of a frame's line
 abbrev pub value_at : Scene → FrameFormat → List ℕ → Columns → ℕ → ℕ → ℕ

@@ -12,6 +12,7 @@ use crate::line::make_line;
 use crate::pass::bytes_per_line;
 use crate::rows::see;
 use crate::setup::Setup;
+use crate::tables::color_tables;
 use page_picture::{ColumnMap, PageSource, SourceFault};
 use sane_fixed::NoMem;
 use std::alloc::{AllocError, Global};
@@ -21,6 +22,8 @@ use std::alloc::{AllocError, Global};
 pub struct Buffers {
     pass: u32,
     columns: ColumnMap,
+    /// What becomes of a sample in red, green and blue at depth 8, by its upper byte.
+    tables: [[u8; 256]; 3],
     height: u32,
     /// The last row that was taken, with a white place behind it, which all pixels off the page show.
     row: Vec<u16>,
@@ -68,6 +71,7 @@ pub fn reserve<S: PageSource>(
     Ok(Buffers {
         pass,
         columns,
+        tables: color_tables(&setup.scene),
         height,
         row,
         taken: 0,
@@ -105,6 +109,7 @@ fn next_line<S: PageSource>(
     make_line(
         setup,
         buffers.pass,
+        &buffers.tables,
         &buffers.columns,
         &buffers.row,
         &mut buffers.line,

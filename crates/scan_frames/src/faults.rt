@@ -1,21 +1,27 @@
 use sane_fixed::Status;
+use thiserror::Error;
 
 /// Why no frame was begun.
-#[derive(Clone, Copy, Debug, PartialEq, Eq)]
+#[derive(Clone, Copy, Debug, PartialEq, Eq, Error)]
 pub enum BeginFault {
     /// The options mean no picture on the page.
+    #[error("the options mean no picture on the page")]
     NoPicture,
     /// The page source did not go back to its first row.
+    #[error("the page source did not go back to its first row")]
     SourceFailed,
+    #[error("out of memory")]
     NoMem,
 }
 
 /// Why a read gave no byte.
-#[derive(Clone, Copy, Debug, PartialEq, Eq)]
+#[derive(Clone, Copy, Debug, PartialEq, Eq, Error)]
 pub enum ReadEnd {
     /// All bytes of the frame were given.
+    #[error("the frame is at its end")]
     End,
     /// The page source did not give the next row.
+    #[error("the page source did not give the next row")]
     SourceFailed,
 }
 

@@ -1,4 +1,4 @@
-ghost use Rattle.std.specs.Prelude.{◌≡◌, ◌+◌, ◌<◌, ◌≤◌, ◌^◌, ℕ, Some, true, length, slice_get, slice_index};
+ghost use Rattle.std.specs.Prelude.{◌≡◌, ◌+◌, ◌<◌, ◌≤◌, ◌^◌, ℕ, [], Some, true, get_or, length, slice_get, slice_index};
 ghost use Rattle.page_picture.specs.Page.{Sheet, IsSheet};
 ghost use Rattle.page_picture.specs.Meaning.{picture_of};
 ghost use Rattle.page_picture.specs.Shows.{ShowsFrames};
@@ -10,7 +10,7 @@ ghost use Rattle.scan_frames.specs.declared.setup.Setup.{Setup as SetupValue};
 /// frames of a three-pass scanner a channel each, in whatever order the colors come.
 pub fn frames_show_the_picture()
     ensures { (setup : SetupValue) (page : Sheet) → IsSetup setup → IsSheet page →
-        ((i : ℕ) → slice_index setup.scene.gamma i < 2 ^ 8) → has_picture setup page ≡ true →
+        ((i : ℕ) → slice_index setup.scene.gamma i < 2 ^ 8) → ((k i : ℕ) → slice_index (get_or setup.scene.channel_gamma k []) i < 2 ^ 8) → has_picture setup page ≡ true →
         ShowsFrames (frames_of setup page) (picture_of page setup.scene (width_of setup, height_of setup page)) }
 {}
 

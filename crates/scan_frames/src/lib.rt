@@ -9,13 +9,14 @@ mod line;
 mod pass;
 mod rows;
 mod setup;
+mod tables;
 
 pub use faults::{BeginFault, ReadEnd};
 pub use frame_rows::FrameRows;
 pub use laws::{
     a_frame_for_each_pass, frames_show_the_picture, gamma_entries_are_bytes, lines_end_in_zeros,
 };
-pub use pass::{has_picture, last_pass, params};
+pub use pass::{has_picture, last_pass, params, params_without};
 pub use setup::{Packing, PassOrder, Setup, packing_of};
 
 #[cfg(test)]

@@ -1,16 +1,17 @@
 //! The bytes of a line.
 
-ghost use Rattle.std.specs.Prelude.{◌≡◌, ◌≤◌, ◌<◌, ◌+◌, ◌*◌, ◌/◌, ◌^◌, ℕ, length, slice_index};
+ghost use Rattle.std.specs.Prelude.{◌≡◌, ◌≤◌, ◌<◌, ◌+◌, ◌*◌, ◌/◌, ◌^◌, ℕ, [], length, get_or, slice_index};
 ghost use Rattle.page_picture.specs.Columns.{place_at};
 ghost use Rattle.page_picture.specs.Shows.{channels_within};
 ghost use Rattle.page_picture.specs.Tone.{brightness};
 ghost use Rattle.scan_frames.specs.Line.{packing_of, line_of};
 ghost use Rattle.scan_frames.specs.Frames.{channel_in, format_at};
+ghost use Rattle.scan_frames.specs.Tables.{AreComposed};
 ghost use Rattle.scan_frames.specs.Samples.{HasSample, HasZeros, bit_in, bits_in, end_of, gray_in, value_at, value_in};
 
 use crate::pass::{channel_in, channels_within, format_at};
 use crate::setup::{Packing, Setup, packing_of};
-use page_picture::{ColumnMap, Mode, Scene, toned};
+use page_picture::{ColumnMap, Mode, Scene, in_channel, toned};
 use sane_fixed::{ByteOrder, FrameFormat};
 
 /// How the samples of a frame stand in its bytes.
@@ -82,8 +83,82 @@ fn put_place(scene: &Scene, layout: Layout, row: &[u16], place: u32, first: usiz
     for k in 0..channels_within(layout.format) {
         let channel = channel_in(layout.format, k);
         let seen = light(scene.mode, row, place, channel);
-        let v = toned(scene.depth, &scene.gamma, seen);
+        let v = in_channel(scene, channel, toned(scene.depth, &scene.gamma, seen));
         put(layout, line, first + k as usize, v);
+    }
+}
+
+/// Puts the samples of all places in red, green and blue, a byte each, by a table for each channel.
+fn put_colors(tables: &[[u8; 256]; 3], row: &[u16], places: &[u32], line: &mut [u8])
+    requires places { (x : ℕ) → x < length places.now → 3 * slice_index places.now x + 2 < length row.now }
+    requires room { 3 * length places.now ≤ length line.old }
+    ensures here { (x k : ℕ) → x < length places.now → k < 3 → slice_index line.new (3 * x + k) ≡ slice_index (get_or tables.now k []) (slice_index row.now (3 * slice_index places.now x + k) / 256) }
+    ensures behind { (j : ℕ) → 3 * length places.now ≤ j → slice_index line.new j ≡ slice_index line.old j }
+{
+    let [red, green, blue] = tables;
+    for (x, place) in places.iter().enumerate() {
+        let at = 3 * *place as usize;
+        line[3 * x] = red[usize::from(row[at] / 256)];
+        line[3 * x + 1] = green[usize::from(row[at + 1] / 256)];
+        line[3 * x + 2] = blue[usize::from(row[at + 2] / 256)];
+    }
+}
+
+/// Puts the samples of all places in one channel, a byte each, by its table.
+fn put_color(table: &[u8; 256], k: u32, row: &[u16], places: &[u32], line: &mut [u8])
+    requires channel { k < 3 }
+    requires places { (x : ℕ) → x < length places.now → 3 * slice_index places.now x + 2 < length row.now }
+    requires room { length places.now ≤ length line.old }
+    ensures here { (x : ℕ) → x < length places.now → slice_index line.new x ≡ slice_index table.now (slice_index row.now (3 * slice_index places.now x + k) / 256) }
+    ensures behind { (j : ℕ) → length places.now ≤ j → slice_index line.new j ≡ slice_index line.old j }
+{
+    for (x, place) in places.iter().enumerate() {
+        let seen = row[3 * *place as usize + k as usize];
+        line[x] = table[usize::from(seen / 256)];
+    }
+}
+
+/// Puts the samples of all places in red, green and blue as they are, two bytes each.
+fn put_words(layout: Layout, row: &[u16], places: &[u32], line: &mut [u8])
+    requires packing { layout.packing ≡ Packing.Words }
+    requires places { (x : ℕ) → x < length places.now → 3 * slice_index places.now x + 2 < length row.now }
+    requires few { length places.now ≤ 65536 }
+    requires room { 6 * length places.now ≤ length line.old }
+    ensures here { (x k : ℕ) → x < length places.now → k < 3 → HasSample Packing.Words layout.order line.new (3 * x + k) (slice_index row.now (3 * slice_index places.now x + k)) }
+    ensures behind { (j : ℕ) → 6 * length places.now ≤ j → slice_index line.new j ≡ slice_index line.old j }
+{
+    for (x, place) in places.iter().enumerate() {
+        let at = 3 * *place as usize;
+        put(layout, line, 3 * x, row[at]);
+        put(layout, line, 3 * x + 1, row[at + 1]);
+        put(layout, line, 3 * x + 2, row[at + 2]);
+    }
+}
+
+/// Puts the samples of all places in color, a byte each.
+fn put_bytes(
+    scene: &Scene,
+    tables: &[[u8; 256]; 3],
+    layout: Layout,
+    row: &[u16],
+    places: &[u32],
+    line: &mut [u8],
+)
+    requires tables { AreComposed scene.now tables.now }
+    requires packing { packing_of scene.now.depth ≡ Packing.Bytes }
+    requires color { scene.now.mode ≡ Mode.Color }
+    requires places { (x : ℕ) → x < length places.now → 3 * slice_index places.now x + 2 < length row.now }
+    requires few { length places.now ≤ 65536 }
+    requires room { channels_within layout.format * length places.now ≤ length line.old }
+    ensures here { (x k : ℕ) → x < length places.now → k < channels_within layout.format → slice_index line.new (channels_within layout.format * x + k) ≡ value_in scene.now row.now (slice_index places.now x) (channel_in layout.format k) }
+    ensures behind { (j : ℕ) → channels_within layout.format * length places.now ≤ j → slice_index line.new j ≡ slice_index line.old j }
+{
+    match layout.format {
+        FrameFormat::Rgb => put_colors(tables, row, places, line),
+        // A picture in color has no gray frame; the one channel of such a frame would be the first.
+        FrameFormat::Gray | FrameFormat::Red => put_color(&tables[0], 0, row, places, line),
+        FrameFormat::Green => put_color(&tables[1], 1, row, places, line),
+        FrameFormat::Blue => put_color(&tables[2], 2, row, places, line),
     }
 }
 
@@ -96,6 +171,13 @@ fn put_all(scene: &Scene, layout: Layout, row: &[u16], places: &[u32], line: &mu
     ensures here { (x k : ℕ) → x < length places.now → k < channels_within layout.format → HasSample layout.packing layout.order line.new (channels_within layout.format * x + k) (value_in scene.now row.now (slice_index places.now x) (channel_in layout.format k)) }
     ensures behind { (j : ℕ) → end_of layout.packing (channels_within layout.format * length places.now) ≤ j → slice_index line.new j ≡ slice_index line.old j }
 {
+    if let (Packing::Words, FrameFormat::Rgb, Mode::Color) = (
+        layout.packing,
+        layout.format,
+        scene.mode,
+    ) {
+        return put_words(layout, row, places, line);
+    }
     let step = channels_within(layout.format) as usize;
     for (x, place) in places.iter().enumerate() {
         put_place(scene, layout, row, *place, step * x, line);
@@ -124,11 +206,8 @@ fn bit(scene: &Scene, row: &[u16], places: &[u32], channel: u32, x: usize) -> u8
     ensures limit { result ≤ 1 }
 {
     if x < places.len() {
-        toned(
-            scene.depth,
-            &scene.gamma,
-            light(scene.mode, row, places[x], channel),
-        ) as u8
+        let seen = light(scene.mode, row, places[x], channel);
+        in_channel(scene, channel, toned(scene.depth, &scene.gamma, seen)) as u8
     } else {
         0
     }
@@ -164,7 +243,15 @@ fn put_bits(scene: &Scene, row: &[u16], places: &[u32], channel: u32, line: &mut
 }
 
 /// Writes the line of a pass that a row shows.
-pub fn make_line(setup: &Setup, pass: u32, columns: &ColumnMap, row: &[u16], line: &mut [u8])
+pub fn make_line(
+    setup: &Setup,
+    pass: u32,
+    tables: &[[u8; 256]; 3],
+    columns: &ColumnMap,
+    row: &[u16],
+    line: &mut [u8],
+)
+    requires tables { AreComposed setup.now.scene tables.now }
     requires row { length row.now ≡ 3 * columns.now.width + 3 }
     requires few { columns.now.count ≤ 65536 }
     requires short { length line.old ≤ 1048576 }
@@ -186,7 +273,7 @@ pub fn make_line(setup: &Setup, pass: u32, columns: &ColumnMap, row: &[u16], lin
         Packing::Bytes => {
             match setup.scene.mode {
                 Mode::Gray => put_grays(&setup.scene.gamma, row, places, line),
-                Mode::Color => put_all(&setup.scene, layout, row, places, line),
+                Mode::Color => put_bytes(&setup.scene, tables, layout, row, places, line),
             }
         }
         Packing::Words => put_all(&setup.scene, layout, row, places, line),

@@ -2,7 +2,7 @@
 
 ghost use Rattle.std.specs.Prelude.{◌≡◌, ◌≤◌, ◌<◌, is_some, IfSome};
 ghost use Rattle.page_picture.specs.Shows.{channels_within};
-ghost use Rattle.scan_frames.specs.Frames.{IsSetup, takes_colors, last_pass, nth_color, color_at, format_at, channel_in, bytes_per_line, width_of, height_of, has_picture, lines_told, params_at};
+ghost use Rattle.scan_frames.specs.Frames.{IsSetup, takes_colors, last_pass, nth_color, color_at, format_at, channel_in, bytes_per_line, width_of, height_of, has_picture, lines_told, params_at, params_without};
 
 use crate::setup::{Packing, PassOrder, Setup, packing_of};
 use page_picture::{DeviceKind, Mode, PageSource, extent_at};
@@ -13,7 +13,7 @@ fn takes_colors(kind: DeviceKind, mode: Mode) -> bool
     ensures { result ≡ takes_colors kind mode }
 {
     match kind {
-        DeviceKind::Flatbed | DeviceKind::Hand => false,
+        DeviceKind::Flatbed | DeviceKind::Hand | DeviceKind::Feeder => false,
         DeviceKind::ThreePass => match mode {
             Mode::Gray => false,
             Mode::Color => true,
@@ -131,30 +131,33 @@ pub fn params<S: PageSource>(source: &S, setup: &Setup, pass: u32) -> Params
     requires { IsSetup setup.now }
     ensures { result ≡ params_at setup.now (S.source source.now).page pass }
 {
-    let format = format_at(setup, pass);
     let last_frame = last_pass(setup) == pass;
-    let depth = setup.scene.depth;
     match sides(source, setup) {
         Some((width, height)) => {
             Params {
-                format,
+                format: format_at(setup, pass),
                 last_frame,
                 bytes_per_line: bytes_per_line(setup, pass) as u32,
                 pixels_per_line: width,
                 lines: lines_told(setup.scene.kind, height),
-                depth,
+                depth: setup.scene.depth,
             }
         }
-        None => {
-            Params {
-                format,
-                last_frame,
-                bytes_per_line: 0,
-                pixels_per_line: 0,
-                lines: Some(0),
-                depth,
-            }
-        }
+        None => params_without(setup, pass),
+    }
+}
+
+/// What is told of the frame of a pass where there is no picture: 0 pixels, lines and bytes.
+pub fn params_without(setup: &Setup, pass: u32) -> Params
+    ensures { result ≡ params_without setup.now pass }
+{
+    Params {
+        format: format_at(setup, pass),
+        last_frame: last_pass(setup) == pass,
+        bytes_per_line: 0,
+        pixels_per_line: 0,
+        lines: Some(0),
+        depth: setup.scene.depth,
     }
 }
 
@@ -163,7 +166,7 @@ fn lines_told(kind: DeviceKind, lines: u32) -> Option<u32>
     ensures { result ≡ lines_told kind lines }
 {
     match kind {
-        DeviceKind::Flatbed | DeviceKind::ThreePass => Some(lines),
+        DeviceKind::Flatbed | DeviceKind::ThreePass | DeviceKind::Feeder => Some(lines),
         DeviceKind::Hand => None,
     }
 }

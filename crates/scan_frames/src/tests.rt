@@ -36,6 +36,7 @@ fn setup(kind: DeviceKind, mode: Mode, depth: u32, br_x: i32, br_y: i32) -> Setu
             br_x: mm(br_x),
             br_y: mm(br_y),
             gamma,
+            channel_gamma: [gamma; 3],
         },
         order: ByteOrder::Big,
         passes: PassOrder::Rgb,
@@ -313,6 +314,25 @@ fn a_source_fails_at_each_call(rt: HostRuntime) {
             let (got, _, _) = frame_bytes(&rt, alloc, &mut source, &two, 0).expect(&rt, "a frame");
             assert_eq!(&rt; got.as_slice(), &[7, 9][..]);
         }
+    }
+}
+
+/// A window taller than the page is white below it: its frame makes one rewind and takes the two rows that there are, so
+/// no row after the page's last is asked for.
+#[test]
+fn no_row_after_the_last(rt: HostRuntime) {
+    let alloc = rt.alloc();
+    let tall = setup(DeviceKind::Flatbed, Mode::Gray, 8, 1, 5);
+    for (n, want, end) in [
+        (3, &[7][..], ReadEnd::SourceFailed),
+        (4, &[7, 9, 255, 255, 255][..], ReadEnd::End),
+        (5, &[7, 9, 255, 255, 255][..], ReadEnd::End),
+    ] {
+        let mut source = FailingPage::new(page(&rt, alloc, b"P5\n1 2\n255\n\x07\x09", 26), n);
+        let (got, _, why) = frame_bytes(&rt, alloc, &mut source, &tall, 0).expect(&rt, "a frame");
+        assert_eq!(&rt; got.as_slice(), want);
+        assert_eq!(&rt; why, end);
+        assert_eq!(&rt; source.failures(), if end == ReadEnd::End { 0 } else { 1 });
     }
 }
 

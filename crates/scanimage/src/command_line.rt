@@ -1,70 +1,45 @@
-use crate::devices::no_memory;
 use dispatch::{ConfigLine, parse_config};
-use sane_fixed::{Text, TextFault};
+use sane_fixed::Text;
 use scanimage_cli::{
-    Ending, Options, OptionsFault, Split, SplitFault, is_local, read_options, split_words,
+    Ending, Options, OptionsFault, Split, SplitFault, config_text, is_local, is_right_batch,
+    read_options, split_words, words_of,
 };
-use std::env::Env;
 use std::fs::File;
-use std::io::{self, ErrorKind, Read};
+use std::io::{self, ErrorKind};
 
-/// Linux gives a program no longer word.
-const LONGEST_WORD: usize = 131_072;
-
-/// A word of the command line as a text.
-fn word(rt: &HostRuntime, bytes: &[u8]) -> Result<Text, Ending> {
-    Text::new(rt.alloc(), bytes).map_err(|fault| match fault {
-        TextFault::Nul => Ending::BadCommandLine,
-        TextFault::NoMem => no_memory(),
-    })
-}
-
-/// The words of the command line, without the program's name.
-fn words(rt: &HostRuntime) -> Result<Vec<Text>, Ending> {
-    let mut words = Vec::new(rt.alloc());
-    let mut room = vec![in rt.alloc(); 0u8; LONGEST_WORD].map_err(|_| no_memory())?;
-    for i in 1..usize::MAX {
-        let Ok(n) = rt.arg(i, room.as_mut_slice()) else {
-            break;
-        };
-        let text = word(rt, &room.as_slice()[..n])?;
-        words.push(text).map_err(|_| no_memory())?;
+fn split_ending(fault: SplitFault) -> Ending {
+    match fault {
+        SplitFault::Bad => Ending::BadCommandLine,
+        SplitFault::NoMem => Ending::no_memory(),
     }
-    Ok(words)
 }
 
 /// The options and the settings of the command line. What the net is asked for comes with a later part.
 pub fn command_line(rt: &HostRuntime) -> Result<(Options, Vec<(Text, Text)>), Ending> {
-    let words = words(rt)?;
-    let Split { program, settings } = split_words(rt.alloc(), words.as_slice()).map_err(|fault| {
-        match fault {
-            SplitFault::Bad => Ending::BadCommandLine,
-            SplitFault::NoMem => no_memory(),
-        }
-    })?;
+    let words = words_of(rt.alloc(), rt).map_err(split_ending)?;
+    let Split { program, settings } = split_words(rt.alloc(), words.as_slice()).map_err(
+        split_ending,
+    )?;
     let options = read_options(rt.alloc(), program.as_slice()).map_err(|fault| match fault {
         OptionsFault::Bad => Ending::BadCommandLine,
-        OptionsFault::NoMem => no_memory(),
+        OptionsFault::NoMem => Ending::no_memory(),
     })?;
-    if is_local(&options) {
+    if is_local(&options) && is_right_batch(&options) {
         Ok((options, settings))
     } else {
         Err(Ending::BadCommandLine)
     }
 }
 
-/// All bytes of standard input, which `-` stands for, or of the file of that path.
-fn all_bytes(rt: &HostRuntime, path: &Text) -> io::Result<Vec<u8>> {
-    let mut bytes = Vec::new(rt.alloc());
+/// The bytes of standard input, which `-` stands for, or of the file of that path, as many as a config has.
+fn config_bytes(rt: &HostRuntime, path: &Text) -> io::Result<Vec<u8>> {
     if path.as_bytes() == b"-".as_slice() {
-        rt.stdin().read_to_end(&mut bytes)?;
-        return Ok(bytes);
+        return config_text(rt.alloc(), rt.stdin());
     }
     match std::str::from_utf8(path.as_bytes()) {
-        Ok(path) => File::open(rt, path)?.read_to_end(&mut bytes)?,
-        Err(_) => return Err(io::Error::from(ErrorKind::InvalidInput)),
-    };
-    Ok(bytes)
+        Ok(path) => config_text(rt.alloc(), File::open(rt, path)?),
+        Err(_) => Err(io::Error::from(ErrorKind::InvalidInput)),
+    }
 }
 
 /// The lines of the config that the options name.
@@ -72,11 +47,11 @@ pub fn config_lines(rt: &HostRuntime, options: &Options) -> Result<Vec<ConfigLin
     let Some(path) = &options.config else {
         return Err(Ending::BadCommandLine);
     };
-    let bytes = match all_bytes(rt, path) {
+    let bytes = match config_bytes(rt, path) {
         Ok(bytes) => bytes,
-        Err(e) if e.kind() == ErrorKind::OutOfMemory => return Err(no_memory()),
+        Err(e) if e.kind() == ErrorKind::OutOfMemory => return Err(Ending::no_memory()),
         Err(_) => {
-            let path = path.try_clone(rt.alloc()).map_err(|_| no_memory())?;
+            let path = path.try_clone(rt.alloc()).map_err(|_| Ending::no_memory())?;
             return Err(Ending::CannotRead(path));
         }
     };

@@ -1,51 +1,77 @@
 use config_pages::{NoPage, page_source};
 use dispatch::ConfigLine;
-use flatbed_dev::Flatbed;
+use flatbed_dev::{Feeder, Flatbed};
 use hand_dev::HandScanner;
-use net_backend::Why;
 use page_picture::{PageFault, Source};
-use sane_fixed::{ByteOrder, Status, Text};
+use sane_fixed::{ByteOrder, Text};
 use scanimage_cli::Ending;
 use threepass_dev::ThreePass;
 
 /// The order in which the devices of this program give the two bytes of a sample; no picture depends on it.
-const ORDER: ByteOrder = ByteOrder::Little;
+const ORDER: ByteOrder = ByteOrder::Big;
 
-pub fn no_memory() -> Ending {
-    Ending::Ended(Status::NoMem, Why::Memory)
+/// A page that a config line names.
+fn page(rt: &HostRuntime, line: &ConfigLine, text: &Text) -> Result<Source, Ending> {
+    match page_source(rt, text.as_bytes(), line.dpi) {
+        Ok(source) => Ok(source),
+        Err(NoPage::Fault(PageFault::NoMem)) => Err(Ending::no_memory()),
+        Err(why) => Err(Ending::Page(line.line, why)),
+    }
 }
 
-/// The name of the device of a config line, and its page.
+/// The name of the device of a config line.
+fn name(rt: &HostRuntime, line: &ConfigLine) -> Result<Text, Ending> {
+    line.name(rt.alloc()).map_err(|_| Ending::no_memory())
+}
+
+/// The name of the device of a config line, and its one page.
 fn parts(rt: &HostRuntime, line: &ConfigLine) -> Result<(Text, Source), Ending> {
-    let source = match page_source(rt, line.page.as_bytes(), line.dpi) {
-        Ok(source) => source,
-        Err(NoPage::Fault(PageFault::NoMem)) => return Err(no_memory()),
-        Err(why) => return Err(Ending::Page(line.line, why)),
+    // A config has one page for each of these devices.
+    let Some(text) = line.pages.first() else {
+        return Err(Ending::Page(line.line, NoPage::CannotRead));
     };
-    let name = line.name(rt.alloc()).map_err(|_| no_memory())?;
-    Ok((name, source))
+    let source = page(rt, line, text)?;
+    Ok((name(rt, line)?, source))
+}
+
+/// The pages of a config line, in their order.
+fn pages(rt: &HostRuntime, line: &ConfigLine) -> Result<Vec<Source>, Ending> {
+    let mut sources = Vec::new(rt.alloc());
+    for text in &line.pages {
+        let source = page(rt, line, text)?;
+        sources.push(source).map_err(|_| Ending::no_memory())?;
+    }
+    Ok(sources)
 }
 
 pub fn flatbed(rt: &HostRuntime, line: &ConfigLine) -> Result<Box<Flatbed>, Ending> {
     let (name, source) = parts(rt, line)?;
     match Flatbed::new(rt.alloc(), name, source, ORDER) {
-        Ok(device) => Box::new(rt.alloc(), device).map_err(|_| no_memory()),
-        Err(_) => Err(no_memory()),
+        Ok(device) => Box::new(rt.alloc(), device).map_err(|_| Ending::no_memory()),
+        Err(_) => Err(Ending::no_memory()),
     }
 }
 
 pub fn hand_scanner(rt: &HostRuntime, line: &ConfigLine) -> Result<Box<HandScanner>, Ending> {
     let (name, source) = parts(rt, line)?;
     match HandScanner::new(rt.alloc(), name, source, ORDER) {
-        Ok(device) => Box::new(rt.alloc(), device).map_err(|_| no_memory()),
-        Err(_) => Err(no_memory()),
+        Ok(device) => Box::new(rt.alloc(), device).map_err(|_| Ending::no_memory()),
+        Err(_) => Err(Ending::no_memory()),
     }
 }
 
 pub fn three_pass(rt: &HostRuntime, line: &ConfigLine) -> Result<Box<ThreePass>, Ending> {
     let (name, source) = parts(rt, line)?;
     match ThreePass::new(rt.alloc(), name, source, ORDER) {
-        Ok(device) => Box::new(rt.alloc(), device).map_err(|_| no_memory()),
-        Err(_) => Err(no_memory()),
+        Ok(device) => Box::new(rt.alloc(), device).map_err(|_| Ending::no_memory()),
+        Err(_) => Err(Ending::no_memory()),
+    }
+}
+
+pub fn feeder(rt: &HostRuntime, line: &ConfigLine) -> Result<Box<Feeder>, Ending> {
+    let sources = pages(rt, line)?;
+    match Feeder::new(rt.alloc(), name(rt, line)?, sources, ORDER) {
+        Ok(device) => Box::new(rt.alloc(), device).map_err(|_| Ending::no_memory()),
+        Err(_) => Err(Ending::no_memory()),
     }
 }

@@ -7,7 +7,7 @@ mod printing;
 mod task;
 
 use crate::command_line::{command_line, config_lines};
-use crate::devices::{flatbed, hand_scanner, no_memory, three_pass};
+use crate::devices::{feeder, flatbed, hand_scanner, three_pass};
 use crate::task::run_task;
 use device_api::Device;
 use dispatch::Registry;
@@ -20,26 +20,30 @@ fn run(rt: &HostRuntime) -> Result<(), Ending> {
     let (options, settings) = command_line(rt)?;
     let lines = config_lines(rt, &options)?;
     let mut devices: Vec<Box<dyn Device>> = Vec::with_capacity(rt.alloc(), lines.len()).map_err(
-        |_| no_memory(),
+        |_| Ending::no_memory(),
     )?;
     // Boxes of devices are made here, since a function that hands them out would hide what it made.
     for line in &lines {
         match line.kind {
             DeviceKind::Flatbed => {
                 let device = flatbed(rt, line)?;
-                devices.push(device).map_err(|_| no_memory())?;
+                devices.push(device).map_err(|_| Ending::no_memory())?;
             }
             DeviceKind::Hand => {
                 let device = hand_scanner(rt, line)?;
-                devices.push(device).map_err(|_| no_memory())?;
+                devices.push(device).map_err(|_| Ending::no_memory())?;
             }
             DeviceKind::ThreePass => {
                 let device = three_pass(rt, line)?;
-                devices.push(device).map_err(|_| no_memory())?;
+                devices.push(device).map_err(|_| Ending::no_memory())?;
+            }
+            DeviceKind::Feeder => {
+                let device = feeder(rt, line)?;
+                devices.push(device).map_err(|_| Ending::no_memory())?;
             }
         }
     }
-    let mut registry = Registry::new(rt.alloc(), devices).map_err(|_| no_memory())?;
+    let mut registry = Registry::new(rt.alloc(), devices).map_err(|_| Ending::no_memory())?;
     run_task(rt, &mut registry, options, settings)
 }
 

@@ -1,51 +1,37 @@
-use crate::devices::no_memory;
-use crate::printing::{failed_output, print, tell_rounded};
+use crate::printing::print;
 use device_api::Device;
 use dispatch::Registry;
-use local_job::run_local;
-use net_backend::{Job, Outcome, Reports, Task, Why};
 use sane_fixed::{Status, Text};
-use scanimage_cli::{Ending, Options, Output, device_list, options_table, task_of};
-use std::io::{BufWriter, Write};
+use scan_job::{Job, Task, Why};
+use scanimage_cli::{
+    Ending, Folder, Options, Output, Printed, device_list, do_batch, do_job, task_of,
+};
+use std::io::Write;
 
-/// The most bytes that are gathered before they are written.
-const GATHERED: usize = 65_536;
-
-/// Does a job, whose file goes to the output.
-fn reports_of(
-    rt: &HostRuntime,
-    device: &mut dyn Device,
-    job: &Job,
-    output: Output<'_>,
-) -> Result<Reports, Ending> {
-    let mut out = BufWriter::with_capacity(rt.alloc(), GATHERED, output).map_err(|_| no_memory())?;
-    let outcome = run_local(rt.alloc(), device, job, &mut out);
-    let is_written = out.flush().is_ok();
-    match outcome {
-        Outcome::Done(reports) if is_written => Ok(reports),
-        Outcome::Done(_) | Outcome::Running => Err(failed_output()),
-        Outcome::Ended(status, why) => Err(Ending::Ended(status, why)),
-    }
-}
-
-/// Does a job and prints what it tells.
+/// Does a job. A batch has files of its own.
 fn run_job(
     rt: &HostRuntime,
     device: &mut dyn Device,
     job: &Job,
     output: Output<'_>,
-) -> Result<(), Ending> {
-    let reports = reports_of(rt, device, job, output)?;
-    if job.task == Task::Show {
-        let name = device.info().name.as_bytes();
-        let table = options_table(rt.alloc(), name, reports.options.as_slice());
-        print(rt, &table.map_err(|_| no_memory())?)?;
+) -> Result<Printed, Ending> {
+    match job.task {
+        Task::Batch(_) => do_batch(rt.alloc(), device, job, &mut Folder { rt }),
+        Task::List | Task::Show | Task::SetOnly | Task::Scan => {
+            do_job(rt.alloc(), device, job, output)
+        }
     }
-    tell_rounded(rt, &*device, reports.settings.as_slice())
+}
+
+/// Prints what a job tells. Lines that standard error does not take are lost, and no more.
+fn print_all(rt: &HostRuntime, printed: &Printed) -> Result<(), Ending> {
+    print(rt, &printed.table)?;
+    let _ = rt.stderr().write_all(&printed.rounded);
+    Ok(())
 }
 
 fn text(rt: &HostRuntime, bytes: &[u8]) -> Result<Text, Ending> {
-    Text::new(rt.alloc(), bytes).map_err(|_| no_memory())
+    Text::new(rt.alloc(), bytes).map_err(|_| Ending::no_memory())
 }
 
 /// The name of the device that is asked for: that of the first one where none is named.
@@ -53,9 +39,12 @@ fn device_name(rt: &HostRuntime, registry: &Registry, asked: Option<Text>) -> Re
     if let Some(name) = asked {
         return Ok(name);
     }
-    let devices = registry.list(rt.alloc()).map_err(|_| no_memory())?;
+    let devices = registry.list(rt.alloc()).map_err(|_| Ending::no_memory())?;
     match devices.first() {
-        Some(first) => first.name.try_clone(rt.alloc()).map_err(|_| no_memory()),
+        Some(first) => first
+            .name
+            .try_clone(rt.alloc())
+            .map_err(|_| Ending::no_memory()),
         None => Err(Ending::Ended(Status::Inval, Why::Setting)),
     }
 }
@@ -74,8 +63,8 @@ pub fn run_task(
         ..
     } = options;
     if task == Task::List {
-        let devices = registry.list(rt.alloc()).map_err(|_| no_memory())?;
-        let lines = device_list(rt.alloc(), &devices).map_err(|_| no_memory())?;
+        let devices = registry.list(rt.alloc()).map_err(|_| Ending::no_memory())?;
+        let lines = device_list(rt.alloc(), &devices).map_err(|_| Ending::no_memory())?;
         return print(rt, &lines);
     }
     let job = Job {
@@ -92,5 +81,6 @@ pub fn run_task(
     let Ok(mut device) = registry.unplug(job.device.as_bytes()) else {
         return Err(Ending::Ended(Status::Inval, Why::Setting));
     };
-    run_job(rt, &mut *device, &job, output)
+    let printed = run_job(rt, &mut *device, &job, output)?;
+    print_all(rt, &printed)
 }

@@ -1,2 +1,4 @@
 pub mod CutLemmas
 pub mod Lines
+pub mod Reading
+pub mod Finds

@@ -1,10 +1,10 @@
 -- The values that the program's words, which have long names and values behind `=`, give the options.
-use Rattle.std.specs.Prelude.{ℕ, ◌≡◌, Bool, false, ◌||◌, ◌==◌, if◌then◌else◌, Option, Some, None, List, [], ◌∷◌, length, take, drop}
+use Rattle.std.specs.Prelude.{ℕ, ◌≡◌, ◌+◌, ◌-◌, nat_lt, option_map, Bool, false, ◌||◌, ◌==◌, if◌then◌else◌, Option, Some, None, List, [], ◌∷◌, length, take, drop}
 use Rattle.std.specs.Str.{bytes_eq}
 use Rattle.scanimage_cli.specs.WordCut.{long_word}
 use Rattle.scanimage_cli.specs.declared.options.Options.{Options}
 use Rattle.scanimage_cli.specs.declared.program_option.ProgramOption.{ProgramOption}
-use Rattle.scanimage_cli.specs.declared.program_option.ProgramOption.TheVariants.{ListDevices, AllOptions, DontScan, DeviceName, OutputFile, Config, Net, Port, User, PasswordFile}
+use Rattle.scanimage_cli.specs.declared.program_option.ProgramOption.TheVariants.{ListDevices, AllOptions, DontScan, DeviceName, OutputFile, Config, Net, Port, User, PasswordFile, Batch, BatchCount}
 
 -- what follows `=`, where the bytes begin with it
 abbrev pub after_equals : List ℕ → Option (List ℕ)
@@ -29,6 +29,17 @@ abbrev pub has_flag : ProgramOption → List (List ℕ) → Bool
 has_flag option [] = false
 has_flag option (word ∷ words) = bytes_eq word (long_word option) || has_flag option words
 
+-- a decimal digit from 0 on up to this one, as a number
+abbrev pub digit_to : ℕ → ℕ → Option ℕ
+digit_to last b = if nat_lt b 48 || nat_lt last b then None else Some (b - 48)
+
+-- the number of pages that a text names: 1 to 9, or 10 to 16
+abbrev pub count_named : List ℕ → Option ℕ
+count_named [] = None
+count_named (d ∷ []) = if d == 48 then None else digit_to 57 d
+count_named (d ∷ e ∷ []) = if d == 49 then option_map (λ n. 10 + n) (digit_to 54 e) else None
+count_named (_ ∷ _ ∷ _ ∷ _) = None
+
 -- each option has the value that the words give it
 pub record IsOptionsOf (words : List (List ℕ)) (options : Options) : Type 0 where
   pub list_devices : options.list_devices ≡ has_flag ListDevices words
@@ -41,3 +52,5 @@ pub record IsOptionsOf (words : List (List ℕ)) (options : Options) : Type 0 wh
   pub port : options.port ≡ option_value Port words
   pub user : options.user ≡ option_value User words
   pub password_file : options.password_file ≡ option_value PasswordFile words
+  pub batch : options.batch ≡ has_flag Batch words
+  pub batch_count : option_map count_named (option_value BatchCount words) ≡ option_map (λ count. Some count) options.batch_count

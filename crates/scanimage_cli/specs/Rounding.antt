@@ -1,7 +1,7 @@
 -- The settings that were given another value than they asked for.
 use Rattle.std.specs.Prelude.{◌%◌, ◌==◌, Bool, List}
 use Rattle.std.specs.List.{list_any}
-use Rattle.net_backend.specs.declared.report.Report.{Report}
+use Rattle.scan_job.specs.declared.report.Report.{Report}
 
 -- INEXACT, the lowest bit, stands in the report's info
 abbrev pub is_rounded : Report → Bool

@@ -7,7 +7,7 @@ use Rattle.std.specs.Str.{bytes_eq}
 use Rattle.sane_fixed.specs.DecimalReading.{◌>>=◌, fixed_of}
 use Rattle.sane_fixed.specs.ExactDecimal.{exact_decimal}
 use Rattle.scanimage_cli.specs.declared.program_option.ProgramOption.{ProgramOption}
-use Rattle.scanimage_cli.specs.declared.program_option.ProgramOption.TheVariants.{ListDevices, AllOptions, DontScan, DeviceName, OutputFile, Config, Net, Port, User, PasswordFile}
+use Rattle.scanimage_cli.specs.declared.program_option.ProgramOption.TheVariants.{ListDevices, AllOptions, DontScan, DeviceName, OutputFile, Config, Net, Port, User, PasswordFile, Batch, BatchCount}
 use Rattle.scanimage_cli.specs.declared.geometry.Geometry.{Geometry}
 use Rattle.scanimage_cli.specs.declared.geometry.Geometry.TheVariants.{Left, Top, Width, Height}
 use Rattle.scanimage_cli.specs.declared.split.Measures.{Measures}
@@ -31,6 +31,8 @@ long_word Net = codes "--net"
 long_word Port = codes "--port"
 long_word User = codes "--user"
 long_word PasswordFile = codes "--password-file"
+long_word Batch = codes "--batch"
+long_word BatchCount = codes "--batch-count"
 
 abbrev pub short_word : ProgramOption → Option (List ℕ)
 short_word ListDevices = Some (codes "-L")
@@ -43,6 +45,8 @@ short_word Net = None
 short_word Port = None
 short_word User = None
 short_word PasswordFile = None
+short_word Batch = Some (codes "-b")
+short_word BatchCount = None
 
 -- it stands alone
 abbrev pub is_flag : ProgramOption → Bool
@@ -56,9 +60,11 @@ is_flag Net = false
 is_flag Port = false
 is_flag User = false
 is_flag PasswordFile = false
+is_flag Batch = true
+is_flag BatchCount = false
 
 abbrev pub all_options : List ProgramOption
-all_options = ListDevices ∷ AllOptions ∷ DontScan ∷ DeviceName ∷ OutputFile ∷ Config ∷ Net ∷ Port ∷ User ∷ PasswordFile ∷ []
+all_options = ListDevices ∷ AllOptions ∷ DontScan ∷ DeviceName ∷ OutputFile ∷ Config ∷ Net ∷ Port ∷ User ∷ PasswordFile ∷ Batch ∷ BatchCount ∷ []
 
 abbrev pub is_named : ProgramOption → List ℕ → Bool
 is_named option word = bytes_eq word (long_word option) || option_map_or (bytes_eq word) (short_word option) false

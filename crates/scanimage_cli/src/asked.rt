@@ -1,10 +1,11 @@
 ghost use Rattle.std.specs.Prelude.{◌≡◌, ◌↔◌, IsTrue};
-ghost use Rattle.scanimage_cli.specs.Asked.{task_asked, IsNetName, IsLocal};
+ghost use Rattle.scanimage_cli.specs.Asked.{task_asked, IsNetName, IsLocal, IsRightBatch};
 
 use crate::options::Options;
-use net_backend::Task;
+use scan_job::{MOST_PAGES, Task};
 
-/// What the options ask for: a list goes before a table of options, and that before the settings alone.
+/// What the options ask for: a list goes before a table of options, that before the settings alone, and that before
+/// a batch, which is one of 16 pages where no count is said.
 pub fn task_of(options: &Options) -> Task
     ensures { result ≡ task_asked options.now }
 {
@@ -14,6 +15,8 @@ pub fn task_of(options: &Options) -> Task
         Task::Show
     } else if options.dont_scan {
         Task::SetOnly
+    } else if options.batch {
+        Task::Batch(options.batch_count.unwrap_or(MOST_PAGES))
     } else {
         Task::Scan
     }
@@ -43,4 +46,15 @@ pub fn is_local(options: &Options) -> bool
         && options.user.is_none()
         && options.password_file.is_none()
         && !is_net_device
+}
+
+/// Whether the files of a batch are no output file's, and a count is that of a batch.
+pub fn is_right_batch(options: &Options) -> bool
+    ensures { IsTrue result ↔ IsRightBatch options.now }
+{
+    if options.batch {
+        options.output_file.is_none()
+    } else {
+        options.batch_count.is_none()
+    }
 }

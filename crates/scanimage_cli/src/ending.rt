@@ -1,7 +1,7 @@
 use config_pages::NoPage;
 use dispatch::ConfigFault;
-use net_backend::Why;
 use sane_fixed::{Status, Text};
+use scan_job::Why;
 use std::io;
 use std::io::Write;
 
@@ -22,6 +22,20 @@ pub enum Ending {
 impl Ending {
     ghost use Rattle.std.specs.Prelude.{◌≡◌};
     ghost use Rattle.scanimage_cli.specs.Ending.{exit_status};
+
+    /// There was no memory.
+    pub fn no_memory() -> Ending
+        ensures { result ≡ Ending.Ended Status.NoMem Why.Memory }
+    {
+        Ending::Ended(Status::NoMem, Why::Memory)
+    }
+
+    /// The output failed, or cannot be made.
+    pub fn failed_output() -> Ending
+        ensures { result ≡ Ending.Ended Status.IoError Why.Sink }
+    {
+        Ending::Ended(Status::IoError, Why::Sink)
+    }
 
     /// The exit status of the program.
     pub fn exit_status(&self) -> u8

@@ -2,28 +2,38 @@
 #![tactic(auto)]
 
 mod asked;
+mod config_reading;
+mod doing;
 mod ending;
+mod folder;
 mod geometry;
 mod listing;
 mod options;
 mod output;
+mod patient;
 mod program_option;
 mod rounding;
 mod split;
 mod table;
 mod word_cut;
+mod words;
 
-pub use asked::{is_local, is_net_name, task_of};
+pub use asked::{is_local, is_net_name, is_right_batch, task_of};
+pub use config_reading::config_text;
+pub use doing::{Printed, do_batch, do_job};
 pub use ending::Ending;
+pub use folder::Folder;
 pub use geometry::Geometry;
 pub use listing::device_list;
 pub use options::{Options, OptionsFault, read_options};
 pub use output::Output;
+pub use patient::Patient;
 pub use program_option::ProgramOption;
 pub use rounding::{is_any_rounded, rounded_lines};
 pub use split::{Measures, Split, split_words};
 pub use table::options_table;
 pub use word_cut::{Awaited, Item, SplitFault, Told};
+pub use words::words_of;
 
 #[cfg(test)]
 mod tests;

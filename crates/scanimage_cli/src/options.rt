@@ -1,12 +1,13 @@
-ghost use Rattle.std.specs.Prelude.{◌≡◌, IfOk, List, ℕ, option_map};
+ghost use Rattle.std.specs.Prelude.{◌≡◌, Some, IfOk, List, ℕ, option_map};
 ghost use Rattle.scanimage_cli.specs.WordCut.{long_word};
-ghost use Rattle.scanimage_cli.specs.Options.{value_after, option_value, has_flag, IsOptionsOf};
+ghost use Rattle.scanimage_cli.specs.Options.{value_after, option_value, has_flag, count_named, IsOptionsOf};
 
 use crate::program_option::ProgramOption;
 use clap::error::ErrorKind;
 use clap::{Arg, ArgAction, ArgMatches, Command};
 use sane_fixed::{NoMem, Text};
 use std::alloc::{AllocError, Global};
+use thiserror::Error;
 
 /// The options of the program, as scanimage(1) has them.
 #[derive(Drop)]
@@ -22,15 +23,24 @@ pub struct Options {
     pub port: Option<Text>,
     pub user: Option<Text>,
     pub password_file: Option<Text>,
+    pub batch: bool,
+    /// 1 to 16.
+    pub batch_count: Option<u32>,
 }
 
 /// Why the words of the program are no options.
-#[derive(Clone, Copy, Debug, PartialEq, Eq)]
+#[derive(Clone, Copy, Debug, PartialEq, Eq, Error)]
 pub enum OptionsFault {
     /// `clap` refuses them, or reads another value than the word has.
+    #[error("bad command line")]
     Bad = 1,
+    #[error("out of memory")]
     NoMem = 2,
 }
+
+const _: () = prove!(OptionsFault::Bad as u32 == 1);
+
+const _: () = prove!(OptionsFault::NoMem as u32 == 2);
 
 impl From<AllocError> for OptionsFault {
     fn from(_: AllocError) -> Self {
@@ -109,7 +119,9 @@ fn command<'a>(alloc: Global) -> Result<Command<'a>, AllocError> {
         .arg(value(alloc, "net"))?
         .arg(value(alloc, "port").value_parser(clap::value_parser!(u16).range(1..)))?
         .arg(value(alloc, "user"))?
-        .arg(value(alloc, "password-file"))
+        .arg(value(alloc, "password-file"))?
+        .arg(flag(alloc, "batch"))?
+        .arg(value(alloc, "batch-count").value_parser(clap::value_parser!(u32).range(1..=16)))
 }
 
 /// What `clap` reads of the words.
@@ -184,6 +196,31 @@ fn agreed_port(
     }
 }
 
+/// The number of pages that a text names, 1 to 16.
+fn count_named(text: &[u8]) -> Option<u32>
+    ensures { result ≡ count_named text.now }
+{
+    match text {
+        [digit @ b'1'..=b'9'] => Some(u32::from(*digit - b'0')),
+        [b'1', digit @ b'0'..=b'6'] => Some(10 + u32::from(*digit - b'0')),
+        _ => None,
+    }
+}
+
+/// The count of a batch's pages, which `clap` has read as a number.
+fn agreed_count(found: Option<u32>, words: &[Text]) -> Result<Option<u32>, OptionsFault>
+    ensures { IfOk result (λ count. option_map count_named (option_value ProgramOption.BatchCount words.now) ≡ option_map (λ n. Some n) count) }
+{
+    match (found, option_value(ProgramOption::BatchCount, words)) {
+        (None, None) => Ok(None),
+        (Some(found), Some(text)) => match count_named(text) {
+            Some(count) if count == found => Ok(Some(count)),
+            _ => Err(OptionsFault::Bad),
+        },
+        _ => Err(OptionsFault::Bad),
+    }
+}
+
 /// Each option with the value that its word has, where `clap` reads the same.
 fn options_found(alloc: Global, found: &ArgMatches, words: &[Text]) -> Result<Options, OptionsFault>
     ensures { IfOk result (IsOptionsOf words.now) }
@@ -221,6 +258,8 @@ fn options_found(alloc: Global, found: &ArgMatches, words: &[Text]) -> Result<Op
         ProgramOption::PasswordFile,
         words,
     )?;
+    let batch = agreed_flag(found.get_flag("batch"), ProgramOption::Batch, words)?;
+    let batch_count = agreed_count(found.get_one::<u32>("batch-count"), words)?;
     Ok(Options {
         list_devices,
         all_options,
@@ -232,11 +271,13 @@ fn options_found(alloc: Global, found: &ArgMatches, words: &[Text]) -> Result<Op
         port,
         user,
         password_file,
+        batch,
+        batch_count,
     })
 }
 
 /// The options that the program's words give, as `clap` reads them, each with the value that its word
-/// has. `Bad` where `clap` refuses the words (a port that is not 1 to 65,535, a word that is not UTF-8)
+/// has. `Bad` where `clap` refuses the words (a port that is not 1 to 65,535, a count that is not 1 to 16, a word that is not UTF-8)
 /// or reads another value; `NoMem` where there is no memory.
 pub fn read_options(alloc: Global, words: &[Text]) -> Result<Options, OptionsFault>
     ensures { IfOk result (IsOptionsOf words.now) }

@@ -14,10 +14,12 @@ pub enum ProgramOption {
     Port,
     User,
     PasswordFile,
+    Batch,
+    BatchCount,
 }
 
 /// All of them.
-const OPTIONS: [ProgramOption; 10] = [
+const OPTIONS: [ProgramOption; 12] = [
     ProgramOption::ListDevices,
     ProgramOption::AllOptions,
     ProgramOption::DontScan,
@@ -28,6 +30,8 @@ const OPTIONS: [ProgramOption; 10] = [
     ProgramOption::Port,
     ProgramOption::User,
     ProgramOption::PasswordFile,
+    ProgramOption::Batch,
+    ProgramOption::BatchCount,
 ];
 
 impl ProgramOption {
@@ -49,6 +53,8 @@ impl ProgramOption {
             ProgramOption::Port => "--port",
             ProgramOption::User => "--user",
             ProgramOption::PasswordFile => "--password-file",
+            ProgramOption::Batch => "--batch",
+            ProgramOption::BatchCount => "--batch-count",
         }
     }
 
@@ -62,11 +68,13 @@ impl ProgramOption {
             ProgramOption::DontScan => Some("-n"),
             ProgramOption::DeviceName => Some("-d"),
             ProgramOption::OutputFile => Some("-o"),
+            ProgramOption::Batch => Some("-b"),
             ProgramOption::Config
             | ProgramOption::Net
             | ProgramOption::Port
             | ProgramOption::User
-            | ProgramOption::PasswordFile => None,
+            | ProgramOption::PasswordFile
+            | ProgramOption::BatchCount => None,
         }
     }
 
@@ -76,7 +84,10 @@ impl ProgramOption {
     {
         matches!(
             self,
-            ProgramOption::ListDevices | ProgramOption::AllOptions | ProgramOption::DontScan
+            ProgramOption::ListDevices
+                | ProgramOption::AllOptions
+                | ProgramOption::DontScan
+                | ProgramOption::Batch
         )
     }
 }

@@ -1,9 +1,9 @@
 ghost use Rattle.std.specs.Prelude.{◌≡◌};
 ghost use Rattle.scanimage_cli.specs.Rounding.{is_rounded, is_any_rounded};
 
-use net_backend::Report;
 use option_desc::{Descriptor, show_text};
 use sane_fixed::{Info, NoMem};
+use scan_job::Report;
 use std::alloc::Global;
 
 /// The option that a report is of.

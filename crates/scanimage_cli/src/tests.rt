@@ -1,4 +1,5 @@
 mod command_lines;
+mod failing;
 mod printed;
 
 use sane_fixed::Text;

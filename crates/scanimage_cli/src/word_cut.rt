@@ -5,6 +5,7 @@ use crate::geometry::{Geometry, geometry_named};
 use crate::program_option::{ProgramOption, option_named};
 use sane_fixed::{Fixed, NoMem, Text};
 use std::alloc::Global;
+use thiserror::Error;
 
 /// A piece that the words of a command line are cut into.
 #[derive(Drop)]
@@ -36,13 +37,19 @@ pub enum Told {
 }
 
 /// Why words cannot be cut.
-#[derive(Clone, Copy, Debug, PartialEq, Eq)]
+#[derive(Clone, Copy, Debug, PartialEq, Eq, Error)]
 pub enum SplitFault {
     /// They are no command line of scanimage.
+    #[error("bad command line")]
     Bad = 1,
     /// No memory for the pieces.
+    #[error("out of memory")]
     NoMem = 2,
 }
+
+const _: () = prove!(SplitFault::Bad as u32 == 1);
+
+const _: () = prove!(SplitFault::NoMem as u32 == 2);
 
 impl From<NoMem> for SplitFault {
     ghost use Rattle.std.specs.Prelude.{◌≡◌};

@@ -1,3 +1,5 @@
+use thiserror::Error;
+
 /// How many lines a text may have, and how many bytes a line.
 #[derive(Clone, Copy, Debug, PartialEq, Eq)]
 pub struct Limits {
@@ -6,13 +8,19 @@ pub struct Limits {
 }
 
 /// Why a line is beyond the limits, in the order of the tests.
-#[derive(Clone, Copy, Debug, PartialEq, Eq)]
+#[derive(Clone, Copy, Debug, PartialEq, Eq, Error)]
 pub enum LimitFault {
     /// The text has more lines than it may have.
+    #[error("too many lines")]
     TooMany = 1,
     /// The line has more bytes than a line may have.
+    #[error("line too long")]
     TooLong = 2,
 }
+
+const _: () = prove!(LimitFault::TooMany as u32 == 1);
+
+const _: () = prove!(LimitFault::TooLong as u32 == 2);
 
 impl Limits {
     ghost use Rattle.std.specs.Prelude.{OnOk, IfErr};

@@ -1,6 +1,6 @@
 use crate::ThreePass;
 use device_api::Device;
-use option_desc::Value;
+use option_desc::{Value, Words};
 use page_picture::{MemoryPage, Source, read_page};
 use sane_fixed::{ByteOrder, Fixed, FrameFormat, Status, Text};
 use std::alloc::Global;
@@ -17,6 +17,10 @@ const BR_X: u32 = 6;
 const BR_Y: u32 = 7;
 
 const THREE_PASS_ORDER: u32 = 8;
+
+const GAMMA_TABLE: u32 = 9;
+
+const RED_GAMMA_TABLE: u32 = 10;
 
 fn page(rt: &impl Abort, alloc: Global) -> Source {
     let file = b"P6\n2 1\n65535\n\x00\x01\x00\x02\x00\x03\x00\x04\x00\x05\x01\x00";
@@ -119,6 +123,48 @@ fn nothing_changes_between_passes(rt: HostRuntime) {
     assert!(rt; scanner.load(page(&rt, alloc)).is_ok());
 }
 
+/// The table of 256 words 255 - i, or of i / 2.
+fn table(rt: &impl Abort, alloc: Global, inverted: bool) -> Value {
+    let mut words = Vec::new(alloc);
+    for i in 0..=255u8 {
+        let entry = if inverted { 255 - i } else { i / 2 };
+        words.push(i32::from(entry)).expect(rt, "memory");
+    }
+    Value::Words(Words::from_vec(words))
+}
+
+/// The channel's table has the entry for the gamma table's entry.
+#[test]
+fn a_table_per_channel(rt: HostRuntime) {
+    let alloc = rt.alloc();
+    let mut scanner = prepared(&rt, alloc, b"RGB");
+    let file = b"P6\n1 1\n255\n\x0a\x0b\x0c";
+    let other = Source::Memory(MemoryPage::new(read_page(alloc, file, 26).expect(&rt, "a page")));
+    assert!(rt; scanner.load(other).is_ok());
+    // At depth 16 no channel has a table.
+    let halves = table(&rt, alloc, false);
+    let refused = scanner.set(alloc, RED_GAMMA_TABLE, &halves).err();
+    assert_eq!(rt; refused, Some(Status::Inval));
+    set(&rt, alloc, &mut scanner, DEPTH, Value::Int(8));
+    set(&rt, alloc, &mut scanner, BR_X, Value::Fixed(Fixed(65536)));
+    set(
+        &rt,
+        alloc,
+        &mut scanner,
+        GAMMA_TABLE,
+        table(&rt, alloc, true),
+    );
+    set(&rt, alloc, &mut scanner, RED_GAMMA_TABLE, halves);
+    for byte in [0x7A, 0xF4, 0xF3] {
+        scanner.start(alloc).expect(&rt, "a start");
+        let mut line = [0u8; 4];
+        assert_eq!(rt; scanner.read(&mut line), Ok(1));
+        assert_eq!(rt; line[0], byte);
+        assert_eq!(rt; scanner.read(&mut line), Err(Status::Eof));
+    }
+    assert!(rt; scanner.at_rest());
+}
+
 #[test]
 fn gray_in_one_frame(rt: HostRuntime) {
     let alloc = rt.alloc();
@@ -134,5 +180,5 @@ fn gray_in_one_frame(rt: HostRuntime) {
         scanner.get(alloc, THREE_PASS_ORDER).err(),
         Some(Status::Inval)
     );
-    assert_eq!(rt; scanner.get(alloc, 0).ok(), Some(Value::Int(10)));
+    assert_eq!(rt; scanner.get(alloc, 0).ok(), Some(Value::Int(13)));
 }

@@ -1,31 +1,32 @@
 -- A virtual scanner from inside.
+use Rattle.std.specs.Prelude.{◌≡◌, ◌≤◌, List, map, true, vec_capacity}
 use Rattle.page_picture.specs.Shown.{shown}
 use Rattle.page_picture.specs.Source.{SourceState}
 use Rattle.scan_frames.specs.Reading.{IsFrame}
 use Rattle.scan_frames.specs.declared.setup.Setup.{Setup}
-use Rattle.device_api.specs.Allowed.{IsAllowed}
-use Rattle.device_api.specs.State.{DeviceState}
+use Rattle.device_api.specs.Allowed.{HasLimits}
+use Rattle.device_api.specs.State.{DeviceState, Phase, feeds, held_from, tray_room}
+use Rattle.device_api.specs.declared.device_info.DeviceInfo.{DeviceInfo}
+use Rattle.virtual_scanner.specs.First.{OfFirst}
 use Rattle.virtual_scanner.specs.declared.at.At.{At}
 use Rattle.virtual_scanner.specs.declared.at.At.TheVariants.{Rest, Between as IsBetween, Reading as IsReading}
 use Rattle.virtual_scanner.specs.Phases.{phase_of}
 use Rattle.virtual_scanner.specs.declared.scanner.VirtualScanner.TheInside.{Inside}
 
-abbrev pub view_of : Inside → DeviceState
-view_of d = record {
-  info = d.info;
-  setup = d.setup;
-  page = (shown d.source).page;
-  steady = (shown d.source).steady;
-  failures = (shown d.source).failures;
-  phase = phase_of d.at;
-}
+-- a scanner with the pages of these sources
+abbrev pub device_on : DeviceInfo → Setup → List SourceState → Phase → DeviceState
+device_on info setup sources phase = record { info = info; setup = setup; pages = map held_from sources; phase = phase }
 
--- a frame that is read is one of the setup and the source
-abbrev pub HasFrame : At → Setup → SourceState → Type 0
-HasFrame (Rest _) setup s = Unit {0}
-HasFrame (IsBetween _) setup s = Unit {0}
-HasFrame (IsReading frame) setup s = IsFrame s setup frame
+abbrev pub view_of : Inside → DeviceState
+view_of d = device_on d.info d.setup (map shown d.tray.items) (phase_of d.at)
+
+-- a frame that is read is one of the setup and the first page
+abbrev pub HasFrame : At → Setup → List SourceState → Type 0
+HasFrame (Rest _) setup sources = Unit {0}
+HasFrame (IsBetween _) setup sources = Unit {0}
+HasFrame (IsReading frame) setup sources = OfFirst (λ source. IsFrame source setup frame) sources
 
 pub record IsWhole (d : Inside) : Type 0 where
-  pub allowed : IsAllowed d.setup
-  pub frame : HasFrame d.at d.setup (shown d.source)
+  pub limits : HasLimits (view_of d)
+  pub room : feeds (view_of d) ≡ true → tray_room ≤ vec_capacity d.tray
+  pub frame : HasFrame d.at d.setup (map shown d.tray.items)

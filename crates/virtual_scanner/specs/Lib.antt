@@ -1,4 +1,6 @@
 pub mod New
 pub mod Phases
 pub mod Answers
+pub mod First
 pub mod Inside
+pub mod Runs

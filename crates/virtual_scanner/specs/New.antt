@@ -1,10 +1,10 @@
 -- A virtual scanner that was made.
-use Rattle.std.specs.Prelude.{ℕ, List, false, codes}
+use Rattle.std.specs.Prelude.{ℕ, List, [], ◌∷◌, map, false, codes}
 use Rattle.sane_fixed.specs.declared.byte_order.ByteOrder.{ByteOrder}
 use Rattle.page_picture.specs.Source.{SourceState}
 use Rattle.page_picture.specs.declared.scene.DeviceKind.{DeviceKind}
-use Rattle.page_picture.specs.declared.scene.DeviceKind.TheVariants.{Flatbed, Hand, ThreePass}
-use Rattle.device_api.specs.State.{DeviceState}
+use Rattle.page_picture.specs.declared.scene.DeviceKind.TheVariants.{Flatbed, Hand, ThreePass, Feeder}
+use Rattle.device_api.specs.State.{DeviceState, held_from}
 use Rattle.device_api.specs.State.Phase.{AtRest}
 use Rattle.device_api.specs.Values.{defaults}
 use Rattle.device_api.specs.declared.device_info.DeviceInfo.{DeviceInfo}
@@ -13,22 +13,26 @@ abbrev pub model_of : DeviceKind → List ℕ
 model_of Flatbed = codes "Flatbed"
 model_of Hand = codes "Hand"
 model_of ThreePass = codes "ThreePass"
+model_of Feeder = codes "Feeder"
 
 abbrev pub class_of : DeviceKind → List ℕ
 class_of Flatbed = codes "flatbed scanner"
 class_of Hand = codes "handheld scanner"
 class_of ThreePass = codes "flatbed scanner"
+class_of Feeder = codes "sheetfed scanner"
 
 abbrev pub info_of : DeviceKind → List ℕ → DeviceInfo
 info_of kind name = record { name = name; vendor = codes "Virtual"; model = model_of kind; class = class_of kind }
 
--- a scanner at rest, its options at their defaults
-abbrev pub new_scanner : DeviceKind → List ℕ → SourceState → ByteOrder → DeviceState
-new_scanner kind name source order = record {
+-- a scanner with these pages at rest, its options at their defaults
+abbrev pub new_device : DeviceKind → List ℕ → List SourceState → ByteOrder → DeviceState
+new_device kind name sources order = record {
   info = info_of kind name;
   setup = defaults kind order;
-  page = source.page;
-  steady = source.steady;
-  failures = source.failures;
+  pages = map held_from sources;
   phase = AtRest false;
 }
+
+-- one with one page
+abbrev pub new_scanner : DeviceKind → List ℕ → SourceState → ByteOrder → DeviceState
+new_scanner kind name source order = new_device kind name (source ∷ []) order

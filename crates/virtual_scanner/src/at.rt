@@ -2,7 +2,7 @@ ghost use Rattle.std.specs.Prelude.{◌≡◌, ◌<◌, length};
 ghost use Rattle.page_picture.specs.Shown.{shown};
 ghost use Rattle.scan_frames.specs.Frames.{IsSetup};
 ghost use Rattle.scan_frames.specs.Reading.{IsFrame, given_in};
-ghost use Rattle.device_api.specs.State.{after_told, told_at};
+ghost use Rattle.device_api.specs.State.{after_told, pass_told, told_at};
 ghost use Rattle.virtual_scanner.specs.Phases.{IsStill, pass_to_start, phase_of};
 ghost use Rattle.virtual_scanner.specs.Answers.{Answers};
 
@@ -29,6 +29,17 @@ impl At {
             At::Rest(_) => Some(0),
             At::Between(ended) => Some(*ended),
             At::Reading(_) => None,
+        }
+    }
+
+    /// The pass whose frame was started last; at rest, the first.
+    pub fn pass_told(&self) -> u32
+        ensures { result ≡ pass_told (phase_of self.now) }
+    {
+        match self {
+            At::Rest(_) => 0,
+            At::Between(ended) => ended.saturating_sub(1),
+            At::Reading(frame) => frame.pass(),
         }
     }
 }

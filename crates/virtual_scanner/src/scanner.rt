@@ -1,23 +1,27 @@
-ghost use Rattle.std.specs.Prelude.{◌≡◌, IfOk, IfErr};
+ghost use Rattle.std.specs.Prelude.{◌≡◌, ◌≤◌, false, map, vec_len, IfOk, IfErr};
 ghost use Rattle.page_picture.specs.Shown.{shown};
-ghost use Rattle.virtual_scanner.specs.New.{class_of, info_of, model_of, new_scanner};
+ghost use Rattle.page_picture.specs.declared.scene.DeviceKind.TheVariants.{Feeder};
+ghost use Rattle.device_api.specs.State.{goes_to, is_feeder, stopped, tray_room};
+ghost use Rattle.virtual_scanner.specs.New.{class_of, info_of, model_of, new_device, new_scanner};
 
-use crate::at::{At, after, answer_read};
+use crate::at::{At, after};
+use crate::tray::{TRAY_ROOM, begin_frame, let_go, params_on, put_page, read_frame, see_limits};
 use device_api::{Device, DeviceInfo, defaults, descriptors, get_option, reset_setup, set_option};
 use option_desc::{Descriptor, Value};
 use page_picture::{DeviceKind, PageSource, Source};
 use sane_fixed::{ByteOrder, Info, Params, Status, Text, TextFault};
-use scan_frames::{FrameRows, Setup, params};
+use scan_frames::Setup;
 use std::alloc::Global;
 use std::marker::Model;
 
-/// A virtual scanner: it keeps no page but its source, and while a frame is read one row and one line. Contracts see a
-/// `DeviceState`.
+/// A virtual scanner: it keeps of its pages the sources alone, and while a frame is read one row and one line. Contracts
+/// see a `DeviceState`.
 #[derive(Drop)]
 pub struct VirtualScanner {
     info: DeviceInfo,
     setup: Setup,
-    source: Source,
+    /// The pages; a feeder's has room for 16.
+    tray: Vec<Source>,
     at: At,
 }
 
@@ -40,6 +44,7 @@ fn model(kind: DeviceKind) -> &'static [u8]
         DeviceKind::Flatbed => b"Flatbed",
         DeviceKind::Hand => b"Hand",
         DeviceKind::ThreePass => b"ThreePass",
+        DeviceKind::Feeder => b"Feeder",
     }
 }
 
@@ -49,6 +54,7 @@ fn class(kind: DeviceKind) -> &'static [u8]
     match kind {
         DeviceKind::Flatbed | DeviceKind::ThreePass => b"flatbed scanner",
         DeviceKind::Hand => b"handheld scanner",
+        DeviceKind::Feeder => b"sheetfed scanner",
     }
 }
 
@@ -74,18 +80,74 @@ impl VirtualScanner {
         source: Source,
         order: ByteOrder,
     ) -> Result<Self, Source>
+        requires { is_feeder kind ≡ false }
         ensures ok { IfOk result (λ scanner. scanner ≡ new_scanner kind name (shown source) order) }
         ensures err { IfErr result (λ back. back ≡ source) }
     {
         let Ok(info) = device_info(alloc, kind, name) else {
             return Err(source);
         };
+        // The limits of a page.
+        let _size = source.size();
+        let mut tray = Vec::new(alloc);
+        tray.push(source).map_err(|failed| failed.value)?;
         Ok(VirtualScanner {
             info,
             setup: defaults(kind, order),
-            source,
+            tray,
             at: At::Rest(false),
         })
+    }
+
+    /// A feeder of that name at rest, its options at their defaults, with at most 16 pages in its tray. The sources come
+    /// back for want of memory.
+    pub fn feeder(
+        alloc: Global,
+        name: Text,
+        pages: Vec<Source>,
+        order: ByteOrder,
+    ) -> Result<Self, Vec<Source>>
+        requires { vec_len pages ≤ tray_room }
+        ensures ok { IfOk result (λ scanner. scanner ≡ new_device Feeder name (map shown pages.items) order) }
+        ensures err { IfErr result (λ back. back.items ≡ pages.items) }
+    {
+        let mut tray = pages;
+        see_limits(&tray);
+        if tray.reserve(TRAY_ROOM - tray.len()).is_err() {
+            return Err(tray);
+        }
+        let Ok(info) = device_info(alloc, DeviceKind::Feeder, name) else {
+            return Err(tray);
+        };
+        Ok(VirtualScanner {
+            info,
+            setup: defaults(DeviceKind::Feeder, order),
+            tray,
+            at: At::Rest(false),
+        })
+    }
+
+    /// Where the scan is over, a feeder lets go of the page that was scanned.
+    fn settle(&mut self)
+        ensures { self.new ≡ goes_to self.old self.old.phase }
+    {
+        match self.at {
+            At::Rest(_) => let_go(self.setup.scene.kind, &mut self.tray),
+            At::Between(_) | At::Reading(_) => {}
+        }
+    }
+
+    /// No scan is under way after a start that was refused.
+    fn stop(&mut self)
+        ensures { self.new ≡ stopped self.old }
+    {
+        match self.at {
+            At::Rest(_) => self.at = At::Rest(false),
+            At::Between(_) | At::Reading(_) => {
+                self.at = At::Rest(false);
+                self.settle();
+            }
+        }
     }
 }
 
@@ -105,6 +167,7 @@ impl Device for VirtualScanner {
     }
 
     fn reset(&mut self) {
+        self.cancel();
         reset_setup(&mut self.setup);
         self.at = At::Rest(false);
     }
@@ -121,26 +184,24 @@ impl Device for VirtualScanner {
     }
 
     fn params(&self) -> Params {
-        // The limits of a page.
-        let _size = self.source.size();
-        match &self.at {
-            At::Rest(_) => params(&self.source, &self.setup, 0),
-            At::Between(ended) => params(&self.source, &self.setup, ended.saturating_sub(1)),
-            At::Reading(frame) => params(&self.source, &self.setup, frame.pass()),
-        }
+        params_on(&self.tray, &self.setup, self.at.pass_told())
     }
 
     fn start(&mut self, alloc: Global) -> Result<(), Status> {
         let Some(pass) = self.at.pass_to_start() else {
             return Err(Status::DeviceBusy);
         };
-        match FrameRows::begin(alloc, &mut self.source, &self.setup, pass) {
+        if self.tray.is_empty() {
+            self.stop();
+            return Err(Status::NoDocs);
+        }
+        match begin_frame(alloc, &mut self.tray, &self.setup, pass) {
             Ok(frame) => {
                 self.at = At::Reading(frame);
                 Ok(())
             }
             Err(fault) => {
-                self.at = At::Rest(false);
+                self.stop();
                 Err(Status::from(fault))
             }
         }
@@ -156,10 +217,11 @@ impl Device for VirtualScanner {
             At::Between(_) => Err(Status::Inval),
             At::Reading(frame) => {
                 let pass = frame.pass();
-                match answer_read(frame, &mut self.source, &self.setup, buf) {
+                match read_frame(frame, &mut self.tray, &self.setup, buf) {
                     Ok(n) => Ok(n),
                     Err(status) => {
                         self.at = after(&self.setup, pass, status);
+                        self.settle();
                         Err(status)
                     }
                 }
@@ -170,7 +232,10 @@ impl Device for VirtualScanner {
     fn cancel(&mut self) {
         match self.at {
             At::Rest(_) => {}
-            At::Between(_) | At::Reading(_) => self.at = At::Rest(true),
+            At::Between(_) | At::Reading(_) => {
+                self.at = At::Rest(true);
+                self.settle();
+            }
         }
     }
 
@@ -180,10 +245,7 @@ impl Device for VirtualScanner {
 
     fn load(&mut self, page: Source) -> Result<(), Source> {
         match self.at {
-            At::Rest(_) => {
-                self.source = page;
-                Ok(())
-            }
+            At::Rest(_) => put_page(self.setup.scene.kind, &mut self.tray, page),
             At::Between(_) | At::Reading(_) => Err(page),
         }
     }

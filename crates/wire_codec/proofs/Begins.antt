@@ -11,12 +11,12 @@ use Rattle.wire_format.specs.Lawful.{Takes, Reads}
 use Rattle.wire_format.proofs.Loops.{with_front, no_front}
 use Rattle.wire_codec.specs.declared.begun.Elements.{Elements}
 use Rattle.wire_codec.specs.declared.begun.Begun.{Begun}
-use Rattle.wire_codec.specs.declared.message.Reply.{Reply}
-use Rattle.wire_codec.specs.declared.message.Reply.TheVariants as replies
-use Rattle.wire_codec.specs.declared.message.Procedure.TheVariants as procedures
-use Rattle.wire_codec.specs.Message.{message_limit, up_to, status, next_device, last_device, devices_of, devices, next_descriptor, descriptors, reply}
+use Rattle.wire_message.specs.declared.message.Reply.{Reply}
+use Rattle.wire_message.specs.declared.message.Reply.TheVariants as replies
+use Rattle.wire_message.specs.declared.message.Procedure.TheVariants as procedures
+use Rattle.wire_message.specs.Message.{message_limit, up_to, status, next_device, last_device, devices_of, devices, next_descriptor, descriptors, reply}
 use Rattle.wire_codec.specs.Begun.{behind, end_of, devices_end, options_end, IsBegun, DevicesBegun, OptionsBegun, HasBegun, ReadsOn}
-use Rattle.wire_codec.proofs.Messages.{up_to_laws, status_laws}
+use Rattle.wire_message.proofs.Messages.{up_to_laws, status_laws}
 use Rattle.wire_format.proofs.Combining.{IsBytes-behind}
 use Rattle.sane_fixed.specs.declared.status.Status.{Status}
 use Rattle.device_api.specs.declared.device_info.DeviceInfo.{DeviceInfo}

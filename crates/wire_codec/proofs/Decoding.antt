@@ -11,8 +11,8 @@ use Rattle.wire_format.specs.Format.{Format, Fails, IsBytes}
 use Rattle.wire_format.specs.Lawful.{Takes, Reads}
 use Rattle.wire_format.specs.Limit.{limited, WantsMore, IsNoStart}
 use Rattle.wire_format.proofs.Limits.{limited_sound, limited_more, limited_bad, limited_first}
-use Rattle.wire_codec.specs.declared.fault.WireFault.{WireFault}
-use Rattle.wire_codec.specs.declared.fault.WireFault.TheVariants as wire
+use Rattle.wire_message.specs.declared.fault.WireFault.{WireFault}
+use Rattle.wire_message.specs.declared.fault.WireFault.TheVariants as wire
 use Rattle.wire_codec.specs.Waiting.{Waiting, Tells, Stops, IsFaultOf, faulty, Taken, IsSpelled, AreSpelled, Fed}
 
 -- an error of reading tells what reading gives

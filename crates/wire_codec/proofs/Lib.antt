@@ -1,16 +1,4 @@
-pub mod Steps
-pub mod Pieces
-pub mod TheKinds
-pub mod Messages
 pub mod Decoding
-pub mod Spelled
-pub mod Requests
-pub mod Encoding
 pub mod Pendings
-pub mod AtValue
-pub mod Devices
-pub mod Options
-pub mod Descriptors
-pub mod Replies
 pub mod Begins
 pub mod Passing

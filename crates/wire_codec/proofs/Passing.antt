@@ -4,8 +4,8 @@ use Rattle.wire_format.specs.declared.fault.Stop.{Stop}
 use Rattle.wire_format.specs.declared.fault.ReadError.{ReadError}
 use Rattle.wire_format.specs.declared.fault.ReadError.TheVariants as errors
 use Rattle.wire_format.specs.Kind.{word_of_kind}
-use Rattle.wire_codec.specs.Kinds.{length_from}
-use Rattle.wire_codec.specs.Message.{entry, passed_entry, string_list}
+use Rattle.wire_message.specs.Kinds.{length_from}
+use Rattle.wire_message.specs.Message.{entry, passed_entry, string_list}
 use Rattle.wire_format.specs.Format.{◌>>=◌, Format, Fails, made, places}
 
 abbrev put_first : {A : Type 0} → A → List A × List ℕ → Result (List A × List ℕ) Stop

@@ -9,10 +9,10 @@ use Rattle.wire_format.specs.Lawful.{IsStillWaiting, still_wanted}
 use Rattle.wire_format.proofs.Limits.{limited_waits}
 use Rattle.wire_format.proofs.Runs.{all_true}
 use Rattle.wire_codec.specs.declared.decoder.Pending.{Pending}
-use Rattle.wire_codec.specs.declared.message.Procedure.{Procedure}
-use Rattle.wire_codec.specs.Message.{message_limit, request, reply}
+use Rattle.wire_message.specs.declared.message.Procedure.{Procedure}
+use Rattle.wire_message.specs.Message.{message_limit, request, reply}
 use Rattle.wire_codec.specs.Pending.{IsPending, StopsAt}
-use Rattle.wire_codec.proofs.Messages.{request_laws, reply_reads}
+use Rattle.wire_message.proofs.Messages.{request_laws, reply_reads}
 
 still_at : (procedure : Option Procedure) (front more : List ℕ) (wanted : Wanted) → IsBytes (front ++ more) → StopsAt procedure front wanted → IsStillWaiting wanted more → length (front ++ more) ≤ message_limit
     → StopsAt procedure (front ++ more) (still_wanted wanted (length more))

@@ -7,10 +7,10 @@ use Rattle.device_api.specs.declared.device_info.DeviceInfo.{DeviceInfo}
 use Rattle.wire_codec.specs.declared.begun.Elements.{Elements}
 use Rattle.wire_codec.specs.declared.begun.Devices.{Devices}
 use Rattle.wire_codec.specs.declared.begun.Begun.{Begun}
-use Rattle.wire_codec.specs.declared.message.Procedure.TheVariants as procedures
-use Rattle.wire_codec.specs.declared.message.Reply.{Reply}
-use Rattle.wire_codec.specs.declared.message.Reply.TheVariants as replies
-use Rattle.wire_codec.specs.Message.{message_limit, next_device, last_device, next_descriptor, reply}
+use Rattle.wire_message.specs.declared.message.Procedure.TheVariants as procedures
+use Rattle.wire_message.specs.declared.message.Reply.{Reply}
+use Rattle.wire_message.specs.declared.message.Reply.TheVariants as replies
+use Rattle.wire_message.specs.Message.{message_limit, next_device, last_device, next_descriptor, reply}
 
 -- the elements that are left, behind those that were read, and then the end of the reply
 abbrev pub behind : {A : Type 0} → Format A → (List A → Format Reply) → List A → ℕ → Format Reply

@@ -4,8 +4,8 @@ use Rattle.wire_format.specs.declared.fault.Wanted.{Wanted}
 use Rattle.wire_format.specs.declared.fault.Stop.TheVariants.{More}
 use Rattle.wire_format.specs.Limit.{limited}
 use Rattle.wire_codec.specs.declared.decoder.Pending.{Pending}
-use Rattle.wire_codec.specs.declared.message.Procedure.{Procedure}
-use Rattle.wire_codec.specs.Message.{message_limit, request, reply}
+use Rattle.wire_message.specs.declared.message.Procedure.{Procedure}
+use Rattle.wire_message.specs.Message.{message_limit, request, reply}
 
 -- reading the bytes, for a request or for the reply to a procedure, wants more
 abbrev pub StopsAt : Option Procedure → List ℕ → Wanted → Type 0

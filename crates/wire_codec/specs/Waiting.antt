@@ -9,22 +9,18 @@ use Rattle.wire_format.specs.declared.fault.ReadError.{ReadError}
 use Rattle.wire_format.specs.declared.fault.ReadError.TheVariants as read_errors
 use Rattle.wire_format.specs.Format.{Format}
 use Rattle.wire_format.specs.Limit.{limited, IsFirstFault}
-use Rattle.wire_codec.specs.declared.fault.WireFault.{WireFault}
-use Rattle.wire_codec.specs.declared.fault.WireFault.TheVariants as wire
-use Rattle.wire_codec.specs.declared.message.Procedure.{Procedure}
-use Rattle.wire_codec.specs.declared.message.Request.{Request}
-use Rattle.wire_codec.specs.declared.message.Reply.{Reply}
-use Rattle.wire_codec.specs.Message.{message_limit, request, reply}
+use Rattle.wire_message.specs.declared.fault.WireFault.{WireFault}
+use Rattle.wire_message.specs.declared.fault.WireFault.TheVariants as wire
+use Rattle.wire_message.specs.declared.message.Procedure.{Procedure}
+use Rattle.wire_message.specs.declared.message.Request.{Request}
+use Rattle.wire_message.specs.declared.message.Reply.{Reply}
+use Rattle.wire_message.specs.Faults.{wire_fault}
+use Rattle.wire_message.specs.Message.{message_limit, request, reply}
 
 -- the bytes no message was taken from, and the fault from which on it gives none
 pub record Waiting : Type 0 where
   pub rest : List ℕ
   pub fault : Option WireFault
-
-abbrev pub wire_fault : Fault → WireFault
-wire_fault faults.BadCode = wire.BadCode
-wire_fault faults.BadValue = wire.BadValue
-wire_fault faults.TooLong = wire.TooLong
 
 -- the same bytes, and a fault from here on
 abbrev pub faulty : Waiting → WireFault → Waiting

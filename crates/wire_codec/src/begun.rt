@@ -3,11 +3,9 @@
 ghost use Rattle.std.specs.Prelude.{◌≡◌, ◌+◌, ◌<◌, ◌≤◌, IfOk, IfErr, IfSome, OnOk, List, ℕ, drop, length};
 ghost use Rattle.wire_format.specs.Format.{Fails, Gives};
 ghost use Rattle.wire_format.specs.Lawful.{Takes};
-ghost use Rattle.wire_codec.specs.Message.{message_limit, option_list, reply as reply_format};
+ghost use Rattle.wire_message.specs.Message.{message_limit, option_list, reply as reply_format};
 ghost use Rattle.wire_codec.specs.Begun.{ReadsOn, end_of, DevicesBegun, OptionsBegun, HasBegun};
 
-use crate::array::Array;
-use crate::message::{Procedure, Reply};
 use crate::reading::{NextDescriptor, NextDevice, last_device, with_last};
 use crate::words::{status, up_to};
 use device_api::DeviceInfo;
@@ -15,6 +13,7 @@ use option_desc::Descriptor;
 use sane_fixed::Status;
 use std::alloc::Global;
 use wire_format::{ReadError, Reader, used};
+use wire_message::{Array, Procedure, Reply};
 
 /// A reader of elements: it takes a spelling of what it gives.
 pub(crate) trait Element {
@@ -30,7 +29,7 @@ pub(crate) trait Element {
 }
 
 impl Element for NextDevice {
-    ghost use Rattle.wire_codec.specs.Message.{next_device};
+    ghost use Rattle.wire_message.specs.Message.{next_device};
 
     type Value = DeviceInfo;
 
@@ -42,7 +41,7 @@ impl Element for NextDevice {
 }
 
 impl Element for NextDescriptor {
-    ghost use Rattle.wire_codec.specs.Message.{next_descriptor};
+    ghost use Rattle.wire_message.specs.Message.{next_descriptor};
 
     type Value = Descriptor;
 
@@ -141,7 +140,7 @@ where
 }
 
 /// Reads the status of a reply to `GetDevices`, and how many elements its array has.
-#[tactic(auto, unfolding(crate::specs::Message::reply, crate::specs::Message::devices))]
+#[tactic(auto, unfolding(wire_message::specs::Message::reply, wire_message::specs::Message::devices))]
 fn begin_devices(alloc: Global, bytes: &[u8]) -> Result<Devices, ReadError>
     requires { length bytes.now ≤ message_limit }
     ensures ok { IfOk result (DevicesBegun bytes.now) }
@@ -224,7 +223,7 @@ pub(crate) fn devices_reply<'a>(
 }
 
 /// Reads how many options a reply to `GetOptionDescriptors` tells of.
-#[tactic(auto, unfolding(crate::specs::Message::reply, crate::specs::Message::descriptors))]
+#[tactic(auto, unfolding(wire_message::specs::Message::reply, wire_message::specs::Message::descriptors))]
 fn begin_options(alloc: Global, bytes: &[u8]) -> Result<Elements<Descriptor>, ReadError>
     requires { length bytes.now ≤ message_limit }
     ensures ok { IfOk result (OptionsBegun bytes.now) }

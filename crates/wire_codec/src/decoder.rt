@@ -1,6 +1,6 @@
 //! Messages out of bytes that come in pieces.
 
-ghost use Rattle.std.specs.Prelude.{◌≡◌, ◌≢◌, ◌++◌, ◌∷◌, ◌≤◌, List, [], ℕ, IfOk, IfErr, IfSome, OnOk, IsTrue, drop, length};
+ghost use Rattle.std.specs.Prelude.{◌≡◌, ◌≢◌, ◌++◌, ◌∷◌, ◌≤◌, List, [], ℕ, IfOk, IfErr, IfSome, OnErr, OnOk, IsTrue, drop, length};
 ghost use Rattle.wire_format.specs.Format.{Gives, IsBytes};
 ghost use Rattle.wire_format.specs.Lawful.{Takes};
 ghost use Rattle.wire_format.specs.Limit.{limited, WantsMore, IsNoStart};
@@ -8,18 +8,14 @@ ghost use Rattle.wire_format.specs.declared.fault.Wanted.{Wanted as AnyWanted};
 ghost use Rattle.wire_format.specs.declared.fault.Stop.TheVariants.{More};
 ghost use Rattle.wire_codec.specs.Pending.{IsPending, StopsAt};
 ghost use Rattle.wire_codec.specs.Begun.{HasBegun};
-ghost use Rattle.wire_codec.specs.Message.{message_limit, request as request_format, reply as reply_format};
+ghost use Rattle.wire_message.specs.Message.{message_limit, request as request_format, reply as reply_format};
 
 use crate::begun::{Begun, none_begun};
-use crate::fault::WireFault;
-use crate::message::{Procedure, Reply, Request};
 use crate::reading::{reply, request};
 use std::alloc::Global;
 use std::marker::Model;
 use wire_format::{ReadError, Stop, Wanted, all_from, front, past_limit, used};
-
-/// The longest message, in bytes.
-pub const MESSAGE_LIMIT: usize = 1048576;
+use wire_message::{MESSAGE_LIMIT, Procedure, Reply, Request, WireFault};
 
 /// The first request of the bytes, and how many of them spell it.
 fn first_request(alloc: Global, bytes: &[u8]) -> Result<(Request, usize), ReadError>
@@ -166,8 +162,9 @@ impl Decoder {
         ensures kept { IfSome self.old.fault (λ f. (result ≡ Err f) × (self.new ≡ self.old)) }
         ensures err { IfErr result (λ f. self.new.fault ≡ Some f) }
         ensures first { self.old.fault ≡ None → IfErr result (λ f. f ≡ WireFault.NoMem) }
-        // What was fed are the spellings of what was taken, and then the rest.
+        // What was fed are the spellings of what was taken, and then the rest; a piece that is refused was not fed.
         ensures history { (fed : List ℕ) (taken : List Taken) → Fed fed taken self.old → OnOk result (Fed (fed ++ piece.now) taken self.new) }
+        ensures refused { (fed : List ℕ) (taken : List Taken) → Fed fed taken self.old → OnErr result (Fed fed taken self.new) }
     {
         if let Some(fault) = self.fault {
             return Err(fault);

@@ -4,11 +4,9 @@ ghost use Rattle.std.specs.Prelude.{◌≡◌, ◌≤◌, ◌++◌, length, IfOk
 ghost use Rattle.sane_fixed.specs.Text.{IsText};
 ghost use Rattle.wire_format.specs.Format.{Gives, places};
 ghost use Rattle.wire_codec.specs.Begun.{HasBegun};
-ghost use Rattle.wire_codec.specs.Message.{message_limit, option_list, word, signed_word, text_of, string, device, next_device, last_device, range, word_list, entry, last_entry, last_of, last_in, string_list, constraint_of, constraint, descriptor, next_descriptor, words_value, bytes_value, value_of, arguments, request, params, reply};
+ghost use Rattle.wire_message.specs.Message.{message_limit, option_list, word, signed_word, text_of, string, device, next_device, last_device, range, word_list, entry, last_entry, last_of, last_in, string_list, constraint_of, constraint, descriptor, next_descriptor, words_value, bytes_value, value_of, arguments, request, params, reply};
 
-use crate::array::Array;
 use crate::begun::{Begun, devices_reply, options_reply};
-use crate::message::{Procedure, Reply, Request, WireValue};
 use crate::words::{
     action_at, any_word, at_least, bad, frame_at, from_to, is_set, kind_at, length_from, lines_at,
     order, pointer, procedure_at, status, unit_at, up_to, words_size,
@@ -19,6 +17,7 @@ use option_desc::{Constraint, Descriptor};
 use sane_fixed::{Cap, Info, Kind, Params, Text};
 use std::alloc::Global;
 use wire_format::{Fault, ReadError, Reader, byte_between, places, run, word_between};
+use wire_message::{Array, Procedure, Reply, Request, WireValue};
 
 /// The text of bytes none of which is NUL.
 fn text(alloc: Global, bytes: &[u8]) -> Result<Text, ReadError>
@@ -33,7 +32,7 @@ fn text(alloc: Global, bytes: &[u8]) -> Result<Text, ReadError>
 }
 
 /// So many bytes: none of them NUL but the last.
-#[tactic(auto, unfolding(crate::specs::Message::text_of))]
+#[tactic(auto, unfolding(wire_message::specs::Message::text_of))]
 pub(crate) fn text_of(alloc: Global, len: u32, bytes: &[u8]) -> Result<(Text, &[u8]), ReadError>
     ensures { Gives (λ x. (x.0, x.1.now)) result ((text_of len).read bytes.now) }
 {
@@ -47,7 +46,7 @@ pub(crate) fn text_of(alloc: Global, len: u32, bytes: &[u8]) -> Result<(Text, &[
     Ok((text, rest))
 }
 
-#[tactic(auto, unfolding(crate::specs::Message::string))]
+#[tactic(auto, unfolding(wire_message::specs::Message::string))]
 pub(crate) fn string(alloc: Global, bytes: &[u8]) -> Result<(Text, &[u8]), ReadError>
     ensures { Gives (λ x. (x.0, x.1.now)) result (string.read bytes.now) }
 {
@@ -57,7 +56,7 @@ pub(crate) fn string(alloc: Global, bytes: &[u8]) -> Result<(Text, &[u8]), ReadE
 
 // ---- devices
 
-#[tactic(auto, unfolding(crate::specs::Message::device))]
+#[tactic(auto, unfolding(wire_message::specs::Message::device))]
 fn device(alloc: Global, bytes: &[u8]) -> Result<(DeviceInfo, &[u8]), ReadError>
     ensures { Gives (λ x. (x.0, x.1.now)) result (device.read bytes.now) }
 {
@@ -80,20 +79,20 @@ fn device(alloc: Global, bytes: &[u8]) -> Result<(DeviceInfo, &[u8]), ReadError>
 pub(crate) struct NextDevice;
 
 impl Reader for NextDevice {
-    ghost use Rattle.wire_codec.specs.Message.{next_device};
+    ghost use Rattle.wire_message.specs.Message.{next_device};
 
     type Value = DeviceInfo;
 
     ghost format = { next_device };
 
-    #[tactic(auto, unfolding(crate::specs::Message::next_device))]
+    #[tactic(auto, unfolding(wire_message::specs::Message::next_device))]
     fn read(alloc: Global, bytes: &[u8]) -> Result<(DeviceInfo, &[u8]), ReadError> {
         let rest = pointer(bytes)?;
         device(alloc, rest)
     }
 }
 
-#[tactic(auto, unfolding(crate::specs::Message::last_device))]
+#[tactic(auto, unfolding(wire_message::specs::Message::last_device))]
 pub(crate) fn last_device(
     alloc: Global,
     bytes: &[u8],
@@ -123,7 +122,7 @@ pub(crate) fn with_last<T: Drop>(front: Vec<T>, last: Option<T>) -> Result<Array
 
 // ---- constraints
 
-#[tactic(auto, unfolding(crate::specs::Message::range))]
+#[tactic(auto, unfolding(wire_message::specs::Message::range))]
 fn range(bytes: &[u8]) -> Result<(Range, &[u8]), ReadError>
     ensures { Gives (λ x. (x.0, x.1.now)) result (range.read bytes.now) }
 {
@@ -140,7 +139,7 @@ fn range(bytes: &[u8]) -> Result<(Range, &[u8]), ReadError>
 struct SignedWord;
 
 impl Reader for SignedWord {
-    ghost use Rattle.wire_codec.specs.Message.{signed_word};
+    ghost use Rattle.wire_message.specs.Message.{signed_word};
 
     type Value = i32;
 
@@ -152,7 +151,7 @@ impl Reader for SignedWord {
     }
 }
 
-#[tactic(auto, unfolding(crate::specs::Message::word_list))]
+#[tactic(auto, unfolding(wire_message::specs::Message::word_list))]
 fn word_list(alloc: Global, bytes: &[u8]) -> Result<(WordList, &[u8]), ReadError>
     ensures { Gives (λ x. (x.0, x.1.now)) result (word_list.read bytes.now) }
 {
@@ -169,13 +168,13 @@ fn word_list(alloc: Global, bytes: &[u8]) -> Result<(WordList, &[u8]), ReadError
 struct Entry;
 
 impl Reader for Entry {
-    ghost use Rattle.wire_codec.specs.Message.{entry};
+    ghost use Rattle.wire_message.specs.Message.{entry};
 
     type Value = Text;
 
     ghost format = { entry };
 
-    #[tactic(auto, unfolding(crate::specs::Message::entry))]
+    #[tactic(auto, unfolding(wire_message::specs::Message::entry))]
     fn read(alloc: Global, bytes: &[u8]) -> Result<(Text, &[u8]), ReadError> {
         let (len, rest) = length_from(bytes, 1)?;
         text_of(alloc, len, rest)
@@ -186,13 +185,13 @@ impl Reader for Entry {
 struct PassedEntry;
 
 impl Reader for PassedEntry {
-    ghost use Rattle.wire_codec.specs.Message.{passed_entry};
+    ghost use Rattle.wire_message.specs.Message.{passed_entry};
 
     type Value = u8;
 
     ghost format = { passed_entry };
 
-    #[tactic(auto, unfolding(crate::specs::Message::entry, crate::specs::Message::text_of))]
+    #[tactic(auto, unfolding(wire_message::specs::Message::entry, wire_message::specs::Message::text_of))]
     fn read(_alloc: Global, bytes: &[u8]) -> Result<(u8, &[u8]), ReadError> {
         let (length, rest) = length_from(bytes, 1)?;
         let (_, rest) = run(rest, 1, length as usize - 1)?;
@@ -200,7 +199,7 @@ impl Reader for PassedEntry {
     }
 }
 
-#[tactic(auto, unfolding(crate::specs::Message::last_entry))]
+#[tactic(auto, unfolding(wire_message::specs::Message::last_entry))]
 fn last_entry(alloc: Global, bytes: &[u8]) -> Result<(Option<Text>, &[u8]), ReadError>
     ensures { Gives (λ x. (option_list x.0, x.1.now)) result (last_entry.read bytes.now) }
 {
@@ -214,7 +213,7 @@ fn last_entry(alloc: Global, bytes: &[u8]) -> Result<(Option<Text>, &[u8]), Read
 }
 
 /// The last string of an array of so many: that of an array of one is no NULL string, that of the longest is.
-#[tactic(auto, unfolding(crate::specs::Message::only_entry, crate::specs::Message::no_entry))]
+#[tactic(auto, unfolding(wire_message::specs::Message::only_entry, wire_message::specs::Message::no_entry))]
 fn last_of(alloc: Global, count: u32, bytes: &[u8]) -> Result<(Option<Text>, &[u8]), ReadError>
     ensures one { count ≡ 1 → IfOk result (λ x. IsSome x.0) }
     ensures longest { count ≡ 1024 → IfOk result (λ x. IsNone x.0) }
@@ -231,7 +230,7 @@ fn last_of(alloc: Global, count: u32, bytes: &[u8]) -> Result<(Option<Text>, &[u
     last_entry(alloc, bytes)
 }
 
-#[tactic(auto, unfolding(crate::specs::Message::string_list))]
+#[tactic(auto, unfolding(wire_message::specs::Message::string_list))]
 fn string_list(alloc: Global, bytes: &[u8]) -> Result<(StringList, &[u8]), ReadError>
     ensures { Gives (λ x. (x.0, x.1.now)) result (string_list.read bytes.now) }
 {
@@ -247,7 +246,7 @@ fn string_list(alloc: Global, bytes: &[u8]) -> Result<(StringList, &[u8]), ReadE
     }
 }
 
-#[tactic(auto, unfolding(crate::specs::Message::constraint))]
+#[tactic(auto, unfolding(wire_message::specs::Message::constraint))]
 fn constraint(alloc: Global, bytes: &[u8]) -> Result<(Constraint, &[u8]), ReadError>
     ensures { Gives (λ x. (x.0, x.1.now)) result (constraint.read bytes.now) }
 {
@@ -271,7 +270,7 @@ fn constraint(alloc: Global, bytes: &[u8]) -> Result<(Constraint, &[u8]), ReadEr
 
 // ---- descriptors
 
-#[tactic(auto, unfolding(crate::specs::Message::descriptor))]
+#[tactic(auto, unfolding(wire_message::specs::Message::descriptor))]
 fn descriptor(alloc: Global, bytes: &[u8]) -> Result<(Descriptor, &[u8]), ReadError>
     ensures { Gives (λ x. (x.0, x.1.now)) result (descriptor.read bytes.now) }
 {
@@ -300,13 +299,13 @@ fn descriptor(alloc: Global, bytes: &[u8]) -> Result<(Descriptor, &[u8]), ReadEr
 pub(crate) struct NextDescriptor;
 
 impl Reader for NextDescriptor {
-    ghost use Rattle.wire_codec.specs.Message.{next_descriptor};
+    ghost use Rattle.wire_message.specs.Message.{next_descriptor};
 
     type Value = Descriptor;
 
     ghost format = { next_descriptor };
 
-    #[tactic(auto, unfolding(crate::specs::Message::next_descriptor))]
+    #[tactic(auto, unfolding(wire_message::specs::Message::next_descriptor))]
     fn read(alloc: Global, bytes: &[u8]) -> Result<(Descriptor, &[u8]), ReadError> {
         let rest = pointer(bytes)?;
         descriptor(alloc, rest)
@@ -318,7 +317,7 @@ impl Reader for NextDescriptor {
 struct AnyWord;
 
 impl Reader for AnyWord {
-    ghost use Rattle.wire_codec.specs.Message.{word};
+    ghost use Rattle.wire_message.specs.Message.{word};
 
     type Value = u32;
 
@@ -329,7 +328,7 @@ impl Reader for AnyWord {
     }
 }
 
-#[tactic(auto, unfolding(crate::specs::Message::words_value))]
+#[tactic(auto, unfolding(wire_message::specs::Message::words_value))]
 fn words_value(alloc: Global, bytes: &[u8]) -> Result<(WireValue, &[u8]), ReadError>
     ensures { Gives (λ x. (x.0, x.1.now)) result (words_value.read bytes.now) }
 {
@@ -339,7 +338,7 @@ fn words_value(alloc: Global, bytes: &[u8]) -> Result<(WireValue, &[u8]), ReadEr
     Ok((WireValue::Words(Array::from_vec(words)), rest))
 }
 
-#[tactic(auto, unfolding(crate::specs::Message::bytes_value))]
+#[tactic(auto, unfolding(wire_message::specs::Message::bytes_value))]
 fn bytes_value(alloc: Global, bytes: &[u8]) -> Result<(WireValue, &[u8]), ReadError>
     ensures { Gives (λ x. (x.0, x.1.now)) result (bytes_value.read bytes.now) }
 {
@@ -450,7 +449,7 @@ fn arguments(
 }
 
 /// A request.
-#[tactic(auto, unfolding(crate::specs::Message::request))]
+#[tactic(auto, unfolding(wire_message::specs::Message::request))]
 pub(crate) fn request(alloc: Global, bytes: &[u8]) -> Result<(Request, &[u8]), ReadError>
     ensures { Gives (λ x. (x.0, x.1.now)) result (request.read bytes.now) }
 {
@@ -460,7 +459,7 @@ pub(crate) fn request(alloc: Global, bytes: &[u8]) -> Result<(Request, &[u8]), R
 
 // ---- replies
 
-#[tactic(auto, unfolding(crate::specs::Message::params))]
+#[tactic(auto, unfolding(wire_message::specs::Message::params))]
 fn params(bytes: &[u8]) -> Result<(Params, &[u8]), ReadError>
     ensures { Gives (λ x. (x.0, x.1.now)) result (params.read bytes.now) }
 {
@@ -481,7 +480,7 @@ fn params(bytes: &[u8]) -> Result<(Params, &[u8]), ReadError>
     Ok((params, rest))
 }
 
-#[tactic(auto, unfolding(crate::specs::Message::reply))]
+#[tactic(auto, unfolding(wire_message::specs::Message::reply))]
 fn control_option_reply(alloc: Global, bytes: &[u8]) -> Result<(Reply, &[u8]), ReadError>
     ensures { Gives (λ x. (x.0, x.1.now)) result ((reply Procedure.ControlOption).read bytes.now) }
 {
@@ -504,7 +503,7 @@ fn control_option_reply(alloc: Global, bytes: &[u8]) -> Result<(Reply, &[u8]), R
     ))
 }
 
-#[tactic(auto, unfolding(crate::specs::Message::reply))]
+#[tactic(auto, unfolding(wire_message::specs::Message::reply))]
 fn start_reply(alloc: Global, bytes: &[u8]) -> Result<(Reply, &[u8]), ReadError>
     ensures { Gives (λ x. (x.0, x.1.now)) result ((reply Procedure.Start).read bytes.now) }
 {
@@ -524,7 +523,7 @@ fn start_reply(alloc: Global, bytes: &[u8]) -> Result<(Reply, &[u8]), ReadError>
     ))
 }
 
-#[tactic(auto, unfolding(crate::specs::Message::reply))]
+#[tactic(auto, unfolding(wire_message::specs::Message::reply))]
 fn init_reply(bytes: &[u8]) -> Result<(Reply, &[u8]), ReadError>
     ensures { Gives (λ x. (x.0, x.1.now)) result ((reply Procedure.Init).read bytes.now) }
 {
@@ -533,7 +532,7 @@ fn init_reply(bytes: &[u8]) -> Result<(Reply, &[u8]), ReadError>
     Ok((Reply::Init { status, version }, rest))
 }
 
-#[tactic(auto, unfolding(crate::specs::Message::reply))]
+#[tactic(auto, unfolding(wire_message::specs::Message::reply))]
 fn open_reply(alloc: Global, bytes: &[u8]) -> Result<(Reply, &[u8]), ReadError>
     ensures { Gives (λ x. (x.0, x.1.now)) result ((reply Procedure.Open).read bytes.now) }
 {
@@ -550,7 +549,7 @@ fn open_reply(alloc: Global, bytes: &[u8]) -> Result<(Reply, &[u8]), ReadError>
     ))
 }
 
-#[tactic(auto, unfolding(crate::specs::Message::reply))]
+#[tactic(auto, unfolding(wire_message::specs::Message::reply))]
 fn parameters_reply(bytes: &[u8]) -> Result<(Reply, &[u8]), ReadError>
     ensures { Gives (λ x. (x.0, x.1.now)) result ((reply Procedure.GetParameters).read bytes.now) }
 {
@@ -560,7 +559,7 @@ fn parameters_reply(bytes: &[u8]) -> Result<(Reply, &[u8]), ReadError>
 }
 
 /// The reply to a procedure. What was read of an array before is kept.
-#[tactic(auto, unfolding(crate::specs::Message::reply))]
+#[tactic(auto, unfolding(wire_message::specs::Message::reply))]
 pub(crate) fn reply<'a>(
     alloc: Global,
     procedure: Procedure,

@@ -3,12 +3,12 @@
 ghost use Rattle.std.specs.Prelude.{◌≡◌, ◌≤◌, IfOk};
 ghost use Rattle.wire_format.specs.Format.{Gives};
 ghost use Rattle.wire_format.specs.Kind.{word_of_kind};
-ghost use Rattle.wire_codec.specs.Kinds.{length_from, words_size, place, at_least, order as order_kind};
-ghost use Rattle.wire_codec.specs.Message.{from_to, word, up_to, signed_word, is_set, status_at, status as status_format, kind_at, unit_at, frame_at, action_at, lines_at, procedure_at};
+ghost use Rattle.wire_message.specs.Kinds.{length_from, words_size, place, at_least, order as order_kind};
+ghost use Rattle.wire_message.specs.Message.{from_to, word, up_to, signed_word, is_set, status_at, status as status_format, kind_at, unit_at, frame_at, action_at, lines_at, procedure_at};
 
-use crate::message::{Action, Procedure};
 use sane_fixed::{ByteOrder, FrameFormat, Kind, Status, Unit};
 use wire_format::{Fault, ReadError, Stop, Word, part_stops, split_word, word_between};
+use wire_message::{Action, Procedure};
 
 pub(crate) fn bad(fault: Fault) -> ReadError
     ensures { result ≡ ReadError.Stop (Stop.Bad fault) }

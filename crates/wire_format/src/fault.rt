@@ -3,17 +3,27 @@
 ghost use Rattle.std.specs.Prelude.{◌≡◌};
 
 use std::alloc::{AllocError, AllocFailed};
+use thiserror::Error;
 
 /// What stands where no spelling can.
-#[derive(Clone, Copy, Debug, PartialEq, Eq)]
+#[derive(Clone, Copy, Debug, PartialEq, Eq, Error)]
 pub enum Fault {
     /// No message has this code.
+    #[error("no message has this code")]
     BadCode = 1,
     /// A word or byte that nothing is spelled by.
+    #[error("nothing is spelled so")]
     BadValue = 2,
     /// A length past its limit.
+    #[error("longer than its limit")]
     TooLong = 3,
 }
+
+const _: () = prove!(Fault::BadCode as u32 == 1);
+
+const _: () = prove!(Fault::BadValue as u32 == 2);
+
+const _: () = prove!(Fault::TooLong as u32 == 3);
 
 /// The bytes that are wanted at the least: there is no value before so many more have come, and until
 /// then there is a fault only at a byte below `least`.
@@ -25,18 +35,22 @@ pub struct Wanted {
 }
 
 /// Why reading stops before a value.
-#[derive(Clone, Copy, Debug, PartialEq, Eq)]
+#[derive(Clone, Copy, Debug, PartialEq, Eq, Error)]
 pub enum Stop {
     /// The bytes end inside a value.
+    #[error("the bytes end inside a value")]
     More(Wanted),
+    #[error("{0}")]
     Bad(Fault),
 }
 
 /// Why a reader gives no value.
-#[derive(Debug, Drop)]
+#[derive(Debug, Drop, Error)]
 pub enum ReadError {
     /// No memory for the value.
+    #[error("out of memory")]
     Memory,
+    #[error("{0}")]
     Stop(Stop),
 }
 
@@ -61,11 +75,13 @@ impl<T: Drop> From<AllocFailed<T>> for ReadError {
 }
 
 /// Why a writer ends. What it wrote before stands.
-#[derive(Clone, Copy, Debug, PartialEq, Eq)]
+#[derive(Clone, Copy, Debug, PartialEq, Eq, Error)]
 pub enum WriteError {
     /// No memory for more bytes.
+    #[error("out of memory")]
     Memory,
     /// Nothing spells the value.
+    #[error("nothing spells the value")]
     Unspelled,
 }
 

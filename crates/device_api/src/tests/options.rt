@@ -343,7 +343,7 @@ fn one_option_alone(rt: HostRuntime) {
     let option = option_at(DeviceKind::Hand, 3).expect(&rt, "an option");
     assert_eq!(rt; option, ScanOption::Resolution);
     assert_eq!(rt; option_at(DeviceKind::Hand, 5), None);
-    assert_eq!(rt; options_of(DeviceKind::ThreePass).len(), 10);
+    assert_eq!(rt; options_of(DeviceKind::ThreePass).len(), 13);
     assert_eq!(rt; option_value(alloc, &setup, option), Ok(Value::Int(75)));
     let desc = descriptor(alloc, &setup, option).expect(&rt, "memory");
     assert_eq!(rt; desc.name.as_bytes(), b"resolution".as_slice());

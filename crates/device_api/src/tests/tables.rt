@@ -93,7 +93,7 @@ fn options_of_a_flatbed(rt: HostRuntime) {
         &rt,
         rt.alloc(),
         DeviceKind::Flatbed,
-        "|Number of options|Int None 4 4||12
+        "|Number of options|Int None 4 4||15
 mode|Scan mode|String None 6 5| Gray Color|Gray
 depth|Bit depth|Int Bit 4 5| 1 8 16|8
 resolution|Scan resolution|Int Dpi 4 5| 1 to 1200 by 1|50
@@ -105,6 +105,9 @@ gamma-table|Gamma table|Int None 1024 5| 0 to 255 by 1|256 words
 ppl-loss|Lost pixels per line|Int Pixel 4 5| 0 to 64 by 1|0
 read-limit-size|Read limit|Int None 4 5| 1 to 65536 by 1|65536
 read-return-value|Read return value|String None 26 5| Default SANE_STATUS_UNSUPPORTED SANE_STATUS_CANCELLED SANE_STATUS_DEVICE_BUSY SANE_STATUS_INVAL SANE_STATUS_EOF SANE_STATUS_JAMMED SANE_STATUS_NO_DOCS SANE_STATUS_COVER_OPEN SANE_STATUS_IO_ERROR SANE_STATUS_NO_MEM SANE_STATUS_ACCESS_DENIED|Default
+red-gamma-table|Red gamma table|Int None 1024 37| 0 to 255 by 1|inactive
+green-gamma-table|Green gamma table|Int None 1024 37| 0 to 255 by 1|inactive
+blue-gamma-table|Blue gamma table|Int None 1024 37| 0 to 255 by 1|inactive
 ",
     );
 }
@@ -130,7 +133,7 @@ fn options_of_a_three_pass_scanner(rt: HostRuntime) {
         &rt,
         rt.alloc(),
         DeviceKind::ThreePass,
-        "|Number of options|Int None 4 4||10
+        "|Number of options|Int None 4 4||13
 mode|Scan mode|String None 6 5| Gray Color|Gray
 depth|Bit depth|Int Bit 4 5| 8 16|8
 resolution|Scan resolution|Int Dpi 4 5| 1 to 1200 by 1|50
@@ -140,6 +143,9 @@ br-x|Bottom-right x|Fixed Mm 4 5| 0 to 13107200 by 65536|80
 br-y|Bottom-right y|Fixed Mm 4 5| 0 to 13107200 by 65536|100
 three-pass-order|Three-pass order|String None 4 37| RGB RBG GBR GRB BRG BGR|inactive
 gamma-table|Gamma table|Int None 1024 5| 0 to 255 by 1|256 words
+red-gamma-table|Red gamma table|Int None 1024 37| 0 to 255 by 1|inactive
+green-gamma-table|Green gamma table|Int None 1024 37| 0 to 255 by 1|inactive
+blue-gamma-table|Blue gamma table|Int None 1024 37| 0 to 255 by 1|inactive
 ",
     );
 }

@@ -1,5 +1,5 @@
 ghost use Rattle.std.specs.Prelude.{◌≡◌, OnSome, IfNone, position, length, ◌<◌};
-ghost use Rattle.dispatch.specs.Table.{held, held_at, with_slot, is_named, find_name};
+ghost use Rattle.dispatch.specs.Table.{held, held_at, with_slot, is_named, is_out, awaits, find_name};
 
 use crate::table::place::{Place, Slot};
 use std::mem;
@@ -36,6 +36,27 @@ pub fn find_name<D>(places: &[Place<D>], name: &[u8]) -> Option<usize>
     places.iter().position(|place| is_named(place, name))
 }
 
+/// Whether nothing stands in the slot while its device is leased.
+fn is_out<D>(slot: &Slot<D>) -> bool
+    ensures { result ≡ is_out slot.now }
+{
+    match slot {
+        Slot::Out => true,
+        _ => false,
+    }
+}
+
+/// Whether the device of a place is out, and has that name.
+#[tactic(auto, unfolding(crate::specs::Table::awaits))]
+pub fn awaits<D>(places: &[Place<D>], k: usize, name: &[u8]) -> bool
+    ensures { result ≡ awaits name.now k places.now }
+{
+    match places.get(k) {
+        Some(place) => is_out(&place.slot) && place.info.name.as_bytes() == name,
+        None => false,
+    }
+}
+
 /// Takes the device out of a place, if it is in.
 pub fn take_from<D: Drop>(places: &mut Vec<Place<D>>, k: usize) -> Option<D>
     requires { k < length places.old.items }
@@ -54,4 +75,14 @@ pub fn put_into<D: Drop>(places: &mut Vec<Place<D>>, k: usize, slot: Slot<D>)
     ensures count { length places.new.items ≡ length places.old.items }
 {
     places[k].slot = slot;
+}
+
+/// Puts something into a place, where there is such a place.
+pub fn put_back<D: Drop>(places: &mut Vec<Place<D>>, k: usize, slot: Slot<D>)
+    ensures items { places.new.items ≡ with_slot places.old.items k slot }
+    ensures count { length places.new.items ≡ length places.old.items }
+{
+    if k < places.len() {
+        put_into(places, k, slot);
+    }
 }

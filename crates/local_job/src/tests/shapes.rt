@@ -1,11 +1,11 @@
-use super::{done, ends, job, text};
+use super::{done, ends, flatbed, inverted, job, text};
 use crate::run_local;
 use device_api::Device;
 use hand_dev::HandScanner;
-use net_backend::{Reports, Task, Why};
 use option_desc::Value;
 use page_picture::{FailingPage, MemoryPage, Source, read_page};
-use sane_fixed::{ByteOrder, Info, Status};
+use sane_fixed::{ByteOrder, Fixed, Info, Status};
+use scan_job::{Reports, Task, Why};
 use std::alloc::Global;
 use std::process::Abort;
 use threepass_dev::ThreePass;
@@ -184,4 +184,48 @@ fn a_page_that_fails_in_a_pass(rt: HostRuntime) {
     let mut device = three_pass(&rt, alloc, failing, ByteOrder::Big);
     let (_, file) = scanned(&rt, alloc, &mut device, &in_order(b"GBR"));
     assert_eq!(&rt; file.as_slice(), TWO_PLACES_FILE);
+}
+
+/// The text of the table of which place i holds the half of i, rounded down.
+fn halves(rt: &impl Abort, alloc: Global) -> Vec<u8> {
+    let mut out = Vec::new(alloc);
+    for i in 0..256i32 {
+        let comma: &[u8] = if i > 0 { b"," } else { b"" };
+        out.extend_from_slice(comma).expect(rt, "memory");
+        let word = Fixed((i / 2).saturating_mul(65536)).to_text(alloc);
+        out.extend_from_slice(word.expect(rt, "a text").as_bytes())
+            .expect(rt, "memory");
+    }
+    out
+}
+
+/// The gamma table has the entry first, and the color's own table behind it; in gray it is not set.
+#[test]
+fn a_table_per_channel(rt: HostRuntime) {
+    let alloc = rt.alloc();
+    let file = b"P6\n1 1\n255\n\x0A\x0B\x0C";
+    let mut bed = flatbed(&rt, alloc, source(&rt, alloc, file, 26));
+    let page = source(&rt, alloc, file, 26);
+    let mut passes = three_pass(&rt, alloc, page, ByteOrder::Big);
+    let gamma = inverted(&rt, alloc, 256);
+    let red = halves(&rt, alloc);
+    let settings: &[(&[u8], &[u8])] = &[
+        (b"resolution", b"26"),
+        (b"br-x", b"1"),
+        (b"br-y", b"1"),
+        (b"mode", b"Color"),
+        (b"gamma-table", &gamma),
+        (b"red-gamma-table", &red),
+    ];
+    let want = b"P6\n# SANE data follows\n1 1\n255\n\x7A\xF4\xF3".as_slice();
+    assert_eq!(&rt; scanned(&rt, alloc, &mut bed, settings).1.as_slice(), want);
+    assert_eq!(&rt;
+        scanned(&rt, alloc, &mut passes, settings).1.as_slice(),
+        want
+    );
+    let mut none = Vec::new(alloc);
+    let gray = job(&rt, alloc, &settings[5..], Task::Scan);
+    let outcome = run_local(alloc, &mut bed, &gray, &mut none);
+    ends(&rt, &outcome, Status::Inval, Why::Answer);
+    assert_eq!(&rt; none.len(), 0);
 }

@@ -1,9 +1,9 @@
 use super::{TWO_ROWS, done, ends, flatbed_on, job, resolution};
 use crate::run_local;
 use device_api::Device;
-use net_backend::{Reports, Task, Why};
 use option_desc::Value;
 use sane_fixed::Status;
+use scan_job::{Reports, Task, Why};
 use std::process::Abort;
 
 /// The values of the options by their numbers, as texts.
@@ -72,12 +72,15 @@ fn options_are_shown_after_the_settings(rt: HostRuntime) {
         b"ppl-loss",
         b"read-limit-size",
         b"read-return-value",
+        b"red-gamma-table",
+        b"green-gamma-table",
+        b"blue-gamma-table",
     ];
     assert_eq!(&rt; options.len(), names.len());
     for ((desc, _), name) in options.iter().zip(names) {
         assert_eq!(&rt; desc.name.as_bytes(), name);
     }
-    assert_eq!(&rt; told(&rt, &reports, 0), &Some(Value::Int(12)));
+    assert_eq!(&rt; told(&rt, &reports, 0), &Some(Value::Int(15)));
     assert_eq!(&rt; text_told(&rt, &reports, 1), b"Gray".as_slice());
     assert_eq!(&rt; told(&rt, &reports, 2), &Some(Value::Int(16)));
     assert_eq!(&rt; told(&rt, &reports, 3), &Some(Value::Int(50)));

@@ -17,13 +17,13 @@ pub struct FailingPage {
 }
 
 impl Model for FailingPage {
-    ghost use Rattle.std.specs.Prelude.{◌≤◌, true};
+    ghost use Rattle.std.specs.Prelude.{◌≤◌, ◌==◌, true};
     ghost use Rattle.page_picture.specs.Failing.{FailingState};
 
     ghost Value = { FailingState };
 
     ghost view = { λ a. record {
-      shown = record { page = a.page; given = a.given; steady = true; failures = a.failures };
+      shown = record { page = a.page; given = a.given; steady = true; firm = a.refused == 0; failures = a.failures };
       calls = a.calls;
       refused = a.refused;
     } };
@@ -32,14 +32,14 @@ impl Model for FailingPage {
 }
 
 impl FailingPage {
-    ghost use Rattle.std.specs.Prelude.{true, OnOk, OnErr};
+    ghost use Rattle.std.specs.Prelude.{◌==◌, true, OnOk, OnErr};
     ghost use Rattle.page_picture.specs.Source.{Fails};
 
     /// The page from its first row on. The n-th call of `next_row` and `rewind`, counted together from 1, is refused;
     /// with 0 none is.
     pub fn new(page: Page, n: u64) -> Self
         ensures { result ≡ record {
-          shown = record { page = page; given = 0; steady = true; failures = 0 };
+          shown = record { page = page; given = 0; steady = true; firm = n == 0; failures = 0 };
           calls = 0;
           refused = n;
         } }

@@ -1,12 +1,15 @@
 use crate::page_file::PageFault;
 use crate::sources::read_fault::ReadFault;
+use thiserror::Error;
 
 /// Why a page file is not opened.
-#[derive(Clone, Copy, Debug, PartialEq, Eq)]
+#[derive(Clone, Copy, Debug, PartialEq, Eq, Error)]
 pub enum OpenFault {
     /// It shows no page.
+    #[error(transparent)]
     Page(PageFault),
     /// The reader failed, or was read 2^40 times.
+    #[error("the page file cannot be read")]
     Device,
 }
 

@@ -1,4 +1,7 @@
-ghost use Rattle.std.specs.Prelude.{◌≡◌, ◌≤◌, ◌↔◌, true, drop, length, IfOk, IfErr};
+ghost use Rattle.std.specs.Prelude.{◌≡◌, ◌≤◌, ◌<◌, ◌+◌, ◌*◌, ◌^◌, ◌↔◌, true, false, drop, length, IfOk, IfErr, OnErr};
+ghost use Rattle.page_picture.specs.Kept.{FailsByReader, FailsWithin};
+ghost use Rattle.page_picture.specs.Source.{GivesRow, Rewinds};
+ghost use Rattle.page_picture.specs.PnmState.{LosesRows};
 ghost use Rattle.page_picture.specs.PageRows.{IsPageHeader, IsRaster, row_size};
 ghost use Rattle.page_picture.specs.Opening.{HasOpenFaultAfter, IsOfFile};
 
@@ -9,7 +12,7 @@ use crate::sources::open_fault::OpenFault;
 use crate::sources::raster_rows::{check_raster, read_row, row_header};
 use crate::sources::{PageSource, SourceFault};
 use netpbm::{Header, raster_size};
-use std::alloc::{AllocError, Global};
+use std::alloc::Global;
 use std::marker::Model;
 
 /// A page file (`P5` or `P6`), of which one row at a time is in memory.
@@ -32,15 +35,20 @@ impl<R: Rereadable> Model for PnmPage<R> {
     ghost use Rattle.std.specs.Prelude.{◌≡◌, ◌≤◌, ◌*◌, true, false, drop, length};
     ghost use Rattle.page_picture.specs.PageFile.{IsDpi};
     ghost use Rattle.page_picture.specs.PageRows.{IsPageHeader, IsRaster, page_shown, row_size};
-    ghost use Rattle.page_picture.specs.Source.{SourceState};
+    ghost use Rattle.page_picture.specs.PnmState.{PnmState};
 
-    ghost Value = { SourceState };
+    ghost Value = { PnmState };
 
     ghost view = { λ p. record {
-      page = page_shown p.header p.dpi (drop p.start (R.text p.reader));
-      given = p.given;
-      steady = R.is_kept p.reader;
-      failures = p.failures;
+      shown = record {
+        page = page_shown p.header p.dpi (drop p.start (R.text p.reader));
+        given = p.given;
+        steady = R.is_kept p.reader;
+        firm = false;
+        failures = p.failures;
+      };
+      is_lost = p.is_lost;
+      faults = R.faults p.reader;
     } };
 
     ghost invariant = { λ p. IsPageHeader p.header × IsDpi p.dpi × (p.given ≤ p.header.height) × (length p.bytes.items ≡ row_size p.header)
@@ -48,14 +56,8 @@ impl<R: Rereadable> Model for PnmPage<R> {
         × (R.is_kept p.reader ≡ true → IsRaster p.header (drop p.start (R.text p.reader))) };
 }
 
-/// Room for the bytes of one row.
-fn row_bytes(alloc: Global, header: &Header) -> Result<Vec<u8>, AllocError>
-    requires { IsPageHeader header.now }
-    ensures { IfOk result (λ bytes. length bytes.items ≡ row_size header.now) }
-{
-    let size = raster_size(&row_header(header));
-    vec![in alloc; 0u8; size]
-}
+/// No row of a page has more bytes: 16,384 places of three samples of two bytes.
+const MOST_ROW: usize = 16384 * 3 * 2;
 
 /// Reads the raster once through and goes back to its first byte. It gives room for one row.
 fn check_file<R: Rereadable>(
@@ -71,25 +73,27 @@ fn check_file<R: Rereadable>(
     ensures room { IfOk result (λ bytes. length bytes.items ≡ row_size header.now) }
     ensures start { IfOk result (λ _. R.is_kept reader.old ≡ true → R.left reader.new ≡ drop start (R.text reader.old)) }
     ensures raster { IfOk result (λ _. R.is_kept reader.old ≡ true → IsRaster header.now (drop start (R.text reader.old))) }
+    ensures worked { IfOk result (λ _. R.is_kept reader.old ≡ true → R.faults reader.new ≡ R.faults reader.old) }
+    ensures failed { IfErr result (λ fault. fault ≡ OpenFault.Device → FailsWithin (R.is_kept reader.old) reads (R.text reader.old) (R.faults reader.old) (R.faults reader.new)) }
     ensures file { IfErr result (λ fault. IsOfFile fault) }
     ensures fault { IfErr result (λ fault. R.is_kept reader.old ≡ true → HasOpenFaultAfter fault header.now (drop start (R.text reader.old))) }
 {
-    let Ok(mut bytes) = row_bytes(alloc, header) else {
-        return Err(OpenFault::Page(PageFault::NoMem));
-    };
+    let size = raster_size(&row_header(header));
+    let mut room = [0u8; MOST_ROW];
     if reader.start_from(start).is_err() {
         return Err(OpenFault::Device);
     }
     let mut reads = reads;
-    check_raster(reader, header, &mut bytes, &mut reads)?;
+    check_raster(reader, header, &mut room[..size], &mut reads)?;
     if reader.start_from(start).is_err() {
         return Err(OpenFault::Device);
     }
-    Ok(bytes)
+    // Memory is asked for last, so that its want stands in place of no other refusal.
+    vec![in alloc; 0u8; size].map_err(|_| OpenFault::Page(PageFault::NoMem))
 }
 
 impl<R: Rereadable> PnmPage<R> {
-    ghost use Rattle.std.specs.Prelude.{◌≡◌, ◌↔◌, true, IfOk, IfErr};
+    ghost use Rattle.std.specs.Prelude.{◌≡◌, ◌↔◌, false, true, IfOk, IfErr};
     ghost use Rattle.page_picture.specs.PageFile.{TellsPage, IsDpi};
     ghost use Rattle.page_picture.specs.Opening.{HasOpenFault};
 
@@ -98,12 +102,15 @@ impl<R: Rereadable> PnmPage<R> {
     /// gives the reader back.
     pub fn open(alloc: Global, reader: R, dpi: u32) -> Result<Self, (OpenFault, R)>
         // The page is that of the text, where the reader keeps it.
-        ensures found { IfOk result (λ source. R.is_kept reader ≡ true → TellsPage (R.text reader) dpi source.page) }
+        ensures found { IfOk result (λ source. R.is_kept reader ≡ true → TellsPage (R.text reader) dpi source.shown.page) }
         // It stands before its first row, without a failure.
-        ensures begun { IfOk result (λ source. source ≡ record { page = source.page; given = 0; steady = R.is_kept reader; failures = 0 }) }
+        ensures begun { IfOk result (λ source. source.shown ≡ record { page = source.shown.page; given = 0; steady = R.is_kept reader; firm = false; failures = 0 }) }
+        ensures not_lost { IfOk result (λ source. source.is_lost ≡ false) }
         ensures fault { IfErr result (λ refused. R.is_kept reader ≡ true → HasOpenFault refused.0 (R.text reader) dpi) }
+        // `Device` only where a call of the reader failed, or 2^40 reads do not go through its bytes twice.
+        ensures device { IfErr result (λ refused. refused.0 ≡ OpenFault.Device → FailsByReader (R.is_kept reader) (R.text reader) (R.faults reader) (R.faults refused.1)) }
         // What holds of every reader.
-        ensures dots { IfOk result (λ source. source.page.dpi ≡ dpi) }
+        ensures dots { IfOk result (λ source. source.shown.page.dpi ≡ dpi) }
         ensures bad_dots { IfErr result (λ refused. (refused.0 ≡ OpenFault.Page PageFault.BadDpi) ↔ ¬ IsDpi dpi) }
         ensures kept { IfErr result (λ refused. R.is_kept refused.1 ≡ R.is_kept reader) }
         ensures text { IfErr result (λ refused. R.text refused.1 ≡ R.text reader) }
@@ -141,7 +148,9 @@ impl<R: Rereadable> PnmPage<R> {
 
     /// Counts a failure; the rows are lost until a rewind.
     fn fail(&mut self) -> SourceFault
-        ensures { Fails self.old self.new }
+        ensures fails { Fails self.old.shown self.new.shown }
+        ensures lost { self.new.is_lost ≡ true }
+        ensures faults { self.new.faults ≡ self.old.faults }
     {
         self.is_lost = true;
         self.failures = self.failures.saturating_add(1);
@@ -150,7 +159,7 @@ impl<R: Rereadable> PnmPage<R> {
 }
 
 impl<R: Rereadable + Drop> PageSource for PnmPage<R> {
-    ghost source = { λ s. s };
+    ghost source = { λ s. s.shown };
 
     fn size(&self) -> (u32, u32) {
         (self.header.width, self.header.height)
@@ -164,7 +173,13 @@ impl<R: Rereadable + Drop> PageSource for PnmPage<R> {
         self.failures
     }
 
-    fn next_row(&mut self, row: &mut [u16]) -> Result<bool, SourceFault> {
+    fn next_row(&mut self, row: &mut [u16]) -> Result<bool, SourceFault>
+        requires { length row.old ≡ 3 * self.old.shown.page.width }
+        ensures row { GivesRow self.old.shown result self.new.shown row.new }
+        ensures lost { LosesRows result self.new }
+        // Over a reader that keeps its bytes it fails only where a call of the reader does, or the rows are lost.
+        ensures failed { OnErr result (self.old.shown.steady ≡ true → self.old.is_lost ≡ false → self.old.faults < self.new.faults) }
+    {
         if self.is_lost {
             return Err(self.fail());
         }
@@ -182,7 +197,11 @@ impl<R: Rereadable + Drop> PageSource for PnmPage<R> {
         }
     }
 
-    fn rewind(&mut self) -> Result<(), SourceFault> {
+    fn rewind(&mut self) -> Result<(), SourceFault>
+        ensures rewinds { Rewinds self.old.shown result self.new.shown }
+        ensures lost { LosesRows result self.new }
+        ensures failed { OnErr result (self.old.shown.steady ≡ true → self.old.faults < self.new.faults) }
+    {
         self.is_lost = true;
         if self.reader.start_from(self.start).is_err() {
             return Err(self.fail());

@@ -1,5 +1,5 @@
 ghost use Rattle.std.specs.Prelude.{◌≡◌, ◌≤◌, ◌++◌, ◌<◌, [], ◌∷◌, length, true, IfOk, IfSome, IfNone, OnErr};
-ghost use Rattle.page_picture.specs.HeaderScan.{from_hand};
+ghost use Rattle.page_picture.specs.Kept.{CountsFault};
 
 use crate::rereadable::Rereadable;
 use std::io;
@@ -51,6 +51,9 @@ impl ReadRoom {
     pub fn fill<R: Rereadable>(&mut self, reader: &mut R) -> io::Result<usize>
         requires { self.old ≡ [] }
         ensures size { length self.new ≤ 4096 }
+        ensures count { IfOk result (λ n. length self.new ≡ n) }
+        ensures empty { OnErr result (self.new ≡ []) }
+        ensures faults { R.is_kept reader.old ≡ true → CountsFault (R.faults reader.old) result (R.faults reader.new) }
         ensures kept { R.is_kept reader.new ≡ R.is_kept reader.old }
         ensures text { R.text reader.new ≡ R.text reader.old }
         ensures bytes { R.is_kept reader.old ≡ true → R.left reader.old ≡ self.new ++ R.left reader.new }

@@ -169,23 +169,24 @@ fn a_file_cut_short(rt: HostRuntime) -> Result<(), Fail> {
 
 /// A reader that gives three bytes at a time and fails at one of its calls, counted from 1.
 #[derive(Drop)]
-struct Faulty {
-    bytes: Cursor<&'static [u8]>,
+struct Faulty<'a> {
+    bytes: Cursor<&'a [u8]>,
     calls: u64,
     fails_at: u64,
+    kind: io::ErrorKind,
 }
 
-impl Faulty {
+impl Faulty<'_> {
     fn count_call(&mut self) -> io::Result<()> {
         self.calls = self.calls.saturating_add(1);
         if self.calls == self.fails_at {
-            return Err(io::Error::from(io::ErrorKind::Other));
+            return Err(io::Error::from(self.kind));
         }
         Ok(())
     }
 }
 
-impl Read for Faulty {
+impl Read for Faulty<'_> {
     fn read(&mut self, buf: &mut [u8]) -> io::Result<usize> {
         self.count_call()?;
         let most = buf.len().min(3);
@@ -193,14 +194,14 @@ impl Read for Faulty {
     }
 }
 
-impl Seek for Faulty {
+impl Seek for Faulty<'_> {
     fn seek(&mut self, to: SeekFrom) -> io::Result<u64> {
         self.count_call()?;
         self.bytes.seek(to)
     }
 }
 
-impl Rereadable for Faulty {
+impl Rereadable for Faulty<'_> {
     fn read_on(&mut self, buf: &mut [u8]) -> io::Result<usize> {
         self.read(buf)
     }
@@ -211,36 +212,95 @@ impl Rereadable for Faulty {
     }
 }
 
+/// Opens `GRAYS` over a reader of which a call fails, and reads it twice. It tells where the failure came: 0 while
+/// opening, 1 at a row, 2 at the rewind, 3 nowhere.
+fn place_of_failure(
+    rt: &impl Abort,
+    alloc: Global,
+    fails_at: u64,
+    kind: io::ErrorKind,
+) -> Result<usize, SourceFault> {
+    let reader = Faulty {
+        bytes: Cursor::new(GRAYS),
+        calls: 0,
+        fails_at,
+        kind,
+    };
+    let mut page = match PnmPage::open(alloc, reader, 50) {
+        Err((fault, _)) => {
+            assert_eq!(rt; fault, OpenFault::Device, "at call {fails_at}");
+            return Ok(0);
+        }
+        Ok(page) => page,
+    };
+    assert_eq!(rt; page.size(), (2, 2));
+    let mut place = 3;
+    if both_rows(&mut page).is_err() {
+        place = 1;
+    }
+    if page.rewind().is_err() {
+        place = 2;
+        assert_eq!(rt; page.size(), (2, 2));
+        assert!(rt; both_rows(&mut page).is_err(), "the rows are lost");
+        page.rewind()?;
+    }
+    assert_eq!(rt; page.failures(), [1, 1, 2, 0][place], "at call {fails_at}");
+    assert_eq!(rt; page.size(), (2, 2));
+    assert_eq!(rt; both_rows(&mut page)?, GRAY_ROWS, "at call {fails_at}");
+    Ok(place)
+}
+
 #[test]
 fn each_call_of_the_reader_fails_in_turn(rt: HostRuntime) -> Result<(), Fail> {
-    let mut while_opening = 0u32;
-    let mut later = 0u32;
-    for fails_at in 1..40u64 {
-        let reader = Faulty {
-            bytes: Cursor::new(GRAYS),
-            calls: 0,
-            fails_at,
-        };
-        match PnmPage::open(rt.alloc(), reader, 50) {
-            Err((fault, _)) => {
-                assert_eq!(rt; fault, OpenFault::Device, "at call {fails_at}");
-                while_opening = while_opening.saturating_add(1);
-            }
-            Ok(mut page) => {
-                assert_eq!(rt; page.size(), (2, 2));
-                if both_rows(&mut page).is_err() {
-                    assert_eq!(rt; page.failures(), 1, "at call {fails_at}");
-                    later = later.saturating_add(1);
-                    page.rewind()?;
-                    assert_eq!(rt; page.size(), (2, 2));
-                    assert_eq!(rt; both_rows(&mut page)?, GRAY_ROWS, "at call {fails_at}");
-                }
+    for kind in [io::ErrorKind::Other, io::ErrorKind::Interrupted] {
+        let mut places = [0u32; 4];
+        for fails_at in 1..14u64 {
+            let place = place_of_failure(&rt, rt.alloc(), fails_at, kind)?;
+            if let Some(count) = places.get_mut(place) {
+                *count = count.saturating_add(1);
             }
         }
+        // Opening: to the start, four reads of the header, to the raster, two reads for its rows (two bytes each), one
+        // at its end, and to the raster again. Then a read for each row, and a rewind.
+        assert_eq!(rt; places, [10, 2, 1, 0]);
     }
-    // Opening: to the start, four reads of the header, to the raster, two reads for its rows (two bytes each), one at
-    // its end, and to the raster again. Later: a read for each row.
-    assert_eq!(rt; (while_opening, later), (10, 2));
+    Ok(())
+}
+
+#[test]
+fn many_reads(rt: HostRuntime) -> Result<(), Fail> {
+    // A comment of so many bytes, then a page of columns and rows of two bytes each.
+    for (comment, columns, rows) in [(5000usize, 2u32, 2u32), (0, 1, 5000), (0, 10000, 1)] {
+        let mut text = Vec::from_slice(rt.alloc(), b"P5 #")?;
+        for _ in 0..comment {
+            text.push(b'x')?;
+        }
+        let sizes = format!(in rt.alloc(); "\n{columns} {rows}\n65535\n")?;
+        text.extend_from_slice(sizes.as_bytes())?;
+        let samples = (columns as usize).saturating_mul(rows as usize);
+        let raster = vec![in rt.alloc(); 7u8; samples.saturating_mul(2)]?;
+        text.extend_from_slice(&raster)?;
+        let reader = Faulty {
+            bytes: Cursor::new(text.as_slice()),
+            calls: 0,
+            fails_at: 0,
+            kind: io::ErrorKind::Other,
+        };
+        let mut page = match PnmPage::open(rt.alloc(), reader, 50) {
+            Ok(page) => page,
+            Err((fault, _)) => panic!(&rt; "{fault:?} at {columns} x {rows}"),
+        };
+        assert_eq!(rt; page.size(), (columns, rows));
+        let mut row = vec![in rt.alloc(); 0u16; 3 * page.size().0 as usize]?;
+        for _ in 0..rows {
+            assert_eq!(rt; row.len(), 3 * page.size().0 as usize);
+            assert_eq!(rt; page.next_row(&mut row)?, true);
+            assert!(rt; row.iter().all(|sample| *sample == 7 * 257));
+        }
+        assert_eq!(rt; row.len(), 3 * page.size().0 as usize);
+        assert_eq!(rt; page.next_row(&mut row)?, false);
+        assert_eq!(rt; page.failures(), 0);
+    }
     Ok(())
 }
 
@@ -310,6 +370,7 @@ fn window(resolution: u32, left: i32, right: i32) -> Scene
         br_x: Fixed(right),
         br_y: Fixed(65536),
         gamma: [0; 256],
+        channel_gamma: [[0; 256]; 3],
     }
 }
 

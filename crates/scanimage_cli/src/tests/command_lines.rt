@@ -1,6 +1,6 @@
 use super::texts;
 use crate::{Options, SplitFault, is_local, is_net_name, read_options, split_words, task_of};
-use net_backend::Task;
+use scan_job::Task;
 use std::alloc::Global;
 use std::process::Abort;
 use std::test::Fail;

@@ -5,15 +5,16 @@ use Rattle.local_job.proofs.Drains.{begun, one_more, at_end, stopped, never}
 use Rattle.local_job.proofs.drain.drain.Goals as goal
 
 pub loop-i-init : goal.loop-i-init
-loop-i-init g c = record { room = refl; bytes = λ first past stands taken. begun past first _ _ stands taken }
+loop-i-init g c = record { room = refl; becomes = λ first is. is; bytes = λ first past stands taken. begun past first _ _ stands taken }
 
 pub loop-i-preserved : goal.loop-i-preserved
 loop-i-preserved g c =
     let piece : List ℕ = take c.pull-n.result c.pull-n.new.buf in
-    let took : Appends (g.W.Write.contents c.loop-i.out) (g.W.Write.contents c.put.new.to) piece = search rules in
+    let took : Appends (g.W.Outlet.contents c.loop-i.out) (g.W.Outlet.contents c.put.new.self) piece = search rules in
     let size : length piece ≡ c.pull-n.result = omega (arith, length-take c.pull-n.result c.pull-n.new.buf, c.pull-n.ensures.count, c.pull-n.auto.buf) in
     record {
       room = search rules;
+      becomes = λ first is. c.put.ensures.becomes first (c.loop-i.invariant.becomes first is);
       bytes = λ first past stands taken. one_more past first _ _ c.loop-i._i c.pull-n.result _ _ piece c.if-n-eq0.false size c.pull-n.ensures.carried took (c.loop-i.invariant.bytes first past stands taken);
     }
 

@@ -1,10 +1,10 @@
-use Rattle.std.proofs.Common.{◌≡◌, ◌<◌, ℕ, List, [], Option, Some, None, length}
-use Rattle.std.specs.Io.KnownBytes.{Appends}
+use Rattle.std.proofs.Common.{◌≡◌, ◌<◌, ℕ, List, [], Option, length}
+use Rattle.std.specs.Prelude.{◌≢◌, Some}
+use Rattle.sane_fixed.specs.declared.status.Status.TheVariants.{NoDocs}
 use Rattle.page_picture.specs.Shows.{Frame}
 use Rattle.device_api.specs.State.{DeviceState, Reading, with_phase}
-use Rattle.pnm_writer.specs.FrameHistory.{Past}
-use Rattle.pnm_writer.specs.Joining.{Stands}
-use Rattle.local_job.specs.FrameReading.{IsReadTo, Keeps}
+use Rattle.frame_join.specs.FrameHistory.{Past}
+use Rattle.local_job.specs.FrameReading.{IsInside, IsReadTo, Keeps}
 use Rattle.local_job.proofs.FrameReads.{left_in}
 use Rattle.local_job.proofs.frames.read_frame.Given as goal
 
@@ -17,8 +17,10 @@ invariant-loop-n g l =
       room : length l.room ≡ length l.initial.room;
       same : Keeps old now;
       read : (pass : ℕ) → old.phase ≡ Reading pass 0 → (given : ℕ) × (now ≡ with_phase old (Reading pass given))
-          × ((past : Past) (frame : Frame) (first : Option (List ℕ)) → Stands past l.initial.join → past.fault ≡ None → past.under ≡ Some frame → frame.payload ≡ []
-          → Appends first (g.W.Write.contents l.initial.out) past.given → IsReadTo old pass given past frame first l.join (g.W.Write.contents l.out));
+          × ((past : Past) (frame : Frame) (first : Option (List ℕ)) → IsInside past frame first l.initial.join (g.W.Outlet.contents l.initial.out) → frame.payload ≡ []
+          → IsReadTo old pass given past frame first l.join (g.W.Outlet.contents l.out))
+          × (0 < given → old.setup.told ≢ Some NoDocs);
+      becomes : (first : _) → g.W.Outlet.Becomes first l.initial.out → g.W.Outlet.Becomes first l.out;
     }
 
 abbrev pub decreases-loop-n : goal.decreases-loop-n

@@ -1,4 +1,4 @@
-use Rattle.std.proofs.Common.{◌<◌, length}
+use Rattle.std.proofs.Common.{◌≡◌, ◌<◌, length}
 use Rattle.device_api.specs.State.{DeviceState}
 use Rattle.local_job.proofs.Scans.{HasGone}
 use Rattle.local_job.proofs.scan.scan_passes.Given as goal
@@ -10,5 +10,9 @@ invariant-loop-pass g l =
     record {
       piece : 0 < length l.piece;
       room : 0 < length l.room;
-      gone : HasGone old now l._pass (g.W.Write.contents l.initial.out) l.join (g.W.Write.contents l.out);
+      pieces : length l.piece ≡ length l.initial.piece;
+      rooms : length l.room ≡ length l.initial.room;
+      becomes : (first : _) → g.W.Outlet.Becomes first l.initial.out → g.W.Outlet.Becomes first l.out;
+      fresh : l._pass ≡ 0 → l.out ≡ l.initial.out;
+      gone : HasGone old now l._pass (g.W.Outlet.contents l.initial.out) l.join (g.W.Outlet.contents l.out);
     }

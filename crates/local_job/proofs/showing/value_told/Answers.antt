@@ -1,7 +1,7 @@
 use Rattle.std.proofs.Common.{◌≡◌, ◌∙◌, rules, true}
 use Rattle.device_api.specs.State.{DeviceState}
 use Rattle.device_api.specs.Values.{option_got}
-use Rattle.net_backend.specs.Shown.{tells_value}
+use Rattle.scan_job.specs.Shown.{tells_value}
 use Rattle.local_job.proofs.Shows.{tells_it, refused_is}
 use Rattle.local_job.proofs.showing.value_told.Goals as goal
 

@@ -1,4 +1,4 @@
-use Rattle.std.proofs.Common.{◌≡◌, ◌∙◌, ap, subst}
+use Rattle.std.proofs.Common.{◌≡◌, subst}
 use Rattle.std.specs.Prelude.{Some}
 use Rattle.constraint.specs.Nearest.{TellsDifference}
 use Rattle.option_desc.specs.Put.{nearest_text}

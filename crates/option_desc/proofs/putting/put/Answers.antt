@@ -1,5 +1,5 @@
-use Rattle.std.proofs.Common.{◌≡◌, ◌∙◌, MatchResult, subst, sym, false, true, rules}
-use Rattle.std.specs.Prelude.{Some, None, Option}
+use Rattle.std.proofs.Common.{◌≡◌, ◌∙◌, MatchResult, subst, sym, true}
+use Rattle.std.specs.Prelude.{Some, Option}
 use Rattle.option_desc.specs.declared.value.Value.{Value}
 use Rattle.option_desc.specs.Refuses.{Refuses}
 use Rattle.option_desc.specs.Fits.{fits_of}

@@ -1,9 +1,8 @@
-use Rattle.std.proofs.Common.{◌≡◌, ◌∙◌, ◌<◌, false, true, List, ℕ, length, get_or, sym, ap, subst, rules, tests}
-use Rattle.std.specs.Prelude.{is_some, None, Some}
+use Rattle.std.proofs.Common.{length, sym, subst, rules, tests}
 use Rattle.std.proofs.lemmas.List.{length_push}
 use Rattle.std.proofs.lemmas.Iterator.Splits.{YieldsList-from_slice_split}
 use Rattle.std.proofs.lemmas.Iterator.Consumers.{YieldsList-turn, YieldsList-end}
-use Rattle.option_desc.specs.Reads.{pieces_of, words_in}
+use Rattle.option_desc.specs.Reads.{pieces_of}
 use Rattle.option_desc.proofs.ReadsLaws.{is_comma}
 use Rattle.option_desc.proofs.PieceLaws.{ReadBelow, ReadBelow-none, ReadBelow-read, unread_piece, all_read_below}
 use Rattle.option_desc.proofs.reading.all_read.Goals as goal

@@ -1,5 +1,4 @@
-use Rattle.std.proofs.Common.{◌≡◌, length, arith}
-use Rattle.sane_fixed.specs.Digits.{digit_count}
+use Rattle.std.proofs.Common.{arith}
 use Rattle.sane_fixed.proofs.DigitLemmas.{AllDigits-whole}
 use Rattle.option_desc.proofs.reading.read_integer.Goals as goal
 

@@ -1,4 +1,4 @@
-use Rattle.std.proofs.Common.{◌≡◌, ◌∙◌, sym, ap, subst, refl, rules, FitsSigned, w32}
+use Rattle.std.proofs.Common.{◌∙◌, sym, ap, subst, refl, rules, FitsSigned, w32}
 use Rattle.std.specs.Fmt.{signed_decimal}
 use Rattle.std.proofs.lemmas.Int.{to_z-of_z}
 use Rattle.sane_fixed.specs.Text.{IsText}

@@ -1,4 +1,4 @@
-use Rattle.std.proofs.Common.{◌≡◌, ◌∙◌, List, ℕ, ℤ, sym, ap, subst, rules, FitsSigned, w32}
+use Rattle.std.proofs.Common.{◌≡◌, subst, rules, FitsSigned, w32}
 use Rattle.std.specs.Prelude.{IfOk, OnOk, All, map}
 use Rattle.std.specs.List.{join_with_byte}
 use Rattle.std.proofs.lemmas.Int.{to_z-of_z}

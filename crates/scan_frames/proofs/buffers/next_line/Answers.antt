@@ -37,10 +37,11 @@ returns-clause-ok g c =
     let row_is : c.deref.result.now ≡ c.see.new.row = c.deref.ensures.value ∙ row_back in
     let line : List ℕ → List ℕ → List ℕ = λ row line. line_of (packing_of setup.scene.depth) setup.order (channels_within format) columns.count (value_at setup.scene format row columns) (length line) in
     let bytes : c.make_line.new.line ≡ line c.see.new.row old.line.items =
-    c.make_line.ensures.bytes ∙ (ap (λ (r : List ℕ). line r c.deref_mut-2.result.now) row_is ∙ ap (λ (l : List ℕ). line c.see.new.row l) c.deref_mut-2.ensures.value) in
+    ◌∙◌ {b = line c.deref.result.now c.deref_mut-2.result.now} c.make_line.ensures.bytes (ap (λ (r : List ℕ). line r c.deref_mut-2.result.now) row_is ∙ ap (λ (l : List ℕ). line c.see.new.row l) c.deref_mut-2.ensures.value) in
     let at : List ℕ → List ℕ → FrameState = λ row line. record {
       pass = old.pass;
       columns = old.columns;
+      tables = old.tables;
       height = old.height;
       row = row;
       taken = n;
@@ -50,6 +51,6 @@ returns-clause-ok g c =
     } in
     let left : c.len-buffers.result ≡ length c.make_line.new.line = c.len-buffers.ensures ∙ (old.line.ok.0 ∙ sym line_lent) in
     let made : MakesLine s setup (state_of old) t (at c.see.new.row c.make_line.new.line) =
-    next_frame s t setup (state_of old) (at c.see.new.row c.make_line.new.line) n c.requires.setup.resolution_some c.requires.frame c.requires.more c.in_ok-buffers.ensures.after c.in_ok-buffers.ensures.further c.in_ok-buffers.ensures.within white sees has (omega arith) c.make_line.ensures.zeros bytes refl refl refl refl refl left in
+    next_frame s t setup (state_of old) (at c.see.new.row c.make_line.new.line) n c.requires.setup.resolution_some c.requires.frame c.requires.more c.in_ok-buffers.ensures.after c.in_ok-buffers.ensures.further c.in_ok-buffers.ensures.within white sees has (omega arith) c.make_line.ensures.zeros bytes refl refl refl refl refl refl left in
     subst (λ (r : List ℕ). MakesLine s setup (state_of old) t (at r (take old.line.len (c.make_line.new.line ++ drop (length c.make_line.new.line) old.line.items)))) (sym row_back)
     (subst (λ (l : List ℕ). MakesLine s setup (state_of old) t (at c.see.new.row l)) (sym line_back) made)

@@ -1,5 +1,7 @@
-use Rattle.std.proofs.Common.{rules, ap, ◌∙◌, refl}
+use Rattle.std.proofs.Common.{◌≡◌, rules, ap, ◌∙◌, refl, sym}
 use Rattle.sane_fixed.specs.declared.frame_format.FrameFormat.{FrameFormat}
+use Rattle.scan_frames.specs.declared.setup.Packing.TheVariants.{Bytes}
+use Rattle.scan_frames.specs.Line.{packing_of}
 use Rattle.scan_frames.specs.Frames.{channel_in, format_at}
 use Rattle.scan_frames.proofs.Lines.{bits_line, samples_line_by, grays_line, gray_format}
 use Rattle.scan_frames.proofs.line.make_line.Goals as goal
@@ -18,9 +20,10 @@ returns-in-Gray-clause-bytes c =
 pub returns-in-Color-clause-bytes : goal.returns-in-Color-clause-bytes
 returns-in-Color-clause-bytes c =
     let setup = c.args.setup.now in
-    samples_line_by setup.order c.format_at-format.result (format_at setup c.args.pass) setup.scene c.args.row.now c.places-places.result.now c.args.columns.now c.put_all.new.line _ _ c.format_at-format.ensures c.packing_of.ensures (λ e. cc) (search rules) c.places-places.ensures.size c.places-places.ensures.each c.put_all.ensures.here (search rules)
+    let bytes : packing_of setup.scene.depth ≡ Bytes = search rules in
+    samples_line_by setup.order c.format_at-format.result (format_at setup c.args.pass) setup.scene c.args.row.now c.places-places.result.now c.args.columns.now c.put_bytes.new.line _ Bytes c.format_at-format.ensures (sym bytes) (λ e. cc) (search rules) c.places-places.ensures.size c.places-places.ensures.each c.put_bytes.ensures.here (search rules)
 
 pub returns-in-Words-clause-bytes : goal.returns-in-Words-clause-bytes
 returns-in-Words-clause-bytes c =
     let setup = c.args.setup.now in
-    samples_line_by setup.order c.format_at-format.result (format_at setup c.args.pass) setup.scene c.args.row.now c.places-places.result.now c.args.columns.now c.put_all-in-Words.new.line _ _ c.format_at-format.ensures c.packing_of.ensures (λ e. cc) (search rules) c.places-places.ensures.size c.places-places.ensures.each c.put_all-in-Words.ensures.here (search rules)
+    samples_line_by setup.order c.format_at-format.result (format_at setup c.args.pass) setup.scene c.args.row.now c.places-places.result.now c.args.columns.now c.put_all.new.line _ _ c.format_at-format.ensures c.packing_of.ensures (λ e. cc) (search rules) c.places-places.ensures.size c.places-places.ensures.each c.put_all.ensures.here (search rules)

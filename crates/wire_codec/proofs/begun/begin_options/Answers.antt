@@ -1,7 +1,7 @@
 use Rattle.std.proofs.Common.{arith}
 use Rattle.wire_format.proofs.Limits.{taken}
-use Rattle.wire_codec.specs.Message.{up_to}
-use Rattle.wire_codec.proofs.Messages.{up_to_laws}
+use Rattle.wire_message.specs.Message.{up_to}
+use Rattle.wire_message.proofs.Messages.{up_to_laws}
 use Rattle.wire_codec.proofs.Begins.{options_start}
 use Rattle.wire_codec.proofs.begun.begin_options.Goals as goal
 

@@ -1,8 +1,8 @@
 use Rattle.std.proofs.Common.{sym}
-use Rattle.wire_codec.specs.declared.message.Procedure.TheVariants.{GetDevices}
-use Rattle.wire_codec.specs.Message.{reply, next_device, option_list}
+use Rattle.wire_message.specs.declared.message.Procedure.TheVariants.{GetDevices}
+use Rattle.wire_message.specs.Message.{reply, next_device, option_list}
 use Rattle.wire_codec.specs.Begun.{devices_end}
-use Rattle.wire_codec.proofs.Messages.{next_device_laws}
+use Rattle.wire_message.proofs.Messages.{next_device_laws}
 use Rattle.wire_codec.proofs.Begins.{begun_on, begun_fails, devices_told, devices_fail}
 use Rattle.wire_codec.proofs.begun.end_devices.Goals as goal
 

@@ -1,7 +1,7 @@
-use Rattle.wire_codec.specs.declared.message.Procedure.TheVariants.{GetOptionDescriptors}
-use Rattle.wire_codec.specs.Message.{reply, next_descriptor}
+use Rattle.wire_message.specs.declared.message.Procedure.TheVariants.{GetOptionDescriptors}
+use Rattle.wire_message.specs.Message.{reply, next_descriptor}
 use Rattle.wire_codec.specs.Begun.{options_end}
-use Rattle.wire_codec.proofs.Messages.{next_descriptor_laws}
+use Rattle.wire_message.proofs.Messages.{next_descriptor_laws}
 use Rattle.wire_codec.proofs.Begins.{begun_on, begun_fails, begun_end}
 use Rattle.wire_codec.proofs.begun.end_options.Goals as goal
 

@@ -3,8 +3,8 @@ use Rattle.std.proofs.lemmas.List.{length-take}
 use Rattle.wire_codec.specs.Begun.{HasBegun}
 use Rattle.wire_codec.proofs.Begins.{has_window, has_all}
 use Rattle.wire_format.proofs.Limits.{taken, first_ok, first_used, first_fails}
-use Rattle.wire_codec.specs.Message.{message_limit, reply}
-use Rattle.wire_codec.proofs.Messages.{reply_reads}
+use Rattle.wire_message.specs.Message.{message_limit, reply}
+use Rattle.wire_message.proofs.Messages.{reply_reads}
 use Rattle.wire_codec.proofs.decoder.first_reply.Goals as goal
 
 pub used-requires : goal.used-requires

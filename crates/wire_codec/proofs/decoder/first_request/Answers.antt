@@ -1,7 +1,7 @@
 use Rattle.std.proofs.Common.{arith}
 use Rattle.wire_format.proofs.Limits.{taken, first_ok, first_used, first_fails}
-use Rattle.wire_codec.specs.Message.{message_limit, request}
-use Rattle.wire_codec.proofs.Messages.{request_laws}
+use Rattle.wire_message.specs.Message.{message_limit, request}
+use Rattle.wire_message.proofs.Messages.{request_laws}
 use Rattle.wire_codec.proofs.decoder.first_request.Goals as goal
 
 pub used-requires : goal.used-requires

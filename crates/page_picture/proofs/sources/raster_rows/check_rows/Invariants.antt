@@ -1,4 +1,4 @@
-use Rattle.std.proofs.Common.{◌≡◌, ◌≤◌, ◌*◌, length, drop, true, false}
+use Rattle.std.proofs.Common.{◌≡◌, ◌≤◌, ◌+◌, ◌*◌, length, drop, true, false}
 use Rattle.netpbm.specs.Raster.{NoneAbove, SomeAbove}
 use Rattle.page_picture.specs.PageRows.{row_size, row_count}
 use Rattle.page_picture.proofs.sources.raster_rows.check_rows.Given as goal
@@ -7,6 +7,8 @@ abbrev pub invariant-loop-y : goal.invariant-loop-y
 invariant-loop-y g l = record {
   kept : g.R.Rereadable.is_kept l.reader ≡ g.R.Rereadable.is_kept l.fn.reader;
   text : g.R.Rereadable.text l.reader ≡ g.R.Rereadable.text l.fn.reader;
+  few : l.reads ≤ l.fn.reads + l._y * row_size l.header;
+  worked : g.R.Rereadable.is_kept l.fn.reader ≡ true → g.R.Rereadable.faults l.reader ≡ g.R.Rereadable.faults l.fn.reader;
   size : length l.bytes ≡ row_size l.header;
   left : g.R.Rereadable.is_kept l.fn.reader ≡ true → g.R.Rereadable.left l.reader ≡ drop (l._y * row_size l.header) (g.R.Rereadable.left l.fn.reader);
   within : g.R.Rereadable.is_kept l.fn.reader ≡ true → l._y * row_size l.header ≤ length (g.R.Rereadable.left l.fn.reader);

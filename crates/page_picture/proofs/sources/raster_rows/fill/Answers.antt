@@ -14,6 +14,9 @@ loop-made-preserved g c =
     let joined = take_split from (from + c.in-Ok.count) bytes (put_mid from room bytes c.read_on.new.buf) (omega arith) (take-put_mid_below _ _ _ _ _ (le_refl _) before.within) in
     record {
       size = search rules;
+      few = omega arith;
+      same = search rules;
+      worked = λ kept. c.in-Ok.ensures.faults (before.kept ∙ kept) ∙ before.worked kept;
       within = search rules;
       kept = c.in-Ok.ensures.kept ∙ before.kept;
       text = c.in-Ok.ensures.text ∙ before.text;

@@ -1,6 +1,6 @@
-use Rattle.wire_codec.specs.Message.{message_limit, reply}
+use Rattle.wire_message.specs.Message.{message_limit, reply}
 use Rattle.wire_codec.specs.Waiting.{Told}
-use Rattle.wire_codec.proofs.Messages.{reply_reads}
+use Rattle.wire_message.proofs.Messages.{reply_reads}
 use Rattle.wire_codec.proofs.Decoding.{taken_always, none_always, tells_taken, tells_none, tells_first, tells_which, result_taken}
 use Rattle.wire_codec.proofs.decoder.Decoder.next_reply.Goals as goal
 

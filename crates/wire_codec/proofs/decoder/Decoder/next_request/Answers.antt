@@ -1,6 +1,6 @@
-use Rattle.wire_codec.specs.Message.{message_limit, request}
+use Rattle.wire_message.specs.Message.{message_limit, request}
 use Rattle.wire_codec.specs.Waiting.{Asked}
-use Rattle.wire_codec.proofs.Messages.{request_laws}
+use Rattle.wire_message.proofs.Messages.{request_laws}
 use Rattle.wire_codec.proofs.Decoding.{taken_always, none_always, tells_taken, tells_none, tells_first, tells_which, result_taken}
 use Rattle.wire_codec.proofs.decoder.Decoder.next_request.Goals as goal
 

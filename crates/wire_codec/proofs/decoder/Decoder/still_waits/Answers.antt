@@ -1,6 +1,6 @@
 use Rattle.std.proofs.Common.{◌≡◌, ◌-◌, ◌∙◌, ℕ, List, length, take, drop, ap, subst, arith, Option, rules}
 use Rattle.std.proofs.lemmas.List.{take_all, length-drop}
-use Rattle.wire_codec.specs.declared.message.Procedure.{Procedure}
+use Rattle.wire_message.specs.declared.message.Procedure.{Procedure}
 use Rattle.wire_codec.specs.Pending.{StopsAt}
 use Rattle.wire_codec.specs.Waiting.{Waiting}
 use Rattle.wire_codec.proofs.decoder.Decoder.still_waits.Goals as goal

@@ -1,7 +1,7 @@
 use Rattle.std.proofs.Common.{rules, arith, drop}
 use Rattle.page_picture.specs.PageRows.{row_size}
 use Rattle.page_picture.specs.HeaderScan.{rest_of}
-use Rattle.page_picture.proofs.ShownLemmas.{header_fault, opened, from_first}
+use Rattle.page_picture.proofs.ShownLemmas.{header_fault, raster_fault, opened, from_first}
 use Rattle.page_picture.proofs.sources.pnm_page.PnmPage.open.Goals as goal
 
 pub returns-in-Err-page_header-clause-fault : goal.returns-in-Err-page_header-clause-fault
@@ -20,3 +20,7 @@ invariant_of-result g c = (
 pub returns-in-Ok-check_file-clause-found : goal.returns-in-Ok-check_file-clause-found
 returns-in-Ok-check_file-clause-found g c = λ kept.
     opened (g.R.Rereadable.text c.args.reader) (g.R.Rereadable.text c.check_file.new.reader) (rest_of c.page_header.new.self) c.in-Ok-page_header.header c.args.dpi c.end-reader.result.1 (search rules) (search rules) (search rules)
+
+pub returns-in-Err-check_file-clause-fault : goal.returns-in-Err-check_file-clause-fault
+returns-in-Err-check_file-clause-fault g c = λ kept.
+    raster_fault c.in-Err-check_file.fault (g.R.Rereadable.text c.args.reader) (rest_of c.page_header.new.self) c.in-Ok-page_header.header c.args.dpi (search rules) (search rules) (search rules)

@@ -1,10 +1,11 @@
 use Rattle.std.proofs.Common.{◌≡◌, ◌++◌, ◌+◌, ◌*◌, rules, arith, sym, ap, ◌∙◌, drop, take, length}
 use Rattle.page_picture.specs.PageRows.{row_size}
+use Rattle.page_picture.proofs.RowLemmas.{has_row}
 use Rattle.page_picture.proofs.ShownLemmas.{put_back, rest_after_row, shown_row}
 use Rattle.page_picture.proofs.sources.pnm_page.PnmPagePageSource.next_row.Goals as goal
 
-pub returns-in-Ok : goal.returns-in-Ok
-returns-in-Ok g c =
+pub returns-in-Ok-clause-row : goal.returns-in-Ok-clause-row
+returns-in-Ok-clause-row g c =
     let inside = c.self.inside in
     let before = c.self.invariant in
     let bytes = c.read_row.new.bytes in
@@ -37,3 +38,11 @@ invariant_of-self g c =
           rest_after_row inside.given (row_size inside.header) raster bytes left read size ∙ ap (λ text. drop ((inside.given + 1) * row_size inside.header) (drop inside.start text)) (sym c.in-Ok.ensures.text),
       λ kept. rw c.in-Ok.ensures.text (before.5 (sym c.in-Ok.ensures.kept ∙ kept)),
     )
+
+pub returns-in-Err-clause-failed : goal.returns-in-Err-clause-failed
+returns-in-Err-clause-failed g c =
+    let inside = c.self.inside in
+    let before = c.self.invariant in
+    rw (← c.self.view_is) (λ kept found.
+    let row = has_row inside.header (drop inside.start (g.R.Rereadable.text inside.reader)) (g.R.Rereadable.left inside.reader) inside.given before.0 (before.5 kept) (omega arith) (before.4 kept found) in
+    rw c.fail-in-Err.ensures.faults (c.in-Err.ensures.failed kept row))

@@ -1,0 +1,13 @@
+use Rattle.std.proofs.Common.{◌≤◌, ◌+◌, ◌-◌, take, length}
+use Rattle.std.specs.Io.KnownBytes.{Appends}
+use Rattle.byte_output.proofs.output.put.Given as goal
+
+abbrev pub invariant-loop-at : goal.invariant-loop-at
+invariant-loop-at g l = record {
+  bound : l.at ≤ length l.bytes;
+  bytes : Appends (g.W.Write.contents l.initial.to) (g.W.Write.contents l.to) (take l.at l.bytes);
+  again : l.again ≤ l.initial.again;
+}
+
+abbrev pub decreases-loop-at : goal.decreases-loop-at
+decreases-loop-at g l = (length l.bytes - l.at) + l.again

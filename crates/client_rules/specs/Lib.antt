@@ -1,0 +1,4 @@
+pub mod WireValues
+pub mod Talking
+pub mod Asking
+pub mod Talks

@@ -1,0 +1,155 @@
+//! Records of data bytes, in any pieces: a length word, most significant byte first, and as many bytes; the
+//! length 0xFFFFFFFF ends the data, and one status byte follows.
+
+ghost use Rattle.std.specs.Prelude.{◌≡◌, ◌<◌, ◌≤◌, ◌++◌, ◌↔◌, ℕ, List, [], length, ◌⊎◌};
+ghost use Rattle.std.specs.Int.{w32, to_be_bytes};
+ghost use Rattle.sane_fixed.specs.Status.{status_code};
+ghost use Rattle.data_records.specs.declared.records.Phase.{Phase as AnyPhase};
+ghost use Rattle.data_records.specs.declared.records.Phase.TheVariants.{Head, Ended};
+ghost use Rattle.data_records.specs.Records.{Continues, IsRecords, GoesOn, TellsEnd, HasEnded, Piece, AreSteps, all_used, all_given, ending, head_phase, rest_of_body};
+
+use sane_fixed::Status;
+use std::marker::Model;
+
+/// The head of a record of `len` bytes.
+pub fn record_head(len: u32) -> [u8; 4]
+    requires { len < 4294967295 }
+    ensures { result ≡ to_be_bytes w32 len }
+{
+    len.to_be_bytes()
+}
+
+/// The end of the records, and how the data ended.
+pub fn record_end(status: Status) -> [u8; 5]
+    ensures { result ≡ ending (status_code status) }
+{
+    [255, 255, 255, 255, status.code() as u8]
+}
+
+/// Where a reader stands in the records.
+#[derive(Clone, Copy, Debug, PartialEq, Eq)]
+pub enum Phase {
+    /// Before a record's head.
+    Head,
+    /// Behind so many bytes of a head.
+    Head1(u8),
+    Head2(u8, u8),
+    Head3(u8, u8, u8),
+    /// In a body, of which so many bytes are left.
+    Body(u32),
+    /// Before the status.
+    Status,
+    /// Behind the status.
+    Ended(u8),
+}
+
+/// What a step found.
+#[derive(Clone, Copy, Debug, PartialEq, Eq)]
+pub enum Step {
+    /// Nothing to give out.
+    More,
+    /// Payload: the bytes of the piece from the first place to before the second.
+    Bytes(usize, usize),
+    /// The end, with its status byte.
+    End(u8),
+}
+
+/// A reader of records. It stores no payload. Contracts see where it stands.
+#[derive(Drop)]
+pub struct RecordReader {
+    phase: Phase,
+}
+
+impl Model for RecordReader {
+    ghost use Rattle.data_records.specs.declared.records.Phase.{Phase};
+    ghost use Rattle.data_records.specs.Records.{IsPlace};
+
+    ghost Value = { Phase };
+
+    ghost view = { λ r. r.phase };
+
+    ghost invariant = { λ r. IsPlace r.phase };
+}
+
+// Behind the four bytes of a length.
+fn behind_head(length: u32) -> Phase
+    ensures { result ≡ head_phase length }
+{
+    if length == 0 {
+        Phase::Head
+    } else if length == u32::MAX {
+        Phase::Status
+    } else {
+        Phase::Body(length)
+    }
+}
+
+fn behind_body(left: u32) -> Phase
+    ensures { result ≡ rest_of_body left }
+{
+    if left == 0 {
+        Phase::Head
+    } else {
+        Phase::Body(left)
+    }
+}
+
+impl RecordReader {
+    /// A reader before the first record.
+    pub fn new() -> Self
+        ensures begins { (text payload : List ℕ) (status : ℕ) → Continues result text payload status ↔ IsRecords text payload status }
+        ensures head { result ≡ Head }
+    {
+        RecordReader { phase: Phase::Head }
+    }
+
+    /// Goes on in the bytes of a piece, and says how many of them it used: at least one of a piece that is
+    /// not empty, and after the end none.
+    pub fn step(&mut self, piece: &[u8]) -> (usize, Step)
+        ensures within { result.0 ≤ length piece.now }
+        ensures uses { 0 < length piece.now → HasEnded self.old ⊎ (0 < result.0) }
+        ensures goes_on { GoesOn self.old self.new piece.now result.0 result.1 }
+        ensures tells { 0 < length piece.now → TellsEnd self.new result.1 }
+        ensures ended { HasEnded self.old → (result.0 ≡ 0) × (self.new ≡ self.old) }
+    {
+        let Some(&first) = piece.first() else {
+            return (0, Step::More);
+        };
+        match self.phase {
+            Phase::Head => {
+                self.phase = Phase::Head1(first);
+                (1, Step::More)
+            }
+            Phase::Head1(a) => {
+                self.phase = Phase::Head2(a, first);
+                (1, Step::More)
+            }
+            Phase::Head2(a, b) => {
+                self.phase = Phase::Head3(a, b, first);
+                (1, Step::More)
+            }
+            Phase::Head3(a, b, c) => {
+                self.phase = behind_head(u32::from_be_bytes([a, b, c, first]));
+                (1, Step::More)
+            }
+            Phase::Body(left) => {
+                let count = (left as usize).min(piece.len());
+                self.phase = behind_body(left - count as u32);
+                (count, Step::Bytes(0, count))
+            }
+            Phase::Status => {
+                self.phase = Phase::Ended(first);
+                (1, Step::End(first))
+            }
+            Phase::Ended(status) => (0, Step::End(status)),
+        }
+    }
+}
+
+/// Over any pieces: where steps from a new reader end, the bytes they used are records, and what they gave
+/// out is the payload, with that status. Steps that used records have ended so.
+pub fn records_are_read_in_any_pieces()
+    ensures ended { (pieces : List Piece) (status : ℕ) → AreSteps Head pieces (Ended status) → IsRecords (all_used pieces) (all_given pieces) status }
+    ensures whole { (pieces : List Piece) (new : AnyPhase) (payload : List ℕ) (status : ℕ) → AreSteps Head pieces new → IsRecords (all_used pieces) payload status
+        → (new ≡ Ended status) × (all_given pieces ≡ payload) }
+{}

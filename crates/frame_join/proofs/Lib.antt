@@ -1,0 +1,15 @@
+pub mod TestLemmas
+pub mod FrameLaws
+pub mod StreamLaws
+pub mod JoinLaws
+pub mod AcceptLaws
+pub mod TextLaws
+pub mod FrontLaws
+pub mod HeaderLemmas
+pub mod KeptLaws
+pub mod ColorLaws
+pub mod SideLaws
+pub mod HeightLaws
+pub mod EndLaws
+pub mod PullLaws
+pub mod GivenLaws

@@ -1,0 +1,11 @@
+pub mod AloneFrame
+pub mod KeptFrame
+pub mod ColorPlanes
+pub mod FrameHistory
+pub mod FrameFile
+pub mod JoinStages
+pub mod Joining
+pub mod JoinSteps
+pub mod PlaneInside
+pub mod PlanesInside
+pub mod JoinInside

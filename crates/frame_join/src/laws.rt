@@ -1,0 +1,52 @@
+ghost use Rattle.std.specs.Prelude.{◌≡◌, ◌≢◌, ◌<◌, ◌++◌, None, true, ◌^◌, ℕ, List, [], ◌∷◌, length, slice_index};
+ghost use Rattle.netpbm.specs.Picture.{Picture};
+ghost use Rattle.netpbm.specs.Pnm.{IsWhole};
+ghost use Rattle.netpbm.specs.FileText.{header_text, row_text, joined};
+ghost use Rattle.page_picture.specs.Shows.{Frame, ShowsAlone, ShowsColors, ShowsFrames, frame_sample, channels_within};
+ghost use Rattle.frame_join.specs.AloneFrame.{is_alone, lines_in};
+ghost use Rattle.frame_join.specs.FrameFile.{header_alone, file_front, file_of};
+ghost use Rattle.frame_join.specs.FrameHistory.{Past, IsJoined, is_accepted};
+ghost use Rattle.frame_join.specs.Joining.{Joining, Stands};
+
+/// Before the picture is whole, what was given in all is no whole text.
+pub fn not_whole_before()
+    ensures { (past : Past) (join : Joining) → Stands past join → (IsJoined past → ⊥) → IsWhole past.given → ⊥ }
+{}
+
+/// Where no fault stands, a proper front of what was given in all is no whole text.
+pub fn no_front_is_whole()
+    ensures { (past : Past) (join : Joining) (front more : List ℕ) → Stands past join → past.fault ≡ None → past.given ≡ front ++ more → more ≢ [] → IsWhole front → ⊥ }
+{}
+
+/// Where no fault stands, what was given in all is less than 2^40 bytes.
+pub fn no_file_is_endless()
+    ensures { (past : Past) (join : Joining) → Stands past join → past.fault ≡ None → length past.given < 2 ^ 40 }
+{}
+
+/// A whole picture's frames show one.
+pub fn whole_shows()
+    ensures { (past : Past) (join : Joining) → Stands past join → IsJoined past → (p : Picture) × ShowsFrames past.ended p }
+{}
+
+/// A frame that shows a picture alone is accepted as the first.
+pub fn shown_frame_is_accepted()
+    ensures { (frame : Frame) (p : Picture) → ShowsAlone frame p → is_accepted [] frame.params frame.order ≡ true }
+{}
+
+/// Of three frames that show a picture each is accepted after those before it.
+pub fn shown_colors_are_accepted()
+    ensures { (a b c : Frame) (p : Picture) → ShowsColors a b c p → (is_accepted [] a.params a.order ≡ true) × (is_accepted (a ∷ []) b.params b.order ≡ true) × (is_accepted (a ∷ b ∷ []) c.params c.order ≡ true) }
+{}
+
+/// The file of a whole picture is that of one frame of known height; the three frames of one color each make a frame
+/// that has the colors side by side.
+pub fn whole_file_is_of_one_frame()
+    ensures { (past : Past) (join : Joining) → Stands past join → IsJoined past → (f : Frame) × (is_alone f.params ≡ true) × ((i : ℕ) → slice_index f.payload i < 256) × (file_of past.ended ≡ file_front f (lines_in f.params.lines)) }
+{}
+
+/// The header and the first rows that a frame gives for its file are those of the writer's text for the picture that
+/// the frame shows: the comment in the second line, and the bits past a row's end 0.
+pub fn frame_file_is_the_writers_text()
+    ensures { (f : Frame) (n : ℕ) → is_alone f.params ≡ true → ((i : ℕ) → slice_index f.payload i < 256) → file_front f n
+        ≡ header_text (header_alone f.params) ++ joined (λ y. row_text (header_alone f.params).format (header_alone f.params).maxval (header_alone f.params).width (λ x k. frame_sample (channels_within f.params.format) f x y k)) n }
+{}

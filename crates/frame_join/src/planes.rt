@@ -1,0 +1,142 @@
+ghost use Rattle.std.specs.Prelude.{◌≡◌, ◌<◌, ◌+◌, ◌*◌, ◌⊎◌, slice_index};
+ghost use Rattle.frame_join.specs.KeptFrame.{color_number};
+ghost use Rattle.frame_join.specs.ColorPlanes.{no_plane, no_planes, nth_plane, side_byte};
+ghost use Rattle.frame_join.specs.JoinSteps.{is_there, has_two, put_plane};
+
+use crate::kept_frame::color_number;
+use sane_fixed::FrameFormat;
+use std::alloc::Global;
+use std::marker::Model;
+use std::mem::swap;
+
+/// One color of a picture: how many bytes a line has, and the bytes.
+#[derive(Drop)]
+pub(crate) struct Plane {
+    line: u32,
+    bytes: Vec<u8>,
+}
+
+impl Model for Plane {
+    ghost use Rattle.frame_join.specs.ColorPlanes.{Plane as Shown};
+    ghost use Rattle.frame_join.specs.PlaneInside.{plane_seen};
+
+    ghost Value = { Shown };
+
+    ghost view = { plane_seen };
+}
+
+impl Plane {
+    fn new(alloc: Global) -> Plane
+        ensures { result ≡ no_plane }
+    {
+        Plane {
+            line: 0,
+            bytes: Vec::new(alloc),
+        }
+    }
+
+    fn is_there(&self) -> bool
+        ensures { result ≡ is_there self.now }
+    {
+        0 < self.line
+    }
+
+    /// The byte of that row and place; 0 past the end.
+    fn byte_at(&self, y: u32, place: usize) -> u8
+        requires { place < 1048576 }
+        ensures { result ≡ slice_index self.now.bytes (y * self.now.line + place) }
+    {
+        let at = y as usize * self.line as usize + place;
+        match self.bytes.get(at) {
+            Some(byte) => *byte,
+            None => 0,
+        }
+    }
+
+    /// Takes the bytes of a frame, and gives back those that it had.
+    fn put(&mut self, line: u32, bytes: &mut Vec<u8>)
+        ensures given { bytes.new.items ≡ self.old.bytes }
+        ensures value { self.new ≡ record { line = line; bytes = bytes.old.items } }
+    {
+        self.line = line;
+        swap(&mut self.bytes, bytes);
+    }
+}
+
+/// The three colors of a picture.
+#[derive(Drop)]
+pub(crate) struct Planes {
+    red: Plane,
+    green: Plane,
+    blue: Plane,
+}
+
+impl Model for Planes {
+    ghost use Rattle.frame_join.specs.ColorPlanes.{Planes as Shown};
+    ghost use Rattle.frame_join.specs.PlanesInside.{planes_seen};
+
+    ghost Value = { Shown };
+
+    ghost view = { planes_seen };
+}
+
+impl Planes {
+    pub(crate) fn new(alloc: Global) -> Planes
+        ensures { result ≡ no_planes }
+    {
+        Planes {
+            red: Plane::new(alloc),
+            green: Plane::new(alloc),
+            blue: Plane::new(alloc),
+        }
+    }
+
+    /// Whether two of the colors are there.
+    pub(crate) fn has_two(&self) -> bool
+        ensures { result ≡ has_two self.now }
+    {
+        self.red.is_there() && (self.green.is_there() || self.blue.is_there())
+            || self.green.is_there() && self.blue.is_there()
+    }
+
+    /// Whether the color is there.
+    pub(crate) fn has(&self, color: FrameFormat) -> bool
+        ensures { result ≡ is_there (nth_plane self.now (color_number color)) }
+    {
+        match color_number(color) {
+            0 => self.red.is_there(),
+            1 => self.green.is_there(),
+            _ => self.blue.is_there(),
+        }
+    }
+
+    /// Takes the bytes of the frame of a color, and gives back those that the color had.
+    pub(crate) fn put(&mut self, color: FrameFormat, line: u32, bytes: &mut Vec<u8>)
+        ensures given { bytes.new.items ≡ (nth_plane self.old (color_number color)).bytes }
+        ensures value { self.new ≡ put_plane (color_number color) (record { line = line; bytes = bytes.old.items }) self.old }
+    {
+        match color_number(color) {
+            0 => self.red.put(line, bytes),
+            1 => self.green.put(line, bytes),
+            _ => self.blue.put(line, bytes),
+        }
+    }
+
+    /// Byte `place` of row `y` where the three colors of each pixel stand side by side.
+    pub(crate) fn side_byte(&self, depth: u32, y: u32, place: usize) -> u8
+        requires place { place < 1048576 }
+        requires depth { (depth ≡ 8) ⊎ (depth ≡ 16) }
+        ensures { result ≡ side_byte self.now depth y place }
+    {
+        let (color, at) = if depth == 8 {
+            (place % 3, place / 3)
+        } else {
+            (place / 2 % 3, place / 6 * 2 + place % 2)
+        };
+        match color {
+            0 => self.red.byte_at(y, at),
+            1 => self.green.byte_at(y, at),
+            _ => self.blue.byte_at(y, at),
+        }
+    }
+}

@@ -1,0 +1,53 @@
+ghost use Rattle.std.specs.Prelude.{◌≡◌, ◌≤◌, ◌<◌, ◌++◌, Some, None, length, take, drop};
+ghost use Rattle.netpbm.specs.Picture.{Picture};
+ghost use Rattle.netpbm.specs.Pnm.{Denotes, IsWhole};
+ghost use Rattle.page_picture.specs.Shows.{ShowsFrames};
+ghost use Rattle.frame_join.specs.declared.join_stage.JoinFault.{JoinFault};
+ghost use Rattle.frame_join.specs.FrameHistory.{Past, after_pull, IsJoined};
+ghost use Rattle.frame_join.specs.FrameFile.{AllGone, GoesThrough};
+ghost use Rattle.frame_join.specs.Joining.{Stands, IsDrained};
+
+use crate::frame_join::FrameJoin;
+
+/// Takes the bytes of the Netpbm file from a join. It has no state of its own: the join knows what has gone, so that
+/// another goes on where this one stopped.
+#[derive(Drop)]
+pub struct PnmOut {
+    _private: (),
+}
+
+impl PnmOut {
+    /// Nothing was taken yet.
+    pub fn new() -> PnmOut {
+        PnmOut { _private: () }
+    }
+
+    /// Writes the next bytes of the file that may go out to the front of `buf`, and says how many. The picture's last
+    /// row goes out only once the picture is whole, and nothing after a fault. It takes no memory.
+    pub fn pull(&mut self, join: &mut FrameJoin, buf: &mut [u8]) -> usize
+        ensures count { result ≤ length buf.old }
+        ensures rest { drop result buf.new ≡ drop result buf.old }
+        // The join goes on from what was told before and what was given in all.
+        ensures carried { (past : Past) → Stands past join.old → Stands (after_pull (take result buf.new) past) join.new }
+        // After a fault nothing goes out.
+        ensures silent { (past : Past) (fault : JoinFault) → Stands past join.old → past.fault ≡ Some fault → result ≡ 0 }
+        // Where nothing goes out, the header and the rows have gone, or the whole file; of a frame that is kept nothing.
+        ensures gone { (past : Past) → Stands past join.old → past.fault ≡ None → result ≡ 0 → 0 < length buf.old → AllGone past.under past.ended past.given }
+        // Then, where the picture is whole, what was given in all denotes the picture that the frames show.
+        ensures denotes { (past : Past) → Stands past join.old → IsJoined past → result ≡ 0 → 0 < length buf.old → (p : Picture) → ShowsFrames past.ended p → Denotes past.given p }
+        // Before the picture is whole, what was given in all is not.
+        ensures whole { (past : Past) → Stands past join.old → (IsJoined past → ⊥) → IsWhole (past.given ++ take result buf.new) → ⊥ }
+        // Then, where no frame is kept, the join has room for a further piece.
+        ensures drained { (past : Past) → Stands past join.old → GoesThrough past.under → result ≡ 0 → 0 < length buf.old → IsDrained join.new }
+    {
+        let mut at = 0;
+        while at < buf.len() {
+            let end = join.next_run(buf, at);
+            if end == at {
+                return at;
+            }
+            at = end;
+        }
+        at
+    }
+}

@@ -1,0 +1,129 @@
+ghost use Rattle.std.specs.Prelude.{◌≡◌, ◌≢◌, ◌<◌, ◌↔◌, true, false, Some, length, [], IfErr, IsTrue, OnOk, OnErr};
+ghost use Rattle.sane_fixed.specs.declared.status.Status.TheVariants.{Inval, NoDocs};
+ghost use Rattle.scan_frames.specs.Frames.{has_picture};
+ghost use Rattle.device_api.specs.State.{is_at_rest, page_of, rests, with_phase, AtRest};
+ghost use Rattle.local_job.specs.Causes.{HasCause};
+ghost use Rattle.local_job.specs.FrameReading.{IsRefusal, Keeps};
+ghost use Rattle.local_job.specs.Pages.{AreScanned, FilesPage, LeavesPage, StopsAt};
+ghost use Rattle.local_job.specs.Stops.{answered};
+
+use byte_output::MOST_AGAIN;
+use crate::page_out::{PageOut, give_back};
+use crate::scan::{PIECE, ROOM, scan_passes, zeros};
+use crate::stop::{Stop, bad_output};
+use device_api::Device;
+use pnm_writer::{FrameJoin, not_whole_before};
+use sane_fixed::Status;
+use scan_job::{Shelf, Why};
+use std::alloc::Global;
+
+/// Scans the page that a scanner at rest has first, to the shelf's output of that number. Says whether the shelf took
+/// the output back; the page is scanned all the same. A scan that ends otherwise leaves no whole file, and what the
+/// shelf says then is not asked.
+fn scan_page<S: Shelf>(
+    alloc: Global,
+    device: &mut dyn Device,
+    piece: &mut [u8],
+    room: &mut [u8],
+    shelf: &mut S,
+    number: u32,
+    again: &mut u64,
+) -> Result<bool, Stop>
+    requires rest { is_at_rest (state device.old).phase ≡ true }
+    requires piece { 0 < length piece.old }
+    requires room { 0 < length room.old }
+    ensures piece { length piece.new ≡ length piece.old }
+    ensures room { length room.new ≡ length room.old }
+    ensures done { OnOk result (FilesPage (state device.old) number (S.stock shelf.old) (S.stock shelf.new)) }
+    ensures short { OnErr result (LeavesPage number (S.stock shelf.old) (S.stock shelf.new)) }
+    ensures refusal { IfErr result (λ stop. IsRefusal stop) }
+    ensures empty { IfErr result (λ stop. (state device.old).pages ≡ [] → stop ≡ answered NoDocs) }
+    ensures stays { OnErr result ((state device.old).pages ≡ [] → state device.new ≡ with_phase (state device.old) (AtRest false)) }
+    ensures silent { OnErr result ((state device.old).pages ≡ [] → S.stock shelf.new ≡ S.stock shelf.old) }
+    ensures none { IfErr result (λ stop. (state device.old).pages ≢ [] → has_picture (state device.old).setup (page_of (state device.old)) ≡ false → stop ≡ answered Inval) }
+    ensures cause { IfErr result (λ stop. (state device.old).pages ≢ [] → has_picture (state device.old).setup (page_of (state device.old)) ≡ true → HasCause stop (state device.old) (state device.new)) }
+    ensures untold { OnOk result ((state device.old).setup.told ≢ Some NoDocs) }
+    ensures rest { OnOk result (state device.new ≡ rests (state device.old) false) }
+    ensures same { Keeps (state device.old) (state device.new) }
+{
+    not_whole_before();
+    let mut join = FrameJoin::new(alloc);
+    let mut page = PageOut {
+        shelf,
+        number,
+        out: None,
+    };
+    let scanned = scan_passes(alloc, device, &mut join, piece, room, &mut page, again);
+    let PageOut {
+        shelf,
+        number: _,
+        out,
+    } = page;
+    let is_shelved = give_back(shelf, out);
+    match scanned {
+        Ok(()) => Ok(is_shelved),
+        Err(stop) => Err(stop),
+    }
+}
+
+/// Whether a scan ended since there was no page.
+fn is_no_page(stop: Stop) -> bool
+    ensures { IsTrue result ↔ (stop ≡ answered NoDocs) }
+{
+    matches!(
+        stop,
+        Stop {
+            status: Status::NoDocs,
+            why: Why::Answer,
+        }
+    )
+}
+
+/// Scans the pages, one after another.
+fn scan_each<S: Shelf>(
+    alloc: Global,
+    device: &mut dyn Device,
+    count: u32,
+    piece: &mut [u8],
+    room: &mut [u8],
+    shelf: &mut S,
+) -> Result<(), Stop>
+    requires rest { is_at_rest (state device.old).phase ≡ true }
+    requires piece { 0 < length piece.old }
+    requires room { 0 < length room.old }
+    ensures done { OnOk result (AreScanned (state device.old) count (S.stock shelf.old) (S.stock shelf.new) (state device.new)) }
+    ensures stop { IfErr result (λ stop. StopsAt (state device.old) count (S.stock shelf.old) (S.stock shelf.new) (state device.new) stop) }
+    ensures refusal { IfErr result (λ stop. IsRefusal stop) }
+{
+    let mut again = MOST_AGAIN;
+    for behind in 0..count {
+        match scan_page(alloc, device, piece, room, shelf, behind + 1, &mut again) {
+            Ok(true) => {}
+            Ok(false) => return Err(bad_output()),
+            Err(stop) if behind > 0 && is_no_page(stop) => return Ok(()),
+            Err(stop) => return Err(stop),
+        }
+    }
+    Ok(())
+}
+
+/// Scans so many pages of a scanner at rest, one after another, each to the shelf's output of its number, from 1. It is
+/// done before that where at least one page was scanned and none is left.
+pub fn scan_pages<S: Shelf>(
+    alloc: Global,
+    device: &mut dyn Device,
+    count: u32,
+    shelf: &mut S,
+) -> Result<(), Stop>
+    requires { is_at_rest (state device.old).phase ≡ true }
+    ensures done { OnOk result (AreScanned (state device.old) count (S.stock shelf.old) (S.stock shelf.new) (state device.new)) }
+    ensures stop { IfErr result (λ stop. StopsAt (state device.old) count (S.stock shelf.old) (S.stock shelf.new) (state device.new) stop) }
+    ensures refusal { IfErr result (λ stop. IsRefusal stop) }
+{
+    if count == 0 {
+        return Ok(());
+    }
+    let mut piece = zeros(alloc, PIECE)?;
+    let mut room = zeros(alloc, ROOM)?;
+    scan_each(alloc, device, count, &mut piece, &mut room, shelf)
+}

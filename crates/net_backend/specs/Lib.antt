@@ -1,4 +1,0 @@
-pub mod Why
-pub mod JobSize
-pub mod Outcomes
-pub mod Shown

@@ -1,0 +1,4 @@
+pub mod Hearings
+pub mod Heeding
+pub mod Records
+pub mod Ending

@@ -1,0 +1,5 @@
+pub mod Outgoing
+pub mod Sending
+pub mod Talker
+pub mod Hearing
+pub mod Imaging

@@ -1,0 +1,560 @@
+ghost use Rattle.std.specs.Prelude.{◌≡◌, ◌≢◌, true, false};
+ghost use Rattle.scan_job.specs.JobSize.{HasFault};
+ghost use Rattle.client_rules.specs.Talks.{is_imaging};
+ghost use Rattle.net_client.specs.Hearing.{awaited, outcome_by};
+
+use crate::asking::{ask, say_farewell, say_goodbye, say_start};
+use crate::imaging::{Came, read_on};
+use crate::outbox::Outbox;
+use client_rules::{Errand, Link, Next, Notes, Progress, Queue, frame_ended, hear, shaped};
+use data_records::RecordReader;
+use device_api::DeviceInfo;
+use frame_join::{FrameJoin, JoinFault, PnmOut, not_whole_before};
+use option_desc::{Descriptor, Value};
+use sane_fixed::{NoMem, Status};
+use scan_job::{Job, JobFault, Listed, Outcome, Reports, Task, Why};
+use std::alloc::Global;
+use std::marker::Model;
+use wire_codec::{Decoder, Procedure, Reply, WireFault};
+
+/// One job over a control connection and the data connections of its frames.
+#[derive(Drop)]
+pub struct Client {
+    alloc: Global,
+    errand: Errand,
+    outcome: Outcome,
+    progress: Progress,
+    notes: Notes,
+    out: Outbox,
+    decoder: Decoder,
+    reader: RecordReader,
+    join: FrameJoin,
+    file: PnmOut,
+}
+
+impl Model for Client {
+    ghost use Rattle.std.specs.Prelude.{◌≡◌, ◌≤◌, true, None};
+    ghost use Rattle.data_records.specs.Records.{HasEnded};
+    ghost use Rattle.net_client.specs.Talker.{Talker};
+    ghost use Rattle.client_rules.specs.Talks.{is_running, turns};
+
+    ghost Value = { Talker };
+
+    ghost view = { λ c. record { errand = c.errand; outcome = c.outcome; progress = c.progress; notes = c.notes; out = c.out.text; input = c.decoder; phase = c.reader; join = c.join } };
+
+    // While the job runs there is room for its end, and for a page's START where that is to come.
+    // The decoder has answered no fault, and the reader is not behind the end.
+    ghost invariant = { λ c. (is_running c.outcome ≡ true → 12 ≤ c.out.room) × (turns c.outcome c.progress ≡ true → 20 ≤ c.out.room) × (is_running c.outcome ≡ true → c.decoder.fault ≡ None) × (HasEnded c.reader → ⊥) };
+}
+
+impl Client {
+    ghost use Rattle.std.specs.Prelude.{◌≡◌, ◌≤◌, ◌++◌, true, false, Some, None, [], IfOk, IfErr, if◌then◌else◌, length, take, drop, min};
+    ghost use Rattle.std.specs.Prelude.{OnOk, OnErr};
+    ghost use Rattle.frame_join.specs.FrameHistory.{Past};
+    ghost use Rattle.frame_join.specs.Joining.{Stands};
+    ghost use Rattle.net_client.specs.Hearing.{HearsReply, IsStarved, StandsStarved, StopsReading, Heeds};
+    ghost use Rattle.client_rules.specs.declared.progress.Progress.TheVariants as stages;
+    ghost use Rattle.client_rules.specs.Talking.{unjoined};
+    ghost use Rattle.client_rules.specs.Talks.{next_outcome, scans, IsWithin};
+    ghost use Rattle.std.specs.Prelude.{◌<◌, not};
+    ghost use Rattle.scan_job.specs.Outcomes.{IsOver};
+    ghost use Rattle.netpbm.specs.Picture.{Picture};
+    ghost use Rattle.netpbm.specs.Pnm.{Denotes, IsWhole};
+    ghost use Rattle.page_picture.specs.Shows.{ShowsFrames};
+    ghost use Rattle.frame_join.specs.FrameHistory.{IsJoined, after_pull};
+    ghost use Rattle.client_rules.specs.Talks.{is_ended, turns};
+    ghost use Rattle.net_client.specs.Talker.{TakesPage, TurnsPage};
+    ghost use Rattle.client_rules.specs.Talks.{is_receiving};
+    ghost use Rattle.net_client.specs.Imaging.{EndsFrame, Receives};
+    ghost use Rattle.std.specs.Prelude.{IfSome, IsNone};
+    ghost use Rattle.wire_format.specs.Limit.{limited};
+    ghost use Rattle.wire_format.specs.Lawful.{Takes};
+    ghost use Rattle.wire_message.specs.Message.{message_limit, reply};
+    ghost use Rattle.wire_format.specs.Writer.{behind};
+    ghost use Rattle.scan_job.specs.declared.outcome.Outcome.{Outcome as AnyOutcome};
+    ghost use Rattle.net_client.specs.Sending.{requests_text};
+    ghost use Rattle.client_rules.specs.Asking.{goodbye, farewell};
+    ghost use Rattle.client_rules.specs.Talks.{is_running, reports_of, options_shown, IsWait, heard_at, is_lost_by, wanted, connected};
+    ghost use Rattle.net_client.specs.Talker.{Settles, ended, starved, IsFresh, Serves, phase_connected};
+    ghost use Rattle.scan_job.specs.JobSize.{HasFault};
+
+    fn is_running(&self) -> bool
+        ensures { result ≡ is_running self.now.outcome }
+    {
+        match self.outcome {
+            Outcome::Running => true,
+            Outcome::Done(_) | Outcome::Ended(_, _) => false,
+        }
+    }
+
+    /// A client of a job. A job that is refused comes back.
+    pub fn new(alloc: Global, job: Job) -> Result<Client, (JobFault, Job)>
+        ensures fresh { IfOk result (λ c. IsFresh job c) }
+        ensures fault { IfErr result (λ e. HasFault job (Some e.0)) }
+        ensures back { IfErr result (λ e. e.1 ≡ job) }
+    {
+        if let Some(fault) = job.fault() {
+            return Err((fault, job));
+        }
+        let Job {
+            user,
+            password,
+            device,
+            settings,
+            task,
+        } = job;
+        let errand = Errand {
+            user,
+            password,
+            device,
+            task,
+        };
+        let mut out = Outbox::new(alloc);
+        if ask(alloc, &mut out, &errand, 0, &Progress::Greeting).is_err() {
+            let Errand {
+                user,
+                password,
+                device,
+                task,
+            } = errand;
+            let job = Job {
+                user,
+                password,
+                device,
+                settings,
+                task,
+            };
+            return Err((JobFault::NoMem, job));
+        }
+        Ok(Client {
+            alloc,
+            errand,
+            outcome: Outcome::Running,
+            progress: Progress::Greeting,
+            notes: Notes {
+                word: 0,
+                left: Queue::from_vec(settings),
+                reports: Listed::none(alloc),
+                known: Listed::none(alloc),
+                file: 1,
+            },
+            out,
+            decoder: Decoder::new(alloc),
+            reader: RecordReader::new(),
+            join: FrameJoin::new(alloc),
+            file: PnmOut::new(),
+        })
+    }
+
+    /// How far the job is.
+    pub fn outcome(&self) -> &Outcome
+        ensures { result.now ≡ self.now.outcome }
+    {
+        &self.outcome
+    }
+
+    /// The next bytes for the control connection.
+    pub fn take_out(&mut self, buf: &mut [u8]) -> usize
+        ensures count { result ≡ min (length buf.old) (length self.old.out) }
+        ensures given { take result buf.new ≡ take result self.old.out }
+        ensures rest { drop result buf.new ≡ drop result buf.old }
+        ensures left { self.new ≡ record self.old { out = drop result self.old.out } }
+    {
+        self.out.take(buf)
+    }
+
+    /// The job ends so.
+    fn stop(&mut self, status: Status, why: Why)
+        ensures { self.new ≡ ended status why self.old }
+    {
+        self.outcome = Outcome::Ended(status, why);
+        self.progress = Progress::Over;
+    }
+
+    fn options_shown(&mut self) -> Listed<(Descriptor, Option<Value>)>
+        ensures shown { result ≡ options_shown self.old.errand.task self.old.notes.known }
+        ensures rest { self.new ≡ record self.old { notes = record self.old.notes { known = [] } } }
+    {
+        let known = self.notes.known.take_all(self.alloc);
+        match self.errand.task {
+            Task::Show => known,
+            _ => Listed::none(self.alloc),
+        }
+    }
+
+    /// The job is done, and found these devices.
+    fn finish(&mut self, devices: Listed<DeviceInfo>)
+        requires { is_running self.old.outcome ≡ true }
+        ensures { Settles self.old (Next.Finish devices) self.new }
+    {
+        let options = self.options_shown();
+        let settings = self.notes.reports.take_all(self.alloc);
+        self.outcome = Outcome::Done(Reports {
+            settings,
+            devices,
+            options,
+        });
+        self.progress = Progress::Over;
+        say_goodbye(&mut self.out, self.errand.task, self.notes.word);
+    }
+
+    /// The job goes on so; false where memory was wanting.
+    fn settle(&mut self, next: Next) -> bool
+        requires { is_running self.old.outcome ≡ true }
+        ensures settled { result ≡ true → Settles self.old next self.new }
+        ensures starved { result ≡ false → self.new ≡ starved self.old }
+        ensures waits { result ≡ false → IsWait next }
+    {
+        match next {
+            Next::Wait(progress) => {
+                if ask(
+                    self.alloc,
+                    &mut self.out,
+                    &self.errand,
+                    self.notes.word,
+                    &progress,
+                )
+                .is_err()
+                {
+                    self.stop(Status::NoMem, Why::Memory);
+                    return false;
+                }
+                self.progress = progress;
+                true
+            }
+            Next::Finish(devices) => {
+                self.finish(devices);
+                true
+            }
+            Next::Stop(status, why) => {
+                self.stop(status, why);
+                true
+            }
+        }
+    }
+
+    /// Bytes of the control connection come. Each reply that is whole is heard, as long as one is waited for; the rest
+    /// waits. A job that is over ignores them.
+    pub fn feed_control(&mut self, piece: &[u8])
+        ensures over { is_running self.old.outcome ≡ false → self.new ≡ self.old }
+        ensures heeds { is_running self.old.outcome ≡ true → (past : Past) → Serves past self.old → Heeds self.old past piece.now self.new }
+    {
+        if !self.is_running() {
+            return;
+        }
+        if self.decoder.feed(piece).is_err() {
+            self.outcome = outcome_by(WireFault::NoMem);
+            self.progress = Progress::Over;
+            return;
+        }
+        while self.is_running() {
+            let Some(procedure) = awaited(&self.progress) else {
+                return;
+            };
+            let Some(reply) = self.read(procedure) else {
+                return;
+            };
+            if !self.hear(reply) {
+                return;
+            }
+        }
+    }
+
+    /// The next reply, to a procedure. Where there can be none the job ends.
+    fn read(&mut self, procedure: Procedure) -> Option<Reply>
+        requires { is_running self.old.outcome ≡ true }
+        ensures some { IfSome result (λ r. (self.new ≡ record self.old { input = self.new.input }) × Takes (limited message_limit (reply procedure)) self.old.input.rest self.new.input.rest r) }
+        ensures none { IsNone result → StopsReading procedure self.old self.new }
+    {
+        match self.decoder.next_reply(self.alloc, procedure) {
+            Ok(reply) => reply,
+            Err(fault) => {
+                self.outcome = outcome_by(fault);
+                self.progress = Progress::Over;
+                None
+            }
+        }
+    }
+
+    /// A reply comes; false where memory was wanting.
+    fn hear(&mut self, reply: Reply) -> bool
+        requires { is_running self.old.outcome ≡ true }
+        ensures heard { result ≡ true → (past : Past) → Serves past self.old → HearsReply self.old past reply self.new }
+        ensures starved { result ≡ false → (past : Past) → Serves past self.old → IsStarved self.old past self.new }
+        ensures input { self.new.input ≡ self.old.input }
+    {
+        let next = self.next_by(reply);
+        match next {
+            Ok(next) => self.settle(next),
+            Err(NoMem) => {
+                self.stop(Status::NoMem, Why::Memory);
+                false
+            }
+        }
+    }
+
+    /// What a reply makes of the job, which waits for nothing then.
+    fn next_by(&mut self, reply: Reply) -> Result<Next, NoMem>
+        ensures next { (past : Past) → Stands past self.old.join → past.fault ≡ None → IfOk result (λ next. next ≡ (heard_at self.old.progress self.old.errand self.old.notes past reply).turn.next) }
+        ensures notes { (past : Past) → Stands past self.old.join → past.fault ≡ None → OnOk result (self.new.notes ≡ (heard_at self.old.progress self.old.errand self.old.notes past reply).turn.notes) }
+        ensures past { (past : Past) → Stands past self.old.join → past.fault ≡ None → OnOk result (Stands (heard_at self.old.progress self.old.errand self.old.notes past reply).past self.new.join) }
+        ensures starved { (past : Past) → Stands past self.old.join → past.fault ≡ None → OnErr result (StandsStarved past self.new.join) }
+        ensures rest { self.new ≡ record self.old { progress = self.new.progress; notes = self.new.notes; join = self.new.join } }
+    {
+        let progress = std::mem::replace(&mut self.progress, Progress::Over);
+        match progress {
+            Progress::Shaping { port, order } => {
+                shaped(self.alloc, &mut self.join, port, order, reply)
+            }
+            progress => hear(self.alloc, &self.errand, &mut self.notes, progress, reply),
+        }
+    }
+
+    /// Whether the job is done or has ended.
+    pub fn is_over(&self) -> bool
+        ensures { result ≡ not (is_running self.now.outcome) }
+    {
+        !self.is_running()
+    }
+
+    /// The outcome of a job that is over.
+    pub fn into_outcome(self) -> Outcome
+        requires { is_running self.outcome ≡ false }
+        ensures outcome { result ≡ self.outcome }
+        ensures over { IsOver result }
+    {
+        let Client { outcome, .. } = self;
+        outcome
+    }
+
+    /// Whether the data connection of a frame is made and its end record has not come.
+    pub fn is_receiving(&self) -> bool
+        ensures { result ≡ is_receiving self.now.outcome self.now.progress }
+    {
+        match self.progress {
+            Progress::Imaging { opened, .. } => self.is_running() && opened,
+            _ => false,
+        }
+    }
+
+    /// Bytes of the data connection come. They are records; the join takes what these give, and the end record ends the
+    /// frame. What comes behind it, and where no data is wanted, is ignored.
+    pub fn feed_data(&mut self, piece: &[u8])
+        ensures idle { is_receiving self.old.outcome self.old.progress ≡ false → self.new ≡ self.old }
+        ensures receives { is_receiving self.old.outcome self.old.progress ≡ true → (past : Past) → Serves past self.old → Receives self.old past piece.now self.new }
+    {
+        if !self.is_receiving() {
+            return;
+        }
+        match read_on(&mut self.reader, &mut self.join, piece) {
+            Came::More => {}
+            Came::Fault(fault) => self.fail(fault),
+            Came::End(status) => {
+                self.reader = RecordReader::new();
+                let _ = self.end_frame(status);
+            }
+        }
+    }
+
+    /// The frames make no picture.
+    fn fail(&mut self, fault: JoinFault)
+        ensures { self.new ≡ record self.old { outcome = next_outcome self.old.errand.task self.old.notes (unjoined fault); progress = stages.Over } }
+    {
+        match fault {
+            JoinFault::Shape => self.stop(Status::IoError, Why::Malformed),
+            JoinFault::Long => self.stop(Status::IoError, Why::Long),
+            JoinFault::Short => self.stop(Status::IoError, Why::Short),
+            JoinFault::NoMem => self.stop(Status::NoMem, Why::Memory),
+        }
+    }
+
+    /// The end record of a frame comes; false where memory was wanting.
+    fn end_frame(&mut self, status: u8) -> bool
+        requires { is_running self.old.outcome ≡ true }
+        ensures ended { result ≡ true → (past : Past) → Stands past self.old.join → scans self.old.errand.task ≡ true → IsWithin past → EndsFrame self.old past status self.new }
+        ensures starved { result ≡ false → (past : Past) → Stands past self.old.join → scans self.old.errand.task ≡ true → IsWithin past → IsStarved self.old past self.new }
+    {
+        let next = frame_ended(
+            self.alloc,
+            &mut self.join,
+            self.errand.task,
+            self.notes.file,
+            status,
+        );
+        self.settle(next)
+    }
+
+    fn is_ended(&self) -> bool
+        ensures { result ≡ is_ended self.now.outcome }
+    {
+        match self.outcome {
+            Outcome::Running | Outcome::Done(_) => false,
+            Outcome::Ended(_, _) => true,
+        }
+    }
+
+    fn is_turning(&self) -> bool
+        ensures { result ≡ turns self.now.outcome self.now.progress }
+    {
+        match self.progress {
+            Progress::Turning => self.is_running(),
+            _ => false,
+        }
+    }
+
+    /// The number of the file, from 1, that the next byte of `take_file` is of.
+    pub fn file_number(&self) -> u32
+        ensures { result ≡ self.now.notes.file }
+    {
+        self.notes.file
+    }
+
+    /// The next bytes of the file; never of two files in one call. A job that has ended gives none. The call that gives the
+    /// last byte of the file of a batch's page asks for the next page. It takes no memory.
+    pub fn take_file(&mut self, buf: &mut [u8]) -> usize
+        ensures count { result ≤ length buf.old }
+        ensures rest { drop result buf.new ≡ drop result buf.old }
+        ensures ended { is_ended self.old.outcome ≡ true → (result ≡ 0) × (self.new ≡ self.old) }
+        ensures same { is_ended self.old.outcome ≡ false → turns self.old.outcome self.old.progress ≡ false → self.new ≡ record self.old { join = self.new.join } }
+        ensures carried { (past : Past) → Serves past self.old → turns self.old.outcome self.old.progress ≡ false → Serves (after_pull (take result buf.new) past) self.new }
+        ensures page { turns self.old.outcome self.old.progress ≡ true → (past : Past) → Serves past self.old → TakesPage self.old past (take result buf.new) self.new }
+        // Where nothing more comes of a whole picture, what was given in all denotes it.
+        ensures denotes { (past : Past) → Serves past self.old → is_ended self.old.outcome ≡ false → IsJoined past → result ≡ 0 → 0 < length buf.old → (p : Picture) → ShowsFrames past.ended p → Denotes past.given p }
+        // Before the picture is whole, what was given in all is not.
+        ensures whole { (past : Past) → Serves past self.old → (IsJoined past → ⊥) → IsWhole (past.given ++ take result buf.new) → ⊥ }
+    {
+        not_whole_before();
+        if self.is_ended() {
+            return 0;
+        }
+        if self.is_turning() {
+            return self.take_page(buf);
+        }
+        self.file.pull(&mut self.join, buf)
+    }
+
+    /// The next bytes of the file of a page that is whole.
+    fn take_page(&mut self, buf: &mut [u8]) -> usize
+        requires { turns self.old.outcome self.old.progress ≡ true }
+        ensures count { result ≤ length buf.old }
+        ensures rest { drop result buf.new ≡ drop result buf.old }
+        ensures page { (past : Past) → Serves past self.old → TakesPage self.old past (take result buf.new) self.new }
+        ensures denotes { (past : Past) → Stands past self.old.join → IsJoined past → result ≡ 0 → 0 < length buf.old → (p : Picture) → ShowsFrames past.ended p → Denotes past.given p }
+        ensures whole { (past : Past) → Stands past self.old.join → (IsJoined past → ⊥) → IsWhole (past.given ++ take result buf.new) → ⊥ }
+    {
+        let count = self.file.pull(&mut self.join, buf);
+        if self.join.has_given_all() {
+            self.turn();
+        }
+        count
+    }
+
+    /// The next page.
+    fn turn(&mut self)
+        requires { turns self.old.outcome self.old.progress ≡ true }
+        ensures { TurnsPage self.old self.new }
+    {
+        self.progress = Progress::Starting { first: true };
+        self.join = FrameJoin::new(self.alloc);
+        if self.notes.file < u32::MAX {
+            self.notes.file += 1;
+        }
+        say_start(&mut self.out, self.notes.word);
+    }
+
+    /// The job is given up: one that runs ends so, and tells the daemon. It takes no memory.
+    pub fn cancel(&mut self)
+        ensures over { is_running self.old.outcome ≡ false → self.new ≡ self.old }
+        ensures ended { is_running self.old.outcome ≡ true → self.new ≡ record (ended Status.Cancelled Why.Cancelled self.old) { out = self.new.out } }
+        ensures text { is_running self.old.outcome ≡ true → behind self.old.out (requests_text (farewell self.old.notes.word self.old.progress)) ≡ Some self.new.out }
+        ensures serves { (past : Past) → Serves past self.old → Serves past self.new }
+    {
+        if !self.is_running() {
+            return;
+        }
+        say_farewell(&mut self.out, self.notes.word, &self.progress);
+        self.outcome = Outcome::Ended(Status::Cancelled, Why::Cancelled);
+        self.progress = Progress::Over;
+    }
+
+    /// A connection is lost. That of the data counts from the wanted port to the end record.
+    pub fn link_lost(&mut self, link: Link)
+        ensures lost { self.new ≡ (if is_lost_by link self.old.outcome self.old.progress then ended Status.IoError Why.Lost self.old else self.old) }
+        ensures serves { (past : Past) → Serves past self.old → Serves past self.new }
+    {
+        if self.is_lost_by(link) {
+            self.stop(Status::IoError, Why::Lost);
+        }
+    }
+
+    fn is_lost_by(&self, link: Link) -> bool
+        ensures { result ≡ is_lost_by link self.now.outcome self.now.progress }
+    {
+        match link {
+            Link::Control => self.is_running(),
+            Link::Image => self.is_running() && is_imaging(&self.progress),
+        }
+    }
+
+    /// The port of the data connection that is wanted.
+    pub fn data_wanted(&self) -> Option<u16>
+        ensures { result ≡ wanted self.now.progress }
+    {
+        match self.progress {
+            Progress::Imaging {
+                port,
+                opened: false,
+            } => Some(port),
+            _ => None,
+        }
+    }
+
+    /// The data connection that was wanted is made.
+    pub fn data_opened(&mut self)
+        ensures opened { self.new ≡ record self.old { progress = connected self.old.progress; phase = phase_connected self.old.progress self.old.phase } }
+        ensures serves { (past : Past) → Serves past self.old → Serves past self.new }
+    {
+        if let Some(port) = self.data_wanted() {
+            self.progress = Progress::Imaging { port, opened: true };
+            self.reader = RecordReader::new();
+        }
+    }
+}
+
+fn is_imaging(progress: &Progress) -> bool
+    ensures { result ≡ is_imaging progress.now }
+{
+    match progress {
+        Progress::Imaging { .. } => true,
+        _ => false,
+    }
+}
+
+/// The procedure whose reply is waited for.
+fn awaited(progress: &Progress) -> Option<Procedure>
+    ensures { result ≡ awaited progress.now }
+{
+    match progress {
+        Progress::Greeting => Some(Procedure::Init),
+        Progress::Listing => Some(Procedure::GetDevices),
+        Progress::Opening | Progress::Reopening => Some(Procedure::Open),
+        Progress::Allowing { .. } => Some(Procedure::Authorize),
+        Progress::Describing => Some(Procedure::GetOptionDescriptors),
+        Progress::Putting { .. } | Progress::Getting { .. } => Some(Procedure::ControlOption),
+        Progress::Starting { .. } => Some(Procedure::Start),
+        Progress::Shaping { .. } => Some(Procedure::GetParameters),
+        Progress::Imaging { .. } | Progress::Turning | Progress::Over => None,
+    }
+}
+
+/// How a job ends by a fault of the decoder.
+fn outcome_by(fault: WireFault) -> Outcome
+    ensures { result ≡ outcome_by fault }
+{
+    match fault {
+        WireFault::NoMem => Outcome::Ended(Status::NoMem, Why::Memory),
+        WireFault::BadCode | WireFault::BadValue | WireFault::TooLong => {
+            Outcome::Ended(Status::IoError, Why::Malformed)
+        }
+    }
+}

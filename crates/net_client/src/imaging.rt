@@ -1,0 +1,45 @@
+ghost use Rattle.std.specs.Prelude.{◌≡◌, ◌≤◌, ◌<◌, None, Some, length};
+ghost use Rattle.page_picture.specs.Shows.{Frame};
+ghost use Rattle.frame_join.specs.FrameHistory.{Past};
+ghost use Rattle.frame_join.specs.Joining.{Stands};
+ghost use Rattle.data_records.specs.Records.{HasEnded};
+ghost use Rattle.net_client.specs.Imaging.{HasRead, HasNotEnded};
+
+use data_records::{RecordReader, Step};
+use frame_join::{FrameJoin, JoinFault};
+
+/// What a piece of the data brought.
+#[derive(Clone, Copy)]
+pub enum Came {
+    /// Bytes, and more are to come.
+    More,
+    /// Bytes that make a fault.
+    Fault(JoinFault),
+    /// The end record, with its status.
+    End(u8),
+}
+
+/// Reads on in the records of a frame, and the join takes what they give.
+pub(crate) fn read_on(reader: &mut RecordReader, join: &mut FrameJoin, piece: &[u8]) -> Came
+    requires { HasEnded reader.old → ⊥ }
+    ensures read { (past : Past) (frame : Frame) → Stands past join.old → past.fault ≡ None → past.under ≡ Some frame → HasRead reader.old past frame piece.now result reader.new join.new }
+    ensures open { HasNotEnded result reader.new }
+{
+    let mut at = 0;
+    while at < piece.len() {
+        let rest = &piece[at..];
+        let (used, step) = reader.step(rest);
+        match step {
+            Step::More => {}
+            Step::Bytes(from, to) => {
+                join.feed(&rest[from..to]);
+                if let Some(fault) = join.fault() {
+                    return Came::Fault(fault);
+                }
+            }
+            Step::End(status) => return Came::End(status),
+        }
+        at += used;
+    }
+    Came::More
+}

@@ -1,0 +1,13 @@
+use Rattle.std.proofs.Common.{◌≡◌, length}
+use Rattle.net_jobs.specs.Writing.{WritesTo}
+use Rattle.net_jobs.proofs.running.write_out.Given as goal
+
+abbrev pub invariant-loop-n : goal.invariant-loop-n
+invariant-loop-n g l = record {
+  room : length l.room ≡ length l.initial.room;
+  rest : l.client ≡ record l.fn.client { out = l.client.out };
+  to : WritesTo l.fn.client.out (g.C.Write.contents l.initial.control) (g.C.Write.contents l.control) l.client.out;
+}
+
+abbrev pub decreases-loop-n : goal.decreases-loop-n
+decreases-loop-n g l = length l.client.out

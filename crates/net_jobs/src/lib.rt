@@ -1,0 +1,14 @@
+//! Jobs over the net: a client's loop over a control connection, the data connections that it dials, and the outputs of
+//! its files.
+#![tactic(auto)]
+
+mod batch;
+mod dial;
+mod running;
+
+pub use batch::run_batch;
+pub use dial::{Dial, DialFault};
+pub use running::run_job;
+
+#[cfg(test)]
+mod tests;

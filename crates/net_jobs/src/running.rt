@@ -1,0 +1,259 @@
+ghost use Rattle.std.specs.Prelude.{◌≡◌, ◌<◌, ◌≤◌, ℕ, [], false, IsTrue, IfOk, take, length};
+ghost use Rattle.std.specs.Io.KnownBytes.{Appends, Consumes};
+ghost use Rattle.scan_job.specs.Outcomes.{IsOver};
+ghost use Rattle.client_rules.specs.Talks.{is_running};
+
+use crate::dial::Dial;
+use byte_output::put;
+use net_client::{Client, Link};
+use sane_fixed::Status;
+use scan_job::{Job, JobFault, Outcome, Why};
+use std::alloc::{AllocError, Global};
+use std::io::{ErrorKind, Read, Write};
+
+/// The most reads of a job, with the interrupted calls that are made again.
+pub(crate) const MOST_READS: u64 = 1 << 40;
+
+/// More than a file has bytes.
+pub(crate) const MOST_PULLS: u64 = 1 << 40;
+
+/// The most bytes that are read or written at once.
+const PIECE: usize = 65536;
+
+/// Room for a piece.
+pub(crate) fn piece(alloc: Global) -> Result<Vec<u8>, AllocError>
+    ensures { IfOk result (λ v. length v.items ≡ 65536) }
+{
+    vec![in alloc; 0u8; PIECE]
+}
+
+/// How a job that is refused ends.
+pub(crate) fn refused(fault: JobFault) -> Outcome
+    ensures { IsOver result }
+{
+    match fault {
+        JobFault::NoMem => Outcome::Ended(Status::NoMem, Why::Memory),
+        JobFault::TooManySettings | JobFault::TextTooLong | JobFault::BadCount => {
+            Outcome::Ended(Status::Inval, Why::Setting)
+        }
+    }
+}
+
+/// Writes all bytes that a client has for the control connection. Says whether it took them.
+fn write_out<C: Write>(
+    client: &mut Client,
+    control: &mut C,
+    room: &mut [u8],
+    reads: &mut u64,
+) -> bool
+    requires { 0 < length room.old }
+    ensures room { length room.new ≡ length room.old }
+    ensures rest { client.new ≡ record client.old { out = client.new.out } }
+    ensures whole { IsTrue result → Appends (C.contents control.old) (C.contents control.new) client.old.out }
+    ensures none { IsTrue result → client.new.out ≡ [] }
+    ensures front { result ≡ false → (n : ℕ) × (n < length client.old.out) × Appends (C.contents control.old) (C.contents control.new) (take n client.old.out) }
+{
+    loop {
+        let n = client.take_out(room);
+        if n == 0 {
+            return true;
+        }
+        if !put(control, &room[..n], reads) {
+            return false;
+        }
+    }
+}
+
+/// Reads once, and makes an interrupted read again; none where the stream fails or ends, or the reads are used up.
+fn read_piece<R: Read>(stream: &mut R, piece: &mut [u8], reads: &mut u64) -> usize
+    ensures count { result ≤ length piece.old }
+    ensures room { length piece.new ≡ length piece.old }
+    ensures bytes { Consumes (R.remaining stream.old) (R.remaining stream.new) (take result piece.new) }
+{
+    while *reads > 0 {
+        *reads -= 1;
+        match stream.read(piece) {
+            Ok(n) => return n,
+            Err(e) if e.kind() == ErrorKind::Interrupted => {}
+            Err(_) => return 0,
+        }
+    }
+    0
+}
+
+/// Reads the control connection once.
+fn hear<C: Read>(client: &mut Client, control: &mut C, piece: &mut [u8], reads: &mut u64)
+    ensures room { length piece.new ≡ length piece.old }
+{
+    let n = read_piece(control, piece, reads);
+    if n == 0 {
+        client.link_lost(Link::Control);
+    } else {
+        client.feed_control(&piece[..n]);
+    }
+}
+
+/// Reads the data connection once, and lets it go after the end record.
+fn see<R: Read + Drop>(
+    client: &mut Client,
+    stream: &mut Option<R>,
+    piece: &mut [u8],
+    reads: &mut u64,
+)
+    ensures room { length piece.new ≡ length piece.old }
+{
+    let Some(mut conn) = stream.take() else {
+        client.link_lost(Link::Image);
+        return;
+    };
+    let n = read_piece(&mut conn, piece, reads);
+    if n == 0 {
+        client.link_lost(Link::Image);
+        return;
+    }
+    client.feed_data(&piece[..n]);
+    if client.is_receiving() {
+        *stream = Some(conn);
+    }
+}
+
+/// Makes the data connection of a frame.
+fn connect<D: Dial>(client: &mut Client, dial: &mut D, stream: &mut Option<D::Conn>, port: u16) {
+    match dial.dial(port) {
+        Ok(conn) => {
+            *stream = Some(conn);
+            client.data_opened();
+        }
+        Err(_) => client.link_lost(Link::Image),
+    }
+}
+
+/// Writes what is to go out, and then reads once, or makes the data connection that is wanted.
+pub(crate) fn go_on<C: Read + Write, D: Dial>(
+    client: &mut Client,
+    control: &mut C,
+    dial: &mut D,
+    stream: &mut Option<D::Conn>,
+    piece: &mut [u8],
+    room: &mut [u8],
+    reads: &mut u64,
+)
+    requires { 0 < length room.old }
+    ensures piece { length piece.new ≡ length piece.old }
+    ensures room { length room.new ≡ length room.old }
+{
+    // A reply may have come before it was waited for.
+    client.feed_control(&[]);
+    if !write_out(client, control, room, reads) {
+        client.link_lost(Link::Control);
+        return;
+    }
+    if let Some(port) = client.data_wanted() {
+        connect(client, dial, stream, port);
+    } else if client.is_receiving() {
+        see(client, stream, piece, reads);
+    } else if !client.is_over() {
+        hear(client, control, piece, reads);
+    }
+}
+
+/// Writes all bytes of the file that may go out. Says whether the output took them.
+fn drain<W: Write>(client: &mut Client, room: &mut [u8], out: &mut W, reads: &mut u64) -> bool
+    ensures room { length room.new ≡ length room.old }
+{
+    for _ in 0..MOST_PULLS {
+        let n = client.take_file(room);
+        if n == 0 {
+            return true;
+        }
+        if !put(out, &room[..n], reads) {
+            return false;
+        }
+    }
+    false
+}
+
+/// Writes what a job that is over sends last, whether it is taken or not, and gives its outcome.
+pub(crate) fn leave<C: Write>(
+    client: Client,
+    control: &mut C,
+    room: &mut [u8],
+    reads: &mut u64,
+) -> Outcome
+    requires room { 0 < length room.old }
+    requires over { is_running client.outcome ≡ false }
+    ensures over { IsOver result }
+    ensures outcome { result ≡ client.outcome }
+{
+    let mut client = client;
+    let _ = write_out(&mut client, control, room, reads);
+    client.into_outcome()
+}
+
+/// Runs a client to its end.
+fn run_client<C: Read + Write, D: Dial, W: Write>(
+    mut client: Client,
+    control: &mut C,
+    dial: &mut D,
+    out: &mut W,
+    piece: &mut [u8],
+    room: &mut [u8],
+) -> Outcome
+    requires { 0 < length room.old }
+    ensures { IsOver result }
+{
+    let mut reads = MOST_READS;
+    let mut stream = None;
+    for _ in 0..MOST_READS {
+        if client.is_over() {
+            return leave(client, control, room, &mut reads);
+        }
+        go_on(
+            &mut client,
+            control,
+            dial,
+            &mut stream,
+            piece,
+            room,
+            &mut reads,
+        );
+        if !drain(&mut client, room, out, &mut reads) {
+            return Outcome::Ended(Status::IoError, Why::Sink);
+        }
+    }
+    Outcome::Ended(Status::IoError, Why::Lost)
+}
+
+/// Does a job over a control connection, the data connections that are dialed, and an output, which is not flushed. A
+/// connection that fails, ends or takes nothing of a write is lost, and so is one after 2^40 reads, among which an
+/// interrupted call counts that is made again. A batch, which has more than one file, is refused.
+pub fn run_job<C: Read + Write, D: Dial, W: Write>(
+    alloc: Global,
+    job: Job,
+    control: &mut C,
+    dial: &mut D,
+    out: &mut W,
+) -> Outcome
+    ensures over { IsOver result }
+{
+    if job.task.is_batch() {
+        return Outcome::Ended(Status::Inval, Why::Setting);
+    }
+    let Ok(mut read) = piece(alloc) else {
+        return refused(JobFault::NoMem);
+    };
+    let Ok(mut room) = piece(alloc) else {
+        return refused(JobFault::NoMem);
+    };
+    match Client::new(alloc, job) {
+        Ok(client) => run_client(
+            client,
+            control,
+            dial,
+            out,
+            read.as_mut_slice(),
+            room.as_mut_slice(),
+        ),
+        Err((fault, _job)) => refused(fault),
+    }
+}

@@ -1,5 +1,0 @@
-use Rattle.pnm_writer.proofs.TextLaws.{front_is_text}
-use Rattle.pnm_writer.proofs.laws.frame_file_is_the_writers_text.Goals as goal
-
-pub returns : goal.returns
-returns c = front_is_text

@@ -1,5 +1,0 @@
-use Rattle.pnm_writer.proofs.AcceptLaws.{colors_are_accepted}
-use Rattle.pnm_writer.proofs.laws.shown_colors_are_accepted.Goals as goal
-
-pub returns : goal.returns
-returns c = colors_are_accepted

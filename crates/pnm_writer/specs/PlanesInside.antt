@@ -1,6 +1,0 @@
--- What the fields of three colors show.
-use Rattle.pnm_writer.specs.declared.planes.Planes.TheInside.{Inside}
-use Rattle.pnm_writer.specs.ColorPlanes.{Planes}
-
-abbrev pub planes_seen : Inside → Planes
-planes_seen p = record { red = p.red; green = p.green; blue = p.blue }

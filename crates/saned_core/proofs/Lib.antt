@@ -1,0 +1,9 @@
+pub mod Streaming
+pub mod Numbers
+pub mod Desks
+pub mod Progress
+pub mod Apart
+pub mod Pieces
+pub mod Saying
+pub mod Seated
+pub mod Firsts

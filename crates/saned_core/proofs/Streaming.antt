@@ -1,0 +1,74 @@
+-- A turn of a data connection, by what its read gave.
+use Rattle.std.proofs.Common.{◌≡◌, ℕ, ◌+◌, ◌-◌, ◌≤◌, List, ◌++◌, take, drop, length, Option, Some, None, Result, refl, ap, subst, ◌∙◌, sym, arith}
+use Rattle.std.proofs.lemmas.Grind.{common_steps}
+use borrow.Rule.Slice.PartMut.{put_mid, post_of}
+use Rattle.std.proofs.Math.Seq.{drop-append_seam, take-append-add}
+use Rattle.std.proofs.lemmas.List.{take-append-le}
+use Rattle.sane_fixed.specs.declared.status.Status.{Status}
+use Rattle.device_api.specs.State.{DeviceState, Reads}
+use Rattle.dispatch.specs.declared.table.place.Lease.{Lease}
+use Rattle.saned_desk.specs.declared.session.Carriage.{Carriage}
+use Rattle.saned_desk.specs.declared.session.Carriage.TheVariants.{Streaming}
+use Rattle.saned_core.specs.declared.seat.DataStep.{DataStep}
+use Rattle.saned_core.specs.declared.seat.DataStep.TheVariants.{Idle}
+use Rattle.saned_desk.specs.declared.session.Session.{Session}
+use Rattle.saned_desk.specs.Holding.{held_by, on_word}
+use Rattle.saned_desk.proofs.Words.{on_word-none}
+use Rattle.saned_core.specs.Turns.{ReadsLease, ReadsWord, Records, carriage_after, StreamsFrom, StreamsIn, Streams}
+
+-- a read that gave an answer
+answered : (l lease : Option (Lease DeviceState)) (s : Session DeviceState) (word : ℕ) (answer : Result ℕ Status) (window buf : List ℕ) (step : DataStep)
+    → ReadsLease l (Some answer) lease window → length window ≤ 65536 → Records answer window step buf
+    → StreamsFrom l word s step (record s { held = on_word (λ _. lease) s.held word; carriage = carriage_after s.carriage answer }) buf
+answered None lease s word answer window buf step r n w = absurd (let e : Some answer ≡ None = r.0 in cc)
+answered (Some l) lease s word answer window buf step r n w =
+    let e : answer ≡ r.answer = (let t : Some answer ≡ Some r.answer = r.told_is in cc) in
+    record {
+      answer = answer;
+      after = r.after;
+      window = window;
+      most = n;
+      reads = subst (λ (a : Result ℕ Status). Reads l.device a r.after window) (sym e) r.reads;
+      written = w;
+      new_is = ap (λ (x : Option (Lease DeviceState)). record s { held = on_word (λ _. x) s.held word; carriage = carriage_after s.carriage answer }) r.new_is;
+    }
+
+-- a read of a word that stands for nothing
+unanswered : (l lease : Option (Lease DeviceState)) (s : Session DeviceState) (word : ℕ) (window buf : List ℕ)
+    → l ≡ held_by s.held word → ReadsLease l None lease window
+    → StreamsFrom l word s Idle (record s { held = on_word (λ _. lease) s.held word }) buf
+unanswered None lease s word window buf e r =
+    (refl, ap (λ (x : Option (Lease DeviceState)). record s { held = on_word (λ _. x) s.held word }) r.1 ∙ ap (λ (x : List (Option (Lease DeviceState))). record s { held = x }) (on_word-none s.held word (sym e)))
+unanswered (Some l) lease s word window buf e r = absurd (let t : None ≡ Some r.answer = r.told_is in cc)
+
+pub streams_answer : (s : Session DeviceState) (word : ℕ) (told : Option (Result ℕ Status)) (answer : Result ℕ Status) (held : List (Option (Lease DeviceState))) (window buf : List ℕ) (step : DataStep)
+    → s.carriage ≡ Streaming word → ReadsWord s.held word told held window → told ≡ Some answer → length window ≤ 65536 → Records answer window step buf
+    → Streams s step (record s { held = held; carriage = carriage_after s.carriage answer }) buf
+streams_answer s word told answer held window buf step c r t n w =
+    let reads = subst (λ (x : Option (Result ℕ Status)). ReadsLease (held_by s.held word) x r.lease window) t r.reads in
+    let from = answered (held_by s.held word) r.lease s word answer window buf step reads n w in
+    let at : StreamsIn s.carriage s step (record s { held = on_word (λ _. r.lease) s.held word; carriage = carriage_after s.carriage answer }) buf =
+    subst (λ (x : Carriage). StreamsIn x s step (record s { held = on_word (λ _. r.lease) s.held word; carriage = carriage_after s.carriage answer }) buf) (sym c) from in
+    subst (λ (x : List (Option (Lease DeviceState))). Streams s step (record s { held = x; carriage = carriage_after s.carriage answer }) buf) (sym r.new_is) at
+
+pub streams_nothing : (s : Session DeviceState) (word : ℕ) (told : Option (Result ℕ Status)) (held : List (Option (Lease DeviceState))) (window buf : List ℕ)
+    → s.carriage ≡ Streaming word → ReadsWord s.held word told held window → told ≡ None
+    → Streams s Idle (record s { held = held }) buf
+streams_nothing s word told held window buf c r t =
+    let reads = subst (λ (x : Option (Result ℕ Status)). ReadsLease (held_by s.held word) x r.lease window) t r.reads in
+    let from = unanswered (held_by s.held word) r.lease s word window buf refl reads in
+    let at : StreamsIn s.carriage s Idle (record s { held = on_word (λ _. r.lease) s.held word }) buf =
+    subst (λ (x : Carriage). StreamsIn x s Idle (record s { held = on_word (λ _. r.lease) s.held word }) buf) (sym c) from in
+    subst (λ (x : List (Option (Lease DeviceState))). Streams s Idle (record s { held = x }) buf) (sym r.new_is) at
+
+-- a head before what was read
+pub record_written : (head xs ys : List ℕ) (k n : ℕ) → length head ≡ 4 → 4 ≤ length xs → n ≤ length ys → take (4 + n) (head ++ drop 4 (put_mid 4 k xs ys)) ≡ head ++ take n ys
+record_written head xs ys k n h x y =
+    let p : List ℕ = post_of 4 k xs in
+    let four : length (take 4 xs) ≡ 4 = grind (arith, common_steps) in
+    let behind : drop 4 (take 4 xs ++ (ys ++ p)) ≡ ys ++ p = subst (λ (m : ℕ). drop m (take 4 xs ++ (ys ++ p)) ≡ ys ++ p) four (drop-append_seam (take 4 xs) (ys ++ p)) in
+    let first : take (4 + n) (head ++ (ys ++ p)) ≡ head ++ take n (ys ++ p) = subst (λ (m : ℕ). take (m + n) (head ++ (ys ++ p)) ≡ head ++ take n (ys ++ p)) h (take-append-add head (ys ++ p) n) in
+    ap (λ (z : List ℕ). take (4 + n) (head ++ z)) behind ∙ first ∙ ap (λ (z : List ℕ). head ++ z) (take-append-le n ys p y)
+
+pub window_short : (window rest : List ℕ) (room : ℕ) → length window ≡ length (take (4 + room - 4) rest) → room ≤ 65536 → length window ≤ 65536
+window_short window rest room e n = rw e (grind (arith, common_steps))

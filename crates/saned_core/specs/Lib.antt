@@ -1,0 +1,4 @@
+pub mod State
+pub mod Turns
+pub mod Feeding
+pub mod Loading

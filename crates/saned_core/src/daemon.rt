@@ -1,0 +1,197 @@
+ghost use Rattle.std.specs.Prelude.{◌≡◌, ◌++◌, ◌⊎◌, ◌≤◌, ◌+◌, List, Option, Some, None, [], ◌∷◌, option_map, option_and_then, position, length, take, drop, true, false, OnOk, OnErr, IfOk, IfErr, IsTrue};
+ghost use Rattle.device_api.specs.State.{DeviceState};
+ghost use Rattle.md5_auth.specs.Challenges.{HasGiven};
+ghost use Rattle.page_picture.specs.Source.{SourceState};
+ghost use Rattle.dispatch.specs.Table.{told_of, table, seen_unplug, unplug_answer, after_unplug};
+ghost use Rattle.saned_desk.specs.Holding.{seen_session};
+ghost use Rattle.saned_core.specs.State.{opened, is_closed, replies_of, after_taken, ended, core, is_number, seat_of, session_of, on_seat, on_session, if_standing, frame_in, is_waiting, after_connected, after_lost, seen_seat, session_in};
+ghost use Rattle.saned_core.specs.Feeding.{Feeds};
+ghost use Rattle.saned_core.specs.Loading.{load_told, loaded};
+ghost use Rattle.saned_core.specs.Turns.{Turns};
+
+use crate::giving_back::put_back_seats;
+use crate::loading::{holder, load_at};
+use crate::seat::{DataStep, Fed, FrameState, OpenFault, Seat, SessionId};
+use crate::seats::{connect_at, end_at, feed_at, frame_at, lose_at, seat_first, take_at, turn_at};
+use device_api::Device;
+use dispatch::Registry;
+use md5_auth::{Challenger, Users};
+use page_picture::{PageSource, Source};
+use sane_fixed::Status;
+use std::alloc::Global;
+use std::marker::Model;
+
+/// The devices, and the sessions that hold leases of them.
+pub struct Hall<D> {
+    registry: Registry<D>,
+    seats: [Option<Seat<D>>; 8],
+}
+
+/// All leases go back to the table, which is dropped then.
+impl<D: Drop> Drop for Hall<D> {
+    fn drop(self) {
+        let Hall { registry, seats } = self;
+        let mut registry = registry;
+        put_back_seats(&mut registry, seats);
+    }
+}
+
+/// Sessions over one table of devices. Contracts see it as a `DaemonState`, and its devices by `core`.
+#[derive(Drop)]
+pub struct Daemon<D = Box<dyn Device>> {
+    hall: Hall<D>,
+    users: Users,
+    challenger: Challenger,
+    opened: u64,
+}
+
+impl<D> Model for Daemon<D> {
+    ghost use Rattle.saned_core.specs.State.{DaemonState};
+
+    ghost Value = { DaemonState D };
+
+    ghost view = { λ d. record { seats = d.hall.seats; registry = d.hall.registry; users = d.users; stream = d.challenger; opened = d.opened } };
+}
+
+impl<D: Device> Daemon<D> {
+    /// A daemon of these devices and users, whose challenges come from the seed. No session stands.
+    pub fn new(registry: Registry<D>, users: Users, seed: [u8; 32]) -> Daemon<D>
+        ensures registry { (core D.state result).registry ≡ table D.state registry }
+        ensures users { result.users ≡ users }
+        ensures seed { HasGiven seed 0 result.stream }
+        ensures none { result.seats ≡ None ∷ None ∷ None ∷ None ∷ None ∷ None ∷ None ∷ None ∷ [] }
+        ensures opened { result.opened ≡ 0 }
+    {
+        Daemon {
+            hall: Hall {
+                registry,
+                seats: [None, None, None, None, None, None, None, None],
+            },
+            users,
+            challenger: Challenger::new(seed),
+            opened: 0,
+        }
+    }
+}
+
+impl<D: Device> Daemon<D> {
+    /// Where the session's frame is.
+    pub fn frame(&self, id: SessionId) -> FrameState
+        ensures { result ≡ frame_in (session_of (core D.state self.now) id.number) }
+    {
+        frame_at(&self.hall.seats, id.number)
+    }
+
+    /// A data connection is made, where a frame waits for one; answers whether one does.
+    pub fn data_connected(&mut self, id: SessionId) -> bool
+        ensures answer { result ≡ is_waiting (frame_in (session_of (core D.state self.old) id.number)) }
+        ensures after { core D.state self.new ≡ record (core D.state self.old) { seats = on_seat (on_session after_connected) id.number (core D.state self.old).seats } }
+    {
+        connect_at(&mut self.hall.seats, id.number)
+    }
+
+    /// The data connection is lost: a frame that streams or is to be ended is at its end, and a device that
+    /// still streams it is cancelled.
+    pub fn data_lost(&mut self, id: SessionId)
+        ensures { core D.state self.new ≡ record (core D.state self.old) { seats = on_seat (on_session after_lost) id.number (core D.state self.old).seats } }
+    {
+        lose_at(&mut self.hall.seats, id.number)
+    }
+
+    /// One turn of the data connection: one read of the device, of at most 65,536 bytes and what the buffer
+    /// has room for, is one record; a refusal of it is the end record.
+    pub fn data_turn(&mut self, id: SessionId, buf: &mut [u8]) -> DataStep
+        requires { 8 ≤ length buf.old }
+        ensures { Turns id.number (core D.state self.old) result (core D.state self.new) buf.new }
+    {
+        turn_at(&mut self.hall.seats, id.number, buf)
+    }
+
+    /// Opens a session, whose data connections are accepted at that port. `Full` where eight stand, or 2^64-1 were
+    /// opened. Its place is there from the start, so no memory is wanting.
+    pub fn open_session(&mut self, alloc: Global, port: u16) -> Result<SessionId, OpenFault>
+        ensures ok { IfOk result (λ id. (id.number ≡ self.old.opened) × (core D.state self.new ≡ opened (core D.state self.old) port)) }
+        ensures room { OnOk result (is_closed (core D.state self.old) ≡ false) }
+        ensures full { OnErr result ((is_closed (core D.state self.old) ≡ true) × (core D.state self.new ≡ core D.state self.old)) }
+        ensures err { IfErr result (λ e. e ≡ OpenFault.Full) }
+    {
+        if self.opened == u64::MAX {
+            return Err(OpenFault::Full);
+        }
+        let number = self.opened;
+        if !seat_first(
+            &mut self.hall.registry,
+            &mut self.hall.seats,
+            alloc,
+            number,
+            port,
+        ) {
+            return Err(OpenFault::Full);
+        }
+        self.opened = number + 1;
+        Ok(SessionId { number })
+    }
+
+    /// Takes the next piece of what the session's connection brings, at most 4,096 bytes, and answers each request
+    /// that is whole with it. `Starved` where want of memory ended the session in this call; else `Over` where it is
+    /// over. Its replies can still be taken, but not where it starved.
+    pub fn feed(&mut self, alloc: Global, id: SessionId, piece: &[u8]) -> Fed
+        requires { length piece.now ≤ 4096 }
+        ensures { Feeds id.number (core D.state self.old) piece.now result (core D.state self.new) }
+    {
+        feed_at(
+            alloc,
+            &mut self.hall.registry,
+            &mut self.hall.seats,
+            &self.users,
+            &mut self.challenger,
+            id.number,
+            piece,
+        )
+    }
+
+    /// Takes as many bytes of the replies as the buffer has room for, and says how many.
+    pub fn take_reply(&mut self, id: SessionId, buf: &mut [u8]) -> usize
+        ensures within { result ≤ length buf.old }
+        ensures all { result ≤ length (replies_of (core D.state self.old) id.number) }
+        ensures most { (result ≡ length buf.old) ⊎ (result ≡ length (replies_of (core D.state self.old) id.number)) }
+        ensures bytes { buf.new ≡ take result (replies_of (core D.state self.old) id.number) ++ drop result buf.old }
+        ensures after { core D.state self.new ≡ record (core D.state self.old) { seats = on_seat (after_taken result) id.number (core D.state self.old).seats } }
+    {
+        take_at(
+            &mut self.hall.registry,
+            &mut self.hall.seats,
+            id.number,
+            buf,
+        )
+    }
+
+    /// Ends the session: its leases go back, and its replies are dropped.
+    pub fn end_session(&mut self, id: SessionId)
+        ensures { core D.state self.new ≡ ended (core D.state self.old) id.number }
+    {
+        end_at(&mut self.hall.registry, &mut self.hall.seats, id.number)
+    }
+
+    /// Puts another page into the device of that name, also while it is leased. `Inval` where none is listed under
+    /// it, `DeviceBusy` where it is not at rest; then the page comes back.
+    pub fn load(&mut self, name: &[u8], page: Source) -> Result<(), (Status, Source)>
+        ensures answer { told_of result ≡ load_told (core D.state self.old) name.now }
+        ensures after { core D.state self.new ≡ loaded (core D.state self.old) name.now (⟦<Source as PageSource>⟧.source page) }
+        ensures given_back { IfErr result (λ e. e.1 ≡ page) }
+    {
+        match holder(&self.hall.seats, name) {
+            Some(k) => load_at(&mut self.hall.seats, k, name, page),
+            None => self.hall.registry.load(name, page),
+        }
+    }
+
+    /// The device of that name comes out, and is listed no more. `Inval` where none is listed under the name,
+    /// `DeviceBusy` while it is leased.
+    pub fn unplug(&mut self, name: &[u8]) -> Result<D, Status>
+        ensures answer { seen_unplug D.state result ≡ unplug_answer (core D.state self.old).registry name.now }
+        ensures after { core D.state self.new ≡ record (core D.state self.old) { registry = after_unplug (core D.state self.old).registry name.now } }
+    {
+        self.hall.registry.unplug(name)
+    }
+}

@@ -1,0 +1,124 @@
+//! The data connection of a session: records of what its device reads.
+
+ghost use Rattle.std.specs.Prelude.{◌≡◌, ◌<◌, ◌≤◌, IfOk, IfSome, option_map, take, length};
+ghost use Rattle.sane_fixed.specs.Status.{status_code};
+ghost use Rattle.data_records.specs.Records.{ending};
+ghost use Rattle.dispatch.specs.Table.{seen_lease};
+ghost use Rattle.saned_desk.specs.Holding.{cancelled_lease, seen_held, seen_session, with_cancelled, held_by};
+ghost use Rattle.saned_core.specs.State.{after_connected, after_lost, frame_of, connected};
+ghost use Rattle.saned_core.specs.Turns.{ReadsLease, ReadsWord, Streams, Ends};
+
+use crate::seat::{DataStep, FrameState};
+use device_api::Device;
+use dispatch::Lease;
+use sane_fixed::Status;
+use saned_desk::{Carriage, Session, cancel_word};
+use wire_codec::{record_end, record_head};
+
+/// The most bytes of a record.
+const RECORD_LIMIT: usize = 65536;
+
+/// What callers see of a frame.
+pub fn state_of(carriage: Carriage) -> FrameState
+    ensures { result ≡ frame_of carriage }
+{
+    match carriage {
+        Carriage::Quiet => FrameState::Quiet,
+        Carriage::Waiting(_) => FrameState::Waiting,
+        Carriage::Streaming(_) => FrameState::Streaming,
+        Carriage::Ending => FrameState::Ending,
+    }
+}
+
+/// A connection for what waits for one.
+pub fn connected(carriage: Carriage) -> Carriage
+    ensures { result ≡ connected carriage }
+{
+    match carriage {
+        Carriage::Waiting(word) => Carriage::Streaming(word),
+        other => other,
+    }
+}
+
+/// One read of a device, where there is one.
+fn read_lease<D: Device>(
+    word: &mut Option<Lease<D>>,
+    window: &mut [u8],
+) -> Option<Result<usize, Status>>
+    requires { 0 < length window.old }
+    ensures reads { ReadsLease (option_map (seen_lease D.state) word.old) result (option_map (seen_lease D.state) word.new) window.new }
+    ensures room { IfSome result (λ answer. IfOk answer (λ n. n ≤ length window.new)) }
+{
+    match word {
+        Some(lease) => Some(lease.device.read(window)),
+        None => None,
+    }
+}
+
+/// One read of the device that a word stands for.
+fn read_word<D: Device>(
+    held: &mut [Option<Lease<D>>],
+    word: usize,
+    window: &mut [u8],
+) -> Option<Result<usize, Status>>
+    requires { 0 < length window.old }
+    ensures reads { ReadsWord (seen_held D.state held.old) word result (seen_held D.state held.new) window.new }
+    ensures room { IfSome result (λ answer. IfOk answer (λ n. n ≤ length window.new)) }
+{
+    if word < held.len() {
+        read_lease(&mut held[word], window)
+    } else {
+        None
+    }
+}
+
+/// Writes the end record.
+fn put_end(buf: &mut [u8], status: Status) -> DataStep
+    requires { 8 ≤ length buf.old }
+    ensures { Ends status result buf.new }
+{
+    buf[..5].copy_from_slice(&record_end(status));
+    DataStep::Last(5)
+}
+
+/// One turn of the data connection.
+pub fn turn<D: Device>(session: &mut Session<D>, buf: &mut [u8]) -> DataStep
+    requires { 8 ≤ length buf.old }
+    ensures { Streams (seen_session D.state session.old) result (seen_session D.state session.new) buf.new }
+{
+    match session.carriage {
+        Carriage::Quiet | Carriage::Waiting(_) => DataStep::Idle,
+        Carriage::Streaming(word) => {
+            let room = (buf.len() - 4).min(RECORD_LIMIT);
+            match read_word(&mut session.held, word, &mut buf[4..4 + room]) {
+                None => DataStep::Idle,
+                Some(Ok(n)) => {
+                    buf[..4].copy_from_slice(&record_head(n as u32));
+                    DataStep::Bytes(4 + n)
+                }
+                Some(Err(status)) => {
+                    session.carriage = Carriage::Quiet;
+                    put_end(buf, status)
+                }
+            }
+        }
+        Carriage::Ending => {
+            session.carriage = Carriage::Quiet;
+            put_end(buf, Status::Cancelled)
+        }
+    }
+}
+
+/// The data connection is lost.
+pub fn lose<D: Device>(session: &mut Session<D>)
+    ensures { seen_session D.state session.new ≡ after_lost (seen_session D.state session.old) }
+{
+    match session.carriage {
+        Carriage::Quiet | Carriage::Waiting(_) => {}
+        Carriage::Streaming(word) => {
+            cancel_word(&mut session.held, word);
+            session.carriage = Carriage::Quiet;
+        }
+        Carriage::Ending => session.carriage = Carriage::Quiet,
+    }
+}

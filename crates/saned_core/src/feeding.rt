@@ -1,0 +1,143 @@
+//! Bytes in pieces to the requests of a session, and its replies to bytes.
+
+ghost use Rattle.std.specs.Prelude.{◌≡◌, None, option_map};
+ghost use Rattle.dispatch.specs.Table.{table};
+ghost use Rattle.saned_desk.specs.Holding.{seen_session};
+ghost use Rattle.saned_desk.specs.Rules.{desk};
+ghost use Rattle.saned_core.specs.State.{seen_seat, session_let_go};
+ghost use Rattle.saned_core.specs.Feeding.{FeedsOne, FeedsReplies, no_input, IsSaid, IsUnsaid, SaidAs};
+
+use crate::replies::Replies;
+use crate::seat::{Fed, Seat};
+use device_api::Device;
+use dispatch::Registry;
+use md5_auth::{Challenger, Users};
+use saned_desk::{Said, Session, answer, let_go};
+use std::alloc::Global;
+use std::mem;
+use wire_codec::{Decoder, Reply, WireFault, encode_reply};
+
+/// Puts a reply behind those that wait. One that passes the limits of the wire ends the session.
+fn say(alloc: Global, replies: &mut Replies, reply: &Reply) -> Fed
+    ensures said { result ≡ Fed.Standing → IsSaid reply.now replies.old replies.new }
+    ensures unsaid { result ≡ Fed.Over → (replies.new ≡ replies.old) × IsUnsaid reply.now }
+{
+    match encode_reply(alloc, reply) {
+        Ok(bytes) => match replies.push(bytes.as_slice()) {
+            Ok(()) => Fed::Standing,
+            Err(_) => Fed::Starved,
+        },
+        Err(WireFault::NoMem) => Fed::Starved,
+        Err(WireFault::TooLong) => Fed::Over,
+        Err(WireFault::BadValue) => Fed::Over,
+        Err(WireFault::BadCode) => Fed::Over,
+    }
+}
+
+/// Puts what is said behind the replies that wait.
+fn say_all(alloc: Global, replies: &mut Replies, said: Said) -> Fed
+    ensures { SaidAs said replies.old result replies.new }
+{
+    match said {
+        Said::One(reply) => say(alloc, replies, &reply),
+        Said::Two(first, second) => match say(alloc, replies, &first) {
+            Fed::Standing => say(alloc, replies, &second),
+            Fed::Over => Fed::Over,
+            Fed::Starved => Fed::Starved,
+        },
+        Said::Last(None) => Fed::Over,
+        Said::Last(Some(reply)) => match say(alloc, replies, &reply) {
+            Fed::Standing => Fed::Over,
+            Fed::Over => Fed::Over,
+            Fed::Starved => Fed::Starved,
+        },
+    }
+}
+
+/// Answers each request that is whole with the piece. What is not `Standing` is still to be let go.
+fn feed_session<D: Device>(
+    alloc: Global,
+    input: &mut Decoder,
+    session: &mut Session<D>,
+    replies: &mut Replies,
+    registry: &mut Registry<D>,
+    users: &Users,
+    challenger: &mut Challenger,
+    piece: &[u8],
+) -> Fed
+    ensures desk { FeedsReplies result users.now (desk D.state session.old registry.old challenger.old) input.old.rest piece.now input.new.rest (desk D.state session.new registry.new challenger.new) replies.old replies.new }
+    ensures fault { result ≡ Fed.Standing → input.new.fault ≡ None }
+{
+    match input.feed(piece) {
+        Ok(()) => {}
+        Err(_) => return Fed::Starved,
+    }
+    loop {
+        let request = match input.next_request(alloc) {
+            Ok(Some(request)) => request,
+            Ok(None) => return Fed::Standing,
+            Err(WireFault::NoMem) => return Fed::Starved,
+            Err(WireFault::BadCode) => return Fed::Over,
+            Err(WireFault::BadValue) => return Fed::Over,
+            Err(WireFault::TooLong) => return Fed::Over,
+        };
+        let said = match answer(alloc, session, registry, users, challenger, request) {
+            Ok(said) => said,
+            Err(_) => return Fed::Starved,
+        };
+        match say_all(alloc, replies, said) {
+            Fed::Standing => {}
+            Fed::Over => return Fed::Over,
+            Fed::Starved => return Fed::Starved,
+        }
+    }
+}
+
+/// Ends the session of a seat: its leases go back, and what came and was not answered is dropped.
+fn close<D: Device>(alloc: Global, seat: &mut Seat<D>, registry: &mut Registry<D>)
+    ensures seat { seat.new ≡ record seat.old { input = no_input; session = None } }
+    ensures registry { table D.state registry.new ≡ session_let_go (table D.state registry.old) (option_map (seen_session D.state) seat.old.session) }
+{
+    seat.input = Decoder::new(alloc);
+    match mem::replace(&mut seat.session, None) {
+        None => {}
+        Some(session) => let_go(registry, session),
+    }
+}
+
+/// Feeds the session of a seat, if it goes on.
+pub fn feed_seat<D: Device>(
+    alloc: Global,
+    seat: &mut Seat<D>,
+    registry: &mut Registry<D>,
+    users: &Users,
+    challenger: &mut Challenger,
+    piece: &[u8],
+) -> Fed
+    ensures { FeedsOne (option_map (seen_session D.state) seat.old.session) users.now (seen_seat D.state seat.old) (table D.state registry.old) challenger.old piece.now result (seen_seat D.state seat.new) (table D.state registry.new) challenger.new }
+{
+    let Some(session) = &mut seat.session else {
+        return Fed::Over;
+    };
+    match feed_session(
+        alloc,
+        &mut seat.input,
+        session,
+        &mut seat.replies,
+        registry,
+        users,
+        challenger,
+        piece,
+    ) {
+        Fed::Standing => Fed::Standing,
+        Fed::Over => {
+            close(alloc, seat, registry);
+            Fed::Over
+        }
+        Fed::Starved => {
+            close(alloc, seat, registry);
+            seat.replies.clear();
+            Fed::Starved
+        }
+    }
+}

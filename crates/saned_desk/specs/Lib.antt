@@ -1,0 +1,4 @@
+pub mod Holding
+pub mod WireValues
+pub mod Rules
+pub mod Leases

@@ -1,0 +1,5 @@
+pub mod Why
+pub mod JobSize
+pub mod Outcomes
+pub mod Shown
+pub mod Shelves

@@ -1,0 +1,32 @@
+-- The outputs of a batch's files, where what they take is known.
+use Rattle.std.specs.Prelude.{ℕ, ◌≡◌, ⊤, Option, Some, None, List, [], ◌∷◌, ◌++◌}
+
+-- an output that was taken back: the number of its file, and the bytes that it took, where they are known
+pub record Taken : Type 0 where
+  pub number : ℕ
+  pub text : Option (List ℕ)
+
+-- the outputs that were taken back, in their order, and the number that the last one was asked for
+pub record Stock : Type 0 where
+  pub taken : List Taken
+  pub number : ℕ
+
+-- a new output has no bytes
+abbrev pub IsEmpty : Option (List ℕ) → Type 0
+IsEmpty None = ⊤
+IsEmpty (Some bytes) = bytes ≡ []
+
+-- where it is known what was put on a shelf, a new output tells that it has no bytes
+abbrev pub IsTold : Option Stock → Option (List ℕ) → Type 0
+IsTold None contents = ⊤
+IsTold (Some stock) contents = contents ≡ Some []
+
+-- an output of that number was asked for
+abbrev pub Opens : Option Stock → ℕ → Option Stock → Type 0
+Opens None k new = ⊤
+Opens (Some old) k new = new ≡ Some (record old { number = k })
+
+-- an output that took these bytes was taken back
+abbrev pub Shelves : Option Stock → Option (List ℕ) → Option Stock → Type 0
+Shelves None text new = ⊤
+Shelves (Some old) text new = new ≡ Some (record old { taken = old.taken ++ record { number = old.number; text = text } ∷ [] })

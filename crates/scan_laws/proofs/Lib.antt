@@ -1,0 +1,11 @@
+pub mod Sets
+pub mod Places
+pub mod Takes
+pub mod Sizes
+pub mod Meant
+pub mod Owns
+pub mod Whole
+pub mod Ruled
+pub mod Goes
+pub mod Nearest
+pub mod Limits

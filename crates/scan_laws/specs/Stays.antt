@@ -1,0 +1,27 @@
+-- What a call leaves as it was.
+use Rattle.std.specs.Prelude.{ℕ, ◌≡◌, ◌⊎◌, true, List}
+use Rattle.page_picture.specs.Page.{IsShaped, IsSheet}
+use Rattle.page_picture.specs.Source.{SourceState}
+use Rattle.device_api.specs.State.{DeviceState, Held, counted, feeds, is_at_rest, left_behind}
+
+-- the same pages; of the first another count of failures may stand
+abbrev pub AreSamePages : List Held → List Held → Type 0
+AreSamePages old new = (new ≡ old) ⊎ ((n : ℕ) × (new ≡ counted n old))
+
+-- a feeder that is at rest let go of its first page
+pub record LetsGo (s t : DeviceState) : Type 0 where
+  pub is_feeder : feeds s ≡ true
+  pub rests : is_at_rest t.phase ≡ true
+  pub pages : t.pages ≡ left_behind true s.pages
+
+-- Only the phase and the count of failures may have changed, and a feeder may have let go of its first page: the options,
+-- all other pages and their sources' steadiness have not.
+pub record IsSameScan (s t : DeviceState) : Type 0 where
+  pub info : t.info ≡ s.info
+  pub setup : t.setup ≡ s.setup
+  pub pages : AreSamePages s.pages t.pages ⊎ LetsGo s t
+
+-- the limits of a page source
+pub record IsSourceShaped (source : SourceState) : Type 0 where
+  pub page : IsShaped source.page
+  pub sheet : source.steady ≡ true → IsSheet source.page

@@ -1,0 +1,110 @@
+use crate::ending::Ending;
+use crate::patient::Patient;
+use crate::rounding::{is_any_rounded, rounded_lines};
+use crate::table::options_table;
+use device_api::Device;
+use local_job::{run_local, run_local_batch};
+use sane_fixed::NoMem;
+use scan_job::{Job, Outcome, Report, Reports, Shelf, Task, Why};
+use std::alloc::Global;
+use std::io::{BufWriter, Write};
+
+/// The most bytes that are gathered before they are written.
+const GATHERED: usize = 65_536;
+
+/// What a job that is done prints.
+#[derive(Drop)]
+pub struct Printed {
+    /// The table of options, for a job that shows them.
+    pub table: Vec<u8>,
+    /// A line for each setting that was rounded.
+    pub rounded: Vec<u8>,
+}
+
+/// The lines of what was rounded; where nothing was, they take no memory.
+fn rounded_of(alloc: Global, device: &dyn Device, reports: &[Report]) -> Result<Vec<u8>, NoMem> {
+    if !is_any_rounded(reports) {
+        return Ok(Vec::new(alloc));
+    }
+    let options = device.descriptors(alloc).map_err(|_| NoMem)?;
+    rounded_lines(alloc, reports, &options)
+}
+
+/// What a job that is done prints.
+fn texts_of(
+    alloc: Global,
+    device: &dyn Device,
+    task: Task,
+    reports: &Reports,
+) -> Result<Printed, NoMem> {
+    let rounded = rounded_of(alloc, device, reports.settings.as_slice())?;
+    let table = match task {
+        Task::Show => {
+            let name = device.info().name.as_bytes();
+            options_table(alloc, name, reports.options.as_slice())?
+        }
+        Task::List | Task::SetOnly | Task::Scan | Task::Batch(_) => Vec::new(alloc),
+    };
+    Ok(Printed { table, rounded })
+}
+
+/// Writes out what was gathered, and says whether the output took it. Where it fails nothing is written after it.
+fn write_out<W: Write + Drop>(mut out: BufWriter<W>) -> bool {
+    let is_written = out.flush().is_ok();
+    // A buffer that is dropped would try again.
+    let _parts = out.into_parts();
+    is_written
+}
+
+/// Does a job on a scanner and gives what is to be printed of it. Its file goes to the output through a buffer,
+/// whose rest is written last: after a job that is done only once all that it prints is there. A job that ends
+/// otherwise, or an output that fails, leaves no whole file.
+pub fn do_job<W: Write + Drop>(
+    alloc: Global,
+    device: &mut dyn Device,
+    job: &Job,
+    output: W,
+) -> Result<Printed, Ending> {
+    let mut out = BufWriter::with_capacity(alloc, GATHERED, Patient::new(output)).map_err(
+        |_| Ending::no_memory(),
+    )?;
+    match run_local(alloc, device, job, &mut out) {
+        Outcome::Done(reports) => {
+            let Ok(printed) = texts_of(alloc, &*device, job.task, &reports) else {
+                let _parts = out.into_parts();
+                return Err(Ending::no_memory());
+            };
+            if write_out(out) {
+                Ok(printed)
+            } else {
+                Err(Ending::failed_output())
+            }
+        }
+        Outcome::Ended(status, Why::Sink) => {
+            let _parts = out.into_parts();
+            Err(Ending::Ended(status, Why::Sink))
+        }
+        Outcome::Ended(status, why) => {
+            let _front = write_out(out);
+            Err(Ending::Ended(status, why))
+        }
+        Outcome::Running => Err(Ending::failed_output()),
+    }
+}
+
+/// Does a job on a scanner whose pages go to a shelf, and gives what is to be printed of it. Pages that were scanned keep
+/// their files, also where the job ends otherwise.
+pub fn do_batch<S: Shelf>(
+    alloc: Global,
+    device: &mut dyn Device,
+    job: &Job,
+    shelf: &mut S,
+) -> Result<Printed, Ending> {
+    match run_local_batch(alloc, device, job, shelf) {
+        Outcome::Done(reports) => {
+            texts_of(alloc, &*device, job.task, &reports).map_err(|_| Ending::no_memory())
+        }
+        Outcome::Ended(status, why) => Err(Ending::Ended(status, why)),
+        Outcome::Running => Err(Ending::failed_output()),
+    }
+}

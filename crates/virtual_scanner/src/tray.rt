@@ -1,0 +1,116 @@
+//! The pages in a scanner, the first of which is scanned.
+
+ghost use Rattle.std.specs.Prelude.{◌≡◌, ◌≢◌, ◌<◌, ◌≤◌, ◌-◌, [], map, true, false, All, IsOk, OnOk, OnErr, vec_len, vec_capacity, length};
+ghost use Rattle.page_picture.specs.Shown.{shown};
+ghost use Rattle.scan_frames.specs.Frames.{IsSetup};
+ghost use Rattle.scan_frames.specs.Reading.{Begins, IsFrame, given_in};
+ghost use Rattle.device_api.specs.Allowed.{IsHeld};
+ghost use Rattle.device_api.specs.State.{held_from, is_feeder, left_behind, pages_with, params_in, tray_room, told_at};
+ghost use Rattle.virtual_scanner.specs.Answers.{Answers};
+ghost use Rattle.virtual_scanner.specs.First.{OfFirst, OnFirst};
+
+use crate::at::answer_read;
+use page_picture::{DeviceKind, PageSource, Source};
+use sane_fixed::{Params, Status};
+use scan_frames::{BeginFault, FrameRows, Setup, params, params_without};
+use std::alloc::Global;
+
+/// The most pages that lie in a feeder's tray.
+pub const TRAY_ROOM: usize = 16;
+
+/// Whether pages are fed one after another.
+pub fn is_feeder(kind: DeviceKind) -> bool
+    ensures { result ≡ is_feeder kind }
+{
+    match kind {
+        DeviceKind::Flatbed | DeviceKind::Hand | DeviceKind::ThreePass => false,
+        DeviceKind::Feeder => true,
+    }
+}
+
+/// What is told of the frame of a pass over the first page.
+pub fn params_on(tray: &[Source], setup: &Setup, pass: u32) -> Params
+    requires { IsSetup setup.now }
+    ensures { result ≡ params_in (map held_from (map shown tray.now)) setup.now pass }
+{
+    match tray {
+        [] => params_without(setup, pass),
+        [first, ..] => params(first, setup, pass),
+    }
+}
+
+/// Begins the frame of a pass over the first page.
+pub fn begin_frame(
+    alloc: Global,
+    tray: &mut Vec<Source>,
+    setup: &Setup,
+    pass: u32,
+) -> Result<FrameRows, BeginFault>
+    requires page { 0 < vec_len tray.old }
+    requires setup { IsSetup setup.now }
+    ensures begins { OnFirst (λ s t. Begins s setup.now pass result t) (map shown tray.old.items) (map shown tray.new.items) }
+    ensures room { vec_capacity tray.new ≡ vec_capacity tray.old }
+{
+    FrameRows::begin(alloc, &mut tray[0], setup, pass)
+}
+
+/// Answers a read in a frame of the first page.
+pub fn read_frame(
+    frame: &mut FrameRows,
+    tray: &mut Vec<Source>,
+    setup: &Setup,
+    buf: &mut [u8],
+) -> Result<usize, Status>
+    requires setup { IsSetup setup.now }
+    requires frame { OfFirst (λ s. IsFrame s setup.now frame.old) (map shown tray.old.items) }
+    requires buf { 0 < length buf.old }
+    ensures answers { OnFirst (λ s t. Answers (told_at setup.now.told (given_in frame.old)) s setup.now frame.old result t frame.new buf.new) (map shown tray.old.items) (map shown tray.new.items) }
+    ensures room { vec_capacity tray.new ≡ vec_capacity tray.old }
+{
+    answer_read(frame, &mut tray[0], setup, buf)
+}
+
+/// Lets go of the page that was scanned, if pages are fed.
+pub fn let_go(kind: DeviceKind, tray: &mut Vec<Source>)
+    ensures left { tray.new.items ≡ left_behind (is_feeder kind) tray.old.items }
+    ensures room { vec_capacity tray.new ≡ vec_capacity tray.old }
+{
+    if is_feeder(kind) && !tray.is_empty() {
+        let _scanned = tray.remove(0);
+    }
+}
+
+/// Lays a page behind the others of a feeder, or puts it in the place of another scanner's one. Gives it back where a
+/// tray is full.
+pub fn put_page(kind: DeviceKind, tray: &mut Vec<Source>, page: Source) -> Result<(), Source>
+    requires reserved { is_feeder kind ≡ true → tray_room ≤ vec_capacity tray.old }
+    requires one { is_feeder kind ≡ false → vec_len tray.old ≡ 1 }
+    ensures limits { IsHeld (held_from (shown page)) }
+    ensures put { is_feeder kind ≡ false → IsOk result }
+    ensures laid { vec_len tray.old < tray_room → IsOk result }
+    ensures full { is_feeder kind ≡ true → tray_room ≤ vec_len tray.old → result ≡ Err page }
+    ensures fits { OnOk result (is_feeder kind ≡ true → vec_len tray.old < tray_room) }
+    ensures ok { OnOk result (tray.new.items ≡ pages_with (is_feeder kind) tray.old.items page) }
+    ensures err { OnErr result (tray.new ≡ tray.old) }
+    ensures room { vec_capacity tray.old ≤ vec_capacity tray.new }
+{
+    // The limits of a page.
+    let _size = page.size();
+    if !is_feeder(kind) {
+        tray[0] = page;
+        return Ok(());
+    }
+    if tray.len() >= TRAY_ROOM {
+        return Err(page);
+    }
+    tray.push(page).map_err(|failed| failed.value)
+}
+
+/// Each page of a tray has the limits of a page.
+pub fn see_limits(tray: &[Source])
+    ensures { All IsHeld (map held_from (map shown tray.now)) }
+{
+    for page in tray {
+        let _size = page.size();
+    }
+}

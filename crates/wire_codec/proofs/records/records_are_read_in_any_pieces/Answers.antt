@@ -1,8 +1,0 @@
-use Rattle.wire_codec.proofs.Pieces.{ended, used_all}
-use Rattle.wire_codec.proofs.records.records_are_read_in_any_pieces.Goals as goal
-
-pub returns-clause-ended : goal.returns-clause-ended
-returns-clause-ended c = ended
-
-pub returns-clause-whole : goal.returns-clause-whole
-returns-clause-whole c = used_all

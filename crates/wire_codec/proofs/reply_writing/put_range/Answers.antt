@@ -1,5 +1,0 @@
-use Rattle.wire_codec.proofs.Options.{range_text_is}
-use Rattle.wire_codec.proofs.reply_writing.put_range.Goals as goal
-
-pub returns : goal.returns
-returns c = rw (range_text_is c.args.range.now c.put_bounds.ensures.keeps) c.put_bounds.ensures.puts

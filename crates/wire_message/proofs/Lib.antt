@@ -1,0 +1,2 @@
+pub mod TheKinds
+pub mod Messages

@@ -1,0 +1,9 @@
+pub mod Spelled
+pub mod Requests
+pub mod Encoding
+pub mod AtValue
+pub mod Devices
+pub mod Options
+pub mod Descriptors
+pub mod Replies
+pub mod LimitLaws
