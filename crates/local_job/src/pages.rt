@@ -7,10 +7,10 @@ ghost use Rattle.local_job.specs.FrameReading.{IsRefusal, Keeps};
 ghost use Rattle.local_job.specs.Pages.{AreScanned, FilesPage, LeavesPage, StopsAt};
 ghost use Rattle.local_job.specs.Stops.{answered};
 
-use byte_output::MOST_AGAIN;
 use crate::page_out::{PageOut, give_back};
 use crate::scan::{PIECE, ROOM, scan_passes, zeros};
 use crate::stop::{Stop, bad_output};
+use byte_output::MOST_AGAIN;
 use device_api::Device;
 use pnm_writer::{FrameJoin, not_whole_before};
 use sane_fixed::Status;
