@@ -1,1 +1,5 @@
 pub mod Writes
+pub mod Coursing
+pub mod Frames
+pub mod Staging
+pub mod Receiving
