@@ -22,7 +22,7 @@ use Rattle.client_rules.specs.declared.progress.Notes.{Notes}
 use Rattle.client_rules.specs.declared.progress.Next.{Next}
 use Rattle.client_rules.specs.declared.progress.Next.TheVariants.{Wait, Finish, Stop}
 use Rattle.client_rules.specs.Talking.{Turn}
-use Rattle.client_rules.specs.Talks.{Talk, errand_of, is_running, next_outcome, next_progress, settled, heard_at, after_reply, shaped_by}
+use Rattle.client_rules.specs.Talks.{Talk, errand_of, is_running, next_outcome, next_progress, settled, heard_at, answer_to, after_reply, shaped_by}
 use Rattle.net_client.specs.Talker.{Talker, talk_of, IsFresh}
 use Rattle.net_client.specs.Hearing.{awaited, Hears, HasHeard}
 use Rattle.net_jobs.specs.Courses.{Event, Replied, Course, Lives, Runs, begun, Did}
@@ -38,7 +38,7 @@ with_params : (past then_ : Past) (order : ByteOrder) (params : Params) → (the
 with_params past then_ order params (inl e) = inl e
 with_params past then_ order params (inr e) = inr (params, e)
 
-with_order : (past then_ : Past) (order : ByteOrder) → (then_ ≡ past) ⊎ ((params : Params) × (then_ ≡ after_begin params order false past)) → (then_ ≡ past) ⊎ ((params : Params) × ((order : ByteOrder) × (then_ ≡ after_begin params order false past)))
+with_order : (past then_ : Past) (order : ByteOrder) → (then_ ≡ past) ⊎ ((params : Params) × (then_ ≡ after_begin params order false past)) → (then_ ≡ past) ⊎ ((params : Params) × (order : ByteOrder) × (then_ ≡ after_begin params order false past))
 with_order past then_ order (inl e) = inl e
 with_order past then_ order (inr e) = inr (e.0, order, e.1)
 
@@ -48,7 +48,7 @@ at_shape port order errand notes past (replies.GetParameters status params) = wi
 at_shape port order errand notes past r = inl refl
 
 pub at_reply : (progress : Progress) (errand : Errand) (notes : Notes) (past : Past) (r : Reply)
-    → ((heard_at progress errand notes past r).past ≡ past) ⊎ ((params : Params) × ((order : ByteOrder) × ((heard_at progress errand notes past r).past ≡ after_begin params order false past)))
+    → ((heard_at progress errand notes past r).past ≡ past) ⊎ ((params : Params) × (order : ByteOrder) × ((heard_at progress errand notes past r).past ≡ after_begin params order false past))
 at_reply (stages.Shaping port order) errand notes past r = with_order past _ order (at_shape port order errand notes past r)
 at_reply progress errand notes past r = inl refl
 
@@ -70,7 +70,7 @@ begins : (params : Params) (order : ByteOrder) (past : Past) → came_in past.un
 unfolding after_begin
 begins params order past clean = begun_with past.fault past.under params order past clean
 
-keeps : (past then_ : Past) → came_in past.under ≡ [] → (then_ ≡ past) ⊎ ((params : Params) × ((order : ByteOrder) × (then_ ≡ after_begin params order false past))) → (then_.given ≡ past.given) × (came_in then_.under ≡ [])
+keeps : (past then_ : Past) → came_in past.under ≡ [] → (then_ ≡ past) ⊎ ((params : Params) × (order : ByteOrder) × (then_ ≡ after_begin params order false past)) → (then_.given ≡ past.given) × (came_in then_.under ≡ [])
 keeps past then_ clean (inl e) = (ap (λ (p : Past). p.given) e, ap (λ (p : Past). came_in p.under) e ∙ clean)
 keeps past then_ clean (inr e) = (ap (λ (p : Past). p.given) e.2 ∙ (begins e.0 e.1 past clean).0, ap (λ (p : Past). came_in p.under) e.2 ∙ (begins e.0 e.1 past clean).1)
 
@@ -112,7 +112,7 @@ runs_hear errand first was events [] text sent u live runs h = (events, subst (�
 runs_hear errand first was events (r ∷ rs) text sent u live runs h =
     let now : Course = heard_on was h.0 h.2 (after_reply errand was.talk r) in
     let here : Lives errand was (Replied r) now = (h.0, h.2, live h.6.procedure h.6.awaited_is, h.6, h.7, refl) in
-    let rest = runs_hear errand first now (Replied r ∷ events) rs h.1 h.3 u (λ procedure e. live_next errand.task _ _ procedure e) (was, runs, here) h.8 in
+    let rest = runs_hear errand first now (Replied r ∷ events) rs h.1 h.3 u (λ procedure e. live_next errand.task (answer_to errand was.talk r).turn.notes (answer_to errand was.talk r).turn.next procedure e) (was, runs, here) h.8 in
     (rest.0, subst (λ (c : Course). Runs errand first rest.0 c)
         (heard_twice was h.0 h.1 h.2 h.3 (after_reply errand was.talk r) u ∙ ap (λ (l : List ℕ). heard_on was l (h.2 ++ h.3) u) (sym h.4) ∙ ap (λ (l : List ℕ). heard_on was text l u) (sym h.5)) rest.1)
 

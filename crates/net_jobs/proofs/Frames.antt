@@ -21,13 +21,13 @@ first_of_others all (whole ∷ others) coming now remaining wholes e a b =
 
 pub brought_one : (coming0 coming now : Option (List (List ℕ))) (remaining : Option (List ℕ)) (wholes : List (List ℕ)) → HasBrought coming0 coming wholes → Brings coming now remaining
     → (whole : List ℕ) × HasBrought coming0 now (wholes ++ whole ∷ []) × HasReadOf coming0 remaining whole []
-brought_one None coming now remaining wholes h b = ([], unit, refl)
+brought_one None coming now remaining wholes h b = ([], tt, refl)
 brought_one (Some all) coming now remaining wholes h b = first_of_others all h.0 coming now remaining wholes h.1 h.2 b
 
 -- a read
 pub read_more : (coming0 coming : Option (List (List ℕ))) (was now : Option (List ℕ)) (wholes : List (List ℕ)) (whole bytes piece : List ℕ) → HasBrought coming0 coming (wholes ++ whole ∷ []) → HasReadOf coming0 was whole bytes
     → Consumes was now piece → (longer : List ℕ) × HasBrought coming0 coming (wholes ++ longer ∷ []) × HasReadOf coming0 now longer (bytes ++ piece)
-read_more None coming was now wholes whole bytes piece brought reads consumed = (bytes ++ piece, unit, refl)
+read_more None coming was now wholes whole bytes piece brought reads consumed = (bytes ++ piece, tt, refl)
 read_more (Some all) coming was now wholes whole bytes piece brought reads consumed = (whole, brought, Consumes-trans (Some whole) was now bytes piece reads consumed)
 
 behind_read : (now : Option (List ℕ)) (whole bytes front rest : List ℕ) → bytes ≡ front ++ rest → Consumes (Some whole) now bytes → (more : List ℕ) × (whole ≡ front ++ more)
@@ -39,7 +39,7 @@ front_of None now whole bytes front rest e reads = (rest, reads ∙ e)
 front_of (Some all) now whole bytes front rest e reads = behind_read now whole bytes front rest e reads
 
 pub begin_more : (wholes streams : List (List ℕ)) (whole stream : List ℕ) → BeginWith wholes streams → (more : List ℕ) × (whole ≡ stream ++ more) → BeginWith (wholes ++ whole ∷ []) (streams ++ stream ∷ [])
-begin_more [] [] whole stream b front = (front, unit)
+begin_more [] [] whole stream b front = (front, tt)
 begin_more [] (s ∷ ss) whole stream b front = absurd b
 begin_more (w ∷ ws) [] whole stream b front = absurd b
 begin_more (w ∷ ws) (s ∷ ss) whole stream b front = (b.0, begin_more ws ss whole stream b.1 front)

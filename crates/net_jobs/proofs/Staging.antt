@@ -65,7 +65,7 @@ falls left_of coming0 coming course was rest stream c new past f running cause o
 
 -- ---- a frame that has not begun has no byte
 
-is_open : Progress → Bool
+abbrev is_open : Progress → Bool
 is_open (stages.Imaging port opened) = opened
 is_open progress = false
 
@@ -89,7 +89,7 @@ clean_at c past single running shut serves empty =
 -- ---- a new client
 
 nothing_brought : (coming : Option (List (List ℕ))) → HasBrought coming coming []
-nothing_brought None = unit
+nothing_brought None = tt
 nothing_brought (Some all) = (all, refl, refl)
 
 pub stage_begun : {R : Type 0} (left_of : R → Option (List ℕ)) (job : Job) (coming : Option (List (List ℕ))) (c : Talker) → IsFresh job c → Stage left_of job [] [] c.out coming coming [] None c
@@ -104,7 +104,7 @@ stage_begun left_of job coming c f = record {
   stands = inl (record {
     talk_is = fresh_is job c f;
     rest_is = ap (λ (v : Talker). v.input.rest) f.value;
-    linked = record { wholes = []; begin = unit; brought = nothing_brought coming; empty = λ port e. refl };
+    linked = record { wholes = []; begin = tt; brought = nothing_brought coming; empty = λ port e. refl };
   });
 }
 
@@ -147,7 +147,7 @@ stage_garbled left_of job read_ wrote coming0 coming given was new past course r
     }
 
 -- memory was wanting
-stage_starved : {R : Type 0} (left_of : R → Option (List ℕ)) (job : Job) (read_ wrote : List ℕ) (coming0 coming : Option (List (List ℕ))) (given rest next : List ℕ) (stream after_ : Option R) (was new : Talker) (past : Past) (course : Course)
+pub stage_starved : {R : Type 0} (left_of : R → Option (List ℕ)) (job : Job) (read_ wrote : List ℕ) (coming0 coming : Option (List (List ℕ))) (given rest next : List ℕ) (stream after_ : Option R) (was new : Talker) (past : Past) (course : Course)
     → is_running was.outcome ≡ true → was.errand ≡ errand_of job → past.given ≡ given → Did job course read_ wrote next was.out → Follows left_of coming0 coming course rest stream was past
     → IsStarved was past new → Stage left_of job read_ wrote new.out coming0 coming given after_ new
 stage_starved left_of job read_ wrote coming0 coming given rest next stream after_ was new past course running errand given_is did f s = record {

@@ -4,11 +4,11 @@ use Rattle.std.specs.Io.KnownBytes.{Appends, Consumes}
 
 -- Calls on one connection after another: what they read in all, what they wrote, whether a write failed, and how it stands
 -- then. (That a read leaves what was written is in no clause of a stream's traits, so this goes call by call.)
-pub data Calls {C : Type 0} (remaining contents : C → Option (List ℕ)) (first : C) (read_ wrote : List ℕ) (failed : Bool) (now : C) : Type 0 where
-  Begun : now ≡ first → read_ ≡ [] → wrote ≡ [] → failed ≡ false → Calls remaining contents first read_ wrote failed now
-  Read : (was : C) (front piece : List ℕ) → Calls remaining contents first front wrote failed was → Consumes (remaining was) (remaining now) piece → read_ ≡ front ++ piece → Calls remaining contents first read_ wrote failed now
-  Wrote : (was : C) (front piece : List ℕ) → Calls remaining contents first read_ front failed was → Appends (contents was) (contents now) piece → wrote ≡ front ++ piece → Calls remaining contents first read_ wrote failed now
-  Failed : (was : C) (front piece : List ℕ) (once : Bool) → Calls remaining contents first read_ front once was → Appends (contents was) (contents now) piece → wrote ≡ front ++ piece → failed ≡ true → Calls remaining contents first read_ wrote failed now
+pub data Calls {C : Type 0} (remaining contents : C → Option (List ℕ)) (first : C) : List ℕ → List ℕ → Bool → C → Type 0 where
+  Begun : Calls remaining contents first [] [] false first
+  Read : (read_ wrote : List ℕ) (failed : Bool) (was now : C) (piece : List ℕ) → Calls remaining contents first read_ wrote failed was → Consumes (remaining was) (remaining now) piece → Calls remaining contents first (read_ ++ piece) wrote failed now
+  Wrote : (read_ wrote : List ℕ) (failed : Bool) (was now : C) (piece : List ℕ) → Calls remaining contents first read_ wrote failed was → Appends (contents was) (contents now) piece → Calls remaining contents first read_ (wrote ++ piece) failed now
+  Failed : (read_ wrote : List ℕ) (failed : Bool) (was now : C) (piece : List ℕ) → Calls remaining contents first read_ wrote failed was → Appends (contents was) (contents now) piece → Calls remaining contents first read_ (wrote ++ piece) true now
 
 -- The bytes of the connections that are to come, one dial after another, where they are known: a dial brings the first.
 abbrev pub Brings : Option (List (List ℕ)) → Option (List (List ℕ)) → Option (List ℕ) → Type 0

@@ -1,14 +1,18 @@
 -- What is promised of a job over streams.
-use Rattle.std.specs.Prelude.{ℕ, ◌≡◌, ◌≢◌, ◌≤◌, ◌⊎◌, Bool, false, Option, List, [], ◌++◌, length}
+use Rattle.std.specs.Prelude.{ℕ, ◌≡◌, ◌≢◌, ◌≤◌, ◌⊎◌, Bool, true, false, Option, Some, List, [], ◌++◌, length}
 use Rattle.std.specs.Io.KnownBytes.{Appends}
 use Rattle.sane_fixed.specs.declared.status.Status.TheVariants as statuses
 use Rattle.netpbm.specs.Picture.{Picture}
 use Rattle.netpbm.specs.Pnm.{Denotes, IsWhole}
 use Rattle.page_picture.specs.Shows.{ShowsFrames}
 use Rattle.scan_job.specs.declared.job.Job.{Job}
+use Rattle.scan_job.specs.declared.job.JobFault.{JobFault}
+use Rattle.scan_job.specs.declared.job.JobFault.TheVariants.{TooManySettings, TextTooLong, NoMem, BadCount}
+use Rattle.scan_job.specs.JobSize.{HasFault}
+use Rattle.client_rules.specs.Talks.{is_batch}
 use Rattle.scan_job.specs.declared.job.Task.TheVariants as tasks
 use Rattle.scan_job.specs.declared.outcome.Outcome.{Outcome}
-use Rattle.scan_job.specs.declared.outcome.Outcome.TheVariants.{Ended}
+use Rattle.scan_job.specs.declared.outcome.Outcome.TheVariants.{Running, Done, Ended}
 use Rattle.scan_job.specs.declared.outcome.Why.TheVariants as whys
 use Rattle.net_jobs.specs.Courses.{Course, Did, EndWell}
 use Rattle.net_jobs.specs.Links.{Calls, HasBrought, BeginWith}
@@ -53,3 +57,28 @@ pub record RanEnded {C : Type 0} (remaining contents : C → Option (List ℕ)) 
   pub text : List ℕ
   pub taken : Appends held holds text
   pub not_whole : IsWhole text → ⊥
+
+-- how a job over streams is over
+abbrev pub HasRun : {C : Type 0} → (C → Option (List ℕ)) → (C → Option (List ℕ)) → Job → C → Option (List (List ℕ)) → C → Option (List (List ℕ)) → Option (List ℕ) → Option (List ℕ) → Outcome → Type 0
+HasRun remaining contents job first coming0 now coming held holds Running = ⊥
+HasRun remaining contents job first coming0 now coming held holds (Done reports) = RanDone remaining contents job first coming0 now coming held holds (Done reports)
+HasRun remaining contents job first coming0 now coming held holds (Ended status why) = RanEnded remaining contents job first coming0 now coming held holds (Ended status why)
+
+abbrev pub refused_as : JobFault → Outcome
+refused_as NoMem = Ended statuses.NoMem whys.Memory
+refused_as TooManySettings = Ended statuses.Inval whys.Setting
+refused_as TextTooLong = Ended statuses.Inval whys.Setting
+refused_as BadCount = Ended statuses.Inval whys.Setting
+
+-- why a job is refused: it is a batch, it has a fault, or there is no memory for its buffers
+abbrev pub IsRefused : Job → Outcome → Type 0
+IsRefused job outcome =
+    ((is_batch job.task ≡ true) × (outcome ≡ Ended statuses.Inval whys.Setting))
+    ⊎ (((fault : JobFault) × HasFault job (Some fault) × (outcome ≡ refused_as fault)) ⊎ (outcome ≡ Ended statuses.NoMem whys.Memory))
+
+-- a job that is refused touches no stream
+pub record Refuses {C D W : Type 0} (job : Job) (outcome : Outcome) (control control_then : C) (dial dial_then : D) (out out_then : W) : Type 0 where
+  pub why : IsRefused job outcome
+  pub control_is : control_then ≡ control
+  pub dial_is : dial_then ≡ dial
+  pub out_is : out_then ≡ out

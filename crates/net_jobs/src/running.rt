@@ -1,13 +1,21 @@
-ghost use Rattle.std.specs.Prelude.{◌≡◌, ◌<◌, ◌≤◌, ℕ, [], false, IsTrue, IfOk, take, length};
+ghost use Rattle.std.specs.Prelude.{◌≡◌, ◌<◌, ◌≤◌, ◌↔◌, ◌⊎◌, ℕ, [], true, false, not, Some, None, List, Option, IsTrue, IfOk, take, length};
 ghost use Rattle.std.specs.Io.KnownBytes.{Appends, Consumes};
+ghost use Rattle.scan_job.specs.declared.job.Job.{Job as JobValue};
+ghost use Rattle.scan_job.specs.declared.job.Task.TheVariants as tasks;
 ghost use Rattle.scan_job.specs.Outcomes.{IsOver};
-ghost use Rattle.client_rules.specs.Talks.{is_running};
+ghost use Rattle.frame_join.specs.FrameHistory.{Past};
+ghost use Rattle.client_rules.specs.Talks.{is_running, is_receiving, is_batch, wanted};
+ghost use Rattle.net_client.specs.Talker.{Serves, IsFresh};
+ghost use Rattle.net_jobs.specs.Draining.{IsDrainedTo, StopsShort};
+ghost use Rattle.net_jobs.specs.Going.{Stage, Going, HeardOrLost};
+ghost use Rattle.net_jobs.specs.Promised.{HasRun, Refuses, refused_as};
 
 use crate::dial::Dial;
 use byte_output::put;
+use frame_join::{no_file_is_endless, no_front_is_whole, not_whole_before, whole_shows};
 use net_client::{Client, Link};
 use sane_fixed::Status;
-use scan_job::{Job, JobFault, Outcome, Why};
+use scan_job::{Job, JobFault, Outcome, Task, Why};
 use std::alloc::{AllocError, Global};
 use std::io::{ErrorKind, Read, Write};
 
@@ -29,13 +37,22 @@ pub(crate) fn piece(alloc: Global) -> Result<Vec<u8>, AllocError>
 
 /// How a job that is refused ends.
 pub(crate) fn refused(fault: JobFault) -> Outcome
-    ensures { IsOver result }
+    ensures { result ≡ refused_as fault }
 {
     match fault {
         JobFault::NoMem => Outcome::Ended(Status::NoMem, Why::Memory),
         JobFault::TooManySettings | JobFault::TextTooLong | JobFault::BadCount => {
             Outcome::Ended(Status::Inval, Why::Setting)
         }
+    }
+}
+
+fn is_scan(task: Task) -> bool
+    ensures { result ≡ true ↔ task ≡ tasks.Scan }
+{
+    match task {
+        Task::Scan => true,
+        Task::List | Task::Show | Task::SetOnly | Task::Batch(_) => false,
     }
 }
 
@@ -104,7 +121,7 @@ fn see<R: Read + Drop>(
 )
     requires { is_receiving client.old.outcome client.old.progress ≡ true }
     ensures room { length piece.new ≡ length piece.old }
-    ensures stage { (job : Job) (read_ wrote : List ℕ) (coming0 coming : Option (List (List ℕ))) (given : List ℕ) → is_batch job.task ≡ false
+    ensures stage { (job : JobValue) (read_ wrote : List ℕ) (coming0 coming : Option (List (List ℕ))) (given : List ℕ) → is_batch job.task ≡ false
         → Stage R.remaining job read_ wrote client.old.out coming0 coming given stream.old client.old → Stage R.remaining job read_ wrote client.new.out coming0 coming given stream.new client.new }
 {
     let Some(mut conn) = stream.take() else {
@@ -126,7 +143,7 @@ fn see<R: Read + Drop>(
 fn connect<D: Dial>(client: &mut Client, dial: &mut D, stream: &mut Option<D::Conn>, port: u16)
     requires running { is_running client.old.outcome ≡ true }
     requires wanted { wanted client.old.progress ≡ Some port }
-    ensures stage { (job : Job) (read_ wrote : List ℕ) (coming0 : Option (List (List ℕ))) (given : List ℕ) → is_batch job.task ≡ false
+    ensures stage { (job : JobValue) (read_ wrote : List ℕ) (coming0 : Option (List (List ℕ))) (given : List ℕ) → is_batch job.task ≡ false
         → Stage D.Conn.remaining job read_ wrote client.old.out coming0 (D.coming dial.old) given stream.old client.old
         → Stage D.Conn.remaining job read_ wrote client.new.out coming0 (D.coming dial.new) given stream.new client.new }
 {
@@ -155,7 +172,7 @@ pub(crate) fn go_on<C: Read + Write, D: Dial>(
     ensures piece { length piece.new ≡ length piece.old }
     ensures room { length room.new ≡ length room.old }
     ensures over { result ≡ false → is_running client.new.outcome ≡ false }
-    ensures going { (job : Job) (first : C) (coming0 : Option (List (List ℕ))) (given : List ℕ) → is_batch job.task ≡ false
+    ensures going { (job : JobValue) (first : C) (coming0 : Option (List (List ℕ))) (given : List ℕ) → is_batch job.task ≡ false
         → Going C.remaining C.contents D.Conn.remaining job first coming0 given false control.old (D.coming dial.old) stream.old client.old
         → Going C.remaining C.contents D.Conn.remaining job first coming0 given (not result) control.new (D.coming dial.new) stream.new client.new }
 {
@@ -235,7 +252,7 @@ fn run_client<C: Read + Write, D: Dial, W: Write>(
 ) -> Outcome
     requires { 0 < length room.old }
     ensures over { IsOver result }
-    ensures ran { (job : Job) → IsFresh job client → is_batch job.task ≡ false → (is_scan ≡ true ↔ job.task ≡ tasks.Scan)
+    ensures ran { (job : JobValue) → IsFresh job client → is_batch job.task ≡ false → (is_scan ≡ true ↔ job.task ≡ tasks.Scan)
         → HasRun C.remaining C.contents job control.old (D.coming dial.old) control.new (D.coming dial.new) (W.contents out.old) (W.contents out.new) result }
 {
     not_whole_before();
@@ -277,6 +294,9 @@ pub fn run_job<C: Read + Write, D: Dial, W: Write>(
     out: &mut W,
 ) -> Outcome
     ensures over { IsOver result }
+    // A job that is refused, or finds no memory for its buffers, touches no stream.
+    ensures ran { Refuses job result control.old control.new dial.old dial.new out.old out.new
+        ⊎ ((is_batch job.task ≡ false) × HasRun C.remaining C.contents job control.old (D.coming dial.old) control.new (D.coming dial.new) (W.contents out.old) (W.contents out.new) result) }
 {
     if job.task.is_batch() {
         return Outcome::Ended(Status::Inval, Why::Setting);
@@ -287,12 +307,14 @@ pub fn run_job<C: Read + Write, D: Dial, W: Write>(
     let Ok(mut room) = piece(alloc) else {
         return refused(JobFault::NoMem);
     };
+    let is_scan = is_scan(job.task);
     match Client::new(alloc, job) {
         Ok(client) => run_client(
             client,
             control,
             dial,
             out,
+            is_scan,
             read.as_mut_slice(),
             room.as_mut_slice(),
         ),
