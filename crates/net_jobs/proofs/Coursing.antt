@@ -1,7 +1,7 @@
 -- The course of a job, event by event.
-use Rattle.std.proofs.Common.{◌≡◌, ◌∙◌, ◌⊎◌, ℕ, Bool, true, false, Option, Some, None, List, [], ◌∷◌, ◌++◌, take, drop, refl, sym, ap, subst, append_assoc, inl, inr}
+use Rattle.std.proofs.Common.{◌≡◌, ◌∙◌, ◌⊎◌, ℕ, Bool, true, false, Option, Some, None, List, [], ◌∷◌, ◌++◌, refl, sym, ap, subst, append_assoc, inl, inr}
 use Rattle.std.specs.Prelude.{if◌then◌else◌, not}
-use Rattle.std.proofs.lemmas.List.{append-nil, take-append-drop}
+use Rattle.std.proofs.lemmas.List.{append-nil}
 use Rattle.sane_fixed.specs.declared.byte_order.ByteOrder.{ByteOrder}
 use Rattle.sane_fixed.specs.declared.params.Params.{Params}
 use Rattle.sane_fixed.specs.declared.status.Status.{Status}
@@ -142,14 +142,14 @@ did_hear job course read_ wrote rest old new past piece errand talk_is rest_is r
     }
 
 -- bytes that go out
-pub did_write : (job : Job) (course : Course) (read_ wrote rest left : List ℕ) (n : ℕ) → Did job course read_ wrote rest left → Did job course read_ (wrote ++ take n left) rest (drop n left)
-did_write job course read_ wrote rest left n d = record {
+pub did_write : (job : Job) (course : Course) (read_ wrote rest left piece after_ : List ℕ) → left ≡ piece ++ after_ → Did job course read_ wrote rest left → Did job course read_ (wrote ++ piece) rest after_
+did_write job course read_ wrote rest left piece after_ e d = record {
   events = d.events;
   hello = d.hello;
   runs = d.runs;
   read_is = d.read_is;
   hello_is = d.hello_is;
-  wrote_is = d.wrote_is ∙ ap (λ (l : List ℕ). wrote ++ l) (sym (take-append-drop n left)) ∙ sym (append_assoc wrote (take n left) (drop n left));
+  wrote_is = d.wrote_is ∙ ap (λ (l : List ℕ). wrote ++ l) e ∙ sym (append_assoc wrote piece after_);
 }
 
 -- bytes that were read and no more

@@ -3,3 +3,4 @@ pub mod Coursing
 pub mod Frames
 pub mod Staging
 pub mod Receiving
+pub mod Going

@@ -98,8 +98,8 @@ pub record Going {C R : Type 0} (remaining contents : C → Option (List ℕ)) (
   pub stage : Stage left_of job read_ wrote left coming0 coming given stream c
   pub left_is : failed ≡ false → left ≡ c.out
 
--- a read of the control connection: the client heeds the bytes, or the connection is lost
+-- a read of the control connection: the client heeds the bytes, or there are none and the connection is lost
 pub record HeardOrLost (was now : Option (List ℕ)) (old : Talker) (past : Past) (new : Talker) : Type 0 where
   pub bytes : List ℕ
   pub consumed : Consumes was now bytes
-  pub then_ : (new ≡ ended statuses.IoError whys.Lost old) ⊎ Heeds old past bytes new
+  pub then_ : ((bytes ≡ []) × (new ≡ ended statuses.IoError whys.Lost old)) ⊎ Heeds old past bytes new
