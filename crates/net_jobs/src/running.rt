@@ -189,9 +189,10 @@ pub(crate) fn go_on<C: Read + Write, D: Dial>(
     if client.is_over() {
         return true;
     }
-    match client.data_wanted() {
-        Some(port) => connect(client, dial, stream, port),
-        None => hear(client, control, piece, reads),
+    if let Some(port) = client.data_wanted() {
+        connect(client, dial, stream, port);
+    } else if !client.is_receiving() {
+        hear(client, control, piece, reads);
     }
     true
 }
