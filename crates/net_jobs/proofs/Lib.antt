@@ -4,3 +4,5 @@ pub mod Frames
 pub mod Staging
 pub mod Receiving
 pub mod Going
+pub mod Drains
+pub mod Leaving

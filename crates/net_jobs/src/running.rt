@@ -207,7 +207,6 @@ fn drain<W: Write>(client: &mut Client, room: &mut [u8], out: &mut W, reads: &mu
         → Appends first (W.contents out.old) past.given → IsDrainedTo past client.old first client.new (W.contents out.new) }
     ensures short { result ≡ false → (first : Option (List ℕ)) (past : Past) → client.old.errand.task ≡ tasks.Scan → Serves past client.old
         → Appends first (W.contents out.old) past.given → StopsShort first (W.contents out.new) }
-    ensures same { result ≡ false → client.new ≡ record client.old { join = client.new.join } }
 {
     no_file_is_endless();
     no_front_is_whole();
