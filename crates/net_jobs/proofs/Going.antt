@@ -4,7 +4,7 @@ use Rattle.std.specs.Prelude.{if◌then◌else◌, not}
 use Rattle.std.specs.Io.KnownBytes.{Appends, Consumes}
 use Rattle.std.proofs.lemmas.List.{append-nil, take-append-drop}
 use Rattle.sane_fixed.specs.declared.status.Status.TheVariants as statuses
-use Rattle.frame_join.specs.FrameHistory.{Past}
+use Rattle.frame_join.specs.FrameHistory.{Past, no_past}
 use Rattle.scan_job.specs.declared.job.Job.{Job}
 use Rattle.scan_job.specs.declared.outcome.Outcome.{Outcome}
 use Rattle.scan_job.specs.declared.outcome.Why.TheVariants as whys
@@ -18,7 +18,7 @@ use Rattle.net_jobs.specs.Links.{Calls, Begun, Read, Wrote, Failed}
 use Rattle.net_jobs.specs.Going.{Linked, Follows, Falls, Stage, Going, HeardOrLost}
 use Rattle.net_jobs.proofs.Coursing.{did_write}
 use Rattle.net_jobs.proofs.Staging.{following, stage_begun, stage_heard}
-use Rattle.net_jobs.proofs.Receiving.{stage_lost}
+use Rattle.net_jobs.proofs.Receiving.{stage_lost, lost_from}
 
 -- ---- no data connection is open while none is received
 
@@ -63,25 +63,32 @@ out_only left_of coming0 coming course rest stream c out past (inr f) = inr (rec
 })
 
 -- bytes that went out, and those that are left
+wrote_from : {R : Type 0} (left_of : R → Option (List ℕ)) (job : Job) (read_ wrote left piece after_ : List ℕ) (coming0 coming : Option (List (List ℕ))) (given : List ℕ) (stream : Option R) (c : Talker) (out : List ℕ) → left ≡ piece ++ after_
+    → (s : Stage left_of job read_ wrote left coming0 coming given stream c) → (t : Stage left_of job read_ (wrote ++ piece) after_ coming0 coming given stream (record c { out = out })) × (t.past ≡ s.past)
+wrote_from left_of job read_ wrote left piece after_ coming0 coming given stream c out e s = (record {
+  errand = s.errand;
+  past = s.past;
+  serves = record { stands = s.serves.stands; fits = s.serves.fits };
+  given_is = s.given_is;
+  course = s.course;
+  rest = s.rest;
+  did = did_write job s.course read_ wrote s.rest left piece after_ e s.did;
+  stands = out_only left_of coming0 coming s.course s.rest stream c out s.past s.stands;
+}, refl)
+
 pub stage_wrote : {R : Type 0} (left_of : R → Option (List ℕ)) (job : Job) (read_ wrote left piece after_ : List ℕ) (coming0 coming : Option (List (List ℕ))) (given : List ℕ) (stream : Option R) (c new : Talker) → left ≡ piece ++ after_
-    → new ≡ record c { out = new.out } → Stage left_of job read_ wrote left coming0 coming given stream c → Stage left_of job read_ (wrote ++ piece) after_ coming0 coming given stream new
+    → new ≡ record c { out = new.out } → (s : Stage left_of job read_ wrote left coming0 coming given stream c) → (t : Stage left_of job read_ (wrote ++ piece) after_ coming0 coming given stream new) × (t.past ≡ s.past)
 stage_wrote left_of job read_ wrote left piece after_ coming0 coming given stream c new e new_is s =
-    subst (λ (v : Talker). Stage left_of job read_ (wrote ++ piece) after_ coming0 coming given stream v) (sym new_is) (record {
-      errand = s.errand;
-      past = s.past;
-      serves = record { stands = s.serves.stands; fits = s.serves.fits };
-      given_is = s.given_is;
-      course = s.course;
-      rest = s.rest;
-      did = did_write job s.course read_ wrote s.rest left piece after_ e s.did;
-      stands = out_only left_of coming0 coming s.course s.rest stream c new.out s.past s.stands;
-    })
+    subst (λ (v : Talker). (t : Stage left_of job read_ (wrote ++ piece) after_ coming0 coming given stream v) × (t.past ≡ s.past)) (sym new_is)
+    (wrote_from left_of job read_ wrote left piece after_ coming0 coming given stream c new.out e s)
 
 -- ---- the control connection: what it is to have heard, written and lost
 
 pub going_begun : {C R : Type 0} (remaining contents : C → Option (List ℕ)) (left_of : R → Option (List ℕ)) (job : Job) (control : C) (coming : Option (List (List ℕ))) (c : Talker) → IsFresh job c
-    → Going remaining contents left_of job control coming [] false control coming None c
-going_begun remaining contents left_of job control coming c f = record { read_ = []; wrote = []; left = c.out; calls = Begun; stage = stage_begun left_of job coming c f; left_is = λ e. refl }
+    → (g : Going remaining contents left_of job control coming [] false control coming None c) × (g.stage.past ≡ no_past)
+going_begun remaining contents left_of job control coming c f =
+    let s = stage_begun left_of job coming c f in
+    (record { read_ = []; wrote = []; left = c.out; calls = Begun; stage = s.0; left_is = λ e. refl }, s.1)
 
 heard_or_lost : {R : Type 0} (left_of : R → Option (List ℕ)) (job : Job) (read_ wrote : List ℕ) (coming0 coming : Option (List (List ℕ))) (given : List ℕ) (old new : Talker) (piece : List ℕ)
     → is_batch job.task ≡ false → is_running old.outcome ≡ true → is_receiving old.outcome old.progress ≡ false
@@ -141,33 +148,35 @@ going_wrote remaining contents left_of job first coming0 given control now comin
   wrote = g.wrote ++ old.out;
   left = [];
   calls = Wrote g.read_ g.wrote false control now old.out g.calls took;
-  stage = stage_wrote left_of job g.read_ g.wrote g.left old.out [] coming0 coming given stream old new (g.left_is refl ∙ sym (append-nil old.out)) new_is g.stage;
+  stage = (stage_wrote left_of job g.read_ g.wrote g.left old.out [] coming0 coming given stream old new (g.left_is refl ∙ sym (append-nil old.out)) new_is g.stage).0;
   left_is = λ e. sym none;
 }
 
--- some went, and the connection is lost
-lost_if : {R : Type 0} (left_of : R → Option (List ℕ)) (job : Job) (read_ wrote left : List ℕ) (coming0 coming : Option (List (List ℕ))) (given : List ℕ) (stream : Option R) (old new : Talker) (runs : Bool) → is_running old.outcome ≡ runs
-    → new ≡ (if runs then ended statuses.IoError whys.Lost old else old) → Stage left_of job read_ wrote left coming0 coming given stream old → Stage left_of job read_ wrote left coming0 coming given stream new
-lost_if left_of job read_ wrote left coming0 coming given stream old new true runs lost s = stage_lost left_of job read_ wrote left coming0 coming given stream stream old new runs lost s
-lost_if left_of job read_ wrote left coming0 coming given stream old new false runs same s = subst (λ (v : Talker). Stage left_of job read_ wrote left coming0 coming given stream v) (sym same) s
-
-pub stage_cut : {R : Type 0} (left_of : R → Option (List ℕ)) (job : Job) (read_ wrote left : List ℕ) (coming0 coming : Option (List (List ℕ))) (given : List ℕ) (stream : Option R) (old new : Talker)
-    → new ≡ (if is_lost_by links.Control old.outcome old.progress then ended statuses.IoError whys.Lost old else old) → Stage left_of job read_ wrote left coming0 coming given stream old → Stage left_of job read_ wrote left coming0 coming given stream new
-stage_cut left_of job read_ wrote left coming0 coming given stream old new lost s = lost_if left_of job read_ wrote left coming0 coming given stream old new (is_running old.outcome) refl lost s
-
-pub going_short : {C R : Type 0} (remaining contents : C → Option (List ℕ)) (left_of : R → Option (List ℕ)) (job : Job) (first : C) (coming0 : Option (List (List ℕ))) (given : List ℕ) (control now : C) (coming : Option (List (List ℕ))) (stream : Option R) (old mid new : Talker) (n : ℕ)
-    → Appends (contents control) (contents now) (take n old.out) → mid ≡ record old { out = mid.out }
-    → new ≡ (if is_lost_by links.Control mid.outcome mid.progress then ended statuses.IoError whys.Lost mid else mid)
+-- some went, and a write failed
+pub going_short : {C R : Type 0} (remaining contents : C → Option (List ℕ)) (left_of : R → Option (List ℕ)) (job : Job) (first : C) (coming0 : Option (List (List ℕ))) (given : List ℕ) (control now : C) (coming : Option (List (List ℕ))) (stream : Option R) (old new : Talker) (n : ℕ)
+    → Appends (contents control) (contents now) (take n old.out) → new ≡ record old { out = new.out }
     → Going remaining contents left_of job first coming0 given false control coming stream old → Going remaining contents left_of job first coming0 given true now coming stream new
-going_short remaining contents left_of job first coming0 given control now coming stream old mid new n took mid_is lost g = record {
+going_short remaining contents left_of job first coming0 given control now coming stream old new n took new_is g = record {
   read_ = g.read_;
   wrote = g.wrote ++ take n old.out;
   left = drop n old.out;
   calls = Failed g.read_ g.wrote false control now (take n old.out) g.calls took;
-  stage = stage_cut left_of job g.read_ (g.wrote ++ take n old.out) (drop n old.out) coming0 coming given stream mid new lost
-      (stage_wrote left_of job g.read_ g.wrote g.left (take n old.out) (drop n old.out) coming0 coming given stream old mid (g.left_is refl ∙ sym (take-append-drop n old.out)) mid_is g.stage);
+  stage = (stage_wrote left_of job g.read_ g.wrote g.left (take n old.out) (drop n old.out) coming0 coming given stream old new (g.left_is refl ∙ sym (take-append-drop n old.out)) new_is g.stage).0;
   left_is = λ e. absurd (let clash : true ≡ false = e in cc);
 }
+
+-- the control connection is lost
+lost_if : {R : Type 0} (left_of : R → Option (List ℕ)) (job : Job) (read_ wrote left : List ℕ) (coming0 coming : Option (List (List ℕ))) (given : List ℕ) (stream : Option R) (old new : Talker) (runs : Bool) → is_running old.outcome ≡ runs
+    → new ≡ (if runs then ended statuses.IoError whys.Lost old else old) → (s : Stage left_of job read_ wrote left coming0 coming given stream old)
+    → (t : Stage left_of job read_ wrote left coming0 coming given stream new) × (t.past ≡ s.past)
+lost_if left_of job read_ wrote left coming0 coming given stream old new true runs lost s = lost_from left_of job read_ wrote left coming0 coming given stream stream old new runs lost s
+lost_if left_of job read_ wrote left coming0 coming given stream old new false runs same s =
+    subst (λ (v : Talker). (t : Stage left_of job read_ wrote left coming0 coming given stream v) × (t.past ≡ s.past)) (sym same) (s, refl)
+
+pub stage_cut : {R : Type 0} (left_of : R → Option (List ℕ)) (job : Job) (read_ wrote left : List ℕ) (coming0 coming : Option (List (List ℕ))) (given : List ℕ) (stream : Option R) (old new : Talker)
+    → new ≡ (if is_lost_by links.Control old.outcome old.progress then ended statuses.IoError whys.Lost old else old) → (s : Stage left_of job read_ wrote left coming0 coming given stream old)
+    → (t : Stage left_of job read_ wrote left coming0 coming given stream new) × (t.past ≡ s.past)
+stage_cut left_of job read_ wrote left coming0 coming given stream old new lost s = lost_if left_of job read_ wrote left coming0 coming given stream old new (is_running old.outcome) refl lost s
 
 -- ---- the data connection: what goes on without the control connection
 

@@ -44,12 +44,12 @@ use Rattle.net_jobs.proofs.Staging.{following, falls, stage_starved}
 
 -- ---- a connection is lost
 
-pub stage_lost : {R : Type 0} (left_of : R → Option (List ℕ)) (job : Job) (read_ wrote left : List ℕ) (coming0 coming : Option (List (List ℕ))) (given : List ℕ) (stream after_ : Option R) (old new : Talker) → is_running old.outcome ≡ true
-    → new ≡ ended statuses.IoError whys.Lost old → Stage left_of job read_ wrote left coming0 coming given stream old → Stage left_of job read_ wrote left coming0 coming given after_ new
-stage_lost left_of job read_ wrote left coming0 coming given stream after_ old new running new_is s =
+pub lost_from : {R : Type 0} (left_of : R → Option (List ℕ)) (job : Job) (read_ wrote left : List ℕ) (coming0 coming : Option (List (List ℕ))) (given : List ℕ) (stream after_ : Option R) (old new : Talker) → is_running old.outcome ≡ true
+    → new ≡ ended statuses.IoError whys.Lost old → (s : Stage left_of job read_ wrote left coming0 coming given stream old) → (t : Stage left_of job read_ wrote left coming0 coming given after_ new) × (t.past ≡ s.past)
+lost_from left_of job read_ wrote left coming0 coming given stream after_ old new running new_is s =
     let at = fits_at s.past old running s.serves in
     let f = following left_of coming0 coming s.course s.rest stream old s.past running s.stands in
-    record {
+    (record {
       errand = ap (λ (v : Talker). v.errand) new_is ∙ s.errand;
       past = s.past;
       serves = subst (λ (v : Talker). Serves s.past v) (sym new_is) (record { stands = s.serves.stands; fits = may_end old.errand.task old.progress s.past at.0 at.1 });
@@ -58,7 +58,11 @@ stage_lost left_of job read_ wrote left coming0 coming given stream after_ old n
       rest = s.rest;
       did = s.did;
       stands = inr (falls left_of coming0 coming s.course s.rest s.rest stream old new s.past f running (ByLoss (ap (λ (v : Talker). v.outcome) new_is)) (ap (λ (v : Talker). is_running v.outcome) new_is));
-    }
+    }, refl)
+
+pub stage_lost : {R : Type 0} (left_of : R → Option (List ℕ)) (job : Job) (read_ wrote left : List ℕ) (coming0 coming : Option (List (List ℕ))) (given : List ℕ) (stream after_ : Option R) (old new : Talker) → is_running old.outcome ≡ true
+    → new ≡ ended statuses.IoError whys.Lost old → Stage left_of job read_ wrote left coming0 coming given stream old → Stage left_of job read_ wrote left coming0 coming given after_ new
+stage_lost left_of job read_ wrote left coming0 coming given stream after_ old new running new_is s = (lost_from left_of job read_ wrote left coming0 coming given stream after_ old new running new_is s).0
 
 -- ---- the data connection is made
 

@@ -92,8 +92,8 @@ nothing_brought : (coming : Option (List (List ℕ))) → HasBrought coming comi
 nothing_brought None = tt
 nothing_brought (Some all) = (all, refl, refl)
 
-pub stage_begun : {R : Type 0} (left_of : R → Option (List ℕ)) (job : Job) (coming : Option (List (List ℕ))) (c : Talker) → IsFresh job c → Stage left_of job [] [] c.out coming coming [] None c
-stage_begun left_of job coming c f = record {
+pub stage_begun : {R : Type 0} (left_of : R → Option (List ℕ)) (job : Job) (coming : Option (List (List ℕ))) (c : Talker) → IsFresh job c → (s : Stage left_of job [] [] c.out coming coming [] None c) × (s.past ≡ no_past)
+stage_begun left_of job coming c f = (record {
   errand = ap (λ (v : Talker). v.errand) f.value;
   past = no_past;
   serves = f.serves;
@@ -106,7 +106,7 @@ stage_begun left_of job coming c f = record {
     rest_is = ap (λ (v : Talker). v.input.rest) f.value;
     linked = record { wholes = []; begin = tt; brought = nothing_brought coming; empty = λ port e. refl };
   });
-}
+}, refl)
 
 -- ---- a piece of the control connection
 

@@ -99,6 +99,7 @@ fn run_client<C: Read + Write, D: Dial, S: Shelf>(
             return Outcome::Ended(Status::IoError, Why::Sink);
         }
         if !is_up {
+            client.link_lost(Link::Control);
             return client.into_outcome();
         }
     }

@@ -171,7 +171,6 @@ pub(crate) fn go_on<C: Read + Write, D: Dial>(
     requires running { is_running client.old.outcome ≡ true }
     ensures piece { length piece.new ≡ length piece.old }
     ensures room { length room.new ≡ length room.old }
-    ensures over { result ≡ false → is_running client.new.outcome ≡ false }
     ensures going { (job : JobValue) (first : C) (coming0 : Option (List (List ℕ))) (given : List ℕ) → is_batch job.task ≡ false
         → Going C.remaining C.contents D.Conn.remaining job first coming0 given false control.old (D.coming dial.old) stream.old client.old
         → Going C.remaining C.contents D.Conn.remaining job first coming0 given (not result) control.new (D.coming dial.new) stream.new client.new }
@@ -183,7 +182,6 @@ pub(crate) fn go_on<C: Read + Write, D: Dial>(
     // A reply may have come before it was waited for.
     client.feed_control(&[]);
     if !write_out(client, control, room, reads) {
-        client.link_lost(Link::Control);
         return false;
     }
     if client.is_over() {
@@ -220,6 +218,28 @@ fn drain<W: Write>(client: &mut Client, room: &mut [u8], out: &mut W, reads: &mu
         }
     }
     false
+}
+
+/// Writes the bytes of a scan's file that may go out; nothing of any other job.
+fn give<W: Write>(
+    client: &mut Client,
+    is_scan: bool,
+    room: &mut [u8],
+    out: &mut W,
+    reads: &mut u64,
+) -> bool
+    requires { 0 < length room.old }
+    ensures room { length room.new ≡ length room.old }
+    ensures none { is_scan ≡ false → (result ≡ true) × (client.new ≡ client.old) × (W.contents out.new ≡ W.contents out.old) }
+    ensures drained { is_scan ≡ true → result ≡ true → (first : Option (List ℕ)) (past : Past) → client.old.errand.task ≡ tasks.Scan → Serves past client.old
+        → Appends first (W.contents out.old) past.given → IsDrainedTo past client.old first client.new (W.contents out.new) }
+    ensures short { result ≡ false → (first : Option (List ℕ)) (past : Past) → client.old.errand.task ≡ tasks.Scan → Serves past client.old
+        → Appends first (W.contents out.old) past.given → StopsShort first (W.contents out.new) }
+{
+    if !is_scan {
+        return true;
+    }
+    drain(client, room, out, reads)
 }
 
 /// Writes what a job that is over sends last, whether it is taken or not, and gives its outcome.
@@ -272,10 +292,11 @@ fn run_client<C: Read + Write, D: Dial, W: Write>(
             room,
             &mut reads,
         );
-        if is_scan && !drain(&mut client, room, out, &mut reads) {
+        if !give(&mut client, is_scan, room, out, &mut reads) {
             return Outcome::Ended(Status::IoError, Why::Sink);
         }
         if !is_up {
+            client.link_lost(Link::Control);
             return client.into_outcome();
         }
     }

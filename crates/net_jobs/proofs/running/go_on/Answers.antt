@@ -10,7 +10,7 @@ pub returns-then-not-write_out-clause-going : goal.returns-then-not-write_out-cl
 returns-then-not-write_out-clause-going g c = λ job first coming0 given single go.
     let fed = going_fed _ _ _ job first coming0 given _ _ _ c.args.client.now c.feed_control.new.self single c.requires.running (sym c.is_receiving.ensures ∙ c.if-is_receiving.false) (λ past serves. c.feed_control.ensures.heeds c.requires.running past serves) go in
     let front = c.write_out.ensures.front c.if-not-write_out.true in
-    going_short _ _ _ job first coming0 given _ c.write_out.new.control _ _ c.feed_control.new.self c.write_out.new.client c.link_lost.new.self front.0 front.2 c.write_out.ensures.rest c.link_lost.ensures.lost fed
+    going_short _ _ _ job first coming0 given _ c.write_out.new.control _ _ c.feed_control.new.self c.write_out.new.client front.0 front.2 c.write_out.ensures.rest fed
 
 pub returns-then-is_over-clause-going : goal.returns-then-is_over-clause-going
 returns-then-is_over-clause-going g c = λ job first coming0 given single go.

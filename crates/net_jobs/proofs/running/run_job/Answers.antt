@@ -1,0 +1,1 @@
+use Rattle.net_jobs.proofs.running.run_job.Goals as goal
