@@ -1,6 +1,6 @@
 -- How a job over streams is over.
 use Rattle.std.proofs.Common.{◌≡◌, ◌∙◌, ◌⊎◌, ◌<◌, ◌≤◌, ◌↔◌, ℕ, Bool, true, false, Option, Some, None, Result, Ok, Err, List, [], ◌∷◌, ◌++◌, length, take, drop, refl, sym, ap, subst, inl, inr, arith}
-use Rattle.std.specs.Prelude.{nat_lt, if◌then◌else◌}
+use Rattle.std.specs.Prelude.{nat_lt, if◌then◌else◌, IsTrue}
 use Rattle.std.specs.Io.KnownBytes.{Appends}
 use Rattle.std.proofs.KnownBytes.{Appends-nil}
 use Rattle.std.proofs.lemmas.Bool.{ltb-false}
@@ -15,6 +15,7 @@ use Rattle.frame_join.specs.declared.join_stage.JoinFault.TheVariants.{Shape, Lo
 use Rattle.frame_join.specs.FrameHistory.{Past, IsJoined, after_pull}
 use Rattle.frame_join.specs.Joining.{Joining, Stands}
 use Rattle.scan_job.specs.declared.job.Job.{Job}
+use Rattle.scan_job.specs.JobSize.{IsBatch}
 use Rattle.scan_job.specs.declared.job.Task.{Task}
 use Rattle.scan_job.specs.declared.job.Task.TheVariants as tasks
 use Rattle.scan_job.specs.declared.outcome.Outcome.{Outcome}
@@ -471,3 +472,9 @@ pub given_more : {C R : Type 0} (remaining contents : C → Option (List ℕ)) (
     → Drained remaining contents left_of job first coming0 held failed control coming stream now holds
 given_more remaining contents left_of job first coming0 held failed control coming stream c now was holds given is_scan scan taken none g same drains =
     given_by remaining contents left_of job first coming0 held failed control coming stream c now was holds given is_scan is_scan refl scan taken none g same drains
+
+-- ---- a job that is no batch
+
+pub single_by : (task : Task) (b : Bool) → IsTrue b ↔ IsBatch task → b ≡ false → is_batch task ≡ false
+single_by (tasks.Batch count) b e unset = let clash : true ≡ false = sym (e.1 tt) ∙ unset in cc
+single_by task b e unset = refl
