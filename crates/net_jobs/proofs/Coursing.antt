@@ -21,8 +21,7 @@ use Rattle.client_rules.specs.declared.progress.Progress.TheVariants as stages
 use Rattle.client_rules.specs.declared.progress.Notes.{Notes}
 use Rattle.client_rules.specs.declared.progress.Next.{Next}
 use Rattle.client_rules.specs.declared.progress.Next.TheVariants.{Wait, Finish, Stop}
-use Rattle.client_rules.specs.Talking.{Turn}
-use Rattle.client_rules.specs.Talks.{Talk, errand_of, is_running, next_outcome, next_progress, settled, heard_at, answer_to, after_reply, shaped_by}
+use Rattle.client_rules.specs.Talks.{Talk, errand_of, is_running, next_outcome, next_progress, heard_at, answer_to, after_reply, shaped_by}
 use Rattle.net_client.specs.Talker.{Talker, talk_of, IsFresh}
 use Rattle.net_client.specs.Hearing.{awaited, Hears, HasHeard}
 use Rattle.net_jobs.specs.Courses.{Event, Replied, Course, Lives, Runs, begun, Did}
@@ -112,9 +111,11 @@ runs_hear errand first was events [] text sent u live runs h = (events, subst (�
 runs_hear errand first was events (r ∷ rs) text sent u live runs h =
     let now : Course = heard_on was h.0 h.2 (after_reply errand was.talk r) in
     let here : Lives errand was (Replied r) now = (h.0, h.2, live h.6.procedure h.6.awaited_is, h.6, h.7, refl) in
-    let rest = runs_hear errand first now (Replied r ∷ events) rs h.1 h.3 u (λ procedure e. live_next errand.task (answer_to errand was.talk r).turn.notes (answer_to errand was.talk r).turn.next procedure e) (was, runs, here) h.8 in
-    (rest.0, subst (λ (c : Course). Runs errand first rest.0 c)
-        (heard_twice was h.0 h.1 h.2 h.3 (after_reply errand was.talk r) u ∙ ap (λ (l : List ℕ). heard_on was l (h.2 ++ h.3) u) (sym h.4) ∙ ap (λ (l : List ℕ). heard_on was text l u) (sym h.5)) rest.1)
+    let rest = runs_hear errand first now (Replied r ∷ events) rs h.1 h.3 u (λ procedure e. live_next errand.task (answer_to errand was.talk r).turn.notes (answer_to errand was.talk r).turn.next procedure e) (was, runs, here) h.8 in (
+      rest.0,
+      subst (λ (c : Course). Runs errand first rest.0 c)
+          (heard_twice was h.0 h.1 h.2 h.3 (after_reply errand was.talk r) u ∙ ap (λ (l : List ℕ). heard_on was l (h.2 ++ h.3) u) (sym h.4) ∙ ap (λ (l : List ℕ). heard_on was text l u) (sym h.5)) rest.1,
+    )
 
 -- ---- what a job did
 
@@ -130,7 +131,7 @@ pub did_hear : (job : Job) (course : Course) (read_ wrote rest : List ℕ) (old 
     → Did job (heard_on course h.text h.sent (talk_of new h.past_then)) (read_ ++ piece) wrote new.input.rest new.out
 did_hear job course read_ wrote rest old new past piece errand talk_is rest_is running d h =
     let hears : Hears (errand_of job) course.talk h.told h.text h.sent (talk_of new h.past_then)
-        = subst (λ (t : Talk). Hears (errand_of job) t h.told h.text h.sent (talk_of new h.past_then)) talk_is (subst (λ (e : Errand). Hears e (talk_of old past) h.told h.text h.sent (talk_of new h.past_then)) errand h.hears) in
+    = subst (λ (t : Talk). Hears (errand_of job) t h.told h.text h.sent (talk_of new h.past_then)) talk_is (subst (λ (e : Errand). Hears e (talk_of old past) h.told h.text h.sent (talk_of new h.past_then)) errand h.hears) in
     let runs = runs_hear (errand_of job) (begun job) course d.events h.told h.text h.sent (talk_of new h.past_then) (λ procedure e. ap (λ (t : Talk). is_running t.outcome) (sym talk_is) ∙ running) d.runs hears in
     record {
       events = runs.0;

@@ -1,10 +1,10 @@
 -- The data connections of a job, and the records that they bring.
-use Rattle.std.proofs.Common.{◌≡◌, ◌∙◌, ◌≤◌, ℕ, Bool, true, false, Option, Some, None, List, [], ◌∷◌, ◌++◌, length, refl, sym, ap, subst, append_assoc, arith}
+use Rattle.std.proofs.Common.{◌≡◌, ◌∙◌, ℕ, Option, Some, None, List, [], ◌∷◌, ◌++◌, refl, sym, ap, subst, append_assoc}
 use Rattle.std.proofs.lemmas.List.{append-nil}
 use Rattle.std.proofs.KnownBytes.{Consumes-trans}
 use Rattle.std.specs.Io.KnownBytes.{Consumes}
 use Rattle.data_records.specs.declared.records.Phase.TheVariants as phases
-use Rattle.data_records.specs.Records.{Carries, Continues, IsRecords}
+use Rattle.data_records.specs.Records.{Carries, IsRecords}
 use Rattle.net_jobs.specs.Links.{Brings, HasBrought, HasReadOf, BeginWith}
 
 -- the end record ends the records of the payload

@@ -1,20 +1,18 @@
 -- A turn of a job's loop: how far it is, with its control connection.
-use Rattle.std.proofs.Common.{◌≡◌, ◌∙◌, ◌⊎◌, ◌<◌, ◌≤◌, ℕ, Bool, true, false, Option, Some, None, List, [], ◌∷◌, ◌++◌, length, take, drop, refl, sym, ap, subst, append_assoc, inl, inr, arith}
-use Rattle.std.specs.Prelude.{if◌then◌else◌, not}
-use Rattle.std.specs.Io.KnownBytes.{Appends, Consumes}
+use Rattle.std.proofs.Common.{◌≡◌, ◌∙◌, ◌⊎◌, ℕ, Bool, true, false, Option, Some, None, List, [], ◌++◌, take, drop, refl, sym, ap, subst, inl, inr}
+use Rattle.std.specs.Prelude.{if◌then◌else◌}
+use Rattle.std.specs.Io.KnownBytes.{Appends}
 use Rattle.std.proofs.lemmas.List.{append-nil, take-append-drop}
 use Rattle.sane_fixed.specs.declared.status.Status.TheVariants as statuses
 use Rattle.frame_join.specs.FrameHistory.{Past, no_past}
 use Rattle.scan_job.specs.declared.job.Job.{Job}
-use Rattle.scan_job.specs.declared.outcome.Outcome.{Outcome}
 use Rattle.scan_job.specs.declared.outcome.Why.TheVariants as whys
-use Rattle.client_rules.specs.declared.progress.Progress.{Progress}
 use Rattle.client_rules.specs.declared.progress.Link.TheVariants as links
-use Rattle.client_rules.specs.Talks.{errand_of, is_running, is_batch, is_receiving, is_lost_by}
+use Rattle.client_rules.specs.Talks.{is_running, is_batch, is_receiving, is_lost_by}
 use Rattle.net_client.specs.Talker.{Talker, Serves, ended, IsFresh}
 use Rattle.net_client.specs.Hearing.{Heeds}
-use Rattle.net_jobs.specs.Courses.{Course, Did}
-use Rattle.net_jobs.specs.Links.{Calls, Begun, Read, Wrote, Failed}
+use Rattle.net_jobs.specs.Courses.{Course}
+use Rattle.net_jobs.specs.Links.{Begun, Read, Wrote, Failed}
 use Rattle.net_jobs.specs.Going.{Linked, Follows, Falls, Stage, Going, HeardOrLost}
 use Rattle.net_jobs.proofs.Coursing.{did_write}
 use Rattle.net_jobs.proofs.Staging.{following, stage_begun, stage_heard}
@@ -65,16 +63,19 @@ out_only left_of coming0 coming course rest stream c out past (inr f) = inr (rec
 -- bytes that went out, and those that are left
 wrote_from : {R : Type 0} (left_of : R → Option (List ℕ)) (job : Job) (read_ wrote left piece after_ : List ℕ) (coming0 coming : Option (List (List ℕ))) (given : List ℕ) (stream : Option R) (c : Talker) (out : List ℕ) → left ≡ piece ++ after_
     → (s : Stage left_of job read_ wrote left coming0 coming given stream c) → (t : Stage left_of job read_ (wrote ++ piece) after_ coming0 coming given stream (record c { out = out })) × (t.past ≡ s.past)
-wrote_from left_of job read_ wrote left piece after_ coming0 coming given stream c out e s = (record {
-  errand = s.errand;
-  past = s.past;
-  serves = record { stands = s.serves.stands; fits = s.serves.fits };
-  given_is = s.given_is;
-  course = s.course;
-  rest = s.rest;
-  did = did_write job s.course read_ wrote s.rest left piece after_ e s.did;
-  stands = out_only left_of coming0 coming s.course s.rest stream c out s.past s.stands;
-}, refl)
+wrote_from left_of job read_ wrote left piece after_ coming0 coming given stream c out e s = (
+  record {
+    errand = s.errand;
+    past = s.past;
+    serves = record { stands = s.serves.stands; fits = s.serves.fits };
+    given_is = s.given_is;
+    course = s.course;
+    rest = s.rest;
+    did = did_write job s.course read_ wrote s.rest left piece after_ e s.did;
+    stands = out_only left_of coming0 coming s.course s.rest stream c out s.past s.stands;
+  },
+  refl,
+)
 
 pub stage_wrote : {R : Type 0} (left_of : R → Option (List ℕ)) (job : Job) (read_ wrote left piece after_ : List ℕ) (coming0 coming : Option (List (List ℕ))) (given : List ℕ) (stream : Option R) (c new : Talker) → left ≡ piece ++ after_
     → new ≡ record c { out = new.out } → (s : Stage left_of job read_ wrote left coming0 coming given stream c) → (t : Stage left_of job read_ (wrote ++ piece) after_ coming0 coming given stream new) × (t.past ≡ s.past)
@@ -97,7 +98,7 @@ heard_or_lost : {R : Type 0} (left_of : R → Option (List ℕ)) (job : Job) (re
 heard_or_lost left_of job read_ wrote coming0 coming given old new piece single running shut s (inl lost) =
     subst (λ (l : List ℕ). Stage left_of job l wrote new.out coming0 coming given None new) (sym (ap (λ (l : List ℕ). read_ ++ l) lost.0 ∙ append-nil read_))
     (subst (λ (l : List ℕ). Stage left_of job read_ wrote l coming0 coming given None new) (sym (ap (λ (v : Talker). v.out) lost.1))
-        (stage_lost left_of job read_ wrote old.out coming0 coming given None None old new running lost.1 s))
+    (stage_lost left_of job read_ wrote old.out coming0 coming given None None old new running lost.1 s))
 heard_or_lost left_of job read_ wrote coming0 coming given old new piece single running shut s (inr heeds) = stage_heard left_of job read_ wrote coming0 coming given old new piece single running shut s heeds
 
 -- a read of the control connection

@@ -1,5 +1,5 @@
 -- How a job over streams is over.
-use Rattle.std.proofs.Common.{◌≡◌, ◌∙◌, ◌⊎◌, ◌<◌, ◌≤◌, ◌↔◌, ℕ, Bool, true, false, Option, Some, None, Result, Ok, Err, List, [], ◌∷◌, ◌++◌, length, take, drop, refl, sym, ap, subst, inl, inr, arith}
+use Rattle.std.proofs.Common.{◌≡◌, ◌∙◌, ◌⊎◌, ◌≤◌, ◌↔◌, ℕ, Bool, true, false, Option, Some, None, Ok, List, [], ◌∷◌, ◌++◌, length, take, drop, refl, sym, ap, subst, inl, inr, arith}
 use Rattle.std.specs.Prelude.{nat_lt, if◌then◌else◌, IsTrue}
 use Rattle.std.specs.Io.KnownBytes.{Appends}
 use Rattle.std.proofs.KnownBytes.{Appends-nil}
@@ -9,7 +9,7 @@ use Rattle.sane_fixed.specs.declared.status.Status.{Status}
 use Rattle.sane_fixed.specs.declared.status.Status.TheVariants as statuses
 use Rattle.netpbm.specs.Picture.{Picture}
 use Rattle.netpbm.specs.Pnm.{Denotes, IsWhole}
-use Rattle.page_picture.specs.Shows.{Frame, ShowsFrames}
+use Rattle.page_picture.specs.Shows.{ShowsFrames}
 use Rattle.frame_join.specs.declared.join_stage.JoinFault.{JoinFault}
 use Rattle.frame_join.specs.declared.join_stage.JoinFault.TheVariants.{Shape, Long, Short, NoMem}
 use Rattle.frame_join.specs.FrameHistory.{Past, IsJoined, after_pull}
@@ -29,8 +29,8 @@ use Rattle.client_rules.specs.declared.progress.Progress.{Progress}
 use Rattle.client_rules.specs.declared.progress.Notes.{Notes}
 use Rattle.client_rules.specs.Talking.{unjoined, frame_ended_by, status_of}
 use Rattle.client_rules.specs.Talks.{Talk, errand_of, is_running, is_ended, is_batch, is_lost_by, next_outcome, Fits, FitsEnded}
-use Rattle.net_client.specs.Talker.{Talker, talk_of, Serves, IsFresh, ended}
-use Rattle.net_jobs.specs.Courses.{Event, Replied, Opened, Came, Finished, Gave, Course, Did, Lives, Runs, EndWell}
+use Rattle.net_client.specs.Talker.{Talker, Serves, IsFresh, ended}
+use Rattle.net_jobs.specs.Courses.{Event, Replied, Opened, Came, Finished, Gave, Course, Did, Runs, EndWell}
 use Rattle.net_jobs.specs.Links.{Calls, Wrote, Failed, HasBrought, BeginWith}
 use Rattle.net_jobs.specs.Going.{Linked, Follows, Falls, Stage, Going, EndsBy, ByLoss, ByMemory, ByGarble, ByShape}
 use Rattle.net_jobs.specs.Promised.{Ran, RanDone, RanEnded, HasRun}
@@ -88,39 +88,45 @@ stage_gave_by : {R : Type 0} (left_of : R → Option (List ℕ)) (job : Job) (re
     → c.errand ≡ errand_of job → (past : Past) → past.given ≡ given → Serves (after_pull bytes past) (record c { join = join }) → (course : Course) (rest : List ℕ) → Did job course read_ wrote rest left
     → Follows left_of coming0 coming course rest stream c past ⊎ Falls coming0 coming course rest c
     → (s : Stage left_of job read_ wrote left coming0 coming (given ++ bytes) stream (record c { join = join })) × (s.past ≡ after_pull bytes past)
-stage_gave_by left_of job read_ wrote left coming0 coming given bytes stream c join errand past given_is serves course rest did (inl f) = (record {
-  errand = errand;
-  past = after_pull bytes past;
-  serves = serves;
-  given_is = ap (λ (l : List ℕ). l ++ bytes) given_is;
-  course = gave_course course bytes;
-  rest = rest;
-  did = did_quiet job course (gave_course course bytes) (Gave bytes) read_ wrote rest left refl refl refl did;
-  stands = inl (record {
-    talk_is = ap (λ (t : Talk). record t { past = after_pull bytes t.past }) f.talk_is;
-    rest_is = f.rest_is;
-    linked = gave_linked left_of coming0 coming course.streams stream c join past bytes f.linked;
-  });
-}, refl)
-stage_gave_by left_of job read_ wrote left coming0 coming given bytes stream c join errand past given_is serves course rest did (inr f) = (record {
-  errand = errand;
-  past = after_pull bytes past;
-  serves = serves;
-  given_is = ap (λ (l : List ℕ). l ++ bytes) given_is;
-  course = course;
-  rest = rest;
-  did = did;
-  stands = inr (record {
-    cause = f.cause;
-    is_over = f.is_over;
-    was_running = f.was_running;
-    wholes = f.wholes;
-    unread = f.unread;
-    begin = f.begin;
-    brought = f.brought;
-    few = f.few;
-  });
-}, refl)
+stage_gave_by left_of job read_ wrote left coming0 coming given bytes stream c join errand past given_is serves course rest did (inl f) = (
+  record {
+    errand = errand;
+    past = after_pull bytes past;
+    serves = serves;
+    given_is = ap (λ (l : List ℕ). l ++ bytes) given_is;
+    course = gave_course course bytes;
+    rest = rest;
+    did = did_quiet job course (gave_course course bytes) (Gave bytes) read_ wrote rest left refl refl refl did;
+    stands = inl (record {
+      talk_is = ap (λ (t : Talk). record t { past = after_pull bytes t.past }) f.talk_is;
+      rest_is = f.rest_is;
+      linked = gave_linked left_of coming0 coming course.streams stream c join past bytes f.linked;
+    });
+  },
+  refl,
+)
+stage_gave_by left_of job read_ wrote left coming0 coming given bytes stream c join errand past given_is serves course rest did (inr f) = (
+  record {
+    errand = errand;
+    past = after_pull bytes past;
+    serves = serves;
+    given_is = ap (λ (l : List ℕ). l ++ bytes) given_is;
+    course = course;
+    rest = rest;
+    did = did;
+    stands = inr (record {
+      cause = f.cause;
+      is_over = f.is_over;
+      was_running = f.was_running;
+      wholes = f.wholes;
+      unread = f.unread;
+      begin = f.begin;
+      brought = f.brought;
+      few = f.few;
+    });
+  },
+  refl,
+)
 
 -- ---- between two turns: how far the job is, and that the output holds what was given of the file
 
@@ -373,37 +379,42 @@ pub ran_by : {C R : Type 0} (remaining contents : C → Option (List ℕ)) (left
     → (stands : Follows left_of coming0 coming s.course s.rest stream c s.past ⊎ Falls coming0 coming s.course s.rest c)
     → (ran : Ran remaining contents job first coming0 control coming) × ((ran.course.talk.outcome ≡ c.outcome) ⊎ EndsBy ran.course.talk ran.rest c.outcome)
 ran_by remaining contents left_of job first coming0 control coming stream c given read_ wrote left failed calls s (inl f) =
-    let l = lets_go left_of coming0 coming s.course.streams stream c s.past f.linked in
-    (record {
-      read_ = read_;
-      wrote = wrote;
-      rest = s.rest;
-      left = left;
-      failed = failed;
-      course = s.course;
-      calls = calls;
-      did = s.did;
-      wholes = l.wholes;
-      unread = l.unread;
-      begin = l.begin;
-      brought = l.brought;
-      few = l.few;
-    }, inl (ap (λ (t : Talk). t.outcome) (sym f.talk_is)))
-ran_by remaining contents left_of job first coming0 control coming stream c given read_ wrote left failed calls s (inr f) = (record {
-  read_ = read_;
-  wrote = wrote;
-  rest = s.rest;
-  left = left;
-  failed = failed;
-  course = s.course;
-  calls = calls;
-  did = s.did;
-  wholes = f.wholes;
-  unread = f.unread;
-  begin = f.begin;
-  brought = f.brought;
-  few = f.few;
-}, inr f.cause)
+    let l = lets_go left_of coming0 coming s.course.streams stream c s.past f.linked in (
+      record {
+        read_ = read_;
+        wrote = wrote;
+        rest = s.rest;
+        left = left;
+        failed = failed;
+        course = s.course;
+        calls = calls;
+        did = s.did;
+        wholes = l.wholes;
+        unread = l.unread;
+        begin = l.begin;
+        brought = l.brought;
+        few = l.few;
+      },
+      inl (ap (λ (t : Talk). t.outcome) (sym f.talk_is)),
+    )
+ran_by remaining contents left_of job first coming0 control coming stream c given read_ wrote left failed calls s (inr f) = (
+  record {
+    read_ = read_;
+    wrote = wrote;
+    rest = s.rest;
+    left = left;
+    failed = failed;
+    course = s.course;
+    calls = calls;
+    did = s.did;
+    wholes = f.wholes;
+    unread = f.unread;
+    begin = f.begin;
+    brought = f.brought;
+    few = f.few;
+  },
+  inr f.cause,
+)
 
 cause_of : (talk : Talk) (rest : List ℕ) (outcome told : Outcome) → outcome ≡ told → (talk.outcome ≡ outcome) ⊎ EndsBy talk rest outcome → (talk.outcome ≡ told) ⊎ (EndsBy talk rest told ⊎ (told ≡ Ended statuses.IoError whys.Sink))
 cause_of talk rest outcome told e (inl x) = inl (x ∙ e)

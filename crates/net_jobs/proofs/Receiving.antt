@@ -1,8 +1,7 @@
 -- How far a job is, call by call of its data connections.
-use Rattle.std.proofs.Common.{◌≡◌, ◌∙◌, ◌⊎◌, ◌≤◌, ◌+◌, ◌<◌, ℕ, Bool, true, false, Option, Some, None, Result, Ok, Err, List, [], ◌∷◌, ◌++◌, length, refl, sym, ap, subst, append_assoc, inl, inr, arith}
+use Rattle.std.proofs.Common.{◌≡◌, ◌∙◌, ◌+◌, ℕ, Bool, true, false, Option, Some, None, Result, Ok, Err, List, [], ◌∷◌, ◌++◌, length, refl, sym, ap, subst, append_assoc, inl, inr}
 use Rattle.std.specs.Prelude.{◌&&◌, nat_lt, if◌then◌else◌}
 use Rattle.std.specs.Io.KnownBytes.{Consumes}
-use Rattle.std.proofs.lemmas.List.{append-nil}
 use Rattle.sane_fixed.specs.declared.status.Status.{Status}
 use Rattle.sane_fixed.specs.declared.status.Status.TheVariants as statuses
 use Rattle.wire_format.specs.Writer.{behind}
@@ -11,7 +10,6 @@ use Rattle.frame_join.specs.declared.join_stage.JoinFault.{JoinFault}
 use Rattle.frame_join.specs.declared.join_stage.JoinFault.TheVariants.{Shape, Long, Short, NoMem}
 use Rattle.frame_join.specs.AloneFrame.{most_bytes}
 use Rattle.frame_join.specs.FrameHistory.{Past, failed, fed, closed, is_full, after_feed, after_end}
-use Rattle.frame_join.specs.Joining.{Joining}
 use Rattle.data_records.specs.declared.records.Phase.{Phase}
 use Rattle.data_records.specs.declared.records.Phase.TheVariants as phases
 use Rattle.data_records.specs.Records.{Carries, Continues}
@@ -26,18 +24,16 @@ use Rattle.client_rules.specs.declared.progress.Link.TheVariants as links
 use Rattle.client_rules.specs.declared.progress.Progress.{Progress}
 use Rattle.client_rules.specs.declared.progress.Progress.TheVariants as stages
 use Rattle.client_rules.specs.declared.progress.Notes.{Notes}
-use Rattle.client_rules.specs.declared.progress.Next.{Next}
-use Rattle.client_rules.specs.Talking.{turn, unjoined, page_whole, frame_joined, frame_closed, frame_ended, frame_ended_by, status_of}
-use Rattle.client_rules.specs.Talks.{Talk, errand_of, is_running, is_receiving, is_batch, is_lost_by, next_outcome, next_progress, settled, took, wanted, connected, FitsAt}
+use Rattle.client_rules.specs.Talking.{unjoined, page_whole, frame_joined, frame_ended_by, status_of}
+use Rattle.client_rules.specs.Talks.{Talk, errand_of, is_running, is_receiving, is_batch, is_lost_by, next_outcome, next_progress, took, wanted, connected, FitsAt}
 use Rattle.client_rules.proofs.Fitting.{may_end}
-use Rattle.net_client.specs.Talker.{Talker, talk_of, Serves, ended, sends, phase_connected}
-use Rattle.net_client.specs.Hearing.{IsStarved}
-use Rattle.net_client.specs.Imaging.{Receives, Goes, Ends, Starves, Fails, EndsFrame, end_of}
+use Rattle.net_client.specs.Talker.{Talker, talk_of, Serves, ended, phase_connected}
+use Rattle.net_client.specs.Imaging.{Receives, Goes, Ends, Fails, EndsFrame}
 use Rattle.net_client.proofs.Hearings.{fits_at}
 use Rattle.net_client.proofs.Records.{two_steps}
-use Rattle.net_jobs.specs.Courses.{Event, Opened, Came, Finished, Course, Did, Lives, after_frame, sent_after, end_at}
-use Rattle.net_jobs.specs.Links.{Brings, HasBrought, HasReadOf, BeginWith}
-use Rattle.net_jobs.specs.Going.{came_in, BetweenFrames, WithinFrame, Linked, Follows, Falls, Stage, EndsBy, ByLoss, ByMemory, ByShape}
+use Rattle.net_jobs.specs.Courses.{Opened, Came, Finished, Course, Did, Lives, after_frame, sent_after, end_at}
+use Rattle.net_jobs.specs.Links.{Brings}
+use Rattle.net_jobs.specs.Going.{came_in, BetweenFrames, Linked, Follows, Stage, ByLoss, ByShape}
 use Rattle.net_jobs.proofs.Coursing.{did_quiet, did_say}
 use Rattle.net_jobs.proofs.Frames.{records_end, brought_one, read_more, front_of, begin_more}
 use Rattle.net_jobs.proofs.Staging.{following, falls, stage_starved}
@@ -48,17 +44,19 @@ pub lost_from : {R : Type 0} (left_of : R → Option (List ℕ)) (job : Job) (re
     → new ≡ ended statuses.IoError whys.Lost old → (s : Stage left_of job read_ wrote left coming0 coming given stream old) → (t : Stage left_of job read_ wrote left coming0 coming given after_ new) × (t.past ≡ s.past)
 lost_from left_of job read_ wrote left coming0 coming given stream after_ old new running new_is s =
     let at = fits_at s.past old running s.serves in
-    let f = following left_of coming0 coming s.course s.rest stream old s.past running s.stands in
-    (record {
-      errand = ap (λ (v : Talker). v.errand) new_is ∙ s.errand;
-      past = s.past;
-      serves = subst (λ (v : Talker). Serves s.past v) (sym new_is) (record { stands = s.serves.stands; fits = may_end old.errand.task old.progress s.past at.0 at.1 });
-      given_is = s.given_is;
-      course = s.course;
-      rest = s.rest;
-      did = s.did;
-      stands = inr (falls left_of coming0 coming s.course s.rest s.rest stream old new s.past f running (ByLoss (ap (λ (v : Talker). v.outcome) new_is)) (ap (λ (v : Talker). is_running v.outcome) new_is));
-    }, refl)
+    let f = following left_of coming0 coming s.course s.rest stream old s.past running s.stands in (
+      record {
+        errand = ap (λ (v : Talker). v.errand) new_is ∙ s.errand;
+        past = s.past;
+        serves = subst (λ (v : Talker). Serves s.past v) (sym new_is) (record { stands = s.serves.stands; fits = may_end old.errand.task old.progress s.past at.0 at.1 });
+        given_is = s.given_is;
+        course = s.course;
+        rest = s.rest;
+        did = s.did;
+        stands = inr (falls left_of coming0 coming s.course s.rest s.rest stream old new s.past f running (ByLoss (ap (λ (v : Talker). v.outcome) new_is)) (ap (λ (v : Talker). is_running v.outcome) new_is));
+      },
+      refl,
+    )
 
 pub stage_lost : {R : Type 0} (left_of : R → Option (List ℕ)) (job : Job) (read_ wrote left : List ℕ) (coming0 coming : Option (List (List ℕ))) (given : List ℕ) (stream after_ : Option R) (old new : Talker) → is_running old.outcome ≡ true
     → new ≡ ended statuses.IoError whys.Lost old → Stage left_of job read_ wrote left coming0 coming given stream old → Stage left_of job read_ wrote left coming0 coming given after_ new
@@ -300,7 +298,7 @@ stage_ends left_of job read_ wrote coming0 coming given was now old new piece si
     let course : Course = ended_course (errand_of job) first e.status stream says.0 in
     let carries = two_steps phases.Head old.phase (phases.Ended e.status) l.bytes e.reads.used e.frame.payload bytes (carried_in s.past l.frame e.frame old.phase l.bytes l.under e.under l.carries) e.reads.reads.carries in
     let lives : Lives (errand_of job) first (Finished e.status) course
-        = (frame, stream, says.0, ap (λ (t : Talk). is_running t.outcome) (sym f.talk_is) ∙ running, refl, records_end stream frame.payload e.status carries, sym sent ∙ says.1, refl) in
+    = (frame, stream, says.0, ap (λ (t : Talk). is_running t.outcome) (sym f.talk_is) ∙ running, refl, records_end stream frame.payload e.status carries, sym sent ∙ says.1, refl) in
     let did = did_say job first course (Finished e.status) read_ wrote s.rest old.out says.0 lives refl refl (did_quiet job s.course first (Came bytes) read_ wrote s.rest old.out came refl refl s.did) in
     record {
       errand = ap (λ (v : Talker). v.errand) e.ends.rest ∙ s.errand;

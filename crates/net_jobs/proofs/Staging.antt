@@ -1,24 +1,22 @@
 -- How far a job is, call by call of its client.
-use Rattle.std.proofs.Common.{◌≡◌, ◌∙◌, ◌⊎◌, ◌≤◌, ℕ, Bool, true, false, Option, Some, None, List, [], ◌∷◌, ◌++◌, length, refl, sym, ap, subst, append_assoc, inl, inr, arith}
+use Rattle.std.proofs.Common.{◌≡◌, ◌∙◌, ◌⊎◌, ◌≤◌, ℕ, Bool, true, false, Option, Some, None, List, [], ◌∷◌, ◌++◌, length, refl, sym, ap, subst, inl, inr, arith}
 use Rattle.std.specs.Prelude.{◌&&◌}
 use Rattle.std.proofs.lemmas.List.{append-nil}
-use Rattle.page_picture.specs.Shows.{Frame}
 use Rattle.frame_join.specs.FrameHistory.{Past, no_past}
 use Rattle.scan_job.specs.declared.job.Job.{Job}
 use Rattle.scan_job.specs.declared.job.Task.{Task}
 use Rattle.scan_job.specs.declared.outcome.Outcome.{Outcome}
-use Rattle.scan_job.specs.declared.outcome.Outcome.TheVariants.{Running, Done, Ended}
 use Rattle.client_rules.specs.declared.progress.Errand.{Errand}
 use Rattle.client_rules.specs.declared.progress.Progress.{Progress}
 use Rattle.client_rules.specs.declared.progress.Progress.TheVariants as stages
-use Rattle.client_rules.specs.Talks.{Talk, errand_of, is_running, is_batch, is_receiving, suits, FitsAt, Fits}
+use Rattle.client_rules.specs.Talks.{Talk, errand_of, is_running, is_batch, is_receiving, suits, FitsAt}
 use Rattle.client_rules.proofs.Fitting.{may_end}
 use Rattle.net_client.specs.Talker.{Talker, talk_of, Serves, IsFresh}
 use Rattle.net_client.specs.Hearing.{awaited, HasHeard, Heeds, Whole, Garbled, Starved, Choked, IsGarbled, IsStarved}
 use Rattle.net_client.proofs.Hearings.{fits_at}
 use Rattle.net_jobs.specs.Courses.{Course, Did, begun}
 use Rattle.net_jobs.specs.Links.{HasBrought, BeginWith}
-use Rattle.net_jobs.specs.Going.{came_in, BetweenFrames, WithinFrame, Linked, Follows, Falls, Stage, EndsBy, ByMemory, ByGarble}
+use Rattle.net_jobs.specs.Going.{came_in, Linked, Follows, Falls, Stage, EndsBy, ByMemory, ByGarble}
 use Rattle.net_jobs.proofs.Coursing.{heard_on, did_hear, did_read, did_nothing, fresh_is, hears_keep}
 
 -- ---- what a job that runs is
@@ -93,20 +91,23 @@ nothing_brought None = tt
 nothing_brought (Some all) = (all, refl, refl)
 
 pub stage_begun : {R : Type 0} (left_of : R → Option (List ℕ)) (job : Job) (coming : Option (List (List ℕ))) (c : Talker) → IsFresh job c → (s : Stage left_of job [] [] c.out coming coming [] None c) × (s.past ≡ no_past)
-stage_begun left_of job coming c f = (record {
-  errand = ap (λ (v : Talker). v.errand) f.value;
-  past = no_past;
-  serves = f.serves;
-  given_is = refl;
-  course = begun job;
-  rest = [];
-  did = did_nothing job c f;
-  stands = inl (record {
-    talk_is = fresh_is job c f;
-    rest_is = ap (λ (v : Talker). v.input.rest) f.value;
-    linked = record { wholes = []; begin = tt; brought = nothing_brought coming; empty = λ port e. refl };
-  });
-}, refl)
+stage_begun left_of job coming c f = (
+  record {
+    errand = ap (λ (v : Talker). v.errand) f.value;
+    past = no_past;
+    serves = f.serves;
+    given_is = refl;
+    course = begun job;
+    rest = [];
+    did = did_nothing job c f;
+    stands = inl (record {
+      talk_is = fresh_is job c f;
+      rest_is = ap (λ (v : Talker). v.input.rest) f.value;
+      linked = record { wholes = []; begin = tt; brought = nothing_brought coming; empty = λ port e. refl };
+    });
+  },
+  refl,
+)
 
 -- ---- a piece of the control connection
 

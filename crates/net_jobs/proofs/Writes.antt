@@ -1,9 +1,9 @@
 -- Bytes that are written piece by piece.
-use Rattle.std.specs.Prelude.{Option, Bool, true, false, min}
-use Rattle.std.proofs.Common.{◌≡◌, ◌∙◌, ℕ, ◌+◌, ◌-◌, ◌<◌, ◌≤◌, List, [], length, take, drop, refl, sym, ap, subst, arith}
+use Rattle.std.specs.Prelude.{Option, Bool, true, false}
+use Rattle.std.proofs.Common.{◌≡◌, ◌∙◌, ℕ, ◌+◌, ◌<◌, ◌≤◌, List, length, take, drop, refl, sym, ap, subst, arith}
 use Rattle.std.specs.Io.KnownBytes.{Appends}
 use Rattle.std.proofs.KnownBytes.{Appends-trans, Appends-nil}
-use Rattle.std.proofs.lemmas.List.{length-drop, length-take, take_all, drop-drop, take-take}
+use Rattle.std.proofs.lemmas.List.{length-drop, take_all, drop-drop, take-take}
 use Rattle.std.proofs.Math.Seq.{take-add}
 use Rattle.net_client.specs.Talker.{Talker}
 use Rattle.net_jobs.specs.Writing.{WritesTo}

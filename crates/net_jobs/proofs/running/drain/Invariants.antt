@@ -1,9 +1,8 @@
-use Rattle.std.proofs.Common.{◌≡◌, ℕ, List, Option, Bool, false, length}
+use Rattle.std.proofs.Common.{◌≡◌, ℕ, List, Option, length}
 use Rattle.std.specs.Io.KnownBytes.{Appends}
 use Rattle.scan_job.specs.declared.job.Task.TheVariants as tasks
 use Rattle.frame_join.specs.FrameHistory.{Past}
-use Rattle.client_rules.specs.Talks.{is_ended}
-use Rattle.net_client.specs.Talker.{Talker, Serves}
+use Rattle.net_client.specs.Talker.{Serves}
 use Rattle.net_jobs.proofs.Drains.{IsUnderway}
 use Rattle.net_jobs.proofs.running.drain.Given as goal
 

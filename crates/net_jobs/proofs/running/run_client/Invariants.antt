@@ -1,4 +1,4 @@
-use Rattle.std.proofs.Common.{◌≡◌, ◌<◌, ◌↔◌, Bool, true, false, length}
+use Rattle.std.proofs.Common.{◌≡◌, ◌↔◌, true, false, length}
 use Rattle.scan_job.specs.declared.job.Job.{Job}
 use Rattle.scan_job.specs.declared.job.Task.TheVariants as tasks
 use Rattle.client_rules.specs.Talks.{is_batch}
