@@ -133,7 +133,7 @@ garbles old mid new past piece p h running waits ends none = Garbled mid h runni
 fails_by : (fault : WireFault) (old mid new : Talker) (past : Past) (piece : List ℕ) (p : Procedure) → HasHeard old past piece mid → is_running mid.outcome ≡ true → awaited mid.progress ≡ Some p
     → new ≡ record mid { outcome = outcome_by fault; progress = stages.Over; input = new.input } → (fault ≢ wire.NoMem → IsNoStart message_limit (reply p) mid.input.rest) → Heeds old past piece new
 fails_by wire.NoMem old mid new past piece p h running waits ends none =
-    Starved mid h (subst (λ (v : Talker). IsStarved mid h.past_then v) (sym ends) (stop_starved mid h.past_then new.input running h.serves))
+    Starved mid h running (subst (λ (v : Talker). IsStarved mid h.past_then v) (sym ends) (stop_starved mid h.past_then new.input running h.serves))
 fails_by wire.BadCode old mid new past piece p h running waits ends none = garbles old mid new past piece p h running waits ends (none (λ e. cc))
 fails_by wire.BadValue old mid new past piece p h running waits ends none = garbles old mid new past piece p h running waits ends (none (λ e. cc))
 fails_by wire.TooLong old mid new past piece p h running waits ends none = garbles old mid new past piece p h running waits ends (none (λ e. cc))
@@ -142,12 +142,12 @@ pub stops : (old mid new : Talker) (past : Past) (piece : List ℕ) (p : Procedu
 stops old mid new past piece p h running waits (inl s) = subst (λ (v : Talker). Heeds old past piece v) (sym s.0) (wants_on old mid past piece p h waits s.1)
 stops old mid new past piece p h running waits (inr f) = fails_by f.fault old mid new past piece p h running waits f.ends f.no_start
 
-pub starves : (old mid got new : Talker) (past : Past) (piece : List ℕ) → HasHeard old past piece mid → got ≡ record mid { input = got.input } → ((q : Past) → Serves q got → IsStarved got q new) → Heeds old past piece new
-starves old mid got new past piece h got_is starved_by =
+pub starves : (old mid got new : Talker) (past : Past) (piece : List ℕ) → HasHeard old past piece mid → is_running mid.outcome ≡ true → got ≡ record mid { input = got.input } → ((q : Past) → Serves q got → IsStarved got q new) → Heeds old past piece new
+starves old mid got new past piece h running got_is starved_by =
     let then_ : Past = h.past_then in
     let serves : Serves then_ got = subst (λ (v : Talker). Serves then_ v) (sym got_is) (record { stands = h.serves.stands; fits = h.serves.fits }) in
     let s : IsStarved (record mid { input = got.input }) then_ new = subst (λ (v : Talker). IsStarved v then_ new) got_is (starved_by then_ serves) in
-    Starved mid h (record { outcome = s.outcome; errand = s.errand; out = s.out; past_then = s.past_then; given = s.given; serves = s.serves })
+    Starved mid h running (record { outcome = s.outcome; errand = s.errand; out = s.out; past_then = s.past_then; given = s.given; serves = s.serves })
 
 over_is : (progress : Progress) (o : Option Procedure) → awaited progress ≡ o → o ≡ None → (q : Procedure) → awaited progress ≡ Some q → ⊥
 over_is progress o e none q f = let clash : Some q ≡ None = sym f ∙ e ∙ none in cc

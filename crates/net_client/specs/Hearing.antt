@@ -93,7 +93,7 @@ pub record IsGarbled (was : Talker) (new : Talker) : Type 0 where
 pub data Heeds (old : Talker) (past : Past) (piece : List ℕ) (new : Talker) : Type 0 where
   Whole : HasHeard old past piece new → (is_running new.outcome ≡ true → WantsReply new.progress new.input.rest) → Heeds old past piece new
   Garbled : (was : Talker) → HasHeard old past piece was → is_running was.outcome ≡ true → IsGarbled was new → Heeds old past piece new
-  Starved : (was : Talker) → (h : HasHeard old past piece was) → IsStarved was h.past_then new → Heeds old past piece new
+  Starved : (was : Talker) → (h : HasHeard old past piece was) → is_running was.outcome ≡ true → IsStarved was h.past_then new → Heeds old past piece new
   Choked : IsStarved old past new → Heeds old past piece new
 
 -- the join stands for what was told, or for that and want of memory

@@ -1,9 +1,9 @@
 -- Bytes that are written piece by piece.
-use Rattle.std.specs.Prelude.{Option, min}
-use Rattle.std.proofs.Common.{◌≡◌, ◌∙◌, ℕ, ◌+◌, ◌-◌, ◌<◌, ◌≤◌, List, [], length, take, drop, refl, sym, ap, subst, arith}
+use Rattle.std.specs.Prelude.{Option, Bool, true, false}
+use Rattle.std.proofs.Common.{◌≡◌, ◌∙◌, ℕ, ◌+◌, ◌<◌, ◌≤◌, List, length, take, drop, refl, sym, ap, subst, arith}
 use Rattle.std.specs.Io.KnownBytes.{Appends}
 use Rattle.std.proofs.KnownBytes.{Appends-trans, Appends-nil}
-use Rattle.std.proofs.lemmas.List.{length-drop, length-take, take_all, drop-drop, take-take}
+use Rattle.std.proofs.lemmas.List.{length-drop, take_all, drop-drop, take-take}
 use Rattle.std.proofs.Math.Seq.{take-add}
 use Rattle.net_client.specs.Talker.{Talker}
 use Rattle.net_jobs.specs.Writing.{WritesTo}
@@ -34,3 +34,9 @@ stopped_short first before old new left bytes n k w within bytes_is less wrote =
 pub only_out : (first now new : Talker) (left : List ℕ) → now ≡ record first { out = now.out } → new ≡ record now { out = left } → new ≡ record first { out = new.out }
 only_out first now new left a b =
     b ∙ ap (λ (v : Talker). record v { out = left }) a ∙ ap (λ (l : List ℕ). record first { out = l }) (sym (ap (λ (v : Talker). v.out) b))
+
+-- how many bytes went in all
+pub some_went : (taken : Bool) (before after_ : Option (List ℕ)) (out : List ℕ) → (taken ≡ true → Appends before after_ out) → (taken ≡ false → (n : ℕ) × (n < length out) × Appends before after_ (take n out))
+    → (n : ℕ) × (n ≤ length out) × Appends before after_ (take n out)
+some_went true before after_ out whole front = (length out, omega arith, subst (Appends before after_) (sym (take_all (length out) out (omega arith))) (whole refl))
+some_went false before after_ out whole front = let f = front refl in (f.0, omega (arith, f.1), f.2)

@@ -4,7 +4,7 @@ ghost use Rattle.scan_job.specs.Outcomes.{IsOver};
 use crate::dial::Dial;
 use crate::running::{MOST_PULLS, MOST_READS, go_on, leave, piece, refused};
 use byte_output::put;
-use net_client::Client;
+use net_client::{Client, Link};
 use sane_fixed::Status;
 use scan_job::{Job, JobFault, Outcome, Shelf, Why};
 use std::alloc::Global;
@@ -86,7 +86,7 @@ fn run_client<C: Read + Write, D: Dial, S: Shelf>(
         if client.is_over() {
             return leave(client, control, room, &mut reads);
         }
-        go_on(
+        let is_up = go_on(
             &mut client,
             control,
             dial,
@@ -98,8 +98,13 @@ fn run_client<C: Read + Write, D: Dial, S: Shelf>(
         if !drain(&mut client, room, shelf, under, &mut reads) {
             return Outcome::Ended(Status::IoError, Why::Sink);
         }
+        if !is_up {
+            client.link_lost(Link::Control);
+            return client.into_outcome();
+        }
     }
-    Outcome::Ended(Status::IoError, Why::Lost)
+    client.link_lost(Link::Control);
+    leave(client, control, room, &mut reads)
 }
 
 /// The outcome of a job whose last output was given back, or refused.

@@ -8,8 +8,16 @@ pub struct DialFault;
 
 /// Makes the data connections of a job.
 pub trait Dial {
+    ghost use Rattle.std.specs.Prelude.{◌≡◌, ℕ, List, Option, None, IfOk, OnErr};
+    ghost use Rattle.net_jobs.specs.Links.{Brings};
+
     type Conn: Read + Drop;
 
+    // The bytes of each connection to come, in their order, where they are known.
+    ghost coming: { Self → Option (List (List ℕ)) } = { λ _. None };
+
     /// A connection to that port of the host of the control connection.
-    fn dial(&mut self, port: u16) -> Result<Self::Conn, DialFault>;
+    fn dial(&mut self, port: u16) -> Result<Self::Conn, DialFault>
+        ensures brings { IfOk result (λ conn. Brings (coming self.old) (coming self.new) (Self.Conn.remaining conn)) }
+        ensures none { OnErr result (coming self.new ≡ coming self.old) };
 }

@@ -1,13 +1,21 @@
-ghost use Rattle.std.specs.Prelude.{◌≡◌, ◌<◌, ◌≤◌, ℕ, [], false, IsTrue, IfOk, take, length};
+ghost use Rattle.std.specs.Prelude.{◌≡◌, ◌<◌, ◌≤◌, ◌↔◌, ◌⊎◌, ℕ, [], true, false, not, Some, None, List, Option, IsTrue, IfOk, take, length};
 ghost use Rattle.std.specs.Io.KnownBytes.{Appends, Consumes};
+ghost use Rattle.scan_job.specs.declared.job.Job.{Job as JobValue};
+ghost use Rattle.scan_job.specs.declared.job.Task.TheVariants as tasks;
 ghost use Rattle.scan_job.specs.Outcomes.{IsOver};
-ghost use Rattle.client_rules.specs.Talks.{is_running};
+ghost use Rattle.frame_join.specs.FrameHistory.{Past};
+ghost use Rattle.client_rules.specs.Talks.{is_running, is_receiving, is_batch, wanted};
+ghost use Rattle.net_client.specs.Talker.{Serves, IsFresh};
+ghost use Rattle.net_jobs.specs.Draining.{IsDrainedTo, StopsShort};
+ghost use Rattle.net_jobs.specs.Going.{Stage, Going, HeardOrLost};
+ghost use Rattle.net_jobs.specs.Promised.{HasRun, Refuses, refused_as};
 
 use crate::dial::Dial;
 use byte_output::put;
+use frame_join::{no_file_is_endless, no_front_is_whole, not_whole_before, whole_shows};
 use net_client::{Client, Link};
 use sane_fixed::Status;
-use scan_job::{Job, JobFault, Outcome, Why};
+use scan_job::{Job, JobFault, Outcome, Task, Why};
 use std::alloc::{AllocError, Global};
 use std::io::{ErrorKind, Read, Write};
 
@@ -29,13 +37,22 @@ pub(crate) fn piece(alloc: Global) -> Result<Vec<u8>, AllocError>
 
 /// How a job that is refused ends.
 pub(crate) fn refused(fault: JobFault) -> Outcome
-    ensures { IsOver result }
+    ensures { result ≡ refused_as fault }
 {
     match fault {
         JobFault::NoMem => Outcome::Ended(Status::NoMem, Why::Memory),
         JobFault::TooManySettings | JobFault::TextTooLong | JobFault::BadCount => {
             Outcome::Ended(Status::Inval, Why::Setting)
         }
+    }
+}
+
+fn is_scan(task: Task) -> bool
+    ensures { result ≡ true ↔ task ≡ tasks.Scan }
+{
+    match task {
+        Task::Scan => true,
+        Task::List | Task::Show | Task::SetOnly | Task::Batch(_) => false,
     }
 }
 
@@ -83,7 +100,9 @@ fn read_piece<R: Read>(stream: &mut R, piece: &mut [u8], reads: &mut u64) -> usi
 
 /// Reads the control connection once.
 fn hear<C: Read>(client: &mut Client, control: &mut C, piece: &mut [u8], reads: &mut u64)
+    requires { is_running client.old.outcome ≡ true }
     ensures room { length piece.new ≡ length piece.old }
+    ensures heard { (past : Past) → Serves past client.old → HeardOrLost (C.remaining control.old) (C.remaining control.new) client.old past client.new }
 {
     let n = read_piece(control, piece, reads);
     if n == 0 {
@@ -100,7 +119,10 @@ fn see<R: Read + Drop>(
     piece: &mut [u8],
     reads: &mut u64,
 )
+    requires { is_receiving client.old.outcome client.old.progress ≡ true }
     ensures room { length piece.new ≡ length piece.old }
+    ensures stage { (job : JobValue) (read_ wrote : List ℕ) (coming0 coming : Option (List (List ℕ))) (given : List ℕ) → is_batch job.task ≡ false
+        → Stage R.remaining job read_ wrote client.old.out coming0 coming given stream.old client.old → Stage R.remaining job read_ wrote client.new.out coming0 coming given stream.new client.new }
 {
     let Some(mut conn) = stream.take() else {
         client.link_lost(Link::Image);
@@ -118,7 +140,13 @@ fn see<R: Read + Drop>(
 }
 
 /// Makes the data connection of a frame.
-fn connect<D: Dial>(client: &mut Client, dial: &mut D, stream: &mut Option<D::Conn>, port: u16) {
+fn connect<D: Dial>(client: &mut Client, dial: &mut D, stream: &mut Option<D::Conn>, port: u16)
+    requires running { is_running client.old.outcome ≡ true }
+    requires wanted { wanted client.old.progress ≡ Some port }
+    ensures stage { (job : JobValue) (read_ wrote : List ℕ) (coming0 : Option (List (List ℕ))) (given : List ℕ) → is_batch job.task ≡ false
+        → Stage D.Conn.remaining job read_ wrote client.old.out coming0 (D.coming dial.old) given stream.old client.old
+        → Stage D.Conn.remaining job read_ wrote client.new.out coming0 (D.coming dial.new) given stream.new client.new }
+{
     match dial.dial(port) {
         Ok(conn) => {
             *stream = Some(conn);
@@ -128,7 +156,8 @@ fn connect<D: Dial>(client: &mut Client, dial: &mut D, stream: &mut Option<D::Co
     }
 }
 
-/// Writes what is to go out, and then reads once, or makes the data connection that is wanted.
+/// Reads the data connection of a frame, or writes what is to go out and then makes the data connection that is wanted or
+/// reads the control connection once. Says whether the control connection took all.
 pub(crate) fn go_on<C: Read + Write, D: Dial>(
     client: &mut Client,
     control: &mut C,
@@ -137,31 +166,49 @@ pub(crate) fn go_on<C: Read + Write, D: Dial>(
     piece: &mut [u8],
     room: &mut [u8],
     reads: &mut u64,
-)
-    requires { 0 < length room.old }
+) -> bool
+    requires room { 0 < length room.old }
+    requires running { is_running client.old.outcome ≡ true }
     ensures piece { length piece.new ≡ length piece.old }
     ensures room { length room.new ≡ length room.old }
+    ensures going { (job : JobValue) (first : C) (coming0 : Option (List (List ℕ))) (given : List ℕ) → is_batch job.task ≡ false
+        → Going C.remaining C.contents D.Conn.remaining job first coming0 given false control.old (D.coming dial.old) stream.old client.old
+        → Going C.remaining C.contents D.Conn.remaining job first coming0 given (not result) control.new (D.coming dial.new) stream.new client.new }
 {
+    if client.is_receiving() {
+        see(client, stream, piece, reads);
+        return true;
+    }
     // A reply may have come before it was waited for.
     client.feed_control(&[]);
     if !write_out(client, control, room, reads) {
-        client.link_lost(Link::Control);
-        return;
+        return false;
+    }
+    if client.is_over() {
+        return true;
     }
     if let Some(port) = client.data_wanted() {
         connect(client, dial, stream, port);
-    } else if client.is_receiving() {
-        see(client, stream, piece, reads);
-    } else if !client.is_over() {
+    } else if !client.is_receiving() {
         hear(client, control, piece, reads);
     }
+    true
 }
 
-/// Writes all bytes of the file that may go out. Says whether the output took them.
+/// Writes all bytes of a scan's file that may go out. Says whether the output took them; if not, what it took in all is no
+/// whole file.
 fn drain<W: Write>(client: &mut Client, room: &mut [u8], out: &mut W, reads: &mut u64) -> bool
+    requires { 0 < length room.old }
     ensures room { length room.new ≡ length room.old }
+    // `first` is what the output held before the file, and `past` what the client was told and gave.
+    ensures drained { result ≡ true → (first : Option (List ℕ)) (past : Past) → client.old.errand.task ≡ tasks.Scan → Serves past client.old
+        → Appends first (W.contents out.old) past.given → IsDrainedTo past client.old first client.new (W.contents out.new) }
+    ensures short { result ≡ false → (first : Option (List ℕ)) (past : Past) → client.old.errand.task ≡ tasks.Scan → Serves past client.old
+        → Appends first (W.contents out.old) past.given → StopsShort first (W.contents out.new) }
 {
-    for _ in 0..MOST_PULLS {
+    no_file_is_endless();
+    no_front_is_whole();
+    for _i in 0..MOST_PULLS {
         let n = client.take_file(room);
         if n == 0 {
             return true;
@@ -171,6 +218,28 @@ fn drain<W: Write>(client: &mut Client, room: &mut [u8], out: &mut W, reads: &mu
         }
     }
     false
+}
+
+/// Writes the bytes of a scan's file that may go out; nothing of any other job.
+fn give<W: Write>(
+    client: &mut Client,
+    is_scan: bool,
+    room: &mut [u8],
+    out: &mut W,
+    reads: &mut u64,
+) -> bool
+    requires { 0 < length room.old }
+    ensures room { length room.new ≡ length room.old }
+    ensures none { is_scan ≡ false → (result ≡ true) × (client.new ≡ client.old) × (W.contents out.new ≡ W.contents out.old) }
+    ensures drained { is_scan ≡ true → result ≡ true → (first : Option (List ℕ)) (past : Past) → client.old.errand.task ≡ tasks.Scan → Serves past client.old
+        → Appends first (W.contents out.old) past.given → IsDrainedTo past client.old first client.new (W.contents out.new) }
+    ensures short { result ≡ false → (first : Option (List ℕ)) (past : Past) → client.old.errand.task ≡ tasks.Scan → Serves past client.old
+        → Appends first (W.contents out.old) past.given → StopsShort first (W.contents out.new) }
+{
+    if !is_scan {
+        return true;
+    }
+    drain(client, room, out, reads)
 }
 
 /// Writes what a job that is over sends last, whether it is taken or not, and gives its outcome.
@@ -184,6 +253,7 @@ pub(crate) fn leave<C: Write>(
     requires over { is_running client.outcome ≡ false }
     ensures over { IsOver result }
     ensures outcome { result ≡ client.outcome }
+    ensures wrote { (n : ℕ) × (n ≤ length client.out) × Appends (C.contents control.old) (C.contents control.new) (take n client.out) }
 {
     let mut client = client;
     let _ = write_out(&mut client, control, room, reads);
@@ -196,19 +266,24 @@ fn run_client<C: Read + Write, D: Dial, W: Write>(
     control: &mut C,
     dial: &mut D,
     out: &mut W,
+    is_scan: bool,
     piece: &mut [u8],
     room: &mut [u8],
 ) -> Outcome
     requires { 0 < length room.old }
-    ensures { IsOver result }
+    ensures over { IsOver result }
+    ensures ran { (job : JobValue) → IsFresh job client → is_batch job.task ≡ false → (is_scan ≡ true ↔ job.task ≡ tasks.Scan)
+        → HasRun C.remaining C.contents job control.old (D.coming dial.old) control.new (D.coming dial.new) (W.contents out.old) (W.contents out.new) result }
 {
+    not_whole_before();
+    whole_shows();
     let mut reads = MOST_READS;
     let mut stream = None;
     for _ in 0..MOST_READS {
         if client.is_over() {
             return leave(client, control, room, &mut reads);
         }
-        go_on(
+        let is_up = go_on(
             &mut client,
             control,
             dial,
@@ -217,11 +292,16 @@ fn run_client<C: Read + Write, D: Dial, W: Write>(
             room,
             &mut reads,
         );
-        if !drain(&mut client, room, out, &mut reads) {
+        if !give(&mut client, is_scan, room, out, &mut reads) {
             return Outcome::Ended(Status::IoError, Why::Sink);
         }
+        if !is_up {
+            client.link_lost(Link::Control);
+            return client.into_outcome();
+        }
     }
-    Outcome::Ended(Status::IoError, Why::Lost)
+    client.link_lost(Link::Control);
+    leave(client, control, room, &mut reads)
 }
 
 /// Does a job over a control connection, the data connections that are dialed, and an output, which is not flushed. A
@@ -235,6 +315,9 @@ pub fn run_job<C: Read + Write, D: Dial, W: Write>(
     out: &mut W,
 ) -> Outcome
     ensures over { IsOver result }
+    // A job that is refused, or finds no memory for its buffers, touches no stream.
+    ensures ran { Refuses job result control.old control.new dial.old dial.new out.old out.new
+        ⊎ ((is_batch job.task ≡ false) × HasRun C.remaining C.contents job control.old (D.coming dial.old) control.new (D.coming dial.new) (W.contents out.old) (W.contents out.new) result) }
 {
     if job.task.is_batch() {
         return Outcome::Ended(Status::Inval, Why::Setting);
@@ -245,12 +328,14 @@ pub fn run_job<C: Read + Write, D: Dial, W: Write>(
     let Ok(mut room) = piece(alloc) else {
         return refused(JobFault::NoMem);
     };
+    let is_scan = is_scan(job.task);
     match Client::new(alloc, job) {
         Ok(client) => run_client(
             client,
             control,
             dial,
             out,
+            is_scan,
             read.as_mut_slice(),
             room.as_mut_slice(),
         ),

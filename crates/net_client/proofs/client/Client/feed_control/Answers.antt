@@ -18,7 +18,7 @@ returns-in_default-read-clause-heeds c = λ running past serves.
 
 pub returns-then-not-hear-clause-heeds : goal.returns-then-not-hear-clause-heeds
 returns-then-not-hear-clause-heeds c = λ running past serves.
-    starves c.args.self.now c.loop-self.self c.read.new.self c.hear.new.self past c.args.piece.now (c.loop-self.invariant past serves) c.in-Some-read.ensures.some.0 (c.hear.ensures.starved (search rules))
+    starves c.args.self.now c.loop-self.self c.read.new.self c.hear.new.self past c.args.piece.now (c.loop-self.invariant past serves) (sym c.is_running-in-loop-self.ensures ∙ c.loop-self-test.true) c.in-Some-read.ensures.some.0 (c.hear.ensures.starved (search rules))
 
 pub loop-self-smaller : goal.loop-self-smaller
 loop-self-smaller c = rw c.hear.ensures.input (takes_some c.in-Some.procedure _ _ c.in-Some-read.reply c.in-Some-read.ensures.some.1)

@@ -1,0 +1,137 @@
+-- A scan's file goes out piece by piece.
+use Rattle.std.proofs.Common.{◌≡◌, ◌≢◌, ◌∙◌, ℕ, ◌+◌, ◌<◌, ◌≤◌, ◌^◌, Ok, Err, Bool, true, false, List, [], ◌++◌, Option, Some, None, length, take, drop, refl, sym, ap, subst, arith, length-append, append_assoc}
+use Rattle.std.specs.Io.KnownBytes.{Appends}
+use Rattle.std.proofs.KnownBytes.{Appends-trans}
+use Rattle.std.proofs.lemmas.List.{append-nil, take-append-drop, length-drop}
+use Rattle.netpbm.specs.Picture.{Picture}
+use Rattle.netpbm.specs.Pnm.{Denotes, IsWhole}
+use Rattle.page_picture.specs.Shows.{ShowsFrames, Frame}
+use Rattle.frame_join.specs.declared.join_stage.JoinFault.{JoinFault}
+use Rattle.frame_join.specs.FrameHistory.{Past, IsJoined, after_pull, answer_by}
+use Rattle.frame_join.specs.Joining.{Joining, Stands}
+use Rattle.scan_job.specs.declared.job.Task.{Task}
+use Rattle.scan_job.specs.declared.job.Task.TheVariants as tasks
+use Rattle.scan_job.specs.declared.outcome.Outcome.{Outcome}
+use Rattle.scan_job.specs.declared.outcome.Outcome.TheVariants.{Running, Done, Ended}
+use Rattle.client_rules.specs.declared.progress.Progress.{Progress}
+use Rattle.client_rules.specs.declared.progress.Progress.TheVariants as stages
+use Rattle.client_rules.specs.Talks.{Fits, is_ended, turns}
+use Rattle.net_client.specs.Talker.{Talker, Serves}
+use Rattle.net_client.proofs.Hearings.{calm_at}
+use Rattle.net_jobs.specs.Draining.{IsDrainedTo, StopsShort}
+
+-- ---- a scan turns no page
+
+no_turn_by : (task : Task) (outcome : Outcome) (progress : Progress) (past : Past) → task ≡ tasks.Scan → Fits task outcome progress past → turns outcome progress ≡ false
+no_turn_by task Running stages.Turning past e f = absurd (let clash : false ≡ true = (subst (λ (t : Task). Fits t Running stages.Turning past) e f).0 in cc)
+no_turn_by task Running progress past e f = refl
+no_turn_by task (Done reports) progress past e f = refl
+no_turn_by task (Ended status why) progress past e f = refl
+
+pub no_turn : (v : Talker) (past : Past) → v.errand.task ≡ tasks.Scan → Serves past v → turns v.outcome v.progress ≡ false
+no_turn v past e s = no_turn_by v.errand.task v.outcome v.progress past e s.fits
+
+-- ---- no fault stands in a scan that has not ended otherwise
+
+joined_calm : (fault : Option JoinFault) (under : Option Frame) (ended : List Frame) → answer_by fault under ended ≡ Ok true → fault ≡ None
+joined_calm (Some f) under ended e = absurd (let clash : Err f ≡ Ok true = e in cc)
+joined_calm None under ended e = refl
+
+calm_by : (outcome : Outcome) (progress : Progress) (past : Past) → Fits tasks.Scan outcome progress past → is_ended outcome ≡ false → past.fault ≡ None
+calm_by Running progress past f e = calm_at progress past f.1
+calm_by (Done reports) progress past f e = joined_calm past.fault past.under past.ended f
+calm_by (Ended status why) progress past f e = absurd (let clash : true ≡ false = e in cc)
+
+calm : (v : Talker) (past : Past) → v.errand.task ≡ tasks.Scan → is_ended v.outcome ≡ false → Serves past v → past.fault ≡ None
+calm v past scan e s = calm_by v.outcome v.progress past (subst (λ (t : Task). Fits t v.outcome v.progress past) scan s.fits) e
+
+-- after so many pulls: what was given, and that the output took it
+pub record IsUnderway (past : Past) (old : Talker) (first : Option (List ℕ)) (pulls : ℕ) (now : Talker) (contents : Option (List ℕ)) : Type 0 where
+  pub bytes : List ℕ
+  pub serves : Serves (after_pull bytes past) now
+  pub rest : now ≡ record old { join = now.join }
+  pub taken : Appends first contents (past.given ++ bytes)
+  pub some : pulls ≤ length bytes
+  pub alive : 0 < pulls → is_ended old.outcome ≡ false
+
+-- giving nothing changes nothing
+pulled_none : (past : Past) → after_pull [] past ≡ past
+pulled_none past = ap (λ (l : List ℕ). record past { given = l }) (append-nil past.given)
+
+pulled_twice : (past : Past) (xs ys : List ℕ) → after_pull ys (after_pull xs past) ≡ after_pull (xs ++ ys) past
+pulled_twice past xs ys = ap (λ (l : List ℕ). record past { given = l }) (append_assoc past.given xs ys)
+
+pub begun : (past : Past) (old : Talker) (first contents : Option (List ℕ)) → Serves past old → Appends first contents past.given → IsUnderway past old first 0 old contents
+begun past old first contents serves taken = record {
+  bytes = [];
+  serves = subst (λ (q : Past). Serves q old) (sym (pulled_none past)) serves;
+  rest = refl;
+  taken = subst (λ (l : List ℕ). Appends first contents l) (sym (append-nil past.given)) taken;
+  some = omega arith;
+  alive = λ positive. absurd (omega (arith, positive));
+}
+
+join_only : (old was now : Talker) → was ≡ record old { join = was.join } → now ≡ record was { join = now.join } → now ≡ record old { join = now.join }
+join_only old was now a b = b ∙ ap (λ (v : Talker). record v { join = now.join }) a
+
+not_ended : (b : Bool) (n : ℕ) → n ≢ 0 → (b ≡ true → n ≡ 0) → b ≡ false
+not_ended true n some none = absurd (some (none refl))
+not_ended false n some none = refl
+
+pub one_more : (past : Past) (first before after_ : Option (List ℕ)) (i n : ℕ) (old was now : Talker) (piece : List ℕ) → n ≢ 0 → length piece ≡ n
+    → ((q : Past) → Serves q was → turns was.outcome was.progress ≡ false → Serves (after_pull piece q) now) → (is_ended was.outcome ≡ true → (n ≡ 0) × (now ≡ was))
+    → (is_ended was.outcome ≡ false → turns was.outcome was.progress ≡ false → now ≡ record was { join = now.join })
+    → old.errand.task ≡ tasks.Scan → Appends before after_ piece → IsUnderway past old first i was before → IsUnderway past old first (i + 1) now after_
+one_more past first before after_ i n old was now piece some size carried stopped same scan took u =
+    let task : was.errand.task ≡ tasks.Scan = ap (λ (v : Talker). v.errand.task) u.rest ∙ scan in
+    let still = no_turn was (after_pull u.bytes past) task u.serves in
+    record {
+      bytes = u.bytes ++ piece;
+      serves = subst (λ (q : Past). Serves q now) (pulled_twice past u.bytes piece) (carried (after_pull u.bytes past) u.serves still);
+      rest = join_only old was now u.rest (same (not_ended (is_ended was.outcome) n some (λ e. (stopped e).0)) still);
+      taken = subst (λ (l : List ℕ). Appends first after_ l) (append_assoc past.given u.bytes piece) (Appends-trans first before after_ (past.given ++ u.bytes) piece u.taken took);
+      some = omega (arith, length-append u.bytes piece, size, u.some, λ (e : n ≡ 0). some e);
+      alive = λ positive. sym (ap (λ (v : Talker). is_ended v.outcome) u.rest) ∙ not_ended (is_ended was.outcome) n some (λ e. (stopped e).0);
+    }
+
+unmoved : (b : Bool) (was now : Talker) → b ≡ b → (b ≡ true → now ≡ was) → (b ≡ false → now ≡ record was { join = now.join }) → now ≡ record was { join = now.join }
+unmoved true was now e stopped same = stopped refl ∙ ap (λ (j : Joining). record was { join = j }) (sym (ap (λ (v : Talker). v.join) (stopped refl)))
+unmoved false was now e stopped same = same refl
+
+pub at_end : (past : Past) (first contents : Option (List ℕ)) (i n : ℕ) (old was now : Talker) (piece : List ℕ) → n ≡ 0 → piece ≡ []
+    → ((q : Past) → Serves q was → turns was.outcome was.progress ≡ false → Serves (after_pull piece q) now) → (is_ended was.outcome ≡ true → (n ≡ 0) × (now ≡ was))
+    → (is_ended was.outcome ≡ false → turns was.outcome was.progress ≡ false → now ≡ record was { join = now.join })
+    → ((q : Past) → Serves q was → is_ended was.outcome ≡ false → IsJoined q → (p : Picture) → ShowsFrames q.ended p → Denotes q.given p)
+    → old.errand.task ≡ tasks.Scan → IsUnderway past old first i was contents → IsDrainedTo past old first now contents
+at_end past first contents i n old was now piece zero none carried stopped same denotes scan u =
+    let task : was.errand.task ≡ tasks.Scan = ap (λ (v : Talker). v.errand.task) u.rest ∙ scan in
+    let still = no_turn was (after_pull u.bytes past) task u.serves in
+    record {
+      bytes = u.bytes;
+      serves = subst (λ (q : Past). Serves q now) (ap (λ (l : List ℕ). after_pull l (after_pull u.bytes past)) none ∙ pulled_none (after_pull u.bytes past)) (carried (after_pull u.bytes past) u.serves still);
+      rest = join_only old was now u.rest (unmoved (is_ended was.outcome) was now refl (λ e. (stopped e).1) (λ e. same e still));
+      taken = u.taken;
+      denotes = λ e joined p shows. denotes (after_pull u.bytes past) u.serves (ap (λ (v : Talker). is_ended v.outcome) u.rest ∙ e) joined p shows;
+    }
+
+pub stopped : (past : Past) (first before after_ : Option (List ℕ)) (i n k : ℕ) (old was now : Talker) (piece : List ℕ) → n ≢ 0 → k < length piece
+    → ((q : Past) → Serves q was → turns was.outcome was.progress ≡ false → Serves (after_pull piece q) now) → (is_ended was.outcome ≡ true → (n ≡ 0) × (now ≡ was))
+    → ((q : Past) (join : Joining) (front more : List ℕ) → Stands q join → q.fault ≡ None → q.given ≡ front ++ more → more ≢ [] → IsWhole front → ⊥)
+    → old.errand.task ≡ tasks.Scan → Appends before after_ (take k piece) → IsUnderway past old first i was before → StopsShort first after_
+stopped past first before after_ i n k old was now piece some less carried ends law scan took u =
+    let task : was.errand.task ≡ tasks.Scan = ap (λ (v : Talker). v.errand.task) u.rest ∙ scan in
+    let still = no_turn was (after_pull u.bytes past) task u.serves in
+    let given = past.given ++ u.bytes in
+    let no_fault : past.fault ≡ None = calm was (after_pull u.bytes past) task (not_ended (is_ended was.outcome) n some (λ e. (ends e).0)) u.serves in
+    let cut : given ++ piece ≡ (given ++ take k piece) ++ drop k piece = ap (λ (l : List ℕ). given ++ l) (sym (take-append-drop k piece)) ∙ sym (append_assoc given (take k piece) (drop k piece)) in
+    record {
+      text = given ++ take k piece;
+      taken = Appends-trans first before after_ given (take k piece) u.taken took;
+      not_whole = law (after_pull piece (after_pull u.bytes past)) now.join (given ++ take k piece) (drop k piece) (carried (after_pull u.bytes past) u.serves still).stands no_fault cut (λ e. omega (arith, ap (λ (l : List ℕ). length l) e, length-drop k piece, less));
+    }
+
+pub never : (past : Past) (first contents : Option (List ℕ)) (i : ℕ) (old now : Talker) → old.errand.task ≡ tasks.Scan → 2 ^ 40 ≤ i
+    → ((q : Past) (join : Joining) → Stands q join → q.fault ≡ None → length q.given < 2 ^ 40) → IsUnderway past old first i now contents → ⊥
+never past first contents i old now scan many law u =
+    let no_fault : past.fault ≡ None = calm now (after_pull u.bytes past) (ap (λ (v : Talker). v.errand.task) u.rest ∙ scan) (ap (λ (v : Talker). is_ended v.outcome) u.rest ∙ u.alive (omega (arith, many))) u.serves in
+    omega (arith, law (after_pull u.bytes past) now.join u.serves.stands no_fault, length-append past.given u.bytes, u.some, many)

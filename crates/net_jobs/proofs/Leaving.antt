@@ -1,0 +1,491 @@
+-- How a job over streams is over.
+use Rattle.std.proofs.Common.{◌≡◌, ◌∙◌, ◌⊎◌, ◌≤◌, ◌↔◌, ℕ, Bool, true, false, Option, Some, None, Ok, List, [], ◌∷◌, ◌++◌, length, take, drop, refl, sym, ap, subst, inl, inr, arith}
+use Rattle.std.specs.Prelude.{nat_lt, if◌then◌else◌, IsTrue}
+use Rattle.std.specs.Io.KnownBytes.{Appends}
+use Rattle.std.proofs.KnownBytes.{Appends-nil}
+use Rattle.std.proofs.lemmas.Bool.{ltb-false}
+use Rattle.std.proofs.lemmas.List.{append-nil, take-append-drop, drop_all}
+use Rattle.sane_fixed.specs.declared.status.Status.{Status}
+use Rattle.sane_fixed.specs.declared.status.Status.TheVariants as statuses
+use Rattle.netpbm.specs.Picture.{Picture}
+use Rattle.netpbm.specs.Pnm.{Denotes, IsWhole}
+use Rattle.page_picture.specs.Shows.{ShowsFrames}
+use Rattle.frame_join.specs.declared.join_stage.JoinFault.{JoinFault}
+use Rattle.frame_join.specs.declared.join_stage.JoinFault.TheVariants.{Shape, Long, Short, NoMem}
+use Rattle.frame_join.specs.FrameHistory.{Past, IsJoined, after_pull}
+use Rattle.frame_join.specs.Joining.{Joining, Stands}
+use Rattle.scan_job.specs.declared.job.Job.{Job}
+use Rattle.scan_job.specs.JobSize.{IsBatch}
+use Rattle.scan_job.specs.declared.job.Task.{Task}
+use Rattle.scan_job.specs.declared.job.Task.TheVariants as tasks
+use Rattle.scan_job.specs.declared.outcome.Outcome.{Outcome}
+use Rattle.scan_job.specs.declared.outcome.Outcome.TheVariants.{Running, Done, Ended}
+use Rattle.scan_job.specs.declared.outcome.Why.{Why}
+use Rattle.scan_job.specs.declared.outcome.Why.TheVariants as whys
+use Rattle.scan_job.specs.declared.report.Reports.{Reports}
+use Rattle.client_rules.specs.declared.progress.Errand.{Errand}
+use Rattle.client_rules.specs.declared.progress.Link.TheVariants as links
+use Rattle.client_rules.specs.declared.progress.Progress.{Progress}
+use Rattle.client_rules.specs.declared.progress.Notes.{Notes}
+use Rattle.client_rules.specs.Talking.{unjoined, frame_ended_by, status_of}
+use Rattle.client_rules.specs.Talks.{Talk, errand_of, is_running, is_ended, is_batch, is_lost_by, next_outcome, Fits, FitsEnded}
+use Rattle.net_client.specs.Talker.{Talker, Serves, IsFresh, ended}
+use Rattle.net_jobs.specs.Courses.{Event, Replied, Opened, Came, Finished, Gave, Course, Did, Runs, EndWell}
+use Rattle.net_jobs.specs.Links.{Calls, Wrote, Failed, HasBrought, BeginWith}
+use Rattle.net_jobs.specs.Going.{Linked, Follows, Falls, Stage, Going, EndsBy, ByLoss, ByMemory, ByGarble, ByShape}
+use Rattle.net_jobs.specs.Promised.{Ran, RanDone, RanEnded, HasRun}
+use Rattle.net_jobs.specs.Draining.{IsDrainedTo, StopsShort}
+use Rattle.net_jobs.proofs.Coursing.{did_quiet}
+use Rattle.net_jobs.proofs.Staging.{lets_go}
+use Rattle.net_jobs.proofs.Going.{stage_wrote, stage_cut, going_begun}
+use Rattle.net_jobs.proofs.Receiving.{receiving_runs}
+
+-- ---- each frame of a job that has not ended otherwise ended with EOF
+
+runs_on : (o : Outcome) → is_running o ≡ true → is_ended o ≡ false
+runs_on Running e = refl
+runs_on (Done reports) e = refl
+runs_on (Ended status why) e = absurd (let clash : false ≡ true = e in cc)
+
+eof_only : (task : Task) (notes : Notes) (file : ℕ) (past : Past) (status : Option Status) → is_ended (next_outcome task notes (frame_ended_by task file past status).next) ≡ false → status ≡ Some statuses.Eof
+eof_only task notes file past None e = absurd (let clash : true ≡ false = e in cc)
+eof_only task notes file past (Some statuses.Eof) e = refl
+eof_only task notes file past (Some status) e = absurd (let clash : true ≡ false = e in cc)
+
+pub ends_well : (errand : Errand) (first : Course) (events : List Event) (course : Course) → Runs errand first events course → is_ended course.talk.outcome ≡ false → EndWell events
+ends_well errand first [] course r e = tt
+ends_well errand first (Replied x ∷ before) course r e = ends_well errand first before r.0 r.1 (runs_on r.0.talk.outcome r.2.2)
+ends_well errand first (Opened ∷ before) course r e = ends_well errand first before r.0 r.1 (runs_on r.0.talk.outcome r.2.0)
+ends_well errand first (Came bytes ∷ before) course r e = ends_well errand first before r.0 r.1 (runs_on r.0.talk.outcome r.2.1)
+ends_well errand first (Finished status ∷ before) course r e = (
+  eof_only errand.task r.0.talk.notes r.0.talk.notes.file r.0.talk.past (status_of status) (ap (λ (c : Course). is_ended c.talk.outcome) (sym r.2.7) ∙ e),
+  ends_well errand first before r.0 r.1 (runs_on r.0.talk.outcome r.2.3),
+)
+ends_well errand first (Gave bytes ∷ before) course r e = ends_well errand first before r.0 r.1 (ap (λ (c : Course). is_ended c.talk.outcome) (sym r.2) ∙ e)
+
+-- ---- what was drained
+
+abbrev gave_course : Course → List ℕ → Course
+gave_course course bytes = record course { talk = record course.talk { past = after_pull bytes course.talk.past } }
+
+gave_linked : {R : Type 0} (left_of : R → Option (List ℕ)) (coming0 coming : Option (List (List ℕ))) (streams : List (List ℕ)) (stream : Option R) (c : Talker) (join : Joining) (past : Past) (bytes : List ℕ)
+    → Linked left_of coming0 coming streams stream c past → Linked left_of coming0 coming streams stream (record c { join = join }) (after_pull bytes past)
+gave_linked left_of coming0 coming streams None c join past bytes l = record { wholes = l.wholes; begin = l.begin; brought = l.brought; empty = l.empty }
+gave_linked left_of coming0 coming streams (Some conn) c join past bytes l = record {
+  wholes = l.wholes;
+  begin = l.begin;
+  whole = l.whole;
+  brought = l.brought;
+  bytes = l.bytes;
+  reads = l.reads;
+  frame = l.frame;
+  under = l.under;
+  carries = l.carries;
+  receives = l.receives;
+}
+
+stage_gave_by : {R : Type 0} (left_of : R → Option (List ℕ)) (job : Job) (read_ wrote left : List ℕ) (coming0 coming : Option (List (List ℕ))) (given bytes : List ℕ) (stream : Option R) (c : Talker) (join : Joining)
+    → c.errand ≡ errand_of job → (past : Past) → past.given ≡ given → Serves (after_pull bytes past) (record c { join = join }) → (course : Course) (rest : List ℕ) → Did job course read_ wrote rest left
+    → Follows left_of coming0 coming course rest stream c past ⊎ Falls coming0 coming course rest c
+    → (s : Stage left_of job read_ wrote left coming0 coming (given ++ bytes) stream (record c { join = join })) × (s.past ≡ after_pull bytes past)
+stage_gave_by left_of job read_ wrote left coming0 coming given bytes stream c join errand past given_is serves course rest did (inl f) = (
+  record {
+    errand = errand;
+    past = after_pull bytes past;
+    serves = serves;
+    given_is = ap (λ (l : List ℕ). l ++ bytes) given_is;
+    course = gave_course course bytes;
+    rest = rest;
+    did = did_quiet job course (gave_course course bytes) (Gave bytes) read_ wrote rest left refl refl refl did;
+    stands = inl (record {
+      talk_is = ap (λ (t : Talk). record t { past = after_pull bytes t.past }) f.talk_is;
+      rest_is = f.rest_is;
+      linked = gave_linked left_of coming0 coming course.streams stream c join past bytes f.linked;
+    });
+  },
+  refl,
+)
+stage_gave_by left_of job read_ wrote left coming0 coming given bytes stream c join errand past given_is serves course rest did (inr f) = (
+  record {
+    errand = errand;
+    past = after_pull bytes past;
+    serves = serves;
+    given_is = ap (λ (l : List ℕ). l ++ bytes) given_is;
+    course = course;
+    rest = rest;
+    did = did;
+    stands = inr (record {
+      cause = f.cause;
+      is_over = f.is_over;
+      was_running = f.was_running;
+      wholes = f.wholes;
+      unread = f.unread;
+      begin = f.begin;
+      brought = f.brought;
+      few = f.few;
+    });
+  },
+  refl,
+)
+
+-- ---- between two turns: how far the job is, and that the output holds what was given of the file
+
+pub record Drained {C R : Type 0} (remaining contents : C → Option (List ℕ)) (left_of : R → Option (List ℕ)) (job : Job) (first : C) (coming0 : Option (List (List ℕ))) (held : Option (List ℕ)) (failed : Bool) (control : C) (coming : Option (List (List ℕ))) (stream : Option R) (c : Talker) (holds : Option (List ℕ)) : Type 0 where
+  pub given : List ℕ
+  pub going : Going remaining contents left_of job first coming0 given failed control coming stream c
+  pub taken : Appends held holds given
+  pub none : (job.task ≡ tasks.Scan → ⊥) → given ≡ []
+  pub shown : job.task ≡ tasks.Scan → is_ended c.outcome ≡ false → IsJoined going.stage.past → (p : Picture) → ShowsFrames going.stage.past.ended p → Denotes given p
+
+pub drained_first : {C R : Type 0} (remaining contents : C → Option (List ℕ)) (left_of : R → Option (List ℕ)) (job : Job) (control : C) (coming : Option (List (List ℕ))) (held : Option (List ℕ)) (c : Talker) → IsFresh job c
+    → Drained remaining contents left_of job control coming held false control coming None c held
+drained_first remaining contents left_of job control coming held c f =
+    let g = going_begun remaining contents left_of job control coming c f in
+    record {
+      given = [];
+      going = g.0;
+      taken = Appends-nil held;
+      none = λ other. refl;
+      shown = λ scan alive joined. absurd (let clash : Ok false ≡ Ok true = subst (λ (q : Past). IsJoined q) g.1 joined in cc);
+    }
+
+drained_at : {C R : Type 0} (remaining contents : C → Option (List ℕ)) (left_of : R → Option (List ℕ)) (job : Job) (first : C) (coming0 : Option (List (List ℕ))) (held : Option (List ℕ)) (failed : Bool) (control : C) (coming : Option (List (List ℕ))) (stream : Option R) (c now : Talker) (was holds : Option (List ℕ)) (given : List ℕ)
+    → job.task ≡ tasks.Scan → (g : Going remaining contents left_of job first coming0 given failed control coming stream c) → (d : IsDrainedTo g.stage.past c held now holds)
+    → (s : Stage left_of job g.read_ g.wrote g.left coming0 coming (given ++ d.bytes) stream (record c { join = now.join })) → s.past ≡ after_pull d.bytes g.stage.past
+    → Drained remaining contents left_of job first coming0 held failed control coming stream now holds
+drained_at {C} {R} remaining contents left_of job first coming0 held failed control coming stream c now was holds given scan g d s past_is =
+    subst (λ (v : Talker). Drained remaining contents left_of job first coming0 held failed control coming stream v holds) (sym d.rest) (record {
+      given = given ++ d.bytes;
+      going = record { read_ = g.read_; wrote = g.wrote; left = g.left; calls = g.calls; stage = s; left_is = g.left_is };
+      taken = subst (λ (l : List ℕ). Appends held holds (l ++ d.bytes)) g.stage.given_is d.taken;
+      none = λ other. absurd (other scan);
+      shown = λ scans alive joined p shows.
+          subst (λ (l : List ℕ). Denotes (l ++ d.bytes) p) g.stage.given_is (d.denotes alive (subst (λ (q : Past). IsJoined q) past_is joined) p (subst (λ (q : Past). ShowsFrames q.ended p) past_is shows));
+    })
+
+-- a turn in which the output took what was given
+pub drained_more : {C R : Type 0} (remaining contents : C → Option (List ℕ)) (left_of : R → Option (List ℕ)) (job : Job) (first : C) (coming0 : Option (List (List ℕ))) (held : Option (List ℕ)) (failed : Bool) (control : C) (coming : Option (List (List ℕ))) (stream : Option R) (c now : Talker) (was holds : Option (List ℕ)) (given : List ℕ)
+    → job.task ≡ tasks.Scan → Appends held was given → (g : Going remaining contents left_of job first coming0 given failed control coming stream c)
+    → ((past : Past) → c.errand.task ≡ tasks.Scan → Serves past c → Appends held was past.given → IsDrainedTo past c held now holds)
+    → Drained remaining contents left_of job first coming0 held failed control coming stream now holds
+drained_more {C} {R} remaining contents left_of job first coming0 held failed control coming stream c now was holds given scan taken g drains =
+    let s = g.stage in
+    let d = drains s.past (ap (λ (e : Errand). e.task) s.errand ∙ scan) s.serves (subst (λ (l : List ℕ). Appends held was l) (sym s.given_is) taken) in
+    let serves = subst (λ (v : Talker). Serves (after_pull d.bytes s.past) v) d.rest d.serves in
+    let gave = stage_gave_by left_of job g.read_ g.wrote g.left coming0 coming given d.bytes stream c now.join s.errand s.past s.given_is serves s.course s.rest s.did s.stands in
+    drained_at remaining contents left_of job first coming0 held failed control coming stream c now was holds given scan g d gave.0 gave.1
+
+-- one that writes nothing
+pub drained_none : {C R : Type 0} (remaining contents : C → Option (List ℕ)) (left_of : R → Option (List ℕ)) (job : Job) (first : C) (coming0 : Option (List (List ℕ))) (held : Option (List ℕ)) (failed : Bool) (control : C) (coming : Option (List (List ℕ))) (stream : Option R) (c : Talker) (holds : Option (List ℕ)) (given : List ℕ)
+    → (job.task ≡ tasks.Scan → ⊥) → given ≡ [] → Appends held holds given → Going remaining contents left_of job first coming0 given failed control coming stream c
+    → Drained remaining contents left_of job first coming0 held failed control coming stream c holds
+drained_none remaining contents left_of job first coming0 held failed control coming stream c holds given other none taken g = record {
+  given = given;
+  going = g;
+  taken = taken;
+  none = λ o. none;
+  shown = λ scan alive joined p shows. absurd (other scan);
+}
+
+pub drained_as : {C R : Type 0} (remaining contents : C → Option (List ℕ)) (left_of : R → Option (List ℕ)) (job : Job) (first : C) (coming0 : Option (List (List ℕ))) (held : Option (List ℕ)) (failed other : Bool) (control : C) (coming : Option (List (List ℕ))) (stream : Option R) (c : Talker) (holds : Option (List ℕ)) → failed ≡ other
+    → Drained remaining contents left_of job first coming0 held failed control coming stream c holds → Drained remaining contents left_of job first coming0 held other control coming stream c holds
+drained_as remaining contents left_of job first coming0 held failed other control coming stream c holds e d = subst (λ (b : Bool). Drained remaining contents left_of job first coming0 held b control coming stream c holds) e d
+
+-- the control connection is lost, if the job runs
+cut_out : (runs : Bool) (c new : Talker) → new ≡ (if runs then ended statuses.IoError whys.Lost c else c) → new.out ≡ c.out
+cut_out true c new e = ap (λ (v : Talker). v.out) e
+cut_out false c new e = ap (λ (v : Talker). v.out) e
+
+cut_alive : (runs : Bool) (c new : Talker) → new ≡ (if runs then ended statuses.IoError whys.Lost c else c) → is_ended new.outcome ≡ false → is_ended c.outcome ≡ false
+cut_alive true c new e alive = absurd (let clash : true ≡ false = sym (ap (λ (v : Talker). is_ended v.outcome) e) ∙ alive in cc)
+cut_alive false c new e alive = ap (λ (v : Talker). is_ended v.outcome) (sym e) ∙ alive
+
+cut_over_by : (runs : Bool) (c new : Talker) → is_running c.outcome ≡ runs → new ≡ (if runs then ended statuses.IoError whys.Lost c else c) → is_running new.outcome ≡ false
+cut_over_by true c new running e = ap (λ (v : Talker). is_running v.outcome) e
+cut_over_by false c new running e = ap (λ (v : Talker). is_running v.outcome) e ∙ running
+
+pub cut_over : (c new : Talker) → new ≡ (if is_lost_by links.Control c.outcome c.progress then ended statuses.IoError whys.Lost c else c) → is_running new.outcome ≡ false
+cut_over c new e = cut_over_by (is_running c.outcome) c new refl e
+
+pub drained_cut : {C R : Type 0} (remaining contents : C → Option (List ℕ)) (left_of : R → Option (List ℕ)) (job : Job) (first : C) (coming0 : Option (List (List ℕ))) (held : Option (List ℕ)) (failed : Bool) (control : C) (coming : Option (List (List ℕ))) (stream : Option R) (c new : Talker) (holds : Option (List ℕ))
+    → new ≡ (if is_lost_by links.Control c.outcome c.progress then ended statuses.IoError whys.Lost c else c)
+    → Drained remaining contents left_of job first coming0 held failed control coming stream c holds → Drained remaining contents left_of job first coming0 held failed control coming stream new holds
+drained_cut remaining contents left_of job first coming0 held failed control coming stream c new holds lost d =
+    let g = d.going in
+    let s = stage_cut left_of job g.read_ g.wrote g.left coming0 coming d.given stream c new lost g.stage in
+    record {
+      given = d.given;
+      going = record { read_ = g.read_; wrote = g.wrote; left = g.left; calls = g.calls; stage = s.0; left_is = λ e. g.left_is e ∙ sym (cut_out (is_running c.outcome) c new lost) };
+      taken = d.taken;
+      none = d.none;
+      shown = λ scan alive joined p shows. d.shown scan (cut_alive (is_running c.outcome) c new lost alive) (subst (λ (q : Past). IsJoined q) s.1 joined) p (subst (λ (q : Past). ShowsFrames q.ended p) s.1 shows);
+    }
+
+-- ---- the end
+
+-- what a job that is over did, before its outcome is told
+pub record Closed {C R : Type 0} (remaining contents : C → Option (List ℕ)) (left_of : R → Option (List ℕ)) (job : Job) (first : C) (coming0 : Option (List (List ℕ))) (held : Option (List ℕ)) (control : C) (coming : Option (List (List ℕ))) (stream : Option R) (c : Talker) (holds : Option (List ℕ)) : Type 0 where
+  pub given : List ℕ
+  pub read_ : List ℕ
+  pub wrote : List ℕ
+  pub left : List ℕ
+  pub failed : Bool
+  pub calls : Calls remaining contents first read_ wrote failed control
+  pub stage : Stage left_of job read_ wrote left coming0 coming given stream c
+  pub all : failed ≡ false → left ≡ []
+  pub taken : Appends held holds given
+  pub none : (job.task ≡ tasks.Scan → ⊥) → given ≡ []
+  pub shown : job.task ≡ tasks.Scan → is_ended c.outcome ≡ false → IsJoined stage.past → (p : Picture) → ShowsFrames stage.past.ended p → Denotes given p
+
+-- the last bytes, or a front of them, were written
+closed_by : {C R : Type 0} (remaining contents : C → Option (List ℕ)) (left_of : R → Option (List ℕ)) (job : Job) (first : C) (coming0 : Option (List (List ℕ))) (held : Option (List ℕ)) (control now : C) (coming : Option (List (List ℕ))) (stream : Option R) (c : Talker) (holds : Option (List ℕ)) (n : ℕ) (short : Bool)
+    → nat_lt n (length c.out) ≡ short → n ≤ length c.out → Appends (contents control) (contents now) (take n c.out) → (d : Drained remaining contents left_of job first coming0 held false control coming stream c holds)
+    → (s : Stage left_of job d.going.read_ (d.going.wrote ++ take n c.out) (drop n c.out) coming0 coming d.given stream c) → s.past ≡ d.going.stage.past
+    → Closed remaining contents left_of job first coming0 held now coming stream c holds
+closed_by remaining contents left_of job first coming0 held control now coming stream c holds n true short within took d s same = record {
+  given = d.given;
+  read_ = d.going.read_;
+  wrote = d.going.wrote ++ take n c.out;
+  left = drop n c.out;
+  failed = true;
+  calls = Failed d.going.read_ d.going.wrote false control now (take n c.out) d.going.calls took;
+  stage = s;
+  all = λ e. absurd (let clash : true ≡ false = e in cc);
+  taken = d.taken;
+  none = d.none;
+  shown = λ scan alive joined p shows. d.shown scan alive (subst (λ (q : Past). IsJoined q) same joined) p (subst (λ (q : Past). ShowsFrames q.ended p) same shows);
+}
+closed_by remaining contents left_of job first coming0 held control now coming stream c holds n false short within took d s same = record {
+  given = d.given;
+  read_ = d.going.read_;
+  wrote = d.going.wrote ++ take n c.out;
+  left = drop n c.out;
+  failed = false;
+  calls = Wrote d.going.read_ d.going.wrote false control now (take n c.out) d.going.calls took;
+  stage = s;
+  all = λ e. drop_all n c.out (ltb-false n (length c.out) short);
+  taken = d.taken;
+  none = d.none;
+  shown = λ scan alive joined p shows. d.shown scan alive (subst (λ (q : Past). IsJoined q) same joined) p (subst (λ (q : Past). ShowsFrames q.ended p) same shows);
+}
+
+pub closed_left : {C R : Type 0} (remaining contents : C → Option (List ℕ)) (left_of : R → Option (List ℕ)) (job : Job) (first : C) (coming0 : Option (List (List ℕ))) (held : Option (List ℕ)) (control now : C) (coming : Option (List (List ℕ))) (stream : Option R) (c : Talker) (holds : Option (List ℕ))
+    → (n : ℕ) × (n ≤ length c.out) × Appends (contents control) (contents now) (take n c.out) → Drained remaining contents left_of job first coming0 held false control coming stream c holds
+    → Closed remaining contents left_of job first coming0 held now coming stream c holds
+closed_left remaining contents left_of job first coming0 held control now coming stream c holds w d =
+    let g = d.going in
+    let s = stage_wrote left_of job g.read_ g.wrote g.left (take w.0 c.out) (drop w.0 c.out) coming0 coming d.given stream c c (g.left_is refl ∙ sym (take-append-drop w.0 c.out)) refl g.stage in
+    closed_by remaining contents left_of job first coming0 held control now coming stream c holds w.0 (nat_lt w.0 (length c.out)) refl w.1 w.2 d s.0 s.1
+
+-- a write failed before
+pub closed_cut : {C R : Type 0} (remaining contents : C → Option (List ℕ)) (left_of : R → Option (List ℕ)) (job : Job) (first : C) (coming0 : Option (List (List ℕ))) (held : Option (List ℕ)) (control : C) (coming : Option (List (List ℕ))) (stream : Option R) (c : Talker) (holds : Option (List ℕ))
+    → Drained remaining contents left_of job first coming0 held true control coming stream c holds → Closed remaining contents left_of job first coming0 held control coming stream c holds
+closed_cut remaining contents left_of job first coming0 held control coming stream c holds d = record {
+  given = d.given;
+  read_ = d.going.read_;
+  wrote = d.going.wrote;
+  left = d.going.left;
+  failed = true;
+  calls = d.going.calls;
+  stage = d.going.stage;
+  all = λ e. absurd (let clash : true ≡ false = e in cc);
+  taken = d.taken;
+  none = d.none;
+  shown = d.shown;
+}
+
+-- ---- what such a job promises
+
+unjoined_not_done : (task : Task) (notes : Notes) (fault : JoinFault) (reports : Reports) → next_outcome task notes (unjoined fault) ≡ Done reports → ⊥
+unjoined_not_done task notes Shape reports e = let clash : Ended statuses.IoError whys.Malformed ≡ Done reports = e in cc
+unjoined_not_done task notes Long reports e = let clash : Ended statuses.IoError whys.Long ≡ Done reports = e in cc
+unjoined_not_done task notes Short reports e = let clash : Ended statuses.IoError whys.Short ≡ Done reports = e in cc
+unjoined_not_done task notes NoMem reports e = let clash : Ended statuses.NoMem whys.Memory ≡ Done reports = e in cc
+
+-- only what ends a job otherwise falls out of its course
+not_done : (talk : Talk) (rest : List ℕ) (outcome : Outcome) (reports : Reports) → outcome ≡ Done reports → EndsBy talk rest outcome → ⊥
+not_done talk rest outcome reports e (ByLoss x) = let clash : Done reports ≡ Ended statuses.IoError whys.Lost = sym e ∙ x in cc
+not_done talk rest outcome reports e (ByMemory x) = let clash : Done reports ≡ Ended statuses.NoMem whys.Memory = sym e ∙ x in cc
+not_done talk rest outcome reports e (ByGarble procedure awaits no_start x) = let clash : Done reports ≡ Ended statuses.IoError whys.Malformed = sym e ∙ x in cc
+not_done talk rest outcome reports e (ByShape task fault x) = unjoined_not_done task talk.notes fault reports (sym x ∙ e)
+
+followed : {R : Type 0} (left_of : R → Option (List ℕ)) (coming0 coming : Option (List (List ℕ))) (course : Course) (rest : List ℕ) (stream : Option R) (c : Talker) (past : Past) (reports : Reports) → c.outcome ≡ Done reports
+    → Follows left_of coming0 coming course rest stream c past ⊎ Falls coming0 coming course rest c → Follows left_of coming0 coming course rest stream c past
+followed left_of coming0 coming course rest stream c past reports e (inl f) = f
+followed left_of coming0 coming course rest stream c past reports e (inr f) = absurd (not_done course.talk rest c.outcome reports e f.cause)
+
+-- no connection is open behind a job's end
+pub record Unopened (coming0 coming : Option (List (List ℕ))) (streams : List (List ℕ)) : Type 0 where
+  pub wholes : List (List ℕ)
+  pub begin : BeginWith wholes streams
+  pub brought : HasBrought coming0 coming wholes
+
+unopened : {R : Type 0} (left_of : R → Option (List ℕ)) (coming0 coming : Option (List (List ℕ))) (streams : List (List ℕ)) (stream : Option R) (c : Talker) (past : Past) → is_running c.outcome ≡ false
+    → Linked left_of coming0 coming streams stream c past → Unopened coming0 coming streams
+unopened left_of coming0 coming streams None c past over l = record { wholes = l.wholes; begin = l.begin; brought = l.brought }
+unopened left_of coming0 coming streams (Some conn) c past over l = absurd (let clash : true ≡ false = sym (receiving_runs c.outcome c.progress l.receives) ∙ over in cc)
+
+task_is : (c : Talker) (job : Job) → c.errand ≡ errand_of job → c.errand.task ≡ job.task
+task_is c job e = ap (λ (x : Errand). x.task) e
+
+scan_joined : (outcome : Outcome) (progress : Progress) (past : Past) (task : Task) (reports : Reports) → task ≡ tasks.Scan → outcome ≡ Done reports → Fits task outcome progress past → IsJoined past
+scan_joined outcome progress past task reports scan done f =
+    subst (λ (o : Outcome). Fits tasks.Scan o progress past) done (subst (λ (t : Task). Fits t outcome progress past) scan f)
+
+pub run_done : {C R : Type 0} (remaining contents : C → Option (List ℕ)) (left_of : R → Option (List ℕ)) (job : Job) (first : C) (coming0 : Option (List (List ℕ))) (held : Option (List ℕ)) (control : C) (coming : Option (List (List ℕ))) (stream : Option R) (c : Talker) (holds : Option (List ℕ)) (reports : Reports)
+    → ((past : Past) (join : Joining) → Stands past join → IsJoined past → (p : Picture) × ShowsFrames past.ended p) → c.outcome ≡ Done reports
+    → Closed remaining contents left_of job first coming0 held control coming stream c holds → RanDone remaining contents job first coming0 control coming held holds (Done reports)
+run_done remaining contents left_of job first coming0 held control coming stream c holds reports shows done d =
+    let s = d.stage in
+    let f = followed left_of coming0 coming s.course s.rest stream c s.past reports done s.stands in
+    let l = unopened left_of coming0 coming s.course.streams stream c s.past (ap is_running done) f.linked in
+    let told : s.course.talk.outcome ≡ Done reports = ap (λ (t : Talk). t.outcome) (sym f.talk_is) ∙ done in
+    record {
+      ran = record {
+        read_ = d.read_;
+        wrote = d.wrote;
+        rest = s.rest;
+        left = d.left;
+        failed = d.failed;
+        course = s.course;
+        calls = d.calls;
+        did = s.did;
+        wholes = l.wholes;
+        unread = [];
+        begin = l.begin;
+        brought = subst (λ (w : List (List ℕ)). HasBrought coming0 coming w) (sym (append-nil l.wholes)) l.brought;
+        few = omega arith;
+      };
+      told = told;
+      all = d.all;
+      read_all = refl;
+      end_well = ends_well (errand_of job) _ s.did.events s.course s.did.runs (ap is_ended told);
+      text = d.given;
+      taken = d.taken;
+      file = λ scan.
+          let joined = scan_joined c.outcome c.progress s.past c.errand.task reports (task_is c job s.errand ∙ scan) done s.serves.fits in
+          let p = shows s.past c.join s.serves.stands joined in
+          (p.0, subst (λ (q : Past). ShowsFrames q.ended p.0) (ap (λ (t : Talk). t.past) f.talk_is) p.1, d.shown scan (ap is_ended done) joined p.0 p.1);
+      none = d.none;
+    }
+
+ended_unjoined : (task : Task) (past : Past) → is_batch task ≡ false → FitsEnded task past → IsJoined past → ⊥
+ended_unjoined (tasks.Batch count) past single f = absurd (let clash : true ≡ false = single in cc)
+ended_unjoined task past single f = f
+
+-- what a job did, whether it follows its course or not
+pub ran_by : {C R : Type 0} (remaining contents : C → Option (List ℕ)) (left_of : R → Option (List ℕ)) (job : Job) (first : C) (coming0 : Option (List (List ℕ))) (control : C) (coming : Option (List (List ℕ))) (stream : Option R) (c : Talker) (given read_ wrote left : List ℕ) (failed : Bool)
+    → Calls remaining contents first read_ wrote failed control → (s : Stage left_of job read_ wrote left coming0 coming given stream c)
+    → (stands : Follows left_of coming0 coming s.course s.rest stream c s.past ⊎ Falls coming0 coming s.course s.rest c)
+    → (ran : Ran remaining contents job first coming0 control coming) × ((ran.course.talk.outcome ≡ c.outcome) ⊎ EndsBy ran.course.talk ran.rest c.outcome)
+ran_by remaining contents left_of job first coming0 control coming stream c given read_ wrote left failed calls s (inl f) =
+    let l = lets_go left_of coming0 coming s.course.streams stream c s.past f.linked in (
+      record {
+        read_ = read_;
+        wrote = wrote;
+        rest = s.rest;
+        left = left;
+        failed = failed;
+        course = s.course;
+        calls = calls;
+        did = s.did;
+        wholes = l.wholes;
+        unread = l.unread;
+        begin = l.begin;
+        brought = l.brought;
+        few = l.few;
+      },
+      inl (ap (λ (t : Talk). t.outcome) (sym f.talk_is)),
+    )
+ran_by remaining contents left_of job first coming0 control coming stream c given read_ wrote left failed calls s (inr f) = (
+  record {
+    read_ = read_;
+    wrote = wrote;
+    rest = s.rest;
+    left = left;
+    failed = failed;
+    course = s.course;
+    calls = calls;
+    did = s.did;
+    wholes = f.wholes;
+    unread = f.unread;
+    begin = f.begin;
+    brought = f.brought;
+    few = f.few;
+  },
+  inr f.cause,
+)
+
+cause_of : (talk : Talk) (rest : List ℕ) (outcome told : Outcome) → outcome ≡ told → (talk.outcome ≡ outcome) ⊎ EndsBy talk rest outcome → (talk.outcome ≡ told) ⊎ (EndsBy talk rest told ⊎ (told ≡ Ended statuses.IoError whys.Sink))
+cause_of talk rest outcome told e (inl x) = inl (x ∙ e)
+cause_of talk rest outcome told e (inr x) = inr (inl (subst (λ (o : Outcome). EndsBy talk rest o) e x))
+
+pub run_ended : {C R : Type 0} (remaining contents : C → Option (List ℕ)) (left_of : R → Option (List ℕ)) (job : Job) (first : C) (coming0 : Option (List (List ℕ))) (held : Option (List ℕ)) (control : C) (coming : Option (List (List ℕ))) (stream : Option R) (c : Talker) (holds : Option (List ℕ)) (status : Status) (why : Why)
+    → is_batch job.task ≡ false → ((past : Past) (join : Joining) → Stands past join → (IsJoined past → ⊥) → IsWhole past.given → ⊥) → c.outcome ≡ Ended status why
+    → Closed remaining contents left_of job first coming0 held control coming stream c holds → RanEnded remaining contents job first coming0 control coming held holds (Ended status why)
+run_ended remaining contents left_of job first coming0 held control coming stream c holds status why single law over d =
+    let s = d.stage in
+    let r = ran_by remaining contents left_of job first coming0 control coming stream c d.given d.read_ d.wrote d.left d.failed d.calls s s.stands in
+    let fits = subst (λ (o : Outcome). Fits c.errand.task o c.progress s.past) over s.serves.fits in
+    record {
+      ran = r.0;
+      cause = cause_of r.0.course.talk r.0.rest c.outcome (Ended status why) over r.1;
+      text = d.given;
+      taken = d.taken;
+      not_whole = subst (λ (l : List ℕ). IsWhole l → ⊥) s.given_is (law s.past c.join s.serves.stands (ended_unjoined c.errand.task s.past (ap is_batch (task_is c job s.errand) ∙ single) fits));
+    }
+
+run_over : {C R : Type 0} (remaining contents : C → Option (List ℕ)) (left_of : R → Option (List ℕ)) (job : Job) (first : C) (coming0 : Option (List (List ℕ))) (held : Option (List ℕ)) (control : C) (coming : Option (List (List ℕ))) (stream : Option R) (c : Talker) (holds : Option (List ℕ)) (outcome : Outcome)
+    → is_batch job.task ≡ false → ((past : Past) (join : Joining) → Stands past join → (IsJoined past → ⊥) → IsWhole past.given → ⊥)
+    → ((past : Past) (join : Joining) → Stands past join → IsJoined past → (p : Picture) × ShowsFrames past.ended p) → is_running outcome ≡ false → c.outcome ≡ outcome
+    → Closed remaining contents left_of job first coming0 held control coming stream c holds → HasRun remaining contents job first coming0 control coming held holds outcome
+run_over remaining contents left_of job first coming0 held control coming stream c holds Running single law shows over e d = let clash : true ≡ false = over in cc
+run_over remaining contents left_of job first coming0 held control coming stream c holds (Done reports) single law shows over e d = run_done remaining contents left_of job first coming0 held control coming stream c holds reports shows e d
+run_over remaining contents left_of job first coming0 held control coming stream c holds (Ended status why) single law shows over e d = run_ended remaining contents left_of job first coming0 held control coming stream c holds status why single law e d
+
+pub has_run : {C R : Type 0} (remaining contents : C → Option (List ℕ)) (left_of : R → Option (List ℕ)) (job : Job) (first : C) (coming0 : Option (List (List ℕ))) (held : Option (List ℕ)) (control : C) (coming : Option (List (List ℕ))) (stream : Option R) (c : Talker) (holds : Option (List ℕ)) (outcome : Outcome)
+    → is_batch job.task ≡ false → ((past : Past) (join : Joining) → Stands past join → (IsJoined past → ⊥) → IsWhole past.given → ⊥)
+    → ((past : Past) (join : Joining) → Stands past join → IsJoined past → (p : Picture) × ShowsFrames past.ended p) → is_running c.outcome ≡ false → outcome ≡ c.outcome
+    → Closed remaining contents left_of job first coming0 held control coming stream c holds → HasRun remaining contents job first coming0 control coming held holds outcome
+has_run remaining contents left_of job first coming0 held control coming stream c holds outcome single law shows over e d =
+    run_over remaining contents left_of job first coming0 held control coming stream c holds outcome single law shows (ap is_running e ∙ over) (sym e) d
+
+-- the output did not take the file
+pub run_sunk : {C R : Type 0} (remaining contents : C → Option (List ℕ)) (left_of : R → Option (List ℕ)) (job : Job) (first : C) (coming0 : Option (List (List ℕ))) (held was : Option (List ℕ)) (failed : Bool) (control : C) (coming : Option (List (List ℕ))) (stream : Option R) (c : Talker) (holds : Option (List ℕ)) (given : List ℕ)
+    → job.task ≡ tasks.Scan → Appends held was given → (g : Going remaining contents left_of job first coming0 given failed control coming stream c)
+    → ((past : Past) → c.errand.task ≡ tasks.Scan → Serves past c → Appends held was past.given → StopsShort held holds)
+    → RanEnded remaining contents job first coming0 control coming held holds (Ended statuses.IoError whys.Sink)
+run_sunk remaining contents left_of job first coming0 held was failed control coming stream c holds given scan taken g stops =
+    let s = g.stage in
+    let r = ran_by remaining contents left_of job first coming0 control coming stream c given g.read_ g.wrote g.left failed g.calls s s.stands in
+    let short = stops s.past (task_is c job s.errand ∙ scan) s.serves (subst (λ (l : List ℕ). Appends held was l) (sym s.given_is) taken) in
+    record { ran = r.0; cause = inr (inr refl); text = short.text; taken = short.taken; not_whole = short.not_whole }
+
+-- ---- a turn's end: what a job gave of its file, if it is a scan
+
+given_by : {C R : Type 0} (remaining contents : C → Option (List ℕ)) (left_of : R → Option (List ℕ)) (job : Job) (first : C) (coming0 : Option (List (List ℕ))) (held : Option (List ℕ)) (failed : Bool) (control : C) (coming : Option (List (List ℕ))) (stream : Option R) (c now : Talker) (was holds : Option (List ℕ)) (given : List ℕ) (is_scan : Bool) (scans : Bool)
+    → is_scan ≡ scans → is_scan ≡ true ↔ job.task ≡ tasks.Scan → Appends held was given → ((job.task ≡ tasks.Scan → ⊥) → given ≡ []) → Going remaining contents left_of job first coming0 given failed control coming stream c
+    → (is_scan ≡ false → (now ≡ c) × (holds ≡ was))
+    → (is_scan ≡ true → (past : Past) → c.errand.task ≡ tasks.Scan → Serves past c → Appends held was past.given → IsDrainedTo past c held now holds)
+    → Drained remaining contents left_of job first coming0 held failed control coming stream now holds
+given_by remaining contents left_of job first coming0 held failed control coming stream c now was holds given is_scan true e scan taken none g same drains =
+    drained_more remaining contents left_of job first coming0 held failed control coming stream c now was holds given (scan.0 e) taken g (drains e)
+given_by remaining contents left_of job first coming0 held failed control coming stream c now was holds given is_scan false e scan taken none g same drains =
+    let other : job.task ≡ tasks.Scan → ⊥ = λ s. (let clash : true ≡ false = sym (scan.1 s) ∙ e in cc) in
+    let kept = same e in
+    subst (λ (v : Talker). Drained remaining contents left_of job first coming0 held failed control coming stream v holds) (sym kept.0)
+    (drained_none remaining contents left_of job first coming0 held failed control coming stream c holds given other (none other) (subst (λ (o : Option (List ℕ)). Appends held o given) (sym kept.1) taken) g)
+
+pub given_more : {C R : Type 0} (remaining contents : C → Option (List ℕ)) (left_of : R → Option (List ℕ)) (job : Job) (first : C) (coming0 : Option (List (List ℕ))) (held : Option (List ℕ)) (failed : Bool) (control : C) (coming : Option (List (List ℕ))) (stream : Option R) (c now : Talker) (was holds : Option (List ℕ)) (given : List ℕ) (is_scan : Bool)
+    → is_scan ≡ true ↔ job.task ≡ tasks.Scan → Appends held was given → ((job.task ≡ tasks.Scan → ⊥) → given ≡ []) → Going remaining contents left_of job first coming0 given failed control coming stream c
+    → (is_scan ≡ false → (now ≡ c) × (holds ≡ was))
+    → (is_scan ≡ true → (past : Past) → c.errand.task ≡ tasks.Scan → Serves past c → Appends held was past.given → IsDrainedTo past c held now holds)
+    → Drained remaining contents left_of job first coming0 held failed control coming stream now holds
+given_more remaining contents left_of job first coming0 held failed control coming stream c now was holds given is_scan scan taken none g same drains =
+    given_by remaining contents left_of job first coming0 held failed control coming stream c now was holds given is_scan is_scan refl scan taken none g same drains
+
+-- ---- a job that is no batch
+
+pub single_by : (task : Task) (b : Bool) → IsTrue b ↔ IsBatch task → b ≡ false → is_batch task ≡ false
+single_by (tasks.Batch count) b e unset = let clash : true ≡ false = sym (e.1 tt) ∙ unset in cc
+single_by task b e unset = refl

@@ -1,0 +1,23 @@
+-- The bytes of a scan's file on their way from a client to the output.
+use Rattle.std.specs.Prelude.{ℕ, ◌≡◌, false, Option, List, ◌++◌}
+use Rattle.std.specs.Io.KnownBytes.{Appends}
+use Rattle.netpbm.specs.Picture.{Picture}
+use Rattle.netpbm.specs.Pnm.{Denotes, IsWhole}
+use Rattle.page_picture.specs.Shows.{ShowsFrames}
+use Rattle.frame_join.specs.FrameHistory.{Past, IsJoined, after_pull}
+use Rattle.client_rules.specs.Talks.{is_ended}
+use Rattle.net_client.specs.Talker.{Talker, Serves}
+
+-- more bytes were given, the output took all that were given so far, and once the picture is whole they denote it
+pub record IsDrainedTo (past : Past) (old : Talker) (first : Option (List ℕ)) (new : Talker) (contents : Option (List ℕ)) : Type 0 where
+  pub bytes : List ℕ
+  pub serves : Serves (after_pull bytes past) new
+  pub rest : new ≡ record old { join = new.join }
+  pub taken : Appends first contents (past.given ++ bytes)
+  pub denotes : is_ended old.outcome ≡ false → IsJoined past → (p : Picture) → ShowsFrames past.ended p → Denotes (past.given ++ bytes) p
+
+-- the output took a text that is no whole file
+pub record StopsShort (first contents : Option (List ℕ)) : Type 0 where
+  pub text : List ℕ
+  pub taken : Appends first contents text
+  pub not_whole : IsWhole text → ⊥

@@ -1,0 +1,105 @@
+-- How far a job over streams is between two turns of its loop.
+use Rattle.std.specs.Io.KnownBytes.{Consumes}
+use Rattle.std.specs.Prelude.{ℕ, ◌≡◌, ◌≤◌, ◌⊎◌, Bool, true, false, Option, Some, None, List, [], ◌∷◌, ◌++◌, length}
+use Rattle.sane_fixed.specs.declared.status.Status.TheVariants as statuses
+use Rattle.page_picture.specs.Shows.{Frame}
+use Rattle.frame_join.specs.FrameHistory.{Past}
+use Rattle.frame_join.specs.declared.join_stage.JoinFault.{JoinFault}
+use Rattle.wire_format.specs.Limit.{IsNoStart}
+use Rattle.wire_message.specs.Message.{message_limit, reply}
+use Rattle.wire_message.specs.declared.message.Procedure.{Procedure}
+use Rattle.data_records.specs.declared.records.Phase.TheVariants as phases
+use Rattle.data_records.specs.Records.{Carries}
+use Rattle.scan_job.specs.declared.job.Job.{Job}
+use Rattle.scan_job.specs.declared.job.Task.{Task}
+use Rattle.scan_job.specs.declared.outcome.Outcome.{Outcome}
+use Rattle.scan_job.specs.declared.outcome.Outcome.TheVariants.{Ended}
+use Rattle.scan_job.specs.declared.outcome.Why.TheVariants as whys
+use Rattle.client_rules.specs.declared.progress.Progress.TheVariants as stages
+use Rattle.client_rules.specs.Talking.{unjoined}
+use Rattle.client_rules.specs.Talks.{Talk, errand_of, is_running, is_receiving, next_outcome}
+use Rattle.net_client.specs.Talker.{Talker, Serves, talk_of, ended}
+use Rattle.net_client.specs.Hearing.{awaited, Heeds}
+use Rattle.net_jobs.specs.Courses.{Course, Did}
+use Rattle.net_jobs.specs.Links.{Calls, HasBrought, HasReadOf, BeginWith}
+
+-- the bytes of the frame under way
+abbrev pub came_in : Option Frame → List ℕ
+came_in None = []
+came_in (Some frame) = frame.payload
+
+-- No data connection is open: each that was made gave the data of a frame that ended. A frame that waits for its connection
+-- has no byte yet.
+pub record BetweenFrames (coming0 coming : Option (List (List ℕ))) (streams : List (List ℕ)) (c : Talker) (past : Past) : Type 0 where
+  pub wholes : List (List ℕ)
+  pub begin : BeginWith wholes streams
+  pub brought : HasBrought coming0 coming wholes
+  pub empty : (port : ℕ) → c.progress ≡ stages.Imaging port false → came_in past.under ≡ []
+
+-- one is open: what was read of it are records of the bytes that the frame has
+pub record WithinFrame (coming0 coming : Option (List (List ℕ))) (remaining : Option (List ℕ)) (streams : List (List ℕ)) (c : Talker) (past : Past) : Type 0 where
+  pub wholes : List (List ℕ)
+  pub begin : BeginWith wholes streams
+  pub whole : List ℕ
+  pub brought : HasBrought coming0 coming (wholes ++ whole ∷ [])
+  pub bytes : List ℕ
+  pub reads : HasReadOf coming0 remaining whole bytes
+  pub frame : Frame
+  pub under : past.under ≡ Some frame
+  pub carries : Carries phases.Head c.phase bytes frame.payload
+  pub receives : is_receiving c.outcome c.progress ≡ true
+
+abbrev pub Linked : {R : Type 0} → (R → Option (List ℕ)) → Option (List (List ℕ)) → Option (List (List ℕ)) → List (List ℕ) → Option R → Talker → Past → Type 0
+Linked remaining coming0 coming streams None c past = BetweenFrames coming0 coming streams c past
+Linked remaining coming0 coming streams (Some conn) c past = WithinFrame coming0 coming (remaining conn) streams c past
+
+-- the client is where the course is
+pub record Follows {R : Type 0} (remaining : R → Option (List ℕ)) (coming0 coming : Option (List (List ℕ))) (course : Course) (rest : List ℕ) (stream : Option R) (c : Talker) (past : Past) : Type 0 where
+  pub talk_is : talk_of c past ≡ course.talk
+  pub rest_is : c.input.rest ≡ rest
+  pub linked : Linked remaining coming0 coming course.streams stream c past
+
+-- What ends a job that is in that course, apart from its replies and the ends of its frames: a lost connection, want of
+-- memory, bytes that begin no reply to what is waited for, or a frame of a wrong shape.
+pub data EndsBy (talk : Talk) (rest : List ℕ) (outcome : Outcome) : Type 0 where
+  ByLoss : outcome ≡ Ended statuses.IoError whys.Lost → EndsBy talk rest outcome
+  ByMemory : outcome ≡ Ended statuses.NoMem whys.Memory → EndsBy talk rest outcome
+  ByGarble : (procedure : Procedure) → awaited talk.progress ≡ Some procedure → IsNoStart message_limit (reply procedure) rest → outcome ≡ Ended statuses.IoError whys.Malformed → EndsBy talk rest outcome
+  ByShape : (task : Task) (fault : JoinFault) → outcome ≡ next_outcome task talk.notes (unjoined fault) → EndsBy talk rest outcome
+
+-- the job has ended otherwise; at most one data connection was open
+pub record Falls (coming0 coming : Option (List (List ℕ))) (course : Course) (rest : List ℕ) (c : Talker) : Type 0 where
+  pub cause : EndsBy course.talk rest c.outcome
+  pub is_over : is_running c.outcome ≡ false
+  pub was_running : is_running course.talk.outcome ≡ true
+  pub wholes : List (List ℕ)
+  pub unread : List (List ℕ)
+  pub begin : BeginWith wholes course.streams
+  pub brought : HasBrought coming0 coming (wholes ++ unread)
+  pub few : length unread ≤ 1
+
+-- what a job did so far and gave of its file, and what of its requests is left to go out
+pub record Stage {R : Type 0} (left_of : R → Option (List ℕ)) (job : Job) (read_ wrote left : List ℕ) (coming0 coming : Option (List (List ℕ))) (given : List ℕ) (stream : Option R) (c : Talker) : Type 0 where
+  pub errand : c.errand ≡ errand_of job
+  pub past : Past
+  pub serves : Serves past c
+  pub given_is : past.given ≡ given
+  pub course : Course
+  pub rest : List ℕ
+  pub did : Did job course read_ wrote rest left
+  pub stands : Follows left_of coming0 coming course rest stream c past ⊎ Falls coming0 coming course rest c
+
+-- and its control connection
+pub record Going {C R : Type 0} (remaining contents : C → Option (List ℕ)) (left_of : R → Option (List ℕ)) (job : Job) (first : C) (coming0 : Option (List (List ℕ))) (given : List ℕ) (failed : Bool) (control : C) (coming : Option (List (List ℕ))) (stream : Option R) (c : Talker) : Type 0 where
+  pub read_ : List ℕ
+  pub wrote : List ℕ
+  pub left : List ℕ
+  pub calls : Calls remaining contents first read_ wrote failed control
+  pub stage : Stage left_of job read_ wrote left coming0 coming given stream c
+  pub left_is : failed ≡ false → left ≡ c.out
+
+-- a read of the control connection: the client heeds the bytes, or there are none and the connection is lost
+pub record HeardOrLost (was now : Option (List ℕ)) (old : Talker) (past : Past) (new : Talker) : Type 0 where
+  pub bytes : List ℕ
+  pub consumed : Consumes was now bytes
+  pub then_ : ((bytes ≡ []) × (new ≡ ended statuses.IoError whys.Lost old)) ⊎ Heeds old past bytes new
