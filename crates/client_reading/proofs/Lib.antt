@@ -1,0 +1,13 @@
+pub mod Lists
+pub mod Sides
+pub mod Openings
+pub mod Showing
+pub mod Settings
+pub mod Starting
+pub mod Heard
+pub mod Payload
+pub mod Endings
+pub mod Asking
+pub mod Said
+pub mod Replying
+pub mod Receiving
