@@ -6,7 +6,6 @@ use Rattle.option_desc.specs.declared.value.Value.{Value}
 use Rattle.device_api.specs.declared.device_info.DeviceInfo.{DeviceInfo}
 use Rattle.page_picture.specs.Shows.{Frame}
 use Rattle.frame_join.specs.FrameHistory.{Past, after_pull}
-use Rattle.scan_job.specs.declared.job.Task.{Task}
 use Rattle.scan_job.specs.declared.outcome.Outcome.{Outcome}
 use Rattle.scan_job.specs.declared.outcome.Outcome.TheVariants.{Running, Done, Ended}
 use Rattle.scan_job.specs.declared.outcome.Why.{Why}
@@ -20,13 +19,14 @@ use Rattle.scan_rules.specs.Client as rules
 use Rattle.scan_rules.specs.Hearing.{stops, stopped}
 use Rattle.scan_rules.specs.Devices.{status_of}
 use Rattle.client_reading.specs.Senses.{why_of}
-use Rattle.client_reading.specs.Reading.{WaitsAs, ShowsAs, StandsAs, Files, Reads}
+use Rattle.client_reading.specs.Reading.{WaitsAs, ShowsAs, StandsAs, Files, Reads, IsApt}
 use Rattle.client_reading.specs.Lives.{ClientsBeginAlike, JobsStopAlike, stopped_by, PullsAndLinksAreUnseen}
+use Rattle.client_rules.specs.declared.progress.Errand.{Errand}
 
 pub begins_alike : ClientsBeginAlike
-begins_alike place task job settings e = record {
+begins_alike place errand job settings e = record {
   files = record { part = refl; all = refl };
-  stands = (record { answers = refl; none = refl; descriptors = refl; told = refl; few = omega arith; number = refl; alone = λ e. refl }, (refl, ((tt, refl), e)));
+  stands = (record { answers = refl; none = refl; descriptors = refl; told = refl; few = omega arith; number = refl; alone = λ e. refl }, (refl, ((tt, refl), e)), tt);
 }
 
 -- ---- ends
@@ -51,25 +51,25 @@ same_shown : (b : Bool) (options : List (Descriptor × Option Value)) (m : rules
 same_shown true options m s e = e
 same_shown false options m s e = tt
 
-stops_by : (place : DeviceInfo → ℕ) (task : Task) (job : rules.Job) (pages : List (List Frame)) (talk : Talk) (m : rules.Mind) (status : Status) (why : Why) (w : words.Why) (o : Outcome) → talk.outcome ≡ o
-    → why_of why ≡ Some w → Files pages talk.past m.frames m.pages → StandsAs place task job pages o talk.progress talk.notes talk.past m
-    → Reads place task job pages (stopped_by status why talk o) (stopped (status_of status) w m)
-stops_by place task job pages talk m status why w Running o e f s =
+stops_by : (place : DeviceInfo → ℕ) (errand : Errand) (job : rules.Job) (pages : List (List Frame)) (talk : Talk) (m : rules.Mind) (status : Status) (why : Why) (w : words.Why) (o : Outcome) → talk.outcome ≡ o
+    → why_of why ≡ Some w → Files pages talk.past m.frames m.pages → StandsAs place errand job pages o talk.progress talk.notes talk.past m
+    → Reads place errand job pages (stopped_by status why talk o) (stopped (status_of status) w m)
+stops_by place errand job pages talk m status why w Running o e f s =
     let g = runs job talk.progress talk.notes talk.past m s.1 in
     record { files = record { part = f.part; all = f.all }; stands = (w, (e, ap (λ (y : rules.Stage). stops (status_of status) w y) g.1)) }
-stops_by place task job pages talk m status why w (Done reports) o e f s = record {
+stops_by place errand job pages talk m status why w (Done reports) o e f s = record {
   files = record { part = f.part; all = f.all };
-  stands = subst (λ (y : Outcome). StandsAs place task job pages y talk.progress talk.notes talk.past (stopped (status_of status) w m)) (sym o)
-      (record { stage = ap (λ (y : rules.Stage). stops (status_of status) w y) s.stage; settings = s.settings; devices = s.devices; options = same_shown (shows task) reports.options m _ s.options });
+  stands = subst (λ (y : Outcome). StandsAs place errand job pages y talk.progress talk.notes talk.past (stopped (status_of status) w m)) (sym o)
+      (record { stage = ap (λ (y : rules.Stage). stops (status_of status) w y) s.stage; settings = s.settings; devices = s.devices; options = same_shown (shows errand.task) reports.options m _ s.options });
 }
-stops_by place task job pages talk m status why w (Ended earlier reason) o e f s = record {
+stops_by place errand job pages talk m status why w (Ended earlier reason) o e f s = record {
   files = record { part = f.part; all = f.all };
-  stands = subst (λ (y : Outcome). StandsAs place task job pages y talk.progress talk.notes talk.past (stopped (status_of status) w m)) (sym o)
+  stands = subst (λ (y : Outcome). StandsAs place errand job pages y talk.progress talk.notes talk.past (stopped (status_of status) w m)) (sym o)
       (s.0, (s.1.0, ap (λ (y : rules.Stage). stops (status_of status) w y) s.1.1));
 }
 
 pub stops_alike : JobsStopAlike
-stops_alike place task job pages talk m status why w e r = stops_by place task job pages talk m status why w talk.outcome refl e r.files r.stands
+stops_alike place errand job pages talk m status why w e r = stops_by place errand job pages talk m status why w talk.outcome refl e r.files r.stands
 
 -- ---- what no rule speaks of
 
@@ -82,15 +82,21 @@ linked_waits job (stages.Imaging port true) notes past m w = w
 linked_waits job (stages.Imaging port false) notes past m w = w
 linked_waits job progress notes past m w = w
 
-pulled_stands : (place : DeviceInfo → ℕ) (task : Task) (job : rules.Job) (pages : List (List Frame)) (o : Outcome) (progress : Progress) (notes : Notes) (past : Past) (m : rules.Mind) (bytes : List ℕ)
-    → StandsAs place task job pages o progress notes past m → StandsAs place task job pages o progress notes (after_pull bytes past) m × StandsAs place task job pages o (connected progress) notes past m
-pulled_stands place task job pages Running progress notes past m bytes s = ((s.0, pulled_waits job progress notes past m bytes s.1), (s.0, linked_waits job progress notes past m s.1))
-pulled_stands place task job pages (Done reports) progress notes past m bytes s = (s, s)
-pulled_stands place task job pages (Ended status why) progress notes past m bytes s = (s, s)
+linked_apt : (errand : Errand) (progress : Progress) (notes : Notes) → IsApt errand progress notes → IsApt errand (connected progress) notes
+linked_apt errand (stages.Imaging port true) notes a = tt
+linked_apt errand (stages.Imaging port false) notes a = tt
+linked_apt errand progress notes a = a
+
+pulled_stands : (place : DeviceInfo → ℕ) (errand : Errand) (job : rules.Job) (pages : List (List Frame)) (o : Outcome) (progress : Progress) (notes : Notes) (past : Past) (m : rules.Mind) (bytes : List ℕ)
+    → StandsAs place errand job pages o progress notes past m → StandsAs place errand job pages o progress notes (after_pull bytes past) m × StandsAs place errand job pages o (connected progress) notes past m
+pulled_stands place errand job pages Running progress notes past m bytes s =
+    ((s.0, pulled_waits job progress notes past m bytes s.1, s.2), (s.0, linked_waits job progress notes past m s.1, linked_apt errand progress notes s.2))
+pulled_stands place errand job pages (Done reports) progress notes past m bytes s = (s, s)
+pulled_stands place errand job pages (Ended status why) progress notes past m bytes s = (s, s)
 
 pub pulls_unseen : PullsAndLinksAreUnseen
-pulls_unseen place task job pages talk m bytes r =
-    let s = pulled_stands place task job pages talk.outcome talk.progress talk.notes talk.past m bytes r.stands in (
+pulls_unseen place errand job pages talk m bytes r =
+    let s = pulled_stands place errand job pages talk.outcome talk.progress talk.notes talk.past m bytes r.stands in (
       record { files = record { part = r.files.part; all = r.files.all }; stands = s.0 },
       record { files = record { part = r.files.part; all = r.files.all }; stands = s.1 },
     )

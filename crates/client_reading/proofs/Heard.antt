@@ -22,6 +22,7 @@ use Rattle.client_reading.proofs.Openings.{greets, lists_all, opens_one, reopens
 use Rattle.client_reading.proofs.Showing.{gets_reply}
 use Rattle.client_reading.proofs.Settings.{describes, puts_reply}
 use Rattle.client_reading.proofs.Starting.{starts, shapes}
+use Rattle.client_reading.proofs.Apt.{AptAt, sense_apt, reply_asked}
 
 -- ---- any reply
 
@@ -64,22 +65,24 @@ heard_in x errand notes m (stages.Imaging port made) r t short s b f k w = tt
 heard_in x errand notes m stages.Turning r t short s b f k w = tt
 heard_in x errand notes m stages.Over r t short s b f k w = tt
 
-reply_reads : (x : Side) (task : Task) (t : Turn) (m : rules.Mind) (sense : Sense) → HearsIn x task t m m.stage sense → HeardAs x.place task x.job x.pages (settled task t x.past) m sense
-reply_reads x task t m Before h = settled_reads x task t m h
-reply_reads x task t m (Says answer) h = settled_reads x task t (hear_in m.stage x.job m answer) h
-reply_reads x task t m Strange h = tt
+reply_reads : (x : Side) (errand : Errand) (t : Turn) (m : rules.Mind) (sense : Sense) → HearsIn x errand.task t m m.stage sense → AptAt errand sense t.next t.notes
+    → HeardAs x.place errand x.job x.pages (settled errand.task t x.past) m sense
+reply_reads x errand t m Before h a = settled_reads x errand t m h a
+reply_reads x errand t m (Says answer) h a = settled_reads x errand t (hear_in m.stage x.job m answer) h a
+reply_reads x errand t m Strange h a = tt
 
 abbrev pub side_of : (DeviceInfo → ℕ) → rules.Job → List (List Frame) → Talk → Side
 side_of place job pages talk = record { place = place; job = job; pages = pages; past = talk.past }
 
 pub talk_hears : (place : DeviceInfo → ℕ) (errand : Errand) (job : rules.Job) (pages : List (List Frame)) (talk : Talk) (m : rules.Mind) (r : Reply) → job.task ≡ task_of errand.task → IsShortAt talk.progress r
-    → talk.outcome ≡ Running → Fits errand.task Running talk.progress talk.past → Reads place errand.task job pages talk m → AnswerAs (side_of place job pages talk) errand talk.notes m talk.progress r
+    → talk.outcome ≡ Running → Fits errand.task Running talk.progress talk.past → Reads place errand job pages talk m → AnswerAs (side_of place job pages talk) errand talk.notes m talk.progress r
 talk_hears place errand job pages talk m r t short o fits reads =
-    let stands : StandsAs place errand.task job pages Running talk.progress talk.notes talk.past m =
-    subst (λ (y : Outcome). StandsAs place errand.task job pages y talk.progress talk.notes talk.past m) o reads.stands in
+    let stands : StandsAs place errand job pages Running talk.progress talk.notes talk.past m =
+    subst (λ (y : Outcome). StandsAs place errand job pages y talk.progress talk.notes talk.past m) o reads.stands in
     heard_in (side_of place job pages talk) errand talk.notes m talk.progress r t short fits.0 fits.1 reads.files stands.0 stands.1
 
 pub replies_alike : RepliesAreHeardAlike
 replies_alike place errand job pages talk m r t short o fits reads =
-    reply_reads (onto (side_of place job pages talk) (heard_at talk.progress errand talk.notes talk.past r).past) errand.task (heard_at talk.progress errand talk.notes talk.past r).turn m (sense_at place talk.progress r)
-    (talk_hears place errand job pages talk m r t short o fits reads)
+    let heard = heard_at talk.progress errand talk.notes talk.past r in
+    reply_reads (onto (side_of place job pages talk) heard.past) errand heard.turn m (sense_at place talk.progress r) (talk_hears place errand job pages talk m r t short o fits reads)
+    (sense_apt errand (sense_at place talk.progress r) heard.turn.next heard.turn.notes (reply_asked place talk.progress errand talk.notes talk.past r))

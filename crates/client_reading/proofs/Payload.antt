@@ -28,15 +28,17 @@ use Rattle.scan_rules.specs.Words as words
 use Rattle.scan_rules.specs.Client as rules
 use Rattle.scan_rules.specs.Hearing.{read_in, reads_on, finish_in, end_frame, close_frame, close_page, after_page}
 use Rattle.scan_rules.specs.Devices.{status_of, overflows, fills}
-use Rattle.client_reading.specs.Reading.{task_of, parts, wholes, Files, is_nil, KnowsAs, IsImaging, WaitsAs, StandsAs, Reads}
+use Rattle.client_reading.specs.Reading.{task_of, IsApt, parts, wholes, Files, is_nil, KnowsAs, IsImaging, WaitsAs, StandsAs, Reads}
 use Rattle.client_reading.specs.Frames.{fed, fed_by, BytesAreReadAlike, FramesEndAlike, PagesTurnUnseen, turned}
 use Rattle.client_reading.proofs.Sides.{Side, onto, Goes, FilesAs, ends, part_is, no_whole, pages_are, settled_reads}
+use Rattle.client_rules.specs.declared.progress.Errand.{Errand}
+use Rattle.client_reading.proofs.Apt.{end_later, later_apt}
 
-running_as : (place : DeviceInfo → ℕ) (task : Task) (job : rules.Job) (pages : List (List Frame)) (talk : Talk) (m : rules.Mind) (progress : Progress) → talk.outcome ≡ Running → talk.progress ≡ progress
-    → Reads place task job pages talk m → KnowsAs task pages talk.notes m × WaitsAs job progress talk.notes talk.past m
-running_as place task job pages talk m progress o p r =
-    subst (λ (y : Progress). KnowsAs task pages talk.notes m × WaitsAs job y talk.notes talk.past m) p
-    (subst (λ (y : Outcome). StandsAs place task job pages y talk.progress talk.notes talk.past m) o r.stands)
+running_as : (place : DeviceInfo → ℕ) (errand : Errand) (job : rules.Job) (pages : List (List Frame)) (talk : Talk) (m : rules.Mind) (progress : Progress) → talk.outcome ≡ Running → talk.progress ≡ progress
+    → Reads place errand job pages talk m → KnowsAs errand.task pages talk.notes m × WaitsAs job progress talk.notes talk.past m × IsApt errand progress talk.notes
+running_as place errand job pages talk m progress o p r =
+    subst (λ (y : Progress). KnowsAs errand.task pages talk.notes m × WaitsAs job y talk.notes talk.past m × IsApt errand y talk.notes) p
+    (subst (λ (y : Outcome). StandsAs place errand job pages y talk.progress talk.notes talk.past m) o r.stands)
 
 -- ---- bytes
 
@@ -54,35 +56,36 @@ overflows_is : (params : Params) (heard bytes : List ℕ) → overflows params (
 unfolding overflows
 overflows_is params heard bytes = ap (λ (n : ℕ). nat_lt (most_bytes params) n) (length-append heard bytes)
 
-takes : (place : DeviceInfo → ℕ) (task : Task) (job : rules.Job) (pages : List (List Frame)) (talk : Talk) (m : rules.Mind) (bytes : List ℕ) (port : ℕ) (made b : Bool) (i : IsImaging talk.past m)
-    → talk.outcome ≡ Running → talk.progress ≡ stages.Imaging port made → talk.past.fault ≡ None → Files pages talk.past m.frames m.pages → KnowsAs task pages talk.notes m
+takes : (place : DeviceInfo → ℕ) (errand : Errand) (job : rules.Job) (pages : List (List Frame)) (talk : Talk) (m : rules.Mind) (bytes : List ℕ) (port : ℕ) (made b : Bool) (i : IsImaging talk.past m)
+    → talk.outcome ≡ Running → talk.progress ≡ stages.Imaging port made → talk.past.fault ≡ None → Files pages talk.past m.frames m.pages → KnowsAs errand.task pages talk.notes m
     → (past : Past) → past ≡ (if b then failed faults.Long talk.past else record talk.past { under = Some (record { params = i.params; order = m.order; payload = i.payload ++ bytes }) })
-    → Reads place task job pages (fed_by task talk past past.fault) (record m { stage = reads_on b i.params (i.payload ++ bytes) })
-takes place task job pages talk m bytes port made true i o p c f k past e =
-    subst (λ (y : Past). Reads place task job pages (fed_by task talk y y.fault) (record m { stage = reads_on true i.params (i.payload ++ bytes) })) (sym e)
+    → Reads place errand job pages (fed_by errand.task talk past past.fault) (record m { stage = reads_on b i.params (i.payload ++ bytes) })
+takes place errand job pages talk m bytes port made true i o p c f k past e =
+    subst (λ (y : Past). Reads place errand job pages (fed_by errand.task talk y y.fault) (record m { stage = reads_on true i.params (i.payload ++ bytes) })) (sym e)
     (record { files = record { part = f.part; all = f.all }; stands = (words.Long, (refl, refl)) })
-takes place task job pages talk m bytes port made false i o p c f k past e =
-    subst (λ (y : Past). Reads place task job pages (fed_by task talk y y.fault) (record m { stage = reads_on false i.params (i.payload ++ bytes) })) (sym e)
-    (subst (λ (y : Option JoinFault). Reads place task job pages (fed_by task talk (record talk.past { under = Some (record { params = i.params; order = m.order; payload = i.payload ++ bytes }) }) y) (record m { stage = reads_on false i.params (i.payload ++ bytes) })) (sym c)
+takes place errand job pages talk m bytes port made false i o p c f k past e =
+    subst (λ (y : Past). Reads place errand job pages (fed_by errand.task talk y y.fault) (record m { stage = reads_on false i.params (i.payload ++ bytes) })) (sym e)
+    (subst (λ (y : Option JoinFault). Reads place errand job pages (fed_by errand.task talk (record talk.past { under = Some (record { params = i.params; order = m.order; payload = i.payload ++ bytes }) }) y) (record m { stage = reads_on false i.params (i.payload ++ bytes) })) (sym c)
     (record {
       files = record { part = f.part; all = f.all };
       stands =
-          subst (λ (y : Outcome). StandsAs place task job pages y talk.progress talk.notes (record talk.past { under = Some (record { params = i.params; order = m.order; payload = i.payload ++ bytes }) }) (record m { stage = reads_on false i.params (i.payload ++ bytes) })) (sym o) (
+          subst (λ (y : Outcome). StandsAs place errand job pages y talk.progress talk.notes (record talk.past { under = Some (record { params = i.params; order = m.order; payload = i.payload ++ bytes }) }) (record m { stage = reads_on false i.params (i.payload ++ bytes) })) (sym o) (
             k,
             subst (λ (y : Progress). WaitsAs job y talk.notes (record talk.past { under = Some (record { params = i.params; order = m.order; payload = i.payload ++ bytes }) }) (record m { stage = reads_on false i.params (i.payload ++ bytes) })) (sym p)
                 (record { params = i.params; payload = i.payload ++ bytes; stage = refl; under = refl; accepted = i.accepted; part = i.part }),
+            subst (λ (y : Progress). IsApt errand y talk.notes) (sym p) tt,
           );
     }))
 
 pub bytes_alike : BytesAreReadAlike
-bytes_alike place task job pages talk m bytes image o fits r =
-    let s = running_as place task job pages talk m (stages.Imaging image.0 image.1.0) o image.1.1 r in
+bytes_alike place errand job pages talk m bytes image o fits r =
+    let s = running_as place errand job pages talk m (stages.Imaging image.0 image.1.0) o image.1.1 r in
     let i : IsImaging talk.past m = s.1 in
     let at_image : FitsAt (stages.Imaging image.0 image.1.0) talk.past = subst (λ (y : Progress). FitsAt y talk.past) image.1.1 fits.1 in
     let b : Bool = nat_lt (most_bytes i.params) (length i.payload + length bytes) in
-    subst (λ (y : rules.Stage). Reads place task job pages (fed task talk bytes) (read_in y m bytes)) (sym i.stage)
-    (subst (λ (t : Bool). Reads place task job pages (fed task talk bytes) (record m { stage = reads_on t i.params (i.payload ++ bytes) })) (sym (overflows_is i.params i.payload bytes))
-    (takes place task job pages talk m bytes image.0 image.1.0 b i o image.1.1 at_image.0 r.files s.0 (after_feed bytes false talk.past)
+    subst (λ (y : rules.Stage). Reads place errand job pages (fed errand.task talk bytes) (read_in y m bytes)) (sym i.stage)
+    (subst (λ (t : Bool). Reads place errand job pages (fed errand.task talk bytes) (record m { stage = reads_on t i.params (i.payload ++ bytes) })) (sym (overflows_is i.params i.payload bytes))
+    (takes place errand job pages talk m bytes image.0 image.1.0 b i o image.1.1 at_image.0 r.files s.0 (after_feed bytes false talk.past)
     (feeds talk.past (record { params = i.params; order = m.order; payload = i.payload }) bytes b at_image.0 i.under refl)))
 
 -- ---- whether a picture is whole
@@ -214,16 +217,17 @@ ends_by x task notes m i statuses.NoMem t h s c f k = ends (onto x x.past) task 
 ends_by x task notes m i statuses.AccessDenied t h s c f k = ends (onto x x.past) task notes m statuses.AccessDenied whys.Answer words.Answer refl (stays x m f)
 
 pub ends_alike : FramesEndAlike
-ends_alike place task job pages talk m n status t h e image o fits r =
+ends_alike place errand job pages talk m n status t h e image o fits r =
     let x : Side = record { place = place; job = job; pages = pages; past = talk.past } in
-    let s = running_as place task job pages talk m (stages.Imaging image.0 image.1.0) o image.1.1 r in
+    let s = running_as place errand job pages talk m (stages.Imaging image.0 image.1.0) o image.1.1 r in
     let i : IsImaging talk.past m = s.1 in
     let at_image : FitsAt (stages.Imaging image.0 image.1.0) talk.past = subst (λ (y : Progress). FitsAt y talk.past) image.1.1 fits.1 in
-    let scan : suits task (stages.Imaging image.0 image.1.0) ≡ true = subst (λ (y : Progress). suits task y ≡ true) image.1.1 fits.0 in
-    subst (λ (y : Option Status). Reads place task job pages (settled task (turn talk.notes (frame_ended_by task talk.notes.file talk.past y).next) (frame_ended_by task talk.notes.file talk.past y).past) (finish_in m.stage job.task m (status_of status))) (sym e)
-    (subst (λ (y : rules.Stage). Reads place task job pages (settled task (turn talk.notes (frame_ended_by task talk.notes.file talk.past (Some status)).next) (frame_ended_by task talk.notes.file talk.past (Some status)).past) (finish_in y job.task m (status_of status))) (sym i.stage)
-    (settled_reads (onto x (frame_ended_by task talk.notes.file talk.past (Some status)).past) task (turn talk.notes (frame_ended_by task talk.notes.file talk.past (Some status)).next) _
-    (ends_by x task talk.notes m i status t h scan at_image.0 r.files s.0)))
+    let scan : suits errand.task (stages.Imaging image.0 image.1.0) ≡ true = subst (λ (y : Progress). suits errand.task y ≡ true) image.1.1 fits.0 in
+    subst (λ (y : Option Status). Reads place errand job pages (settled errand.task (turn talk.notes (frame_ended_by errand.task talk.notes.file talk.past y).next) (frame_ended_by errand.task talk.notes.file talk.past y).past) (finish_in m.stage job.task m (status_of status))) (sym e)
+    (subst (λ (y : rules.Stage). Reads place errand job pages (settled errand.task (turn talk.notes (frame_ended_by errand.task talk.notes.file talk.past (Some status)).next) (frame_ended_by errand.task talk.notes.file talk.past (Some status)).past) (finish_in y job.task m (status_of status))) (sym i.stage)
+    (settled_reads (onto x (frame_ended_by errand.task talk.notes.file talk.past (Some status)).past) errand (turn talk.notes (frame_ended_by errand.task talk.notes.file talk.past (Some status)).next) _
+    (ends_by x errand.task talk.notes m i status t h scan at_image.0 r.files s.0)
+    (later_apt errand (frame_ended_by errand.task talk.notes.file talk.past (Some status)).next talk.notes (end_later errand talk.notes errand.task talk.notes.file talk.past (Some status)))))
 
 -- ---- the next page
 
@@ -233,13 +237,13 @@ joined_frames None (Some f) ended e = absurd (let clash : Ok false ≡ Ok true =
 joined_frames None None ended e = cc
 
 pub turns_unseen : PagesTurnUnseen
-turns_unseen place task job pages talk m o p fits r =
-    let s = running_as place task job pages talk m stages.Turning o p r in
+turns_unseen place errand job pages talk m o p fits r =
+    let s = running_as place errand job pages talk m stages.Turning o p r in
     let k = s.0 in
     let w = s.1 in
     let at : FitsAt stages.Turning talk.past = subst (λ (y : Progress). FitsAt y talk.past) p fits.1 in
     let joined : IsJoined talk.past = at.0 in
-    let batch : is_batch task ≡ true = subst (λ (y : Progress). suits task y ≡ true) p fits.0 in
+    let batch : is_batch errand.task ≡ true = subst (λ (y : Progress). suits errand.task y ≡ true) p fits.0 in
     let j : is_joined talk.past.ended ≡ true = joined_frames talk.past.fault talk.past.under talk.past.ended joined in
     let none : m.frames ≡ [] = r.files.part ∙ ap (λ (b : Bool). if b then [] else talk.past.ended) j in
     let grown : length (pages ++ talk.past.ended ∷ []) ≡ length pages + 1 = length-append pages (talk.past.ended ∷ []) in
@@ -250,7 +254,7 @@ turns_unseen place task job pages talk m o p fits r =
         all = r.files.all ∙ ap (λ (b : Bool). pages ++ (if b then talk.past.ended ∷ [] else [])) j ∙ sym (append-nil (pages ++ talk.past.ended ∷ []));
       };
       stands =
-          subst (λ (y : Outcome). StandsAs place task job (pages ++ talk.past.ended ∷ []) y (turned talk).progress (turned talk).notes no_past m) (sym o) (
+          subst (λ (y : Outcome). StandsAs place errand job (pages ++ talk.past.ended ∷ []) y (turned talk).progress (turned talk).notes no_past m) (sym o) (
             record {
               answers = k.answers;
               none = k.none;
@@ -261,5 +265,6 @@ turns_unseen place task job pages talk m o p fits r =
               alone = λ e. absurd (let clash : true ≡ false = sym batch ∙ e in cc);
             },
             (w.0, sym (ap is_nil none)),
+            tt,
           );
     }

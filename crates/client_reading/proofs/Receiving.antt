@@ -12,7 +12,6 @@ use Rattle.frame_join.specs.declared.join_stage.Stage.TheVariants as joins
 use Rattle.frame_join.specs.FrameHistory.{Past, no_past, after_pull, failed, after_feed, fed as fed_past}
 use Rattle.frame_join.specs.Joining.{Joining, Stands, StandsAt}
 use Rattle.frame_join.specs.JoinStages.{fault_in}
-use Rattle.scan_job.specs.declared.job.Task.{Task}
 use Rattle.scan_job.specs.declared.outcome.Outcome.{Outcome}
 use Rattle.scan_job.specs.declared.outcome.Outcome.TheVariants.{Running, Done, Ended}
 use Rattle.scan_job.specs.declared.outcome.Why.TheVariants as whys
@@ -21,7 +20,7 @@ use Rattle.client_rules.specs.declared.progress.Progress.{Progress}
 use Rattle.client_rules.specs.declared.progress.Progress.TheVariants as stages
 use Rattle.client_rules.specs.Talking.{unjoined, frame_ended}
 use Rattle.net_client.specs.Talker.{Talker, talk_of, Serves, sends, Stays, Turns}
-use Rattle.client_rules.specs.Talks.{Talk, turns, Fits, FitsAt, next_outcome, is_receiving, took}
+use Rattle.client_rules.specs.Talks.{Talk, turns, Fits, FitsAt, next_outcome, is_receiving, took, next_progress}
 use Rattle.scan_job.specs.JobSize.{HasCount}
 use Rattle.net_client.specs.Imaging.{Goes, Ends, Fails}
 use Rattle.scan_rules.specs.Words as words
@@ -38,13 +37,16 @@ use Rattle.wire_format.specs.Writer.{behind}
 use Rattle.sane_fixed.specs.declared.status.Status.{Status}
 use Rattle.scan_job.specs.declared.outcome.Why.{Why}
 use Rattle.net_client.specs.Sending.{request_text}
-use Rattle.client_reading.proofs.Said.{one_text, end_is_later, settled_spells}
+use Rattle.client_reading.proofs.Said.{one_text, settled_spells, next_word}
 use Rattle.data_records.specs.declared.records.Phase.{Phase}
 use Rattle.data_records.specs.declared.records.Phase.TheVariants as phases
 use Rattle.data_records.specs.Records.{Carries}
 use Rattle.wire_message.specs.declared.message.Request.TheVariants as requests
 use Rattle.client_rules.specs.Asking.{asked}
 use Rattle.client_reading.proofs.Replying.{ends_so}
+use Rattle.client_reading.proofs.Apt.{end_is_later}
+use Rattle.client_reading.specs.Requests.{asks_of}
+use Rattle.option_desc.specs.declared.descriptor.Descriptor.{Descriptor}
 
 -- ---- a data connection
 
@@ -110,12 +112,12 @@ at old past e s =
 
 -- so many bytes more, within what the frame may have
 takes : (place : DeviceInfo → ℕ) (job : rules.Job) (pages : List (List Frame)) (old : Talker) (past : Past) (f : Frame) (bytes : List ℕ) (m : rules.Mind) → At old past → past.under ≡ Some f
-    → length f.payload + length bytes ≤ most_bytes f.params → Reads place old.errand.task job pages (talk_of old past) m → Reads place old.errand.task job pages (talk_of old (took past f bytes)) (read_in m.stage m bytes)
+    → length f.payload + length bytes ≤ most_bytes f.params → Reads place old.errand job pages (talk_of old past) m → Reads place old.errand job pages (talk_of old (took past f bytes)) (read_in m.stage m bytes)
 takes place job pages old past f bytes m a u most r =
-    let h = bytes_alike place old.errand.task job pages (talk_of old past) m bytes (a.port, (a.made, a.progress)) a.running a.fits r in
+    let h = bytes_alike place old.errand job pages (talk_of old past) m bytes (a.port, (a.made, a.progress)) a.running a.fits r in
     let e : after_feed bytes false past ≡ took past f bytes = feed_is past f bytes false false a.calm u (le-ltb (most_bytes f.params) (length f.payload + length bytes) most) in
-    subst (λ (y : Option JoinFault). Reads place old.errand.task job pages (fed_by old.errand.task (talk_of old past) (took past f bytes) y) (read_in m.stage m bytes)) a.calm
-    (subst (λ (y : Past). Reads place old.errand.task job pages (fed_by old.errand.task (talk_of old past) y y.fault) (read_in m.stage m bytes)) e h)
+    subst (λ (y : Option JoinFault). Reads place old.errand job pages (fed_by old.errand.task (talk_of old past) (took past f bytes) y) (read_in m.stage m bytes)) a.calm
+    (subst (λ (y : Past). Reads place old.errand job pages (fed_by old.errand.task (talk_of old past) y y.fault) (read_in m.stage m bytes)) e h)
 
 took_short : (past : Past) (f : Frame) (bytes : List ℕ) (v : Joining) → past.fault ≡ None → Stands (took past f bytes) v → length f.payload + length bytes ≤ most_bytes f.params
 took_short past f bytes v c s =
@@ -126,7 +128,7 @@ took_short past f bytes v c s =
 -- ---- what comes of a piece
 
 went : (place : DeviceInfo → ℕ) (job : rules.Job) (pages : List (List Frame)) (old new : Talker) (past : Past) (piece : List ℕ) (m : rules.Mind) → At old past
-    → Reads place old.errand.task job pages (talk_of old past) m → Goes old past piece new → Received place job pages m old piece new
+    → Reads place old.errand job pages (talk_of old past) m → Goes old past piece new → Received place job pages m old piece new
 went place job pages old new past piece m a r g =
     let given = g.reads.given in
     let most = took_short past g.frame given new.join a.calm g.reads.stands in
@@ -134,7 +136,7 @@ went place job pages old new past piece m a r g =
     (record {
       serves = g.serves;
       reads =
-          subst (λ (t : Talk). Reads place old.errand.task job pages t (read_in m.stage m given)) (sym (ap (λ (v : Talker). talk_of v (took past g.frame given)) g.rest))
+          subst (λ (t : Talk). Reads place old.errand job pages t (read_in m.stage m given)) (sym (ap (λ (v : Talker). talk_of v (took past g.frame given)) g.rest))
           (takes place job pages old past g.frame given m a g.under most r);
     })
 
@@ -145,7 +147,7 @@ behind_some old new None e = absurd (cc)
 behind_some old new (Some said) e = (said, refl, sym (cc (e)))
 
 ended : (place : DeviceInfo → ℕ) (job : rules.Job) (pages : List (List Frame)) (old new : Talker) (past : Past) (piece : List ℕ) (m : rules.Mind) → job.task ≡ task_of old.errand.task → HasCount old.errand.task → At old past
-    → Reads place old.errand.task job pages (talk_of old past) m → Ends old past piece new → Received place job pages m old piece new
+    → Reads place old.errand job pages (talk_of old past) m → Ends old past piece new → Received place job pages m old piece new
 ended place job pages old new past piece m t count a r g =
     let given = g.reads.reads.given in
     let end = frame_ended old.errand.task old.notes.file (took past g.frame given) g.status in
@@ -156,53 +158,54 @@ ended place job pages old new past piece m t count a r g =
     let said = behind_some old.out new.out (sends old.errand old.notes.word end.next) g.ends.said in
     pieces.Ends given g.status end.past said.0 (record { used = g.reads.used; rest = g.reads.rest; whole = g.reads.whole; carries = g.reads.reads.carries }) said.2
     (λ status e.
-    let h = ends_alike place old.errand.task job pages (talk_of old (took past g.frame given)) (read_in m.stage m given) g.status status t count e (a.port, (a.made, a.progress)) a.running fits read in
+    let h = ends_alike place old.errand job pages (talk_of old (took past g.frame given)) (read_in m.stage m given) g.status status t count e (a.port, (a.made, a.progress)) a.running fits read in
     record {
       stands = record {
         serves = g.ends.serves;
-        reads = subst (λ (y : Talk). Reads place old.errand.task job pages y (finish_in (read_in m.stage m given).stage job.task (read_in m.stage m given) (status_of status))) (sym g.ends.talk) h;
+        reads = subst (λ (y : Talk). Reads place old.errand job pages y (finish_in (read_in m.stage m given).stage job.task (read_in m.stage m given) (status_of status))) (sym g.ends.talk) h;
       };
       spells =
-          subst (λ (p : Progress). SpellAt p said.0 (rules.sends job.task (finish_in (read_in m.stage m given).stage job.task (read_in m.stage m given) (status_of status)).stage)) (sym (ap (λ (y : Talk). y.progress) g.ends.talk))
-          (settled_spells (record { place = place; job = job; pages = pages; past = end.past }) old.errand end.next old.notes _ said.0 t (end_is_later old.errand.task old.notes.file (took past g.frame given) g.status) h said.1);
+          subst (λ (y : Talk). SpellAt old.errand y.notes.word y.progress said.0 job (finish_in (read_in m.stage m given).stage job.task (read_in m.stage m given) (status_of status))) (sym g.ends.talk)
+          (subst (λ (word : ℕ). SpellAt old.errand word (next_progress end.next) said.0 job (finish_in (read_in m.stage m given).stage job.task (read_in m.stage m given) (status_of status))) (sym (next_word old.notes end.next))
+          (settled_spells (record { place = place; job = job; pages = pages; past = end.past }) old.errand end.next old.notes _ said.0 t (end_is_later old.errand old.notes (took past g.frame given) g.status) h said.1));
     })
 
 -- ---- want of memory behind so many bytes, and too many bytes
 
 starved : (place : DeviceInfo → ℕ) (job : rules.Job) (pages : List (List Frame)) (old new : Talker) (past : Past) (piece : List ℕ) (f : Frame) (given more : List ℕ) (phase : Phase) (m : rules.Mind) → At old past → past.under ≡ Some f
-    → length f.payload + length given ≤ most_bytes f.params → Reads place old.errand.task job pages (talk_of old past) m → Brings old.phase phase piece (given ++ more) → new.out ≡ old.out → new.outcome ≡ Ended statuses.NoMem whys.Memory
+    → length f.payload + length given ≤ most_bytes f.params → Reads place old.errand job pages (talk_of old past) m → Brings old.phase phase piece (given ++ more) → new.out ≡ old.out → new.outcome ≡ Ended statuses.NoMem whys.Memory
     → Received place job pages m old piece new
 starved place job pages old new past piece f given more phase m a u most r b o n =
     let read = takes place job pages old past f given m a u most r in
     pieces.Starves given more phase (took past f given) b o n
-    (ends_so place old.errand.task job pages (talk_of old (took past f given)) new (read_in m.stage m given) statuses.NoMem whys.Memory words.Memory refl a.running n read)
+    (ends_so place old.errand job pages (talk_of old (took past f given)) new (read_in m.stage m given) statuses.NoMem whys.Memory words.Memory refl a.running n read)
 
 -- of a job that has ended another history of the same frames is read alike
-other_past : (place : DeviceInfo → ℕ) (task : Task) (job : rules.Job) (pages : List (List Frame)) (new : Talker) (past other : Past) (m : rules.Mind) (status : Status) (why : Why) → new.outcome ≡ Ended status why → other.ended ≡ past.ended
-    → Reads place task job pages (talk_of new past) m → Reads place task job pages (talk_of new other) m
-other_past place task job pages new past other m status why n e r = record {
+other_past : (place : DeviceInfo → ℕ) (errand : Errand) (job : rules.Job) (pages : List (List Frame)) (new : Talker) (past other : Past) (m : rules.Mind) (status : Status) (why : Why) → new.outcome ≡ Ended status why → other.ended ≡ past.ended
+    → Reads place errand job pages (talk_of new past) m → Reads place errand job pages (talk_of new other) m
+other_past place errand job pages new past other m status why n e r = record {
   files = record {
     part = r.files.part ∙ ap (λ (fs : List Frame). parts fs) (sym e);
     all = r.files.all ∙ ap (λ (fs : List Frame). pages ++ wholes fs) (sym e);
   };
   stands =
-      subst (λ (y : Outcome). StandsAs place task job pages y new.progress new.notes other m) (sym n)
-      (subst (λ (y : Outcome). StandsAs place task job pages y new.progress new.notes past m) n r.stands);
+      subst (λ (y : Outcome). StandsAs place errand job pages y new.progress new.notes other m) (sym n)
+      (subst (λ (y : Outcome). StandsAs place errand job pages y new.progress new.notes past m) n r.stands);
 }
 
 long_reads : (place : DeviceInfo → ℕ) (job : rules.Job) (pages : List (List Frame)) (old new : Talker) (past : Past) (f : Frame) (bytes : List ℕ) (fault : JoinFault) (m : rules.Mind) → At old past → past.under ≡ Some f
-    → nat_lt (most_bytes f.params) (length f.payload + length bytes) ≡ true → fault ≡ faults.Long → Reads place old.errand.task job pages (talk_of old past) m
+    → nat_lt (most_bytes f.params) (length f.payload + length bytes) ≡ true → fault ≡ faults.Long → Reads place old.errand job pages (talk_of old past) m
     → talk_of new (failed faults.Long past) ≡ record { outcome = next_outcome old.errand.task old.notes (unjoined fault); progress = stages.Over; notes = old.notes; past = failed faults.Long past }
-    → Reads place old.errand.task job pages (talk_of new (failed faults.Long past)) (read_in m.stage m bytes)
+    → Reads place old.errand job pages (talk_of new (failed faults.Long past)) (read_in m.stage m bytes)
 long_reads place job pages old new past f bytes fault m a u b l r n =
-    let h = bytes_alike place old.errand.task job pages (talk_of old past) m bytes (a.port, (a.made, a.progress)) a.running a.fits r in
+    let h = bytes_alike place old.errand job pages (talk_of old past) m bytes (a.port, (a.made, a.progress)) a.running a.fits r in
     let e : after_feed bytes false past ≡ failed faults.Long past = feed_is past f bytes false true a.calm u b in
-    subst (λ (t : Talk). Reads place old.errand.task job pages t (read_in m.stage m bytes))
+    subst (λ (t : Talk). Reads place old.errand job pages t (read_in m.stage m bytes))
     (sym (n ∙ ap (λ (x : JoinFault). record { outcome = next_outcome old.errand.task old.notes (unjoined x); progress = stages.Over; notes = old.notes; past = failed faults.Long past }) l))
-    (subst (λ (y : Past). Reads place old.errand.task job pages (fed_by old.errand.task (talk_of old past) y y.fault) (read_in m.stage m bytes)) e h)
+    (subst (λ (y : Past). Reads place old.errand job pages (fed_by old.errand.task (talk_of old past) y y.fault) (read_in m.stage m bytes)) e h)
 
 fails_by : (place : DeviceInfo → ℕ) (job : rules.Job) (pages : List (List Frame)) (old new : Talker) (past : Past) (piece : List ℕ) (m : rules.Mind) (g : Fails old past piece new) (b s : Bool) → At old past
-    → Reads place old.errand.task job pages (talk_of old past) m → nat_lt (most_bytes g.frame.params) (length (g.frame.payload ++ g.reads.before) + length g.reads.last) ≡ b
+    → Reads place old.errand job pages (talk_of old past) m → nat_lt (most_bytes g.frame.params) (length (g.frame.payload ++ g.reads.before) + length g.reads.last) ≡ b
     → after_feed g.reads.last g.reads.starved (took past g.frame g.reads.before)
     ≡ (if b then failed faults.Long (took past g.frame g.reads.before) else (if s then failed faults.NoMem (took past g.frame g.reads.before) else took (took past g.frame g.reads.before) (record g.frame { payload = g.frame.payload ++ g.reads.before }) g.reads.last))
     → Received place job pages m old piece new
@@ -219,7 +222,7 @@ fails_by place job pages old new past piece m g true s a r e w =
     pieces.Overflows (before ++ last) (after_feed last g.reads.starved (took past g.frame before)) (record { used = g.reads.used; rest = g.reads.rest; whole = g.reads.whole; carries = g.reads.carries }) (ap (λ (v : Talker). v.out) g.rest) o
     (record {
       serves = g.serves;
-      reads = other_past place old.errand.task job pages new (failed faults.Long past) (after_feed last g.reads.starved (took past g.frame before)) (read_in m.stage m (before ++ last)) statuses.IoError whys.Long o (ap (λ (y : Past). y.ended) w) read;
+      reads = other_past place old.errand job pages new (failed faults.Long past) (after_feed last g.reads.starved (took past g.frame before)) (read_in m.stage m (before ++ last)) statuses.IoError whys.Long o (ap (λ (y : Past). y.ended) w) read;
     })
 fails_by place job pages old new past piece m g false true a r e w =
     let before = g.reads.before in
@@ -232,7 +235,7 @@ fails_by place job pages old new past piece m g false true a r e w =
 fails_by place job pages old new past piece m g false false a r e w = absurd (let clash : None ≡ Some g.fault = sym a.calm ∙ sym (ap (λ (y : Past). y.fault) w) ∙ g.reads.fails in cc)
 
 fails : (place : DeviceInfo → ℕ) (job : rules.Job) (pages : List (List Frame)) (old new : Talker) (past : Past) (piece : List ℕ) (m : rules.Mind) → At old past
-    → Reads place old.errand.task job pages (talk_of old past) m → Fails old past piece new → Received place job pages m old piece new
+    → Reads place old.errand job pages (talk_of old past) m → Fails old past piece new → Received place job pages m old piece new
 fails place job pages old new past piece m a r g =
     let b = nat_lt (most_bytes g.frame.params) (length (g.frame.payload ++ g.reads.before) + length g.reads.last) in
     fails_by place job pages old new past piece m g b g.reads.starved a r refl
@@ -257,13 +260,13 @@ turning_is Running p e = absurd (let clash : false ≡ true = e in cc)
 turning_is (Done reports) p e = absurd (let clash : false ≡ true = e in cc)
 turning_is (Ended status why) p e = absurd (let clash : false ≡ true = e in cc)
 
-starts_spell : (errand : Errand) (word : ℕ) (sent : List ℕ) → request_text (asked errand word (stages.Starting true)) ≡ Some sent → Spell sent (words.Start ∷ [])
-starts_spell errand word sent e = record { requests = requests.Start word ∷ []; text = one_text (Some (requests.Start word)) ∙ e; same = (tt, tt) }
+starts_spell : (errand : Errand) (word : ℕ) (known : List Descriptor) (sent : List ℕ) → request_text (asked errand word (stages.Starting true)) ≡ Some sent → Spell errand sent (asks_of word known (words.Start ∷ []))
+starts_spell errand word known sent e = record { requests = requests.Start word ∷ []; text = one_text (Some (requests.Start word)) ∙ e; same = (refl, tt) }
 
 pub all_taken : PagesAreTakenAlike
 all_taken place job pages old new past bytes m e s r (Stays short rest serves) = (
   ap (λ (v : Talker). v.out) rest,
-  subst (λ (t : Talk). Reads place old.errand.task job pages t m) (sym (ap (λ (v : Talker). talk_of v (after_pull bytes past)) rest)) (pulls_unseen place old.errand.task job pages (talk_of old past) m bytes r).0,
+  subst (λ (t : Talk). Reads place old.errand job pages t m) (sym (ap (λ (v : Talker). talk_of v (after_pull bytes past)) rest)) (pulls_unseen place old.errand job pages (talk_of old past) m bytes r).0,
 )
 all_taken place job pages old new past bytes m e s r (Turns whole shows next serves) =
     let t = turning_is old.outcome old.progress e in
@@ -271,6 +274,6 @@ all_taken place job pages old new past bytes m e s r (Turns whole shows next ser
     let said = behind_some old.out new.out (request_text (asked old.errand old.notes.word (stages.Starting true))) next.text in (
       said.0,
       said.2,
-      starts_spell old.errand old.notes.word said.0 said.1,
-      subst (λ (y : Talk). Reads place old.errand.task job (pages ++ past.ended ∷ []) y m) (sym (ap (λ (v : Talker). talk_of v no_past) next.rest)) (turns_unseen place old.errand.task job pages (talk_of old past) m t.0 t.1 fits r),
+      starts_spell old.errand old.notes.word m.known said.0 said.1,
+      subst (λ (y : Talk). Reads place old.errand job (pages ++ past.ended ∷ []) y m) (sym (ap (λ (v : Talker). talk_of v no_past) next.rest)) (turns_unseen place old.errand job pages (talk_of old past) m t.0 t.1 fits r),
     )

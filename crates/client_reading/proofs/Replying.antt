@@ -44,8 +44,8 @@ use Rattle.wire_message.specs.declared.message.Request.{Request}
 use Rattle.sane_fixed.specs.declared.status.Status.{Status}
 use Rattle.scan_job.specs.declared.outcome.Why.{Why}
 use Rattle.net_client.specs.Sending.{requests_text}
-use Rattle.client_reading.specs.Requests.{AreRequests}
-use Rattle.client_reading.proofs.Said.{requests_by, sends_text, Saying, replies_said}
+use Rattle.client_reading.specs.Requests.{Ask, asks_of, AreRequests}
+use Rattle.client_reading.proofs.Said.{requests_by, sends_text, Saying, replies_said, next_word}
 
 -- ---- a list of descriptors is short
 
@@ -105,11 +105,11 @@ answer_fits progress errand notes past r s b = heard_fits progress errand notes 
 
 -- ---- what is asked for
 
-same_append : (qs : List Request) (rs : List words.Request) (more : List Request) (last : List words.Request) → AreRequests qs rs → AreRequests more last → AreRequests (qs ++ more) (rs ++ last)
-same_append [] [] more last a b = b
-same_append [] (r ∷ rs) more last a b = absurd a
-same_append (q ∷ qs) [] more last a b = absurd a
-same_append (q ∷ qs) (r ∷ rs) more last a b = (a.0, same_append qs rs more last a.1 b)
+same_append : (errand : Errand) (qs : List Request) (rs : List Ask) (more : List Request) (last : List Ask) → AreRequests errand qs rs → AreRequests errand more last → AreRequests errand (qs ++ more) (rs ++ last)
+same_append errand [] [] more last a b = b
+same_append errand [] (r ∷ rs) more last a b = absurd a
+same_append errand (q ∷ qs) [] more last a b = absurd a
+same_append errand (q ∷ qs) (r ∷ rs) more last a b = (a.0, same_append errand qs rs more last a.1 b)
 
 text_by : (q : Option (List ℕ)) (qs more : Option (List ℕ)) (both : Option (List ℕ)) (front back : List ℕ) → joined q qs ≡ Some front → more ≡ Some back
     → ((front : List ℕ) → qs ≡ Some front → both ≡ Some (front ++ back)) → joined q both ≡ Some (front ++ back)
@@ -127,50 +127,53 @@ text_append [] more front back e f =
 text_append (q ∷ qs) more front back e f = text_by (write_request.text q) (requests_text qs) (requests_text more) (requests_text (qs ++ more)) front back e f (λ l d. text_append qs more l back d f)
 
 -- so much more is sent, and asked for
-spell_more : (front back : List ℕ) (asks : List words.Request) (qs : List Request) (rs : List words.Request) → Spell front asks → requests_text qs ≡ Some back → AreRequests qs rs → Spell (front ++ back) (asks ++ rs)
-spell_more front back asks qs rs s e a = record {
+spell_more : (errand : Errand) (front back : List ℕ) (asks : List Ask) (qs : List Request) (rs : List Ask) → Spell errand front asks → requests_text qs ≡ Some back → AreRequests errand qs rs → Spell errand (front ++ back) (asks ++ rs)
+spell_more errand front back asks qs rs s e a = record {
   requests = s.requests ++ qs;
   text = text_append s.requests qs front back s.text e;
-  same = same_append s.requests asks qs rs s.same a;
+  same = same_append errand s.requests asks qs rs s.same a;
 }
 
-spell_none : (front back : List ℕ) (asks : List words.Request) (qs : List Request) → Spell front asks → requests_text qs ≡ Some back → qs ≡ [] → Spell (front ++ back) asks
-spell_none front back asks qs s e n =
-    subst (λ (l : List words.Request). Spell (front ++ back) l) (append-nil asks)
-    (spell_more front back asks [] [] s (ap (λ (l : List Request). requests_text l) (sym n) ∙ e) tt)
+spell_none : (errand : Errand) (front back : List ℕ) (asks : List Ask) (qs : List Request) → Spell errand front asks → requests_text qs ≡ Some back → qs ≡ [] → Spell errand (front ++ back) asks
+spell_none errand front back asks qs s e n =
+    subst (λ (l : List Ask). Spell errand (front ++ back) l) (append-nil asks)
+    (spell_more errand front back asks [] [] s (ap (λ (l : List Request). requests_text l) (sym n) ∙ e) tt)
 
 -- ---- one reply after another
 
--- the client that has heard a reply, and what it has sent
+-- a client that has heard a reply, and sent that, goes on so
 abbrev Then : (DeviceInfo → ℕ) → Errand → rules.Job → List (List Frame) → Talk → List Reply → List ℕ → (Hearer → Type 0) → Type 0
-Then place errand job pages t rs sent Holds = (n : Hearer) → Reads place errand.task job pages t n.mind → Spell sent n.asks → HearingAll place errand job t rs Holds n
+Then place errand job pages t rs sent Holds = (n : Hearer) → Reads place errand job pages t n.mind → Spell errand sent n.asks → HearingAll place errand job t rs Holds n
 
 goes_on : (place : DeviceInfo → ℕ) (errand : Errand) (job : rules.Job) (pages : List (List Frame)) (t : Talk) (rs : List Reply) (h : Hearer) (sense : Sense) (Holds : Hearer → Type 0) (word : ℕ) (next : Next) (front back : List ℕ)
-    → Spell front h.asks → requests_text (requests_by errand word next) ≡ Some back → HeardAs place errand.task job pages t h.mind sense → Saying errand word job next h.mind sense
-    → Then place errand job pages t rs (front ++ back) Holds → Hearing job h sense (λ n. HearingAll place errand job t rs Holds n)
-goes_on place errand job pages t rs h Before Holds word next front back s e heard said more = more h heard (spell_none front back h.asks (requests_by errand word next) s e said)
+    → Spell errand front h.asks → requests_text (requests_by errand word next) ≡ Some back → HeardAs place errand job pages t h.mind sense → Saying errand word job next h.mind sense
+    → Then place errand job pages t rs (front ++ back) Holds → Hearing job word h sense (λ n. HearingAll place errand job t rs Holds n)
+goes_on place errand job pages t rs h Before Holds word next front back s e heard said more = more h heard (spell_none errand front back h.asks (requests_by errand word next) s e said)
 goes_on place errand job pages t rs h (Says answer) Holds word next front back s e heard said more =
-    more (told job h (hear_in h.mind.stage job h.mind answer)) heard (spell_more front back h.asks (requests_by errand word next) (rules.sends job.task (hear_in h.mind.stage job h.mind answer).stage) s e said)
+    let m : rules.Mind = hear_in h.mind.stage job h.mind answer in
+    more (told job word h m) heard (spell_more errand front back h.asks (requests_by errand word next) (asks_of word m.known (rules.sends job.task m.stage)) s e said)
 goes_on place errand job pages t rs h Strange Holds word next front back s e heard said more = tt
 
 hears : (place : DeviceInfo → ℕ) (errand : Errand) (job : rules.Job) (pages : List (List Frame)) (t u : Talk) (rs : List Reply) (text sent : List ℕ) (h : Hearer) (front : List ℕ) (Holds : Hearer → Type 0)
-    → job.task ≡ task_of errand.task → Lives errand.task t.outcome t.progress t.past → Reads place errand.task job pages t h.mind → Spell front h.asks → Hears errand t rs text sent u
+    → job.task ≡ task_of errand.task → Lives errand.task t.outcome t.progress t.past → Reads place errand job pages t h.mind → Spell errand front h.asks → Hears errand t rs text sent u
     → ((n : Hearer) → Follows place errand job pages u n.mind (front ++ sent) n.asks → Holds n) → HearingAll place errand job t rs Holds h
 hears place errand job pages t u [] text sent h front Holds e l r s hs k =
     k h (record {
-      reads = subst (λ (x : Talk). Reads place errand.task job pages x h.mind) (sym hs.2) r;
-      spells = subst (λ (x : List ℕ). Spell x h.asks) (sym (ap (λ (x : List ℕ). front ++ x) hs.1 ∙ append-nil front)) s;
+      reads = subst (λ (x : Talk). Reads place errand job pages x h.mind) (sym hs.2) r;
+      spells = subst (λ (x : List ℕ). Spell errand x h.asks) (sym (ap (λ (x : List ℕ). front ++ x) hs.1 ∙ append-nil front)) s;
     })
 hears place errand job pages t u (a ∷ rs) text sent h front Holds e (inl live) r s hs k =
+    let heard = heard_at t.progress errand t.notes t.past a in
     let fits = answer_fits t.progress errand t.notes t.past a live.1.0 live.1.1 in
-    let next = lives errand.task (heard_at t.progress errand t.notes t.past a).turn.notes (heard_at t.progress errand t.notes t.past a).turn.next (heard_at t.progress errand t.notes t.past a).past fits in
+    let next = lives errand.task heard.turn.notes heard.turn.next heard.past fits in
     let short = short_at t.progress hs.0 a hs.6 in
-    goes_on place errand job pages (after_reply errand t a) rs h (sense_at place t.progress a) Holds (heard_at t.progress errand t.notes t.past a).turn.notes.word (heard_at t.progress errand t.notes t.past a).turn.next front hs.2 s
-    (sends_text errand (heard_at t.progress errand t.notes t.past a).turn.notes.word (heard_at t.progress errand t.notes t.past a).turn.next ∙ hs.7)
+    subst (λ (word : ℕ). Hearing job word h (sense_at place t.progress a) (λ n. HearingAll place errand job (after_reply errand t a) rs Holds n)) (sym (next_word heard.turn.notes heard.turn.next))
+    (goes_on place errand job pages (after_reply errand t a) rs h (sense_at place t.progress a) Holds heard.turn.notes.word heard.turn.next front hs.2 s
+    (sends_text errand heard.turn.notes.word heard.turn.next ∙ hs.7)
     (replies_alike place errand job pages t h.mind a e short live.0 live.1 r)
     (replies_said place errand job pages t h.mind a e short live.0 live.1 r)
     (λ n reads spells. hears place errand job pages (after_reply errand t a) u rs hs.1 hs.3 n (front ++ hs.2) Holds e next reads spells hs.8
-    (λ n f. k n (subst (λ (x : List ℕ). Follows place errand job pages u n.mind x n.asks) (append_assoc front hs.2 hs.3 ∙ ap (λ (x : List ℕ). front ++ x) (sym hs.5)) f)))
+    (λ n f. k n (subst (λ (x : List ℕ). Follows place errand job pages u n.mind x n.asks) (append_assoc front hs.2 hs.3 ∙ ap (λ (x : List ℕ). front ++ x) (sym hs.5)) f))))
 hears place errand job pages t u (a ∷ rs) text sent h front Holds e (inr over) r s hs k =
     let i = hs.6 in
     absurd (let clash : None ≡ Some i.procedure = sym (ap awaited over) ∙ i.awaited_is in cc)
@@ -182,32 +185,32 @@ runs_is Running e = refl
 runs_is (Done reports) e = absurd (let clash : false ≡ true = e in cc)
 runs_is (Ended status why) e = absurd (let clash : false ≡ true = e in cc)
 
-silence : Spell [] []
-silence = record { requests = []; text = refl; same = tt }
+silence : (errand : Errand) → Spell errand [] []
+silence errand = record { requests = []; text = refl; same = tt }
 
 -- of a job that ran, and has ended so, no more is read than that
-pub ends_so : (place : DeviceInfo → ℕ) (task : Task) (job : rules.Job) (pages : List (List Frame)) (talk : Talk) (new : Talker) (m : rules.Mind) (status : Status) (why : Why) (w : words.Why) → why_of why ≡ Some w
-    → talk.outcome ≡ Running → new.outcome ≡ Ended status why → Reads place task job pages talk m → Reads place task job pages (talk_of new talk.past) (stopped (status_of status) w m)
-ends_so place task job pages talk new m status why w e o n r =
-    let h : Reads place task job pages (stopped_by status why talk Running) (stopped (status_of status) w m) =
-    subst (λ (y : Outcome). Reads place task job pages (stopped_by status why talk y) (stopped (status_of status) w m)) o (stops_alike place task job pages talk m status why w e r) in
-    record { files = h.files; stands = subst (λ (y : Outcome). StandsAs place task job pages y new.progress new.notes talk.past (stopped (status_of status) w m)) (sym n) h.stands }
+pub ends_so : (place : DeviceInfo → ℕ) (errand : Errand) (job : rules.Job) (pages : List (List Frame)) (talk : Talk) (new : Talker) (m : rules.Mind) (status : Status) (why : Why) (w : words.Why) → why_of why ≡ Some w
+    → talk.outcome ≡ Running → new.outcome ≡ Ended status why → Reads place errand job pages talk m → Reads place errand job pages (talk_of new talk.past) (stopped (status_of status) w m)
+ends_so place errand job pages talk new m status why w e o n r =
+    let h : Reads place errand job pages (stopped_by status why talk Running) (stopped (status_of status) w m) =
+    subst (λ (y : Outcome). Reads place errand job pages (stopped_by status why talk y) (stopped (status_of status) w m)) o (stops_alike place errand job pages talk m status why w e r) in
+    record { files = h.files; stands = subst (λ (y : Outcome). StandsAs place errand job pages y new.progress new.notes talk.past (stopped (status_of status) w m)) (sym n) h.stands }
 
 hears_all : (place : DeviceInfo → ℕ) (job : rules.Job) (pages : List (List Frame)) (old was : Talker) (past : Past) (piece : List ℕ) (m : rules.Mind) (Holds : Hearer → Type 0) (h : HasHeard old past piece was)
-    → job.task ≡ task_of old.errand.task → is_running old.outcome ≡ true → Serves past old → Reads place old.errand.task job pages (talk_of old past) m
+    → job.task ≡ task_of old.errand.task → is_running old.outcome ≡ true → Serves past old → Reads place old.errand job pages (talk_of old past) m
     → ((n : Hearer) → Follows place old.errand job pages (talk_of was h.past_then) n.mind h.sent n.asks → Holds n) → HearingAll place old.errand job (talk_of old past) h.told Holds (silent m)
 hears_all place job pages old was past piece m Holds h t o s r k =
     let running = runs_is old.outcome o in
     let fits : Fits old.errand.task Running old.progress past = subst (λ (y : Outcome). Fits old.errand.task y old.progress past) running s.fits in
-    hears place old.errand job pages (talk_of old past) (talk_of was h.past_then) h.told h.text h.sent (silent m) [] Holds t (inl (running, fits)) r silence h.hears k
+    hears place old.errand job pages (talk_of old past) (talk_of was h.past_then) h.told h.text h.sent (silent m) [] Holds t (inl (running, fits)) r (silence old.errand) h.hears k
 
 pub all_heard : PiecesAreHeardAlike
 all_heard place job pages old new past piece m t o s r (Whole h wants) = hears_all place job pages old new past piece m _ h t o s r (λ n f. f)
 all_heard place job pages old new past piece m t o s r (Garbled was h runs g) =
     hears_all place job pages old was past piece m _ h t o s r
-    (λ n f. (f, ends_so place old.errand.task job pages (talk_of was h.past_then) new n.mind statuses.IoError whys.Malformed words.Malformed refl (runs_is was.outcome runs) (ap (λ (v : Talker). v.outcome) g.ends) f.reads))
+    (λ n f. (f, ends_so place old.errand job pages (talk_of was h.past_then) new n.mind statuses.IoError whys.Malformed words.Malformed refl (runs_is was.outcome runs) (ap (λ (v : Talker). v.outcome) g.ends) f.reads))
 all_heard place job pages old new past piece m t o s r (Starved was h x) =
     hears_all place job pages old was past piece m _ h t o s r
-    (λ n f. (f, λ runs. ends_so place old.errand.task job pages (talk_of was h.past_then) new n.mind statuses.NoMem whys.Memory words.Memory refl (runs_is was.outcome runs) x.outcome f.reads))
+    (λ n f. (f, λ runs. ends_so place old.errand job pages (talk_of was h.past_then) new n.mind statuses.NoMem whys.Memory words.Memory refl (runs_is was.outcome runs) x.outcome f.reads))
 all_heard place job pages old new past piece m t o s r (Choked x) =
-    ends_so place old.errand.task job pages (talk_of old past) new m statuses.NoMem whys.Memory words.Memory refl (runs_is old.outcome o) x.outcome r
+    ends_so place old.errand job pages (talk_of old past) new m statuses.NoMem whys.Memory words.Memory refl (runs_is old.outcome o) x.outcome r

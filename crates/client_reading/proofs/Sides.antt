@@ -20,6 +20,8 @@ use Rattle.scan_rules.specs.Hearing.{hear_at}
 use Rattle.scan_rules.specs.Devices.{status_of}
 use Rattle.client_reading.specs.Senses.{Sense, Before, Says, Strange, good, why_of}
 use Rattle.client_reading.specs.Reading.{parts, wholes, Files, KnowsAs, WaitsAs, DoneAs, EndedAs, StandsAs, Reads}
+use Rattle.client_rules.specs.declared.progress.Errand.{Errand}
+use Rattle.client_reading.proofs.Apt.{NextApt}
 
 -- ---- how a job goes on, by both
 
@@ -49,14 +51,14 @@ Hears x task t m g Before = Goes x task t m
 Hears x task t m g (Says answer) = Goes x task t (hear_at g x.job m answer)
 Hears x task t m g Strange = Unit {0}
 
-pub next_stands : (x : Side) (task : Task) (next : Next) (notes : Notes) (m : rules.Mind) → NextAs x task next notes m
-    → StandsAs x.place task x.job x.pages (next_outcome task notes next) (next_progress next) (next_notes notes next) x.past m
-next_stands x task (Wait progress) notes m n = n
-next_stands x task (Finish devices) notes m n = n
-next_stands x task (Stop status why) notes m n = n
+next_stands : (x : Side) (errand : Errand) (next : Next) (notes : Notes) (m : rules.Mind) → NextAs x errand.task next notes m → NextApt errand next notes
+    → StandsAs x.place errand x.job x.pages (next_outcome errand.task notes next) (next_progress next) (next_notes notes next) x.past m
+next_stands x errand (Wait progress) notes m n a = (n.0, n.1, a)
+next_stands x errand (Finish devices) notes m n a = n
+next_stands x errand (Stop status why) notes m n a = n
 
-pub settled_reads : (x : Side) (task : Task) (t : Turn) (m : rules.Mind) → Goes x task t m → Reads x.place task x.job x.pages (settled task t x.past) m
-settled_reads x task t m g = record { files = g.0; stands = next_stands x task t.next t.notes m g.1 }
+pub settled_reads : (x : Side) (errand : Errand) (t : Turn) (m : rules.Mind) → Goes x errand.task t m → NextApt errand t.next t.notes → Reads x.place errand x.job x.pages (settled errand.task t x.past) m
+settled_reads x errand t m g a = record { files = g.0; stands = next_stands x errand t.next t.notes m g.1 a }
 
 -- ---- endings
 

@@ -7,6 +7,7 @@ use Rattle.frame_join.specs.FrameHistory.{Past, no_past, after_feed}
 use Rattle.frame_join.specs.declared.join_stage.JoinFault.{JoinFault}
 use Rattle.scan_job.specs.declared.job.Task.{Task}
 use Rattle.scan_job.specs.declared.outcome.Outcome.TheVariants.{Running}
+use Rattle.client_rules.specs.declared.progress.Errand.{Errand}
 use Rattle.client_rules.specs.declared.progress.Progress.TheVariants as stages
 use Rattle.client_rules.specs.Talking.{turn, unjoined, frame_ended, status_of as status_at}
 use Rattle.client_rules.specs.Talks.{Talk, Fits, settled, next_file}
@@ -31,9 +32,9 @@ IsImagingTalk talk = (port : ℕ) × ((made : Bool) × (talk.progress ≡ stages
 
 abbrev pub BytesAreReadAlike : Type 0
 BytesAreReadAlike =
-    (place : DeviceInfo → ℕ) (task : Task) (job : rules.Job) (pages : List (List Frame)) (talk : Talk) (m : rules.Mind) (bytes : List ℕ)
-    → IsImagingTalk talk → talk.outcome ≡ Running → Fits task Running talk.progress talk.past → Reads place task job pages talk m
-    → Reads place task job pages (fed task talk bytes) (read_in m.stage m bytes)
+    (place : DeviceInfo → ℕ) (errand : Errand) (job : rules.Job) (pages : List (List Frame)) (talk : Talk) (m : rules.Mind) (bytes : List ℕ)
+    → IsImagingTalk talk → talk.outcome ≡ Running → Fits errand.task Running talk.progress talk.past → Reads place errand job pages talk m
+    → Reads place errand job pages (fed errand.task talk bytes) (read_in m.stage m bytes)
 
 -- how a job goes on at an end record
 abbrev pub closed : Task → Talk → ℕ → Talk
@@ -41,9 +42,9 @@ closed task talk n = settled task (turn talk.notes (frame_ended task talk.notes.
 
 abbrev pub FramesEndAlike : Type 0
 FramesEndAlike =
-    (place : DeviceInfo → ℕ) (task : Task) (job : rules.Job) (pages : List (List Frame)) (talk : Talk) (m : rules.Mind) (n : ℕ) (status : Status)
-    → job.task ≡ task_of task → HasCount task → status_at n ≡ Some status → IsImagingTalk talk → talk.outcome ≡ Running → Fits task Running talk.progress talk.past → Reads place task job pages talk m
-    → Reads place task job pages (closed task talk n) (finish_in m.stage job.task m (status_of status))
+    (place : DeviceInfo → ℕ) (errand : Errand) (job : rules.Job) (pages : List (List Frame)) (talk : Talk) (m : rules.Mind) (n : ℕ) (status : Status)
+    → job.task ≡ task_of errand.task → HasCount errand.task → status_at n ≡ Some status → IsImagingTalk talk → talk.outcome ≡ Running → Fits errand.task Running talk.progress talk.past → Reads place errand job pages talk m
+    → Reads place errand job pages (closed errand.task talk n) (finish_in m.stage job.task m (status_of status))
 
 -- ---- the next page of a batch: the rules asked for it already
 
@@ -52,6 +53,6 @@ turned talk = record talk { progress = stages.Starting true; notes = record talk
 
 abbrev pub PagesTurnUnseen : Type 0
 PagesTurnUnseen =
-    (place : DeviceInfo → ℕ) (task : Task) (job : rules.Job) (pages : List (List Frame)) (talk : Talk) (m : rules.Mind)
-    → talk.outcome ≡ Running → talk.progress ≡ stages.Turning → Fits task Running talk.progress talk.past → Reads place task job pages talk m
-    → Reads place task job (pages ++ talk.past.ended ∷ []) (turned talk) m
+    (place : DeviceInfo → ℕ) (errand : Errand) (job : rules.Job) (pages : List (List Frame)) (talk : Talk) (m : rules.Mind)
+    → talk.outcome ≡ Running → talk.progress ≡ stages.Turning → Fits errand.task Running talk.progress talk.past → Reads place errand job pages talk m
+    → Reads place errand job (pages ++ talk.past.ended ∷ []) (turned talk) m

@@ -4,10 +4,10 @@ use Rattle.sane_fixed.specs.declared.status.Status.{Status}
 use Rattle.device_api.specs.declared.device_info.DeviceInfo.{DeviceInfo}
 use Rattle.page_picture.specs.Shows.{Frame}
 use Rattle.frame_join.specs.FrameHistory.{no_past, after_pull}
-use Rattle.scan_job.specs.declared.job.Task.{Task}
 use Rattle.scan_job.specs.declared.outcome.Outcome.{Outcome}
 use Rattle.scan_job.specs.declared.outcome.Outcome.TheVariants.{Running, Done, Ended}
 use Rattle.scan_job.specs.declared.outcome.Why.{Why}
+use Rattle.client_rules.specs.declared.progress.Errand.{Errand}
 use Rattle.client_rules.specs.declared.progress.Progress.TheVariants as stages
 use Rattle.client_rules.specs.Talks.{Talk, connected}
 use Rattle.scan_rules.specs.Words as words
@@ -24,8 +24,8 @@ newborn settings = record { outcome = Running; progress = stages.Greeting; notes
 
 abbrev pub ClientsBeginAlike : Type 0
 ClientsBeginAlike =
-    (place : DeviceInfo → ℕ) (task : Task) (job : rules.Job) (settings : List (List ℕ × List ℕ)) → map wish_of settings ≡ job.settings
-    → Reads place task job [] (newborn settings) (rules.running rules.Greeting rules.newborn)
+    (place : DeviceInfo → ℕ) (errand : Errand) (job : rules.Job) (settings : List (List ℕ × List ℕ)) → map wish_of settings ≡ job.settings
+    → Reads place errand job [] (newborn settings) (rules.running rules.Greeting rules.newborn)
 
 -- a job that runs ends so; another keeps its outcome
 abbrev pub stopped_by : Status → Why → Talk → Outcome → Talk
@@ -35,12 +35,12 @@ stopped_by status why talk (Ended earlier reason) = talk
 
 abbrev pub JobsStopAlike : Type 0
 JobsStopAlike =
-    (place : DeviceInfo → ℕ) (task : Task) (job : rules.Job) (pages : List (List Frame)) (talk : Talk) (m : rules.Mind) (status : Status) (why : Why) (w : words.Why)
-    → why_of why ≡ Some w → Reads place task job pages talk m → Reads place task job pages (stopped_by status why talk talk.outcome) (stopped (status_of status) w m)
+    (place : DeviceInfo → ℕ) (errand : Errand) (job : rules.Job) (pages : List (List Frame)) (talk : Talk) (m : rules.Mind) (status : Status) (why : Why) (w : words.Why)
+    → why_of why ≡ Some w → Reads place errand job pages talk m → Reads place errand job pages (stopped_by status why talk talk.outcome) (stopped (status_of status) w m)
 
 -- ---- what no rule speaks of: bytes of the file that are taken, and the image connection at the client
 
 abbrev pub PullsAndLinksAreUnseen : Type 0
 PullsAndLinksAreUnseen =
-    (place : DeviceInfo → ℕ) (task : Task) (job : rules.Job) (pages : List (List Frame)) (talk : Talk) (m : rules.Mind) (bytes : List ℕ) → Reads place task job pages talk m
-    → Reads place task job pages (record talk { past = after_pull bytes talk.past }) m × Reads place task job pages (record talk { progress = connected talk.progress }) m
+    (place : DeviceInfo → ℕ) (errand : Errand) (job : rules.Job) (pages : List (List Frame)) (talk : Talk) (m : rules.Mind) (bytes : List ℕ) → Reads place errand job pages talk m
+    → Reads place errand job pages (record talk { past = after_pull bytes talk.past }) m × Reads place errand job pages (record talk { progress = connected talk.progress }) m

@@ -8,7 +8,6 @@ use Rattle.page_picture.specs.Shows.{Frame}
 use Rattle.frame_join.specs.FrameHistory.{Past, no_past, after_pull}
 use Rattle.wire_message.specs.declared.message.Reply.{Reply}
 use Rattle.wire_message.specs.declared.message.Request.{Request}
-use Rattle.scan_job.specs.declared.job.Task.{Task}
 use Rattle.scan_job.specs.declared.outcome.Outcome.TheVariants.{Ended}
 use Rattle.scan_job.specs.declared.outcome.Why.TheVariants as whys
 use Rattle.scan_job.specs.JobSize.{HasCount}
@@ -30,47 +29,48 @@ use Rattle.scan_rules.specs.Hearing.{hear_in, read_in, finish_in, stopped}
 use Rattle.scan_rules.specs.Devices.{status_of}
 use Rattle.client_reading.specs.Senses.{Sense, Before, Says, Strange, sense_at}
 use Rattle.client_reading.specs.Reading.{task_of, Reads}
-use Rattle.client_reading.specs.Requests.{AreRequests}
+use Rattle.client_reading.specs.Requests.{Ask, asks_of, AreRequests}
 
 -- ---- what is sent
 
 -- the bytes spell requests, one behind the other, which are these of the rules
-pub record Spell (sent : List ℕ) (asks : List words.Request) : Type 0 where
+pub record Spell (errand : Errand) (sent : List ℕ) (asks : List Ask) : Type 0 where
   pub requests : List Request
   pub text : requests_text requests ≡ Some sent
-  pub same : AreRequests requests asks
+  pub same : AreRequests errand requests asks
 
 -- the START of a further page goes out as the page's file is taken
-abbrev pub SpellAt : Progress → List ℕ → List words.Request → Type 0
-SpellAt stages.Turning sent asks = (sent ≡ []) × (asks ≡ words.Start ∷ [])
-SpellAt progress sent asks = Spell sent asks
+abbrev pub SpellAt : Errand → ℕ → Progress → List ℕ → rules.Job → rules.Mind → Type 0
+SpellAt errand word stages.Turning sent job m = (sent ≡ []) × (rules.sends job.task m.stage ≡ words.Start ∷ [])
+SpellAt errand word progress sent job m = Spell errand sent (asks_of word m.known (rules.sends job.task m.stage))
 
 -- ---- the replies of a piece
 
 -- a mind, and what it has asked for since the call
 pub record Hearer : Type 0 where
   pub mind : rules.Mind
-  pub asks : List words.Request
+  pub asks : List Ask
 
--- it hears an answer, and asks for what it waits for then
-abbrev pub told : rules.Job → Hearer → rules.Mind → Hearer
-told job h m = record { mind = m; asks = h.asks ++ rules.sends job.task m.stage }
+-- it comes to know that, and asks for what it waits for then, as the client has that device word
+abbrev pub told : rules.Job → ℕ → Hearer → rules.Mind → Hearer
+told job word h m = record { mind = m; asks = h.asks ++ asks_of word m.known (rules.sends job.task m.stage) }
 
 -- what is so of it once it has heard that; nothing where the rules have no word for it
-abbrev pub Hearing : rules.Job → Hearer → Sense → (Hearer → Type 0) → Type 0
-Hearing job h Before Holds = Holds h
-Hearing job h (Says answer) Holds = Holds (told job h (hear_in h.mind.stage job h.mind answer))
-Hearing job h Strange Holds = Unit {0}
+abbrev pub Hearing : rules.Job → ℕ → Hearer → Sense → (Hearer → Type 0) → Type 0
+Hearing job word h Before Holds = Holds h
+Hearing job word h (Says answer) Holds = Holds (told job word h (hear_in h.mind.stage job h.mind answer))
+Hearing job word h Strange Holds = Unit {0}
 
 -- what is so of it once it has heard these, one after another
 abbrev pub HearingAll : (DeviceInfo → ℕ) → Errand → rules.Job → Talk → List Reply → (Hearer → Type 0) → Hearer → Type 0
 HearingAll place errand job t [] Holds h = Holds h
-HearingAll place errand job t (r ∷ rs) Holds h = Hearing job h (sense_at place t.progress r) (λ n. HearingAll place errand job (after_reply errand t r) rs Holds n)
+HearingAll place errand job t (r ∷ rs) Holds h =
+    Hearing job (after_reply errand t r).notes.word h (sense_at place t.progress r) (λ n. HearingAll place errand job (after_reply errand t r) rs Holds n)
 
 -- the client reads so, and what it has sent is what the mind has asked for
-pub record Follows (place : DeviceInfo → ℕ) (errand : Errand) (job : rules.Job) (pages : List (List Frame)) (talk : Talk) (m : rules.Mind) (sent : List ℕ) (asks : List words.Request) : Type 0 where
-  pub reads : Reads place errand.task job pages talk m
-  pub spells : Spell sent asks
+pub record Follows (place : DeviceInfo → ℕ) (errand : Errand) (job : rules.Job) (pages : List (List Frame)) (talk : Talk) (m : rules.Mind) (sent : List ℕ) (asks : List Ask) : Type 0 where
+  pub reads : Reads place errand job pages talk m
+  pub spells : Spell errand sent asks
 
 abbrev pub silent : rules.Mind → Hearer
 silent m = record { mind = m; asks = [] }
@@ -82,19 +82,19 @@ HeedsAs place job pages m old past piece new (Whole h wants) =
     HearingAll place old.errand job (talk_of old past) h.told (λ n. Follows place old.errand job pages (talk_of new h.past_then) n.mind h.sent n.asks) (silent m)
 HeedsAs place job pages m old past piece new (Garbled was h runs g) =
     HearingAll place old.errand job (talk_of old past) h.told
-    (λ n. Follows place old.errand job pages (talk_of was h.past_then) n.mind h.sent n.asks × Reads place old.errand.task job pages (talk_of new h.past_then) (stopped words.IoError words.Malformed n.mind))
+    (λ n. Follows place old.errand job pages (talk_of was h.past_then) n.mind h.sent n.asks × Reads place old.errand job pages (talk_of new h.past_then) (stopped words.IoError words.Malformed n.mind))
     (silent m)
 HeedsAs place job pages m old past piece new (Starved was h s) =
     HearingAll place old.errand job (talk_of old past) h.told
     (λ n. Follows place old.errand job pages (talk_of was h.past_then) n.mind h.sent n.asks
-    × (is_running was.outcome ≡ true → Reads place old.errand.task job pages (talk_of new h.past_then) (stopped words.NoMem words.Memory n.mind)))
+    × (is_running was.outcome ≡ true → Reads place old.errand job pages (talk_of new h.past_then) (stopped words.NoMem words.Memory n.mind)))
     (silent m)
-HeedsAs place job pages m old past piece new (Choked s) = Reads place old.errand.task job pages (talk_of new past) (stopped words.NoMem words.Memory m)
+HeedsAs place job pages m old past piece new (Choked s) = Reads place old.errand job pages (talk_of new past) (stopped words.NoMem words.Memory m)
 
 abbrev pub PiecesAreHeardAlike : Type 0
 PiecesAreHeardAlike =
     (place : DeviceInfo → ℕ) (job : rules.Job) (pages : List (List Frame)) (old new : Talker) (past : Past) (piece : List ℕ) (m : rules.Mind)
-    → job.task ≡ task_of old.errand.task → is_running old.outcome ≡ true → Serves past old → Reads place old.errand.task job pages (talk_of old past) m
+    → job.task ≡ task_of old.errand.task → is_running old.outcome ≡ true → Serves past old → Reads place old.errand job pages (talk_of old past) m
     → (heeds : Heeds old past piece new) → HeedsAs place job pages m old past piece new heeds
 
 -- ---- a data connection
@@ -107,32 +107,32 @@ pub record Brings (old new : Phase) (piece given : List ℕ) : Type 0 where
   pub carries : Carries old new used given
 
 -- the client stands for that history, and reads so
-pub record StandsSo (place : DeviceInfo → ℕ) (task : Task) (job : rules.Job) (pages : List (List Frame)) (past : Past) (new : Talker) (m : rules.Mind) : Type 0 where
+pub record StandsSo (place : DeviceInfo → ℕ) (errand : Errand) (job : rules.Job) (pages : List (List Frame)) (past : Past) (new : Talker) (m : rules.Mind) : Type 0 where
   pub serves : Serves past new
-  pub reads : Reads place task job pages (talk_of new past) m
+  pub reads : Reads place errand job pages (talk_of new past) m
 
 -- an end record came: how the client reads then, and what it sends
-pub record Closes (place : DeviceInfo → ℕ) (task : Task) (job : rules.Job) (pages : List (List Frame)) (past : Past) (new : Talker) (m : rules.Mind) (sent : List ℕ) : Type 0 where
-  pub stands : StandsSo place task job pages past new m
-  pub spells : SpellAt new.progress sent (rules.sends job.task m.stage)
+pub record Closes (place : DeviceInfo → ℕ) (errand : Errand) (job : rules.Job) (pages : List (List Frame)) (past : Past) (new : Talker) (m : rules.Mind) (sent : List ℕ) : Type 0 where
+  pub stands : StandsSo place errand job pages past new m
+  pub spells : SpellAt errand new.notes.word new.progress sent job m
 
 -- What comes of a piece: bytes of the frame, and of these more than it may have, behind which no more is read; an end behind them; or
 -- want of memory behind a front of them.
 pub data Received (place : DeviceInfo → ℕ) (job : rules.Job) (pages : List (List Frame)) (m : rules.Mind) (old : Talker) (piece : List ℕ) (new : Talker) : Type 0 where
   Goes : (given : List ℕ) (past : Past) → Carries old.phase new.phase piece given → new.out ≡ old.out
-      → StandsSo place old.errand.task job pages past new (read_in m.stage m given) → Received place job pages m old piece new
+      → StandsSo place old.errand job pages past new (read_in m.stage m given) → Received place job pages m old piece new
   Overflows : (given : List ℕ) (past : Past) → Brings old.phase new.phase piece given → new.out ≡ old.out → new.outcome ≡ Ended statuses.IoError whys.Long
-      → StandsSo place old.errand.task job pages past new (read_in m.stage m given) → Received place job pages m old piece new
+      → StandsSo place old.errand job pages past new (read_in m.stage m given) → Received place job pages m old piece new
   Ends : (given : List ℕ) (n : ℕ) (past : Past) (sent : List ℕ) → Brings old.phase (phases.Ended n) piece given → new.out ≡ old.out ++ sent
-      → ((status : Status) → status_at n ≡ Some status → Closes place old.errand.task job pages past new (finish_in (read_in m.stage m given).stage job.task (read_in m.stage m given) (status_of status)) sent)
+      → ((status : Status) → status_at n ≡ Some status → Closes place old.errand job pages past new (finish_in (read_in m.stage m given).stage job.task (read_in m.stage m given) (status_of status)) sent)
       → Received place job pages m old piece new
   Starves : (given more : List ℕ) (phase : Phase) (past : Past) → Brings old.phase phase piece (given ++ more) → new.out ≡ old.out → new.outcome ≡ Ended statuses.NoMem whys.Memory
-      → Reads place old.errand.task job pages (talk_of new past) (stopped words.NoMem words.Memory (read_in m.stage m given)) → Received place job pages m old piece new
+      → Reads place old.errand job pages (talk_of new past) (stopped words.NoMem words.Memory (read_in m.stage m given)) → Received place job pages m old piece new
 
 abbrev pub PiecesAreReceivedAlike : Type 0
 PiecesAreReceivedAlike =
     (place : DeviceInfo → ℕ) (job : rules.Job) (pages : List (List Frame)) (old new : Talker) (past : Past) (piece : List ℕ) (m : rules.Mind)
-    → job.task ≡ task_of old.errand.task → HasCount old.errand.task → is_receiving old.outcome old.progress ≡ true → Serves past old → Reads place old.errand.task job pages (talk_of old past) m
+    → job.task ≡ task_of old.errand.task → HasCount old.errand.task → is_receiving old.outcome old.progress ≡ true → Serves past old → Reads place old.errand job pages (talk_of old past) m
     → Receives old past piece new → Received place job pages m old piece new
 
 -- ---- the file of a page of a batch
@@ -140,12 +140,12 @@ PiecesAreReceivedAlike =
 -- Bytes of the file are taken, and the reading stays; behind the last of them START goes out, for which the rules have asked, and the
 -- page is one of those before.
 abbrev pub TakesAs : (DeviceInfo → ℕ) → rules.Job → List (List Frame) → rules.Mind → (old : Talker) → (past : Past) → (bytes : List ℕ) → (new : Talker) → TakesPage old past bytes new → Type 0
-TakesAs place job pages m old past bytes new (Stays short rest serves) = (new.out ≡ old.out) × Reads place old.errand.task job pages (talk_of new (after_pull bytes past)) m
+TakesAs place job pages m old past bytes new (Stays short rest serves) = (new.out ≡ old.out) × Reads place old.errand job pages (talk_of new (after_pull bytes past)) m
 TakesAs place job pages m old past bytes new (Turns whole shows turns serves) =
-    (sent : List ℕ) × (new.out ≡ old.out ++ sent) × Spell sent (words.Start ∷ []) × Reads place old.errand.task job (pages ++ past.ended ∷ []) (talk_of new no_past) m
+    (sent : List ℕ) × (new.out ≡ old.out ++ sent) × Spell old.errand sent (asks_of old.notes.word m.known (words.Start ∷ [])) × Reads place old.errand job (pages ++ past.ended ∷ []) (talk_of new no_past) m
 
 abbrev pub PagesAreTakenAlike : Type 0
 PagesAreTakenAlike =
     (place : DeviceInfo → ℕ) (job : rules.Job) (pages : List (List Frame)) (old new : Talker) (past : Past) (bytes : List ℕ) (m : rules.Mind)
-    → turns old.outcome old.progress ≡ true → Serves past old → Reads place old.errand.task job pages (talk_of old past) m
+    → turns old.outcome old.progress ≡ true → Serves past old → Reads place old.errand job pages (talk_of old past) m
     → (takes : TakesPage old past bytes new) → TakesAs place job pages m old past bytes new takes

@@ -1,18 +1,21 @@
 -- How a client that talks is read as one of the rules of the world.
-use Rattle.std.specs.Prelude.{ℕ, ◌≡◌, ◌-◌, ◌≤◌, suc, ◌+◌, Bool, true, false, if◌then◌else◌, Option, Some, None, List, [], ◌∷◌, ◌++◌, map, length, nat_lt}
+use Rattle.std.specs.Prelude.{slice_get, ℕ, ◌≡◌, ◌-◌, ◌≤◌, suc, ◌+◌, Bool, true, false, if◌then◌else◌, Option, Some, None, List, [], ◌∷◌, ◌++◌, map, length, nat_lt}
 use Rattle.sane_fixed.specs.declared.params.Params.{Params}
 use Rattle.sane_fixed.specs.declared.status.Status.{Status}
+use Rattle.sane_fixed.specs.declared.kind.Kind.{Kind}
 use Rattle.option_desc.specs.declared.descriptor.Descriptor.{Descriptor}
+use Rattle.option_desc.specs.Reads.{read}
 use Rattle.option_desc.specs.declared.value.Value.{Value}
 use Rattle.device_api.specs.declared.device_info.DeviceInfo.{DeviceInfo}
 use Rattle.page_picture.specs.Shows.{Frame}
-use Rattle.md5_auth.specs.ChallengeReading.{challenge_of}
+use Rattle.md5_auth.specs.ChallengeReading.{challenge_of, answer_of}
 use Rattle.frame_join.specs.FrameHistory.{Past, is_joined, is_accepted}
 use Rattle.scan_job.specs.declared.job.Task.{Task}
 use Rattle.scan_job.specs.declared.job.Task.TheVariants as tasks
 use Rattle.scan_job.specs.declared.outcome.Outcome.{Outcome}
 use Rattle.scan_job.specs.declared.outcome.Outcome.TheVariants.{Running, Done, Ended}
 use Rattle.scan_job.specs.declared.outcome.Why.{Why}
+use Rattle.client_rules.specs.declared.progress.Errand.{Errand}
 use Rattle.client_rules.specs.declared.progress.Notes.{Notes}
 use Rattle.client_rules.specs.declared.progress.Progress.{Progress}
 use Rattle.client_rules.specs.declared.progress.Progress.TheVariants as stages
@@ -144,6 +147,27 @@ WaitsAs job (stages.Imaging port made) notes past m = IsImaging past m
 WaitsAs job stages.Turning notes past m = (m.stage ≡ rules.Running rules.Starting) × (nat_lt notes.file 4294967295 ≡ true)
 WaitsAs job stages.Over notes past m = ⊥
 
+-- what the client asked for is of the option of that number, as it was told
+pub record Puts (known : List (Descriptor × Option Value)) (n : ℕ) (kind : Kind) (asked : Value) : Type 0 where
+  pub option : Descriptor × Option Value
+  pub stands : slice_get known n ≡ Some option
+  pub kind_is : kind ≡ option.0.kind
+  pub text : List ℕ
+  pub reads : read option.0 text ≡ Some asked
+
+pub record Gets (known : List (Descriptor × Option Value)) (n : ℕ) (kind : Kind) (size : ℕ) : Type 0 where
+  pub option : Descriptor × Option Value
+  pub stands : slice_get known n ≡ Some option
+  pub kind_is : kind ≡ option.0.kind
+  pub size_is : size ≡ option.0.size
+
+-- what it keeps of its request is right: the answer to the challenge, the option's kind and size
+abbrev pub IsApt : Errand → Progress → Notes → Type 0
+IsApt errand (stages.Allowing resource answer) notes = answer_of resource errand.password ≡ Some answer
+IsApt errand (stages.Putting n kind name asked) notes = Puts notes.known n kind asked
+IsApt errand (stages.Getting n kind size) notes = Gets notes.known n kind size
+IsApt errand progress notes = Unit {0}
+
 -- ---- a job that is over
 
 abbrev pub ShowsAs : Bool → List (Descriptor × Option Value) → rules.Mind → Type 0
@@ -161,11 +185,11 @@ EndedAs status why m = (w : words.Why) × ((why_of why ≡ Some w) × (m.stage �
 
 -- ---- the reading
 
-abbrev pub StandsAs : (DeviceInfo → ℕ) → Task → rules.Job → List (List Frame) → Outcome → Progress → Notes → Past → rules.Mind → Type 0
-StandsAs place task job pages Running progress notes past m = KnowsAs task pages notes m × WaitsAs job progress notes past m
-StandsAs place task job pages (Done reports) progress notes past m = DoneAs place task reports m
-StandsAs place task job pages (Ended status why) progress notes past m = EndedAs status why m
+abbrev pub StandsAs : (DeviceInfo → ℕ) → Errand → rules.Job → List (List Frame) → Outcome → Progress → Notes → Past → rules.Mind → Type 0
+StandsAs place errand job pages Running progress notes past m = KnowsAs errand.task pages notes m × WaitsAs job progress notes past m × IsApt errand progress notes
+StandsAs place errand job pages (Done reports) progress notes past m = DoneAs place errand.task reports m
+StandsAs place errand job pages (Ended status why) progress notes past m = EndedAs status why m
 
-pub record Reads (place : DeviceInfo → ℕ) (task : Task) (job : rules.Job) (pages : List (List Frame)) (talk : Talk) (m : rules.Mind) : Type 0 where
+pub record Reads (place : DeviceInfo → ℕ) (errand : Errand) (job : rules.Job) (pages : List (List Frame)) (talk : Talk) (m : rules.Mind) : Type 0 where
   pub files : Files pages talk.past m.frames m.pages
-  pub stands : StandsAs place task job pages talk.outcome talk.progress talk.notes talk.past m
+  pub stands : StandsAs place errand job pages talk.outcome talk.progress talk.notes talk.past m

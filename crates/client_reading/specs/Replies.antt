@@ -3,7 +3,6 @@ use Rattle.std.specs.Prelude.{ℕ, ◌≡◌, List}
 use Rattle.device_api.specs.declared.device_info.DeviceInfo.{DeviceInfo}
 use Rattle.page_picture.specs.Shows.{Frame}
 use Rattle.wire_message.specs.declared.message.Reply.{Reply}
-use Rattle.scan_job.specs.declared.job.Task.{Task}
 use Rattle.scan_job.specs.declared.outcome.Outcome.TheVariants.{Running}
 use Rattle.client_rules.specs.declared.progress.Errand.{Errand}
 use Rattle.client_rules.specs.Talks.{Talk, Fits, after_reply}
@@ -12,14 +11,14 @@ use Rattle.scan_rules.specs.Hearing.{hear_in}
 use Rattle.client_reading.specs.Senses.{Sense, Before, Says, Strange, sense_at, IsShortAt}
 use Rattle.client_reading.specs.Reading.{task_of, Reads}
 
-abbrev pub HeardAs : (DeviceInfo → ℕ) → Task → rules.Job → List (List Frame) → Talk → rules.Mind → Sense → Type 0
-HeardAs place task job pages talk m Before = Reads place task job pages talk m
-HeardAs place task job pages talk m (Says answer) = Reads place task job pages talk (hear_in m.stage job m answer)
-HeardAs place task job pages talk m Strange = Unit {0}
+abbrev pub HeardAs : (DeviceInfo → ℕ) → Errand → rules.Job → List (List Frame) → Talk → rules.Mind → Sense → Type 0
+HeardAs place errand job pages talk m Before = Reads place errand job pages talk m
+HeardAs place errand job pages talk m (Says answer) = Reads place errand job pages talk (hear_in m.stage job m answer)
+HeardAs place errand job pages talk m Strange = Unit {0}
 
 -- what a reply makes of a client is what its sense makes of the reading
 abbrev pub RepliesAreHeardAlike : Type 0
 RepliesAreHeardAlike =
     (place : DeviceInfo → ℕ) (errand : Errand) (job : rules.Job) (pages : List (List Frame)) (talk : Talk) (m : rules.Mind) (r : Reply)
-    → job.task ≡ task_of errand.task → IsShortAt talk.progress r → talk.outcome ≡ Running → Fits errand.task Running talk.progress talk.past → Reads place errand.task job pages talk m
-    → HeardAs place errand.task job pages (after_reply errand talk r) m (sense_at place talk.progress r)
+    → job.task ≡ task_of errand.task → IsShortAt talk.progress r → talk.outcome ≡ Running → Fits errand.task Running talk.progress talk.past → Reads place errand job pages talk m
+    → HeardAs place errand job pages (after_reply errand talk r) m (sense_at place talk.progress r)
