@@ -32,7 +32,7 @@ use Rattle.client_rules.specs.Talking.{Turn, if_good, after_greeting, challenged
 use Rattle.client_rules.specs.Talks.{shaped_by, heard_at}
 use Rattle.scan_rules.specs.Words as words
 use Rattle.md5_auth.specs.ChallengeReading.{challenge_of, answer_of}
-use Rattle.client_reading.specs.Senses.{Sense, Before, Says, Strange, good, asks, opens, plain, gave, got as got_sense, sense_at}
+use Rattle.client_reading.specs.Senses.{Sense, Before, Says, Demands, good, asks, opens, plain, gave, got as got_sense, sense_at}
 use Rattle.client_reading.specs.Reading.{IsApt}
 
 -- ---- what is waited for is apt, and asked for now
@@ -70,14 +70,14 @@ asked_apt errand (Stop status why) notes a = tt
 abbrev pub AskedAt : Errand → Sense → Next → Notes → Type 0
 AskedAt errand Before next notes = next ≡ Wait stages.Reopening
 AskedAt errand (Says answer) next notes = IsAsked errand next notes
-AskedAt errand Strange next notes = Unit {0}
+AskedAt errand Demands next notes = IsAsked errand next notes
 
 good_asked : (errand : Errand) (status : Status) (answer : words.Reply) (next : Next) (notes : Notes) → IsAsked errand next notes → AskedAt errand (good status answer) next notes
 good_asked errand statuses.Good answer next notes a = a
 good_asked errand status answer next notes a = a
 
 asks_asked : (errand : Errand) (challenge : Option (List ℕ)) (next : Next) (notes : Notes) → IsAsked errand next notes → AskedAt errand (asks challenge) next notes
-asks_asked errand None next notes a = tt
+asks_asked errand None next notes a = a
 asks_asked errand (Some challenge) next notes a = a
 
 opens_asked : (errand : Errand) (status : Status) (resource : List ℕ) (next : Next) (notes : Notes) → IsAsked errand next notes → AskedAt errand (opens status resource) next notes
@@ -238,16 +238,10 @@ reply_asked place (stages.Imaging port made) errand notes past r = tt
 reply_asked place stages.Turning errand notes past r = tt
 reply_asked place stages.Over errand notes past r = tt
 
--- nothing is said of a reply that the rules have no word for
-abbrev pub AptAt : Errand → Sense → Next → Notes → Type 0
-AptAt errand Before next notes = NextApt errand next notes
-AptAt errand (Says answer) next notes = NextApt errand next notes
-AptAt errand Strange next notes = Unit {0}
-
-pub sense_apt : (errand : Errand) (sense : Sense) (next : Next) (notes : Notes) → AskedAt errand sense next notes → AptAt errand sense next notes
+pub sense_apt : (errand : Errand) (sense : Sense) (next : Next) (notes : Notes) → AskedAt errand sense next notes → NextApt errand next notes
 sense_apt errand Before next notes a = subst (λ (n : Next). NextApt errand n notes) (sym a) tt
 sense_apt errand (Says answer) next notes a = asked_apt errand next notes a
-sense_apt errand Strange next notes a = tt
+sense_apt errand Demands next notes a = asked_apt errand next notes a
 
 -- ---- by the end of a frame
 

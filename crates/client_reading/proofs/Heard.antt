@@ -10,31 +10,33 @@ use Rattle.client_rules.specs.declared.progress.Errand.{Errand}
 use Rattle.client_rules.specs.declared.progress.Progress.{Progress}
 use Rattle.client_rules.specs.declared.progress.Progress.TheVariants as stages
 use Rattle.client_rules.specs.declared.progress.Notes.{Notes}
-use Rattle.client_rules.specs.Talking.{Turn}
+use Rattle.client_rules.specs.Talking.{Turn, turn, malformed}
 use Rattle.client_rules.specs.Talks.{Talk, Fits, suits, FitsAt, settled, shaped, heard_at}
+use Rattle.scan_rules.specs.Words as words
 use Rattle.scan_rules.specs.Client as rules
 use Rattle.scan_rules.specs.Hearing.{hear_in}
-use Rattle.client_reading.specs.Senses.{Sense, Before, Says, Strange, sense_at, IsShortAt}
+use Rattle.client_reading.specs.Senses.{Sense, Before, Says, Demands, sense_at, IsShortAt}
 use Rattle.client_reading.specs.Reading.{task_of, wish_of, KnowsAs, WaitsAs, StandsAs, Reads}
 use Rattle.client_reading.specs.Replies.{HeardAs, RepliesAreHeardAlike}
-use Rattle.client_reading.proofs.Sides.{Side, FilesAs, Goes, Hears, onto, settled_reads}
+use Rattle.client_reading.proofs.Sides.{awry_ends, Side, FilesAs, Goes, Hears, onto, settled_reads}
 use Rattle.client_reading.proofs.Openings.{greets, lists_all, opens_one, reopens, allows}
 use Rattle.client_reading.proofs.Showing.{gets_reply}
 use Rattle.client_reading.proofs.Settings.{describes, puts_reply}
 use Rattle.client_reading.proofs.Starting.{starts, shapes}
-use Rattle.client_reading.proofs.Apt.{AptAt, sense_apt, reply_asked}
+use Rattle.client_reading.proofs.Apt.{NextApt, sense_apt, reply_asked}
+use Rattle.client_reading.specs.Replies.{refuses}
 
 -- ---- any reply
 
 abbrev pub HearsIn : Side → Task → Turn → rules.Mind → rules.Stage → Sense → Type 0
 HearsIn x task t m stage Before = Goes x task t m
 HearsIn x task t m stage (Says answer) = Goes x task t (hear_in stage x.job m answer)
-HearsIn x task t m stage Strange = Unit {0}
+HearsIn x task t m stage Demands = Goes x task t (refuses m)
 
 at_stage : (x : Side) (task : Task) (t : Turn) (m : rules.Mind) (g : rules.Progress) (sense : Sense) → m.stage ≡ rules.Running g → Hears x task t m g sense → HearsIn x task t m m.stage sense
 at_stage x task t m g Before e h = h
 at_stage x task t m g (Says answer) e h = subst (λ (s : rules.Stage). Goes x task t (hear_in s x.job m answer)) (sym e) h
-at_stage x task t m g Strange e h = tt
+at_stage x task t m g Demands e h = h
 
 abbrev pub AnswerAs : Side → Errand → Notes → rules.Mind → Progress → Reply → Type 0
 AnswerAs x errand notes m progress r = HearsIn (onto x (heard_at progress errand notes x.past r).past) errand.task (heard_at progress errand notes x.past r).turn m m.stage (sense_at x.place progress r)
@@ -61,15 +63,16 @@ heard_in x errand notes m (stages.Starting first) r t short s b f k w =
     at_stage (onto x x.past) errand.task _ m rules.Starting _ w.0 (starts (onto x x.past) errand.task notes m first r b.2 w.1 s (files_onto x m f) k)
 heard_in x errand notes m (stages.Shaping port order) r t short s b f k w =
     at_stage (onto x (shaped port order x.past r).past) errand.task _ m rules.Shaping _ w.0 (shapes x errand.task notes m port order r w.1 b f k)
-heard_in x errand notes m (stages.Imaging port made) r t short s b f k w = tt
-heard_in x errand notes m stages.Turning r t short s b f k w = tt
-heard_in x errand notes m stages.Over r t short s b f k w = tt
+heard_in x errand notes m (stages.Imaging port made) r t short s b f k w =
+    at_stage (onto x x.past) errand.task (turn notes malformed) m (rules.Imaging w.params w.payload) (Says words.Acked) w.stage (awry_ends (onto x x.past) errand.task notes m (files_onto x m f))
+heard_in x errand notes m stages.Turning r t short s b f k w = at_stage (onto x x.past) errand.task (turn notes malformed) m rules.Starting (Says words.Acked) w.0 (awry_ends (onto x x.past) errand.task notes m (files_onto x m f))
+heard_in x errand notes m stages.Over r t short s b f k w = absurd w
 
-reply_reads : (x : Side) (errand : Errand) (t : Turn) (m : rules.Mind) (sense : Sense) → HearsIn x errand.task t m m.stage sense → AptAt errand sense t.next t.notes
+reply_reads : (x : Side) (errand : Errand) (t : Turn) (m : rules.Mind) (sense : Sense) → HearsIn x errand.task t m m.stage sense → NextApt errand t.next t.notes
     → HeardAs x.place errand x.job x.pages (settled errand.task t x.past) m sense
 reply_reads x errand t m Before h a = settled_reads x errand t m h a
 reply_reads x errand t m (Says answer) h a = settled_reads x errand t (hear_in m.stage x.job m answer) h a
-reply_reads x errand t m Strange h a = tt
+reply_reads x errand t m Demands h a = settled_reads x errand t (refuses m) h a
 
 abbrev pub side_of : (DeviceInfo → ℕ) → rules.Job → List (List Frame) → Talk → Side
 side_of place job pages talk = record { place = place; job = job; pages = pages; past = talk.past }

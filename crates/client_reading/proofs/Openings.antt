@@ -21,7 +21,8 @@ use Rattle.scan_rules.specs.Client as rules
 use Rattle.scan_rules.specs.Hearing.{hear_at}
 use Rattle.client_reading.specs.Senses.{good, asks, opens, sense_at}
 use Rattle.client_reading.specs.Reading.{task_of, KnowsAs, IsOpen, WaitsAs, ShowsAs}
-use Rattle.client_reading.proofs.Sides.{Side, FilesAs, Goes, Hears, awry_ends, Refuses, refused, good_hears}
+use Rattle.client_reading.proofs.Sides.{ends, Side, FilesAs, Goes, Hears, awry_ends, Refuses, refused, good_hears}
+use Rattle.scan_job.specs.declared.outcome.Why.TheVariants as whys
 
 -- ---- INIT, GET_DEVICES
 
@@ -71,7 +72,7 @@ admits x task notes m g status word r t f k o = refused x task notes m g status 
 
 challenges : (x : Side) (task : Task) (notes : Notes) (m : rules.Mind) (g : rules.Progress) (resource password : List ℕ) (c : Option (List ℕ)) → challenge_of resource ≡ c → Takes g x.job m → FilesAs x m
     → KnowsAs task x.pages notes m → IsOpen x.job notes m → Hears x task (turn notes (challenged resource (option_map (λ challenge. answer_text (md5 (challenge ++ password))) c))) m g (asks c)
-challenges x task notes m g resource password None e t f k o = tt
+challenges x task notes m g resource password None e t f k o = ends x task notes m statuses.AccessDenied whys.Plain words.Plain refl f
 challenges x task notes m g resource password (Some c) e t f k o =
     subst (λ (n : rules.Mind). Goes x task (turn notes (Wait (stages.Allowing resource (answer_text (md5 (c ++ password)))))) n) (sym (t.1 c)) (f, (k, ((c, (refl, e)), o)))
 

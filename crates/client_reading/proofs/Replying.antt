@@ -31,7 +31,7 @@ use Rattle.scan_rules.specs.Words as words
 use Rattle.scan_rules.specs.Client as rules
 use Rattle.scan_rules.specs.Hearing.{hear_in, stopped}
 use Rattle.scan_rules.specs.Devices.{status_of}
-use Rattle.client_reading.specs.Senses.{Sense, Before, Says, Strange, sense_at, IsShort, IsShortAt, why_of}
+use Rattle.client_reading.specs.Senses.{Sense, Before, Says, Demands, sense_at, IsShort, IsShortAt, why_of}
 use Rattle.client_reading.specs.Reading.{task_of, StandsAs, Reads}
 use Rattle.client_reading.specs.Replies.{HeardAs}
 use Rattle.client_reading.specs.Lives.{stopped_by}
@@ -46,6 +46,7 @@ use Rattle.scan_job.specs.declared.outcome.Why.{Why}
 use Rattle.net_client.specs.Sending.{requests_text}
 use Rattle.client_reading.specs.Requests.{Ask, asks_of, AreRequests}
 use Rattle.client_reading.proofs.Said.{requests_by, sends_text, Saying, replies_said, next_word}
+use Rattle.client_reading.specs.Replies.{refuses}
 
 -- ---- a list of descriptors is short
 
@@ -152,7 +153,9 @@ goes_on place errand job pages t rs h Before Holds word next front back s e hear
 goes_on place errand job pages t rs h (Says answer) Holds word next front back s e heard said more =
     let m : rules.Mind = hear_in h.mind.stage job h.mind answer in
     more (told job word h m) heard (spell_more errand front back h.asks (requests_by errand word next) (asks_of word m.known (rules.sends job.task m.stage)) s e said)
-goes_on place errand job pages t rs h Strange Holds word next front back s e heard said more = tt
+goes_on place errand job pages t rs h Demands Holds word next front back s e heard said more =
+    let m : rules.Mind = refuses h.mind in
+    more (told job word h m) heard (spell_more errand front back h.asks (requests_by errand word next) (asks_of word m.known (rules.sends job.task m.stage)) s e said)
 
 hears : (place : DeviceInfo → ℕ) (errand : Errand) (job : rules.Job) (pages : List (List Frame)) (t u : Talk) (rs : List Reply) (text sent : List ℕ) (h : Hearer) (front : List ℕ) (Holds : Hearer → Type 0)
     → job.task ≡ task_of errand.task → Lives errand.task t.outcome t.progress t.past → Reads place errand job pages t h.mind → Spell errand front h.asks → Hears errand t rs text sent u

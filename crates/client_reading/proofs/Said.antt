@@ -21,7 +21,7 @@ use Rattle.scan_rules.specs.Client as rules
 use Rattle.scan_rules.specs.Hearing.{hear_in}
 use Rattle.page_picture.specs.Shows.{Frame}
 use Rattle.scan_job.specs.declared.outcome.Outcome.TheVariants.{Running}
-use Rattle.client_reading.specs.Senses.{Sense, Before, Says, Strange, sense_at, IsShortAt}
+use Rattle.client_reading.specs.Senses.{Sense, Before, Says, Demands, sense_at, IsShortAt}
 use Rattle.client_reading.specs.Reading.{task_of, descs, WaitsAs, StandsAs, Reads}
 use Rattle.client_reading.specs.Requests.{asks_of, AreRequests, one}
 use Rattle.client_reading.specs.Pieces.{SpellAt}
@@ -29,6 +29,7 @@ use Rattle.client_reading.proofs.Sides.{Side, NextAs, onto}
 use Rattle.client_reading.proofs.Heard.{HearsIn, side_of, talk_hears}
 use Rattle.client_reading.proofs.Asking.{asks_alike, goodbyes_alike}
 use Rattle.client_reading.proofs.Apt.{AsksNow, IsAsked, AskedAt, IsLater, reply_asked}
+use Rattle.client_reading.specs.Replies.{refuses}
 
 -- ---- the requests of a client as its job goes on so
 
@@ -74,13 +75,13 @@ next_asks x errand (Stop status why) notes m t a n = subst (λ (s : rules.Stage)
 abbrev pub Saying : Errand → ℕ → rules.Job → Next → rules.Mind → Sense → Type 0
 Saying errand word job next m Before = requests_by errand word next ≡ []
 Saying errand word job next m (Says answer) = AreAsked errand word job next (hear_in m.stage job m answer)
-Saying errand word job next m Strange = Unit {0}
+Saying errand word job next m Demands = AreAsked errand word job next (refuses m)
 
 saying : (x : Side) (errand : Errand) (t : Turn) (m : rules.Mind) (sense : Sense) → x.job.task ≡ task_of errand.task → AskedAt errand sense t.next t.notes → HearsIn x errand.task t m m.stage sense
     → Saying errand t.notes.word x.job t.next m sense
 saying x errand t m Before e a h = ap (λ (next : Next). requests_by errand t.notes.word next) a
 saying x errand t m (Says answer) e a h = next_asks x errand t.next t.notes (hear_in m.stage x.job m answer) e a h.1
-saying x errand t m Strange e a h = tt
+saying x errand t m Demands e a h = next_asks x errand t.next t.notes (refuses m) e a h.1
 
 pub replies_said : (place : DeviceInfo → ℕ) (errand : Errand) (job : rules.Job) (pages : List (List Frame)) (talk : Talk) (m : rules.Mind) (r : Reply) → job.task ≡ task_of errand.task → IsShortAt talk.progress r
     → talk.outcome ≡ Running → Fits errand.task Running talk.progress talk.past → Reads place errand job pages talk m

@@ -18,10 +18,11 @@ use Rattle.scan_rules.specs.Words as words
 use Rattle.scan_rules.specs.Client as rules
 use Rattle.scan_rules.specs.Hearing.{hear_at}
 use Rattle.scan_rules.specs.Devices.{status_of}
-use Rattle.client_reading.specs.Senses.{Sense, Before, Says, Strange, good, why_of}
+use Rattle.client_reading.specs.Senses.{Sense, Before, Says, Demands, good, why_of}
 use Rattle.client_reading.specs.Reading.{parts, wholes, Files, KnowsAs, WaitsAs, DoneAs, EndedAs, StandsAs, Reads}
 use Rattle.client_rules.specs.declared.progress.Errand.{Errand}
 use Rattle.client_reading.proofs.Apt.{NextApt}
+use Rattle.client_reading.specs.Replies.{refuses}
 
 -- ---- how a job goes on, by both
 
@@ -49,7 +50,7 @@ Goes x task t m = FilesAs x m × NextAs x task t.next t.notes m
 abbrev pub Hears : Side → Task → Turn → rules.Mind → rules.Progress → Sense → Type 0
 Hears x task t m g Before = Goes x task t m
 Hears x task t m g (Says answer) = Goes x task t (hear_at g x.job m answer)
-Hears x task t m g Strange = Unit {0}
+Hears x task t m g Demands = Goes x task t (refuses m)
 
 next_stands : (x : Side) (errand : Errand) (next : Next) (notes : Notes) (m : rules.Mind) → NextAs x errand.task next notes m → NextApt errand next notes
     → StandsAs x.place errand x.job x.pages (next_outcome errand.task notes next) (next_progress next) (next_notes notes next) x.past m

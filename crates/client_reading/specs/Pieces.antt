@@ -27,8 +27,9 @@ use Rattle.scan_rules.specs.Words as words
 use Rattle.scan_rules.specs.Client as rules
 use Rattle.scan_rules.specs.Hearing.{hear_in, read_in, finish_in, stopped}
 use Rattle.scan_rules.specs.Devices.{status_of}
-use Rattle.client_reading.specs.Senses.{Sense, Before, Says, Strange, sense_at}
+use Rattle.client_reading.specs.Senses.{Sense, Before, Says, Demands, sense_at}
 use Rattle.client_reading.specs.Reading.{task_of, Reads}
+use Rattle.client_reading.specs.Replies.{refuses}
 use Rattle.client_reading.specs.Requests.{Ask, asks_of, AreRequests}
 
 -- ---- what is sent
@@ -55,11 +56,11 @@ pub record Hearer : Type 0 where
 abbrev pub told : rules.Job → ℕ → Hearer → rules.Mind → Hearer
 told job word h m = record { mind = m; asks = h.asks ++ asks_of word m.known (rules.sends job.task m.stage) }
 
--- what is so of it once it has heard that; nothing where the rules have no word for it
+-- what is so of it once it has heard that
 abbrev pub Hearing : rules.Job → ℕ → Hearer → Sense → (Hearer → Type 0) → Type 0
 Hearing job word h Before Holds = Holds h
 Hearing job word h (Says answer) Holds = Holds (told job word h (hear_in h.mind.stage job h.mind answer))
-Hearing job word h Strange Holds = Unit {0}
+Hearing job word h Demands Holds = Holds (told job word h (refuses h.mind))
 
 -- what is so of it once it has heard these, one after another
 abbrev pub HearingAll : (DeviceInfo → ℕ) → Errand → rules.Job → Talk → List Reply → (Hearer → Type 0) → Hearer → Type 0

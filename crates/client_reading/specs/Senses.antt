@@ -17,13 +17,13 @@ use Rattle.client_rules.specs.WireValues.{given_like, value_in}
 use Rattle.scan_rules.specs.Words as words
 use Rattle.scan_rules.specs.Devices.{status_of, info_of}
 
--- the word that goes before an answer; an answer; or what the rules have no word for
+-- the word that goes before an answer; an answer; or that the password itself is asked for, for which the rules have no word
 pub data Sense : Type 0 where
   Before : Sense
   Says : (answer : words.Reply) → Sense
-  Strange : Sense
+  Demands : Sense
 
--- a reply of another shape than what is awaited: an answer to what nobody asked
+-- a reply of another shape than what is awaited, or while none is awaited: an answer to what nobody asked
 abbrev pub awry : Sense
 awry = Says words.Acked
 
@@ -31,9 +31,9 @@ abbrev pub good : Status → words.Reply → Sense
 good statuses.Good answer = Says answer
 good status answer = Says (words.Refused (status_of status))
 
--- a resource that asks for a plain password is no word of the rules
+-- a resource with no challenge asks for the password
 abbrev pub asks : Option (List ℕ) → Sense
-asks None = Strange
+asks None = Demands
 asks (Some challenge) = Says (words.Challenged challenge)
 
 abbrev pub opens : Status → List ℕ → Sense
@@ -74,7 +74,7 @@ sense_at place (stages.Starting first) (replies.Start status port order resource
 sense_at place (stages.Starting first) reply = awry
 sense_at place (stages.Shaping port order) (replies.GetParameters status params) = good status (words.Shaped params)
 sense_at place (stages.Shaping port order) reply = awry
-sense_at place progress reply = Strange
+sense_at place progress reply = awry
 
 -- an array of a message has at most 1,024 elements
 abbrev pub IsShort : Reply → Type 0
