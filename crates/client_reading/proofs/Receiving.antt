@@ -18,19 +18,19 @@ use Rattle.scan_job.specs.declared.outcome.Why.TheVariants as whys
 use Rattle.client_rules.specs.declared.progress.Errand.{Errand}
 use Rattle.client_rules.specs.declared.progress.Progress.{Progress}
 use Rattle.client_rules.specs.declared.progress.Progress.TheVariants as stages
-use Rattle.client_rules.specs.Talking.{unjoined, frame_ended}
+use Rattle.client_rules.specs.Talking.{unjoined, frame_ended, turn, malformed, FrameEnd, frame_ended_by, status_of as status_at}
 use Rattle.net_client.specs.Talker.{Talker, talk_of, Serves, sends, Stays, Turns}
-use Rattle.client_rules.specs.Talks.{Talk, turns, Fits, FitsAt, next_outcome, is_receiving, took, next_progress}
+use Rattle.client_rules.specs.Talks.{Talk, turns, Fits, FitsAt, next_outcome, is_receiving, took, next_progress, settled}
 use Rattle.scan_job.specs.JobSize.{HasCount}
 use Rattle.net_client.specs.Imaging.{Goes, Ends, Fails}
 use Rattle.scan_rules.specs.Words as words
 use Rattle.scan_rules.specs.Client as rules
-use Rattle.scan_rules.specs.Hearing.{read_in, finish_in}
+use Rattle.scan_rules.specs.Hearing.{read_in, finish_in, stopped}
 use Rattle.scan_rules.specs.Devices.{status_of}
 use Rattle.client_reading.specs.Reading.{task_of, parts, wholes, StandsAs, Reads}
 use Rattle.client_reading.specs.Frames.{fed_by}
 use Rattle.client_reading.specs.Pieces as pieces
-use Rattle.client_reading.specs.Pieces.{Brings, PagesAreTakenAlike, Received, PiecesAreReceivedAlike, Spell, SpellAt}
+use Rattle.client_reading.specs.Pieces.{Brings, PagesAreTakenAlike, Received, PiecesAreReceivedAlike, Spell, SpellAt, EndsAs}
 use Rattle.client_reading.proofs.Payload.{bytes_alike, ends_alike, turns_unseen}
 use Rattle.client_reading.proofs.Endings.{pulls_unseen}
 use Rattle.wire_format.specs.Writer.{behind}
@@ -146,29 +146,51 @@ behind_some : (old new : List ℕ) (text : Option (List ℕ)) → behind old tex
 behind_some old new None e = absurd (cc)
 behind_some old new (Some said) e = (said, refl, sym (cc (e)))
 
+-- an end record, by its status
+closes : (place : DeviceInfo → ℕ) (job : rules.Job) (pages : List (List Frame)) (old new : Talker) (past : Past) (n : ℕ) (sent : List ℕ) (m : rules.Mind) (o : Option Status) → status_at n ≡ o → job.task ≡ task_of old.errand.task
+    → HasCount old.errand.task → At old past → Reads place old.errand job pages (talk_of old past) m → Serves (frame_ended old.errand.task old.notes.file past n).past new
+    → talk_of new (frame_ended old.errand.task old.notes.file past n).past ≡ settled old.errand.task (turn old.notes (frame_ended old.errand.task old.notes.file past n).next) (frame_ended old.errand.task old.notes.file past n).past
+    → sends old.errand old.notes.word (frame_ended old.errand.task old.notes.file past n).next ≡ Some sent
+    → EndsAs place old.errand job pages (frame_ended old.errand.task old.notes.file past n).past new m sent o
+closes place job pages old new past n sent m None e t count a r serves talk said =
+    let is : frame_ended old.errand.task old.notes.file past n ≡ record { next = malformed; past = past } = ap (λ (o : Option Status). frame_ended_by old.errand.task old.notes.file past o) e in
+    let none : Some [] ≡ Some sent = sym (ap (λ (f : FrameEnd). sends old.errand old.notes.word f.next) is) ∙ said in
+    let outcome : new.outcome ≡ Ended statuses.IoError whys.Malformed = ap (λ (y : Talk). y.outcome) talk ∙ ap (λ (f : FrameEnd). next_outcome old.errand.task old.notes f.next) is in (
+      record {
+        serves = serves;
+        reads =
+            subst (λ (y : Past). Reads place old.errand job pages (talk_of new y) (stopped words.IoError words.Malformed m)) (sym (ap (λ (f : FrameEnd). f.past) is))
+            (ends_so place old.errand job pages (talk_of old past) new m statuses.IoError whys.Malformed words.Malformed refl a.running outcome r);
+      },
+      let s : [] ≡ sent = cc in sym s,
+    )
+closes place job pages old new past n sent m (Some status) e t count a r serves talk said =
+    let end = frame_ended old.errand.task old.notes.file past n in
+    let h = ends_alike place old.errand job pages (talk_of old past) m n status t count e (a.port, (a.made, a.progress)) a.running a.fits r in
+    record {
+      stands = record {
+        serves = serves;
+        reads = subst (λ (y : Talk). Reads place old.errand job pages y (finish_in m.stage job.task m (status_of status))) (sym talk) h;
+      };
+      spells =
+          subst (λ (y : Talk). SpellAt old.errand y.notes.word y.progress sent job (finish_in m.stage job.task m (status_of status))) (sym talk)
+          (subst (λ (word : ℕ). SpellAt old.errand word (next_progress end.next) sent job (finish_in m.stage job.task m (status_of status))) (sym (next_word old.notes end.next))
+          (settled_spells (record { place = place; job = job; pages = pages; past = end.past }) old.errand end.next old.notes _ sent t (end_is_later old.errand old.notes past n) h said));
+    }
+
 ended : (place : DeviceInfo → ℕ) (job : rules.Job) (pages : List (List Frame)) (old new : Talker) (past : Past) (piece : List ℕ) (m : rules.Mind) → job.task ≡ task_of old.errand.task → HasCount old.errand.task → At old past
     → Reads place old.errand job pages (talk_of old past) m → Ends old past piece new → Received place job pages m old piece new
 ended place job pages old new past piece m t count a r g =
     let given = g.reads.reads.given in
-    let end = frame_ended old.errand.task old.notes.file (took past g.frame given) g.status in
     let most = took_short past g.frame given g.join a.calm g.reads.reads.stands in
     let read = takes place job pages old past g.frame given m a g.under most r in
     let fits : Fits old.errand.task Running old.progress (took past g.frame given) =
     (a.fits.0, subst (λ (p : Progress). FitsAt p (took past g.frame given)) (sym a.progress) (a.calm, (record g.frame { payload = g.frame.payload ++ given }, refl))) in
+    let end = frame_ended old.errand.task old.notes.file (took past g.frame given) g.status in
     let said = behind_some old.out new.out (sends old.errand old.notes.word end.next) g.ends.said in
+    let here : At old (took past g.frame given) = record { running = a.running; port = a.port; made = a.made; progress = a.progress; fits = fits; calm = a.calm } in
     pieces.Ends given g.status end.past said.0 (record { used = g.reads.used; rest = g.reads.rest; whole = g.reads.whole; carries = g.reads.reads.carries }) said.2
-    (λ status e.
-    let h = ends_alike place old.errand job pages (talk_of old (took past g.frame given)) (read_in m.stage m given) g.status status t count e (a.port, (a.made, a.progress)) a.running fits read in
-    record {
-      stands = record {
-        serves = g.ends.serves;
-        reads = subst (λ (y : Talk). Reads place old.errand job pages y (finish_in (read_in m.stage m given).stage job.task (read_in m.stage m given) (status_of status))) (sym g.ends.talk) h;
-      };
-      spells =
-          subst (λ (y : Talk). SpellAt old.errand y.notes.word y.progress said.0 job (finish_in (read_in m.stage m given).stage job.task (read_in m.stage m given) (status_of status))) (sym g.ends.talk)
-          (subst (λ (word : ℕ). SpellAt old.errand word (next_progress end.next) said.0 job (finish_in (read_in m.stage m given).stage job.task (read_in m.stage m given) (status_of status))) (sym (next_word old.notes end.next))
-          (settled_spells (record { place = place; job = job; pages = pages; past = end.past }) old.errand end.next old.notes _ said.0 t (end_is_later old.errand old.notes (took past g.frame given) g.status) h said.1));
-    })
+    (closes place job pages old new (took past g.frame given) g.status said.0 (read_in m.stage m given) (status_at g.status) refl t count here read g.ends.serves g.ends.talk said.1)
 
 -- ---- want of memory behind so many bytes, and too many bytes
 

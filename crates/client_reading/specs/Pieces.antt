@@ -1,6 +1,6 @@
 -- The same for what the contracts of a client's calls tell: the replies of a piece, what came of a data connection, and what the
 -- calls send.
-use Rattle.std.specs.Prelude.{ℕ, ◌≡◌, Some, true, List, [], ◌∷◌, ◌++◌}
+use Rattle.std.specs.Prelude.{ℕ, ◌≡◌, Option, Some, None, true, List, [], ◌∷◌, ◌++◌}
 use Rattle.sane_fixed.specs.declared.status.Status.{Status}
 use Rattle.sane_fixed.specs.declared.status.Status.TheVariants as statuses
 use Rattle.device_api.specs.declared.device_info.DeviceInfo.{DeviceInfo}
@@ -117,6 +117,11 @@ pub record Closes (place : DeviceInfo → ℕ) (errand : Errand) (job : rules.Jo
   pub stands : StandsSo place errand job pages past new m
   pub spells : SpellAt errand new.notes.word new.progress sent job m
 
+-- a byte that is no status ends the job as malformed
+abbrev pub EndsAs : (DeviceInfo → ℕ) → Errand → rules.Job → List (List Frame) → Past → Talker → rules.Mind → List ℕ → Option Status → Type 0
+EndsAs place errand job pages past new m sent None = StandsSo place errand job pages past new (stopped words.IoError words.Malformed m) × (sent ≡ [])
+EndsAs place errand job pages past new m sent (Some status) = Closes place errand job pages past new (finish_in m.stage job.task m (status_of status)) sent
+
 -- What comes of a piece: bytes of the frame, and of these more than it may have, behind which no more is read; an end behind them; or
 -- want of memory behind a front of them.
 pub data Received (place : DeviceInfo → ℕ) (job : rules.Job) (pages : List (List Frame)) (m : rules.Mind) (old : Talker) (piece : List ℕ) (new : Talker) : Type 0 where
@@ -125,8 +130,7 @@ pub data Received (place : DeviceInfo → ℕ) (job : rules.Job) (pages : List (
   Overflows : (given : List ℕ) (past : Past) → Brings old.phase new.phase piece given → new.out ≡ old.out → new.outcome ≡ Ended statuses.IoError whys.Long
       → StandsSo place old.errand job pages past new (read_in m.stage m given) → Received place job pages m old piece new
   Ends : (given : List ℕ) (n : ℕ) (past : Past) (sent : List ℕ) → Brings old.phase (phases.Ended n) piece given → new.out ≡ old.out ++ sent
-      → ((status : Status) → status_at n ≡ Some status → Closes place old.errand job pages past new (finish_in (read_in m.stage m given).stage job.task (read_in m.stage m given) (status_of status)) sent)
-      → Received place job pages m old piece new
+      → EndsAs place old.errand job pages past new (read_in m.stage m given) sent (status_at n) → Received place job pages m old piece new
   Starves : (given more : List ℕ) (phase : Phase) (past : Past) → Brings old.phase phase piece (given ++ more) → new.out ≡ old.out → new.outcome ≡ Ended statuses.NoMem whys.Memory
       → Reads place old.errand job pages (talk_of new past) (stopped words.NoMem words.Memory (read_in m.stage m given)) → Received place job pages m old piece new
 
