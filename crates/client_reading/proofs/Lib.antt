@@ -12,3 +12,4 @@ pub mod Asking
 pub mod Said
 pub mod Replying
 pub mod Receiving
+pub mod Calling

@@ -142,7 +142,7 @@ went place job pages old new past piece m a r g =
 
 -- ---- an end record
 
-behind_some : (old new : List ℕ) (text : Option (List ℕ)) → behind old text ≡ Some new → (said : List ℕ) × (text ≡ Some said) × (new ≡ old ++ said)
+pub behind_some : (old new : List ℕ) (text : Option (List ℕ)) → behind old text ≡ Some new → (said : List ℕ) × (text ≡ Some said) × (new ≡ old ++ said)
 behind_some old new None e = absurd (cc)
 behind_some old new (Some said) e = (said, refl, sym (cc (e)))
 

@@ -183,7 +183,7 @@ hears place errand job pages t u (a ∷ rs) text sent h front Holds e (inr over)
 
 -- ---- how a call ends
 
-runs_is : (o : Outcome) → is_running o ≡ true → o ≡ Running
+pub runs_is : (o : Outcome) → is_running o ≡ true → o ≡ Running
 runs_is Running e = refl
 runs_is (Done reports) e = absurd (let clash : false ≡ true = e in cc)
 runs_is (Ended status why) e = absurd (let clash : false ≡ true = e in cc)

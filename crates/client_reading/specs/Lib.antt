@@ -5,3 +5,4 @@ pub mod Frames
 pub mod Lives
 pub mod Requests
 pub mod Pieces
+pub mod Calls

@@ -10,5 +10,7 @@ pub use frames::{
     bytes_are_read_alike, frames_end_alike, pages_are_taken_alike, pages_turn_unseen,
     pieces_are_received_alike,
 };
-pub use lives::{clients_begin_alike, jobs_stop_alike, pulls_and_links_are_unseen};
+pub use lives::{
+    calls_are_alike, clients_begin_alike, jobs_stop_alike, pulls_and_links_are_unseen,
+};
 pub use replies::{pieces_are_heard_alike, replies_are_heard_alike, requests_are_alike};

@@ -1,3 +1,4 @@
+ghost use Rattle.client_reading.specs.Calls.{CancelsAreAlike, ConnectionsAreUnseen, LossesAreAlike, NewClientsAreAlike};
 ghost use Rattle.client_reading.specs.Lives.{ClientsBeginAlike, JobsStopAlike, PullsAndLinksAreUnseen};
 
 /// A new client is read as one that has asked for nothing yet but a greeting.
@@ -13,4 +14,13 @@ pub fn jobs_stop_alike()
 /// A client whose file is taken, or whose image connection is made, is read as before.
 pub fn pulls_and_links_are_unseen()
     ensures { PullsAndLinksAreUnseen }
+{}
+
+/// The calls that hear nothing, as the client's contracts tell them: it is made, and asks for its greeting; it is cancelled,
+/// and says farewell; a link that counts is lost; and its data connection is made.
+pub fn calls_are_alike()
+    ensures made { NewClientsAreAlike }
+    ensures cancelled { CancelsAreAlike }
+    ensures lost { LossesAreAlike }
+    ensures connected { ConnectionsAreUnseen }
 {}
