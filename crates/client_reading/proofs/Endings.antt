@@ -32,7 +32,7 @@ begins_alike place errand job settings e = record {
 -- ---- ends
 
 -- what a client waits for is waited for
-runs : (job : rules.Job) (progress : Progress) (notes : Notes) (past : Past) (m : rules.Mind) → WaitsAs job progress notes past m → (g : rules.Progress) × (m.stage ≡ rules.Running g)
+pub runs : (job : rules.Job) (progress : Progress) (notes : Notes) (past : Past) (m : rules.Mind) → WaitsAs job progress notes past m → (g : rules.Progress) × (m.stage ≡ rules.Running g)
 runs job stages.Greeting notes past m w = (_, w.0)
 runs job stages.Listing notes past m w = (_, w.0)
 runs job stages.Opening notes past m w = (_, w.0)

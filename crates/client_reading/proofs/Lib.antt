@@ -13,3 +13,4 @@ pub mod Said
 pub mod Replying
 pub mod Receiving
 pub mod Calling
+pub mod Outcomes

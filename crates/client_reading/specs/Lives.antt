@@ -15,7 +15,9 @@ use Rattle.scan_rules.specs.Client as rules
 use Rattle.scan_rules.specs.Hearing.{stopped}
 use Rattle.scan_rules.specs.Devices.{status_of}
 use Rattle.client_reading.specs.Senses.{why_of}
-use Rattle.client_reading.specs.Reading.{wish_of, Reads}
+use Rattle.client_reading.specs.Reading.{wish_of, Reads, DoneAs, EndedAs}
+use Rattle.scan_job.specs.declared.job.Task.{Task}
+use Rattle.scan_job.specs.declared.report.Reports.{Reports}
 
 -- ---- the beginning, and the ends that no message brings
 
@@ -44,3 +46,20 @@ abbrev pub PullsAndLinksAreUnseen : Type 0
 PullsAndLinksAreUnseen =
     (place : DeviceInfo → ℕ) (errand : Errand) (job : rules.Job) (pages : List (List Frame)) (talk : Talk) (m : rules.Mind) (bytes : List ℕ) → Reads place errand job pages talk m
     → Reads place errand job pages (record talk { past = after_pull bytes talk.past }) m × Reads place errand job pages (record talk { progress = connected talk.progress }) m
+
+-- ---- outcomes
+
+-- The job runs, is done or has ended for the client just where it does for the mind: done with the same reports, ended with the same
+-- status and why.
+pub record EndAlike (place : DeviceInfo → ℕ) (task : Task) (outcome : Outcome) (m : rules.Mind) : Type 0 where
+  pub runs : outcome ≡ Running → (progress : rules.Progress) × (m.stage ≡ rules.Running progress)
+  pub done : (reports : Reports) → outcome ≡ Done reports → DoneAs place task reports m
+  pub ended : (status : Status) (why : Why) → outcome ≡ Ended status why → EndedAs status why m
+  pub runs_by : (progress : rules.Progress) → m.stage ≡ rules.Running progress → outcome ≡ Running
+  pub done_by : m.stage ≡ rules.Done → (reports : Reports) × (outcome ≡ Done reports)
+  pub ended_by : (status : words.Status) (why : words.Why) → m.stage ≡ rules.Ended status why → (s : Status) × (w : Why) × (outcome ≡ Ended s w) × (status_of s ≡ status) × (why_of w ≡ Some why)
+
+abbrev pub OutcomesAreAlike : Type 0
+OutcomesAreAlike =
+    (place : DeviceInfo → ℕ) (errand : Errand) (job : rules.Job) (pages : List (List Frame)) (talk : Talk) (m : rules.Mind) → Reads place errand job pages talk m
+    → EndAlike place errand.task talk.outcome m

@@ -11,6 +11,7 @@ pub use frames::{
     pieces_are_received_alike,
 };
 pub use lives::{
-    calls_are_alike, clients_begin_alike, jobs_stop_alike, pulls_and_links_are_unseen,
+    calls_are_alike, clients_begin_alike, jobs_stop_alike, outcomes_are_alike,
+    pulls_and_links_are_unseen,
 };
 pub use replies::{pieces_are_heard_alike, replies_are_heard_alike, requests_are_alike};

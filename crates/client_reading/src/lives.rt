@@ -1,5 +1,5 @@
 ghost use Rattle.client_reading.specs.Calls.{CancelsAreAlike, ConnectionsAreUnseen, LossesAreAlike, NewClientsAreAlike};
-ghost use Rattle.client_reading.specs.Lives.{ClientsBeginAlike, JobsStopAlike, PullsAndLinksAreUnseen};
+ghost use Rattle.client_reading.specs.Lives.{ClientsBeginAlike, JobsStopAlike, OutcomesAreAlike, PullsAndLinksAreUnseen};
 
 /// A new client is read as one that has asked for nothing yet but a greeting.
 pub fn clients_begin_alike()
@@ -23,4 +23,10 @@ pub fn calls_are_alike()
     ensures cancelled { CancelsAreAlike }
     ensures lost { LossesAreAlike }
     ensures connected { ConnectionsAreUnseen }
+{}
+
+/// A job is done for the client just where it is for the mind that it reads as, with the same reports, and has ended just
+/// where it has, with the same status and why.
+pub fn outcomes_are_alike()
+    ensures { OutcomesAreAlike }
 {}
