@@ -1,0 +1,16 @@
+pub mod Lists
+pub mod Apt
+pub mod Sides
+pub mod Openings
+pub mod Showing
+pub mod Settings
+pub mod Starting
+pub mod Heard
+pub mod Payload
+pub mod Endings
+pub mod Asking
+pub mod Said
+pub mod Replying
+pub mod Receiving
+pub mod Calling
+pub mod Outcomes
