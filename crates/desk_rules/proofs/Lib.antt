@@ -1,0 +1,14 @@
+pub mod Holding
+pub mod Changes
+pub mod Scanning
+pub mod Moved
+pub mod Words
+pub mod Setting
+pub mod Starting
+pub mod Started
+pub mod Leaving
+pub mod Endings
+pub mod Opening
+pub mod Opens
+pub mod Turning
+pub mod Connecting

@@ -1,0 +1,6 @@
+pub mod Reading
+pub mod Spelling
+pub mod Agreeing
+pub mod DeviceWords
+pub mod WholeSessions
+pub mod Data
