@@ -108,42 +108,42 @@ ends i make (Some l ∷ held) registry table old =
         ∙ sym (ap (λ (k : ℕ). let_go i (table k)) here ∙ taken_by i (table l.place) (ap (λ (x : Device). x.holder) (old.leases 0 l refl).device))
     gone e false t = ap (let_go i) (put_elsewhere table l.place (put_back (table l.place)) e (eqb-false e l.place t))
 
-pub session_over : (i : ℕ) (make : ℕ → Make) (d : Desk) (table : ℕ → Device) (s : Session) (q : Asked) → Shows i make d table s → AgreesOn i make d 0 q (all_over i table s) (over d)
-session_over i make d table s q old = record { says = refl; same_end = refl; stands = λ e. cc; ends = λ e. ends i make d.session.held d.registry table old.devices }
+pub session_over : (i : ℕ) (make : ℕ → Make) (d : Desk) (table : ℕ → Device) (s : Session) (q : Asked) (word : ℕ) → Shows i make d table s → AgreesOn i make d word q (all_over i table s) (over d)
+session_over i make d table s q word old = record { says = refl; same_end = refl; stands = λ e. cc; ends = λ e. ends i make d.session.held d.registry table old.devices }
 
-last_of : (i : ℕ) (make : ℕ → Make) (d : Desk) (table : ℕ → Device) (s : Session) (x : ℕ → Around) (call : Call) (q : Asked) (r : Request) → call.request ≡ r → Shows i make d table s → IsLast r → AgreesOn i make d 0 q (answer_call i make table s x None call) (over d)
-last_of i make d table s x call q Exit e old h = subst (λ (r : Request). AgreesOn i make d 0 q (plain_call i make table s x call r) (over d)) (sym e) (session_over i make d table s q old)
-last_of i make d table s x call q (Authorize c) e old h = subst (λ (r : Request). AgreesOn i make d 0 q (plain_call i make table s x call r) (over d)) (sym e) (session_over i make d table s q old)
-last_of i make d table s x call q Init e old h = absurd h
-last_of i make d table s x call q GetDevices e old h = absurd h
-last_of i make d table s x call q Open e old h = absurd h
-last_of i make d table s x call q Describe e old h = absurd h
-last_of i make d table s x call q (Get n) e old h = absurd h
-last_of i make d table s x call q (Set n v) e old h = absurd h
-last_of i make d table s x call q Parameters e old h = absurd h
-last_of i make d table s x call q Start e old h = absurd h
-last_of i make d table s x call q Cancel e old h = absurd h
-last_of i make d table s x call q Close e old h = absurd h
+last_of : (i : ℕ) (make : ℕ → Make) (d : Desk) (table : ℕ → Device) (s : Session) (x : ℕ → Around) (call : Call) (q : Asked) (word : ℕ) (r : Request) → call.request ≡ r → Shows i make d table s → IsLast r → AgreesOn i make d word q (answer_call i make table s x None call) (over d)
+last_of i make d table s x call q word Exit e old h = subst (λ (r : Request). AgreesOn i make d word q (plain_call i make table s x call r) (over d)) (sym e) (session_over i make d table s q word old)
+last_of i make d table s x call q word (Authorize c) e old h = subst (λ (r : Request). AgreesOn i make d word q (plain_call i make table s x call r) (over d)) (sym e) (session_over i make d table s q word old)
+last_of i make d table s x call q word Init e old h = absurd h
+last_of i make d table s x call q word GetDevices e old h = absurd h
+last_of i make d table s x call q word Open e old h = absurd h
+last_of i make d table s x call q word Describe e old h = absurd h
+last_of i make d table s x call q word (Get n) e old h = absurd h
+last_of i make d table s x call q word (Set n v) e old h = absurd h
+last_of i make d table s x call q word Parameters e old h = absurd h
+last_of i make d table s x call q word Start e old h = absurd h
+last_of i make d table s x call q word Cancel e old h = absurd h
+last_of i make d table s x call q word Close e old h = absurd h
 
 pub ends_agree : EndsAgree
-ends_agree i make d table s x call q old h = last_of i make d table s x call q call.request refl old h
+ends_agree i make d table s x call q word old h = last_of i make d table s x call q word call.request refl old h
 
-other_of : (i : ℕ) (make : ℕ → Make) (d : Desk) (table : ℕ → Device) (s : Session) (x : ℕ → Around) (sent : List ℕ) (p : ℕ) (q : Asked) (r : Request) → Shows i make d table s → IsOther r → AgreesOn i make d 0 q (awaited_call i make table s x sent p r) (over d)
-other_of i make d table s x sent p q (Authorize c) old h = absurd h
-other_of i make d table s x sent p q Exit old h = session_over i make d table s q old
-other_of i make d table s x sent p q Init old h = session_over i make d table s q old
-other_of i make d table s x sent p q GetDevices old h = session_over i make d table s q old
-other_of i make d table s x sent p q Open old h = session_over i make d table s q old
-other_of i make d table s x sent p q Describe old h = session_over i make d table s q old
-other_of i make d table s x sent p q (Get n) old h = session_over i make d table s q old
-other_of i make d table s x sent p q (Set n v) old h = session_over i make d table s q old
-other_of i make d table s x sent p q Parameters old h = session_over i make d table s q old
-other_of i make d table s x sent p q Start old h = session_over i make d table s q old
-other_of i make d table s x sent p q Cancel old h = session_over i make d table s q old
-other_of i make d table s x sent p q Close old h = session_over i make d table s q old
+other_of : (i : ℕ) (make : ℕ → Make) (d : Desk) (table : ℕ → Device) (s : Session) (x : ℕ → Around) (sent : List ℕ) (p : ℕ) (q : Asked) (word : ℕ) (r : Request) → Shows i make d table s → IsOther r → AgreesOn i make d word q (awaited_call i make table s x sent p r) (over d)
+other_of i make d table s x sent p q word (Authorize c) old h = absurd h
+other_of i make d table s x sent p q word Exit old h = session_over i make d table s q word old
+other_of i make d table s x sent p q word Init old h = session_over i make d table s q word old
+other_of i make d table s x sent p q word GetDevices old h = session_over i make d table s q word old
+other_of i make d table s x sent p q word Open old h = session_over i make d table s q word old
+other_of i make d table s x sent p q word Describe old h = session_over i make d table s q word old
+other_of i make d table s x sent p q word (Get n) old h = session_over i make d table s q word old
+other_of i make d table s x sent p q word (Set n v) old h = session_over i make d table s q word old
+other_of i make d table s x sent p q word Parameters old h = session_over i make d table s q word old
+other_of i make d table s x sent p q word Start old h = session_over i make d table s q word old
+other_of i make d table s x sent p q word Cancel old h = session_over i make d table s q word old
+other_of i make d table s x sent p q word Close old h = session_over i make d table s q word old
 
 pub others_end : OthersEnd
-others_end i make d table s x call q sent p old h = other_of i make d table s x sent p q call.request old h
+others_end i make d table s x call q word sent p old h = other_of i make d table s x sent p q word call.request old h
 
 -- GET_DEVICES and INIT
 pub devices_agree : DevicesAgree

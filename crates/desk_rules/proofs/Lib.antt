@@ -6,9 +6,11 @@ pub mod Words
 pub mod Setting
 pub mod Starting
 pub mod Started
+pub mod Others
 pub mod Leaving
 pub mod Endings
 pub mod Opening
 pub mod Opens
 pub mod Turning
 pub mod Connecting
+pub mod Requested

@@ -28,7 +28,7 @@ use Rattle.scan_rules.specs.Sessions.{Session, allow_call, just, open_call, open
 use Rattle.desk_rules.specs.Reading.{IsAwaited, Names, NamesPlace, Shows, ShowsSlot, seen}
 use Rattle.desk_rules.specs.Spelling.{Manner, Spells}
 use Rattle.desk_rules.specs.Agreeing.{Agrees, manner}
-use Rattle.desk_rules.specs.WholeSessions.{AuthorizeAgrees, IsGuarded, OpenAgrees}
+use Rattle.desk_rules.specs.WholeSessions.{AuthorizeAgrees, IsGuarded, IsGuardedAt, OpenAgrees}
 use Rattle.desk_rules.proofs.Changes.{Held, shown_by}
 use Rattle.desk_rules.proofs.Endings.{same_tables}
 use Rattle.desk_rules.proofs.Moved.{nothing_awaited, own}
@@ -170,7 +170,7 @@ authorize_agrees i make users d table s aw resource user password answer sent wo
 -- OPEN
 abbrev OpenBound : ℕ → (ℕ → Make) → List Entry → Desk → (ℕ → Device) → Session → List ℕ → ℕ → ℕ → Option ℕ → Said → Desk → Type 0
 OpenBound i make users d table s name word p found said new =
-    (challenge : Challenge) × ((x : Around) → x.challenge ≡ challenge → IsGuarded users name x.guarded → Agrees i make (manner d word) (requests.Open name) (open_call i make table s x p found) said new)
+    (challenge : Challenge) × ((x : Around) → x.challenge ≡ challenge → IsGuardedAt users d name x.guarded → Agrees i make (manner d word) (requests.Open name) (open_call i make table s x p found) said new)
 
 spells_opened : (m : Manner) (name : List ℕ) (w : ℕ) (a : Reply) (r : Wire) → m.free ≡ Some w → IsTake w a r → Spells m (requests.Open name) a r
 spells_opened m name w a r free (inl t) = subst (λ (x : Reply). Spells m (requests.Open name) x r) (sym t.0) (w, free, t.1)
@@ -201,12 +201,19 @@ names_put : (name : List ℕ) (registry : Table) (table : ℕ → Device) (p : �
 names_put name registry table p None h = ap (λ (t : Device). t.listed) (put_self table p p (table p) (eqb p p) refl refl) ∙ h
 names_put name registry table p (Some k) h = h
 
+some_word : (held : Held) (w : ℕ) → free_word held ≡ Some w → free_word held ≢ None
+some_word held w e n = let clash : Some w ≡ None = sym e ∙ n in absurd (cc)
+
+some_place : (name : List ℕ) (registry : Table) (k : ℕ) → find_name name registry ≡ Some k → find_name name registry ≢ None
+some_place name registry k e n = let clash : Some k ≡ None = sym e ∙ n in absurd (cc)
+
 -- a challenge is sent
-asked : (i : ℕ) (make : ℕ → Make) (users : List Entry) (d : Desk) (table : ℕ → Device) (s : Session) (name : List ℕ) (word w p : ℕ) (said : Said) (new : Desk) → Shows i make d table s → d.session.awaited ≡ None → free_word d.session.held ≡ Some w → Names name d.registry table p → (table p).listed ≡ true →
+asked : (i : ℕ) (make : ℕ → Make) (users : List Entry) (d : Desk) (table : ℕ → Device) (s : Session) (name : List ℕ) (word w p : ℕ) (said : Said) (new : Desk) → Shows i make d table s → d.session.awaited ≡ None → free_word d.session.held ≡ Some w → Names name d.registry table p → (table p).listed ≡ true → find_name name d.registry ≢ None →
     Asks users d name said new → OpenBound i make users d table s name word p (Some w) said new
-asked i make users d table s name word w p said new old none free names listed a = (
+asked i make users d table s name word w p said new old none free names listed found a = (
   a.challenge,
-  λ x drawn judged.
+  λ x drawn known.
+      let judged = known (some_word d.session.held w free) found in
       let c = s.carriage in
       let v : Served = record (says (Challenged x.challenge) (table p) c) { awaited = Some x.challenge } in
       let v_is : open_listed i (make p) (table p) c x.challenge (table p).listed x.guarded ≡ v =
@@ -247,11 +254,12 @@ open_found i make users d table s name word p (Some w) None said new old none fr
       (one_agrees i make (manner d word) name table s w p v (refusal code.Inval, d) free (refused_with i make d table s w p code.Inval v (plain_session i make d table s old none) none refl refl refl refl refl)))),
 )
 open_found i make users d table s name word p (Some w) (Some k) said new old none free e place names (inl h) =
-    asked i make users d table s name word w p said new old none free names (found_listed i make d table s p old (subst (λ (n : ℕ). FoundSlot d.registry n) place (found_slot name d.registry k e))) h
+    asked i make users d table s name word w p said new old none free names (found_listed i make d table s p old (subst (λ (n : ℕ). FoundSlot d.registry n) place (found_slot name d.registry k e))) (some_place name d.registry k e) h
 open_found i make users d table s name word p (Some w) (Some k) said new old none free e place names (inr h) =
     let listed = found_listed i make d table s p old (subst (λ (n : ℕ). FoundSlot d.registry n) place (found_slot name d.registry k e)) in (
       [],
-      λ x drawn judged.
+      λ x drawn known.
+          let judged = known (some_word d.session.held w free) (some_place name d.registry k e) in
           let o = took d w (take_answer d.registry name) in
           let taken_is : daemon.take d name ≡ o = ap (λ (f : Option ℕ). take_into d name f) free in
           let v_is : open_listed i (make p) (table p) s.carriage x.challenge (table p).listed x.guarded ≡ take_listed i (make p) (table p) s.carriage (table p).listed =

@@ -4,3 +4,5 @@ pub mod Agreeing
 pub mod DeviceWords
 pub mod WholeSessions
 pub mod Data
+pub mod Requests
+pub mod Others

@@ -5,13 +5,14 @@ use Rattle.device_api.specs.declared.device_info.DeviceInfo.{DeviceInfo}
 use Rattle.md5_auth.specs.declared.users.Entry.{Entry}
 use Rattle.md5_auth.specs.Allowed.{NamesBackend}
 use Rattle.dispatch.specs.Backend.{IsBackendOf}
-use Rattle.dispatch.specs.Table.{Table, listed}
+use Rattle.dispatch.specs.Table.{Table, find_name, listed}
 use Rattle.wire_message.specs.declared.message.Request.{Request as Asked}
 use Rattle.wire_message.specs.declared.message.Request.TheVariants as requests
 use Rattle.wire_message.specs.declared.message.Reply.TheVariants as replies
 use Rattle.saned_desk.specs.declared.said.Said.{Said}
 use Rattle.saned_desk.specs.declared.said.Said.TheVariants.{Last}
 use Rattle.saned_desk.specs.declared.session.Awaited.{Awaited}
+use Rattle.saned_desk.specs.Holding.{free_word}
 use Rattle.saned_desk.specs.Rules.{Authorizes, Desk, MayOpen, Opens, devices_reply, greet, over, own_version}
 use Rattle.saned_core.specs.Feeding.{let_go}
 use Rattle.scan_rules.specs.Words.{Authorize, Challenge, Exit, GetDevices, Init, Open, Request, same_text}
@@ -68,25 +69,29 @@ IsOther _ = Unit {0}
 
 abbrev pub EndsAgree : Type 0
 EndsAgree =
-    (i : ℕ) (make : ℕ → Make) (d : Desk) (table : ℕ → Device) (s : Session) (x : ℕ → Around) (call : Call) (q : Asked) →
-    Shows i make d table s → IsLast call.request → AgreesOn i make d 0 q (answer_call i make table s x None call) (over d)
+    (i : ℕ) (make : ℕ → Make) (d : Desk) (table : ℕ → Device) (s : Session) (x : ℕ → Around) (call : Call) (q : Asked) (word : ℕ) →
+    Shows i make d table s → IsLast call.request → AgreesOn i make d word q (answer_call i make table s x None call) (over d)
 
 abbrev pub OthersEnd : Type 0
 OthersEnd =
-    (i : ℕ) (make : ℕ → Make) (d : Desk) (table : ℕ → Device) (s : Session) (x : ℕ → Around) (call : Call) (q : Asked) (sent : Challenge) (p : ℕ) →
-    Shows i make d table s → IsOther call.request → AgreesOn i make d 0 q (answer_call i make table s x (Some (sent, p)) call) (over d)
+    (i : ℕ) (make : ℕ → Make) (d : Desk) (table : ℕ → Device) (s : Session) (x : ℕ → Around) (call : Call) (q : Asked) (word : ℕ) (sent : Challenge) (p : ℕ) →
+    Shows i make d table s → IsOther call.request → AgreesOn i make d word q (answer_call i make table s x (Some (sent, p)) call) (over d)
 
 -- whether a users line names the backend of this name
 abbrev pub IsGuarded : List Entry → List ℕ → Bool → Type 0
 IsGuarded users name true = (backend : List ℕ) → IsBackendOf name backend → NamesBackend users backend
 IsGuarded users name false = (backend : List ℕ) → IsBackendOf name backend → ¬ NamesBackend users backend
 
+-- it matters where a word is free and the name is listed
+abbrev pub IsGuardedAt : List Entry → Desk → List ℕ → Bool → Type 0
+IsGuardedAt users d name guarded = free_word d.session.held ≢ None → find_name name d.registry ≢ None → IsGuarded users name guarded
+
 -- OPEN: with the challenge that was drawn, if one was
 abbrev pub OpenAgrees : Type 0
 OpenAgrees =
     (i : ℕ) (make : ℕ → Make) (users : List Entry) (d : Desk) (table : ℕ → Device) (s : Session) (name : List ℕ) (word place : ℕ) (said : Said) (new : Desk) →
     Shows i make d table s → d.session.awaited ≡ None → Names name d.registry table place → Opens users d name said new →
-    (challenge : Challenge) × ((x : ℕ → Around) → (x place).challenge ≡ challenge → IsGuarded users name (x place).guarded →
+    (challenge : Challenge) × ((x : ℕ → Around) → (x place).challenge ≡ challenge → IsGuardedAt users d name (x place).guarded →
     Agrees i make (manner d word) (requests.Open name) (answer_call i make table s x None (record { request = Open; word = word; place = place })) said new)
 
 -- the answer is to the challenge that was sent, and is allowed, just where the daemon lets it

@@ -1,0 +1,16 @@
+//! Requests one after another.
+
+ghost use Rattle.desk_rules.specs.Others.{OthersStand};
+ghost use Rattle.desk_rules.specs.Requests.{RequestsAgree};
+
+/// Any request of a session that was greeted is answered as the rules say, whatever it awaits.
+#[tactic(none)]
+pub fn any_request_is_the_rules()
+    ensures { RequestsAgree }
+{}
+
+/// Where a session leaves to others what they hold, those go on as they were.
+#[tactic(none)]
+pub fn other_sessions_stand()
+    ensures { OthersStand }
+{}
