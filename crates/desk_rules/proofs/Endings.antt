@@ -43,7 +43,7 @@ same_tables i make held registry table new same old =
     }
 
 -- nothing is behind the first word
-shift : (i : ℕ) (make : ℕ → Make) (held : Held) (registry : Table) (table : ℕ → Device) → ShowsTable i make (None ∷ held) registry table → ShowsTable i make held registry table
+pub shift : (i : ℕ) (make : ℕ → Make) (held : Held) (registry : Table) (table : ℕ → Device) → ShowsTable i make (None ∷ held) registry table → ShowsTable i make held registry table
 unfolding held_by
 shift i make held registry table old =
     record {
@@ -57,7 +57,7 @@ shift i make held registry table old =
     held_at k (suc w) l e p = record { word = w; lease = l; stands = e; place = p }
 
 -- what another holds, or nobody, is left
-left_by : (i : ℕ) (dev : Device) (h : Option ℕ) → dev.holder ≡ h → (h ≡ Some i → ⊥) → let_go i dev ≡ dev
+pub left_by : (i : ℕ) (dev : Device) (h : Option ℕ) → dev.holder ≡ h → (h ≡ Some i → ⊥) → let_go i dev ≡ dev
 left_by i dev None e n = ap (λ (x : Option ℕ). cond (is_held_by i x) (put_back dev) dev) e
 left_by i dev (Some j) e n = ap (λ (x : Option ℕ). cond (is_held_by i x) (put_back dev) dev) e ∙ by_test (eqb j i) refl
   where
@@ -65,7 +65,7 @@ left_by i dev (Some j) e n = ap (λ (x : Option ℕ). cond (is_held_by i x) (put
     by_test true t = absurd (n (ap (λ (x : ℕ). Some x) (eqb-true j i t)))
     by_test false t = ap (λ (b : Bool). cond b (put_back dev) dev) t
 
-taken_by : (i : ℕ) (dev : Device) → dev.holder ≡ Some i → let_go i dev ≡ put_back dev
+pub taken_by : (i : ℕ) (dev : Device) → dev.holder ≡ Some i → let_go i dev ≡ put_back dev
 taken_by i dev e = ap (λ (x : Option ℕ). cond (is_held_by i x) (put_back dev) dev) e ∙ by_test (eqb i i) refl
   where
     by_test : (b : Bool) → eqb i i ≡ b → cond (eqb i i) (put_back dev) dev ≡ put_back dev
@@ -79,9 +79,18 @@ no_word i make k dev name (In s) h = left_by i dev None (ap (λ (x : Device). x.
 no_word i make k dev name Out (l, inl h) = absurd (let clash : None ≡ Some h.lease = h.stands in cc)
 no_word i make k dev name Out (l, inr h) = left_by i dev (Some h.other) h.holder (λ e. h.no_own (unsome h.other i e))
 
-no_place : (i : ℕ) (make : Make) (k : ℕ) (dev : Device) (at : Option (Place DeviceState)) → ShowsPlace i make [] k dev at → let_go i dev ≡ dev
+pub no_place : (i : ℕ) (make : Make) (k : ℕ) (dev : Device) (at : Option (Place DeviceState)) → ShowsPlace i make [] k dev at → let_go i dev ≡ dev
 no_place i make k dev None h = left_by i dev None h.1 (λ e. cc)
 no_place i make k dev (Some p) h = no_word i make k dev p.info.name p.slot h
+
+-- what client i holds is given back once
+pub gone : (i : ℕ) (table : ℕ → Device) (p : ℕ) → (table p).holder ≡ Some i → (e : ℕ) (b : Bool) → eqb e p ≡ b → let_go i (put table p (put_back (table p)) e) ≡ let_go i (table e)
+gone i table p holder e true t =
+    let here = eqb-true e p t in
+    ap (λ (k : ℕ). let_go i (put table p (put_back (table p)) k)) here ∙ ap (let_go i) (put_there table p (put_back (table p)))
+    ∙ left_by i (put_back (table p)) None refl (λ q. cc)
+    ∙ sym (ap (λ (k : ℕ). let_go i (table k)) here ∙ taken_by i (table p) holder)
+gone i table p holder e false t = ap (let_go i) (put_elsewhere table p (put_back (table p)) e (eqb-false e p t))
 
 -- each in its turn
 pub ends : (i : ℕ) (make : ℕ → Make) (held : Held) (registry : Table) (table : ℕ → Device) → ShowsTable i make held registry table → ShowsTable i make [] (given_back registry held) (λ e. let_go i (table e))
@@ -94,19 +103,11 @@ ends i make (Some l ∷ held) registry table old =
     let new = put table p dev in
     let registry2 = after_give_back registry l in
     let one = given_back_table i make (Some l ∷ held) registry table 0 l dev (None ∷ held) old refl (λ v n. other v n) refl (ap put_back (old.leases 0 l refl).device ∙ given_back_is (Some i) l.device) in
-    same_tables i make [] (given_back registry2 held) (λ e. let_go i (new e)) (λ e. let_go i (table e)) (λ e. sym (gone e (eqb e p) refl)) (ends i make held registry2 new (shift i make held registry2 new one))
+    same_tables i make [] (given_back registry2 held) (λ e. let_go i (new e)) (λ e. let_go i (table e)) (λ e. sym (gone i table l.place (ap (λ (x : Device). x.holder) (old.leases 0 l refl).device) e (eqb e p) refl)) (ends i make held registry2 new (shift i make held registry2 new one))
   where
     other : (v : ℕ) → v ≢ 0 → held_by (None ∷ held) v ≡ held_by (Some l ∷ held) v
     other zero n = absurd (n refl)
     other (suc v) n = refl
-
-    gone : (e : ℕ) (b : Bool) → eqb e l.place ≡ b → let_go i (put table l.place (put_back (table l.place)) e) ≡ let_go i (table e)
-    gone e true t =
-        let here = eqb-true e l.place t in
-        ap (λ (k : ℕ). let_go i (put table l.place (put_back (table l.place)) k)) here ∙ ap (let_go i) (put_there table l.place (put_back (table l.place)))
-        ∙ left_by i (put_back (table l.place)) None refl (λ q. cc)
-        ∙ sym (ap (λ (k : ℕ). let_go i (table k)) here ∙ taken_by i (table l.place) (ap (λ (x : Device). x.holder) (old.leases 0 l refl).device))
-    gone e false t = ap (let_go i) (put_elsewhere table l.place (put_back (table l.place)) e (eqb-false e l.place t))
 
 pub session_over : (i : ℕ) (make : ℕ → Make) (d : Desk) (table : ℕ → Device) (s : Session) (q : Asked) (word : ℕ) → Shows i make d table s → AgreesOn i make d word q (all_over i table s) (over d)
 session_over i make d table s q word old = record { says = refl; same_end = refl; stands = λ e. cc; ends = λ e. ends i make d.session.held d.registry table old.devices }

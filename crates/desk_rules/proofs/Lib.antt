@@ -14,3 +14,4 @@ pub mod Opens
 pub mod Turning
 pub mod Connecting
 pub mod Requested
+pub mod Leaves

@@ -23,7 +23,7 @@ use Rattle.desk_rules.proofs.Moved.{unsome}
 
 -- ---- whose a device is
 
-own_of : (i : ℕ) (a b : Option ℕ) → a ≡ b → IsOwn i b → IsOwn i a
+pub own_of : (i : ℕ) (a b : Option ℕ) → a ≡ b → IsOwn i b → IsOwn i a
 own_of i a b e h = subst (λ (o : Option ℕ). IsOwn i o) (sym e) h
 
 -- what another holds is not client i's own
@@ -114,10 +114,16 @@ leaves_same i registry now table new other same h =
 
 -- ---- a slot whose device comes or goes keeps its name
 
-abbrev IsThere : Slot DeviceState → Type 0
+abbrev pub IsThere : Slot DeviceState → Type 0
 IsThere (In s) = Unit {0}
 IsThere Out = Unit {0}
 IsThere Gone = ⊥
+
+pub there_in : (slot : Slot DeviceState) (s : DeviceState) → slot ≡ In s → IsThere slot
+there_in slot s e = subst (λ (x : Slot DeviceState). IsThere x) (sym e) tt
+
+pub there_out : (slot : Slot DeviceState) → slot ≡ Out → IsThere slot
+there_out slot e = subst (λ (x : Slot DeviceState). IsThere x) (sym e) tt
 
 same_named : (name : List ℕ) (p : Place DeviceState) (old new : Slot DeviceState) → p.slot ≡ old → IsThere old → IsThere new → is_named name (record p { slot = new }) ≡ is_named name p
 same_named name p (In s) (In t) e a b = sym (ap (λ (x : Slot DeviceState). is_named name (record { info = p.info; slot = x })) e)

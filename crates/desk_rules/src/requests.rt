@@ -1,6 +1,6 @@
 //! Requests one after another.
 
-ghost use Rattle.desk_rules.specs.Others.{OthersStand};
+ghost use Rattle.desk_rules.specs.Others.{DevicesLeave, EndsLeave, OthersStand, RequestsLeave};
 ghost use Rattle.desk_rules.specs.Requests.{RequestsAgree};
 
 /// Any request of a session that was greeted is answered as the rules say, whatever it awaits.
@@ -13,4 +13,12 @@ pub fn any_request_is_the_rules()
 #[tactic(none)]
 pub fn other_sessions_stand()
     ensures { OthersStand }
+{}
+
+/// A request, an end, and whatever becomes of a device that is held, leave so to others.
+#[tactic(none)]
+pub fn others_are_left_alone()
+    ensures by_a_request { RequestsLeave }
+    ensures by_an_end { EndsLeave }
+    ensures by_a_device { DevicesLeave }
 {}
