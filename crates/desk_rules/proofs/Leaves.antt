@@ -1,16 +1,15 @@
 -- What requests and ends leave to other sessions.
 use Rattle.std.proofs.Common.{inl, inr, ◌⊎◌, ◌≡◌, ◌≢◌, ◌∙◌, ℕ, zero, suc, List, [], ◌∷◌, Bool, true, false, Option, Some, None, refl, sym, ap, subst, eqb, eqb-true, cond, slice_get}
-use Rattle.std.specs.Prelude.{Result, Ok, Err}
+use Rattle.std.specs.Prelude.{Ok, Err}
 use Rattle.std.proofs.lemmas.Bool.{eqb-false}
-use Rattle.sane_fixed.specs.declared.status.Status.{Status as Code}
 use Rattle.option_desc.specs.declared.value.Value.{Value}
 use Rattle.page_picture.specs.Shows.{Frame}
 use Rattle.device_api.specs.State.{DeviceState, after_cancel, after_reset}
 use Rattle.dispatch.specs.declared.table.place.Slot.{Slot}
-use Rattle.dispatch.specs.declared.table.place.Slot.TheVariants.{In, Out, Gone}
+use Rattle.dispatch.specs.declared.table.place.Slot.TheVariants.{In, Out}
 use Rattle.dispatch.specs.declared.table.place.Place.{Place}
 use Rattle.dispatch.specs.declared.table.place.Lease.{Lease}
-use Rattle.dispatch.specs.Table.{Table, after_give_back, after_take, find_name, held as slot_held, held_at, leased, take_answer, take_at, take_of, with_slot}
+use Rattle.dispatch.specs.Table.{Table, after_give_back, after_take, find_name, held_at, leased, take_answer, take_at, take_of, with_slot}
 use Rattle.dispatch.proofs.Names.{lease_in_again}
 use Rattle.saned_desk.specs.Holding.{given_back, held_by, on_word}
 use Rattle.saned_desk.proofs.Keeping.{Moves}
@@ -22,14 +21,14 @@ use Rattle.scan_rules.specs.Scanners.{Device, Phase, Resting, Between, Reading, 
 use Rattle.scan_rules.specs.Daemon.{Around, Carriage, Quiet, Waiting, Streaming, Ending, Fault, allow, begin_page, begin_pass, get_reply, open_listed, put_reply, serve, set_reply, start_at, start_or_fail, start_page, start_reply, take, take_listed}
 use Rattle.scan_rules.specs.Standing.{put}
 use Rattle.scan_rules.specs.Sessions.{Call, Session, allow_call, answer_call, awaited_call, free_word as free_of, open_call, plain_call, serve_away, serve_word, word_call}
-use Rattle.desk_rules.specs.Reading.{Shows, ShowsSlot, ShowsTable, seen}
+use Rattle.desk_rules.specs.Reading.{ShowsSlot, ShowsTable, seen}
 use Rattle.desk_rules.specs.Others.{DevicesLeave, EndsLeave, IsOwn, LeavesOthers, LeavesPlace, RequestsLeave}
 use Rattle.desk_rules.proofs.Changes.{Held, shown_by}
 use Rattle.desk_rules.proofs.Endings.{gone, no_place, shift}
 use Rattle.desk_rules.proofs.Holding.{put_other}
 use Rattle.desk_rules.proofs.Leaving.{given_back_table}
-use Rattle.desk_rules.proofs.Moved.{place_in, put_elsewhere, put_there, unsome}
-use Rattle.desk_rules.proofs.Opening.{FoundSlot, found_slot, held_there}
+use Rattle.desk_rules.proofs.Moved.{place_in, unsome}
+use Rattle.desk_rules.proofs.Opening.{found_slot, held_there}
 use Rattle.desk_rules.proofs.Others.{leaves_all, leaves_same, leaves_then, own_of, same_name, there_in, there_out}
 use Rattle.desk_rules.proofs.Scanning.{given_back_is}
 

@@ -15,3 +15,8 @@ pub mod Turning
 pub mod Connecting
 pub mod Requested
 pub mod Leaves
+pub mod Backends
+pub mod Calls
+pub mod Greeted
+pub mod Serving
+pub mod Feeding

@@ -1,23 +1,18 @@
 -- What one session leaves to the others.
-use Rattle.std.proofs.Common.{inl, inr, ◌⊎◌, ◌≡◌, ◌≢◌, ◌∙◌, ◌+◌, ℕ, zero, suc, List, [], ◌∷◌, Bool, true, false, Option, Some, None, not, refl, sym, ap, subst, eqb, eqb-true, cond, length, slice_get}
-use Rattle.std.proofs.lemmas.Bool.{eqb-false}
+use Rattle.std.proofs.Common.{inl, inr, ◌≡◌, ◌≢◌, ◌∙◌, ℕ, zero, suc, List, [], ◌∷◌, Option, Some, None, not, refl, sym, ap, subst, length, slice_get}
 use Rattle.std.specs.List.{prefix_len}
-use Rattle.std.specs.Prelude.{nat_eq}
-use Rattle.std.specs.Cmp.Lexicographic.{pointwise}
 use Rattle.device_api.specs.State.{DeviceState}
 use Rattle.dispatch.specs.declared.table.place.Slot.{Slot}
 use Rattle.dispatch.specs.declared.table.place.Slot.TheVariants.{In, Out, Gone}
 use Rattle.dispatch.specs.declared.table.place.Place.{Place}
 use Rattle.dispatch.specs.declared.table.place.Lease.{Lease}
-use Rattle.dispatch.specs.Table.{IsLeaseOf, Table, find_name, is_named, with_slot}
+use Rattle.dispatch.specs.Table.{Table, find_name, is_named, with_slot}
 use Rattle.saned_desk.specs.declared.session.Awaited.{Awaited}
-use Rattle.saned_desk.specs.Holding.{held_by}
-use Rattle.saned_desk.specs.Rules.{Desk}
 use Rattle.scan_rules.specs.Words.{Challenge}
 use Rattle.scan_rules.specs.Devices.{Make}
 use Rattle.scan_rules.specs.Scanners.{Device}
-use Rattle.desk_rules.specs.Reading.{Holds, IsAway, IsAwaited, NamesPlace, Shows, ShowsLease, ShowsPlace, ShowsSlot, ShowsTable}
-use Rattle.desk_rules.specs.Others.{IsOwn, LeavesOthers, LeavesPlace, OthersStand, beside}
+use Rattle.desk_rules.specs.Reading.{IsAwaited, NamesPlace, ShowsLease, ShowsPlace, ShowsSlot, ShowsTable}
+use Rattle.desk_rules.specs.Others.{IsOwn, LeavesOthers, LeavesPlace, OthersStand}
 use Rattle.desk_rules.proofs.Changes.{Held}
 use Rattle.desk_rules.proofs.Moved.{unsome}
 

@@ -1,24 +1,23 @@
 -- Any request, by the laws of each.
-use Rattle.std.proofs.Common.{◌≡◌, ◌≢◌, ◌∙◌, ℕ, List, [], Bool, true, false, Option, Some, None, refl, sym, ap, subst, eqb, eqb-true, cond}
+use Rattle.std.proofs.Common.{◌≡◌, ◌∙◌, ℕ, List, [], Bool, true, false, Option, Some, None, refl, sym, ap, subst, eqb, eqb-true, cond}
 use Rattle.md5_auth.specs.declared.users.Entry.{Entry}
 use Rattle.wire_message.specs.declared.message.Action.TheVariants.{GetValue, SetValue}
 use Rattle.wire_message.specs.declared.message.Request.{Request as Asked}
 use Rattle.wire_message.specs.declared.message.Request.TheVariants as requests
 use Rattle.saned_desk.specs.declared.said.Said.{Said}
 use Rattle.saned_desk.specs.declared.session.Awaited.{Awaited}
-use Rattle.saned_desk.specs.Rules.{Answers, AnswersAwaiting, AnswersBy, AnswersFree, AnswersGreeted, Desk, Gives, MayOpen, Outcome, cancel, close, control, devices_reply, greet, options_reply, over, params_reply}
-use Rattle.scan_rules.specs.Words.{Authorize, Cancel, Challenge, Close, Describe, Exit, Get, GetDevices, Init, Open, Parameters, Request, Set, Start, same_text}
+use Rattle.saned_desk.specs.Rules.{AnswersAwaiting, AnswersBy, AnswersFree, AnswersGreeted, Desk, Gives, MayOpen, Outcome, cancel, close, control, devices_reply, greet, options_reply, over, params_reply}
+use Rattle.scan_rules.specs.Words.{Cancel, Challenge, Close, Describe, Get, GetDevices, Init, Open, Parameters, Request, Set, Start, same_text}
 use Rattle.scan_rules.specs.Devices.{Make}
 use Rattle.scan_rules.specs.Scanners.{Device}
 use Rattle.scan_rules.specs.Daemon.{Around, Fault}
 use Rattle.scan_rules.specs.Steps.{MayFail}
-use Rattle.scan_rules.specs.Sessions.{Call, Comes, Session, answer_call, awaited_call, plain_call, word_call}
+use Rattle.scan_rules.specs.Sessions.{Call, Comes, Session, answer_call, plain_call}
 use Rattle.desk_rules.specs.Reading.{IsAwaited, Shows}
 use Rattle.desk_rules.specs.Spelling.{Manner}
-use Rattle.desk_rules.specs.Agreeing.{Agrees, AgreesOn, manner}
+use Rattle.desk_rules.specs.Agreeing.{Agrees, manner}
 use Rattle.desk_rules.specs.WholeSessions.{IsGuarded, IsJudged, IsLast, IsOther}
 use Rattle.desk_rules.specs.Requests.{IsAwaitedCall, IsCallBy, IsFreeCall, RequestServed, RequestsAgree, with_chance, word_of}
-use Rattle.desk_rules.proofs.Changes.{Held}
 use Rattle.desk_rules.proofs.Endings.{devices_agree, ends_agree, init_agrees, others_end}
 use Rattle.desk_rules.proofs.Leaving.{cancel_agrees, close_agrees}
 use Rattle.desk_rules.proofs.Moved.{put_there}
@@ -28,7 +27,7 @@ use Rattle.desk_rules.proofs.Started.{start_agrees}
 use Rattle.desk_rules.proofs.Words.{get_agrees, options_agree, parameters_agree}
 
 -- what a request gives is what it gave
-given : (i : ℕ) (make : ℕ → Make) (m : Manner) (q : Asked) (comes : Comes) (outcome : Outcome) (said : Said) (new : Desk) → Gives outcome said new → Agrees i make m q comes outcome.0 outcome.1 → Agrees i make m q comes said new
+pub given : (i : ℕ) (make : ℕ → Make) (m : Manner) (q : Asked) (comes : Comes) (outcome : Outcome) (said : Said) (new : Desk) → Gives outcome said new → Agrees i make m q comes outcome.0 outcome.1 → Agrees i make m q comes said new
 given i make m q comes outcome said new g h = subst (λ (t : Said). Agrees i make m q comes t new) (sym g.0) (subst (λ (t : Desk). Agrees i make m q comes outcome.0 t) (sym g.1) h)
 
 -- a call for a word

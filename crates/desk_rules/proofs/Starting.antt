@@ -252,6 +252,20 @@ starts_in k s after holder (Read pass given) answer made at in_scan some h n = b
 pub start_served : (k : Make) (s after : DeviceState) (holder : Option ℕ) (answer : Result Unit Code) → IsMade k s → Starts s answer after → answer ≢ Err code.NoMem → StartServed k s answer after holder
 start_served k s after holder answer made h n = starts_in k s after holder s.phase answer made refl made.in_scan.phase made.in_scan.page h n
 
+-- ---- a start for which memory is wanting leaves the device at rest
+
+starved_on : (pages : List Held) (s after : DeviceState) → StartsOn pages s (Err code.NoMem) after → after ≡ stopped s
+starved_on [] s after h = absurd (let clash : Err code.NoMem ≡ Err code.NoDocs = h.0 in cc)
+starved_on (held ∷ pages) s after h = h.1
+
+starved_in : (phase : AnyPhase) (s after : DeviceState) → StartsIn phase s (Err code.NoMem) after → after ≡ stopped s
+starved_in (Rest c) s after h = starved_on s.pages s after h
+starved_in (Amid ended) s after h = starved_on s.pages s after h
+starved_in (Read pass given) s after h = absurd (let clash : Err code.NoMem ≡ Err code.DeviceBusy = h.0 in cc)
+
+pub starved_is : (holder : Option ℕ) (s after : DeviceState) → Starts s (Err code.NoMem) after → put_down (seen holder s) ≡ seen holder after
+starved_is holder s after h = stopped_at s.phase holder s refl ∙ sym (ap (λ (d : DeviceState). seen holder d) (starved_in s.phase s after h))
+
 -- ---- what it stays
 
 stopped_setup : (phase : AnyPhase) (s : DeviceState) → (stopped_in phase s).setup ≡ s.setup

@@ -6,3 +6,4 @@ pub mod WholeSessions
 pub mod Data
 pub mod Requests
 pub mod Others
+pub mod Feeds

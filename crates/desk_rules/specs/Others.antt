@@ -1,5 +1,5 @@
 -- What a session leaves to the sessions of other clients.
-use Rattle.std.specs.Prelude.{ℕ, ◌≡◌, ◌≢◌, ◌⊎◌, Bool, true, false, Option, Some, None, List, [], slice_get}
+use Rattle.std.specs.Prelude.{ℕ, ◌≡◌, ◌≢◌, ◌⊎◌, Option, Some, None, List, slice_get}
 use Rattle.rand_chacha.specs.ChaCha.{ChaCha}
 use Rattle.md5_auth.specs.declared.users.Entry.{Entry}
 use Rattle.device_api.specs.State.{DeviceState}

@@ -1,5 +1,5 @@
 -- A request of a session that was greeted, as a call by the rules of the world.
-use Rattle.std.specs.Prelude.{ℕ, ◌≡◌, ◌/◌, true, Bool, Option, Some, None, List}
+use Rattle.std.specs.Prelude.{ℕ, ◌≡◌, ◌/◌, true, Option, Some, None, List}
 use Rattle.md5_auth.specs.declared.users.Entry.{Entry}
 use Rattle.option_desc.specs.declared.value.Value.{Value}
 use Rattle.wire_message.specs.declared.message.Action.TheVariants.{GetValue, SetValue}

@@ -1,5 +1,6 @@
 //! Requests one after another.
 
+ghost use Rattle.desk_rules.specs.Feeds.{FeedsAgree};
 ghost use Rattle.desk_rules.specs.Others.{DevicesLeave, EndsLeave, OthersStand, RequestsLeave};
 ghost use Rattle.desk_rules.specs.Requests.{RequestsAgree};
 
@@ -21,4 +22,11 @@ pub fn others_are_left_alone()
     ensures by_a_request { RequestsLeave }
     ensures by_an_end { EndsLeave }
     ensures by_a_device { DevicesLeave }
+{}
+
+/// A piece of bytes is a run of calls by the rules: behind each the desk is shown again, and where the session ends in it, all
+/// that it holds is given back; also where memory is wanting. Others are left what they hold.
+#[tactic(none)]
+pub fn a_feed_is_the_rules()
+    ensures { FeedsAgree }
 {}
