@@ -20,3 +20,5 @@ pub mod Calls
 pub mod Greeted
 pub mod Serving
 pub mod Feeding
+pub mod Beginning
+pub mod Cores

@@ -7,3 +7,4 @@ pub mod Data
 pub mod Requests
 pub mod Others
 pub mod Feeds
+pub mod Cores

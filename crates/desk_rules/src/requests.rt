@@ -1,5 +1,6 @@
 //! Requests one after another.
 
+ghost use Rattle.desk_rules.specs.Cores.{CoreFeeds, OpeningsShow, RegistriesShow};
 ghost use Rattle.desk_rules.specs.Feeds.{FeedsAgree};
 ghost use Rattle.desk_rules.specs.Others.{DevicesLeave, EndsLeave, OthersStand, RequestsLeave};
 ghost use Rattle.desk_rules.specs.Requests.{RequestsAgree};
@@ -29,4 +30,17 @@ pub fn others_are_left_alone()
 #[tactic(none)]
 pub fn a_feed_is_the_rules()
     ensures { FeedsAgree }
+{}
+
+/// A new registry and a session that was just opened are shown.
+#[tactic(none)]
+pub fn the_beginning_is_shown()
+    ensures registry { RegistriesShow }
+    ensures session { OpeningsShow }
+{}
+
+/// A piece for one session of a daemon: that session runs by the rules, and each of another client stands as it stood.
+#[tactic(none)]
+pub fn a_daemon_is_fed_by_the_rules()
+    ensures { CoreFeeds }
 {}
