@@ -1,18 +1,16 @@
 -- A new registry, and a session that was just opened.
-use Rattle.std.proofs.Common.{inl, inr, ◌⊎◌, ◌≡◌, ◌∙◌, ℕ, zero, suc, List, [], ◌∷◌, Option, Some, None, refl, sym, ap, subst, slice_get}
-use Rattle.rand_chacha.specs.ChaCha.{ChaCha}
+use Rattle.std.proofs.Common.{◌≡◌, ◌∙◌, ℕ, zero, suc, List, [], ◌∷◌, Option, Some, None, refl, sym, ap, subst, slice_get}
 use Rattle.device_api.specs.State.{DeviceState, after_cancel, after_reset}
 use Rattle.device_api.proofs.AllowedLaws.{defaults_allowed}
 use Rattle.device_api.proofs.SameLaws.{reset_same}
 use Rattle.device_api.specs.declared.device_info.DeviceInfo.{DeviceInfo}
 use Rattle.dispatch.specs.declared.table.place.Place.{Place}
 use Rattle.dispatch.specs.declared.table.place.Lease.{Lease}
-use Rattle.dispatch.specs.Table.{Table, fresh_place, fresh_table}
-use Rattle.saned_desk.specs.Holding.{fresh_session, held_by}
+use Rattle.dispatch.specs.Table.{fresh_place, fresh_table}
+use Rattle.saned_desk.specs.Holding.{held_by}
 use Rattle.scan_laws.proofs.Places.{reset_in}
 use Rattle.scan_rules.specs.Devices.{Make}
-use Rattle.scan_rules.specs.Scanners.{Device}
-use Rattle.desk_rules.specs.Reading.{Holds, IsMade, Shows, ShowsPlace, ShowsTable}
+use Rattle.desk_rules.specs.Reading.{IsMade, ShowsPlace}
 use Rattle.desk_rules.specs.Cores.{IsOfMake, OpeningsShow, RegistriesShow, fresh_device, fresh_devices}
 use Rattle.desk_rules.proofs.Changes.{Held, place_shown}
 use Rattle.desk_rules.proofs.Moved.{place_in}

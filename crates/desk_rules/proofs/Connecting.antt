@@ -59,7 +59,7 @@ off_same i c table (Some p) h k = put_self table p k (image_off i c (table p)) (
 resting_loss : (i : ℕ) (table : ℕ → Device) (s : Session) (c : Carriage) → s.carriage ≡ c → ((dev : Device) → image_off i c dev ≡ dev) → (k : ℕ) → off_at i s.carriage table (s.words s.framed) k ≡ table k
 resting_loss i table s c e h k = ap (λ (x : Carriage). off_at i x table (s.words s.framed) k) e ∙ off_same i c table (s.words s.framed) h k
 
-listed_by : (table : ℕ → Device) (p : ℕ) (dev : Device) (k : ℕ) (b : Bool) → eqb k p ≡ b → dev.listed ≡ (table p).listed → (cond b dev (table k)).listed ≡ (table k).listed
+pub listed_by : (table : ℕ → Device) (p : ℕ) (dev : Device) (k : ℕ) (b : Bool) → eqb k p ≡ b → dev.listed ≡ (table p).listed → (cond b dev (table k)).listed ≡ (table k).listed
 listed_by table p dev k true e same = same ∙ sym (ap (λ (j : ℕ). (table j).listed) (eqb-true k p e))
 listed_by table p dev k false e same = refl
 

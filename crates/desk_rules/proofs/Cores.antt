@@ -1,5 +1,5 @@
 -- A piece for one of a daemon's sessions.
-use Rattle.std.proofs.Common.{inl, inr, ◌⊎◌, ◌≡◌, ◌≢◌, ◌∙◌, ℕ, List, [], ◌∷◌, Bool, true, false, Option, Some, None, refl, sym, ap, subst}
+use Rattle.std.proofs.Common.{◌≡◌, ◌≢◌, ◌∙◌, ℕ, List, [], ◌∷◌, Bool, true, false, Option, Some, None, refl, sym, ap, subst}
 use Rattle.std.specs.Prelude.{◌==◌, if◌then◌else◌}
 use Rattle.std.specs.Option.{option_and_then}
 use Rattle.rand_chacha.specs.ChaCha.{ChaCha}
@@ -12,13 +12,13 @@ use Rattle.saned_core.specs.declared.seat.Fed.{Fed}
 use Rattle.saned_core.specs.declared.seat.Fed.TheVariants.{Standing, Over, Starved}
 use Rattle.saned_core.specs.declared.seat.Seat.{Seat}
 use Rattle.saned_core.specs.State.{Core, is_number, on_seat, seat_of, session_in, session_of, standing}
-use Rattle.saned_core.specs.Feeding.{Feeds, FeedsIf, FeedsIn, fed_seat, input_in, registry_after, seat_after}
+use Rattle.saned_core.specs.Feeding.{FeedsIf, FeedsIn, fed_seat, input_in, registry_after, seat_after}
 use Rattle.saned_core.proofs.Apart.{apart}
 use Rattle.scan_rules.specs.Devices.{Make}
 use Rattle.scan_rules.specs.Scanners.{Device}
 use Rattle.scan_rules.specs.Sessions.{Session}
 use Rattle.desk_rules.specs.Reading.{Shows, ShowsTable}
-use Rattle.desk_rules.specs.Others.{LeavesOthers, beside}
+use Rattle.desk_rules.specs.Others.{LeavesOthers}
 use Rattle.desk_rules.specs.Feeds.{IsBegun, IsFed}
 use Rattle.desk_rules.specs.Cores.{CoreFed, CoreFeeds, ShowsSession, StandsBehind, desk_of, devices_behind}
 use Rattle.desk_rules.proofs.Changes.{Held}
@@ -93,13 +93,16 @@ stands_as i j m make old new table devices u n same b h =
 own_behind : (fed : Fed) (i : ℕ) (make : ℕ → Make) (n : ℕ) (old new : Core) (session : DeskSession DeviceState) (table : ℕ → Device) (s : Session) (piece rest text : List ℕ) (desk : Desk) → session_of old n ≡ Some session → new.seats ≡ on_seat (seat_after fed desk rest text) n old.seats →
     new.registry ≡ registry_after fed desk → new.stream ≡ desk.stream → (ran : IsFed fed i make old.users (desk_of old session) table s (input_in (seat_of old.seats n)) piece rest desk) →
     StandsBehind fed i make new n (devices_behind fed i make old.users (desk_of old session) table s (input_in (seat_of old.seats n)) piece rest desk ran)
-own_behind Standing i make n old new session table s piece rest text desk stands seats registry stream ran = (ran.2.session, record {
-  session = desk.session;
-  stands = ap (λ (x : List (Option (Seat DeviceState))). session_in (seat_of x n)) seats ∙ going_on (seat_of old.seats n) session old.seats n desk rest text refl stands;
-  shows = subst (λ (t : Table). Shows i make (record { session = desk.session; registry = t; stream = new.stream }) ran.2.devices ran.2.session) (sym registry)
-    (subst (λ (c : ChaCha). Shows i make (record { session = desk.session; registry = desk.registry; stream = c }) ran.2.devices ran.2.session) (sym stream) ran.2.shows);
-  begun = ran.2.begun;
-})
+own_behind Standing i make n old new session table s piece rest text desk stands seats registry stream ran = (
+  ran.2.session,
+  record {
+    session = desk.session;
+    stands = ap (λ (x : List (Option (Seat DeviceState))). session_in (seat_of x n)) seats ∙ going_on (seat_of old.seats n) session old.seats n desk rest text refl stands;
+    shows = subst (λ (t : Table). Shows i make (record { session = desk.session; registry = t; stream = new.stream }) ran.2.devices ran.2.session) (sym registry)
+        (subst (λ (c : ChaCha). Shows i make (record { session = desk.session; registry = desk.registry; stream = c }) ran.2.devices ran.2.session) (sym stream) ran.2.shows);
+    begun = ran.2.begun;
+  },
+)
 own_behind Over i make n old new session table s piece rest text desk stands seats registry stream ran = subst (λ (t : Table). ShowsTable i make [] t (devices_behind Over i make old.users (desk_of old session) table s (input_in (seat_of old.seats n)) piece rest desk ran)) (sym registry) ran.3.back
 own_behind Starved i make n old new session table s piece rest text desk stands seats registry stream ran = subst (λ (t : Table). ShowsTable i make [] t (devices_behind Starved i make old.users (desk_of old session) table s (input_in (seat_of old.seats n)) piece rest desk ran)) (sym registry) ran.3.back
 
@@ -115,8 +118,8 @@ fed_in i make n old new session table s piece fed stands shows begun g =
       ran = ran;
       own = own_behind fed i make n old new session table s piece g.rest g.text g.desk stands g.seats_is g.registry_is g.stream_is ran;
       others = λ j m u apart_i apart_n h.
-        let same : session_of new m ≡ session_of old m = ap (λ (x : List (Option (Seat DeviceState))). session_in (seat_of x m)) g.seats_is ∙ ap session_in (apart old.seats (seat_after fed g.desk g.rest g.text) n m (keeps_number fed g.desk g.rest g.text) (λ e. apart_n (sym e))) in
-        stands_as i j m make old new table devices u apart_i same (subst (λ (t : Table). Behind i make old.registry t table devices) (sym g.registry_is) b) h;
+          let same : session_of new m ≡ session_of old m = ap (λ (x : List (Option (Seat DeviceState))). session_in (seat_of x m)) g.seats_is ∙ ap session_in (apart old.seats (seat_after fed g.desk g.rest g.text) n m (keeps_number fed g.desk g.rest g.text) (λ e. apart_n (sym e))) in
+          stands_as i j m make old new table devices u apart_i same (subst (λ (t : Table). Behind i make old.registry t table devices) (sym g.registry_is) b) h;
     }
 
 pub core_feeds : CoreFeeds

@@ -22,3 +22,4 @@ pub mod Serving
 pub mod Feeding
 pub mod Beginning
 pub mod Cores
+pub mod Streaming

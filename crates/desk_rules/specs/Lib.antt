@@ -4,6 +4,7 @@ pub mod Agreeing
 pub mod DeviceWords
 pub mod WholeSessions
 pub mod Data
+pub mod Streams
 pub mod Requests
 pub mod Others
 pub mod Feeds
