@@ -70,6 +70,7 @@ openings_show i make port registry stream table old =
       four = refl;
       carriage = refl;
       awaited = refl;
+      frame = tt;
       devices = record {
         leases = λ w l e. absurd (none_held w l e);
         apart = λ w v l m e f same. absurd (none_held w l e);

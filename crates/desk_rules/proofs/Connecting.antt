@@ -19,6 +19,7 @@ use Rattle.scan_rules.specs.Sessions.{Session}
 use Rattle.scan_rules.specs.Deeds.{image_off, left_by_loss}
 use Rattle.desk_rules.specs.Reading.{IsAwaited, IsCarriage, NamesPlace, Shows, seen}
 use Rattle.desk_rules.specs.Data.{ConnectsAgree, LossAgrees, dialled, off_at}
+use Rattle.desk_rules.proofs.Frames.{frame_dialled}
 use Rattle.desk_rules.proofs.Changes.{Held}
 use Rattle.desk_rules.proofs.Endings.{same_tables}
 use Rattle.desk_rules.proofs.Holding.{on_length, on_nothing, on_other, on_same}
@@ -36,7 +37,7 @@ dials word.Ending c f h = ap dialled h
 
 pub connects_agree : ConnectsAgree
 connects_agree i make d table s old =
-    record { words = old.words; four = old.four; carriage = dials d.session.carriage s.carriage s.framed old.carriage; awaited = old.awaited; devices = old.devices }
+    record { words = old.words; four = old.four; carriage = dials d.session.carriage s.carriage s.framed old.carriage; frame = frame_dialled d.session.carriage d.session.held old.frame; awaited = old.awaited; devices = old.devices }
 
 -- ---- it is lost
 
@@ -69,7 +70,7 @@ lost_word : (i : ℕ) (make : ℕ → Make) (d : Desk) (table : ℕ → Device) 
 lost_word i make d table s w None old e streams =
     let same : on_word cancelled_lease d.session.held w ≡ d.session.held = on_nothing cancelled_lease d.session.held w refl e in
     subst (λ (held : Held). Shows i make (record d { session = record d.session { held = held; carriage = word.Quiet } }) table (record s { carriage = Quiet })) (sym same)
-    (record { words = old.words; four = old.four; carriage = refl; awaited = old.awaited; devices = old.devices })
+    (record { words = old.words; four = old.four; carriage = refl; frame = tt; awaited = old.awaited; devices = old.devices })
 lost_word i make d table s w (Some l) old e streams =
     let shown = old.devices.leases w l e in
     let dev = image_off i s.carriage (table l.place) in
@@ -98,6 +99,7 @@ lost_word i make d table s w (Some l) old e streams =
       carriage = refl;
       awaited = still_awaited d.session.held new.session.held d.registry table (put table l.place dev) d.session.awaited s.awaited free
           (λ k. listed_by table l.place dev k (eqb k l.place) refl (ap (λ (t : Device). t.listed) device ∙ sym (ap (λ (t : Device). t.listed) shown.device))) old.awaited;
+      frame = tt;
       devices = moved_table i make d table s w l old e new dev stays;
     }
 
@@ -111,6 +113,7 @@ loss_at i make d table s word.Quiet old is h =
       four = old.four;
       carriage = subst (λ (c : WordCarriage). IsCarriage c (left_by_loss s.carriage) s.framed) (sym is) (ap left_by_loss h);
       awaited = still_awaited d.session.held d.session.held d.registry table (off_at i s.carriage table (s.words s.framed)) d.session.awaited s.awaited refl (λ k. ap (λ (t : Device). t.listed) (same k)) old.awaited;
+      frame = old.frame;
       devices = same_tables i make d.session.held d.registry table (off_at i s.carriage table (s.words s.framed)) same old.devices;
     }
 loss_at i make d table s (word.Waiting w) old is h =
@@ -120,6 +123,7 @@ loss_at i make d table s (word.Waiting w) old is h =
       four = old.four;
       carriage = subst (λ (c : WordCarriage). IsCarriage c (left_by_loss s.carriage) s.framed) (sym is) (ap left_by_loss h.0, h.1);
       awaited = still_awaited d.session.held d.session.held d.registry table (off_at i s.carriage table (s.words s.framed)) d.session.awaited s.awaited refl (λ k. ap (λ (t : Device). t.listed) (same k)) old.awaited;
+      frame = old.frame;
       devices = same_tables i make d.session.held d.registry table (off_at i s.carriage table (s.words s.framed)) same old.devices;
     }
 loss_at i make d table s word.Ending old is h =
@@ -129,6 +133,7 @@ loss_at i make d table s word.Ending old is h =
       four = old.four;
       carriage = ap left_by_loss h;
       awaited = still_awaited d.session.held d.session.held d.registry table (off_at i s.carriage table (s.words s.framed)) d.session.awaited s.awaited refl (λ k. ap (λ (t : Device). t.listed) (same k)) old.awaited;
+      frame = tt;
       devices = same_tables i make d.session.held d.registry table (off_at i s.carriage table (s.words s.framed)) same old.devices;
     }
 loss_at i make d table s (word.Streaming w) old is h =

@@ -173,7 +173,7 @@ lists_agree i make d table s old = lists_from table 0 d.registry (λ n j p z e.
     ap (λ (k : ℕ). (table k).listed) here ∙ is_listed i (make j) d.session.held j (table j) p.info.name p.slot (shown_by i (make j) d.session.held j (table j) (slice_get d.registry j) p p.slot e refl (old.devices.places j)))
 
 greeted : (i : ℕ) (make : ℕ → Make) (d : Desk) (table : ℕ → Device) (s : Session) → Shows i make d table s → Shows i make (record d { session = record d.session { greeted = true } }) table s
-greeted i make d table s old = record { words = old.words; four = old.four; carriage = old.carriage; awaited = old.awaited; devices = old.devices }
+greeted i make d table s old = record { words = old.words; four = old.four; carriage = old.carriage; frame = old.frame; awaited = old.awaited; devices = old.devices }
 
 pub init_agrees : InitAgrees
 init_agrees i make d table s x version w place user old none major =

@@ -25,6 +25,7 @@ use Rattle.scan_rules.specs.Sessions.{Session, framed_by, serve_word, word_call}
 use Rattle.desk_rules.specs.Reading.{IsCarriage, Shows, ShowsTable, seen}
 use Rattle.desk_rules.specs.Agreeing.{Agrees, AgreesOn, manner}
 use Rattle.desk_rules.specs.DeviceWords.{CancelAgrees, CloseAgrees}
+use Rattle.desk_rules.proofs.Frames.{frame_cut}
 use Rattle.desk_rules.proofs.Changes.{Held, changed, shown_as}
 use Rattle.desk_rules.proofs.Holding.{on_length, on_other, on_same, put_other, put_same, with_new}
 use Rattle.desk_rules.proofs.Moved.{moved, nothing_awaited, place_in, put_elsewhere, put_there, unsome}
@@ -100,7 +101,7 @@ cancel_at i make d table s x w (Some l) old none e =
       device = ap put_down shown.device ∙ cancelled_is (Some i) l.device;
       made = made_cancelled (make l.place) l.device shown.made;
     })
-    (record { awaited = none; words = λ v. refl; carriage = frame_off d.session.carriage s.carriage w s.framed (eqb w s.framed) refl old.carriage; sent = refl }))
+    (record { awaited = none; words = λ v. refl; carriage = frame_off d.session.carriage s.carriage w s.framed (eqb w s.framed) refl old.carriage; frame = frame_cut d.session.carriage d.session.held (on_word cancelled_lease d.session.held w) w (λ v n. on_other cancelled_lease d.session.held w v n) old.frame; sent = refl }))
 
 pub cancel_agrees : CancelAgrees
 cancel_agrees i make d table s x w place shows none =
@@ -142,6 +143,7 @@ closed i make d table s w l dev c f old none e is carriage =
       four = on_length (λ _. None) d.session.held w ∙ old.four;
       carriage = carriage;
       awaited = nothing_awaited held (after_give_back d.registry l) (put table l.place dev) d.session.awaited None none refl;
+      frame = frame_cut d.session.carriage d.session.held held w (λ v n. on_other (λ _. None) d.session.held w v n) old.frame;
       devices = given_back_table i make d.session.held d.registry table w l dev held old.devices e (λ v n. on_other (λ _. None) d.session.held w v n) gone is;
     }
 

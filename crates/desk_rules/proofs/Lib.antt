@@ -2,6 +2,7 @@ pub mod Holding
 pub mod Changes
 pub mod Scanning
 pub mod Moved
+pub mod Frames
 pub mod Words
 pub mod Setting
 pub mod Starting

@@ -14,7 +14,7 @@ use Rattle.scan_rules.specs.Devices.{Make}
 use Rattle.scan_rules.specs.Scanners.{Device}
 use Rattle.scan_rules.specs.Standing.{put}
 use Rattle.scan_rules.specs.Sessions.{Session}
-use Rattle.desk_rules.specs.Reading.{seen, IsMade, IsCarriage, IsAwaited, ShowsLease, ShowsTable, Shows}
+use Rattle.desk_rules.specs.Reading.{seen, IsMade, IsCarriage, IsAwaited, ShowsLease, ShowsTable, Shows, HasFrame}
 use Rattle.desk_rules.proofs.Changes.{Held, changed, shown_as}
 
 put_by_test : {X : Type 0} (f : ℕ → X) (k : ℕ) (x : X) (j : ℕ) (b : Bool) → eqb j k ≡ b → j ≢ k → put f k x j ≡ f j
@@ -68,6 +68,7 @@ pub record StaysIn (d : Desk) (s : Session) (new : Desk) (u : Session) : Type 0 
   pub awaited : new.session.awaited ≡ None
   pub words : (v : ℕ) → u.words v ≡ s.words v
   pub carriage : IsCarriage new.session.carriage u.carriage u.framed
+  pub frame : HasFrame new.session.carriage new.session.held
   pub sent : u.awaited ≡ None
 
 -- the lease of a device in the same place
@@ -119,5 +120,6 @@ moved i make d table s w l old stands new dev u c h =
       four = c.four ∙ old.four;
       carriage = h.carriage;
       awaited = nothing_awaited new.session.held new.registry (put table l.place dev) new.session.awaited u.awaited h.awaited h.sent;
+      frame = h.frame;
       devices = moved_table i make d table s w l old stands new dev c;
     }

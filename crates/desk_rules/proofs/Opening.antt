@@ -19,6 +19,7 @@ use Rattle.scan_rules.specs.Daemon.{Carriage, Served}
 use Rattle.scan_rules.specs.Standing.{put}
 use Rattle.scan_rules.specs.Sessions.{Session, free_word as free_of, opened, or_word, words_after}
 use Rattle.desk_rules.specs.Reading.{IsCarriage, Shows, ShowsLease, ShowsSlot, seen}
+use Rattle.desk_rules.proofs.Frames.{frame_beside}
 use Rattle.desk_rules.proofs.Changes.{Held, changed, shown_as, shown_by}
 use Rattle.desk_rules.proofs.Endings.{same_tables}
 use Rattle.desk_rules.proofs.Holding.{on_length, on_other, put_other, put_same, with_new}
@@ -138,6 +139,7 @@ hand_out i make d table s w p at st dev old none free there in_it is =
       four = on_length (λ _. Some l) d.session.held w ∙ old.four;
       carriage = old.carriage;
       awaited = nothing_awaited held registry (put table p dev) d.session.awaited None none refl;
+      frame = frame_beside d.session.carriage d.session.held held w vacant.0 (λ v n. on_other (λ _. Some l) d.session.held w v n) old.frame;
       devices = changed i make d.session.held d.registry table w p held registry (put table p dev) old.devices (record {
         others = λ v n. on_other (λ _. Some l) d.session.held w v n;
         alone = λ v n away h same. in_or_out d.registry p at st n same there in_it (old.devices.leases v n h).own;
@@ -167,5 +169,6 @@ opened_unchanged i make d table s w p v old none device carriage sent =
       four = old.four;
       carriage = subst (λ (c : Carriage). IsCarriage d.session.carriage c s.framed) (sym carriage) old.carriage;
       awaited = nothing_awaited d.session.held d.registry (put table p v.device) d.session.awaited (option_map (λ c. (c, p)) v.awaited) none (ap (option_map (λ c. (c, p))) sent);
+      frame = old.frame;
       devices = same_tables i make d.session.held d.registry table (put table p v.device) (λ k. put_self table p k v.device (eqb k p) refl device) old.devices;
     }

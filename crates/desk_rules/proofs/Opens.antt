@@ -114,10 +114,10 @@ taken i make d table s w p name old none free names = taken_by i make d table s 
 
 -- the session without what it awaited
 unawaited : (i : ℕ) (make : ℕ → Make) (d : Desk) (table : ℕ → Device) (s : Session) → Shows i make d table s → Shows i make (not_awaited d) table (record s { awaited = None })
-unawaited i make d table s old = record { words = old.words; four = old.four; carriage = old.carriage; awaited = refl; devices = old.devices }
+unawaited i make d table s old = record { words = old.words; four = old.four; carriage = old.carriage; frame = old.frame; awaited = refl; devices = old.devices }
 
 plain_session : (i : ℕ) (make : ℕ → Make) (d : Desk) (table : ℕ → Device) (s : Session) → Shows i make d table s → d.session.awaited ≡ None → Shows i make d table (record s { awaited = None })
-plain_session i make d table s old none = record { words = old.words; four = old.four; carriage = old.carriage; awaited = nothing_awaited d.session.held d.registry table d.session.awaited None none refl; devices = old.devices }
+plain_session i make d table s old none = record { words = old.words; four = old.four; carriage = old.carriage; frame = old.frame; awaited = nothing_awaited d.session.held d.registry table d.session.awaited None none refl; devices = old.devices }
 
 -- AUTHORIZE
 spells_authorized : (m : Manner) (resource user password : List ℕ) (w : ℕ) (a : Reply) (r : Wire) → m.free ≡ Some w → IsTake w a r → Spells m (requests.Authorize resource user password) a r
@@ -230,6 +230,7 @@ asked i make users d table s name word w p said new old none free names listed f
         four = old.four;
         carriage = old.carriage;
         awaited = (names_put name d.registry table p (find_name name d.registry) names, λ e. let clash : None ≡ Some w = sym e ∙ free in cc);
+        frame = old.frame;
         devices = same_tables i make d.session.held d.registry table (put table p (table p)) there old.devices;
       })))),
 )

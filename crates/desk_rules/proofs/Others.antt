@@ -69,6 +69,7 @@ others_stand i j make held d now stream table new s n all leaves old =
       four = old.four;
       carriage = old.carriage;
       awaited = awaited_beside d.session.held d.registry now table new d.session.awaited s.awaited leaves.names leaves.listed old.awaited;
+      frame = old.frame;
       devices = record {
         leases = λ w l e. lease_beside i j make d.registry now table new l n (leaves.places l.place) (old.devices.leases w l e);
         apart = old.devices.apart;

@@ -28,6 +28,7 @@ use Rattle.scan_rules.specs.Sessions.{Session, serve_word, word_call}
 use Rattle.desk_rules.specs.Reading.{Shows}
 use Rattle.desk_rules.specs.Agreeing.{AgreesOn, manner}
 use Rattle.desk_rules.specs.DeviceWords.{AsksFor, AsksNone, AsksOf, SetAgrees, SetRefuses}
+use Rattle.desk_rules.proofs.Frames.{frame_but}
 use Rattle.desk_rules.proofs.Changes.{Held}
 use Rattle.desk_rules.proofs.Holding.{on_length, on_other, on_same}
 use Rattle.desk_rules.proofs.Moved.{moved, place_in}
@@ -79,7 +80,7 @@ put_by i make d table s x w n kind value v l (Ok given) old none e still_there i
       device = ap (λ (t : Device). record t { options = s2.setup }) shown.device ∙ set_is (Some i) l.device n given.0 still_there;
       made = made_set k l.device n v given shown.made is answers;
     })
-    (record { awaited = none; words = λ u. refl; carriage = same_carriage d.session.carriage s.carriage w s.framed old.carriage; sent = refl }))
+    (record { awaited = none; words = λ u. refl; carriage = same_carriage d.session.carriage s.carriage w s.framed old.carriage; frame = frame_but d.session.carriage d.session.held (on_word (λ _. with_device l s2) d.session.held w) w l e still_there (λ u m. on_other (λ _. with_device l s2) d.session.held w u m) old.frame; sent = refl }))
 
 set_by : (i : ℕ) (make : ℕ → Make) (d : Desk) (table : ℕ → Device) (s : Session) (x : Around) (w n : ℕ) (kind : Kind) (value : WireValue) (v : Value) (l : Lease DeviceState) (b : Bool) → Shows i make d table s → d.session.awaited ≡ None → held_by d.session.held w ≡ Some l →
     is_at_rest l.device.phase ≡ b →

@@ -23,10 +23,11 @@ use Rattle.scan_rules.specs.Scanners.{Device}
 use Rattle.scan_rules.specs.Steps.{MayFail}
 use Rattle.scan_rules.specs.Daemon.{Around, Carriage, Quiet, Waiting, Streaming, Ending, Fault, says, start_or_fail, start_reply}
 use Rattle.scan_rules.specs.Sessions.{Session, framed_by, serve_word, word_call}
-use Rattle.desk_rules.specs.Reading.{IsCarriage, Shows, seen}
+use Rattle.desk_rules.specs.Reading.{IsCarriage, Shows, seen, HasFrame}
 use Rattle.desk_rules.specs.Spelling.{Spells, order_by}
 use Rattle.desk_rules.specs.Agreeing.{Agrees, manner}
 use Rattle.desk_rules.specs.DeviceWords.{StartAgrees}
+use Rattle.desk_rules.proofs.Frames.{frame_still, all_same, frame_begun}
 use Rattle.desk_rules.proofs.Changes.{Held}
 use Rattle.desk_rules.proofs.Holding.{on_length, on_nothing, on_other, on_same}
 use Rattle.desk_rules.proofs.Moved.{moved, place_in}
@@ -46,7 +47,7 @@ refield : (i : ℕ) (make : ℕ → Make) (d : Desk) (table : ℕ → Device) (s
 refield i make d table s held c old e f =
     subst (λ (h : Held). Shows i make (with_carriage (with_held d h) c) table s) e
     (subst (λ (x : WordCarriage). Shows i make (with_carriage (with_held d d.session.held) x) table s) f
-    (record { words = old.words; four = old.four; carriage = old.carriage; awaited = old.awaited; devices = old.devices }))
+    (record { words = old.words; four = old.four; carriage = old.carriage; frame = old.frame; awaited = old.awaited; devices = old.devices }))
 
 -- what is to be shown of a start
 abbrev pub StartBound : ℕ → (ℕ → Make) → Desk → (ℕ → Device) → Session → ℕ → Option ℕ → Wire → Desk → Type 0
@@ -90,6 +91,7 @@ busy_at i make d table s w l wc old none e is busy =
             awaited = none;
             words = λ v. refl;
             carriage = same_carriage wc s.carriage w s.framed (subst (λ (c : WordCarriage). IsCarriage c s.carriage s.framed) is old.carriage);
+            frame = subst (λ (c : WordCarriage). HasFrame c (on_word (λ _. Some l) d.session.held w)) is (frame_still d.session.carriage d.session.held (on_word (λ _. Some l) d.session.held w) (all_same d.session.held (on_word (λ _. Some l) d.session.held w) w l e (on_same (λ _. Some l) d.session.held w l e) (λ v n. on_other (λ _. Some l) d.session.held w v n)) old.frame);
             sent = refl;
           })),
     )
@@ -132,7 +134,7 @@ device_at i make d table s w l answer after old none e quiet h n =
             device = serves.device;
             made = made_started k l.device after answer shown.made h;
           })
-          (record { awaited = none; words = λ u. refl; carriage = frame_by d.session.port w l.device.setup.order answer s.carriage v.carriage s.framed quiet serves.carriage; sent = refl })),
+          (record { awaited = none; words = λ u. refl; carriage = frame_by d.session.port w l.device.setup.order answer s.carriage v.carriage s.framed quiet serves.carriage; frame = frame_begun d w l answer after (on_same (λ _. with_device l after) d.session.held w l e) h; sent = refl })),
     )
 
 -- by the word and the frame

@@ -25,9 +25,10 @@ use Rattle.scan_rules.specs.Sessions.{Session}
 use Rattle.scan_rules.specs.Steps.{MayCome}
 use Rattle.scan_rules.specs.Deeds as deeds
 use Rattle.scan_rules.specs.Deeds.{Deed, device_after, party_after}
-use Rattle.desk_rules.specs.Reading.{IsCarriage, Shows, seen}
+use Rattle.desk_rules.specs.Reading.{HasFrame, IsCarriage, IsReadBy, Shows, seen}
 use Rattle.desk_rules.specs.Data.{IsTurnOf}
 use Rattle.desk_rules.specs.Streams.{EndingsAgree, SendsAs, StreamServed, StreamsAgree}
+use Rattle.desk_rules.proofs.Frames.{frame_behind}
 use Rattle.desk_rules.proofs.Connecting.{listed_by, still_awaited}
 use Rattle.desk_rules.proofs.Endings.{same_tables}
 use Rattle.desk_rules.proofs.Holding.{on_length, on_other, on_same}
@@ -139,6 +140,7 @@ turn_served i make d table s listed p w l pass given step buf old same is e at s
         carriage = subst (λ (c : WordCarriage). IsCarriage (carriage_after c g.answer) party.base.carriage s.framed) (sym is) (framed_behind g.answer g.window i k listed p (table l.place) t.deed w s.framed t.is streams carriage.1);
         awaited = still_awaited d.session.held after.session.held d.registry table (put table l.place dev) d.session.awaited s.awaited free
             (λ j. listed_by table l.place dev j (eqb j l.place) refl (ap (λ (x : Device). x.listed) device ∙ sym (ap (λ (x : Device). x.listed) shown.device))) old.awaited;
+        frame = subst (λ (c : WordCarriage). HasFrame (carriage_after c g.answer) after.session.held) (sym is) (frame_behind g.answer d w l g.after pass given g.window (on_same (λ _. with_device l g.after) d.session.held w l e) at g.reads);
         devices = moved_table i make d table s w l old e after dev stays;
       });
     }
@@ -147,9 +149,14 @@ from_lease : (h : Option (Lease DeviceState)) (l : Lease DeviceState) (w : ℕ) 
 from_lease h l w old step new buf e g = subst (λ (o : Option (Lease DeviceState)). StreamsFrom o w old step new buf) e g
 
 pub streams_agree : StreamsAgree
-streams_agree i make d table s listed p w l pass given step new buf old same is e at steady g =
-    turn_served i make d table s listed p w l pass given step buf old same is e at steady new
-    (from_lease (held_by d.session.held w) l w d.session step new buf e (subst (λ (c : WordCarriage). StreamsIn c d.session step new buf) is g))
+streams_agree i make d table s listed p w step new buf old same is steady g =
+    let r : IsReadBy d.session.held w = subst (λ (c : WordCarriage). HasFrame c d.session.held) is old.frame in
+    let l = r.lease in (
+      l.place,
+      old.words w ∙ ap place_in r.stands,
+      turn_served i make d table s listed p w l r.pass r.given step buf old same is r.stands r.phase (steady l r.stands) new
+          (from_lease (held_by d.session.held w) l w d.session step new buf r.stands (subst (λ (c : WordCarriage). StreamsIn c d.session step new buf) is g)),
+    )
 
 -- ---- a frame that was cancelled
 
@@ -167,6 +174,7 @@ endings_agree i make d table s listed p place step new buf old same is g =
         four = old.four;
         carriage = refl;
         awaited = still_awaited d.session.held d.session.held d.registry table (put table place (table place)) d.session.awaited s.awaited refl (λ j. ap (λ (x : Device). x.listed) (there j)) old.awaited;
+        frame = tt;
         devices = same_tables i make d.session.held d.registry table (put table place (table place)) there old.devices;
       });
     }

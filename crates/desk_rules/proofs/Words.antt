@@ -29,10 +29,11 @@ use Rattle.scan_rules.specs.Scanners.{Device}
 use Rattle.scan_rules.specs.Daemon.{Around, Carriage, Quiet, Waiting, Streaming, Ending, Served, get_reply, params_of, says, serve}
 use Rattle.scan_rules.specs.Standing.{put}
 use Rattle.scan_rules.specs.Sessions.{Comes, Session, closes, framed_by, just, serve_word, unknown, word_call, words_left}
-use Rattle.desk_rules.specs.Reading.{IsCarriage, Shows}
+use Rattle.desk_rules.specs.Reading.{IsCarriage, Shows, HasFrame}
 use Rattle.desk_rules.specs.Spelling.{Manner, Spells}
 use Rattle.desk_rules.specs.Agreeing.{Agrees, AgreesOn, manner}
 use Rattle.desk_rules.specs.DeviceWords.{GetAgrees, OptionsAgree, ParametersAgree}
+use Rattle.desk_rules.proofs.Frames.{frame_still, all_same}
 use Rattle.desk_rules.proofs.Changes.{Held}
 use Rattle.desk_rules.proofs.Holding.{on_length, on_nothing, on_other, on_same}
 use Rattle.desk_rules.proofs.Moved.{moved, place_in}
@@ -49,7 +50,7 @@ says_unknown i make m new table s q request r shows spells = says_one i make m q
 -- a desk with the same words
 pub same_held : (i : ℕ) (make : ℕ → Make) (d : Desk) (table : ℕ → Device) (s : Session) (held : Held) → Shows i make d table s → held ≡ d.session.held → Shows i make (with_held d held) table s
 same_held i make d table s held old e =
-    subst (λ (h : Held). Shows i make (with_held d h) table s) (sym e) (record { words = old.words; four = old.four; carriage = old.carriage; awaited = old.awaited; devices = old.devices })
+    subst (λ (h : Held). Shows i make (with_held d h) table s) (sym e) (record { words = old.words; four = old.four; carriage = old.carriage; frame = old.frame; awaited = old.awaited; devices = old.devices })
 
 -- a frame that is not touched
 pub same_carriage : (wc : WordCarriage) (c : Carriage) (w f : ℕ) → IsCarriage wc c f → IsCarriage wc c (framed_by c c w f)
@@ -95,6 +96,7 @@ still i make d table s w l new old none stands r =
       awaited = r.awaited ∙ none;
       words = λ v. refl;
       carriage = subst (λ (c : WordCarriage). IsCarriage c s.carriage (framed_by s.carriage s.carriage w s.framed)) (sym r.carriage) (same_carriage d.session.carriage s.carriage w s.framed old.carriage);
+      frame = subst (λ (c : WordCarriage). HasFrame c new.session.held) (sym r.carriage) (frame_still d.session.carriage d.session.held new.session.held (all_same d.session.held new.session.held w l stands r.is r.others) old.frame);
       sent = refl;
     })
 

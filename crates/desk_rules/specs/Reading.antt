@@ -96,6 +96,21 @@ IsCarriage (word.Waiting w) c framed = (c ≡ Waiting) × (framed ≡ w)
 IsCarriage (word.Streaming w) c framed = (c ≡ Streaming) × (framed ≡ w)
 IsCarriage word.Ending c framed = c ≡ Ending
 
+-- the device of a word is read
+pub record IsReadBy (held : List (Option (Lease DeviceState))) (w : ℕ) : Type 0 where
+  pub lease : Lease DeviceState
+  pub stands : held_by held w ≡ Some lease
+  pub pass : ℕ
+  pub given : ℕ
+  pub phase : lease.device.phase ≡ Read pass given
+
+-- a frame that waits or streams is of a device that is read
+abbrev pub HasFrame : WordCarriage → List (Option (Lease DeviceState)) → Type 0
+HasFrame word.Quiet held = Unit {0}
+HasFrame (word.Waiting w) held = IsReadBy held w
+HasFrame (word.Streaming w) held = IsReadBy held w
+HasFrame word.Ending held = Unit {0}
+
 -- the place of a name; a name that is not listed is read as a place that is not
 abbrev pub NamesPlace : Option ℕ → (ℕ → Device) → ℕ → Type 0
 NamesPlace None table k = (table k).listed ≡ false
@@ -115,5 +130,6 @@ pub record Shows (i : ℕ) (make : ℕ → Make) (d : Desk) (table : ℕ → Dev
   pub words : (w : ℕ) → s.words w ≡ option_map (λ (l : Lease DeviceState). l.place) (held_by d.session.held w)
   pub four : length d.session.held ≡ 4
   pub carriage : IsCarriage d.session.carriage s.carriage s.framed
+  pub frame : HasFrame d.session.carriage d.session.held
   pub awaited : IsAwaited d.session.held d.registry table d.session.awaited s.awaited
   pub devices : ShowsTable i make d.session.held d.registry table

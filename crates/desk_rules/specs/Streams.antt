@@ -4,7 +4,6 @@ use Rattle.std.specs.Int.{w32, to_be_bytes}
 use Rattle.sane_fixed.specs.declared.status.Status.{Status as Code}
 use Rattle.sane_fixed.specs.declared.status.Status.TheVariants as code
 use Rattle.device_api.specs.State.{DeviceState, steady_of}
-use Rattle.device_api.specs.State.Phase.{Reading}
 use Rattle.dispatch.specs.declared.table.place.Lease.{Lease}
 use Rattle.saned_desk.specs.declared.session.Carriage.TheVariants as word
 use Rattle.saned_desk.specs.declared.session.Session.{Session as DeskSession}
@@ -38,12 +37,12 @@ pub record StreamServed (i : ℕ) (make : ℕ → Make) (d : Desk) (table : ℕ 
   pub sends : SendsAs step buf deed
   pub shows : Shows i make (record d { session = new }) (put table place (device_after i (make place) listed p (table place) deed)) (record s { carriage = (party_after i (make place) listed p (table place) deed).base.carriage })
 
--- a frame that streams, whose device is read and has a source that gives its page's rows at each pass
+-- a frame that streams, of a device whose source gives its page's rows at each pass
 abbrev pub StreamsAgree : Type 0
 StreamsAgree =
-    (i : ℕ) (make : ℕ → Make) (d : Desk) (table : ℕ → Device) (s : Session) (listed : List ℕ) (p : Party) (w : ℕ) (l : Lease DeviceState) (pass given : ℕ) (step : DataStep) (new : DeskSession DeviceState) (buf : List ℕ) →
-    Shows i make d table s → p.base.carriage ≡ s.carriage → d.session.carriage ≡ word.Streaming w → held_by d.session.held w ≡ Some l → l.device.phase ≡ Reading pass given → steady_of l.device ≡ true →
-    daemon.Streams d.session step new buf → StreamServed i make d table s listed p l.place step new buf
+    (i : ℕ) (make : ℕ → Make) (d : Desk) (table : ℕ → Device) (s : Session) (listed : List ℕ) (p : Party) (w : ℕ) (step : DataStep) (new : DeskSession DeviceState) (buf : List ℕ) →
+    Shows i make d table s → p.base.carriage ≡ s.carriage → d.session.carriage ≡ word.Streaming w → ((l : Lease DeviceState) → held_by d.session.held w ≡ Some l → steady_of l.device ≡ true) →
+    daemon.Streams d.session step new buf → (place : ℕ) × (s.words w ≡ Some place) × StreamServed i make d table s listed p place step new buf
 
 -- a frame that was cancelled
 abbrev pub EndingsAgree : Type 0
