@@ -53,7 +53,7 @@ own_at f n x seats seat new true e is becomes same more =
     rw (now, numbered) refl
 own_at f n x seats seat new false e is becomes same more = rw e (more is)
 
-own_seat : (f : Seat DeviceState → Option (Seat DeviceState)) (n : ℕ) (seats : List (Option (Seat DeviceState))) (seat new : Seat DeviceState) → seat_of seats n ≡ Some seat → f seat ≡ Some new → new.number ≡ seat.number → seat_of (on_seat f n seats) n ≡ Some new
+pub own_seat : (f : Seat DeviceState → Option (Seat DeviceState)) (n : ℕ) (seats : List (Option (Seat DeviceState))) (seat new : Seat DeviceState) → seat_of seats n ≡ Some seat → f seat ≡ Some new → new.number ≡ seat.number → seat_of (on_seat f n seats) n ≡ Some new
 unfolding seat_of on_seat
 own_seat f n [] seat new is becomes same = absurd (let clash : None ≡ Some seat = is in cc)
 own_seat f n (x ∷ seats) seat new is becomes same = own_at f n x seats seat new (is_number n x) refl is becomes same (λ there. own_seat f n seats seat new there becomes same)
@@ -79,7 +79,7 @@ behind Over i make users d table s old piece rest new ran = record { held = []; 
 behind Starved i make users d table s old piece rest new ran = record { held = []; shows = ran.3.back; others = ran.3.others }
 
 -- another session stands as it stood
-stands_as : (i j m : ℕ) (make : ℕ → Make) (old new : Core) (table devices : ℕ → Device) (u : Session) → j ≢ i → session_of new m ≡ session_of old m → Behind i make old.registry new.registry table devices → ShowsSession j make old m table u → ShowsSession j make new m devices u
+pub stands_as : (i j m : ℕ) (make : ℕ → Make) (old new : Core) (table devices : ℕ → Device) (u : Session) → j ≢ i → session_of new m ≡ session_of old m → Behind i make old.registry new.registry table devices → ShowsSession j make old m table u → ShowsSession j make new m devices u
 stands_as i j m make old new table devices u n same b h =
     record {
       session = h.session;

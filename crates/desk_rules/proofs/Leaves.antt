@@ -39,11 +39,11 @@ pub record IsKept (i : ℕ) (old new : Device) : Type 0 where
   pub own : (new ≡ old) ⊎ (IsOwn i old.holder × IsOwn i new.holder)
   pub listed : new.listed ≡ old.listed
 
-kept : (i : ℕ) (dev : Device) → IsKept i dev dev
+pub kept : (i : ℕ) (dev : Device) → IsKept i dev dev
 kept i dev = record { own = inl refl; listed = refl }
 
 -- client i's own, with the same holder
-changed : (i : ℕ) (old new : Device) → IsOwn i old.holder → new.holder ≡ old.holder → new.listed ≡ old.listed → IsKept i old new
+pub changed : (i : ℕ) (old new : Device) → IsOwn i old.holder → new.holder ≡ old.holder → new.listed ≡ old.listed → IsKept i old new
 changed i old new own e f = record { own = inr (own, own_of i new.holder old.holder e own); listed = f }
 
 returned : (i : ℕ) (dev : Device) → IsOwn i dev.holder → IsKept i dev (put_back dev)
@@ -165,7 +165,7 @@ allow_call_kept : (i : ℕ) (make : ℕ → Make) (table : ℕ → Device) (s : 
 allow_call_kept i make table s x sent p c None k = kept i (table k)
 allow_call_kept i make table s x sent p c (Some w) k = put_one i table p _ (allow_kept i (make p) (table p) s.carriage (same_text c sent) (x.allows sent)) k
 
-held_own : (i : ℕ) (h : Option ℕ) → is_held_by i h ≡ true → IsOwn i h
+pub held_own : (i : ℕ) (h : Option ℕ) → is_held_by i h ≡ true → IsOwn i h
 held_own i None e = absurd (cc)
 held_own i (Some j) e = eqb-true j i e
 
@@ -296,6 +296,15 @@ leaves i make held registry table after now new old moves kept_all =
       places = λ k. place_left i (table k) (new k) (slice_get registry k) (slice_get now k) (kept_all k) (slots_kept i make held registry table after now old moves k);
       listed = λ k. (kept_all k).listed;
       names = λ name. names_kept i make held registry table after now name old moves;
+    }
+
+-- a registry that stays
+pub leaves_kept : (i : ℕ) (registry : Table) (table new : ℕ → Device) → AreKept i table new → LeavesOthers i registry registry table new
+leaves_kept i registry table new kept_all =
+    record {
+      places = λ k. place_left i (table k) (new k) (slice_get registry k) (slice_get registry k) (kept_all k) (inl refl);
+      listed = λ k. (kept_all k).listed;
+      names = λ name. refl;
     }
 
 pub requests_leave : RequestsLeave

@@ -24,3 +24,4 @@ pub mod Feeding
 pub mod Beginning
 pub mod Cores
 pub mod Streaming
+pub mod CoreCalls

@@ -164,17 +164,19 @@ pub endings_agree : EndingsAgree
 endings_agree i make d table s listed p place step new buf old same is g =
     let carriage : s.carriage ≡ Ending = subst (λ (c : WordCarriage). IsCarriage c s.carriage s.framed) is old.carriage in
     let ended : Ends code.Cancelled step buf × (new ≡ record d.session { carriage = word.Quiet }) = subst (λ (c : WordCarriage). StreamsIn c d.session step new buf) is g in
-    let there : (j : ℕ) → put table place (table place) j ≡ table j = λ j. put_self table place j (table place) (eqb j place) refl refl in
-    record {
-      deed = deeds.TurnsOff;
-      may = same ∙ carriage;
-      sends = ended.0;
-      shows = subst (λ (x : DeskSession DeviceState). Shows i make (record d { session = x }) (put table place (table place)) (record s { carriage = Quiet })) (sym ended.1) (record {
-        words = old.words;
-        four = old.four;
-        carriage = refl;
-        awaited = still_awaited d.session.held d.session.held d.registry table (put table place (table place)) d.session.awaited s.awaited refl (λ j. ap (λ (x : Device). x.listed) (there j)) old.awaited;
-        frame = tt;
-        devices = same_tables i make d.session.held d.registry table (put table place (table place)) there old.devices;
-      });
-    }
+    let there : (j : ℕ) → put table place (table place) j ≡ table j = λ j. put_self table place j (table place) (eqb j place) refl refl in (
+      record {
+        deed = deeds.TurnsOff;
+        may = same ∙ carriage;
+        sends = ended.0;
+        shows = subst (λ (x : DeskSession DeviceState). Shows i make (record d { session = x }) (put table place (table place)) (record s { carriage = Quiet })) (sym ended.1) (record {
+          words = old.words;
+          four = old.four;
+          carriage = refl;
+          awaited = still_awaited d.session.held d.session.held d.registry table (put table place (table place)) d.session.awaited s.awaited refl (λ j. ap (λ (x : Device). x.listed) (there j)) old.awaited;
+          frame = tt;
+          devices = same_tables i make d.session.held d.registry table (put table place (table place)) there old.devices;
+        });
+      },
+      refl,
+    )

@@ -9,3 +9,4 @@ pub mod Requests
 pub mod Others
 pub mod Feeds
 pub mod Cores
+pub mod CoreCalls

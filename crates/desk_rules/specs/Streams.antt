@@ -48,4 +48,4 @@ StreamsAgree =
 abbrev pub EndingsAgree : Type 0
 EndingsAgree =
     (i : ℕ) (make : ℕ → Make) (d : Desk) (table : ℕ → Device) (s : Session) (listed : List ℕ) (p : Party) (place : ℕ) (step : DataStep) (new : DeskSession DeviceState) (buf : List ℕ) →
-    Shows i make d table s → p.base.carriage ≡ s.carriage → d.session.carriage ≡ word.Ending → daemon.Streams d.session step new buf → StreamServed i make d table s listed p place step new buf
+    Shows i make d table s → p.base.carriage ≡ s.carriage → d.session.carriage ≡ word.Ending → daemon.Streams d.session step new buf → (served : StreamServed i make d table s listed p place step new buf) × (served.deed ≡ TurnsOff)

@@ -1,11 +1,13 @@
 //! What the daemon answers to a request, and what its data connection does, is what the rules of the world say.
 #![tactic(auto)]
 
+mod daemon_calls;
 mod data_connections;
 mod device_words;
 mod requests;
 mod whole_sessions;
 
+pub use daemon_calls::{a_connection_stands, a_loss_stands, a_turn_stands, an_end_stands};
 pub use data_connections::{
     a_connection_is_the_rules, a_loss_is_the_rules, a_release_is_the_rules, a_stream_is_the_rules,
     a_turn_is_the_rules,
