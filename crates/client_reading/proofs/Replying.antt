@@ -212,8 +212,8 @@ all_heard place job pages old new past piece m t o s r (Whole h wants) = hears_a
 all_heard place job pages old new past piece m t o s r (Garbled was h runs g) =
     hears_all place job pages old was past piece m _ h t o s r
     (λ n f. (f, ends_so place old.errand job pages (talk_of was h.past_then) new n.mind statuses.IoError whys.Malformed words.Malformed refl (runs_is was.outcome runs) (ap (λ (v : Talker). v.outcome) g.ends) f.reads))
-all_heard place job pages old new past piece m t o s r (Starved was h x) =
+all_heard place job pages old new past piece m t o s r (Starved was h runs x) =
     hears_all place job pages old was past piece m _ h t o s r
-    (λ n f. (f, λ runs. ends_so place old.errand job pages (talk_of was h.past_then) new n.mind statuses.NoMem whys.Memory words.Memory refl (runs_is was.outcome runs) x.outcome f.reads))
+    (λ n f. (f, ends_so place old.errand job pages (talk_of was h.past_then) new n.mind statuses.NoMem whys.Memory words.Memory refl (runs_is was.outcome runs) x.outcome f.reads))
 all_heard place job pages old new past piece m t o s r (Choked x) =
     ends_so place old.errand job pages (talk_of old past) new m statuses.NoMem whys.Memory words.Memory refl (runs_is old.outcome o) x.outcome r

@@ -77,7 +77,7 @@ abbrev pub silent : rules.Mind → Hearer
 silent m = record { mind = m; asks = [] }
 
 -- What is so as a call ends: the replies were heard, and then the job has ended, where what comes next is none, or where memory is
--- wanting as the client runs.
+-- wanting.
 abbrev pub HeedsAs : (DeviceInfo → ℕ) → rules.Job → List (List Frame) → rules.Mind → (old : Talker) → (past : Past) → (piece : List ℕ) → (new : Talker) → Heeds old past piece new → Type 0
 HeedsAs place job pages m old past piece new (Whole h wants) =
     HearingAll place old.errand job (talk_of old past) h.told (λ n. Follows place old.errand job pages (talk_of new h.past_then) n.mind h.sent n.asks) (silent m)
@@ -85,10 +85,10 @@ HeedsAs place job pages m old past piece new (Garbled was h runs g) =
     HearingAll place old.errand job (talk_of old past) h.told
     (λ n. Follows place old.errand job pages (talk_of was h.past_then) n.mind h.sent n.asks × Reads place old.errand job pages (talk_of new h.past_then) (stopped words.IoError words.Malformed n.mind))
     (silent m)
-HeedsAs place job pages m old past piece new (Starved was h s) =
+HeedsAs place job pages m old past piece new (Starved was h runs s) =
     HearingAll place old.errand job (talk_of old past) h.told
     (λ n. Follows place old.errand job pages (talk_of was h.past_then) n.mind h.sent n.asks
-    × (is_running was.outcome ≡ true → Reads place old.errand job pages (talk_of new h.past_then) (stopped words.NoMem words.Memory n.mind)))
+    × Reads place old.errand job pages (talk_of new h.past_then) (stopped words.NoMem words.Memory n.mind))
     (silent m)
 HeedsAs place job pages m old past piece new (Choked s) = Reads place old.errand job pages (talk_of new past) (stopped words.NoMem words.Memory m)
 

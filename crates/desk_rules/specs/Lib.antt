@@ -1,0 +1,12 @@
+pub mod Reading
+pub mod Spelling
+pub mod Agreeing
+pub mod DeviceWords
+pub mod WholeSessions
+pub mod Data
+pub mod Streams
+pub mod Requests
+pub mod Others
+pub mod Feeds
+pub mod Cores
+pub mod CoreCalls
