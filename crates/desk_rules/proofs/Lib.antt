@@ -25,3 +25,4 @@ pub mod Beginning
 pub mod Cores
 pub mod Streaming
 pub mod CoreCalls
+pub mod Tables

@@ -115,7 +115,7 @@ abbrev pub lease_of : ℕ → DeviceState → Lease DeviceState
 lease_of p st = record { device = after_reset st; place = p }
 
 -- a place whose device is in is no place of a lease
-in_or_out : (t : Table) (p : ℕ) (at : Place DeviceState) (st : DeviceState) (n : Lease DeviceState) → n.place ≡ p → slice_get t p ≡ Some at → at.slot ≡ In st → IsLeaseOf n t → ⊥
+pub in_or_out : (t : Table) (p : ℕ) (at : Place DeviceState) (st : DeviceState) (n : Lease DeviceState) → n.place ≡ p → slice_get t p ≡ Some at → at.slot ≡ In st → IsLeaseOf n t → ⊥
 in_or_out t p at st n same there in_it own =
     let one : own.place ≡ at = unsome own.place at (sym own.at ∙ ap (slice_get t) same ∙ there) in
     let clash : Out ≡ In st = sym own.out ∙ ap (λ (x : Place DeviceState). x.slot) one ∙ in_it in

@@ -10,3 +10,4 @@ pub mod Others
 pub mod Feeds
 pub mod Cores
 pub mod CoreCalls
+pub mod Tables
