@@ -56,11 +56,11 @@ fn expect_out(rt: &impl Abort, alloc: Global, conn: &MemorySocket, parts: &[&[u8
 }
 
 /// That the device is free, and its options at their defaults, a client finds that comes now.
-fn expect_free(
-    rt: HostRuntime,
+fn expect_free<R: Abort + Copy + Drop>(
+    rt: R,
     alloc: Global,
     daemon: &mut Daemon<Flatbed>,
-    net: &mut MemoryNet<HostRuntime>,
+    net: &mut MemoryNet<R>,
 ) -> Result<(), Fail> {
     net.clients
         .push(client(&rt, alloc, &[INIT, OPEN, START, EXIT]))?;
@@ -80,23 +80,28 @@ fn second_open_is_answered_while_a_frame_is_open(rt: HostRuntime) -> Result<(), 
     let mut net = MemoryNet::new(rt, alloc);
     net.clients.push(client(&rt, alloc, &[INIT, OPEN]))?;
     net.clients.push(client(&rt, alloc, &[INIT, OPEN, START]))?;
-    // Of a frame of 30,772 bytes this takes five.
+    // Of records of 157 bytes this takes five bytes.
     net.images.push(image(&rt, alloc, 5))?;
     let end = serve(alloc, &mut daemon, &mut net, 0, 1000);
     assert_eq!(rt; end, ServeEnd::Idle);
     assert!(rt; net.asked < 10_000);
     assert_eq!(rt; net.accepted, 3);
-    let [shown, first, second] = net.back.as_slice() else {
+    let [second, shown, first] = net.back.as_slice() else {
         panic!(rt; "other connections came back")
     };
-    assert_eq!(rt; shown.out.as_slice(), b"\0\0\x78\x34\x07".as_slice());
+    assert_eq!(rt; shown.out.as_slice(), b"\0\0\0\x9d\x07".as_slice());
     expect_out(&rt, alloc, first, &[INIT_REPLY, OPEN_REPLY, START_REPLY]);
     expect_out(&rt, alloc, second, &[INIT_REPLY, BUSY_REPLY]);
     expect_free(rt, alloc, &mut daemon, &mut net)
 }
 
 /// A whole frame of one sample comes over sockets like these.
-fn expect_sample(rt: HostRuntime, alloc: Global, piece: usize, deaf: u64) -> Result<(), Fail> {
+fn expect_sample<R: Abort + Copy + Drop>(
+    rt: R,
+    alloc: Global,
+    piece: usize,
+    deaf: u64,
+) -> Result<(), Fail> {
     let mut daemon = daemon(&rt, alloc);
     let mut net = MemoryNet::new(rt, alloc);
     let first = client(&rt, alloc, &[INIT, OPEN, ONE_SAMPLE, START]);
@@ -251,7 +256,7 @@ fn connection_without_a_port_is_not_counted(rt: HostRuntime) -> Result<(), Fail>
     net.clients.push(client(&rt, alloc, &[INIT, EXIT]))?;
     let end = serve(alloc, &mut daemon, &mut net, 2, 10);
     assert_eq!(rt; end, ServeEnd::Idle);
-    let [served, refused] = net.back.as_slice() else {
+    let [refused, served] = net.back.as_slice() else {
         panic!(rt; "other connections came back")
     };
     expect_out(&rt, alloc, served, &[INIT_REPLY]);
