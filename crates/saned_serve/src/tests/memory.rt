@@ -55,10 +55,6 @@ impl MemorySocket {
         self.is_cut = true;
         self
     }
-
-    fn none(&self) -> Got {
-        if self.is_cut { Got::Lost } else { Got::Nothing }
-    }
 }
 
 impl Socket for MemorySocket {
@@ -67,7 +63,7 @@ impl Socket for MemorySocket {
     fn read(&mut self, buf: &mut [u8]) -> Got {
         let n = self.piece.min(buf.len()).min(self.script.len() - self.at);
         if n == 0 {
-            return self.none();
+            return if self.is_cut { Got::Lost } else { Got::Nothing };
         }
         buf[..n].copy_from_slice(&self.script[self.at..self.at + n]);
         self.at += n;
@@ -81,7 +77,7 @@ impl Socket for MemorySocket {
         }
         let n = self.piece.min(buf.len()).min(self.room);
         if n == 0 {
-            return self.none();
+            return if self.is_cut { Got::Lost } else { Got::Nothing };
         }
         if self.out.extend_from_slice(&buf[..n]).is_err() {
             return Got::Lost;
