@@ -11,12 +11,15 @@ use dispatch::Registry;
 use page_picture::DeviceKind;
 use saned_cli::{Ending, LocalNet, Options, ServeEnd, serve};
 use saned_core::Daemon;
+use std::io::ErrorKind;
 use std::process::ExitCode;
 
 /// Listens, says where, and serves.
 fn serve_at(rt: &HostRuntime, options: &Options, daemon: &mut Daemon) -> Result<(), Ending> {
-    let Ok(mut net) = LocalNet::bind(*rt, rt.alloc(), options.port) else {
-        return Err(Ending::CannotListen);
+    let mut net = match LocalNet::bind(*rt, rt.alloc(), options.port) {
+        Ok(net) => net,
+        Err(e) if e.kind() == ErrorKind::OutOfMemory => return Err(Ending::NoMemory),
+        Err(_) => return Err(Ending::CannotListen),
     };
     let Ok(port) = net.port() else {
         return Err(Ending::CannotListen);
