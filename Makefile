@@ -17,9 +17,11 @@ demo: need-rt
 	@od -A d -t x1z demo.pgm
 	@rm -f demo.log demo.pgm
 
-# Proves every crate that scanimage stands on, and builds it: crates/scanimage/out/scanimage.
+# Proves every crate that the programs stand on, and builds them: crates/scanimage/out/scanimage, crates/saned/out/saned.
+# The run of saned that builds it is one that ends at once, with status 65.
 build: need-rt
 	cd crates/scanimage && rt run -- $(DEMO_WORDS) < stdin > /dev/null
+	cd crates/saned && { rt run -- --config - < stdin > /dev/null; [ -x out/saned ]; }
 
 # The gate: rt ci (every proof from nothing, the must-fail edits, the tests, the stored runs) and the built program case by
 # case. It also says for which crates make more-edits is due.
@@ -48,11 +50,13 @@ bench: need-rt
 	[ -x crates/scanimage/out/scanimage ] || $(MAKE) build
 	tests/bench-scanimage
 
-# Puts the proved program at $(PREFIX)/bin/scanimage, and its manual page where man looks.
+# Puts the proved programs into $(PREFIX)/bin, and their manual pages where man looks.
 install: build
 	install -d $(PREFIX)/bin $(PREFIX)/share/man/man1
 	install -m 755 crates/scanimage/out/scanimage $(PREFIX)/bin/scanimage
+	install -m 755 crates/saned/out/saned $(PREFIX)/bin/saned
 	install -m 644 docs/scanimage.1 $(PREFIX)/share/man/man1/scanimage.1
+	install -m 644 docs/saned.1 $(PREFIX)/share/man/man1/saned.1
 
 need-rt:
 	@command -v rt > /dev/null || { echo 'jufteard: the command rt of the Rattle kit is not on the PATH' >&2; exit 1; }

@@ -14,7 +14,7 @@ static int is_refused(void *caller)
         const char *told = getenv("FAIL_ALLOC");
         wanted = told ? atol(told) : 0;
     }
-    if (!dladdr(caller, &from) || !from.dli_fname || !strstr(from.dli_fname, "scanimage"))
+    if (!dladdr(caller, &from) || !from.dli_fname || (!strstr(from.dli_fname, "scanimage") && !strstr(from.dli_fname, "out/saned")))
         return 0;
     return ++seen == wanted;
 }

@@ -1,0 +1,90 @@
+use config_pages::{NoPage, page_source};
+use dispatch::ConfigLine;
+use flatbed_dev::{Feeder, Flatbed};
+use hand_dev::HandScanner;
+use page_picture::{PageFault, Source};
+use sane_fixed::{ByteOrder, Text};
+use saned_cli::Ending;
+use threepass_dev::ThreePass;
+
+/// A page that a config line names.
+fn page(rt: &HostRuntime, line: &ConfigLine, text: &Text) -> Result<Source, Ending> {
+    match page_source(rt, text.as_bytes(), line.dpi) {
+        Ok(source) => Ok(source),
+        Err(NoPage::Fault(PageFault::NoMem)) => Err(Ending::NoMemory),
+        Err(why) => Err(Ending::Page(line.line, why)),
+    }
+}
+
+/// The name of the device of a config line.
+fn name(rt: &HostRuntime, line: &ConfigLine) -> Result<Text, Ending> {
+    line.name(rt.alloc()).map_err(|_| Ending::NoMemory)
+}
+
+/// The name of the device of a config line, and its one page.
+fn parts(rt: &HostRuntime, line: &ConfigLine) -> Result<(Text, Source), Ending> {
+    // A config has one page for each of these devices.
+    let Some(text) = line.pages.first() else {
+        return Err(Ending::Page(line.line, NoPage::CannotRead));
+    };
+    let source = page(rt, line, text)?;
+    Ok((name(rt, line)?, source))
+}
+
+/// The pages of a config line, in their order.
+fn pages(rt: &HostRuntime, line: &ConfigLine) -> Result<Vec<Source>, Ending> {
+    let mut sources = Vec::new(rt.alloc());
+    for text in &line.pages {
+        let source = page(rt, line, text)?;
+        sources.push(source).map_err(|_| Ending::NoMemory)?;
+    }
+    Ok(sources)
+}
+
+pub fn flatbed(
+    rt: &HostRuntime,
+    line: &ConfigLine,
+    order: ByteOrder,
+) -> Result<Box<Flatbed>, Ending> {
+    let (name, source) = parts(rt, line)?;
+    match Flatbed::new(rt.alloc(), name, source, order) {
+        Ok(device) => Box::new(rt.alloc(), device).map_err(|_| Ending::NoMemory),
+        Err(_) => Err(Ending::NoMemory),
+    }
+}
+
+pub fn hand_scanner(
+    rt: &HostRuntime,
+    line: &ConfigLine,
+    order: ByteOrder,
+) -> Result<Box<HandScanner>, Ending> {
+    let (name, source) = parts(rt, line)?;
+    match HandScanner::new(rt.alloc(), name, source, order) {
+        Ok(device) => Box::new(rt.alloc(), device).map_err(|_| Ending::NoMemory),
+        Err(_) => Err(Ending::NoMemory),
+    }
+}
+
+pub fn three_pass(
+    rt: &HostRuntime,
+    line: &ConfigLine,
+    order: ByteOrder,
+) -> Result<Box<ThreePass>, Ending> {
+    let (name, source) = parts(rt, line)?;
+    match ThreePass::new(rt.alloc(), name, source, order) {
+        Ok(device) => Box::new(rt.alloc(), device).map_err(|_| Ending::NoMemory),
+        Err(_) => Err(Ending::NoMemory),
+    }
+}
+
+pub fn feeder(
+    rt: &HostRuntime,
+    line: &ConfigLine,
+    order: ByteOrder,
+) -> Result<Box<Feeder>, Ending> {
+    let sources = pages(rt, line)?;
+    match Feeder::new(rt.alloc(), name(rt, line)?, sources, order) {
+        Ok(device) => Box::new(rt.alloc(), device).map_err(|_| Ending::NoMemory),
+        Err(_) => Err(Ending::NoMemory),
+    }
+}

@@ -1,0 +1,85 @@
+//! `saned`: serves the virtual scanners of a config to clients on 127.0.0.1.
+#![tactic(auto)]
+
+mod command_line;
+mod devices;
+
+use crate::command_line::{command_line, config_lines, seed, users};
+use crate::devices::{feeder, flatbed, hand_scanner, three_pass};
+use device_api::Device;
+use dispatch::Registry;
+use page_picture::DeviceKind;
+use saned_cli::{Ending, LocalNet, Options, ServeEnd, serve};
+use saned_core::Daemon;
+use std::io::ErrorKind;
+use std::process::ExitCode;
+
+/// Listens, says where, and serves.
+fn serve_at(rt: &HostRuntime, options: &Options, daemon: &mut Daemon) -> Result<(), Ending> {
+    let mut net = match LocalNet::bind(*rt, rt.alloc(), options.port) {
+        Ok(net) => net,
+        Err(e) if e.kind() == ErrorKind::OutOfMemory => return Err(Ending::NoMemory),
+        Err(_) => return Err(Ending::CannotListen),
+    };
+    let Ok(port) = net.port() else {
+        return Err(Ending::CannotListen);
+    };
+    // Nobody need read it: the daemon serves all the same.
+    let _ = println!(rt; "port {port}");
+    match serve(
+        rt.alloc(),
+        daemon,
+        &mut net,
+        options.sessions,
+        options.idle_turns,
+    ) {
+        ServeEnd::NoMem => Err(Ending::NoMemory),
+        ServeEnd::Sessions | ServeEnd::Idle | ServeEnd::Turns => Ok(()),
+    }
+}
+
+/// Reads the command line, the config and the users, makes the devices, and serves.
+fn run(rt: &HostRuntime) -> Result<(), Ending> {
+    let options = command_line(rt)?;
+    let seed = seed(&options)?;
+    let lines = config_lines(rt, &options)?;
+    let order = options.byte_order;
+    let mut devices: Vec<Box<dyn Device>> = Vec::with_capacity(rt.alloc(), lines.len()).map_err(
+        |_| Ending::NoMemory,
+    )?;
+    // Boxes of devices are made here, since a function that hands them out would hide what it made.
+    for line in &lines {
+        match line.kind {
+            DeviceKind::Flatbed => {
+                let device = flatbed(rt, line, order)?;
+                devices.push(device).map_err(|_| Ending::NoMemory)?;
+            }
+            DeviceKind::Hand => {
+                let device = hand_scanner(rt, line, order)?;
+                devices.push(device).map_err(|_| Ending::NoMemory)?;
+            }
+            DeviceKind::ThreePass => {
+                let device = three_pass(rt, line, order)?;
+                devices.push(device).map_err(|_| Ending::NoMemory)?;
+            }
+            DeviceKind::Feeder => {
+                let device = feeder(rt, line, order)?;
+                devices.push(device).map_err(|_| Ending::NoMemory)?;
+            }
+        }
+    }
+    let users = users(rt, &options)?;
+    let registry = Registry::new(rt.alloc(), devices).map_err(|_| Ending::NoMemory)?;
+    let mut daemon = Daemon::new(registry, users, seed);
+    serve_at(rt, &options, &mut daemon)
+}
+
+fn main(rt: HostRuntime) -> ExitCode {
+    match run(&rt) {
+        Ok(()) => ExitCode::from(0),
+        Err(ending) => {
+            let _ = ending.tell(&mut rt.stderr());
+            ExitCode::from(ending.exit_status())
+        }
+    }
+}

@@ -1,0 +1,148 @@
+ghost use Rattle.std.specs.Prelude.{◌≡◌, ◌≤◌, ◌<◌, length, IfOk};
+ghost use Rattle.saned_serve.specs.Talk.{MovesWithin, after_read, after_write, IsFresh};
+ghost use Rattle.saned_serve.specs.Ledger.{after_accept, after_close};
+
+use crate::pace::Pace;
+use mio::net::{TcpListener, TcpStream};
+use saned_serve::{Got, Listeners, Socket};
+use std::alloc::Global;
+use std::io;
+use std::io::{ErrorKind, Read, Write};
+use std::net::{Ipv4Addr, Net, SocketAddr};
+use std::rc::Rc;
+use std::time::Clock;
+
+/// As many data ports as there are sessions.
+const MOST_PORTS: usize = 8;
+
+/// Connections on 127.0.0.1 that never wait for a peer. Where nothing moves for long an accept naps.
+#[derive(Drop)]
+pub struct LocalNet<R: Net + Clock + Drop> {
+    control: TcpListener,
+    data: Vec<DataPort>,
+    pace: Rc<Pace<R>>,
+}
+
+/// A port that waits for data connections.
+#[derive(Drop)]
+struct DataPort {
+    port: u16,
+    listener: TcpListener,
+}
+
+#[derive(Drop)]
+pub struct LocalSocket<R: Clock + Drop> {
+    stream: TcpStream,
+    pace: Rc<Pace<R>>,
+}
+
+fn listen(rt: &impl Net, port: u16) -> io::Result<TcpListener> {
+    TcpListener::bind(rt, SocketAddr::from((Ipv4Addr::LOCALHOST, port)))
+}
+
+impl<R: Net + Clock + Drop> LocalNet<R> {
+    /// Listens at that port, or where it is 0 at any that is free.
+    pub fn bind(rt: R, alloc: Global, port: u16) -> io::Result<LocalNet<R>> {
+        let data = Vec::with_capacity(alloc, MOST_PORTS)?;
+        let control = listen(&rt, port)?;
+        let pace = Pace::new(alloc, rt)?;
+        Ok(LocalNet {
+            control,
+            data,
+            pace,
+        })
+    }
+
+    /// The port of control connections.
+    pub fn port(&self) -> io::Result<u16> {
+        Ok(self.control.local_addr()?.port())
+    }
+
+    fn place(&self, port: u16) -> Option<usize> {
+        self.data.iter().position(|it| it.port == port)
+    }
+}
+
+/// What a call on a stream came to, which moved at most so many bytes.
+fn how(outcome: io::Result<usize>, most: usize) -> Got
+    requires { IfOk outcome (λ n. n ≤ most) }
+    ensures { MovesWithin result most }
+{
+    match outcome {
+        Ok(0) => Got::Lost,
+        Ok(n) => Got::Moved(n),
+        Err(e) => match e.kind() {
+            ErrorKind::WouldBlock | ErrorKind::Interrupted => Got::Nothing,
+            _ => Got::Lost,
+        },
+    }
+}
+
+impl<R: Clock + Drop> LocalSocket<R> {
+    fn note(&self, got: Got) {
+        if let Got::Moved(_) = got {
+            self.pace.quicken();
+        }
+    }
+}
+
+impl<R: Clock + Drop> Socket for LocalSocket<R> {
+    fn read(&mut self, buf: &mut [u8]) -> Got {
+        let got = how(self.stream.read(buf), buf.len());
+        self.note(got);
+        got
+    }
+
+    fn write(&mut self, buf: &[u8]) -> Got {
+        let got = how(self.stream.write(buf), buf.len());
+        self.note(got);
+        got
+    }
+}
+
+impl<R: Net + Clock + Drop> Listeners for LocalNet<R> {
+    type Conn = LocalSocket<R>;
+
+    fn accept(&mut self) -> Option<LocalSocket<R>> {
+        match self.control.accept() {
+            Ok((stream, _)) => {
+                self.pace.quicken();
+                let pace = Rc::clone(&self.pace).ok()?;
+                Some(LocalSocket { stream, pace })
+            }
+            Err(_) => {
+                self.pace.rest();
+                None
+            }
+        }
+    }
+
+    fn open_data(&mut self) -> Option<u16> {
+        let listener = listen(self.pace.runtime(), 0).ok()?;
+        let port = listener.local_addr().ok()?.port();
+        if self.data.len() < self.data.capacity() {
+            self.data.push_reserved(DataPort { port, listener });
+            return Some(port);
+        }
+        None
+    }
+
+    fn accept_data(&mut self, port: u16) -> Option<LocalSocket<R>> {
+        let at = self.place(port)?;
+        let (stream, _) = self.data.get(at)?.listener.accept().ok()?;
+        let pace = Rc::clone(&self.pace).ok()?;
+        Some(LocalSocket { stream, pace })
+    }
+
+    fn close_data(&mut self, port: u16) {
+        if let Some(at) = self.place(port) {
+            if at < self.data.len() {
+                let _ = self.data.swap_remove(at);
+            }
+        }
+    }
+
+    fn close(&mut self, conn: LocalSocket<R>) {
+        drop(conn);
+    }
+}

@@ -1,0 +1,86 @@
+-- What a daemon's contract says of replies and of records, as calls.
+use Rattle.std.proofs.Common.{◌≡◌, ◌≤◌, ◌⊎◌, ℕ, suc, ◌+◌, ◌-◌, Bool, List, ◌++◌, Option, Some, None, Result, Ok, Err, take, drop, length, slice_range, refl, sym, ap, ◌∙◌, subst, arith}
+use Rattle.std.proofs.lemmas.List.{length-take, length-drop}
+use Rattle.std.specs.Int.{w32, to_be_bytes}
+use Rattle.sane_fixed.specs.declared.status.Status.{Status}
+use Rattle.device_api.specs.State.{DeviceState, Phase, Reads, ReadsIn, ReadsOn, FrameReads, told_at}
+use Rattle.device_api.specs.State.Phase.{AtRest, Between, Reading}
+use Rattle.dispatch.specs.declared.table.place.Lease.{Lease}
+use Rattle.saned_desk.specs.declared.session.Carriage.{Carriage}
+use Rattle.saned_desk.specs.declared.session.Carriage.TheVariants.{Quiet, Waiting, Streaming, Ending}
+use Rattle.saned_desk.specs.declared.session.Session.{Session}
+use Rattle.saned_desk.specs.Holding.{held_by}
+use Rattle.saned_core.specs.declared.seat.Seat.{Seat}
+use Rattle.saned_core.specs.declared.seat.DataStep.{DataStep}
+use Rattle.saned_core.specs.declared.seat.DataStep.TheVariants.{Idle, Bytes, Last}
+use Rattle.saned_core.specs.State.{Core, replies_of, after_taken, on_seat, seat_of, session_in}
+use Rattle.saned_core.specs.Turns.{Turns, TurnsSessions, Streams, StreamsIn, StreamsFrom, StreamsOn, Records}
+use Rattle.saned_serve.specs.Calls.{IsTaken, IsTurned, written_by}
+use Rattle.saned_serve.proofs.Seating.{take_front}
+
+from_start : (n : ℕ) (xs : List ℕ) → slice_range xs 0 n ≡ take n xs
+from_start n xs = ap (λ (k : ℕ). take k xs) (let e : n - 0 ≡ n = omega arith in e)
+
+-- a buffer that is all of a room, and is given back to it
+pub written_back : (buf items : List ℕ) (len : ℕ) → length buf ≡ len → take len (buf ++ drop (length buf) items) ≡ buf
+written_back buf items len e = ap (λ (k : ℕ). take k (buf ++ drop (length buf) items)) (sym e) ∙ take_front buf (drop (length buf) items)
+
+-- ---- replies
+
+pub is_taken : (d e : Core) (number n : ℕ) (old new : List ℕ) → n ≤ length old → n ≤ length (replies_of d number)
+    → (n ≡ length old) ⊎ (n ≡ length (replies_of d number)) → new ≡ take n (replies_of d number) ++ drop n old
+    → e ≡ record d { seats = on_seat (after_taken n) number d.seats } → IsTaken d number (length old) (slice_range new 0 n) e
+is_taken d e number n old new within all most bytes after =
+    let replies = replies_of d number in
+    let len : length (take n replies) ≡ n = omega (arith, length-take n replies, all) in
+    let same : take n new ≡ take n replies = ap (take n) bytes ∙ ap (λ (k : ℕ). take k (take n replies ++ drop n old)) (sym len) ∙ take_front (take n replies) (drop n old) in
+    let count : length (take n new) ≡ n = ap length same ∙ len in
+    subst (λ (xs : List ℕ). IsTaken d number (length old) xs e) (sym (from_start n new)) (record {
+      front = same ∙ ap (λ (k : ℕ). take k replies) (sym count);
+      most = subst (λ (k : ℕ). (k ≡ length old) ⊎ (k ≡ length replies)) (sym count) most;
+      after = subst (λ (k : ℕ). e ≡ record d { seats = on_seat (after_taken k) number d.seats }) (sym count) after;
+    })
+
+-- ---- records
+
+-- a read gives no more than the window has
+reads_fit : (n : ℕ) (old new : DeviceState) (window : List ℕ) (phase : Phase) → ReadsIn phase old (Ok n) new window → n ≤ length window
+reads_fit n old new window (AtRest cancelled) reads = absurd (let wrong = reads.0 in cc)
+reads_fit n old new window (Between pass) reads = absurd (let wrong = reads.0 in cc)
+reads_fit n old new window (Reading pass given) reads = frame_fits (told_at old.setup.told given) reads
+  where
+    frame_fits : (told : Option Status) → FrameReads told old pass given (Ok n) new window → n ≤ length window
+    frame_fits None reads = reads.room
+    frame_fits (Some status) reads = absurd (let wrong = reads.0 in cc)
+
+record_fits : (n : ℕ) (window buf : List ℕ) → n ≤ length window → take (4 + n) buf ≡ to_be_bytes w32 n ++ take n window → 4 + n ≤ length buf
+record_fits n window buf h e =
+    let len : length (take (4 + n) buf) ≡ suc (suc (suc (suc (length (take n window))))) = ap length e in
+    omega (arith, len, length-take (4 + n) buf, length-take n window, h)
+
+fits : (answer : Result ℕ Status) (old new : DeviceState) (window : List ℕ) (step : DataStep) (buf : List ℕ) → 8 ≤ length buf → Reads old answer new window → Records answer window step buf → written_by step ≤ length buf
+fits (Ok n) old new window step buf h reads records = subst (λ (s : DataStep). written_by s ≤ length buf) (sym records.0) (record_fits n window buf (reads_fit n old new window old.phase reads) records.1)
+fits (Err status) old new window step buf h reads records = subst (λ (s : DataStep). written_by s ≤ length buf) (sym records.0) (omega (arith, h))
+
+idle_fits : (step : DataStep) (buf : List ℕ) → step ≡ Idle → written_by step ≤ length buf
+idle_fits step buf e = subst (λ (s : DataStep). written_by s ≤ length buf) (sym e) (omega arith)
+
+from_fits : (lease : Option (Lease DeviceState)) (word : ℕ) (old : Session DeviceState) (step : DataStep) (new : Session DeviceState) (buf : List ℕ) → 8 ≤ length buf → StreamsFrom lease word old step new buf → written_by step ≤ length buf
+from_fits None word old step new buf h streams = idle_fits step buf streams.0
+from_fits (Some lease) word old step new buf h streams = fits streams.answer lease.device streams.after streams.window step buf h streams.reads streams.written
+
+streams_fit : (c : Carriage) (old : Session DeviceState) (step : DataStep) (new : Session DeviceState) (buf : List ℕ) → 8 ≤ length buf → StreamsIn c old step new buf → written_by step ≤ length buf
+streams_fit Quiet old step new buf h streams = idle_fits step buf streams.0
+streams_fit (Waiting word) old step new buf h streams = idle_fits step buf streams.0
+streams_fit (Streaming word) old step new buf h streams = from_fits (held_by old.held word) word old step new buf h streams
+streams_fit Ending old step new buf h streams = subst (λ (s : DataStep). written_by s ≤ length buf) (sym streams.0.0) (omega (arith, h))
+
+turns_fit : (o : Option (Session DeviceState)) (n : ℕ) (old : List (Option (Seat DeviceState))) (step : DataStep) (new : List (Option (Seat DeviceState))) (buf : List ℕ) → 8 ≤ length buf → TurnsSessions o n old step new buf → written_by step ≤ length buf
+turns_fit None n old step new buf h turns = idle_fits step buf turns.0
+turns_fit (Some s) n old step new buf h turns = streams_fit s.carriage s step turns.0 buf h turns.1
+
+pub turn_fits : (d e : Core) (number : ℕ) (step : DataStep) (buf : List ℕ) → 8 ≤ length buf → Turns number d step e buf → written_by step ≤ length buf
+turn_fits d e number step buf h turns = turns_fit (session_in (seat_of d.seats number)) number d.seats step e.seats buf h turns.seats
+
+pub is_turned : (d e : Core) (number : ℕ) (step : DataStep) (buf : List ℕ) → 8 ≤ length buf → Turns number d step e buf → IsTurned d number step (slice_range buf 0 (written_by step)) e
+is_turned d e number step buf h turns = record { buffer = buf; turns = turns; fits = turn_fits d e number step buf h turns; front = from_start (written_by step) buf }

@@ -1,0 +1,6 @@
+pub mod Steps
+pub mod Daemon
+pub mod Ranges
+pub mod Seating
+pub mod Greeting
+pub mod Closed

@@ -1,0 +1,10 @@
+use Rattle.std.proofs.Common.{ℕ, ◌≡◌, ◌≤◌, None, vec_len, vec_capacity}
+use Rattle.saned_serve.specs.Stands.{link_at}
+use Rattle.saned_serve.proofs.seats.seats_for.Given as goal
+
+abbrev pub invariant-loop-i : goal.invariant-loop-i
+invariant-loop-i g l = record {
+  empty : (j : ℕ) → link_at l.seats.items j ≡ None;
+  room : 8 ≤ vec_capacity l.seats;
+  len : vec_len l.seats ≡ l._i;
+}

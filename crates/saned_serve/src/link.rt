@@ -1,0 +1,239 @@
+//! One session's connections, and one turn of them.
+
+ghost use Rattle.std.specs.Prelude.{◌≡◌, ◌≤◌, ℕ, Option, None, Some, IsSome};
+ghost use Rattle.saned_core.specs.State.{Core, core};
+ghost use Rattle.saned_serve.specs.Ledger.{Ledger, after_close};
+ghost use Rattle.saned_serve.specs.Goes.{Goes, Parts};
+
+use crate::pending::Pending;
+use crate::{Got, Listeners, Socket};
+use device_api::Device;
+use saned_core::{Daemon, DataStep, Fed, FrameState, SessionId};
+use std::alloc::Global;
+
+/// A session with its control connection, its data port and the data connection of its frame.
+pub struct Link<C> {
+    pub conn: C,
+    pub id: SessionId,
+    pub port: u16,
+    pub is_over: bool,
+    /// Its control connection is lost, or its session is over and all its replies are written.
+    pub is_done: bool,
+    pub replies: Pending,
+    pub records: Pending,
+    pub image: Option<C>,
+    /// The end record was taken.
+    pub is_last: bool,
+}
+
+/// The most that is read and fed in a turn.
+const PIECE: usize = 4096;
+
+/// One read of the control connection, fed to the session. Tells whether something moved.
+fn hear<D: Device, C: Socket>(alloc: Global, daemon: &mut Daemon<D>, link: &mut Link<C>) -> bool
+    ensures { (n : Option Ledger) → Goes C.history (core D.state daemon.old) n link.old (core D.state daemon.new) n link.new }
+{
+    let mut room = [0u8; PIECE];
+    match link.conn.read(&mut room) {
+        Got::Moved(n) => {
+            let fed = daemon.feed(alloc, link.id, &room[..n]);
+            link.is_over |= fed != Fed::Standing;
+            true
+        }
+        Got::Nothing => false,
+        Got::Lost => {
+            link.is_done = true;
+            true
+        }
+    }
+}
+
+/// Takes replies where none wait.
+fn fill_replies<D: Device, C: Socket>(daemon: &mut Daemon<D>, link: &mut Link<C>)
+    ensures { (n : Option Ledger) → Goes C.history (core D.state daemon.old) n link.old (core D.state daemon.new) n link.new }
+{
+    if link.replies.is_empty() {
+        link.replies.take_reply(daemon, link.id);
+    }
+}
+
+/// One write of the replies that wait.
+fn send_replies<C: Socket>(link: &mut Link<C>) -> bool
+    ensures { (d : Core) (n : Option Ledger) → Goes C.history d n link.old d n link.new }
+{
+    if link.replies.is_empty() {
+        link.is_done |= link.is_over;
+        return false;
+    }
+    match link.replies.write_to(&mut link.conn) {
+        Got::Moved(_) => true,
+        Got::Nothing => false,
+        Got::Lost => {
+            link.is_done = true;
+            true
+        }
+    }
+}
+
+/// One write of replies, which are taken from the daemon where none wait.
+fn speak<D: Device, C: Socket>(daemon: &mut Daemon<D>, link: &mut Link<C>) -> bool
+    ensures { (n : Option Ledger) → Goes C.history (core D.state daemon.old) n link.old (core D.state daemon.new) n link.new }
+{
+    fill_replies(daemon, link);
+    send_replies(link)
+}
+
+/// Hands the data connection back.
+fn hang_up<L: Listeners>(net: &mut L, link: &mut Link<L::Conn>)
+    ensures goes { (d : Core) → Goes L.Conn.history d (L.ledger net.old) link.old d (L.ledger net.new) link.new }
+    ensures none { link.new.image ≡ None }
+{
+    if let Some(conn) = link.image.take() {
+        net.close(conn);
+    }
+}
+
+/// Takes the data connection of a frame that waits for it.
+fn dial<D: Device, L: Listeners>(
+    daemon: &mut Daemon<D>,
+    net: &mut L,
+    link: &mut Link<L::Conn>,
+) -> bool
+    ensures { Goes L.Conn.history (core D.state daemon.old) (L.ledger net.old) link.old (core D.state daemon.new) (L.ledger net.new) link.new }
+{
+    if link.image.is_some() {
+        return false;
+    }
+    let FrameState::Waiting = daemon.frame(link.id) else {
+        return false;
+    };
+    let Some(conn) = net.accept_data(link.port) else {
+        return false;
+    };
+    if !daemon.data_connected(link.id) {
+        // A frame waits, so this never comes; the types want the connection handed back.
+        net.close(conn);
+        return true;
+    }
+    link.records.clear();
+    link.is_last = false;
+    if let Some(other) = link.image.replace(conn) {
+        net.close(other);
+    }
+    true
+}
+
+/// Takes a record where none waits.
+fn fill_records<D: Device, C: Socket>(daemon: &mut Daemon<D>, link: &mut Link<C>)
+    requires { IsSome link.old.image }
+    ensures { (n : Option Ledger) → Goes C.history (core D.state daemon.old) n link.old (core D.state daemon.new) n link.new }
+{
+    if link.records.is_empty() && !link.is_last {
+        let step = link.records.take_record(daemon, link.id);
+        link.is_last = matches!(step, DataStep::Last(_));
+    }
+}
+
+/// One write of the record that waits.
+fn send_records<C: Socket>(link: &mut Link<C>) -> Got
+    ensures { (d : Core) (n : Option Ledger) → Goes C.history d n link.old d n link.new }
+{
+    match &mut link.image {
+        Some(conn) if !link.records.is_empty() => link.records.write_to(conn),
+        _ => Got::Nothing,
+    }
+}
+
+/// One record. The data connection is handed back after the end record, or where it is lost.
+fn show<D: Device, L: Listeners>(
+    daemon: &mut Daemon<D>,
+    net: &mut L,
+    link: &mut Link<L::Conn>,
+) -> bool
+    ensures { Goes L.Conn.history (core D.state daemon.old) (L.ledger net.old) link.old (core D.state daemon.new) (L.ledger net.new) link.new }
+{
+    if link.image.is_none() {
+        return false;
+    }
+    fill_records(daemon, link);
+    match send_records(link) {
+        Got::Nothing => false,
+        Got::Moved(_) => {
+            if link.is_last && link.records.is_empty() {
+                hang_up(net, link);
+            }
+            true
+        }
+        Got::Lost => {
+            daemon.data_lost(link.id);
+            hang_up(net, link);
+            true
+        }
+    }
+}
+
+/// One turn of a session: a read, a write, its data connection and a record. Tells whether something moved.
+pub fn converse<D: Device, L: Listeners>(
+    alloc: Global,
+    daemon: &mut Daemon<D>,
+    net: &mut L,
+    link: &mut Link<L::Conn>,
+) -> bool
+    ensures { Goes L.Conn.history (core D.state daemon.old) (L.ledger net.old) link.old (core D.state daemon.new) (L.ledger net.new) link.new }
+{
+    let has_heard = hear(alloc, daemon, link);
+    let has_spoken = speak(daemon, link);
+    let has_dialed = dial(daemon, net, link);
+    let has_shown = show(daemon, net, link);
+    has_heard | has_spoken | has_dialed | has_shown
+}
+
+/// Room for what waits on a session's two connections.
+#[derive(Drop)]
+pub struct Rooms {
+    pub replies: Pending,
+    pub records: Pending,
+}
+
+/// Hands the control connection back.
+pub fn part<L: Listeners>(net: &mut L, link: Link<L::Conn>) -> Rooms
+    requires { link.image ≡ None }
+    ensures { L.ledger net.new ≡ after_close (L.Conn.history link.conn) (L.ledger net.old) }
+{
+    let Link {
+        conn,
+        id: _,
+        port: _,
+        is_over: _,
+        is_done: _,
+        replies,
+        records,
+        image,
+        is_last: _,
+    } = link;
+    match image {
+        None => {
+            net.close(conn);
+            Rooms { replies, records }
+        }
+        Some(other) => {
+            net.close(other);
+            net.close(conn);
+            Rooms { replies, records }
+        }
+    }
+}
+
+/// Ends a session and hands its connections back.
+pub fn leave<D: Device, L: Listeners>(
+    daemon: &mut Daemon<D>,
+    net: &mut L,
+    mut link: Link<L::Conn>,
+) -> Rooms
+    ensures { Parts L.Conn.history (core D.state daemon.old) (L.ledger net.old) link (core D.state daemon.new) (L.ledger net.new) }
+{
+    hang_up(net, &mut link);
+    net.close_data(link.port);
+    daemon.end_session(link.id);
+    part(net, link)
+}

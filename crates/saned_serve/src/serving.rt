@@ -1,0 +1,121 @@
+//! Turn after turn, until enough sessions left or nothing moves.
+
+ghost use Rattle.std.specs.Prelude.{◌≡◌, ◌≢◌, ◌<◌, ◌+◌, ℕ, Option};
+ghost use Rattle.saned_core.specs.State.{Core, core};
+ghost use Rattle.saned_serve.specs.Ledger.{Ledger};
+ghost use Rattle.saned_serve.specs.Stands.{Stands, Served, counted_by};
+
+use crate::Listeners;
+use crate::seats::{Seat, close_all, seats_for, turn_at, welcome};
+use device_api::Device;
+use saned_core::Daemon;
+use std::alloc::Global;
+
+/// What a turn came to: whether something moved, and how many sessions left.
+#[derive(Clone, Copy)]
+struct Turned {
+    has_moved: bool,
+    left: u64,
+}
+
+/// One accept while a seat is empty, and one turn of each session.
+fn take_turn<D: Device, L: Listeners>(
+    alloc: Global,
+    daemon: &mut Daemon<D>,
+    net: &mut L,
+    seats: &mut [Seat<L::Conn>],
+) -> Turned
+    ensures { (d0 : Core) (n0 : Option Ledger) (left : ℕ) → Stands L.Conn.history d0 n0 (core D.state daemon.old) (L.ledger net.old) seats.old left
+        → Stands L.Conn.history d0 n0 (core D.state daemon.new) (L.ledger net.new) seats.new (left + result.left) }
+{
+    let mut has_moved = welcome(alloc, daemon, net, seats);
+    let mut left = 0u64;
+    for i in 0..seats.len() {
+        let visit = turn_at(alloc, daemon, net, seats, i);
+        has_moved |= visit.has_moved;
+        left = left.saturating_add(u64::from(visit.has_left));
+    }
+    Turned { has_moved, left }
+}
+
+/// Why `serve` ended.
+#[derive(Clone, Copy, Debug, PartialEq, Eq)]
+pub enum ServeEnd {
+    /// As many sessions left as it was to serve.
+    Sessions,
+    /// Nothing moved in as many turns as it was to wait.
+    Idle,
+    /// It took 2^40 turns.
+    Turns,
+    /// There was no memory before the first accept.
+    NoMem,
+}
+
+const MOST_TURNS: u64 = 1 << 40;
+
+fn take_turns<D: Device, L: Listeners>(
+    alloc: Global,
+    daemon: &mut Daemon<D>,
+    net: &mut L,
+    seats: &mut [Seat<L::Conn>],
+    sessions: u64,
+    idle_turns: u64,
+) -> ServeEnd
+    ensures stands { (d0 : Core) (n0 : Option Ledger) → Stands L.Conn.history d0 n0 (core D.state daemon.old) (L.ledger net.old) seats.old 0
+        → Stands L.Conn.history d0 n0 (core D.state daemon.new) (L.ledger net.new) seats.new (counted_by result sessions) }
+    ensures some { result ≡ ServeEnd.Sessions → 0 < sessions }
+    ensures memory { result ≢ ServeEnd.NoMem }
+{
+    let mut all_left = 0u64;
+    let mut idle = 0u64;
+    for _turn in 0..MOST_TURNS {
+        let turned = take_turn(alloc, daemon, net, seats);
+        all_left = all_left.saturating_add(turned.left);
+        if sessions > 0 && all_left >= sessions {
+            return ServeEnd::Sessions;
+        }
+        idle = if turned.has_moved {
+            0
+        } else {
+            idle.saturating_add(1)
+        };
+        if idle >= idle_turns {
+            return ServeEnd::Idle;
+        }
+    }
+    ServeEnd::Turns
+}
+
+/// Serves a daemon's sessions over connections that never wait. In a turn it accepts one connection, while fewer than
+/// eight sessions stand, and then, for each session, reads once and feeds that, writes replies once, takes the data
+/// connection where a frame waits for one, and writes of one record; what a write did not take goes first in the next turn.
+/// A connection is closed once it is lost, or once its session is over and its replies are written, and its session counted
+/// then. It ends after so many sessions (0: no such end), after so many turns in a row in which nothing moved, or after 2^40
+/// turns, and hands every connection back. All memory of its own is taken before the first accept; `NoMem` comes only there,
+/// and then nothing was done.
+pub fn serve<D: Device, L: Listeners>(
+    alloc: Global,
+    daemon: &mut Daemon<D>,
+    net: &mut L,
+    sessions: u64,
+    idle_turns: u64,
+) -> ServeEnd
+    ensures served { Served (core D.state daemon.old) (L.ledger net.old) (core D.state daemon.new) (L.ledger net.new) (counted_by result sessions) }
+    ensures some { result ≡ ServeEnd.Sessions → 0 < sessions }
+    ensures memory { result ≡ ServeEnd.NoMem → (daemon.new ≡ daemon.old) × (L.ledger net.new ≡ L.ledger net.old) }
+{
+    let mut seats: Vec<Seat<L::Conn>> = match seats_for(alloc) {
+        Ok(seats) => seats,
+        Err(_) => return ServeEnd::NoMem,
+    };
+    let end = take_turns(
+        alloc,
+        daemon,
+        net,
+        seats.as_mut_slice(),
+        sessions,
+        idle_turns,
+    );
+    close_all(daemon, net, seats);
+    end
+}

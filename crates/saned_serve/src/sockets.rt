@@ -1,0 +1,63 @@
+//! Connections that never wait, and whence they come.
+
+ghost use Rattle.std.specs.Prelude.{◌≡◌, ◌≤◌, ◌<◌, ℕ, Option, None, Some, IfSome, length};
+ghost use Rattle.saned_serve.specs.Talk.{Talk, MovesWithin, after_read, after_write, IsFresh};
+ghost use Rattle.saned_serve.specs.Ledger.{Ledger, after_accept, after_close};
+
+/// What a call on a socket came to.
+#[derive(Clone, Copy, Debug, PartialEq, Eq)]
+pub enum Got {
+    /// So many bytes moved, at least one.
+    Moved(usize),
+    /// None did, for now.
+    Nothing,
+    /// The connection is lost, or its input is at its end.
+    Lost,
+}
+
+/// A connection whose calls come back at once.
+pub trait Socket {
+    /// The bytes read from it and written to it so far, where it tells them.
+    ghost history: { Self → Option Talk } = { λ _. None };
+
+    /// Reads to the start of the buffer, at most as many bytes as it has.
+    fn read(&mut self, buf: &mut [u8]) -> Got
+        ensures within { MovesWithin result (length buf.new) }
+        ensures told { history self.new ≡ after_read result buf.new (history self.old) };
+
+    /// Writes a front of the bytes.
+    fn write(&mut self, buf: &[u8]) -> Got
+        ensures within { MovesWithin result (length buf.now) }
+        ensures told { history self.new ≡ after_write result buf.now (history self.old) };
+}
+
+/// Whence a daemon's connections come, and where they go back to. A connection that is not handed back is an error
+/// of its owner, so `Conn` has no `Drop`.
+pub trait Listeners {
+    type Conn: Socket;
+
+    /// How many connections were handed out, and what those handed back had told, where it tells them.
+    ghost ledger: { Self → Option Ledger } = { λ _. None };
+
+    /// The next control connection, where one is there.
+    fn accept(&mut self) -> Option<Self::Conn>
+        ensures told { ledger self.new ≡ after_accept result (ledger self.old) }
+        ensures fresh { IfSome result (λ conn. IsFresh (Self.Conn.history conn)) };
+
+    /// A new port that waits for data connections.
+    fn open_data(&mut self) -> Option<u16>
+        ensures { ledger self.new ≡ ledger self.old };
+
+    /// The next connection at such a port, where one is there.
+    fn accept_data(&mut self, port: u16) -> Option<Self::Conn>
+        ensures told { ledger self.new ≡ after_accept result (ledger self.old) }
+        ensures fresh { IfSome result (λ conn. IsFresh (Self.Conn.history conn)) };
+
+    /// No further connection is awaited at that port.
+    fn close_data(&mut self, port: u16)
+        ensures { ledger self.new ≡ ledger self.old };
+
+    /// Takes a connection back, and closes it.
+    fn close(&mut self, conn: Self::Conn)
+        ensures { ledger self.new ≡ after_close (Self.Conn.history conn) (ledger self.old) };
+}

@@ -1,0 +1,5 @@
+//! Clients in memory, and what they are served.
+
+mod memory;
+mod messages;
+mod serving;
