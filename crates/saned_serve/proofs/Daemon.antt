@@ -1,9 +1,9 @@
 -- What a daemon's contract says of replies and of records, as calls.
-use Rattle.std.proofs.Common.{◌≡◌, ◌≤◌, ◌⊎◌, ℕ, suc, ◌+◌, ◌-◌, Bool, List, ◌++◌, Option, Some, None, Result, Ok, Err, take, drop, length, slice_range, refl, sym, ap, ◌∙◌, subst, arith}
-use Rattle.std.proofs.lemmas.List.{length-take, length-drop}
+use Rattle.std.proofs.Common.{◌≡◌, ◌≤◌, ◌⊎◌, ℕ, suc, ◌+◌, ◌-◌, List, ◌++◌, Option, Some, None, Result, Ok, Err, take, drop, length, slice_range, sym, ap, ◌∙◌, subst, arith}
+use Rattle.std.proofs.lemmas.List.{length-take}
 use Rattle.std.specs.Int.{w32, to_be_bytes}
 use Rattle.sane_fixed.specs.declared.status.Status.{Status}
-use Rattle.device_api.specs.State.{DeviceState, Phase, Reads, ReadsIn, ReadsOn, FrameReads, told_at}
+use Rattle.device_api.specs.State.{DeviceState, Phase, Reads, ReadsIn, FrameReads, told_at}
 use Rattle.device_api.specs.State.Phase.{AtRest, Between, Reading}
 use Rattle.dispatch.specs.declared.table.place.Lease.{Lease}
 use Rattle.saned_desk.specs.declared.session.Carriage.{Carriage}
@@ -12,9 +12,9 @@ use Rattle.saned_desk.specs.declared.session.Session.{Session}
 use Rattle.saned_desk.specs.Holding.{held_by}
 use Rattle.saned_core.specs.declared.seat.Seat.{Seat}
 use Rattle.saned_core.specs.declared.seat.DataStep.{DataStep}
-use Rattle.saned_core.specs.declared.seat.DataStep.TheVariants.{Idle, Bytes, Last}
+use Rattle.saned_core.specs.declared.seat.DataStep.TheVariants.{Idle}
 use Rattle.saned_core.specs.State.{Core, replies_of, after_taken, on_seat, seat_of, session_in}
-use Rattle.saned_core.specs.Turns.{Turns, TurnsSessions, Streams, StreamsIn, StreamsFrom, StreamsOn, Records}
+use Rattle.saned_core.specs.Turns.{Turns, TurnsSessions, StreamsIn, StreamsFrom, Records}
 use Rattle.saned_serve.specs.Calls.{IsTaken, IsTurned, written_by}
 use Rattle.saned_serve.proofs.Seating.{take_front}
 

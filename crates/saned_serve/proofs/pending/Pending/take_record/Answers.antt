@@ -1,7 +1,7 @@
-use Rattle.std.proofs.Common.{◌≡◌, ◌∙◌, ℕ, List, slice_range, sym, subst, length, ◌≤◌, arith}
+use Rattle.std.proofs.Common.{◌∙◌, ℕ, List, slice_range, sym, subst, length, ◌≤◌, arith}
 use Rattle.saned_core.specs.State.{core}
-use Rattle.saned_serve.specs.Calls.{IsTurned, written_by}
-use Rattle.saned_serve.proofs.Daemon.{is_turned, turn_fits, written_back}
+use Rattle.saned_serve.specs.Calls.{IsTurned}
+use Rattle.saned_serve.proofs.Daemon.{is_turned, written_back}
 use Rattle.saned_serve.proofs.pending.Pending.take_record.Goals as goal
 
 pub returns : goal.returns

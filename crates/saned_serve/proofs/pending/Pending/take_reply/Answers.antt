@@ -1,4 +1,4 @@
-use Rattle.std.proofs.Common.{◌≡◌, ◌∙◌, ℕ, List, ◌++◌, take, drop, length, slice_range, sym, ap, subst}
+use Rattle.std.proofs.Common.{◌∙◌, ℕ, List, length, slice_range, sym, subst}
 use Rattle.saned_core.specs.State.{core}
 use Rattle.saned_serve.specs.Calls.{IsTaken}
 use Rattle.saned_serve.proofs.Daemon.{is_taken, written_back}
