@@ -31,12 +31,7 @@ fn job_of(
 }
 
 /// Does a job on a host. A batch has files of its own.
-fn run_job(
-    rt: &HostRuntime,
-    host: &[u8],
-    job: Job,
-    options: &Options,
-) -> Result<Printed, Ending> {
+fn run_job(rt: &HostRuntime, host: &[u8], job: Job, options: &Options) -> Result<Printed, Ending> {
     let mut dial = HostDial::new(rt, host).ok_or(Ending::lost())?;
     let mut control = dial.dial(port_of(options)).map_err(|_| Ending::lost())?;
     match job.task {
