@@ -1,8 +1,8 @@
 use dispatch::{ConfigLine, parse_config};
 use sane_fixed::Text;
 use scanimage_cli::{
-    Ending, Options, OptionsFault, Split, SplitFault, config_text, is_local, is_right_batch,
-    read_options, split_words, words_of,
+    Ending, Options, OptionsFault, Split, SplitFault, config_text, has_config, is_right_batch,
+    password_line, read_options, split_words, words_of,
 };
 use std::fs::File;
 use std::io::{self, ErrorKind};
@@ -14,7 +14,7 @@ fn split_ending(fault: SplitFault) -> Ending {
     }
 }
 
-/// The options and the settings of the command line. What the net is asked for comes with a later part.
+/// The options and the settings of the command line.
 pub fn command_line(rt: &HostRuntime) -> Result<(Options, Vec<(Text, Text)>), Ending> {
     let words = words_of(rt.alloc(), rt).map_err(split_ending)?;
     let Split { program, settings } = split_words(rt.alloc(), words.as_slice()).map_err(
@@ -24,10 +24,39 @@ pub fn command_line(rt: &HostRuntime) -> Result<(Options, Vec<(Text, Text)>), En
         OptionsFault::Bad => Ending::BadCommandLine,
         OptionsFault::NoMem => Ending::no_memory(),
     })?;
-    if is_local(&options) && is_right_batch(&options) {
+    if has_config(&options) && is_right_batch(&options) {
         Ok((options, settings))
     } else {
         Err(Ending::BadCommandLine)
+    }
+}
+
+/// The file of that path, to be read.
+fn opened(rt: &HostRuntime, path: &Text) -> io::Result<File> {
+    match std::str::from_utf8(path.as_bytes()) {
+        Ok(path) => File::open(rt, path),
+        Err(_) => Err(io::Error::from(ErrorKind::InvalidInput)),
+    }
+}
+
+/// How the program ends where a file of that path is not read.
+fn cannot_read(rt: &HostRuntime, path: &Text) -> Ending {
+    match path.try_clone(rt.alloc()) {
+        Ok(path) => Ending::CannotRead(path),
+        Err(_) => Ending::no_memory(),
+    }
+}
+
+/// What was read of the file of that path.
+fn bytes_read(
+    rt: &HostRuntime,
+    path: &Text,
+    outcome: io::Result<Vec<u8>>,
+) -> Result<Vec<u8>, Ending> {
+    match outcome {
+        Ok(bytes) => Ok(bytes),
+        Err(e) if e.kind() == ErrorKind::OutOfMemory => Err(Ending::no_memory()),
+        Err(_) => Err(cannot_read(rt, path)),
     }
 }
 
@@ -36,24 +65,27 @@ fn config_bytes(rt: &HostRuntime, path: &Text) -> io::Result<Vec<u8>> {
     if path.as_bytes() == b"-".as_slice() {
         return config_text(rt.alloc(), rt.stdin());
     }
-    match std::str::from_utf8(path.as_bytes()) {
-        Ok(path) => config_text(rt.alloc(), File::open(rt, path)?),
-        Err(_) => Err(io::Error::from(ErrorKind::InvalidInput)),
-    }
+    config_text(rt.alloc(), opened(rt, path)?)
 }
 
-/// The lines of the config that the options name.
+/// The lines of the config that the options name; none where they name none.
 pub fn config_lines(rt: &HostRuntime, options: &Options) -> Result<Vec<ConfigLine>, Ending> {
     let Some(path) = &options.config else {
-        return Err(Ending::BadCommandLine);
+        return Ok(Vec::new(rt.alloc()));
     };
-    let bytes = match config_bytes(rt, path) {
-        Ok(bytes) => bytes,
-        Err(e) if e.kind() == ErrorKind::OutOfMemory => return Err(Ending::no_memory()),
-        Err(_) => {
-            let path = path.try_clone(rt.alloc()).map_err(|_| Ending::no_memory())?;
-            return Err(Ending::CannotRead(path));
-        }
-    };
+    let bytes = bytes_read(rt, path, config_bytes(rt, path))?;
     parse_config(rt.alloc(), bytes.as_slice()).map_err(Ending::Config)
+}
+
+fn password_bytes(rt: &HostRuntime, path: &Text) -> io::Result<Vec<u8>> {
+    password_line(rt.alloc(), opened(rt, path)?)
+}
+
+/// The password in the file that the options name; an empty one where they name none.
+pub fn password(rt: &HostRuntime, options: &Options) -> Result<Text, Ending> {
+    let Some(path) = &options.password_file else {
+        return Text::new(rt.alloc(), b"").map_err(|_| Ending::no_memory());
+    };
+    let bytes = bytes_read(rt, path, password_bytes(rt, path))?;
+    Text::from_vec(bytes).map_err(|_| cannot_read(rt, path))
 }

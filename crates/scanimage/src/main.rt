@@ -1,18 +1,21 @@
-//! `scanimage`: lists the virtual scanners of a config, shows their options, and scans to Netpbm files.
+//! `scanimage`: lists the virtual scanners of a config or of a daemon, shows their options, and scans to Netpbm files.
 #![tactic(auto)]
 
 mod command_line;
 mod devices;
+mod job;
+mod net_task;
 mod printing;
 mod task;
 
-use crate::command_line::{command_line, config_lines};
+use crate::command_line::{command_line, config_lines, password};
 use crate::devices::{feeder, flatbed, hand_scanner, three_pass};
+use crate::net_task::run_net_task;
 use crate::task::run_task;
 use device_api::Device;
 use dispatch::Registry;
 use page_picture::DeviceKind;
-use scanimage_cli::Ending;
+use scanimage_cli::{Ending, asked_of_net};
 use std::process::ExitCode;
 
 /// Reads the command line and the config, makes the devices, and does what is asked for.
@@ -44,7 +47,11 @@ fn run(rt: &HostRuntime) -> Result<(), Ending> {
         }
     }
     let mut registry = Registry::new(rt.alloc(), devices).map_err(|_| Ending::no_memory())?;
-    run_task(rt, &mut registry, options, settings)
+    let password = password(rt, &options)?;
+    match asked_of_net(&options) {
+        Some((host, device)) => run_net_task(rt, host, device, &options, settings, password),
+        None => run_task(rt, &mut registry, &options, settings, password),
+    }
 }
 
 /// Says on standard error how the program ends.

@@ -1,5 +1,6 @@
 use local_job::{MOST_AGAIN, put};
-use scanimage_cli::Ending;
+use scanimage_cli::{Ending, Printed};
+use std::io::Write;
 
 /// Prints a list or a table.
 pub fn print(rt: &HostRuntime, lines: &[u8]) -> Result<(), Ending> {
@@ -9,4 +10,11 @@ pub fn print(rt: &HostRuntime, lines: &[u8]) -> Result<(), Ending> {
     } else {
         Err(Ending::failed_output())
     }
+}
+
+/// Prints what a job tells. Lines that standard error does not take are lost, and no more.
+pub fn print_all(rt: &HostRuntime, printed: &Printed) -> Result<(), Ending> {
+    print(rt, &printed.table)?;
+    let _ = rt.stderr().write_all(&printed.rounded);
+    Ok(())
 }

@@ -4,24 +4,25 @@ use Rattle.std.proofs.lemmas.List.{append-nil, append_assoc}
 use Rattle.device_api.specs.declared.device_info.DeviceInfo.{DeviceInfo}
 use Rattle.scanimage_cli.specs.DeviceList.{device_line, device_lines}
 
-pub nine : (l a b c d e f g h i : List ℕ) → ((((((((l ++ a) ++ b) ++ c) ++ d) ++ e) ++ f) ++ g) ++ h) ++ i ≡ l ++ (a ++ (b ++ (c ++ (d ++ (e ++ (f ++ (g ++ (h ++ i))))))))
-nine l a b c d e f g h i =
-    append_assoc (((((((l ++ a) ++ b) ++ c) ++ d) ++ e) ++ f) ++ g) h i
-    ∙ append_assoc ((((((l ++ a) ++ b) ++ c) ++ d) ++ e) ++ f) g (h ++ i)
-    ∙ append_assoc (((((l ++ a) ++ b) ++ c) ++ d) ++ e) f (g ++ (h ++ i))
-    ∙ append_assoc ((((l ++ a) ++ b) ++ c) ++ d) e (f ++ (g ++ (h ++ i)))
-    ∙ append_assoc (((l ++ a) ++ b) ++ c) d (e ++ (f ++ (g ++ (h ++ i))))
-    ∙ append_assoc ((l ++ a) ++ b) c (d ++ (e ++ (f ++ (g ++ (h ++ i)))))
-    ∙ append_assoc (l ++ a) b (c ++ (d ++ (e ++ (f ++ (g ++ (h ++ i))))))
-    ∙ append_assoc l a (b ++ (c ++ (d ++ (e ++ (f ++ (g ++ (h ++ i)))))))
+pub ten : (l a b c d e f g h i j : List ℕ) → (((((((((l ++ a) ++ b) ++ c) ++ d) ++ e) ++ f) ++ g) ++ h) ++ i) ++ j ≡ l ++ (a ++ (b ++ (c ++ (d ++ (e ++ (f ++ (g ++ (h ++ (i ++ j)))))))))
+ten l a b c d e f g h i j =
+    append_assoc ((((((((l ++ a) ++ b) ++ c) ++ d) ++ e) ++ f) ++ g) ++ h) i j
+    ∙ append_assoc (((((((l ++ a) ++ b) ++ c) ++ d) ++ e) ++ f) ++ g) h (i ++ j)
+    ∙ append_assoc ((((((l ++ a) ++ b) ++ c) ++ d) ++ e) ++ f) g (h ++ (i ++ j))
+    ∙ append_assoc (((((l ++ a) ++ b) ++ c) ++ d) ++ e) f (g ++ (h ++ (i ++ j)))
+    ∙ append_assoc ((((l ++ a) ++ b) ++ c) ++ d) e (f ++ (g ++ (h ++ (i ++ j))))
+    ∙ append_assoc (((l ++ a) ++ b) ++ c) d (e ++ (f ++ (g ++ (h ++ (i ++ j)))))
+    ∙ append_assoc ((l ++ a) ++ b) c (d ++ (e ++ (f ++ (g ++ (h ++ (i ++ j))))))
+    ∙ append_assoc (l ++ a) b (c ++ (d ++ (e ++ (f ++ (g ++ (h ++ (i ++ j)))))))
+    ∙ append_assoc l a (b ++ (c ++ (d ++ (e ++ (f ++ (g ++ (h ++ (i ++ j))))))))
 
-pub one_more : (done new : List ℕ) (left rest : List DeviceInfo) (info : DeviceInfo) (whole : List ℕ)
-    → left ≡ info ∷ rest → new ≡ done ++ device_line info → done ++ device_lines left ≡ whole → new ++ device_lines rest ≡ whole
+pub one_more : (prefix done new : List ℕ) (left rest : List DeviceInfo) (info : DeviceInfo) (whole : List ℕ)
+    → left ≡ info ∷ rest → new ≡ done ++ device_line prefix info → done ++ device_lines prefix left ≡ whole → new ++ device_lines prefix rest ≡ whole
 unfolding device_lines
-one_more done new left rest info whole cut is before =
-    let step : device_lines left ≡ device_line info ++ device_lines rest = rw cut refl in
-    ap (λ (x : List ℕ). x ++ device_lines rest) is ∙ append_assoc done (device_line info) (device_lines rest) ∙ ap (λ (x : List ℕ). done ++ x) (sym step) ∙ before
+one_more prefix done new left rest info whole cut is before =
+    let step : device_lines prefix left ≡ device_line prefix info ++ device_lines prefix rest = rw cut refl in
+    ap (λ (x : List ℕ). x ++ device_lines prefix rest) is ∙ append_assoc done (device_line prefix info) (device_lines prefix rest) ∙ ap (λ (x : List ℕ). done ++ x) (sym step) ∙ before
 
-pub no_more : (done : List ℕ) (left : List DeviceInfo) (whole : List ℕ) → left ≡ [] → done ++ device_lines left ≡ whole → done ≡ whole
+pub no_more : (prefix done : List ℕ) (left : List DeviceInfo) (whole : List ℕ) → left ≡ [] → done ++ device_lines prefix left ≡ whole → done ≡ whole
 unfolding device_lines
-no_more done left whole none before = sym (append-nil done) ∙ ap (λ (x : List DeviceInfo). done ++ device_lines x) (sym none) ∙ before
+no_more prefix done left whole none before = sym (append-nil done) ∙ ap (λ (x : List DeviceInfo). done ++ device_lines prefix x) (sym none) ∙ before

@@ -1,5 +1,6 @@
 -- What the options of the program ask for.
-use Rattle.std.specs.Prelude.{ℕ, ◌≡◌, ◌++◌, if◌then◌else◌, Option, Some, None, IsSome, IsTrue, IfSome, List, Contains, codes}
+use Rattle.std.specs.Prelude.{ℕ, ◌≡◌, ◌++◌, if◌then◌else◌, false, Option, Some, None, IsSome, IsTrue, IfSome, List, [], Contains, codes}
+use Rattle.text_lines.specs.Lines.{SplitsAtFirst}
 use Rattle.scan_job.specs.declared.job.Task.{Task}
 use Rattle.scan_job.specs.declared.job.Task.TheVariants.{List as ListTask, Show, SetOnly, Scan, Batch}
 use Rattle.scanimage_cli.specs.declared.options.Options.{Options}
@@ -22,14 +23,33 @@ task_asked options =
 abbrev pub IsNetName : List ℕ → Type 0
 IsNetName name = (rest : List ℕ) × (name ≡ codes "net:" ++ rest) × Contains rest 58
 
--- a device of this machine is asked for, and nothing of the net
+-- the host and the device's own name in such a name: the host ends at its first colon
+pub record IsNetNameOf (name host device : List ℕ) : Type 0 where
+  pub rest : List ℕ
+  pub name_is : name ≡ codes "net:" ++ rest
+  pub parts : SplitsAtFirst 58 rest host device
+
+-- a list without a host, or anything else of a device that is none of the net
 pub record IsLocal (options : Options) : Type 0 where
-  pub config : IsSome options.config
-  pub net : options.net ≡ None
-  pub port : options.port ≡ None
-  pub user : options.user ≡ None
-  pub password_file : options.password_file ≡ None
-  pub device : IfSome options.device_name (λ name. ¬ IsNetName name)
+  pub list : IsTrue options.list_devices → options.net ≡ None
+  pub device : options.list_devices ≡ false → IfSome options.device_name (λ name. ¬ IsNetName name)
+
+-- what is asked of this machine needs a config
+abbrev pub HasConfig : Options → Type 0
+HasConfig options = IsLocal options → IsSome options.config
+
+-- the host that is asked, and the device there: a list asks for none, all else for the named one
+pub record IsAskedOf (options : Options) (host device : List ℕ) : Type 0 where
+  pub list : IsTrue options.list_devices → (options.net ≡ Some host) × (device ≡ [])
+  pub named : options.list_devices ≡ false → (name : List ℕ) × (options.device_name ≡ Some name) × IsNetNameOf name host device
+
+-- the port that is said, or else that of SANE's daemon
+abbrev pub port_or_default : Option ℕ → ℕ
+port_or_default None = 6566
+port_or_default (Some port) = port
+
+abbrev pub port_asked : Options → ℕ
+port_asked options = port_or_default options.port
 
 -- a batch has files of its own, and a count is that of a batch
 pub record IsRightBatch (options : Options) : Type 0 where

@@ -3,4 +3,5 @@ pub mod Asked
 pub mod DeviceList
 pub mod WordCut
 pub mod Options
+pub mod Password
 pub mod Rounding

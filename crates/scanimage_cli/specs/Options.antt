@@ -1,5 +1,5 @@
 -- The values that the program's words, which have long names and values behind `=`, give the options.
-use Rattle.std.specs.Prelude.{ℕ, ◌≡◌, ◌+◌, ◌-◌, nat_lt, option_map, Bool, false, ◌||◌, ◌==◌, if◌then◌else◌, Option, Some, None, List, [], ◌∷◌, length, take, drop}
+use Rattle.std.specs.Prelude.{ℕ, ◌≡◌, ◌+◌, ◌-◌, nat_lt, option_map, decimal, Bool, false, ◌||◌, ◌==◌, if◌then◌else◌, Option, Some, None, List, [], ◌∷◌, length, take, drop}
 use Rattle.std.specs.Str.{bytes_eq}
 use Rattle.scanimage_cli.specs.WordCut.{long_word}
 use Rattle.scanimage_cli.specs.declared.options.Options.{Options}
@@ -49,7 +49,7 @@ pub record IsOptionsOf (words : List (List ℕ)) (options : Options) : Type 0 wh
   pub output_file : options.output_file ≡ option_value OutputFile words
   pub config : options.config ≡ option_value Config words
   pub net : options.net ≡ option_value Net words
-  pub port : options.port ≡ option_value Port words
+  pub port : option_value Port words ≡ option_map decimal options.port
   pub user : options.user ≡ option_value User words
   pub password_file : options.password_file ≡ option_value PasswordFile words
   pub batch : options.batch ≡ has_flag Batch words

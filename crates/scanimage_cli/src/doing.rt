@@ -1,5 +1,5 @@
 use crate::ending::Ending;
-use crate::patient::Patient;
+use crate::last_bytes::{finished, gathered, stopped};
 use crate::rounding::{is_any_rounded, rounded_lines};
 use crate::table::options_table;
 use device_api::Device;
@@ -7,15 +7,12 @@ use local_job::{run_local, run_local_batch};
 use sane_fixed::NoMem;
 use scan_job::{Job, Outcome, Report, Reports, Shelf, Task, Why};
 use std::alloc::Global;
-use std::io::{BufWriter, Write};
-
-/// The most bytes that are gathered before they are written.
-const GATHERED: usize = 65_536;
+use std::io::Write;
 
 /// What a job that is done prints.
 #[derive(Drop)]
 pub struct Printed {
-    /// The table of options, for a job that shows them.
+    /// The table of options or the list of devices, for a job that shows or lists them.
     pub table: Vec<u8>,
     /// A line for each setting that was rounded.
     pub rounded: Vec<u8>,
@@ -48,14 +45,6 @@ fn texts_of(
     Ok(Printed { table, rounded })
 }
 
-/// Writes out what was gathered, and says whether the output took it. Where it fails nothing is written after it.
-fn write_out<W: Write + Drop>(mut out: BufWriter<W>) -> bool {
-    let is_written = out.flush().is_ok();
-    // A buffer that is dropped would try again.
-    let _parts = out.into_parts();
-    is_written
-}
-
 /// Does a job on a scanner and gives what is to be printed of it. Its file goes to the output through a buffer,
 /// whose rest is written last: after a job that is done only once all that it prints is there. A job that ends
 /// otherwise, or an output that fails, leaves no whole file.
@@ -65,29 +54,13 @@ pub fn do_job<W: Write + Drop>(
     job: &Job,
     output: W,
 ) -> Result<Printed, Ending> {
-    let mut out = BufWriter::with_capacity(alloc, GATHERED, Patient::new(output)).map_err(
-        |_| Ending::no_memory(),
-    )?;
+    let mut out = gathered(alloc, output).map_err(|_| Ending::no_memory())?;
     match run_local(alloc, device, job, &mut out) {
         Outcome::Done(reports) => {
-            let Ok(printed) = texts_of(alloc, &*device, job.task, &reports) else {
-                let _parts = out.into_parts();
-                return Err(Ending::no_memory());
-            };
-            if write_out(out) {
-                Ok(printed)
-            } else {
-                Err(Ending::failed_output())
-            }
+            let printed = texts_of(alloc, &*device, job.task, &reports);
+            finished(out, printed)
         }
-        Outcome::Ended(status, Why::Sink) => {
-            let _parts = out.into_parts();
-            Err(Ending::Ended(status, Why::Sink))
-        }
-        Outcome::Ended(status, why) => {
-            let _front = write_out(out);
-            Err(Ending::Ended(status, why))
-        }
+        Outcome::Ended(status, why) => Err(stopped(out, status, why)),
         Outcome::Running => Err(Ending::failed_output()),
     }
 }

@@ -1,7 +1,7 @@
 use config_pages::NoPage;
 use dispatch::ConfigFault;
 use sane_fixed::{Status, Text};
-use scan_job::Why;
+use scan_job::{Job, JobFault, Why};
 use std::io;
 use std::io::Write;
 
@@ -21,7 +21,7 @@ pub enum Ending {
 
 impl Ending {
     ghost use Rattle.std.specs.Prelude.{◌≡◌};
-    ghost use Rattle.scanimage_cli.specs.Ending.{exit_status};
+    ghost use Rattle.scanimage_cli.specs.Ending.{exit_status, IsRefusedAs};
 
     /// There was no memory.
     pub fn no_memory() -> Ending
@@ -35,6 +35,26 @@ impl Ending {
         ensures { result ≡ Ending.Ended Status.IoError Why.Sink }
     {
         Ending::Ended(Status::IoError, Why::Sink)
+    }
+
+    /// A connection was lost, or cannot be made.
+    pub fn lost() -> Ending
+        ensures { result ≡ Ending.Ended Status.IoError Why.Lost }
+    {
+        Ending::Ended(Status::IoError, Why::Lost)
+    }
+
+    /// How a job ends that is refused before anything is done for it.
+    pub fn of_refused(job: &Job) -> Option<Ending>
+        ensures { IsRefusedAs job.now result }
+    {
+        match job.fault() {
+            Some(JobFault::TooManySettings | JobFault::TextTooLong | JobFault::BadCount) => {
+                Some(Ending::Ended(Status::Inval, Why::Setting))
+            }
+            // Its size is tested here, and no memory is wanted for that.
+            Some(JobFault::NoMem) | None => None,
+        }
     }
 
     /// The exit status of the program.

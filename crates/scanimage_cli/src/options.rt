@@ -1,4 +1,4 @@
-ghost use Rattle.std.specs.Prelude.{◌≡◌, Some, IfOk, List, ℕ, option_map};
+ghost use Rattle.std.specs.Prelude.{◌≡◌, Some, IfOk, List, ℕ, option_map, decimal};
 ghost use Rattle.scanimage_cli.specs.WordCut.{long_word};
 ghost use Rattle.scanimage_cli.specs.Options.{value_after, option_value, has_flag, count_named, IsOptionsOf};
 
@@ -19,8 +19,8 @@ pub struct Options {
     pub output_file: Option<Text>,
     pub config: Option<Text>,
     pub net: Option<Text>,
-    /// A decimal number, 1 to 65,535.
-    pub port: Option<Text>,
+    /// 1 to 65,535.
+    pub port: Option<u16>,
     pub user: Option<Text>,
     pub password_file: Option<Text>,
     pub batch: bool,
@@ -175,23 +175,24 @@ fn agreed_flag(found: bool, option: ProgramOption, words: &[Text]) -> Result<boo
     }
 }
 
-/// The port, which `clap` has read as a number.
+/// The port, which `clap` has read as a number. It is said without leading zeros or a sign.
 fn agreed_port(
     alloc: Global,
-    found: &ArgMatches,
+    found: Option<u16>,
     words: &[Text],
-) -> Result<Option<Text>, OptionsFault>
-    ensures { IfOk result (λ value. value ≡ option_value ProgramOption.Port words.now) }
+) -> Result<Option<u16>, OptionsFault>
+    ensures { IfOk result (λ port. option_value ProgramOption.Port words.now ≡ option_map decimal port) }
 {
-    match (
-        found.get_one::<u16>("port"),
-        option_value(ProgramOption::Port, words),
-    ) {
+    match (found, option_value(ProgramOption::Port, words)) {
         (None, None) => Ok(None),
-        (Some(_), Some(value)) => match Text::new(alloc, value) {
-            Ok(text) => Ok(Some(text)),
-            Err(_) => Err(OptionsFault::NoMem),
-        },
+        (Some(port), Some(text)) => {
+            let digits = format!(in alloc; "{port}")?;
+            if digits.as_bytes() == text {
+                Ok(Some(port))
+            } else {
+                Err(OptionsFault::Bad)
+            }
+        }
         _ => Err(OptionsFault::Bad),
     }
 }
@@ -250,7 +251,7 @@ fn options_found(alloc: Global, found: &ArgMatches, words: &[Text]) -> Result<Op
     )?;
     let config = agreed_value(alloc, found.get_str("config"), ProgramOption::Config, words)?;
     let net = agreed_value(alloc, found.get_str("net"), ProgramOption::Net, words)?;
-    let port = agreed_port(alloc, found, words)?;
+    let port = agreed_port(alloc, found.get_one::<u16>("port"), words)?;
     let user = agreed_value(alloc, found.get_str("user"), ProgramOption::User, words)?;
     let password_file = agreed_value(
         alloc,
@@ -278,7 +279,7 @@ fn options_found(alloc: Global, found: &ArgMatches, words: &[Text]) -> Result<Op
 
 /// The options that the program's words give, as `clap` reads them, each with the value that its word
 /// has. `Bad` where `clap` refuses the words (a port that is not 1 to 65,535, a count that is not 1 to 16, a word that is not UTF-8)
-/// or reads another value; `NoMem` where there is no memory.
+/// or reads another value, and where a port or a count has leading zeros or a sign; `NoMem` where there is no memory.
 pub fn read_options(alloc: Global, words: &[Text]) -> Result<Options, OptionsFault>
     ensures { IfOk result (IsOptionsOf words.now) }
 {

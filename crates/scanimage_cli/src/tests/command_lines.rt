@@ -1,5 +1,8 @@
 use super::texts;
-use crate::{Options, SplitFault, is_local, is_net_name, read_options, split_words, task_of};
+use crate::{
+    Options, SplitFault, asked_of_net, has_config, is_local, is_net_name, port_of, read_options,
+    split_words, task_of,
+};
 use scan_job::Task;
 use std::alloc::Global;
 use std::process::Abort;
@@ -33,7 +36,7 @@ fn words_of_the_program(rt: HostRuntime) -> Result<(), Fail> {
     let output = options.output_file.ok_or("no output")?;
     assert_eq!(rt; output.as_bytes(), b"a b.pgm".as_slice());
     let port = options.port.ok_or("no port")?;
-    assert_eq!(rt; port.as_bytes(), b"65535".as_slice());
+    assert_eq!(rt; port, 65535);
     assert!(rt; !options.list_devices && options.user.is_none());
     Ok(())
 }
@@ -69,22 +72,53 @@ fn what_is_of_this_machine(rt: HostRuntime) -> Result<(), Fail> {
     }
     for (words, is_here) in [
         ([b"--config=-".as_slice()].as_slice(), true),
-        ([b"--config=-".as_slice(), b"-d", b"net:x"].as_slice(), true),
+        ([b"-d".as_slice(), b"net:x"].as_slice(), true),
         (
             [b"--config=-".as_slice(), b"-d", b"net:a:b"].as_slice(),
             false,
         ),
-        ([b"-L".as_slice()].as_slice(), false),
-        ([b"--config=-".as_slice(), b"--net=a"].as_slice(), false),
-        ([b"--config=-".as_slice(), b"--port=1"].as_slice(), false),
-        ([b"--config=-".as_slice(), b"--user=a"].as_slice(), false),
+        ([b"-L".as_slice(), b"-d", b"net:a:b"].as_slice(), true),
+        ([b"-L".as_slice(), b"--net=a"].as_slice(), false),
+        ([b"--net=a".as_slice(), b"--port=1"].as_slice(), true),
         (
-            [b"--config=-".as_slice(), b"--password-file=a"].as_slice(),
-            false,
+            [b"--user=a".as_slice(), b"--password-file=a"].as_slice(),
+            true,
         ),
     ] {
         let options = options(&rt, rt.alloc(), words)?;
         assert_eq!(rt; is_local(&options), is_here, "at {words:?}");
+        let is_said = options.config.is_some();
+        assert_eq!(rt; has_config(&options), is_said || !is_here, "at {words:?}");
+        assert_eq!(rt; asked_of_net(&options).is_none(), is_here, "at {words:?}");
+    }
+    Ok(())
+}
+
+#[test]
+fn what_is_asked_of_a_host(rt: HostRuntime) -> Result<(), Fail> {
+    for (words, host, name, port) in [
+        (
+            [b"-L".as_slice(), b"--net=a"].as_slice(),
+            b"a".as_slice(),
+            b"".as_slice(),
+            6566,
+        ),
+        (
+            [b"-d".as_slice(), b"net:a:b:0"].as_slice(),
+            b"a",
+            b"b:0",
+            6566,
+        ),
+        (
+            [b"-d".as_slice(), b"net::", b"--port=1"].as_slice(),
+            b"",
+            b"",
+            1,
+        ),
+    ] {
+        let options = options(&rt, rt.alloc(), words)?;
+        assert_eq!(rt; asked_of_net(&options), Some((host, name)), "at {words:?}");
+        assert_eq!(rt; port_of(&options), port);
     }
     Ok(())
 }
@@ -150,6 +184,8 @@ fn words_that_are_no_command_line(rt: HostRuntime) -> Result<(), Fail> {
     for words in [
         [b"--port=0".as_slice()].as_slice(),
         [b"--port=65536".as_slice()].as_slice(),
+        [b"--port=080".as_slice()].as_slice(),
+        [b"--port=+80".as_slice()].as_slice(),
         [b"--config=\xFF".as_slice()].as_slice(),
     ] {
         let words = texts(&rt, rt.alloc(), words)?;

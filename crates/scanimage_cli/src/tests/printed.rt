@@ -78,14 +78,17 @@ fn info(rt: &impl Abort, alloc: Global, name: &[u8], model: &[u8], class: &[u8])
 #[test]
 fn lists_of_devices(rt: HostRuntime) -> Result<(), Fail> {
     let alloc = rt.alloc();
-    assert_eq!(rt; device_list(alloc, &[])?.as_slice(), b"".as_slice());
+    assert_eq!(rt; device_list(alloc, b"", &[])?.as_slice(), b"".as_slice());
     let devices = [
         info(&rt, alloc, b"flatbed:0", b"Flatbed", b"flatbed scanner"),
         info(&rt, alloc, b"hand:7", b"Hand", b"handheld scanner"),
     ];
     let lines =
         b"device `flatbed:0' is a Virtual Flatbed flatbed scanner\ndevice `hand:7' is a Virtual Hand handheld scanner\n";
-    assert_eq!(rt; device_list(alloc, &devices)?.as_slice(), lines.as_slice());
+    assert_eq!(rt;
+        device_list(alloc, b"", &devices)?.as_slice(),
+        lines.as_slice()
+    );
     Ok(())
 }
 

@@ -1,10 +1,11 @@
 use Rattle.std.specs.Prelude.{codes}
-use Rattle.scanimage_cli.proofs.Lines.{nine}
+use Rattle.scanimage_cli.proofs.Lines.{ten}
 use Rattle.scanimage_cli.proofs.listing.add_device.Goals as goal
 
 pub returns : goal.returns
 returns c =
     rw (
+      c.in_ok-extend_from_slice-10.ensures.items,
       c.in_ok-extend_from_slice-9.ensures.items,
       c.in_ok-extend_from_slice-8.ensures.items,
       c.in_ok-extend_from_slice-7.ensures.items,
@@ -19,4 +20,4 @@ returns c =
       c.as_bytes-3.ensures.bytes,
       c.as_bytes-4.ensures.bytes,
     )
-    (nine c.args.lines.now.items (codes "device `") c.args.info.now.name (codes "' is a ") c.args.info.now.vendor (codes " ") c.args.info.now.model (codes " ") c.args.info.now.class (codes "\n"))
+    (ten c.args.lines.now.items (codes "device `") c.args.prefix.now c.args.info.now.name (codes "' is a ") c.args.info.now.vendor (codes " ") c.args.info.now.model (codes " ") c.args.info.now.class (codes "\n"))

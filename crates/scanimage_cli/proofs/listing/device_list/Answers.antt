@@ -7,9 +7,9 @@ use Rattle.scanimage_cli.proofs.listing.device_list.Goals as goal
 pub loop-info-preserved : goal.loop-info-preserved
 loop-info-preserved c =
     let cut : drop c.loop-info.info-index c.args.devices.now ≡ c.info-item.result ∷ drop (c.loop-info.info-index + 1) c.args.devices.now = search (rules, cut_at c.args.devices.now c.loop-info.info-index c.info-item.result) in
-    one_more c.loop-info.lines.items _ _ _ _ _ cut c.in_ok-add_device.ensures c.loop-info.invariant
+    one_more c.args.prefix.now c.loop-info.lines.items _ _ _ _ _ cut c.in_ok-add_device.ensures c.loop-info.invariant
 
 pub returns : goal.returns
 returns c =
     let all : length c.args.devices.now ≤ c.loop-info.info-index = search rules in
-    no_more c.loop-info.lines.items _ _ (drop_of_length-le c.args.devices.now all) c.loop-info.invariant
+    no_more c.args.prefix.now c.loop-info.lines.items _ _ (drop_of_length-le c.args.devices.now all) c.loop-info.invariant

@@ -1,0 +1,69 @@
+use crate::job::{output, text, user};
+use crate::printing::print_all;
+use net_backend::Dial;
+use sane_fixed::Text;
+use scan_job::{Job, Task};
+use scanimage_cli::{
+    Ending, Folder, HostDial, Options, Printed, do_net_batch, do_net_job, port_of, task_of,
+};
+
+/// The job that the options ask a host for. A list has no settings.
+fn job_of(
+    rt: &HostRuntime,
+    device: &[u8],
+    options: &Options,
+    settings: Vec<(Text, Text)>,
+    password: Text,
+) -> Result<Job, Ending> {
+    let task = task_of(options);
+    let settings = if task == Task::List {
+        Vec::new(rt.alloc())
+    } else {
+        settings
+    };
+    Ok(Job {
+        user: user(rt, options)?,
+        password,
+        device: text(rt, device)?,
+        settings,
+        task,
+    })
+}
+
+/// Does a job on a host. A batch has files of its own.
+fn run_job(rt: &HostRuntime, host: &[u8], job: Job, options: &Options) -> Result<Printed, Ending> {
+    let mut dial = HostDial::new(rt, host).ok_or(Ending::lost())?;
+    let mut control = dial.dial(port_of(options)).map_err(|_| Ending::lost())?;
+    match job.task {
+        Task::Batch(_) => do_net_batch(
+            rt.alloc(),
+            host,
+            job,
+            &mut control,
+            &mut dial,
+            &mut Folder { rt },
+        ),
+        Task::List | Task::Show | Task::SetOnly | Task::Scan => {
+            let output = output(rt, options)?;
+            do_net_job(rt.alloc(), host, job, &mut control, &mut dial, output)
+        }
+    }
+}
+
+/// Does what the options ask for on the daemon of a host, with a device of that name there.
+pub fn run_net_task(
+    rt: &HostRuntime,
+    host: &[u8],
+    device: &[u8],
+    options: &Options,
+    settings: Vec<(Text, Text)>,
+    password: Text,
+) -> Result<(), Ending> {
+    let job = job_of(rt, device, options, settings, password)?;
+    // Such a job does not even ask for a connection.
+    if let Some(ending) = Ending::of_refused(&job) {
+        return Err(ending);
+    }
+    let printed = run_job(rt, host, job, options)?;
+    print_all(rt, &printed)
+}

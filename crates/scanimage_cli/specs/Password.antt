@@ -1,0 +1,11 @@
+-- The password in a file.
+use Rattle.std.specs.Prelude.{ℕ, List, [], ◌∷◌}
+use Rattle.text_lines.specs.Lines.{lines_of}
+
+abbrev pub head_or_none : List (List ℕ) → List ℕ
+head_or_none [] = []
+head_or_none (line ∷ lines) = line
+
+-- the first line of a text, and nothing of an empty one
+abbrev pub first_of : List ℕ → List ℕ
+first_of text = head_or_none (lines_of text)
