@@ -5,7 +5,7 @@ PREFIX ?= /usr/local
 DEMO_INPUT := flatbed 0 26 hex:50350a3220310a3235350a0ac8
 DEMO_WORDS := --config - --resolution 26 --br-x 1 --br-y 1
 
-.PHONY: demo build test more-edits failing-allocations peer-check bench install need-rt
+.PHONY: demo build test more-edits failing-allocations hostile peer-check bench install need-rt
 
 # One scan from source, before any proof.
 demo: need-rt
@@ -37,6 +37,11 @@ more-edits: need-rt
 failing-allocations: build
 	tests/failing-allocations
 
+# Runs the programs against hostile peers, files and limits, by the thousand (some half an hour), and prints a table. The
+# gate runs a small part of it.
+hostile: build
+	tests/hostile
+
 # Compares the files of the tests with what netpbm's programs read in them, where netpbm is installed. The gate leaves
 # it out.
 peer-check:
@@ -47,8 +52,9 @@ bench: need-rt
 	cd crates/scan_bench && rt run
 	cd crates/wire_bench && rt run
 	tests/bench
-	[ -x crates/scanimage/out/scanimage ] || $(MAKE) build
+	[ -x crates/scanimage/out/scanimage ] && [ -x crates/saned/out/saned ] || $(MAKE) build
 	tests/bench-scanimage
+	tests/bench-saned
 
 # Puts the proved programs into $(PREFIX)/bin, and their manual pages where man looks.
 install: build

@@ -1,7 +1,5 @@
-ghost use Rattle.std.specs.Prelude.{◌≡◌};
-ghost use Rattle.config_pages.specs.Texts.{fault_number};
-
 use page_picture::PageFault;
+use std::error::Error;
 use std::fmt;
 
 /// Why a page that a config names is not there.
@@ -13,18 +11,24 @@ pub enum NoPage {
     Fault(PageFault),
 }
 
-/// The number of a fault of a page file.
-fn fault_number(fault: PageFault) -> u32
-    ensures { result ≡ fault_number fault }
-{
-    match fault {
-        PageFault::BadMagic => 1,
-        PageFault::BadHeader => 2,
-        PageFault::SampleTooLarge => 3,
-        PageFault::Short => 4,
-        PageFault::Trailing => 5,
-        PageFault::BadDpi => 6,
-        PageFault::NoMem => 7,
+impl NoPage {
+    ghost use Rattle.std.specs.Prelude.{◌≡◌};
+    ghost use Rattle.config_pages.specs.Texts.{no_page_text};
+
+    /// The text of why it is not there: a fault of the file by its number.
+    pub fn text(self) -> &'static str
+        ensures { result.now ≡ no_page_text self }
+    {
+        match self {
+            NoPage::CannotRead => "cannot read page",
+            NoPage::Fault(PageFault::BadMagic) => "page fault 1",
+            NoPage::Fault(PageFault::BadHeader) => "page fault 2",
+            NoPage::Fault(PageFault::SampleTooLarge) => "page fault 3",
+            NoPage::Fault(PageFault::Short) => "page fault 4",
+            NoPage::Fault(PageFault::Trailing) => "page fault 5",
+            NoPage::Fault(PageFault::BadDpi) => "page fault 6",
+            NoPage::Fault(PageFault::NoMem) => "page fault 7",
+        }
     }
 }
 
@@ -35,9 +39,8 @@ impl fmt::Display for NoPage {
     ghost output = { λ why. Some (no_page_text why) };
 
     fn fmt<W: fmt::Write>(&self, f: &mut fmt::Formatter<W>) -> fmt::Result {
-        match self {
-            NoPage::CannotRead => f.write_str("cannot read page"),
-            NoPage::Fault(fault) => write!(f, "page fault {}", fault_number(*fault)),
-        }
+        f.write_str(self.text())
     }
 }
+
+impl Error for NoPage {}

@@ -48,7 +48,7 @@ impl Model for Client {
 }
 
 impl Client {
-    ghost use Rattle.std.specs.Prelude.{◌≡◌, ◌≤◌, ◌++◌, true, false, Some, None, [], IfOk, IfErr, if◌then◌else◌, length, take, drop, min};
+    ghost use Rattle.std.specs.Prelude.{◌≡◌, ◌==◌, ◌≤◌, ◌++◌, true, false, Some, None, [], IfOk, IfErr, if◌then◌else◌, length, take, drop, min};
     ghost use Rattle.std.specs.Prelude.{OnOk, OnErr};
     ghost use Rattle.frame_join.specs.FrameHistory.{Past};
     ghost use Rattle.frame_join.specs.Joining.{Stands};
@@ -151,6 +151,13 @@ impl Client {
         ensures { result.now ≡ self.now.outcome }
     {
         &self.outcome
+    }
+
+    /// Whether bytes for the control connection wait to be taken.
+    pub fn has_out(&self) -> bool
+        ensures { result ≡ not (length self.now.out == 0) }
+    {
+        !self.out.is_empty()
     }
 
     /// The next bytes for the control connection.
@@ -393,7 +400,8 @@ impl Client {
         }
     }
 
-    fn is_turning(&self) -> bool
+    /// Whether the file of a batch's page is whole and waits to be taken to its last byte.
+    pub fn is_turning(&self) -> bool
         ensures { result ≡ turns self.now.outcome self.now.progress }
     {
         match self.progress {

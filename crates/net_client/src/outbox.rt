@@ -22,7 +22,7 @@ impl Model for Outbox {
 }
 
 impl Outbox {
-    ghost use Rattle.std.specs.Prelude.{◌≡◌, ◌≤◌, ◌+◌, ◌++◌, [], OnOk, OnErr, length, take, drop, min};
+    ghost use Rattle.std.specs.Prelude.{◌≡◌, ◌==◌, ◌≤◌, ◌+◌, ◌++◌, [], OnOk, OnErr, length, take, drop, min};
 
     /// No bytes, and no room.
     pub fn new(alloc: Global) -> Outbox
@@ -55,6 +55,13 @@ impl Outbox {
         ensures room { self.old.room ≤ self.new.room + length text.now }
     {
         let _ = self.bytes.extend_from_slice(text);
+    }
+
+    /// Whether no bytes wait.
+    pub fn is_empty(&self) -> bool
+        ensures { result ≡ (length self.now.text == 0) }
+    {
+        self.start == self.bytes.len()
     }
 
     /// Moves the next bytes to the front of `buf`, and says how many.

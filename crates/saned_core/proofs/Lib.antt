@@ -7,3 +7,4 @@ pub mod Pieces
 pub mod Saying
 pub mod Seated
 pub mod Firsts
+pub mod Limits

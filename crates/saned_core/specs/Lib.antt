@@ -2,3 +2,4 @@ pub mod State
 pub mod Turns
 pub mod Feeding
 pub mod Loading
+pub mod Limits

@@ -1,4 +1,4 @@
-ghost use Rattle.std.specs.Prelude.{◌≡◌, ◌++◌, ◌⊎◌, ◌≤◌, ◌+◌, List, Option, Some, None, [], ◌∷◌, option_map, option_and_then, position, length, take, drop, true, false, OnOk, OnErr, IfOk, IfErr, IsTrue};
+ghost use Rattle.std.specs.Prelude.{◌≡◌, ◌==◌, ◌++◌, ◌⊎◌, ◌≤◌, ◌+◌, List, Option, Some, None, [], ◌∷◌, option_map, option_and_then, position, length, take, drop, not, true, false, OnOk, OnErr, IfOk, IfErr, IsTrue};
 ghost use Rattle.device_api.specs.State.{DeviceState};
 ghost use Rattle.md5_auth.specs.Challenges.{HasGiven};
 ghost use Rattle.page_picture.specs.Source.{SourceState};
@@ -12,7 +12,9 @@ ghost use Rattle.saned_core.specs.Turns.{Turns};
 use crate::giving_back::put_back_seats;
 use crate::loading::{holder, load_at};
 use crate::seat::{DataStep, Fed, FrameState, OpenFault, Seat, SessionId};
-use crate::seats::{connect_at, end_at, feed_at, frame_at, lose_at, seat_first, take_at, turn_at};
+use crate::seats::{
+    connect_at, end_at, feed_at, frame_at, lose_at, replies_wait, seat_first, take_at, turn_at,
+};
 use device_api::Device;
 use dispatch::Registry;
 use md5_auth::{Challenger, Users};
@@ -148,6 +150,13 @@ impl<D: Device> Daemon<D> {
             id.number,
             piece,
         )
+    }
+
+    /// Whether bytes of replies wait to be taken.
+    pub fn has_replies(&self, id: SessionId) -> bool
+        ensures { result ≡ not (length (replies_of (core D.state self.now) id.number) == 0) }
+    {
+        replies_wait(&self.hall.seats, id.number)
     }
 
     /// Takes as many bytes of the replies as the buffer has room for, and says how many.

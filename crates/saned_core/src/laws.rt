@@ -1,6 +1,6 @@
 //! Laws of a daemon's sessions.
 
-ghost use Rattle.std.specs.Prelude.{◌≡◌, ◌≢◌, ◌++◌, ◌<◌, ℕ, List, [], Option, Some, None, option_and_then, true, length};
+ghost use Rattle.std.specs.Prelude.{◌≡◌, ◌≢◌, ◌++◌, ◌<◌, ℕ, List, [], Option, Some, None, option_and_then, true, length, ◌∷◌};
 ghost use Rattle.md5_auth.specs.declared.users.Entry.{Entry};
 ghost use Rattle.device_api.specs.State.{DeviceState};
 ghost use Rattle.wire_format.specs.Lawful.{Takes};
@@ -9,9 +9,16 @@ ghost use Rattle.wire_message.specs.Message.{message_limit, request as request_f
 ghost use Rattle.wire_message.specs.declared.message.Request.{Request as AnyRequest};
 ghost use Rattle.saned_desk.specs.declared.said.Said.{Said as AnySaid};
 ghost use Rattle.saned_core.specs.declared.seat.Seat.{Seat as ASeat};
-ghost use Rattle.saned_core.specs.State.{seat_of, on_seat};
+ghost use Rattle.saned_core.specs.State.{Core, seat_of, on_seat, on_session, after_connected, after_lost, after_taken, opened, ended};
 ghost use Rattle.saned_desk.specs.Rules.{Desk, Answers};
-ghost use Rattle.saned_core.specs.Feeding.{Progress, SaysAll, goes_on, replies_to};
+ghost use Rattle.saned_core.specs.Feeding.{Progress, SaysAll, goes_on, replies_to, Feeds};
+ghost use Rattle.saned_core.specs.Turns.{Turns};
+ghost use Rattle.saned_core.specs.Loading.{loaded};
+ghost use Rattle.saned_core.specs.Limits.{HasLimits};
+ghost use Rattle.saned_core.specs.declared.seat.Fed.{Fed as AFed};
+ghost use Rattle.saned_core.specs.declared.seat.DataStep.{DataStep as ADataStep};
+ghost use Rattle.page_picture.specs.Source.{SourceState};
+ghost use Rattle.dispatch.specs.Table.{after_unplug};
 
 /// A piece is answered request by request: before the first nothing is, and each one more is answered on the desk that
 /// those before it left.
@@ -31,4 +38,19 @@ pub fn a_request_uses_bytes()
 pub fn sessions_stand_apart()
     ensures { (seats : List (Option (ASeat DeviceState))) (f : ASeat DeviceState → Option (ASeat DeviceState)) (n m : ℕ)
         → ((seat new : ASeat DeviceState) → f seat ≡ Some new → new.number ≡ seat.number) → n ≢ m → seat_of (on_seat f n seats) m ≡ seat_of seats m }
+{}
+
+/// A new daemon has its limits, eight places and a number for each session that no other has, and every call of it, as its
+/// contract tells, leaves them. So they hold in every state.
+pub fn the_limits_stand()
+    ensures new { (d : Core) → d.seats ≡ None ∷ None ∷ None ∷ None ∷ None ∷ None ∷ None ∷ None ∷ [] → HasLimits d }
+    ensures open_session { (d : Core) (port : ℕ) → HasLimits d → HasLimits (opened d port) }
+    ensures feed { (n : ℕ) (old : Core) (piece : List ℕ) (fed : AFed) (new : Core) → Feeds n old piece fed new → HasLimits old → HasLimits new }
+    ensures data_turn { (n : ℕ) (old : Core) (step : ADataStep) (new : Core) (buf : List ℕ) → Turns n old step new buf → HasLimits old → HasLimits new }
+    ensures data_connected { (d : Core) (n : ℕ) → HasLimits d → HasLimits (record d { seats = on_seat (on_session after_connected) n d.seats }) }
+    ensures data_lost { (d : Core) (n : ℕ) → HasLimits d → HasLimits (record d { seats = on_seat (on_session after_lost) n d.seats }) }
+    ensures take_reply { (d : Core) (n count : ℕ) → HasLimits d → HasLimits (record d { seats = on_seat (after_taken count) n d.seats }) }
+    ensures end_session { (d : Core) (n : ℕ) → HasLimits d → HasLimits (ended d n) }
+    ensures load { (d : Core) (name : List ℕ) (source : SourceState) → HasLimits d → HasLimits (loaded d name source) }
+    ensures unplug { (d : Core) (name : List ℕ) → HasLimits d → HasLimits (record d { registry = after_unplug d.registry name }) }
 {}

@@ -13,7 +13,10 @@ mod seat;
 mod seats;
 
 pub use daemon::Daemon;
-pub use laws::{a_request_uses_bytes, requests_are_answered_in_order, sessions_stand_apart};
+pub use laws::{
+    a_request_uses_bytes, requests_are_answered_in_order, sessions_stand_apart, the_limits_stand,
+};
+pub use replies::Replies;
 pub use seat::{DataStep, Fed, FrameState, OpenFault, SessionId};
 
 #[cfg(test)]

@@ -22,6 +22,10 @@ pub enum OpenFault {
     NoMem = 2,
 }
 
+const _: () = prove!(OpenFault::Full as u32 == 1);
+
+const _: () = prove!(OpenFault::NoMem as u32 == 2);
+
 /// What became of a session that was fed.
 #[derive(Clone, Copy, Debug, PartialEq, Eq)]
 pub enum Fed {

@@ -1,6 +1,6 @@
 //! One seat of many, by its number.
 
-ghost use Rattle.std.specs.Prelude.{not, ◌⊎◌, ◌++◌, take, drop, None, ◌<◌, slice_index_or, slice_set, ◌≡◌, ◌≤◌, length, option_map, option_and_then, IfSome, IfNone, position};
+ghost use Rattle.std.specs.Prelude.{not, ◌==◌, ◌⊎◌, ◌++◌, take, drop, None, ◌<◌, slice_index_or, slice_set, ◌≡◌, ◌≤◌, length, option_map, option_and_then, IfSome, IfNone, position};
 ghost use Rattle.dispatch.specs.Table.{table};
 ghost use Rattle.saned_desk.specs.Holding.{seen_session};
 ghost use Rattle.saned_core.specs.State.{goes_on, is_vacant, is_full, with_seat, fresh_seat, after_reply, after_taken, no_more, replies_in, session_let_go, if_standing, IsFirst, IsMissing, is_number, seat_of, on_seat, on_session, frame_in, frame_of, is_waiting, after_connected, after_lost, seen_seat, seen_seats, session_in};
@@ -72,6 +72,25 @@ pub fn frame_at<D: Device>(seats: &[Option<Seat<D>>], number: u64) -> FrameState
     match find(seats, number) {
         Some(k) => frame_of(&seats[k]),
         None => FrameState::Quiet,
+    }
+}
+
+fn has_waiting<D: Device>(seat: &Option<Seat<D>>) -> bool
+    ensures { result ≡ not (length (replies_in (option_map (seen_seat D.state) seat.now)) == 0) }
+{
+    match seat {
+        Some(seat) => !seat.replies.is_empty(),
+        None => false,
+    }
+}
+
+/// Whether replies of a session wait.
+pub fn replies_wait<D: Device>(seats: &[Option<Seat<D>>], number: u64) -> bool
+    ensures { result ≡ not (length (replies_in (seat_of (seen_seats D.state seats.now) number)) == 0) }
+{
+    match find(seats, number) {
+        Some(k) => has_waiting(&seats[k]),
+        None => false,
     }
 }
 

@@ -57,6 +57,19 @@ fn fill_replies<D: Device, C: Socket>(daemon: &mut Daemon<D>, link: &mut Link<C>
     }
 }
 
+/// One read of the control connection where no replies wait: those of a client that asks on and on and reads none would
+/// pile up without end. Tells whether something moved.
+fn listen<D: Device, C: Socket>(alloc: Global, daemon: &mut Daemon<D>, link: &mut Link<C>) -> bool
+    ensures { (n : Option Ledger) → Goes C.history (core D.state daemon.old) n link.old (core D.state daemon.new) n link.new }
+{
+    fill_replies(daemon, link);
+    if link.replies.is_empty() {
+        hear(alloc, daemon, link)
+    } else {
+        false
+    }
+}
+
 /// One write of the replies that wait.
 fn send_replies<C: Socket>(link: &mut Link<C>) -> bool
     ensures { (d : Core) (n : Option Ledger) → Goes C.history d n link.old d n link.new }
@@ -181,7 +194,7 @@ pub fn converse<D: Device, L: Listeners>(
 ) -> bool
     ensures { Goes L.Conn.history (core D.state daemon.old) (L.ledger net.old) link.old (core D.state daemon.new) (L.ledger net.new) link.new }
 {
-    let has_heard = hear(alloc, daemon, link);
+    let has_heard = listen(alloc, daemon, link);
     let has_spoken = speak(daemon, link);
     let has_dialed = dial(daemon, net, link);
     let has_shown = show(daemon, net, link);

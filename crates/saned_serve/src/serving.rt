@@ -87,8 +87,9 @@ fn take_turns<D: Device, L: Listeners>(
 }
 
 /// Serves a daemon's sessions over connections that never wait. In a turn it accepts one connection, while fewer than
-/// eight sessions stand, and then, for each session, reads once and feeds that, writes replies once, takes the data
-/// connection where a frame waits for one, and writes of one record; what a write did not take goes first in the next turn.
+/// eight sessions stand, and then, for each session, reads once and feeds that, but only where none of its replies wait,
+/// writes replies once, takes the data connection where a frame waits for one, and writes of one record; what a write did
+/// not take goes first in the next turn.
 /// A connection is closed once it is lost, or once its session is over and its replies are written, and its session counted
 /// then. It ends after so many sessions (0: no such end), after so many turns in a row in which nothing moved, or after 2^40
 /// turns, and hands every connection back. All memory of its own is taken before the first accept; `NoMem` comes only there,

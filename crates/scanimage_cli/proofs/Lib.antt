@@ -2,3 +2,5 @@ pub mod CutLemmas
 pub mod Lines
 pub mod Reading
 pub mod Finds
+pub mod CutLaw
+pub mod JoinLemmas

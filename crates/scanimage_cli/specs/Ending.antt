@@ -1,10 +1,14 @@
--- The exit statuses of scanimage.
-use Rattle.std.specs.Prelude.{ℕ, ◌≡◌, Option, Some, None}
-use Rattle.sane_fixed.specs.Status.{status_code}
+-- The exit statuses of scanimage, and the lines that tell its endings.
+use Rattle.std.specs.Prelude.{ℕ, ◌≡◌, ◌∷◌, [], List, Option, Some, None, codes, decimal}
+use Rattle.std.specs.List.{concat}
+use Rattle.sane_fixed.specs.Status.{status_code, status_name}
 use Rattle.sane_fixed.specs.declared.status.Status.TheVariants.{Inval}
 use Rattle.scan_job.specs.declared.job.Job.{Job}
 use Rattle.scan_job.specs.declared.outcome.Why.TheVariants.{Setting}
 use Rattle.scan_job.specs.JobSize.{HasFault}
+use Rattle.scan_job.specs.Why.{why_word}
+use Rattle.dispatch.specs.ConfigReasons.{reason_text}
+use Rattle.config_pages.specs.Texts.{no_page_text}
 use Rattle.scanimage_cli.specs.declared.ending.Ending.{Ending}
 use Rattle.scanimage_cli.specs.declared.ending.Ending.TheVariants.{BadCommandLine, CannotRead, Config, Page, Ended}
 
@@ -20,3 +24,14 @@ exit_status (Ended status why) = status_code status
 abbrev pub IsRefusedAs : Job → Option Ending → Type 0
 IsRefusedAs job None = HasFault job None
 IsRefusedAs job (Some ending) = (ending ≡ Ended Inval Setting) × (HasFault job None → ⊥)
+
+-- a line of the config that is refused, and why
+abbrev pub line_told : ℕ → List ℕ → List ℕ
+line_told line reason = concat (codes "scanimage: config line " ∷ decimal line ∷ codes ": " ∷ reason ∷ codes "\n" ∷ [])
+
+abbrev pub ending_line : Ending → List ℕ
+ending_line BadCommandLine = codes "scanimage: bad command line\n"
+ending_line (CannotRead path) = concat (codes "scanimage: cannot read " ∷ path ∷ codes "\n" ∷ [])
+ending_line (Config fault) = line_told fault.line (reason_text fault.reason)
+ending_line (Page line why) = line_told line (no_page_text why)
+ending_line (Ended status why) = concat (codes "scanimage: " ∷ status_name status ∷ codes " (" ∷ why_word why ∷ codes ")\n" ∷ [])

@@ -5,3 +5,9 @@ pub mod WordCut
 pub mod Options
 pub mod Password
 pub mod Rounding
+pub mod CutOptions
+pub mod OptionTable
+pub mod RoundedLines
+pub mod Joined
+pub mod Doing
+pub mod FileName

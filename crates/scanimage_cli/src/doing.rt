@@ -1,3 +1,8 @@
+ghost use Rattle.std.specs.Prelude.{◌≡◌, true, IfErr, OnOk};
+ghost use Rattle.device_api.specs.State.{is_at_rest};
+ghost use Rattle.scanimage_cli.specs.Doing.{DoesBatch, EndsBatch, IsEndingOfJob};
+ghost use Rattle.local_job.specs.LocalRun.{Runs};
+
 use crate::ending::Ending;
 use crate::last_bytes::{finished, gathered, stopped};
 use crate::rounding::{is_any_rounded, rounded_lines};
@@ -53,7 +58,11 @@ pub fn do_job<W: Write + Drop>(
     device: &mut dyn Device,
     job: &Job,
     output: W,
-) -> Result<Printed, Ending> {
+) -> Result<Printed, Ending>
+    ensures runs { OnOk result (Runs (state device.old) (state device.new)) }
+    ensures rest { OnOk result (is_at_rest (state device.new).phase ≡ true) }
+    ensures ended { IfErr result IsEndingOfJob }
+{
     let mut out = gathered(alloc, output).map_err(|_| Ending::no_memory())?;
     match run_local(alloc, device, job, &mut out) {
         Outcome::Done(reports) => {
@@ -72,7 +81,11 @@ pub fn do_batch<S: Shelf>(
     device: &mut dyn Device,
     job: &Job,
     shelf: &mut S,
-) -> Result<Printed, Ending> {
+) -> Result<Printed, Ending>
+    ensures done { OnOk result (DoesBatch (state device.old) job.now (S.stock shelf.old) (S.stock shelf.new) (state device.new)) }
+    ensures ended { IfErr result (λ ending. EndsBatch (state device.old) job.now (S.stock shelf.old) (S.stock shelf.new) (state device.new) ending) }
+    ensures rest { is_at_rest (state device.new).phase ≡ true }
+{
     match run_local_batch(alloc, device, job, shelf) {
         Outcome::Done(reports) => {
             texts_of(alloc, &*device, job.task, &reports).map_err(|_| Ending::no_memory())

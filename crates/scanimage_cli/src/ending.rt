@@ -1,5 +1,11 @@
+ghost use Rattle.std.specs.Prelude.{OnOk};
+ghost use Rattle.std.specs.Io.KnownBytes.{Appends};
+ghost use Rattle.scanimage_cli.specs.Ending.{line_told};
+
+use crate::pieces::write_pieces;
 use config_pages::NoPage;
 use dispatch::ConfigFault;
+use itoa::Buffer;
 use sane_fixed::{Status, Text};
 use scan_job::{Job, JobFault, Why};
 use std::io;
@@ -20,8 +26,9 @@ pub enum Ending {
 }
 
 impl Ending {
-    ghost use Rattle.std.specs.Prelude.{◌≡◌};
-    ghost use Rattle.scanimage_cli.specs.Ending.{exit_status, IsRefusedAs};
+    ghost use Rattle.std.specs.Prelude.{◌≡◌, OnOk};
+    ghost use Rattle.std.specs.Io.KnownBytes.{Appends};
+    ghost use Rattle.scanimage_cli.specs.Ending.{exit_status, ending_line, IsRefusedAs};
 
     /// There was no memory.
     pub fn no_memory() -> Ending
@@ -69,27 +76,34 @@ impl Ending {
     }
 
     /// Writes the line that says how the program ended.
-    pub fn tell<W: Write>(&self, to: &mut W) -> io::Result<()> {
+    pub fn tell<W: Write>(&self, to: &mut W) -> io::Result<()>
+        ensures { OnOk result (Appends (W.contents to.old) (W.contents to.new) (ending_line self.now)) }
+    {
         match self {
             Ending::BadCommandLine => to.write_all(b"scanimage: bad command line\n"),
             Ending::CannotRead(path) => {
-                to.write_all(b"scanimage: cannot read ")?;
-                to.write_all(path.as_bytes())?;
-                to.write_all(b"\n")
+                write_pieces(to, &[b"scanimage: cannot read ", path.as_bytes(), b"\n"])
             }
-            Ending::Config(ConfigFault { line, reason }) => {
-                let (line, reason) = (*line, *reason);
-                writeln!(to, "scanimage: config line {line}: {reason}")
-            }
-            Ending::Page(line, why) => {
-                let (line, why) = (*line, *why);
-                writeln!(to, "scanimage: config line {line}: {why}")
-            }
+            Ending::Config(fault) => tell_line(to, fault.line, fault.reason.text()),
+            Ending::Page(line, why) => tell_line(to, *line, why.text()),
             Ending::Ended(status, why) => {
-                let status = status.name();
-                let why = why.word();
-                writeln!(to, "scanimage: {status} ({why})")
+                let status = status.name().as_bytes();
+                let why = why.word().as_bytes();
+                write_pieces(to, &[b"scanimage: ", status, b" (", why, b")\n"])
             }
         }
     }
+}
+
+/// Writes that a line of the config is refused.
+fn tell_line<W: Write>(to: &mut W, line: u32, reason: &str) -> io::Result<()>
+    ensures { OnOk result (Appends (W.contents to.old) (W.contents to.new) (line_told line reason.now)) }
+{
+    let mut digits = Buffer::new();
+    let line = digits.format(line).as_bytes();
+    let reason = reason.as_bytes();
+    write_pieces(
+        to,
+        &[b"scanimage: config line ", line, b": ", reason, b"\n"],
+    )
 }

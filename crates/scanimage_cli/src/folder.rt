@@ -1,26 +1,24 @@
+ghost use Rattle.std.specs.Prelude.{◌≡◌, IfOk};
+ghost use Rattle.scanimage_cli.specs.FileName.{file_name};
+
+use crate::pieces::add_all;
+use itoa::Buffer;
+use sane_fixed::NoMem;
 use scan_job::{Shelf, ShelfFault};
+use std::alloc::Global;
 use std::fs::File;
 use std::io::Write;
 
-/// The names of a batch's files, in the order of their numbers.
-const NAMES: [&str; 16] = [
-    "out1.pnm",
-    "out2.pnm",
-    "out3.pnm",
-    "out4.pnm",
-    "out5.pnm",
-    "out6.pnm",
-    "out7.pnm",
-    "out8.pnm",
-    "out9.pnm",
-    "out10.pnm",
-    "out11.pnm",
-    "out12.pnm",
-    "out13.pnm",
-    "out14.pnm",
-    "out15.pnm",
-    "out16.pnm",
-];
+/// The name of a batch's file of that number.
+fn file_name(alloc: Global, number: u32) -> Result<Vec<u8>, NoMem>
+    ensures { IfOk result (λ name. name.items ≡ file_name number) }
+{
+    let mut digits = Buffer::new();
+    let number = digits.format(number).as_bytes();
+    let mut name = Vec::new(alloc);
+    add_all(&mut name, &[b"out", number, b".pnm"])?;
+    Ok(name)
+}
 
 /// The current folder, in which the files of a batch are `out1.pnm`, `out2.pnm` and so on. Nothing of an older file of
 /// that name is left.
@@ -33,9 +31,9 @@ impl Shelf for Folder<'_> {
     type Out = File;
 
     fn open(&mut self, k: u32) -> Result<File, ShelfFault> {
-        let place = (k as usize).saturating_sub(1);
-        let name = NAMES.get(place).ok_or(ShelfFault)?;
-        File::create(self.rt, *name).map_err(|_| ShelfFault)
+        let name = file_name(self.rt.alloc(), k).map_err(|_| ShelfFault)?;
+        let name = std::str::from_utf8(name.as_slice()).map_err(|_| ShelfFault)?;
+        File::create(self.rt, name).map_err(|_| ShelfFault)
     }
 
     fn close(&mut self, mut out: File) -> Result<(), ShelfFault> {

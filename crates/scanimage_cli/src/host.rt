@@ -1,5 +1,3 @@
-ghost use Rattle.std.specs.Prelude.{◌≡◌, Some, codes, IfSome, ◌⊎◌};
-
 use net_backend::{Dial, DialFault};
 use std::net::{Ipv4Addr, SocketAddr, TcpStream};
 

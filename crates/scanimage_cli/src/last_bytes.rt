@@ -1,3 +1,6 @@
+ghost use Rattle.std.specs.Prelude.{◌≡◌, IfErr};
+ghost use Rattle.scanimage_cli.specs.Doing.{IsEndingOfJob};
+
 use crate::doing::Printed;
 use crate::ending::Ending;
 use crate::patient::Patient;
@@ -27,7 +30,9 @@ fn write_out<W: Write + Drop>(mut out: BufWriter<W>) -> bool {
 pub fn finished<W: Write + Drop>(
     out: BufWriter<W>,
     printed: Result<Printed, NoMem>,
-) -> Result<Printed, Ending> {
+) -> Result<Printed, Ending>
+    ensures { IfErr result IsEndingOfJob }
+{
     let Ok(printed) = printed else {
         let _parts = out.into_parts();
         return Err(Ending::no_memory());
@@ -40,7 +45,9 @@ pub fn finished<W: Write + Drop>(
 }
 
 /// Ends a job that ended with that status. What was gathered is the front of a file.
-pub fn stopped<W: Write + Drop>(out: BufWriter<W>, status: Status, why: Why) -> Ending {
+pub fn stopped<W: Write + Drop>(out: BufWriter<W>, status: Status, why: Why) -> Ending
+    ensures { result ≡ Ending.Ended status why }
+{
     if why == Why::Sink {
         let _parts = out.into_parts();
     } else {

@@ -55,6 +55,11 @@ impl MemorySocket {
         self.is_cut = true;
         self
     }
+
+    /// How many bytes of its script were read.
+    pub fn heard(&self) -> usize {
+        self.at
+    }
 }
 
 impl Socket for MemorySocket {

@@ -2,6 +2,8 @@
 
 pub const INIT: &[u8] = b"\0\0\0\0\x01\0\0\x03\0\0\0\x05user\0";
 
+pub const LIST: &[u8] = b"\0\0\0\x01";
+
 pub const OPEN: &[u8] = b"\0\0\0\x02\0\0\0\x0aflatbed:0\0";
 
 /// Resolution 26, br-x 1, br-y 1: one sample.

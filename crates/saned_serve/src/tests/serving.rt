@@ -1,7 +1,7 @@
 use super::memory::{MemoryNet, MemorySocket};
 use super::messages::{
-    BUSY_REPLY, EXIT, INIT, INIT_REPLY, ONE_SAMPLE, OPEN, OPEN_REPLY, SAMPLE, SET_REPLIES, START,
-    START_REPLY,
+    BUSY_REPLY, EXIT, INIT, INIT_REPLY, LIST, ONE_SAMPLE, OPEN, OPEN_REPLY, SAMPLE, SET_REPLIES,
+    START, START_REPLY,
 };
 use crate::{ServeEnd, serve};
 use dispatch::Registry;
@@ -204,6 +204,28 @@ fn data_connection_that_never_comes(rt: HostRuntime) -> Result<(), Fail> {
     assert_eq!(rt; end, ServeEnd::Idle);
     assert_eq!(rt; net.accepted, 1);
     expect_free(rt, alloc, &mut daemon, &mut net)
+}
+
+/// Of what a client asks that takes no reply no more is read than at once, so its replies stay bounded.
+#[test]
+fn client_that_takes_no_reply_is_not_heard_on(rt: HostRuntime) -> Result<(), Fail> {
+    let alloc = rt.alloc();
+    let mut daemon = daemon(&rt, alloc);
+    let mut net = MemoryNet::new(rt, alloc);
+    let mut script = joined(&rt, alloc, &[INIT]);
+    for _ in 0..3000 {
+        script.extend_from_slice(LIST)?;
+    }
+    net.clients
+        .push(MemorySocket::new(alloc, script.as_slice(), 0)?)?;
+    let end = serve(alloc, &mut daemon, &mut net, 0, 1000);
+    assert_eq!(rt; end, ServeEnd::Idle);
+    let [back] = net.back.as_slice() else {
+        panic!(rt; "other connections came back")
+    };
+    assert_eq!(rt; back.heard(), 4096);
+    expect_out(&rt, alloc, back, &[]);
+    Ok(())
 }
 
 #[test]

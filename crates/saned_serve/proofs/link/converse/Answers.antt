@@ -3,4 +3,4 @@ use Rattle.saned_serve.proofs.link.converse.Goals as goal
 
 pub returns : goal.returns
 returns g c = let n = g.L.Listeners.ledger c.args.net.now in
-    goes_then (goes_then (goes_then (c.hear-has_heard.ensures n) (c.speak-has_spoken.ensures n)) c.dial-has_dialed.ensures) c.show-has_shown.ensures
+    goes_then (goes_then (goes_then (c.listen-has_heard.ensures n) (c.speak-has_spoken.ensures n)) c.dial-has_dialed.ensures) c.show-has_shown.ensures

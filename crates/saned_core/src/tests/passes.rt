@@ -1,0 +1,223 @@
+use super::*;
+use flatbed_dev::Feeder;
+use threepass_dev::ThreePass;
+
+/// A daemon of one device.
+fn daemon_of<D: Device>(rt: &impl Abort, alloc: Global, device: D) -> Daemon<D> {
+    let mut devices = Vec::new(alloc);
+    devices.push(device).expect(rt, "memory");
+    let registry = match Registry::new(alloc, devices) {
+        Ok(registry) => registry,
+        Err(_) => panic!(rt; "no registry"),
+    };
+    let users = Users::parse(alloc, b"").expect(rt, "users");
+    Daemon::new(registry, users, NO_SEED)
+}
+
+fn source(rt: &impl Abort, alloc: Global, file: &[u8]) -> Source {
+    Source::Memory(MemoryPage::new(read_page(alloc, file, 26).expect(rt, "a page")))
+}
+
+/// A value of four bytes or a text is put, and so answered.
+fn set<D: Device>(
+    rt: &impl Abort,
+    alloc: Global,
+    daemon: &mut Daemon<D>,
+    id: SessionId,
+    option: u8,
+    value: &[u8],
+    status: u8,
+    info: u8,
+) {
+    let mut sent = Vec::new(alloc);
+    for part in [
+        b"\0\0\0\x05\0\0\0\0\0\0\0".as_slice(),
+        &[option],
+        b"\0\0\0\x01",
+        value,
+    ] {
+        sent.extend_from_slice(part).expect(rt, "memory");
+    }
+    let mut wanted = Vec::new(alloc);
+    for part in [
+        [0, 0, 0, status, 0, 0, 0, info].as_slice(),
+        value,
+        b"\0\0\0\0",
+    ] {
+        wanted.extend_from_slice(part).expect(rt, "memory");
+    }
+    expect(rt, alloc, daemon, id, sent.as_slice(), wanted.as_slice());
+}
+
+fn is_record(rt: &impl Abort, found: &[u8], wanted: &[u8]) {
+    assert_eq!(rt; found, wanted);
+}
+
+/// A frame: its START, its parameters behind the status, and its records.
+fn frame<D: Device>(
+    rt: &impl Abort,
+    alloc: Global,
+    daemon: &mut Daemon<D>,
+    id: SessionId,
+    started: &[u8],
+    params: &[u8],
+    payload: &[u8],
+) {
+    expect(rt, alloc, daemon, id, b"\0\0\0\x07\0\0\0\0", started);
+    let mut wanted = Vec::new(alloc);
+    wanted.extend_from_slice(&[0; 4]).expect(rt, "memory");
+    wanted.extend_from_slice(params).expect(rt, "memory");
+    let ask = b"\0\0\0\x06\0\0\0\0";
+    expect(rt, alloc, daemon, id, ask, wanted.as_slice());
+    assert!(rt; daemon.data_connected(id));
+    let mut buf = [0; 64];
+    let DataStep::Bytes(count) = daemon.data_turn(id, &mut buf) else {
+        panic!(rt; "no record")
+    };
+    is_record(rt, buf.get(..count).unwrap_or(&[]), payload);
+    assert_eq!(rt; daemon.data_turn(id, &mut buf), DataStep::Last(5));
+    is_record(rt, buf.get(..5).unwrap_or(&[]), b"\xff\xff\xff\xff\x05");
+    assert_eq!(rt; daemon.frame(id), FrameState::Quiet);
+}
+
+/// Three frames in the order that was set. Between them no option is set and no page is loaded, and afterwards both are.
+#[test]
+fn three_passes(rt: HostRuntime) {
+    let alloc = rt.alloc();
+    let file = b"P6\n2 1\n65535\n\0\x01\0\x02\0\x03\0\x04\0\x05\x01\0";
+    let name = Text::new(alloc, b"threepass:0").expect(&rt, "a name");
+    let page = source(&rt, alloc, file);
+    let Ok(device) = ThreePass::new(alloc, name, page, ByteOrder::Big) else {
+        panic!(&rt; "no device")
+    };
+    let mut daemon = daemon_of(&rt, alloc, device);
+    let id = session(&rt, alloc, &mut daemon);
+    let open = b"\0\0\0\x02\0\0\0\x0cthreepass:0\0";
+    expect(
+        &rt,
+        alloc,
+        &mut daemon,
+        id,
+        open,
+        b"\0\0\0\0\0\0\0\0\0\0\0\0",
+    );
+    for (option, value, info) in [
+        (1, b"\0\0\0\x03\0\0\0\x06\0\0\0\x06Color\0".as_slice(), 6),
+        (2, b"\0\0\0\x01\0\0\0\x04\0\0\0\x01\0\0\0\x10", 6),
+        (8, b"\0\0\0\x03\0\0\0\x04\0\0\0\x04BGR\0", 4),
+        (3, b"\0\0\0\x01\0\0\0\x04\0\0\0\x01\0\0\0\x1a", 4),
+        (6, b"\0\0\0\x02\0\0\0\x04\0\0\0\x01\0\x02\0\0", 4),
+        (7, b"\0\0\0\x02\0\0\0\x04\0\0\0\x01\0\x01\0\0", 4),
+    ] {
+        set(&rt, alloc, &mut daemon, id, option, value, 0, info);
+    }
+    let depth = b"\0\0\0\x01\0\0\0\x04\0\0\0\x01\0\0\0\x08";
+    for (color, is_last, payload) in [
+        (4, 0, b"\0\0\0\x04\0\x03\x01\0".as_slice()),
+        (3, 0, b"\0\0\0\x04\0\x02\0\x05"),
+        (2, 1, b"\0\0\0\x04\0\x01\0\x04"),
+    ] {
+        let params = [
+            0, 0, 0, color, 0, 0, 0, is_last, 0, 0, 0, 4, 0, 0, 0, 2, 0, 0, 0, 1, 0, 0, 0, 16,
+        ];
+        let started = b"\0\0\0\0\0\0\x9c\x41\0\0\x43\x21\0\0\0\0";
+        frame(&rt, alloc, &mut daemon, id, started, &params, payload);
+        let (status, info) = if is_last == 1 { (0, 6) } else { (3, 0) };
+        set(&rt, alloc, &mut daemon, id, 2, depth, status, info);
+        let loads = daemon
+            .load(b"threepass:0", source(&rt, alloc, file))
+            .is_ok();
+        assert_eq!(&rt; loads, is_last == 1);
+        assert!(&rt; daemon.unplug(b"threepass:0").is_err());
+    }
+}
+
+/// Between two pages a feeder is at rest: another is laid in behind them, and nobody else opens it. The last is followed by
+/// none.
+#[test]
+fn a_feeder_between_pages(rt: HostRuntime) {
+    let alloc = rt.alloc();
+    let mut pages = Vec::new(alloc);
+    for file in [b"P5\n1 1\n255\n\x07".as_slice(), b"P5\n1 1\n255\n\x09"] {
+        pages.push(source(&rt, alloc, file)).expect(&rt, "memory");
+    }
+    let name = Text::new(alloc, b"feeder:0").expect(&rt, "a name");
+    let Ok(device) = Feeder::new(alloc, name, pages, ByteOrder::Little) else {
+        panic!(&rt; "no device")
+    };
+    let mut daemon = daemon_of(&rt, alloc, device);
+    let id = session(&rt, alloc, &mut daemon);
+    let other = session(&rt, alloc, &mut daemon);
+    let open = b"\0\0\0\x02\0\0\0\x09feeder:0\0";
+    expect(
+        &rt,
+        alloc,
+        &mut daemon,
+        id,
+        open,
+        b"\0\0\0\0\0\0\0\0\0\0\0\0",
+    );
+    for (option, value) in [
+        (3, b"\0\0\0\x01\0\0\0\x04\0\0\0\x01\0\0\0\x1a".as_slice()),
+        (6, b"\0\0\0\x02\0\0\0\x04\0\0\0\x01\0\x01\0\0"),
+        (7, b"\0\0\0\x02\0\0\0\x04\0\0\0\x01\0\x01\0\0"),
+    ] {
+        set(&rt, alloc, &mut daemon, id, option, value, 0, 4);
+    }
+    let one = b"\0\0\0\0\0\0\0\x01\0\0\0\x01\0\0\0\x01\0\0\0\x01\0\0\0\x08";
+    let started = b"\0\0\0\0\0\0\x9c\x41\0\0\x12\x34\0\0\0\0";
+    for payload in [b"\0\0\0\x01\x07", b"\0\0\0\x01\x09", b"\0\0\0\x01\x0b"] {
+        frame(&rt, alloc, &mut daemon, id, started, one, payload);
+        let busy = b"\0\0\0\x03\0\0\0\0\0\0\0\0";
+        expect(&rt, alloc, &mut daemon, other, open, busy);
+        if payload == b"\0\0\0\x01\x07" {
+            let page = source(&rt, alloc, b"P5\n1 1\n255\n\x0b");
+            assert!(&rt; daemon.load(b"feeder:0", page).is_ok());
+        }
+    }
+    let none = b"\0\0\0\x07\0\0\0\0\0\0\x12\x34\0\0\0\0";
+    expect(&rt, alloc, &mut daemon, id, b"\0\0\0\x07\0\0\0\0", none);
+    expect(
+        &rt,
+        alloc,
+        &mut daemon,
+        id,
+        b"\0\0\0\x06\0\0\0\0",
+        b"\0\0\0\0\0\0\0\0\0\0\0\x01\0\0\0\0\0\0\0\0\0\0\0\0\0\0\0\x08",
+    );
+}
+
+/// A device whose holder is lost in mid-frame is cancelled, and its next holder finds it at the defaults.
+#[test]
+fn a_holder_lost_in_mid_frame(rt: HostRuntime) {
+    let alloc = rt.alloc();
+    let mut daemon = daemon(&rt, alloc, b"");
+    let opened = b"\0\0\0\0\0\0\0\0\0\0\0\0";
+    let first = session(&rt, alloc, &mut daemon);
+    expect(&rt, alloc, &mut daemon, first, OPEN, opened);
+    let resolution = b"\0\0\0\x01\0\0\0\x04\0\0\0\x01\0\0\0\x64";
+    set(&rt, alloc, &mut daemon, first, 3, resolution, 0, 4);
+    let started = b"\0\0\0\0\0\0\x9c\x41\0\0\x12\x34\0\0\0\0";
+    expect(
+        &rt,
+        alloc,
+        &mut daemon,
+        first,
+        b"\0\0\0\x07\0\0\0\0",
+        started,
+    );
+    assert!(&rt; daemon.data_connected(first));
+    let mut buf = [0; 64];
+    assert_eq!(&rt; daemon.data_turn(first, &mut buf), DataStep::Bytes(64));
+    daemon.end_session(first);
+    let second = session(&rt, alloc, &mut daemon);
+    expect(&rt, alloc, &mut daemon, second, OPEN, opened);
+    expect(
+        &rt,
+        alloc,
+        &mut daemon,
+        second,
+        b"\0\0\0\x05\0\0\0\0\0\0\0\x03\0\0\0\0\0\0\0\x01\0\0\0\x04\0\0\0\x01\0\0\0\0",
+        b"\0\0\0\0\0\0\0\0\0\0\0\x01\0\0\0\x04\0\0\0\x01\0\0\0\x32\0\0\0\0",
+    );
+}

@@ -1,0 +1,3 @@
+pub mod Pulls
+pub mod AllPulls
+pub mod Histories

@@ -1,0 +1,5 @@
+pub mod Posts
+pub mod Draining
+pub mod Deeds
+pub mod Worlds
+pub mod Moves
