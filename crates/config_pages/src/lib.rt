@@ -7,6 +7,3 @@ mod spelled;
 
 pub use no_page::NoPage;
 pub use opening::page_source;
-
-#[cfg(test)]
-mod tests;

@@ -10,6 +10,3 @@ pub use laws::{at_most_one_is_nearest, what_is_computed_is_nearest};
 pub use range::Range;
 pub use string_list::StringList;
 pub use word_list::WordList;
-
-#[cfg(test)]
-mod tests;

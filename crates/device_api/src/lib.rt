@@ -24,6 +24,3 @@ pub use scan_option::{ScanOption, option_at, options_of};
 pub use setting::set_option;
 pub use tables::{descriptor, descriptors, is_active};
 pub use values::{defaults, get_option, has_cap, option_value, reset_setup};
-
-#[cfg(test)]
-mod tests;

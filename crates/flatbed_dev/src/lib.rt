@@ -6,6 +6,3 @@ mod flatbed;
 
 pub use feeder::{Feeder, FeederFault};
 pub use flatbed::Flatbed;
-
-#[cfg(test)]
-mod tests;

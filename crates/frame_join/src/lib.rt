@@ -17,6 +17,3 @@ pub use laws::{
     shown_colors_are_accepted, shown_frame_is_accepted, whole_file_is_of_one_frame, whole_shows,
 };
 pub use pnm_out::PnmOut;
-
-#[cfg(test)]
-mod tests;

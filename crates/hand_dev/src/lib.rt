@@ -4,6 +4,3 @@
 mod hand_scanner;
 
 pub use hand_scanner::HandScanner;
-
-#[cfg(test)]
-mod tests;

@@ -18,6 +18,3 @@ pub use batch::run_local_batch;
 pub use byte_output::{MOST_AGAIN, put};
 pub use run::run_local;
 pub use stop::Stop;
-
-#[cfg(test)]
-mod tests;

@@ -14,6 +14,3 @@ pub use challenges::Challenger;
 pub use laws::{an_answer_allows, one_challenge};
 pub use line_fault::{LineFault, LineReason};
 pub use users::{Entry, Users};
-
-#[cfg(test)]
-mod tests;

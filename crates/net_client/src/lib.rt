@@ -10,6 +10,3 @@ pub use client::Client;
 pub use client_rules::{Errand, Link, Next, Notes, Progress, Queue};
 pub use imaging::Came;
 pub use outbox::Outbox;
-
-#[cfg(test)]
-mod tests;

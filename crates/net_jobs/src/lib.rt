@@ -9,6 +9,3 @@ mod running;
 pub use batch::run_batch;
 pub use dial::{Dial, DialFault};
 pub use running::run_job;
-
-#[cfg(test)]
-mod tests;

@@ -16,6 +16,3 @@ pub use putting::{fits, put};
 pub use reading::read_text;
 pub use showing::show_text;
 pub use value::{Value, Words};
-
-#[cfg(test)]
-mod tests;

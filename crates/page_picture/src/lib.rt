@@ -20,6 +20,3 @@ pub use rereadable::Rereadable;
 pub use scene::{DeviceKind, HAND_WIDTH, Mode, Scene};
 pub use sources::{FailingPage, MemoryPage, OpenFault, PageSource, PnmPage, Source, SourceFault};
 pub use tones::{greatest, in_channel, sample, toned};
-
-#[cfg(test)]
-mod tests;

@@ -57,6 +57,3 @@ pub trait PageSource: Drop {
     fn rewind(&mut self) -> Result<(), SourceFault>
         ensures { Rewinds (source self.old) result (source self.new) };
 }
-
-#[cfg(test)]
-mod tests;

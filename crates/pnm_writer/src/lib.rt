@@ -11,6 +11,3 @@ pub use frame_join::{
 };
 pub use plain::{PlainFault, scan_plain};
 pub use read::{Picture, PnmFault, Samples, read_pnm};
-
-#[cfg(test)]
-mod tests;

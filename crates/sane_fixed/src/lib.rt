@@ -29,6 +29,3 @@ pub use params::Params;
 pub use status::Status;
 pub use text::{Text, TextFault};
 pub use unit::Unit;
-
-#[cfg(test)]
-mod tests;

@@ -15,6 +15,3 @@ pub use options::{Options, OptionsFault, read_options};
 pub use reading::{MOST_OF_CONFIG, MOST_OF_USERS, text_of};
 pub use saned_serve::{Got, Listeners, ServeEnd, Socket, serve};
 pub use seed::read_seed;
-
-#[cfg(test)]
-mod tests;

@@ -18,6 +18,3 @@ pub use laws::{
 };
 pub use replies::Replies;
 pub use seat::{DataStep, Fed, FrameState, OpenFault, SessionId};
-
-#[cfg(test)]
-mod tests;

@@ -15,6 +15,3 @@ pub use giving_back::{let_go, put_back_session};
 pub use laws::{a_request_keeps_leases, an_end_gives_all_back};
 pub use said::Said;
 pub use session::{Awaited, Carriage, Session};
-
-#[cfg(test)]
-mod tests;

@@ -9,6 +9,3 @@ mod sockets;
 
 pub use serving::{ServeEnd, serve};
 pub use sockets::{Got, Listeners, Socket};
-
-#[cfg(test)]
-mod tests;

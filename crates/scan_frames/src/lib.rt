@@ -18,6 +18,3 @@ pub use laws::{
 };
 pub use pass::{has_picture, last_pass, params, params_without};
 pub use setup::{Packing, PassOrder, Setup, packing_of};
-
-#[cfg(test)]
-mod tests;

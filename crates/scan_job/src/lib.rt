@@ -14,6 +14,3 @@ pub use outcome::{Outcome, Why};
 pub use report::{Report, Reports};
 pub use shelf::{Shelf, ShelfFault};
 pub use shown::tells_value;
-
-#[cfg(test)]
-mod tests;

@@ -13,6 +13,3 @@ mod world_fault;
 pub use event::Event;
 pub use world::World;
 pub use world_fault::WorldFault;
-
-#[cfg(test)]
-mod tests;

@@ -46,6 +46,3 @@ pub use split::{Measures, Split, split_words};
 pub use table::options_table;
 pub use word_cut::{Awaited, Item, SplitFault, Told};
 pub use words::words_of;
-
-#[cfg(test)]
-mod tests;

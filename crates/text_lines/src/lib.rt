@@ -8,6 +8,3 @@ mod limits;
 pub use cutting::{first_line, split_once};
 pub use laws::lines_are_cut;
 pub use limits::{LimitFault, Limits};
-
-#[cfg(test)]
-mod tests;

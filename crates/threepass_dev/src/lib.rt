@@ -4,6 +4,3 @@
 mod three_pass;
 
 pub use three_pass::ThreePass;
-
-#[cfg(test)]
-mod tests;

@@ -3,4 +3,3 @@ pub mod Phases
 pub mod Answers
 pub mod First
 pub mod Inside
-pub mod Runs

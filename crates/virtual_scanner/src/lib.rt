@@ -7,6 +7,3 @@ mod tray;
 
 pub use scanner::VirtualScanner;
 pub use tray::TRAY_ROOM;
-
-#[cfg(test)]
-mod tests;

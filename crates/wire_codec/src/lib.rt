@@ -15,6 +15,3 @@ pub use wire_message::{
     replies_are_spelled_apart, requests_are_spelled_apart,
 };
 pub use wire_writing::{encode_reply, encode_request};
-
-#[cfg(test)]
-mod tests;

@@ -29,6 +29,3 @@ pub use writer_laws::{
     words_between_are_written, words_of_a_kind_are_written, writing_keeps_a_limit,
 };
 pub use writing::{is_past, put_byte_between, put_run, put_word, put_word_between};
-
-#[cfg(test)]
-mod tests;

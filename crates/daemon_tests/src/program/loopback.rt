@@ -1,0 +1,71 @@
+//! Sockets of the system: the clients connect and speak before the daemon takes its first turn.
+
+use saned_cli::{LocalNet, ServeEnd, serve};
+use dispatch::Registry;
+use flatbed_dev::Flatbed;
+use md5_auth::Users;
+use saned_core::Daemon;
+use std::alloc::Global;
+use std::io::{Read, Write};
+use std::net::{Ipv4Addr, SocketAddr, TcpStream};
+use std::process::Abort;
+use std::test::Fail;
+
+const INIT: &[u8] = b"\0\0\0\0\x01\0\0\x03\0\0\0\x05user\0";
+
+const LIST: &[u8] = b"\0\0\0\x01";
+
+const EXIT: &[u8] = b"\0\0\0\x0a";
+
+/// INIT's reply, and a list of no devices.
+const REPLIES: &[u8] = b"\0\0\0\0\x01\0\0\x03\0\0\0\0\0\0\0\x01\0\0\0\x01";
+
+/// A daemon without devices.
+fn daemon(rt: &impl Abort, alloc: Global) -> Daemon<Flatbed> {
+    let Ok(registry) = Registry::new(alloc, Vec::new(alloc)) else {
+        panic!(rt; "no registry")
+    };
+    let users = Users::parse(alloc, b"").expect(rt, "users");
+    Daemon::new(registry, users, [0; 32])
+}
+
+#[test]
+fn clients_on_loopback(rt: HostRuntime) -> Result<(), Fail> {
+    let alloc = rt.alloc();
+    let mut net = LocalNet::bind(rt, alloc, 0)?;
+    let at = SocketAddr::from((Ipv4Addr::LOCALHOST, net.port()?));
+    let mut first = TcpStream::connect(&rt, at)?;
+    first.write_all(INIT)?;
+    first.write_all(LIST)?;
+    first.write_all(EXIT)?;
+    let gone = TcpStream::connect(&rt, at)?;
+    drop(gone);
+    let mut stranger = TcpStream::connect(&rt, at)?;
+    stranger.write_all(b"GET / HTTP/1.0\r\n\r\n")?;
+    let mut daemon = daemon(&rt, alloc);
+    let end = serve(alloc, &mut daemon, &mut net, 3, 100_000);
+    assert_eq!(rt; end, ServeEnd::Sessions);
+    let mut replies = Vec::new(alloc);
+    first.read_to_end(&mut replies)?;
+    assert_eq!(rt; replies.as_slice(), REPLIES);
+    Ok(())
+}
+
+#[test]
+fn nobody_comes(rt: HostRuntime) -> Result<(), Fail> {
+    let alloc = rt.alloc();
+    let mut net = LocalNet::bind(rt, alloc, 0)?;
+    let mut daemon = daemon(&rt, alloc);
+    // The naps begin after 200,000 turns.
+    let end = serve(alloc, &mut daemon, &mut net, 0, 200_100);
+    assert_eq!(rt; end, ServeEnd::Idle);
+    Ok(())
+}
+
+#[test]
+fn port_that_is_taken(rt: HostRuntime) -> Result<(), Fail> {
+    let alloc = rt.alloc();
+    let net = LocalNet::bind(rt, alloc, 0)?;
+    assert!(rt; LocalNet::bind(rt, alloc, net.port()?).is_err());
+    Ok(())
+}

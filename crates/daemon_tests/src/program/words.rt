@@ -1,0 +1,158 @@
+use saned_cli::{Ending, Options, OptionsFault, read_options, read_seed, text_of};
+use config_pages::NoPage;
+use dispatch::{ConfigFault, ConfigReason};
+use md5_auth::{LineFault, LineReason};
+use sane_fixed::ByteOrder;
+use std::alloc::Global;
+use std::process::Abort;
+use std::test::Fail;
+
+/// What the words behind the program's name give, which are split at spaces.
+fn options(rt: &impl Abort, alloc: Global, line: &str) -> Result<Options, OptionsFault> {
+    let mut words = Vec::new(alloc);
+    let name = String::from_str(alloc, "saned").expect(rt, "memory");
+    words.push(name).expect(rt, "memory");
+    for word in line.split(' ') {
+        if !word.is_empty() {
+            let word = String::from_str(alloc, word).expect(rt, "memory");
+            words.push(word).expect(rt, "memory");
+        }
+    }
+    read_options(alloc, words.as_slice())
+}
+
+#[test]
+fn defaults(rt: HostRuntime) -> Result<(), Fail> {
+    let found = options(&rt, rt.alloc(), "--config -")?;
+    assert_eq!(rt; found.config.as_str(), "-");
+    assert!(rt; found.users.is_none() && found.seed.is_none());
+    assert_eq!(rt; found.port, 6566);
+    assert_eq!(rt; found.byte_order, ByteOrder::Little);
+    assert_eq!(rt; found.sessions, 0);
+    assert_eq!(rt; found.idle_turns, 10_000_000);
+    Ok(())
+}
+
+#[test]
+fn all_options(rt: HostRuntime) -> Result<(), Fail> {
+    let line =
+        "--idle-turns 1 --sessions=1000000000 --byte-order big --port 65535 --seed x --users u --config c";
+    let found = options(&rt, rt.alloc(), line)?;
+    assert_eq!(rt; found.config.as_str(), "c");
+    let Some(users) = &found.users else {
+        panic!(rt; "no users")
+    };
+    assert_eq!(rt; users.as_str(), "u");
+    let Some(seed) = &found.seed else {
+        panic!(rt; "no seed")
+    };
+    assert_eq!(rt; seed.as_str(), "x");
+    assert_eq!(rt; found.port, 65_535);
+    assert_eq!(rt; found.byte_order, ByteOrder::Big);
+    assert_eq!(rt; found.sessions, 1_000_000_000);
+    assert_eq!(rt; found.idle_turns, 1);
+    Ok(())
+}
+
+#[test]
+fn bad_command_lines(rt: HostRuntime) -> Result<(), Fail> {
+    for line in [
+        "",
+        "--port 1",
+        "--config",
+        "--config c x",
+        "--config c --config c",
+        "--config c --unknown",
+        "--config c --help",
+        "--config c -V",
+        "--config c --users u",
+        "--config c --port 65536",
+        "--config c --port -1",
+        "--config c --port x",
+        "--config c --byte-order Little",
+        "--config c --byte-order middle",
+        "--config c --sessions 1000000001",
+        "--config c --sessions 18446744073709551616",
+        "--config c --idle-turns 0",
+        "--config c --idle-turns 1000000001",
+        "--config c --idle-turns 1 --idle-turns 2",
+        "--conf c",
+    ] {
+        match options(&rt, rt.alloc(), line) {
+            Ok(_) => panic!(rt; "taken: {line}"),
+            Err(why) => assert_eq!(rt; why, OptionsFault::Bad, "at {line}"),
+        }
+    }
+    Ok(())
+}
+
+#[test]
+fn seeds(rt: HostRuntime) {
+    let digits = b"000102030405060708090a0b0c0d0e0f101112131415161718191A1B1C1D1E1F";
+    let Some(seed) = read_seed(digits) else {
+        panic!(rt; "no seed")
+    };
+    for (i, byte) in seed.iter().enumerate() {
+        assert_eq!(rt; usize::from(*byte), i);
+    }
+    for text in [
+        b"".as_slice(),
+        b"00",
+        b"000102030405060708090a0b0c0d0e0f101112131415161718191a1b1c1d1e1",
+        b"000102030405060708090a0b0c0d0e0f101112131415161718191a1b1c1d1e1f0",
+        b"000102030405060708090a0b0c0d0e0f101112131415161718191a1b1c1d1e1f00",
+        b"000102030405060708090a0b0c0d0e0f101112131415161718191a1b1c1d1e1g",
+    ] {
+        assert!(rt; read_seed(text).is_none());
+    }
+}
+
+#[test]
+fn texts_of_endings(rt: HostRuntime) -> Result<(), Fail> {
+    let path = String::from_str(rt.alloc(), "a b")?;
+    let config = ConfigFault {
+        line: 1,
+        reason: ConfigReason::UnknownKind,
+    };
+    let users = LineFault {
+        line: 2,
+        reason: LineReason::Colons,
+    };
+    for (ending, status, line) in [
+        (Ending::BadCommandLine, 64, "saned: bad command line\n"),
+        (Ending::BadSeed, 65, "saned: bad seed\n"),
+        (Ending::CannotRead(path), 65, "saned: cannot read a b\n"),
+        (
+            Ending::Config(config),
+            65,
+            "saned: config line 1: unknown kind\n",
+        ),
+        (
+            Ending::Page(3, NoPage::CannotRead),
+            65,
+            "saned: config line 3: cannot read page\n",
+        ),
+        (
+            Ending::Users(users),
+            65,
+            "saned: users line 2: wrong number of fields\n",
+        ),
+        (Ending::CannotListen, 9, "saned: cannot listen\n"),
+        (Ending::NoMemory, 10, "saned: out of memory\n"),
+    ] {
+        let mut told = Vec::new(rt.alloc());
+        ending.tell(&mut told)?;
+        assert_eq!(rt; told.as_slice(), line.as_bytes());
+        assert_eq!(rt; ending.exit_status(), status);
+    }
+    Ok(())
+}
+
+#[test]
+fn texts_are_read_to_their_limit(rt: HostRuntime) -> Result<(), Fail> {
+    for (most, wanted) in [(0, b"".as_slice()), (2, b"ab"), (3, b"abc"), (9, b"abc")] {
+        let text = text_of(rt.alloc(), b"abc".as_slice(), most)?;
+        assert_eq!(rt; text.as_slice(), wanted);
+    }
+    Ok(())
+}

@@ -1,0 +1,103 @@
+ghost use Rattle.std.specs.Prelude.{◌≡◌};
+
+use config_pages::{NoPage, page_source};
+use page_picture::{PageFault, PageSource};
+use std::fs;
+use std::test::Fail;
+
+/// The first row of a page of two gray places, and that there is no second.
+fn only_row<S: PageSource>(source: &mut S) -> Result<[u16; 6], Fail>
+    requires { (S.source source.old).page.width ≡ 2 }
+{
+    let mut row = [0u16; 6];
+    let is_row = source.next_row(&mut row)?;
+    let mut second = [0u16; 6];
+    let is_second = source.next_row(&mut second)?;
+    if is_row && !is_second {
+        Ok(row)
+    } else {
+        Err(Fail::from("not one row"))
+    }
+}
+
+fn refusal(rt: &HostRuntime, page: &[u8]) -> Option<NoPage> {
+    page_source(rt, page, 26).err()
+}
+
+#[test]
+fn pages_in_lines_and_in_files(rt: HostRuntime) -> Result<(), Fail> {
+    fs::write(&rt, "page.pgm", b"P5\n2 1\n255\n\x01\x02")?;
+    for page in [
+        b"hex:50350a3220310a3235350a0102".as_slice(),
+        b"hex:50350A3220310A3235350A0102",
+        b"page.pgm",
+        b"./page.pgm",
+    ] {
+        let Ok(mut source) = page_source(&rt, page, 26) else {
+            panic!(rt; "refused: {page:?}");
+        };
+        assert_eq!(rt; source.size(), (2, 1));
+        assert_eq!(rt; source.dpi(), 26);
+        assert_eq!(rt; only_row(&mut source)?, [257, 257, 257, 514, 514, 514]);
+    }
+    Ok(())
+}
+
+#[test]
+fn pages_that_are_not_there(rt: HostRuntime) -> Result<(), Fail> {
+    fs::write(&rt, "short.pgm", b"P5\n1 1\n255\n")?;
+    for (page, why) in [
+        // No such file, a folder, a page with other digits, and files with each fault.
+        (b"none.pgm".as_slice(), NoPage::CannotRead),
+        (b".", NoPage::CannotRead),
+        (b"HEX:50", NoPage::CannotRead),
+        (b"hex:5", NoPage::Fault(PageFault::BadMagic)),
+        (b"hex:5g", NoPage::Fault(PageFault::BadMagic)),
+        (b"hex:", NoPage::Fault(PageFault::BadMagic)),
+        (b"hex:50340a3120310a80", NoPage::Fault(PageFault::BadMagic)),
+        (
+            b"hex:50350a3020310a3235350a00",
+            NoPage::Fault(PageFault::BadHeader),
+        ),
+        (
+            b"hex:50350a3120310a31300a0b",
+            NoPage::Fault(PageFault::SampleTooLarge),
+        ),
+        (
+            b"hex:50350a3120310a3235350a",
+            NoPage::Fault(PageFault::Short),
+        ),
+        (
+            b"hex:50350a3120310a3235350a0000",
+            NoPage::Fault(PageFault::Trailing),
+        ),
+        (b"short.pgm", NoPage::Fault(PageFault::Short)),
+    ] {
+        assert_eq!(rt; refusal(&rt, page), Some(why), "at {page:?}");
+    }
+    for dpi in [0, 1201] {
+        match page_source(&rt, b"hex:50350a3120310a3235350a00", dpi) {
+            Ok(_) => panic!(rt; "not refused"),
+            Err(why) => assert_eq!(rt; why, NoPage::Fault(PageFault::BadDpi)),
+        }
+    }
+    Ok(())
+}
+
+#[test]
+fn texts_of_why(rt: HostRuntime) -> Result<(), Fail> {
+    for (why, text) in [
+        (NoPage::CannotRead, "cannot read page"),
+        (NoPage::Fault(PageFault::BadMagic), "page fault 1"),
+        (NoPage::Fault(PageFault::BadHeader), "page fault 2"),
+        (NoPage::Fault(PageFault::SampleTooLarge), "page fault 3"),
+        (NoPage::Fault(PageFault::Short), "page fault 4"),
+        (NoPage::Fault(PageFault::Trailing), "page fault 5"),
+        (NoPage::Fault(PageFault::BadDpi), "page fault 6"),
+        (NoPage::Fault(PageFault::NoMem), "page fault 7"),
+    ] {
+        let told = format!(in rt.alloc(); "{why}")?;
+        assert_eq!(rt; told.as_str(), text);
+    }
+    Ok(())
+}

@@ -1,0 +1,231 @@
+use super::{done, ends, flatbed, inverted, job, text};
+use local_job::run_local;
+use device_api::Device;
+use hand_dev::HandScanner;
+use option_desc::Value;
+use page_picture::{FailingPage, MemoryPage, Source, read_page};
+use sane_fixed::{ByteOrder, Fixed, Info, Status};
+use scan_job::{Reports, Task, Why};
+use std::alloc::Global;
+use std::process::Abort;
+use threepass_dev::ThreePass;
+
+fn source(rt: &impl Abort, alloc: Global, file: &[u8], dpi: u32) -> Source {
+    let page = read_page(alloc, file, dpi).expect(rt, "a page");
+    Source::Memory(MemoryPage::new(page))
+}
+
+fn hand(rt: &impl Abort, alloc: Global, file: &[u8], dpi: u32) -> HandScanner {
+    let name = text(rt, alloc, b"hand:0");
+    let page = source(rt, alloc, file, dpi);
+    match HandScanner::new(alloc, name, page, ByteOrder::Little) {
+        Ok(hand) => hand,
+        Err(_) => panic!(rt; "no hand scanner"),
+    }
+}
+
+fn three_pass(rt: &impl Abort, alloc: Global, page: Source, order: ByteOrder) -> ThreePass {
+    let name = text(rt, alloc, b"threepass:0");
+    match ThreePass::new(alloc, name, page, order) {
+        Ok(device) => device,
+        Err(_) => panic!(rt; "no three-pass scanner"),
+    }
+}
+
+/// What a scan with these settings reports and writes.
+fn scanned(
+    rt: &impl Abort,
+    alloc: Global,
+    device: &mut dyn Device,
+    settings: &[(&[u8], &[u8])],
+) -> (Reports, Vec<u8>) {
+    let mut file = Vec::new(alloc);
+    let scan = job(rt, alloc, settings, Task::Scan);
+    let reports = done(rt, run_local(alloc, device, &scan, &mut file));
+    assert!(rt; device.at_rest());
+    (reports, file)
+}
+
+/// A text and then so many copies of a row.
+fn rows(rt: &impl Abort, alloc: Global, head: &[u8], row: &[u8], count: usize) -> Vec<u8> {
+    let mut file = Vec::new(alloc);
+    file.extend_from_slice(head).expect(rt, "memory");
+    for _ in 0..count {
+        file.extend_from_slice(row).expect(rt, "memory");
+    }
+    file
+}
+
+/// One black column of ten rows, on a scanner that is 110 mm wide: 324 dots at 75 dots per inch.
+#[test]
+fn a_black_column_by_hand(rt: HostRuntime) {
+    let alloc = rt.alloc();
+    let mut device = hand(
+        &rt,
+        alloc,
+        b"P5\n1 10\n255\n\x00\x00\x00\x00\x00\x00\x00\x00\x00\x00",
+        75,
+    );
+    assert_eq!(&rt; device.params().lines, None);
+    let (_, file) = scanned(&rt, alloc, &mut device, &[(b"depth", b"1")]);
+    let mut row = [0u8; 41];
+    row[0] = 0x80;
+    let wanted = rows(&rt, alloc, b"P4\n# SANE data follows\n324 10\n", &row, 10);
+    assert_eq!(&rt; file.as_slice(), wanted.as_slice());
+    assert_eq!(&rt; device.params().lines, None);
+}
+
+#[test]
+fn resolutions_of_a_hand_scanner(rt: HostRuntime) {
+    let alloc = rt.alloc();
+    let mut device = hand(&rt, alloc, b"P5\n1 1\n255\n\x00", 75);
+    for (asked, word, given) in [
+        (b"125".as_slice(), 125, 100),
+        (b"5000", 5000, 300),
+        (b"150", 150, 150),
+    ] {
+        let (reports, _) = scanned(&rt, alloc, &mut device, &[(b"resolution", asked)]);
+        let settings = reports.settings.as_slice();
+        assert_eq!(&rt; settings.len(), 1);
+        assert_eq!(&rt; settings[0].asked, Value::Int(word));
+        assert_eq!(&rt; settings[0].given, Value::Int(given));
+        assert_eq!(&rt; settings[0].info.0 & Info::INEXACT != 0, word != given);
+    }
+}
+
+/// At each resolution of a hand scanner: 110 mm are so many dots, and line y shows the page's row
+/// floor(y * dpi / resolution), as long as there is one.
+#[test]
+fn odd_pages_by_hand(rt: HostRuntime) {
+    let alloc = rt.alloc();
+    for (resolution, head) in [
+        (
+            b"75".as_slice(),
+            b"P5\n# SANE data follows\n324 5\n255\n".as_slice(),
+        ),
+        (b"100", b"P5\n# SANE data follows\n433 7\n255\n"),
+        (b"150", b"P5\n# SANE data follows\n649 10\n255\n"),
+        (b"300", b"P5\n# SANE data follows\n1299 19\n255\n"),
+    ] {
+        // Seven rows at 113 dots per inch: 7 * 75 / 113 is 4.6, 7 * 100 / 113 is 6.2, 9.3, and 18.6.
+        let mut device = hand(
+            &rt,
+            alloc,
+            b"P5\n1 7\n255\n\x00\x01\x02\x03\x04\x05\x06",
+            113,
+        );
+        let (_, file) = scanned(&rt, alloc, &mut device, &[(b"resolution", resolution)]);
+        assert_eq!(&rt; file.get(..head.len()), Some(head));
+    }
+}
+
+/// Two places of three colors, two bytes a sample.
+const TWO_PLACES: &[u8] = b"P6\n2 1\n65535\n\x00\x01\x00\x02\x00\x03\x00\x04\x00\x05\x01\x00";
+
+const TWO_PLACES_FILE: &[u8] =
+    b"P6\n# SANE data follows\n2 1\n65535\n\x00\x01\x00\x02\x00\x03\x00\x04\x00\x05\x01\x00";
+
+/// The settings that show them as they are, in passes of that order.
+fn in_order(order: &[u8]) -> [(&[u8], &[u8]); 6] {
+    [
+        (b"mode", b"Color"),
+        (b"depth", b"16"),
+        (b"three-pass-order", order),
+        (b"resolution", b"26"),
+        (b"br-x", b"2"),
+        (b"br-y", b"1"),
+    ]
+}
+
+#[test]
+fn passes_in_any_order_and_byte_order(rt: HostRuntime) {
+    let alloc = rt.alloc();
+    for bytes in [ByteOrder::Big, ByteOrder::Little] {
+        for order in [b"RGB".as_slice(), b"RBG", b"GBR", b"GRB", b"BRG", b"BGR"] {
+            let page = source(&rt, alloc, TWO_PLACES, 26);
+            let mut device = three_pass(&rt, alloc, page, bytes);
+            let (_, file) = scanned(&rt, alloc, &mut device, &in_order(order));
+            assert_eq!(&rt; file.as_slice(), TWO_PLACES_FILE, "in order {order:?}");
+        }
+    }
+}
+
+#[test]
+fn one_pass_of_grays(rt: HostRuntime) {
+    let alloc = rt.alloc();
+    let page = source(&rt, alloc, b"P5\n2 1\n255\n\x07\x09", 26);
+    let mut device = three_pass(&rt, alloc, page, ByteOrder::Big);
+    let settings: [(&[u8], &[u8]); 3] = [(b"resolution", b"26"), (b"br-x", b"2"), (b"br-y", b"1")];
+    let (_, file) = scanned(&rt, alloc, &mut device, &settings);
+    assert_eq!(&rt;
+        file.as_slice(),
+        b"P5\n# SANE data follows\n2 1\n255\n\x07\x09".as_slice()
+    );
+}
+
+/// A source that fails at its n-th call leaves no file; one whose fault would come behind the last pass
+/// is not met: three passes are three rewinds and three rows.
+#[test]
+fn a_page_that_fails_in_a_pass(rt: HostRuntime) {
+    let alloc = rt.alloc();
+    for n in 1..=6 {
+        let page = read_page(alloc, TWO_PLACES, 26).expect(&rt, "a page");
+        let failing = Source::Failing(FailingPage::new(page, n));
+        let mut device = three_pass(&rt, alloc, failing, ByteOrder::Big);
+        let mut file = Vec::new(alloc);
+        let scan = job(&rt, alloc, &in_order(b"GBR"), Task::Scan);
+        let outcome = run_local(alloc, &mut device, &scan, &mut file);
+        ends(&rt, &outcome, Status::IoError, Why::Answer);
+        assert!(&rt; file.is_empty());
+        assert!(&rt; device.at_rest());
+    }
+    let page = read_page(alloc, TWO_PLACES, 26).expect(&rt, "a page");
+    let failing = Source::Failing(FailingPage::new(page, 7));
+    let mut device = three_pass(&rt, alloc, failing, ByteOrder::Big);
+    let (_, file) = scanned(&rt, alloc, &mut device, &in_order(b"GBR"));
+    assert_eq!(&rt; file.as_slice(), TWO_PLACES_FILE);
+}
+
+/// The text of the table of which place i holds the half of i, rounded down.
+fn halves(rt: &impl Abort, alloc: Global) -> Vec<u8> {
+    let mut out = Vec::new(alloc);
+    for i in 0..256i32 {
+        let comma: &[u8] = if i > 0 { b"," } else { b"" };
+        out.extend_from_slice(comma).expect(rt, "memory");
+        let word = Fixed((i / 2).saturating_mul(65536)).to_text(alloc);
+        out.extend_from_slice(word.expect(rt, "a text").as_bytes())
+            .expect(rt, "memory");
+    }
+    out
+}
+
+/// The gamma table has the entry first, and the color's own table behind it; in gray it is not set.
+#[test]
+fn a_table_per_channel(rt: HostRuntime) {
+    let alloc = rt.alloc();
+    let file = b"P6\n1 1\n255\n\x0A\x0B\x0C";
+    let mut bed = flatbed(&rt, alloc, source(&rt, alloc, file, 26));
+    let page = source(&rt, alloc, file, 26);
+    let mut passes = three_pass(&rt, alloc, page, ByteOrder::Big);
+    let gamma = inverted(&rt, alloc, 256);
+    let red = halves(&rt, alloc);
+    let settings: &[(&[u8], &[u8])] = &[
+        (b"resolution", b"26"),
+        (b"br-x", b"1"),
+        (b"br-y", b"1"),
+        (b"mode", b"Color"),
+        (b"gamma-table", &gamma),
+        (b"red-gamma-table", &red),
+    ];
+    let want = b"P6\n# SANE data follows\n1 1\n255\n\x7A\xF4\xF3".as_slice();
+    assert_eq!(&rt; scanned(&rt, alloc, &mut bed, settings).1.as_slice(), want);
+    assert_eq!(&rt;
+        scanned(&rt, alloc, &mut passes, settings).1.as_slice(),
+        want
+    );
+    let mut none = Vec::new(alloc);
+    let gray = job(&rt, alloc, &settings[5..], Task::Scan);
+    let outcome = run_local(alloc, &mut bed, &gray, &mut none);
+    ends(&rt, &outcome, Status::Inval, Why::Answer);
+    assert_eq!(&rt; none.len(), 0);
+}

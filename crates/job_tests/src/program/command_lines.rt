@@ -1,0 +1,195 @@
+use super::texts;
+use scanimage_cli::{
+    Options, SplitFault, asked_of_net, has_config, is_local, is_net_name, port_of, read_options,
+    split_words, task_of,
+};
+use scan_job::Task;
+use std::alloc::Global;
+use std::process::Abort;
+use std::test::Fail;
+
+/// The options of a command line.
+fn options(rt: &impl Abort, alloc: Global, words: &[&[u8]]) -> Result<Options, Fail> {
+    let words = texts(rt, alloc, words)?;
+    let split = split_words(alloc, words.as_slice())?;
+    match read_options(alloc, split.program.as_slice()) {
+        Ok(options) => Ok(options),
+        Err(_) => Err(Fail::from("refused")),
+    }
+}
+
+#[test]
+fn words_of_the_program(rt: HostRuntime) -> Result<(), Fail> {
+    let words = [
+        b"--config".as_slice(),
+        b"-",
+        b"-d",
+        b"hand:0",
+        b"--output-file=a b.pgm",
+        b"--port=65535",
+    ];
+    let options = options(&rt, rt.alloc(), words.as_slice())?;
+    let config = options.config.ok_or("no config")?;
+    assert_eq!(rt; config.as_bytes(), b"-".as_slice());
+    let device = options.device_name.ok_or("no device")?;
+    assert_eq!(rt; device.as_bytes(), b"hand:0".as_slice());
+    let output = options.output_file.ok_or("no output")?;
+    assert_eq!(rt; output.as_bytes(), b"a b.pgm".as_slice());
+    let port = options.port.ok_or("no port")?;
+    assert_eq!(rt; port, 65535);
+    assert!(rt; !options.list_devices && options.user.is_none());
+    Ok(())
+}
+
+/// A list goes before a table, and that before the settings alone.
+#[test]
+fn what_is_asked_for(rt: HostRuntime) -> Result<(), Fail> {
+    for (words, task) in [
+        ([b"-n".as_slice(), b"-A", b"-L"].as_slice(), Task::List),
+        ([b"--list-devices".as_slice()].as_slice(), Task::List),
+        ([b"-n".as_slice(), b"-A"].as_slice(), Task::Show),
+        ([b"--all-options".as_slice()].as_slice(), Task::Show),
+        ([b"-n".as_slice()].as_slice(), Task::SetOnly),
+        ([b"--dont-scan".as_slice()].as_slice(), Task::SetOnly),
+        ([b"--config".as_slice(), b"-"].as_slice(), Task::Scan),
+    ] {
+        assert_eq!(rt; task_of(&options(&rt, rt.alloc(), words)?), task);
+    }
+    Ok(())
+}
+
+#[test]
+fn what_is_of_this_machine(rt: HostRuntime) -> Result<(), Fail> {
+    for (name, is_net) in [
+        (b"net:host:flatbed:0".as_slice(), true),
+        (b"net::", true),
+        (b"net:x", false),
+        (b"net", false),
+        (b"flatbed:0", false),
+        (b"Net:host:x", false),
+    ] {
+        assert_eq!(rt; is_net_name(name), is_net, "at {name:?}");
+    }
+    for (words, is_here) in [
+        ([b"--config=-".as_slice()].as_slice(), true),
+        ([b"-d".as_slice(), b"net:x"].as_slice(), true),
+        (
+            [b"--config=-".as_slice(), b"-d", b"net:a:b"].as_slice(),
+            false,
+        ),
+        ([b"-L".as_slice(), b"-d", b"net:a:b"].as_slice(), true),
+        ([b"-L".as_slice(), b"--net=a"].as_slice(), false),
+        ([b"--net=a".as_slice(), b"--port=1"].as_slice(), true),
+        (
+            [b"--user=a".as_slice(), b"--password-file=a"].as_slice(),
+            true,
+        ),
+    ] {
+        let options = options(&rt, rt.alloc(), words)?;
+        assert_eq!(rt; is_local(&options), is_here, "at {words:?}");
+        let is_said = options.config.is_some();
+        assert_eq!(rt; has_config(&options), is_said || !is_here, "at {words:?}");
+        assert_eq!(rt; asked_of_net(&options).is_none(), is_here, "at {words:?}");
+    }
+    Ok(())
+}
+
+#[test]
+fn what_is_asked_of_a_host(rt: HostRuntime) -> Result<(), Fail> {
+    for (words, host, name, port) in [
+        (
+            [b"-L".as_slice(), b"--net=a"].as_slice(),
+            b"a".as_slice(),
+            b"".as_slice(),
+            6566,
+        ),
+        (
+            [b"-d".as_slice(), b"net:a:b:0"].as_slice(),
+            b"a",
+            b"b:0",
+            6566,
+        ),
+        (
+            [b"-d".as_slice(), b"net::", b"--port=1"].as_slice(),
+            b"",
+            b"",
+            1,
+        ),
+    ] {
+        let options = options(&rt, rt.alloc(), words)?;
+        assert_eq!(rt; asked_of_net(&options), Some((host, name)), "at {words:?}");
+        assert_eq!(rt; port_of(&options), port);
+    }
+    Ok(())
+}
+
+#[test]
+fn geometry_is_measured_from_the_origin(rt: HostRuntime) -> Result<(), Fail> {
+    let words = [
+        b"--resolution".as_slice(),
+        b"26",
+        b"-l",
+        b"1",
+        b"-x",
+        b"2",
+        b"-y",
+        b"1",
+    ];
+    let words = texts(&rt, rt.alloc(), words.as_slice())?;
+    let split = split_words(rt.alloc(), words.as_slice())?;
+    assert_eq!(rt; split.program.len(), 0);
+    let wanted = [
+        (b"resolution".as_slice(), b"26".as_slice()),
+        (b"tl-x", b"1"),
+        (b"br-x", b"3"),
+        (b"br-y", b"1"),
+    ];
+    assert_eq!(rt; split.settings.len(), wanted.len());
+    for ((name, value), (wanted_name, wanted_value)) in split.settings.iter().zip(wanted.iter()) {
+        assert_eq!(rt; name.as_bytes(), *wanted_name);
+        assert_eq!(rt; value.as_bytes(), *wanted_value);
+    }
+    Ok(())
+}
+
+#[test]
+fn words_that_are_no_command_line(rt: HostRuntime) -> Result<(), Fail> {
+    for words in [
+        // A flag with a value, a missing value, an empty name, an empty value, an option twice.
+        [b"--list-devices=yes".as_slice()].as_slice(),
+        [b"--mode".as_slice()].as_slice(),
+        [b"--config".as_slice()].as_slice(),
+        [b"--=Gray".as_slice()].as_slice(),
+        [b"--".as_slice(), b"Gray"].as_slice(),
+        [b"--config=".as_slice()].as_slice(),
+        [b"-d".as_slice(), b""].as_slice(),
+        [b"-o".as_slice(), b"a", b"--output-file=b"].as_slice(),
+        // A sum that leaves the range, and a measure that does not read.
+        [b"-l".as_slice(), b"32767", b"-x", b"1"].as_slice(),
+        [b"-l".as_slice(), b"one"].as_slice(),
+        // What is left out: free words, letters together, values attached to short options.
+        [b"word".as_slice()].as_slice(),
+        [b"-LA".as_slice()].as_slice(),
+        [b"-l1".as_slice()].as_slice(),
+        [b"-".as_slice()].as_slice(),
+        [b"".as_slice()].as_slice(),
+    ] {
+        let words = texts(&rt, rt.alloc(), words)?;
+        assert_eq!(rt;
+            split_words(rt.alloc(), words.as_slice()).err(),
+            Some(SplitFault::Bad)
+        );
+    }
+    // What clap refuses.
+    for words in [
+        [b"--port=0".as_slice()].as_slice(),
+        [b"--port=65536".as_slice()].as_slice(),
+        [b"--port=080".as_slice()].as_slice(),
+        [b"--port=+80".as_slice()].as_slice(),
+        [b"--config=\xFF".as_slice()].as_slice(),
+    ] {
+        let words = texts(&rt, rt.alloc(), words)?;
+        assert!(rt; read_options(rt.alloc(), words.as_slice()).is_err());
+    }
+    Ok(())
+}

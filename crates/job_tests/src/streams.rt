@@ -1,0 +1,341 @@
+use net_jobs::{Dial, DialFault, run_batch, run_job};
+use sane_fixed::{Status, Text};
+use scan_job::{Job, Outcome, Shelf, ShelfFault, Task, Why};
+use std::alloc::Global;
+use std::collections::VecDeque;
+use std::io::{self, ErrorKind, Read, Write};
+use std::process::Abort;
+
+/// A control connection whose peer has said everything beforehand. Every other call is interrupted.
+#[derive(Drop)]
+struct Said {
+    input: VecDeque<u8>,
+    output: Vec<u8>,
+    /// How many bytes it takes before it fails.
+    most: usize,
+    calls: u64,
+}
+
+impl Said {
+    fn is_interrupted(&mut self) -> bool {
+        self.calls = self.calls.saturating_add(1);
+        self.calls % 2 == 1
+    }
+}
+
+impl Read for Said {
+    fn read(&mut self, buf: &mut [u8]) -> io::Result<usize> {
+        if self.is_interrupted() {
+            return Err(io::Error::from(ErrorKind::Interrupted));
+        }
+        self.input.read(buf)
+    }
+}
+
+impl Write for Said {
+    fn write(&mut self, buf: &[u8]) -> io::Result<usize> {
+        if self.is_interrupted() {
+            return Err(io::Error::from(ErrorKind::Interrupted));
+        }
+        if self.output.len() >= self.most {
+            return Ok(0);
+        }
+        let n = buf.len().min(self.most - self.output.len()).min(7);
+        self.output.write(&buf[..n])
+    }
+
+    fn flush(&mut self) -> io::Result<()> {
+        self.output.flush()
+    }
+}
+
+/// The data of each frame, in their order.
+#[derive(Drop)]
+struct Frames {
+    frames: VecDeque<VecDeque<u8>>,
+}
+
+impl Dial for Frames {
+    type Conn = VecDeque<u8>;
+
+    fn dial(&mut self, _port: u16) -> Result<VecDeque<u8>, DialFault> {
+        self.frames.pop_front().ok_or(DialFault)
+    }
+}
+
+/// An output that takes so many bytes and then fails.
+#[derive(Drop)]
+struct Disk {
+    taken: Vec<u8>,
+    most: usize,
+}
+
+impl Write for Disk {
+    fn write(&mut self, buf: &[u8]) -> io::Result<usize> {
+        if self.taken.len() >= self.most {
+            return Err(io::Error::from(ErrorKind::StorageFull));
+        }
+        let n = buf.len().min(self.most - self.taken.len());
+        self.taken.write(&buf[..n])
+    }
+
+    fn flush(&mut self) -> io::Result<()> {
+        self.taken.flush()
+    }
+}
+
+/// Outputs that take so many bytes each. It refuses to open the output of one number, and to take one back.
+#[derive(Drop)]
+struct Rack {
+    alloc: Global,
+    files: Vec<Vec<u8>>,
+    most: usize,
+    never_opens: u32,
+    never_takes: usize,
+}
+
+impl Shelf for Rack {
+    type Out = Disk;
+
+    fn open(&mut self, k: u32) -> Result<Disk, ShelfFault> {
+        if k == self.never_opens {
+            return Err(ShelfFault);
+        }
+        Ok(Disk {
+            taken: Vec::new(self.alloc),
+            most: self.most,
+        })
+    }
+
+    fn close(&mut self, out: Disk) -> Result<(), ShelfFault> {
+        let Disk { taken, .. } = out;
+        self.files.push(taken).map_err(|_| ShelfFault)?;
+        if self.files.len() == self.never_takes {
+            return Err(ShelfFault);
+        }
+        Ok(())
+    }
+}
+
+/// The replies to INIT, OPEN (device word 2), GET_OPTION_DESCRIPTORS (no option), and to START and GET_PARAMETERS.
+const OPENED: &[u8] = b"\0\0\0\0\x01\0\0\x03\0\0\0\0\0\0\0\x02\0\0\0\0\0\0\0\0";
+
+const ONE_GRAY: &[u8] =
+    b"\0\0\0\0\0\0\x9c\x41\0\0\x12\x34\0\0\0\0\0\0\0\0\0\0\0\0\0\0\0\x01\0\0\0\x01\0\0\0\x01\0\0\0\x01\0\0\0\x08";
+
+const NO_PAGE: &[u8] = b"\0\0\0\x07\0\0\0\0\0\0\x12\x34\0\0\0\0";
+
+const ASKED: &[u8] =
+    b"\0\0\0\0\x01\0\0\x03\0\0\0\x05user\0\0\0\0\x02\0\0\0\x0aflatbed:0\0\0\0\0\x04\0\0\0\x02\0\0\0\x07\0\0\0\x02\0\0\0\x06\0\0\0\x02\0\0\0\x03\0\0\0\x02\0\0\0\x0a";
+
+const FILE: &[u8] = b"P5\n# SANE data follows\n1 1\n255\n\x0a";
+
+fn text(rt: &impl Abort, alloc: Global, bytes: &[u8]) -> Text {
+    Text::new(alloc, bytes).expect(rt, "a text")
+}
+
+fn job(rt: &impl Abort, alloc: Global, task: Task) -> Job {
+    Job {
+        user: text(rt, alloc, b"user"),
+        password: text(rt, alloc, b""),
+        device: text(rt, alloc, b"flatbed:0"),
+        settings: Vec::new(alloc),
+        task,
+    }
+}
+
+fn peer(rt: &impl Abort, alloc: Global, parts: &[&[u8]], most: usize) -> Said {
+    let mut input = Vec::new(alloc);
+    for part in parts {
+        input.extend_from_slice(part).expect(rt, "memory");
+    }
+    Said {
+        input: VecDeque::from(input),
+        output: Vec::new(alloc),
+        most,
+        calls: 0,
+    }
+}
+
+fn streams(rt: &impl Abort, alloc: Global, data: &[&[u8]]) -> Frames {
+    let mut frames = VecDeque::new(alloc);
+    for bytes in data {
+        let stream = Vec::from_slice(alloc, bytes).expect(rt, "memory");
+        frames
+            .push_back(VecDeque::from(stream))
+            .expect(rt, "memory");
+    }
+    Frames { frames }
+}
+
+fn ends(rt: &impl Abort, outcome: &Outcome, status: Status, why: Why) {
+    match outcome {
+        Outcome::Ended(s, w) => {
+            assert_eq!(rt; *s, status);
+            assert_eq!(rt; *w, why);
+        }
+        _ => assert!(rt; false),
+    }
+}
+
+fn done(rt: &impl Abort, outcome: &Outcome) {
+    assert!(rt; matches!(outcome, Outcome::Done(_)));
+}
+
+/// A scan whose replies end after `heard` bytes, whose control connection takes `asked` bytes and whose output `most`.
+fn scan(
+    rt: &impl Abort,
+    alloc: Global,
+    data: &[&[u8]],
+    heard: usize,
+    asked: usize,
+    most: usize,
+) -> (Outcome, Vec<u8>, Vec<u8>) {
+    let mut control = peer(rt, alloc, &[OPENED, ONE_GRAY], asked);
+    control.input.truncate(heard);
+    let mut dial = streams(rt, alloc, data);
+    let mut out = Disk {
+        taken: Vec::new(alloc),
+        most,
+    };
+    let outcome = run_job(
+        alloc,
+        job(rt, alloc, Task::Scan),
+        &mut control,
+        &mut dial,
+        &mut out,
+    );
+    (outcome, control.output, out.taken)
+}
+
+const DATA: &[u8] = b"\0\0\0\x01\x0a\xff\xff\xff\xff\x05";
+
+#[test]
+fn a_scan_over_streams(rt: HostRuntime) {
+    let alloc = rt.alloc();
+    let (outcome, asked, file) = scan(&rt, alloc, &[DATA], usize::MAX, usize::MAX, usize::MAX);
+    done(&rt, &outcome);
+    assert_eq!(&rt; asked.as_slice(), ASKED);
+    assert_eq!(&rt; file.as_slice(), FILE);
+    let mut control = peer(&rt, alloc, &[], 0);
+    let mut dial = streams(&rt, alloc, &[]);
+    let mut out = Vec::new(alloc);
+    let batch = job(&rt, alloc, Task::Batch(1));
+    let refused = run_job(alloc, batch, &mut control, &mut dial, &mut out);
+    ends(&rt, &refused, Status::Inval, Why::Setting);
+    assert_eq!(&rt; control.calls, 0u64);
+}
+
+/// Replies, requests and data that end after each byte, and no data connection at all.
+#[test]
+fn streams_that_end(rt: HostRuntime) {
+    let alloc = rt.alloc();
+    for heard in 0..68usize {
+        let (outcome, _, file) = scan(&rt, alloc, &[DATA], heard, usize::MAX, usize::MAX);
+        ends(&rt, &outcome, Status::IoError, Why::Lost);
+        assert!(&rt; file.len() < 32);
+    }
+    for asked in 0..ASKED.len() {
+        let (outcome, sent, file) = scan(&rt, alloc, &[DATA], usize::MAX, asked, usize::MAX);
+        assert_eq!(&rt; sent.as_slice(), ASKED.get(..asked).unwrap_or(&[]));
+        if asked < ASKED.len().saturating_sub(12) {
+            ends(&rt, &outcome, Status::IoError, Why::Lost);
+            assert!(&rt; file.len() < 32);
+        } else {
+            done(&rt, &outcome);
+        }
+    }
+    for count in 0..DATA.len() {
+        let data = DATA.get(..count).unwrap_or(&[]);
+        let (outcome, _, file) = scan(&rt, alloc, &[data], usize::MAX, usize::MAX, usize::MAX);
+        ends(&rt, &outcome, Status::IoError, Why::Lost);
+        assert!(&rt; file.len() < 32);
+    }
+    let (outcome, _, _) = scan(&rt, alloc, &[], usize::MAX, usize::MAX, usize::MAX);
+    ends(&rt, &outcome, Status::IoError, Why::Lost);
+}
+
+/// An output that takes so many bytes and then fails, for each number.
+#[test]
+fn outputs_that_fail(rt: HostRuntime) {
+    let alloc = rt.alloc();
+    for most in 0..32usize {
+        let (outcome, _, file) = scan(&rt, alloc, &[DATA], usize::MAX, usize::MAX, most);
+        ends(&rt, &outcome, Status::IoError, Why::Sink);
+        assert_eq!(&rt; file.as_slice(), FILE.get(..most).unwrap_or(&[]));
+    }
+}
+
+fn outputs(alloc: Global, most: usize, never_opens: u32, never_takes: usize) -> Rack {
+    Rack {
+        alloc,
+        files: Vec::new(alloc),
+        most,
+        never_opens,
+        never_takes,
+    }
+}
+
+/// Two pages of a feeder, and then none.
+fn feed(rt: &impl Abort, alloc: Global, rack: &mut Rack, count: u32) -> Outcome {
+    let parts: [&[u8]; 4] = [OPENED, ONE_GRAY, ONE_GRAY, NO_PAGE];
+    let mut control = peer(rt, alloc, &parts, usize::MAX);
+    let mut dial = streams(
+        rt,
+        alloc,
+        &[
+            b"\0\0\0\x01\x07\xff\xff\xff\xff\x05",
+            b"\0\0\0\x01\x09\xff\xff\xff\xff\x05",
+        ],
+    );
+    run_batch(
+        alloc,
+        job(rt, alloc, Task::Batch(count)),
+        &mut control,
+        &mut dial,
+        rack,
+    )
+}
+
+#[test]
+fn batches_over_streams(rt: HostRuntime) {
+    let alloc = rt.alloc();
+    let pages: [&[u8]; 2] = [
+        b"P5\n# SANE data follows\n1 1\n255\n\x07",
+        b"P5\n# SANE data follows\n1 1\n255\n\x09",
+    ];
+    for (count, files) in [(16, 2usize), (2, 2), (1, 1)] {
+        let mut rack = outputs(alloc, usize::MAX, 0, 0);
+        done(&rt, &feed(&rt, alloc, &mut rack, count));
+        assert_eq!(&rt; rack.files.len(), files);
+        for (file, page) in rack.files.iter().zip(pages) {
+            assert_eq!(&rt; file.as_slice(), page);
+        }
+    }
+    // An output that cannot be made, that fails, and that is not taken back.
+    let cases = [
+        (usize::MAX, 1, 0usize, 0usize),
+        (usize::MAX, 2, 0, 1),
+        (31, 0, 0, 1),
+        (usize::MAX, 0, 1, 1),
+        (usize::MAX, 0, 2, 2),
+    ];
+    for (most, never_opens, never_takes, files) in cases {
+        let mut rack = outputs(alloc, most, never_opens, never_takes);
+        ends(
+            &rt,
+            &feed(&rt, alloc, &mut rack, 2),
+            Status::IoError,
+            Why::Sink,
+        );
+        assert_eq!(&rt; rack.files.len(), files);
+    }
+    let mut rack = outputs(alloc, usize::MAX, 0, 0);
+    ends(
+        &rt,
+        &feed(&rt, alloc, &mut rack, 17),
+        Status::Inval,
+        Why::Setting,
+    );
+    assert!(&rt; rack.files.is_empty());
+}

@@ -1,0 +1,187 @@
+ghost use Rattle.std.specs.Prelude.{◌<◌};
+
+mod kept;
+
+use frame_join::{FrameJoin, JoinFault, PnmOut};
+use sane_fixed::{ByteOrder, FrameFormat, Params};
+use std::alloc::Global;
+use std::test::Fail;
+
+fn told(format: FrameFormat, depth: u32, line: u32, width: u32, lines: u32) -> Params {
+    Params {
+        format,
+        last_frame: true,
+        bytes_per_line: line,
+        pixels_per_line: width,
+        lines: Some(lines),
+        depth,
+    }
+}
+
+/// Adds what may go out.
+fn pull_all(out: &mut PnmOut, join: &mut FrameJoin, file: &mut Vec<u8>) -> Result<(), Fail> {
+    let mut buf = [0u8; 7];
+    for _ in 0..100 {
+        let n = out.pull(join, &mut buf);
+        if n == 0 {
+            break;
+        }
+        file.extend_from_slice(&buf[..n])?;
+    }
+    Ok(())
+}
+
+/// The file of a frame whose bytes come in pieces.
+fn file_of(
+    alloc: Global,
+    params: &Params,
+    order: ByteOrder,
+    payload: &[u8],
+    piece: usize,
+) -> Result<Vec<u8>, Fail>
+    requires { 0 < piece }
+{
+    let mut join = FrameJoin::new(alloc);
+    let mut out = PnmOut::new();
+    let mut file = Vec::new(alloc);
+    join.begin(alloc, params, order);
+    for bytes in payload.chunks(piece) {
+        join.feed(bytes);
+        pull_all(&mut out, &mut join, &mut file)?;
+    }
+    if join.end() == Ok(true) {
+        pull_all(&mut out, &mut join, &mut file)?;
+    }
+    Ok(file)
+}
+
+#[test]
+fn frames_in_pieces(rt: HostRuntime) -> Result<(), Fail> {
+    let lost = b"\x01\x02\x03\x04\x05\x06\0\0\0\0\0\0\0\0\0".as_slice();
+    let big = b"\0\x01\0\x02\0\x03\0\x04\0\x05\x01\0".as_slice();
+    let little = b"\x01\0\x02\0\x03\0\x04\0\x05\0\0\x01".as_slice();
+    for piece in [1, 2, 5, 100] {
+        // Two colors and three lost pixels.
+        let colors = told(FrameFormat::Rgb, 8, 15, 2, 1);
+        let file = file_of(rt.alloc(), &colors, ByteOrder::Little, lost, piece)?;
+        assert_eq!(rt;
+            file.as_slice(),
+            b"P6\n# SANE data follows\n2 1\n255\n\x01\x02\x03\x04\x05\x06".as_slice()
+        );
+        // Two colors of sixteen bits in both byte orders.
+        let wide = told(FrameFormat::Rgb, 16, 12, 2, 1);
+        for (order, payload) in [(ByteOrder::Big, big), (ByteOrder::Little, little)] {
+            let file = file_of(rt.alloc(), &wide, order, payload, piece)?;
+            assert_eq!(rt;
+                file.as_slice(),
+                b"P6\n# SANE data follows\n2 1\n65535\n\0\x01\0\x02\0\x03\0\x04\0\x05\x01\0".as_slice()
+            );
+        }
+        // Nine bits a row: two bytes of the file, where the frame has three; filled with zeros.
+        let bits = told(FrameFormat::Gray, 1, 3, 9, 2);
+        let file = file_of(
+            rt.alloc(),
+            &bits,
+            ByteOrder::Little,
+            b"\x80\xFF\xFF\x41\x7F\0",
+            piece,
+        )?;
+        assert_eq!(rt;
+            file.as_slice(),
+            b"P4\n# SANE data follows\n9 2\n\x80\x80\x41\x00".as_slice()
+        );
+    }
+    Ok(())
+}
+
+#[test]
+fn last_row_waits_for_the_end(rt: HostRuntime) -> Result<(), Fail> {
+    let mut join = FrameJoin::new(rt.alloc());
+    let mut out = PnmOut::new();
+    let mut file = Vec::new(rt.alloc());
+    pull_all(&mut out, &mut join, &mut file)?;
+    assert_eq!(rt; file.len(), 0);
+    join.begin(
+        rt.alloc(),
+        &told(FrameFormat::Gray, 8, 1, 1, 2),
+        ByteOrder::Little,
+    );
+    join.feed(b"\x07");
+    pull_all(&mut out, &mut join, &mut file)?;
+    assert_eq!(rt; file.len(), 32);
+    join.feed(b"\x09");
+    pull_all(&mut out, &mut join, &mut file)?;
+    assert_eq!(rt; file.len(), 32);
+    assert_eq!(rt; join.end(), Ok(true));
+    // What comes after the whole picture changes nothing.
+    join.feed(b"\x0B");
+    assert_eq!(rt; join.end(), Ok(true));
+    assert_eq!(rt; join.fault(), None);
+    pull_all(&mut out, &mut join, &mut file)?;
+    assert_eq!(rt;
+        file.as_slice(),
+        b"P5\n# SANE data follows\n1 2\n255\n\x07\x09".as_slice()
+    );
+    Ok(())
+}
+
+#[test]
+fn faults_of_frames(rt: HostRuntime) {
+    let mut buf = [0u8; 64];
+    let mut out = PnmOut::new();
+    let colors = told(FrameFormat::Rgb, 8, 3, 1, 2);
+    let mut long = FrameJoin::new(rt.alloc());
+    long.begin(rt.alloc(), &colors, ByteOrder::Big);
+    long.feed(b"\x01\x02\x03\x04\x05\x06\x07");
+    assert_eq!(rt; long.fault(), Some(JoinFault::Long));
+    assert_eq!(rt; out.pull(&mut long, &mut buf), 0);
+    // The first fault stands for good.
+    long.begin(rt.alloc(), &colors, ByteOrder::Big);
+    assert_eq!(rt; long.end(), Err(JoinFault::Long));
+    let mut short = FrameJoin::new(rt.alloc());
+    short.begin(rt.alloc(), &colors, ByteOrder::Big);
+    short.feed(b"\x01\x02\x03\x04\x05");
+    assert_eq!(rt; short.end(), Err(JoinFault::Short));
+    assert_eq!(rt; short.fault(), Some(JoinFault::Short));
+    let mut again = FrameJoin::new(rt.alloc());
+    again.begin(rt.alloc(), &colors, ByteOrder::Big);
+    again.begin(rt.alloc(), &colors, ByteOrder::Big);
+    assert_eq!(rt; again.fault(), Some(JoinFault::Shape));
+    let mut idle = FrameJoin::new(rt.alloc());
+    idle.feed(b"\x01");
+    assert_eq!(rt; idle.end(), Ok(false));
+    assert_eq!(rt; idle.fault(), None);
+}
+
+#[test]
+fn shapes_refused(rt: HostRuntime) {
+    let mut early = told(FrameFormat::Gray, 8, 1, 1, 1);
+    early.last_frame = false;
+    for params in [
+        told(FrameFormat::Rgb, 1, 3, 1, 2),
+        told(FrameFormat::Gray, 4, 3, 1, 2),
+        told(FrameFormat::Gray, 8, 1, 2, 1),
+        told(FrameFormat::Gray, 16, 3, 2, 1),
+        told(FrameFormat::Gray, 1, 1, 9, 1),
+        told(FrameFormat::Gray, 8, 1, 0, 1),
+        told(FrameFormat::Gray, 8, 65537, 65537, 1),
+        told(FrameFormat::Gray, 8, 1, 1, 0),
+        told(FrameFormat::Gray, 8, 1, 1, 65537),
+        told(FrameFormat::Gray, 8, 1_048_577, 1, 1),
+        early,
+    ] {
+        let mut join = FrameJoin::new(rt.alloc());
+        join.begin(rt.alloc(), &params, ByteOrder::Big);
+        assert_eq!(rt; join.fault(), Some(JoinFault::Shape));
+        assert_eq!(rt; join.end(), Err(JoinFault::Shape));
+    }
+    for params in [
+        told(FrameFormat::Gray, 8, 1_048_576, 1, 65536),
+        told(FrameFormat::Rgb, 16, 393_216, 65536, 1),
+        told(FrameFormat::Gray, 1, 2, 9, 1),
+    ] {
+        let mut join = FrameJoin::new(rt.alloc());
+        join.begin(rt.alloc(), &params, ByteOrder::Big);
+        assert_eq!(rt; join.fault(), None);
+    }
+}

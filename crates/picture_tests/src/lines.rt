@@ -1,0 +1,50 @@
+use text_lines::{LimitFault, Limits, first_line, split_once};
+
+#[test]
+fn lines_of_texts(rt: HostRuntime) {
+    for (text, cut) in [
+        (b"".as_slice(), None),
+        (b"a".as_slice(), Some((b"a".as_slice(), b"".as_slice()))),
+        (b"a\n".as_slice(), Some((b"a".as_slice(), b"".as_slice()))),
+        (
+            b"\n\nb".as_slice(),
+            Some((b"".as_slice(), b"\nb".as_slice())),
+        ),
+        (
+            b"a\r\nb\r\n".as_slice(),
+            Some((b"a".as_slice(), b"b\r\n".as_slice())),
+        ),
+        // Only the one CR before LF is dropped, and at the end of the text none is.
+        (
+            b"a\r\r\nb".as_slice(),
+            Some((b"a\r".as_slice(), b"b".as_slice())),
+        ),
+        (b"a\r".as_slice(), Some((b"a\r".as_slice(), b"".as_slice()))),
+        (b"\r\n".as_slice(), Some((b"".as_slice(), b"".as_slice()))),
+    ] {
+        assert_eq!(rt; first_line(text), cut, "at {text:?}");
+    }
+}
+
+#[test]
+fn parts_of_bytes(rt: HostRuntime) {
+    assert_eq!(rt;
+        split_once(b"a:b:c", b':'),
+        Some((b"a".as_slice(), b"b:c".as_slice()))
+    );
+    assert_eq!(rt;
+        split_once(b":", b':'),
+        Some((b"".as_slice(), b"".as_slice()))
+    );
+    assert_eq!(rt; split_once(b"abc", b':'), None);
+}
+
+#[test]
+fn limits_of_lines(rt: HostRuntime) {
+    let limits = Limits { lines: 2, bytes: 3 };
+    assert_eq!(rt; limits.admit(2, b"abc"), Ok(()));
+    assert_eq!(rt; limits.admit(2, b"abcd"), Err(LimitFault::TooLong));
+    assert_eq!(rt; limits.admit(3, b"abc"), Err(LimitFault::TooMany));
+    // The number is tested before the length.
+    assert_eq!(rt; limits.admit(3, b"abcd"), Err(LimitFault::TooMany));
+}

@@ -1,0 +1,86 @@
+ghost use Rattle.std.specs.Prelude.{◌≡◌};
+
+use netpbm::{
+    Format, Header, format_of, none_above, number_at, raster_size, read_header, sample_count,
+};
+
+fn header(format: Format, width: u32, height: u32, maxval: u32) -> Header
+    ensures width { result.width ≡ width }
+    ensures height { result.height ≡ height }
+{
+    Header {
+        format,
+        width,
+        height,
+        maxval,
+    }
+}
+
+#[test]
+fn headers(rt: HostRuntime) {
+    let small = header(Format::Pgm, 1, 2, 255);
+    for (text, rest) in [
+        (b"P5\n1 2\n255\nab".as_slice(), b"ab".as_slice()),
+        (b"P5 1\t2\r255 ".as_slice(), b"".as_slice()),
+        // A comment stands after white space or after a comment, and CR ends one as LF does.
+        (
+            b"P5 #a\r#b\n1 #\n 2\n#c\n255\n#d".as_slice(),
+            b"#d".as_slice(),
+        ),
+        (
+            b"P5\x0B1\x0C0000000002\n255\n\n".as_slice(),
+            b"\n".as_slice(),
+        ),
+    ] {
+        match read_header(text) {
+            Some((found, raster)) => {
+                assert_eq!(rt; found, small, "at {text:?}");
+                assert_eq!(rt; raster, rest, "at {text:?}");
+            }
+            None => panic!(rt; "no header in {text:?}"),
+        }
+    }
+    // Bits have no greatest value in the header.
+    match read_header(b"P4\n9 1\n\x80\x00") {
+        Some((found, raster)) => {
+            assert_eq!(rt; found, header(Format::Pbm, 9, 1, 1));
+            assert_eq!(rt; raster, b"\x80\x00".as_slice());
+            assert_eq!(rt; raster_size(&header(Format::Pbm, 9, 1, 1)), 2);
+        }
+        None => panic!(rt; "no header"),
+    }
+}
+
+#[test]
+fn no_headers(rt: HostRuntime) {
+    for text in [
+        b"".as_slice(),
+        b"P5".as_slice(),
+        b"P51 2 255\n".as_slice(),
+        b"P5#\n1 2 255\n".as_slice(),
+        b"P5\n1#\n2 255\n".as_slice(),
+        b"P5\n0 2 255\n".as_slice(),
+        b"P5\n65537 2 255\n".as_slice(),
+        b"P5\n1 2 0\n".as_slice(),
+        b"P5\n1 2 65536\n".as_slice(),
+        b"P5\n1 2 255".as_slice(),
+        b"P5\n1 00000000002 255\n".as_slice(),
+        b"P5\n1 2\n#never ended".as_slice(),
+        b"P3\n1 2 255\n".as_slice(),
+    ] {
+        assert!(rt; read_header(text).is_none(), "at {text:?}");
+    }
+    assert_eq!(rt; format_of(b"P6"), Some(Format::Ppm));
+    assert_eq!(rt; format_of(b"P7"), None);
+}
+
+#[test]
+fn rasters(rt: HostRuntime) {
+    let wide = header(Format::Ppm, 2, 3, 256);
+    assert_eq!(rt; sample_count(&wide), 18);
+    assert_eq!(rt; raster_size(&wide), 36);
+    assert_eq!(rt; number_at(256, b"\x01\x02\x00\xFF", 1, 2), 255);
+    assert_eq!(rt; number_at(255, b"\x01\x02", 1, 2), 2);
+    assert!(rt; none_above(10, b"\x0A\x00", 2));
+    assert!(rt; !none_above(10, b"\x00\x0B", 2));
+}

@@ -1,5 +1,0 @@
-use Rattle.scan_frames.specs.Reading.{IsFrame}
-use Rattle.scan_frames.proofs.tests.frame_bytes.Given as goal
-
-abbrev pub invariant-loop-reads : goal.invariant-loop-reads
-invariant-loop-reads g l = IsFrame (g.S.PageSource.source l.source) l.setup l.frame

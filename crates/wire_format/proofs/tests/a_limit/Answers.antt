@@ -1,5 +1,0 @@
-use Rattle.std.proofs.Common.{refl, [], ◌∷◌}
-use Rattle.wire_format.proofs.tests.a_limit.Goals as goal
-
-pub used-requires : goal.used-requires
-used-requires g c = (1 ∷ [], refl)

@@ -1,0 +1,5 @@
+//! Tests of the whole world.
+#![tactic(auto)]
+
+#[cfg(test)]
+mod world;
