@@ -1,10 +1,10 @@
-use saned_core::{Daemon, DataStep, Fed, FrameState, OpenFault, SessionId};
 use device_api::Device;
 use dispatch::Registry;
 use flatbed_dev::Flatbed;
 use md5_auth::Users;
 use page_picture::{MemoryPage, Source, read_page};
 use sane_fixed::{ByteOrder, Status, Text};
+use saned_core::{Daemon, DataStep, Fed, FrameState, OpenFault, SessionId};
 use std::alloc::Global;
 use std::process::Abort;
 
@@ -50,11 +50,11 @@ fn expect<D: Device>(
     wanted: &[u8],
 ) {
     for byte in sent {
-        assert_eq!(rt; daemon.feed(alloc, id, &[*byte]), Fed::Standing);
+        assert!(rt; daemon.feed(alloc, id, &[*byte]) == Fed::Standing);
     }
     let mut buf = [0; 256];
     let count = daemon.take_reply(id, &mut buf);
-    assert_eq!(rt; &buf[..count], wanted);
+    assert!(rt; &buf[..count] == wanted);
 }
 
 const INIT: &[u8] = b"\0\0\0\0\x01\0\0\x03\0\0\0\x05user\0";
@@ -149,18 +149,18 @@ fn one_byte_through_the_daemon(rt: HostRuntime) {
         b"\0\0\0\x07\0\0\0\0",
         b"\0\0\0\x03\0\0\0\0\0\0\x12\x34\0\0\0\0",
     );
-    assert_eq!(rt; daemon.frame(id), FrameState::Waiting);
+    assert!(rt; daemon.frame(id) == FrameState::Waiting);
     assert!(rt; daemon.data_connected(id));
     assert!(rt; !daemon.data_connected(id));
     let mut buf = [0; 64];
-    assert_eq!(rt; daemon.data_turn(id, &mut buf), DataStep::Bytes(5));
-    assert_eq!(rt; &buf[..5], b"\0\0\0\x01\x07".as_slice());
-    assert_eq!(rt; daemon.data_turn(id, &mut buf), DataStep::Last(5));
-    assert_eq!(rt; &buf[..5], b"\xff\xff\xff\xff\x05".as_slice());
-    assert_eq!(rt; daemon.data_turn(id, &mut buf), DataStep::Idle);
+    assert!(rt; daemon.data_turn(id, &mut buf) == DataStep::Bytes(5));
+    assert!(rt; &buf[..5] == b"\0\0\0\x01\x07".as_slice());
+    assert!(rt; daemon.data_turn(id, &mut buf) == DataStep::Last(5));
+    assert!(rt; &buf[..5] == b"\xff\xff\xff\xff\x05".as_slice());
+    assert!(rt; daemon.data_turn(id, &mut buf) == DataStep::Idle);
     // EXIT
-    assert_eq!(rt; daemon.feed(alloc, id, b"\0\0\0\x0a"), Fed::Over);
-    assert_eq!(rt; daemon.feed(alloc, id, b"\0\0\0\x01"), Fed::Over);
+    assert!(rt; daemon.feed(alloc, id, b"\0\0\0\x0a") == Fed::Over);
+    assert!(rt; daemon.feed(alloc, id, b"\0\0\0\x01") == Fed::Over);
     assert!(rt; daemon.unplug(b"flatbed:0").is_ok());
 }
 
@@ -210,10 +210,7 @@ fn words_that_stand_for_nothing(rt: HostRuntime) {
         b"\0\0\0\0",
     );
     // AUTHORIZE where none is awaited
-    assert_eq!(rt;
-        daemon.feed(alloc, id, b"\0\0\0\x09\0\0\0\0\0\0\0\0\0\0\0\0"),
-        Fed::Over
-    );
+    assert!(rt; daemon.feed(alloc, id, b"\0\0\0\x09\0\0\0\0\0\0\0\0\0\0\0\0") == Fed::Over);
 }
 
 #[test]
@@ -241,7 +238,7 @@ fn eight_sessions_and_one_holder(rt: HostRuntime) {
     for _ in 0..6 {
         session(&rt, alloc, &mut daemon);
     }
-    assert_eq!(rt; daemon.open_session(alloc, 1).err(), Some(OpenFault::Full));
+    assert!(rt; daemon.open_session(alloc, 1).err() == Some(OpenFault::Full));
     daemon.end_session(first);
     let _third = session(&rt, alloc, &mut daemon);
     expect(
@@ -271,11 +268,11 @@ fn eight_sessions_and_one_holder(rt: HostRuntime) {
         b"\0\0\0\0",
     );
     let mut buf = [0; 8];
-    assert_eq!(rt; daemon.frame(second), FrameState::Ending);
-    assert_eq!(rt; daemon.data_turn(second, &mut buf), DataStep::Last(5));
-    assert_eq!(rt; &buf[..5], b"\xff\xff\xff\xff\x02".as_slice());
+    assert!(rt; daemon.frame(second) == FrameState::Ending);
+    assert!(rt; daemon.data_turn(second, &mut buf) == DataStep::Last(5));
+    assert!(rt; &buf[..5] == b"\xff\xff\xff\xff\x02".as_slice());
     // no code is 11
-    assert_eq!(rt; daemon.feed(alloc, second, b"\0\0\0\x0b"), Fed::Over);
+    assert!(rt; daemon.feed(alloc, second, b"\0\0\0\x0b") == Fed::Over);
 }
 
 #[test]
@@ -325,11 +322,8 @@ fn refused(
 fn pages_for_devices_at_rest(rt: HostRuntime) {
     let alloc = rt.alloc();
     let mut daemon = daemon(&rt, alloc, b"");
-    assert_eq!(rt;
-        refused(&rt, alloc, &mut daemon, b"flatbed:2"),
-        Some(Status::Inval)
-    );
-    assert_eq!(rt; refused(&rt, alloc, &mut daemon, b"flatbed:1"), None);
+    assert!(rt; refused(&rt, alloc, &mut daemon, b"flatbed:2") == Some(Status::Inval));
+    assert!(rt; refused(&rt, alloc, &mut daemon, b"flatbed:1") == None);
     let id = session(&rt, alloc, &mut daemon);
     expect(
         &rt,
@@ -339,7 +333,7 @@ fn pages_for_devices_at_rest(rt: HostRuntime) {
         OPEN,
         b"\0\0\0\0\0\0\0\0\0\0\0\0",
     );
-    assert_eq!(rt; refused(&rt, alloc, &mut daemon, b"flatbed:0"), None);
+    assert!(rt; refused(&rt, alloc, &mut daemon, b"flatbed:0") == None);
     expect(
         &rt,
         alloc,
@@ -348,13 +342,10 @@ fn pages_for_devices_at_rest(rt: HostRuntime) {
         b"\0\0\0\x07\0\0\0\0",
         b"\0\0\0\0\0\0\x9c\x41\0\0\x12\x34\0\0\0\0",
     );
-    assert_eq!(rt;
-        refused(&rt, alloc, &mut daemon, b"flatbed:0"),
-        Some(Status::DeviceBusy)
-    );
+    assert!(rt; refused(&rt, alloc, &mut daemon, b"flatbed:0") == Some(Status::DeviceBusy));
     assert!(rt; daemon.unplug(b"flatbed:0").is_err());
     daemon.end_session(id);
-    assert_eq!(rt; refused(&rt, alloc, &mut daemon, b"flatbed:0"), None);
+    assert!(rt; refused(&rt, alloc, &mut daemon, b"flatbed:0") == None);
     assert!(rt; daemon.unplug(b"flatbed:0").is_ok());
 }
 

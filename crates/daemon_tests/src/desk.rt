@@ -1,9 +1,9 @@
-use saned_desk::{Carriage, Said, Session, answer, let_go, put_back_session};
 use dispatch::Registry;
 use flatbed_dev::Flatbed;
 use md5_auth::{Challenger, Users};
 use page_picture::{MemoryPage, Source, read_page};
 use sane_fixed::{ByteOrder, Text};
+use saned_desk::{Carriage, Said, Session, answer, let_go, put_back_session};
 use std::alloc::Global;
 use std::process::Abort;
 use wire_codec::{Decoder, Reply, encode_reply};
@@ -95,7 +95,7 @@ fn ask(rt: &impl Abort, alloc: Global, desk: &mut Desk, sent: &[u8]) -> Said {
 
 fn is_spelled(rt: &impl Abort, alloc: Global, reply: &Reply, wanted: &[u8]) {
     let bytes = encode_reply(alloc, reply).expect(rt, "a spelling");
-    assert_eq!(rt; bytes.as_slice(), wanted);
+    assert!(rt; bytes.as_slice() == wanted);
 }
 
 /// One reply, of these bytes.
@@ -378,20 +378,20 @@ fn frames_and_words(rt: HostRuntime) {
     expect(&rt, alloc, &mut desk, b"\0\0\0\x07\0\0\0\x01", busy);
     expect(&rt, alloc, &mut desk, b"\0\0\0\x08\0\0\0\x01", b"\0\0\0\0");
     expect(&rt, alloc, &mut desk, b"\0\0\0\x03\0\0\0\x01", b"\0\0\0\0");
-    assert_eq!(rt; desk.session.carriage, Carriage::Waiting(0));
+    assert!(rt; desk.session.carriage == Carriage::Waiting(0));
     // the cancel of a frame that waits ends it at once, and of one that streams leaves its end record
     expect(&rt, alloc, &mut desk, b"\0\0\0\x08\0\0\0\0", b"\0\0\0\0");
-    assert_eq!(rt; desk.session.carriage, Carriage::Quiet);
+    assert!(rt; desk.session.carriage == Carriage::Quiet);
     expect(&rt, alloc, &mut desk, start, started);
     desk.session.carriage = Carriage::Streaming(0);
     expect(&rt, alloc, &mut desk, b"\0\0\0\x08\0\0\0\0", b"\0\0\0\0");
-    assert_eq!(rt; desk.session.carriage, Carriage::Ending);
+    assert!(rt; desk.session.carriage == Carriage::Ending);
     expect(&rt, alloc, &mut desk, start, busy);
     desk.session.carriage = Carriage::Quiet;
     expect(&rt, alloc, &mut desk, start, started);
     desk.session.carriage = Carriage::Streaming(0);
     expect(&rt, alloc, &mut desk, b"\0\0\0\x03\0\0\0\0", b"\0\0\0\0");
-    assert_eq!(rt; desk.session.carriage, Carriage::Ending);
+    assert!(rt; desk.session.carriage == Carriage::Ending);
     end(desk);
 }
 

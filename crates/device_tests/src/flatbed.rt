@@ -1,7 +1,7 @@
 mod feeder;
 
-use flatbed_dev::Flatbed;
 use device_api::Device;
+use flatbed_dev::Flatbed;
 use option_desc::{Value, Words};
 use page_picture::{FailingPage, MemoryPage, Page, Source, read_page};
 use sane_fixed::{ByteOrder, Fixed, FrameFormat, Info, Params, Status, Text};
@@ -94,8 +94,8 @@ fn scans<D: Device>(rt: &impl Abort, alloc: Global, device: &mut D, want: &[u8])
     device.start(alloc).expect(rt, "a start");
     assert!(rt; !device.at_rest());
     let (got, _, status) = read_all(rt, alloc, device);
-    assert_eq!(rt; got.as_slice(), want);
-    assert_eq!(rt; status, Status::Eof);
+    assert!(rt; got.as_slice() == want);
+    assert!(rt; status == Status::Eof);
     assert!(rt; device.at_rest());
 }
 
@@ -103,21 +103,15 @@ fn scans<D: Device>(rt: &impl Abort, alloc: Global, device: &mut D, want: &[u8])
 fn what_it_is(rt: HostRuntime) {
     let alloc = rt.alloc();
     let flatbed = flatbed_on(&rt, alloc, b"P5\n1 1\n255\n\x00", 50);
-    assert_eq!(&rt; flatbed.info().name.as_bytes(), b"flatbed:0".as_slice());
-    assert_eq!(&rt; flatbed.info().vendor.as_bytes(), b"Virtual".as_slice());
-    assert_eq!(&rt; flatbed.info().model.as_bytes(), b"Flatbed".as_slice());
-    assert_eq!(&rt;
-        flatbed.info().class.as_bytes(),
-        b"flatbed scanner".as_slice()
-    );
-    assert_eq!(&rt; flatbed.order(), ByteOrder::Big);
+    assert!(&rt; flatbed.info().name.as_bytes() == b"flatbed:0".as_slice());
+    assert!(&rt; flatbed.info().vendor.as_bytes() == b"Virtual".as_slice());
+    assert!(&rt; flatbed.info().model.as_bytes() == b"Flatbed".as_slice());
+    assert!(&rt; flatbed.info().class.as_bytes() == b"flatbed scanner".as_slice());
+    assert!(&rt; flatbed.order() == ByteOrder::Big);
     assert!(&rt; flatbed.at_rest());
     let descriptors = flatbed.descriptors(alloc).expect(&rt, "descriptors");
-    assert_eq!(&rt; descriptors.len(), 15);
-    assert_eq!(&rt;
-        flatbed.get(alloc, 0).expect(&rt, "a count"),
-        Value::Int(15)
-    );
+    assert!(&rt; descriptors.len() == 15);
+    assert!(&rt; flatbed.get(alloc, 0).expect(&rt, "a count") == Value::Int(15));
 }
 
 /// A window of 80 by 100 mm at 50 dots per inch on a page of one black place.
@@ -125,22 +119,22 @@ fn what_it_is(rt: HostRuntime) {
 fn the_margin_is_white(rt: HostRuntime) {
     let alloc = rt.alloc();
     let mut flatbed = flatbed_on(&rt, alloc, b"P5\n1 1\n255\n\x00", 50);
-    assert_eq!(&rt;
-        flatbed.params(),
-        Params {
-            format: FrameFormat::Gray,
-            last_frame: true,
-            bytes_per_line: 157,
-            pixels_per_line: 157,
-            lines: Some(196),
-            depth: 8,
-        }
+    assert!(&rt;
+        flatbed.params()
+            == Params {
+                format: FrameFormat::Gray,
+                last_frame: true,
+                bytes_per_line: 157,
+                pixels_per_line: 157,
+                lines: Some(196),
+                depth: 8,
+            }
     );
     flatbed.start(alloc).expect(&rt, "a start");
     let (got, _, status) = read_all(&rt, alloc, &mut flatbed);
-    assert_eq!(&rt; status, Status::Eof);
-    assert_eq!(&rt; got.len(), 30772);
-    assert_eq!(&rt; got[0], 0);
+    assert!(&rt; status == Status::Eof);
+    assert!(&rt; got.len() == 30772);
+    assert!(&rt; got[0] == 0);
     assert!(&rt; got[1..].iter().all(|byte| *byte == 0xFF));
 }
 
@@ -165,13 +159,10 @@ fn lost_pixels_and_a_read_limit(rt: HostRuntime) {
     set(&rt, alloc, &mut flatbed, READ_LIMIT_SIZE, Value::Int(1));
     flatbed.start(alloc).expect(&rt, "a start");
     let told = flatbed.params();
-    assert_eq!(&rt; (told.pixels_per_line, told.bytes_per_line), (2, 15));
+    assert!(&rt; (told.pixels_per_line, told.bytes_per_line) == (2, 15));
     let (got, reads, status) = read_all(&rt, alloc, &mut flatbed);
-    assert_eq!(&rt;
-        got.as_slice(),
-        &[1, 2, 3, 4, 5, 6, 0, 0, 0, 0, 0, 0, 0, 0, 0][..]
-    );
-    assert_eq!(&rt; (reads, status), (15, Status::Eof));
+    assert!(&rt; got.as_slice() == &[1, 2, 3, 4, 5, 6, 0, 0, 0, 0, 0, 0, 0, 0, 0][..]);
+    assert!(&rt; (reads, status) == (15, Status::Eof));
 }
 
 /// A table of so many words, of which place i holds 255 - i.
@@ -190,17 +181,11 @@ fn gamma_tables(rt: HostRuntime) {
     set_window(&rt, alloc, &mut flatbed, 1, 1);
     let identity = flatbed.get(alloc, GAMMA_TABLE).expect(&rt, "a table");
     let short = Value::Words(Words::from_vec(inverted(&rt, alloc, 255)));
-    assert_eq!(&rt;
-        flatbed.set(alloc, GAMMA_TABLE, &short).err(),
-        Some(Status::Inval)
-    );
-    assert_eq!(&rt;
-        flatbed.get(alloc, GAMMA_TABLE).expect(&rt, "a table"),
-        identity
-    );
+    assert!(&rt; flatbed.set(alloc, GAMMA_TABLE, &short).err() == Some(Status::Inval));
+    assert!(&rt; flatbed.get(alloc, GAMMA_TABLE).expect(&rt, "a table") == identity);
     scans(&rt, alloc, &mut flatbed, &[0x0A]);
     let mut large = inverted(&rt, alloc, 256);
-    assert_eq!(&rt; large.len(), 256);
+    assert!(&rt; large.len() == 256);
     large[10] = 300;
     let (given, info) = set(
         &rt,
@@ -209,30 +194,24 @@ fn gamma_tables(rt: HostRuntime) {
         GAMMA_TABLE,
         Value::Words(Words::from_vec(large)),
     );
-    assert_eq!(&rt; info, Info(Info::INEXACT));
+    assert!(&rt; info == Info(Info::INEXACT));
     match given {
-        Value::Words(words) => assert_eq!(&rt; words.as_slice().get(10), Some(&255)),
+        Value::Words(words) => assert!(&rt; words.as_slice().get(10) == Some(&255)),
         _ => panic!(&rt; "no words"),
     }
     scans(&rt, alloc, &mut flatbed, &[0xFF]);
     let table = Value::Words(Words::from_vec(inverted(&rt, alloc, 256)));
     let (_, info) = flatbed.set(alloc, GAMMA_TABLE, &table).expect(&rt, "a set");
-    assert_eq!(&rt; info, Info(0));
+    assert!(&rt; info == Info(0));
     scans(&rt, alloc, &mut flatbed, &[0xF5]);
     // At depth 16 the option is inactive, and its words are kept.
     let (_, info) = set(&rt, alloc, &mut flatbed, DEPTH, Value::Int(16));
-    assert_eq!(&rt; info, Info(Info::RELOAD_OPTIONS + Info::RELOAD_PARAMS));
-    assert_eq!(&rt;
-        flatbed.set(alloc, GAMMA_TABLE, &table).err(),
-        Some(Status::Inval)
-    );
-    assert_eq!(&rt; flatbed.get(alloc, GAMMA_TABLE).err(), Some(Status::Inval));
+    assert!(&rt; info == Info(Info::RELOAD_OPTIONS + Info::RELOAD_PARAMS));
+    assert!(&rt; flatbed.set(alloc, GAMMA_TABLE, &table).err() == Some(Status::Inval));
+    assert!(&rt; flatbed.get(alloc, GAMMA_TABLE).err() == Some(Status::Inval));
     scans(&rt, alloc, &mut flatbed, &[0x0A, 0x0A]);
     set(&rt, alloc, &mut flatbed, DEPTH, Value::Int(8));
-    assert_eq!(&rt;
-        flatbed.get(alloc, GAMMA_TABLE).expect(&rt, "a table"),
-        table
-    );
+    assert!(&rt; flatbed.get(alloc, GAMMA_TABLE).expect(&rt, "a table") == table);
 }
 
 /// The channel's table has the entry for the gamma table's entry, in color at depth 8 alone.
@@ -246,15 +225,12 @@ fn a_table_per_channel(rt: HostRuntime) {
         halves.push(i / 2).expect(&rt, "memory");
     }
     let halves = Value::Words(Words::from_vec(halves));
-    assert_eq!(&rt;
-        flatbed.set(alloc, RED_GAMMA_TABLE, &halves).err(),
-        Some(Status::Inval)
-    );
+    assert!(&rt; flatbed.set(alloc, RED_GAMMA_TABLE, &halves).err() == Some(Status::Inval));
     let color = Value::Text(text(&rt, alloc, b"Color"));
     let (_, info) = set(&rt, alloc, &mut flatbed, MODE, color);
-    assert_eq!(&rt; info, Info(Info::RELOAD_OPTIONS + Info::RELOAD_PARAMS));
+    assert!(&rt; info == Info(Info::RELOAD_OPTIONS + Info::RELOAD_PARAMS));
     let (_, info) = set(&rt, alloc, &mut flatbed, RED_GAMMA_TABLE, halves);
-    assert_eq!(&rt; info, Info(0));
+    assert!(&rt; info == Info(0));
     scans(&rt, alloc, &mut flatbed, &[0x05, 0x0B, 0x0C]);
     let table = Value::Words(Words::from_vec(inverted(&rt, alloc, 256)));
     set(&rt, alloc, &mut flatbed, GAMMA_TABLE, table);
@@ -295,13 +271,10 @@ fn one_red_place(rt: HostRuntime) {
     set(&rt, alloc, &mut flatbed, DEPTH, Value::Int(1));
     scans(&rt, alloc, &mut flatbed, &[0x80]);
     set_text(&rt, alloc, &mut flatbed, MODE, b"Color");
-    assert_eq!(&rt; flatbed.start(alloc), Err(Status::Inval));
+    assert!(&rt; flatbed.start(alloc) == Err(Status::Inval));
     assert!(&rt; flatbed.at_rest());
     let told = flatbed.params();
-    assert_eq!(&rt;
-        (told.pixels_per_line, told.lines, told.bytes_per_line),
-        (0, Some(0), 0)
-    );
+    assert!(&rt; (told.pixels_per_line, told.lines, told.bytes_per_line) == (0, Some(0), 0));
     set(&rt, alloc, &mut flatbed, DEPTH, Value::Int(16));
     scans(&rt, alloc, &mut flatbed, &[0xFF, 0xFF, 0, 0, 0, 0]);
 }
@@ -322,10 +295,10 @@ fn what_the_first_read_answers(rt: HostRuntime) {
         );
         flatbed.start(alloc).expect(&rt, "a start");
         let (got, _, answered) = read_all(&rt, alloc, &mut flatbed);
-        assert_eq!(&rt; got.len(), 0);
-        assert_eq!(&rt; answered, status);
+        assert!(&rt; got.len() == 0);
+        assert!(&rt; answered == status);
         assert!(&rt; flatbed.at_rest());
-        assert_eq!(&rt; flatbed.read(&mut [0u8; 4]), Err(Status::Inval));
+        assert!(&rt; flatbed.read(&mut [0u8; 4]) == Err(Status::Inval));
     }
     set_text(&rt, alloc, &mut flatbed, READ_RETURN_VALUE, b"Default");
     scans(&rt, alloc, &mut flatbed, &[0x0A]);
@@ -338,37 +311,25 @@ fn while_a_frame_is_read(rt: HostRuntime) {
     set_window(&rt, alloc, &mut flatbed, 1, 2);
     let other = || page(&rt, alloc, b"P5\n1 1\n255\n\x55", 26);
     flatbed.start(alloc).expect(&rt, "a start");
-    assert_eq!(&rt; flatbed.start(alloc), Err(Status::DeviceBusy));
-    assert_eq!(&rt;
-        flatbed.set(alloc, DEPTH, &Value::Int(1)).err(),
-        Some(Status::DeviceBusy)
-    );
+    assert!(&rt; flatbed.start(alloc) == Err(Status::DeviceBusy));
+    assert!(&rt; flatbed.set(alloc, DEPTH, &Value::Int(1)).err() == Some(Status::DeviceBusy));
     // What refuses also on any flatbed at rest comes after the busy one.
-    assert_eq!(&rt;
-        flatbed.set(alloc, 99, &Value::Int(1)).err(),
-        Some(Status::DeviceBusy)
-    );
-    assert_eq!(&rt;
-        flatbed.get(alloc, DEPTH).expect(&rt, "a depth"),
-        Value::Int(8)
-    );
-    assert_eq!(&rt; flatbed.read(&mut [0u8; 4]), Ok(1));
+    assert!(&rt; flatbed.set(alloc, 99, &Value::Int(1)).err() == Some(Status::DeviceBusy));
+    assert!(&rt; flatbed.get(alloc, DEPTH).expect(&rt, "a depth") == Value::Int(8));
+    assert!(&rt; flatbed.read(&mut [0u8; 4]) == Ok(1));
     match flatbed.load(Source::Memory(MemoryPage::new(other()))) {
         Ok(()) => panic!(&rt; "a page loaded in mid-scan"),
         Err(Source::Memory(mut back)) => {
             let mut row = [0u16; 3];
             assert!(&rt; page_picture::PageSource::size(&back) == (1, 1));
-            assert_eq!(&rt;
-                page_picture::PageSource::next_row(&mut back, &mut row),
-                Ok(true)
-            );
-            assert_eq!(&rt; row, [0x5555, 0x5555, 0x5555]);
+            assert!(&rt; page_picture::PageSource::next_row(&mut back, &mut row) == Ok(true));
+            assert!(&rt; row == [0x5555, 0x5555, 0x5555]);
         }
         Err(_) => panic!(&rt; "another page"),
     }
     let (rest, _, status) = read_all(&rt, alloc, &mut flatbed);
-    assert_eq!(&rt; rest.as_slice(), &[9u8][..]);
-    assert_eq!(&rt; status, Status::Eof);
+    assert!(&rt; rest.as_slice() == &[9u8][..]);
+    assert!(&rt; status == Status::Eof);
     assert!(&rt;
         flatbed
             .load(Source::Memory(MemoryPage::new(other())))
@@ -383,23 +344,20 @@ fn cancel_and_reset(rt: HostRuntime) {
     let mut flatbed = flatbed_on(&rt, alloc, b"P5\n1 2\n255\n\x07\x09", 26);
     set_window(&rt, alloc, &mut flatbed, 1, 2);
     flatbed.cancel();
-    assert_eq!(&rt; flatbed.read(&mut [0u8; 4]), Err(Status::Inval));
+    assert!(&rt; flatbed.read(&mut [0u8; 4]) == Err(Status::Inval));
     flatbed.start(alloc).expect(&rt, "a start");
-    assert_eq!(&rt; flatbed.read(&mut [0u8; 4]), Ok(1));
+    assert!(&rt; flatbed.read(&mut [0u8; 4]) == Ok(1));
     flatbed.cancel();
     assert!(&rt; flatbed.at_rest());
-    assert_eq!(&rt; flatbed.read(&mut [0u8; 4]), Err(Status::Cancelled));
-    assert_eq!(&rt; flatbed.read(&mut [0u8; 4]), Err(Status::Cancelled));
+    assert!(&rt; flatbed.read(&mut [0u8; 4]) == Err(Status::Cancelled));
+    assert!(&rt; flatbed.read(&mut [0u8; 4]) == Err(Status::Cancelled));
     scans(&rt, alloc, &mut flatbed, &[7, 9]);
     flatbed.start(alloc).expect(&rt, "a start");
     flatbed.reset();
     assert!(&rt; flatbed.at_rest());
-    assert_eq!(&rt; flatbed.read(&mut [0u8; 4]), Err(Status::Inval));
-    assert_eq!(&rt;
-        flatbed.get(alloc, RESOLUTION).expect(&rt, "a resolution"),
-        Value::Int(50)
-    );
-    assert_eq!(&rt; flatbed.params().pixels_per_line, 157);
+    assert!(&rt; flatbed.read(&mut [0u8; 4]) == Err(Status::Inval));
+    assert!(&rt; flatbed.get(alloc, RESOLUTION).expect(&rt, "a resolution") == Value::Int(50));
+    assert!(&rt; flatbed.params().pixels_per_line == 157);
 }
 
 #[test]
@@ -408,38 +366,19 @@ fn the_nearest_admitted_value(rt: HostRuntime) {
     let mut flatbed = flatbed_on(&rt, alloc, b"P5\n1 1\n255\n\x00", 26);
     let inexact = Info(Info::INEXACT + Info::RELOAD_PARAMS);
     let half = Value::Fixed(Fixed(0x00508000));
-    assert_eq!(&rt;
-        set(&rt, alloc, &mut flatbed, BR_X, half),
-        (mm(81), inexact)
+    assert!(&rt; set(&rt, alloc, &mut flatbed, BR_X, half) == (mm(81), inexact));
+    assert!(&rt;
+        set(&rt, alloc, &mut flatbed, BR_X, mm(80)) == (mm(80), Info(Info::RELOAD_PARAMS))
     );
-    assert_eq!(&rt;
-        set(&rt, alloc, &mut flatbed, BR_X, mm(80)),
-        (mm(80), Info(Info::RELOAD_PARAMS))
+    assert!(&rt; set(&rt, alloc, &mut flatbed, BR_X, mm(250)) == (mm(200), inexact));
+    assert!(&rt; set(&rt, alloc, &mut flatbed, DEPTH, Value::Int(4)) == (Value::Int(1), inexact));
+    assert!(&rt; set(&rt, alloc, &mut flatbed, DEPTH, Value::Int(12)) == (Value::Int(8), inexact));
+    assert!(&rt;
+        set(&rt, alloc, &mut flatbed, READ_LIMIT_SIZE, Value::Int(0))
+            == (Value::Int(1), Info(Info::INEXACT))
     );
-    assert_eq!(&rt;
-        set(&rt, alloc, &mut flatbed, BR_X, mm(250)),
-        (mm(200), inexact)
-    );
-    assert_eq!(&rt;
-        set(&rt, alloc, &mut flatbed, DEPTH, Value::Int(4)),
-        (Value::Int(1), inexact)
-    );
-    assert_eq!(&rt;
-        set(&rt, alloc, &mut flatbed, DEPTH, Value::Int(12)),
-        (Value::Int(8), inexact)
-    );
-    assert_eq!(&rt;
-        set(&rt, alloc, &mut flatbed, READ_LIMIT_SIZE, Value::Int(0)),
-        (Value::Int(1), Info(Info::INEXACT))
-    );
-    assert_eq!(&rt;
-        flatbed.set(alloc, 15, &Value::Int(1)).err(),
-        Some(Status::Inval)
-    );
-    assert_eq!(&rt;
-        flatbed.set(alloc, 0, &Value::Int(1)).err(),
-        Some(Status::Inval)
-    );
+    assert!(&rt; flatbed.set(alloc, 15, &Value::Int(1)).err() == Some(Status::Inval));
+    assert!(&rt; flatbed.set(alloc, 0, &Value::Int(1)).err() == Some(Status::Inval));
 }
 
 /// A scan of two rows makes one rewind and two calls of `next_row`: its third call is the last that can fail.
@@ -451,7 +390,7 @@ fn a_source_fails_at_each_call(rt: HostRuntime) {
         let mut flatbed = flatbed(&rt, alloc, Source::Failing(failing));
         set_window(&rt, alloc, &mut flatbed, 1, 2);
         let started = flatbed.start(alloc);
-        assert_eq!(&rt; started, if n == 1 { Err(Status::IoError) } else { Ok(()) });
+        assert!(&rt; started == (if n == 1 { Err(Status::IoError) } else { Ok(()) }));
         if n > 1 {
             let (got, _, status) = read_all(&rt, alloc, &mut flatbed);
             let want: &[u8] = match n {
@@ -459,8 +398,8 @@ fn a_source_fails_at_each_call(rt: HostRuntime) {
                 3 => &[7],
                 _ => &[7, 9],
             };
-            assert_eq!(&rt; got.as_slice(), want);
-            assert_eq!(&rt; status, if n < 4 { Status::IoError } else { Status::Eof });
+            assert!(&rt; got.as_slice() == want);
+            assert!(&rt; status == (if n < 4 { Status::IoError } else { Status::Eof }));
         }
         assert!(&rt; flatbed.at_rest());
         if n < 4 {

@@ -1,13 +1,13 @@
 ghost use Rattle.std.specs.Prelude.{◌≡◌, ◌⊎◌};
 ghost use Rattle.scan_frames.specs.Frames.{IsSetup};
 
+use page_picture::{DeviceKind, FailingPage, MemoryPage, Mode, Page, PageSource, Scene, read_page};
+use sane_fixed::{ByteOrder, Fixed, FrameFormat, Params, Status};
 use scan_frames::{
     BeginFault, FrameRows, Packing, PassOrder, ReadEnd, Setup, a_frame_for_each_pass,
     frames_show_the_picture, gamma_entries_are_bytes, has_picture, last_pass, lines_end_in_zeros,
     packing_of, params,
 };
-use page_picture::{DeviceKind, FailingPage, MemoryPage, Mode, Page, PageSource, Scene, read_page};
-use sane_fixed::{ByteOrder, Fixed, FrameFormat, Params, Status};
 use std::alloc::Global;
 use std::process::Abort;
 
@@ -62,7 +62,7 @@ fn frame_bytes<S: PageSource>(
 {
     let mut frame = FrameRows::begin(alloc, source, setup, pass)?;
     assert!(rt; frame.is_new());
-    assert_eq!(rt; frame.pass(), pass);
+    assert!(rt; frame.pass() == pass);
     let mut out = Vec::new(alloc);
     let mut buf = [0u8; 7];
     for reads in 0..1000u32 {
@@ -83,8 +83,8 @@ fn shows(rt: &impl Abort, alloc: Global, setup: &Setup, text: &[u8], dpi: u32, w
 {
     let mut source = MemoryPage::new(page(rt, alloc, text, dpi));
     let (got, _, end) = frame_bytes(rt, alloc, &mut source, setup, 0).expect(rt, "a frame");
-    assert_eq!(rt; got.as_slice(), want);
-    assert_eq!(rt; end, ReadEnd::End);
+    assert!(rt; got.as_slice() == want);
+    assert!(rt; end == ReadEnd::End);
 }
 
 #[test]
@@ -142,11 +142,8 @@ fn lost_pixels_are_zero(rt: HostRuntime) {
     let (got, reads, end) = frame_bytes(&rt, rt.alloc(), &mut source, &lossy, 0).expect(
         &rt, "a frame",
     );
-    assert_eq!(&rt;
-        got.as_slice(),
-        &[1, 2, 3, 4, 5, 6, 0, 0, 0, 0, 0, 0, 0, 0, 0][..]
-    );
-    assert_eq!(&rt; (reads, end), (15, ReadEnd::End));
+    assert!(&rt; got.as_slice() == &[1, 2, 3, 4, 5, 6, 0, 0, 0, 0, 0, 0, 0, 0, 0][..]);
+    assert!(&rt; (reads, end) == (15, ReadEnd::End));
 }
 
 #[test]
@@ -158,14 +155,14 @@ fn reads_end_with_the_line(rt: HostRuntime) {
     let (got, reads, _) = frame_bytes(&rt, rt.alloc(), &mut source, &nine, 0).expect(
         &rt, "a frame",
     );
-    assert_eq!(&rt;
-        got.as_slice(),
-        &[
-            1, 2, 3, 4, 5, 6, 7, 8, 9, 17, 18, 19, 20, 21, 22, 23, 24, 25
-        ][..]
+    assert!(&rt;
+        got.as_slice()
+            == &[
+                1, 2, 3, 4, 5, 6, 7, 8, 9, 17, 18, 19, 20, 21, 22, 23, 24, 25
+            ][..]
     );
     // Seven and two bytes, twice.
-    assert_eq!(&rt; reads, 4);
+    assert!(&rt; reads == 4);
 }
 
 #[test]
@@ -211,20 +208,20 @@ fn passes_are(rt: &impl Abort, alloc: Global, passes: PassOrder, formats: [Frame
         passes,
         ..setup(DeviceKind::ThreePass, Mode::Color, 8, 2, 1)
     };
-    assert_eq!(rt; last_pass(&color), 2);
+    assert!(rt; last_pass(&color) == 2);
     for pass in 0..3u32 {
         let format = formats[pass as usize];
-        assert_eq!(rt; params(&source, &color, pass).format, format);
+        assert!(rt; params(&source, &color, pass).format == format);
         let want = match format {
             FrameFormat::Red => [1, 4],
             FrameFormat::Green => [2, 5],
             _ => [3, 6],
         };
         let told = params(&source, &color, pass);
-        assert_eq!(rt; (told.format, told.last_frame), (format, pass == 2));
-        assert_eq!(rt; (told.bytes_per_line, told.lines), (2, Some(1)));
+        assert!(rt; (told.format, told.last_frame) == (format, pass == 2));
+        assert!(rt; (told.bytes_per_line, told.lines) == (2, Some(1)));
         let (got, _, _) = frame_bytes(rt, alloc, &mut source, &color, pass).expect(rt, "a frame");
-        assert_eq!(rt; got.as_slice(), &want[..]);
+        assert!(rt; got.as_slice() == &want[..]);
     }
 }
 
@@ -247,20 +244,20 @@ fn a_hand_scanner_does_not_tell_its_lines(rt: HostRuntime) {
     let mut hand = setup(DeviceKind::Hand, Mode::Gray, 8, 1, 1);
     hand.scene.resolution = 75;
     // 110 mm are floor(110 * 75 / 25.4) pixels; of lines y with floor(y * 300 / 75) below 2 there is one.
-    assert_eq!(&rt;
-        params(&source, &hand, 0),
-        Params {
-            format: FrameFormat::Gray,
-            last_frame: true,
-            bytes_per_line: 324,
-            pixels_per_line: 324,
-            lines: None,
-            depth: 8,
-        }
+    assert!(&rt;
+        params(&source, &hand, 0)
+            == Params {
+                format: FrameFormat::Gray,
+                last_frame: true,
+                bytes_per_line: 324,
+                pixels_per_line: 324,
+                lines: None,
+                depth: 8,
+            }
     );
     let (got, _, _) = frame_bytes(&rt, alloc, &mut source, &hand, 0).expect(&rt, "a frame");
-    assert_eq!(&rt; got.len(), 324);
-    assert_eq!(&rt; (got[0], got[1], got[323]), (0, 255, 255));
+    assert!(&rt; got.len() == 324);
+    assert!(&rt; (got[0], got[1], got[323]) == (0, 255, 255));
 }
 
 #[test]
@@ -270,20 +267,20 @@ fn no_picture_has_no_frame(rt: HostRuntime) {
     let color_bits = setup(DeviceKind::Flatbed, Mode::Color, 1, 1, 1);
     assert!(&rt; !has_picture(&source, &color_bits));
     assert!(&rt; has_picture(&source, &setup(DeviceKind::Flatbed, Mode::Gray, 1, 1, 1)));
-    assert_eq!(&rt;
-        params(&source, &color_bits, 0),
-        Params {
-            format: FrameFormat::Rgb,
-            last_frame: true,
-            bytes_per_line: 0,
-            pixels_per_line: 0,
-            lines: Some(0),
-            depth: 1,
-        }
+    assert!(&rt;
+        params(&source, &color_bits, 0)
+            == Params {
+                format: FrameFormat::Rgb,
+                last_frame: true,
+                bytes_per_line: 0,
+                pixels_per_line: 0,
+                lines: Some(0),
+                depth: 1,
+            }
     );
     match frame_bytes(&rt, alloc, &mut source, &color_bits, 0) {
         Ok(_) => panic!(&rt; "a frame without a picture"),
-        Err(fault) => assert_eq!(&rt; fault, BeginFault::NoPicture),
+        Err(fault) => assert!(&rt; fault == BeginFault::NoPicture),
     }
 }
 
@@ -302,15 +299,15 @@ fn a_source_fails_at_each_call(rt: HostRuntime) {
         let mut source = FailingPage::new(page(&rt, alloc, b"P5\n1 2\n255\n\x07\x09", 26), n);
         match frame_bytes(&rt, alloc, &mut source, &two, 0) {
             Ok((got, _, why)) => {
-                assert_eq!(&rt; got.as_slice(), want);
-                assert_eq!(&rt; Ok(why), end);
+                assert!(&rt; got.as_slice() == want);
+                assert!(&rt; Ok(why) == end);
             }
-            Err(fault) => assert_eq!(&rt; Err(fault), end),
+            Err(fault) => assert!(&rt; Err(fault) == end),
         }
         // The next frame is whole, but for a failure that has not come yet.
         if n < 4 {
             let (got, _, _) = frame_bytes(&rt, alloc, &mut source, &two, 0).expect(&rt, "a frame");
-            assert_eq!(&rt; got.as_slice(), &[7, 9][..]);
+            assert!(&rt; got.as_slice() == &[7, 9][..]);
         }
     }
 }
@@ -328,26 +325,26 @@ fn no_row_after_the_last(rt: HostRuntime) {
     ] {
         let mut source = FailingPage::new(page(&rt, alloc, b"P5\n1 2\n255\n\x07\x09", 26), n);
         let (got, _, why) = frame_bytes(&rt, alloc, &mut source, &tall, 0).expect(&rt, "a frame");
-        assert_eq!(&rt; got.as_slice(), want);
-        assert_eq!(&rt; why, end);
-        assert_eq!(&rt; source.failures(), if end == ReadEnd::End { 0 } else { 1 });
+        assert!(&rt; got.as_slice() == want);
+        assert!(&rt; why == end);
+        assert!(&rt; source.failures() == (if end == ReadEnd::End { 0 } else { 1 }));
     }
 }
 
 #[test]
 fn samples_of_each_depth(rt: HostRuntime) {
-    assert_eq!(rt; packing_of(1), Packing::Bits);
-    assert_eq!(rt; packing_of(8), Packing::Bytes);
-    assert_eq!(rt; packing_of(16), Packing::Words);
+    assert!(rt; packing_of(1) == Packing::Bits);
+    assert!(rt; packing_of(8) == Packing::Bytes);
+    assert!(rt; packing_of(16) == Packing::Words);
 }
 
 #[test]
 fn refusals_as_statuses(rt: HostRuntime) {
-    assert_eq!(rt; Status::from(BeginFault::NoPicture), Status::Inval);
-    assert_eq!(rt; Status::from(BeginFault::SourceFailed), Status::IoError);
-    assert_eq!(rt; Status::from(BeginFault::NoMem), Status::NoMem);
-    assert_eq!(rt; Status::from(ReadEnd::End), Status::Eof);
-    assert_eq!(rt; Status::from(ReadEnd::SourceFailed), Status::IoError);
+    assert!(rt; Status::from(BeginFault::NoPicture) == Status::Inval);
+    assert!(rt; Status::from(BeginFault::SourceFailed) == Status::IoError);
+    assert!(rt; Status::from(BeginFault::NoMem) == Status::NoMem);
+    assert!(rt; Status::from(ReadEnd::End) == Status::Eof);
+    assert!(rt; Status::from(ReadEnd::SourceFailed) == Status::IoError);
 }
 
 #[test]

@@ -1,10 +1,10 @@
-use threepass_dev::ThreePass;
 use device_api::Device;
 use option_desc::{Value, Words};
 use page_picture::{MemoryPage, Source, read_page};
 use sane_fixed::{ByteOrder, Fixed, FrameFormat, Status, Text};
 use std::alloc::Global;
 use std::process::Abort;
+use threepass_dev::ThreePass;
 
 const MODE: u32 = 1;
 
@@ -76,13 +76,13 @@ fn expect_pass(
         _ => [0, 3, 1, 0],
     };
     scanner.start(alloc).expect(rt, "a start");
-    assert_eq!(rt; scanner.params().format, format);
-    assert_eq!(rt; scanner.params().last_frame, is_last);
+    assert!(rt; scanner.params().format == format);
+    assert!(rt; scanner.params().last_frame == is_last);
     let mut line = [0u8; 7];
-    assert_eq!(rt; scanner.read(&mut line), Ok(4));
-    assert_eq!(rt; &line[..4], &payload[..]);
-    assert_eq!(rt; scanner.read(&mut line), Err(Status::Eof));
-    assert_eq!(rt; scanner.at_rest(), is_last);
+    assert!(rt; scanner.read(&mut line) == Ok(4));
+    assert!(rt; &line[..4] == &payload[..]);
+    assert!(rt; scanner.read(&mut line) == Err(Status::Eof));
+    assert!(rt; scanner.at_rest() == is_last);
 }
 
 #[test]
@@ -116,7 +116,7 @@ fn nothing_changes_between_passes(rt: HostRuntime) {
         expect_pass(&rt, alloc, &mut scanner, format, is_last);
         if !is_last {
             let set = scanner.set(alloc, DEPTH, &Value::Int(8));
-            assert_eq!(rt; set.err(), Some(Status::DeviceBusy));
+            assert!(rt; set.err() == Some(Status::DeviceBusy));
             assert!(rt; scanner.load(page(&rt, alloc)).is_err());
         }
     }
@@ -144,7 +144,7 @@ fn a_table_per_channel(rt: HostRuntime) {
     // At depth 16 no channel has a table.
     let halves = table(&rt, alloc, false);
     let refused = scanner.set(alloc, RED_GAMMA_TABLE, &halves).err();
-    assert_eq!(rt; refused, Some(Status::Inval));
+    assert!(rt; refused == Some(Status::Inval));
     set(&rt, alloc, &mut scanner, DEPTH, Value::Int(8));
     set(&rt, alloc, &mut scanner, BR_X, Value::Fixed(Fixed(65536)));
     set(
@@ -158,9 +158,9 @@ fn a_table_per_channel(rt: HostRuntime) {
     for byte in [0x7A, 0xF4, 0xF3] {
         scanner.start(alloc).expect(&rt, "a start");
         let mut line = [0u8; 4];
-        assert_eq!(rt; scanner.read(&mut line), Ok(1));
-        assert_eq!(rt; line[0], byte);
-        assert_eq!(rt; scanner.read(&mut line), Err(Status::Eof));
+        assert!(rt; scanner.read(&mut line) == Ok(1));
+        assert!(rt; line[0] == byte);
+        assert!(rt; scanner.read(&mut line) == Err(Status::Eof));
     }
     assert!(rt; scanner.at_rest());
 }
@@ -169,16 +169,10 @@ fn a_table_per_channel(rt: HostRuntime) {
 fn gray_in_one_frame(rt: HostRuntime) {
     let alloc = rt.alloc();
     let scanner = three_pass(&rt, alloc);
-    assert_eq!(rt; scanner.info().model.as_bytes(), b"ThreePass".as_slice());
-    assert_eq!(rt;
-        scanner.info().class.as_bytes(),
-        b"flatbed scanner".as_slice()
-    );
-    assert_eq!(rt; scanner.params().format, FrameFormat::Gray);
+    assert!(rt; scanner.info().model.as_bytes() == b"ThreePass".as_slice());
+    assert!(rt; scanner.info().class.as_bytes() == b"flatbed scanner".as_slice());
+    assert!(rt; scanner.params().format == FrameFormat::Gray);
     assert!(rt; scanner.params().last_frame);
-    assert_eq!(rt;
-        scanner.get(alloc, THREE_PASS_ORDER).err(),
-        Some(Status::Inval)
-    );
-    assert_eq!(rt; scanner.get(alloc, 0).ok(), Some(Value::Int(13)));
+    assert!(rt; scanner.get(alloc, THREE_PASS_ORDER).err() == Some(Status::Inval));
+    assert!(rt; scanner.get(alloc, 0).ok() == Some(Value::Int(13)));
 }

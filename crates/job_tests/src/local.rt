@@ -2,9 +2,9 @@ mod batches;
 mod shapes;
 mod tasks;
 
-use local_job::{MOST_AGAIN, put, run_local};
 use device_api::Device;
 use flatbed_dev::Flatbed;
+use local_job::{MOST_AGAIN, put, run_local};
 use option_desc::Value;
 use page_picture::{FailingPage, MemoryPage, Source, read_page};
 use pnm_writer::read_pnm;
@@ -70,7 +70,7 @@ fn done(rt: &impl Abort, outcome: Outcome) -> Reports {
 /// The job ended with this status, for this reason.
 fn ends(rt: &impl Abort, outcome: &Outcome, status: Status, why: Why) {
     match outcome {
-        Outcome::Ended(got, because) => assert_eq!(rt; (*got, *because), (status, why)),
+        Outcome::Ended(got, because) => assert!(rt; (*got, *because) == (status, why)),
         Outcome::Running => panic!(rt; "not over"),
         Outcome::Done(_) => panic!(rt; "done"),
     }
@@ -92,9 +92,9 @@ fn scans(
         &mut file,
     );
     let reports = done(rt, outcome);
-    assert_eq!(rt; file.as_slice(), want);
+    assert!(rt; file.as_slice() == want);
     assert!(rt; device.at_rest());
-    assert_eq!(rt; reports.settings.as_slice().len(), settings.len());
+    assert!(rt; reports.settings.as_slice().len() == settings.len());
     assert!(rt; reports.devices.as_slice().is_empty());
     assert!(rt; reports.options.as_slice().is_empty());
     reports
@@ -135,7 +135,7 @@ fn sets(
         &job(rt, alloc, settings, Task::SetOnly),
         &mut file,
     );
-    assert_eq!(rt; file.len(), 0);
+    assert!(rt; file.len() == 0);
     assert!(rt; device.at_rest());
     done(rt, outcome)
 }
@@ -152,25 +152,16 @@ fn resolution(rt: &impl Abort, alloc: Global, device: &Flatbed) -> Value {
 fn two_rows(rt: HostRuntime) {
     let alloc = rt.alloc();
     let mut device = flatbed_on(&rt, alloc, TWO_ROWS, 26);
-    assert_eq!(&rt; TWO_ROWS_FILE.len(), 33);
+    assert!(&rt; TWO_ROWS_FILE.len() == 33);
     let reports = scans(&rt, alloc, &mut device, ONE_BY_TWO, TWO_ROWS_FILE);
     let first = report_of(&rt, &reports, 0);
-    assert_eq!(&rt; first.name.as_bytes(), b"resolution".as_slice());
-    assert_eq!(&rt; first.asked, Value::Int(26));
-    assert_eq!(&rt; first.given, Value::Int(26));
-    assert_eq!(&rt; first.info, Info(Info::RELOAD_PARAMS));
-    assert_eq!(&rt;
-        report_of(&rt, &reports, 1).name.as_bytes(),
-        b"br-x".as_slice()
-    );
-    assert_eq!(&rt;
-        report_of(&rt, &reports, 2).name.as_bytes(),
-        b"br-y".as_slice()
-    );
-    assert_eq!(&rt;
-        report_of(&rt, &reports, 2).given,
-        Value::Fixed(Fixed(131072))
-    );
+    assert!(&rt; first.name.as_bytes() == b"resolution".as_slice());
+    assert!(&rt; first.asked == Value::Int(26));
+    assert!(&rt; first.given == Value::Int(26));
+    assert!(&rt; first.info == Info(Info::RELOAD_PARAMS));
+    assert!(&rt; report_of(&rt, &reports, 1).name.as_bytes() == b"br-x".as_slice());
+    assert!(&rt; report_of(&rt, &reports, 2).name.as_bytes() == b"br-y".as_slice());
+    assert!(&rt; report_of(&rt, &reports, 2).given == Value::Fixed(Fixed(131072)));
 }
 
 #[test]
@@ -268,19 +259,19 @@ fn a_rounded_value(rt: HostRuntime) {
     let mut device = flatbed_on(&rt, alloc, TWO_ROWS, 26);
     let settings: &[(&[u8], &[u8])] = &[(b"br-x", b"80.5"), (b"br-x", b"80"), (b"br-x", b"250")];
     let reports = sets(&rt, alloc, &mut device, settings);
-    assert_eq!(&rt; reports.settings.as_slice().len(), 3);
+    assert!(&rt; reports.settings.as_slice().len() == 3);
     let half = report_of(&rt, &reports, 0);
-    assert_eq!(&rt; half.asked, Value::Fixed(Fixed(0x00508000)));
-    assert_eq!(&rt; half.given, Value::Fixed(Fixed(0x00510000)));
-    assert_eq!(&rt; half.info, Info(Info::INEXACT + Info::RELOAD_PARAMS));
+    assert!(&rt; half.asked == Value::Fixed(Fixed(0x00508000)));
+    assert!(&rt; half.given == Value::Fixed(Fixed(0x00510000)));
+    assert!(&rt; half.info == Info(Info::INEXACT + Info::RELOAD_PARAMS));
     let whole = report_of(&rt, &reports, 1);
-    assert_eq!(&rt; whole.asked, Value::Fixed(Fixed(0x00500000)));
-    assert_eq!(&rt; whole.given, Value::Fixed(Fixed(0x00500000)));
-    assert_eq!(&rt; whole.info, Info(Info::RELOAD_PARAMS));
+    assert!(&rt; whole.asked == Value::Fixed(Fixed(0x00500000)));
+    assert!(&rt; whole.given == Value::Fixed(Fixed(0x00500000)));
+    assert!(&rt; whole.info == Info(Info::RELOAD_PARAMS));
     let far = report_of(&rt, &reports, 2);
-    assert_eq!(&rt; far.asked, Value::Fixed(Fixed(0x00FA0000)));
-    assert_eq!(&rt; far.given, Value::Fixed(Fixed(0x00C80000)));
-    assert_eq!(&rt; far.info, Info(Info::INEXACT + Info::RELOAD_PARAMS));
+    assert!(&rt; far.asked == Value::Fixed(Fixed(0x00FA0000)));
+    assert!(&rt; far.given == Value::Fixed(Fixed(0x00C80000)));
+    assert!(&rt; far.info == Info(Info::INEXACT + Info::RELOAD_PARAMS));
 }
 
 #[test]
@@ -289,17 +280,17 @@ fn settings_are_kept_for_their_own_job(rt: HostRuntime) {
     let mut device = flatbed_on(&rt, alloc, b"P5\n1 1\n255\n\x00", 50);
     let settings: &[(&[u8], &[u8])] = &[(b"resolution", b"100")];
     sets(&rt, alloc, &mut device, settings);
-    assert_eq!(&rt; resolution(&rt, alloc, &device), Value::Int(100));
+    assert!(&rt; resolution(&rt, alloc, &device) == Value::Int(100));
     // The second job sees 80 by 100 mm at 50 dots per inch.
     let mut file = Vec::new(alloc);
     let second = job(&rt, alloc, &[], Task::Scan);
     done(&rt, run_local(alloc, &mut device, &second, &mut file));
-    assert_eq!(&rt; resolution(&rt, alloc, &device), Value::Int(50));
+    assert!(&rt; resolution(&rt, alloc, &device) == Value::Int(50));
     let (head, raster) = file.as_slice().split_at(file.len().min(35));
-    assert_eq!(&rt; head, b"P5\n# SANE data follows\n157 196\n255\n".as_slice());
-    assert_eq!(&rt; raster.len(), 30_772);
-    assert_eq!(&rt; raster.first(), Some(&0));
-    assert_eq!(&rt; raster.iter().filter(|b| **b == 255).count(), 30_771);
+    assert!(&rt; head == b"P5\n# SANE data follows\n157 196\n255\n".as_slice());
+    assert!(&rt; raster.len() == 30_772);
+    assert!(&rt; raster.first() == Some(&0));
+    assert!(&rt; raster.iter().filter(|b| **b == 255).count() == 30_771);
 }
 
 #[test]
@@ -344,7 +335,7 @@ fn settings_that_end_the_job(rt: HostRuntime) {
         (b"resolution", b"200"),
     ];
     scan_ends(&rt, alloc, &mut device, last, Status::Inval, Why::Setting);
-    assert_eq!(&rt; resolution(&rt, alloc, &device), Value::Int(100));
+    assert!(&rt; resolution(&rt, alloc, &device) == Value::Int(100));
 }
 
 /// The text of a table of so many words, of which place i holds 255 - i.
@@ -400,7 +391,7 @@ fn no_picture(rt: HostRuntime) {
     let scan = job(&rt, alloc, settings, Task::Scan);
     let outcome = run_local(alloc, &mut device, &scan, &mut file);
     ends(&rt, &outcome, Status::Inval, Why::Answer);
-    assert_eq!(&rt; file.len(), 0);
+    assert!(&rt; file.len() == 0);
 }
 
 /// A job of so many settings of resolution 26.
@@ -419,11 +410,11 @@ fn a_job_of_too_many_settings(rt: HostRuntime) {
     let mut device = flatbed_on(&rt, alloc, TWO_ROWS, 26);
     let mut file = Vec::new(alloc);
     let most = run_local(alloc, &mut device, &job_of(&rt, alloc, 64), &mut file);
-    assert_eq!(&rt; done(&rt, most).settings.as_slice().len(), 64);
+    assert!(&rt; done(&rt, most).settings.as_slice().len() == 64);
     let more = run_local(alloc, &mut device, &job_of(&rt, alloc, 65), &mut file);
     ends(&rt, &more, Status::Inval, Why::Setting);
     // None of its settings was put.
-    assert_eq!(&rt; resolution(&rt, alloc, &device), Value::Int(50));
+    assert!(&rt; resolution(&rt, alloc, &device) == Value::Int(50));
 }
 
 #[test]
@@ -452,7 +443,7 @@ fn a_job_with_a_long_text(rt: HostRuntime) {
     ends(&rt, &outcome, Status::Inval, Why::Setting);
     let named: &[(&[u8], &[u8])] = &[(b"resolution", b"26"), (&long, b"26")];
     scan_ends(&rt, alloc, &mut device, named, Status::Inval, Why::Setting);
-    assert_eq!(&rt; resolution(&rt, alloc, &device), Value::Int(50));
+    assert!(&rt; resolution(&rt, alloc, &device) == Value::Int(50));
 }
 
 /// Its first call is the rewind, and the next two give the rows: the third fails in mid-frame.
@@ -538,7 +529,7 @@ fn an_output_that_is_interrupted(rt: HostRuntime) {
     let mut out = disk_with(alloc, 33, 3, true);
     let scan = job(&rt, alloc, ONE_BY_TWO, Task::Scan);
     done(&rt, run_local(alloc, &mut device, &scan, &mut out));
-    assert_eq!(&rt; out.taken.as_slice(), TWO_ROWS_FILE);
+    assert!(&rt; out.taken.as_slice() == TWO_ROWS_FILE);
     // Settings alone write nothing, so that nothing fails.
     let mut out = disk_with(alloc, 0, 0, true);
     let job = job(&rt, alloc, ONE_BY_TWO, Task::SetOnly);
@@ -551,11 +542,11 @@ fn bytes_put(rt: HostRuntime) {
     let mut out = disk_with(alloc, 12, 2, true);
     let mut again = 2;
     assert!(&rt; put(&mut out, b"twelve bytes", &mut again));
-    assert_eq!(&rt; out.taken.as_slice(), b"twelve bytes".as_slice());
-    assert_eq!(&rt; again, 0);
+    assert!(&rt; out.taken.as_slice() == b"twelve bytes".as_slice());
+    assert!(&rt; again == 0);
     assert!(&rt; put(&mut out, b"", &mut again));
     assert!(&rt; !put(&mut out, b"more", &mut again));
-    assert_eq!(&rt; out.taken.len(), 12);
+    assert!(&rt; out.taken.len() == 12);
 }
 
 /// Interrupted writes are counted over all that is put.
@@ -565,9 +556,9 @@ fn interrupted_too_often(rt: HostRuntime) {
     let mut again = 3;
     for (interrupts, takes) in [(2, true), (1, true), (1, false), (0, true)] {
         let mut out = disk_with(alloc, 4, interrupts, true);
-        assert_eq!(&rt; put(&mut out, b"four", &mut again), takes);
+        assert!(&rt; put(&mut out, b"four", &mut again) == takes);
     }
-    assert_eq!(&rt; MOST_AGAIN, 1_099_511_627_776);
+    assert!(&rt; MOST_AGAIN == 1_099_511_627_776);
 }
 
 /// In a box it is the same scanner.
@@ -581,5 +572,5 @@ fn boxed(rt: HostRuntime) {
     let mut file = Vec::new(alloc);
     let scan = job(&rt, alloc, ONE_BY_TWO, Task::Scan);
     done(&rt, run_local(alloc, &mut *device, &scan, &mut file));
-    assert_eq!(&rt; file.as_slice(), TWO_ROWS_FILE);
+    assert!(&rt; file.as_slice() == TWO_ROWS_FILE);
 }

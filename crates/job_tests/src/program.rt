@@ -13,6 +13,6 @@ fn texts(rt: &impl Abort, alloc: Global, words: &[&[u8]]) -> Result<Vec<Text>, F
         let text = Text::new(alloc, word)?;
         texts.push(text)?;
     }
-    assert_eq!(rt; texts.len(), words.len());
+    assert!(rt; texts.len() == words.len());
     Ok(texts)
 }

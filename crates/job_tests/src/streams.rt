@@ -171,8 +171,8 @@ fn streams(rt: &impl Abort, alloc: Global, data: &[&[u8]]) -> Frames {
 fn ends(rt: &impl Abort, outcome: &Outcome, status: Status, why: Why) {
     match outcome {
         Outcome::Ended(s, w) => {
-            assert_eq!(rt; *s, status);
-            assert_eq!(rt; *w, why);
+            assert!(rt; *s == status);
+            assert!(rt; *w == why);
         }
         _ => assert!(rt; false),
     }
@@ -215,15 +215,15 @@ fn a_scan_over_streams(rt: HostRuntime) {
     let alloc = rt.alloc();
     let (outcome, asked, file) = scan(&rt, alloc, &[DATA], usize::MAX, usize::MAX, usize::MAX);
     done(&rt, &outcome);
-    assert_eq!(&rt; asked.as_slice(), ASKED);
-    assert_eq!(&rt; file.as_slice(), FILE);
+    assert!(&rt; asked.as_slice() == ASKED);
+    assert!(&rt; file.as_slice() == FILE);
     let mut control = peer(&rt, alloc, &[], 0);
     let mut dial = streams(&rt, alloc, &[]);
     let mut out = Vec::new(alloc);
     let batch = job(&rt, alloc, Task::Batch(1));
     let refused = run_job(alloc, batch, &mut control, &mut dial, &mut out);
     ends(&rt, &refused, Status::Inval, Why::Setting);
-    assert_eq!(&rt; control.calls, 0u64);
+    assert!(&rt; control.calls == 0u64);
 }
 
 /// Replies, requests and data that end after each byte, and no data connection at all.
@@ -237,7 +237,7 @@ fn streams_that_end(rt: HostRuntime) {
     }
     for asked in 0..ASKED.len() {
         let (outcome, sent, file) = scan(&rt, alloc, &[DATA], usize::MAX, asked, usize::MAX);
-        assert_eq!(&rt; sent.as_slice(), ASKED.get(..asked).unwrap_or(&[]));
+        assert!(&rt; sent.as_slice() == ASKED.get(..asked).unwrap_or(&[]));
         if asked < ASKED.len().saturating_sub(12) {
             ends(&rt, &outcome, Status::IoError, Why::Lost);
             assert!(&rt; file.len() < 32);
@@ -262,7 +262,7 @@ fn outputs_that_fail(rt: HostRuntime) {
     for most in 0..32usize {
         let (outcome, _, file) = scan(&rt, alloc, &[DATA], usize::MAX, usize::MAX, most);
         ends(&rt, &outcome, Status::IoError, Why::Sink);
-        assert_eq!(&rt; file.as_slice(), FILE.get(..most).unwrap_or(&[]));
+        assert!(&rt; file.as_slice() == FILE.get(..most).unwrap_or(&[]));
     }
 }
 
@@ -307,9 +307,9 @@ fn batches_over_streams(rt: HostRuntime) {
     for (count, files) in [(16, 2usize), (2, 2), (1, 1)] {
         let mut rack = outputs(alloc, usize::MAX, 0, 0);
         done(&rt, &feed(&rt, alloc, &mut rack, count));
-        assert_eq!(&rt; rack.files.len(), files);
+        assert!(&rt; rack.files.len() == files);
         for (file, page) in rack.files.iter().zip(pages) {
-            assert_eq!(&rt; file.as_slice(), page);
+            assert!(&rt; file.as_slice() == page);
         }
     }
     // An output that cannot be made, that fails, and that is not taken back.
@@ -328,7 +328,7 @@ fn batches_over_streams(rt: HostRuntime) {
             Status::IoError,
             Why::Sink,
         );
-        assert_eq!(&rt; rack.files.len(), files);
+        assert!(&rt; rack.files.len() == files);
     }
     let mut rack = outputs(alloc, usize::MAX, 0, 0);
     ends(

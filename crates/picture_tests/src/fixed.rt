@@ -28,7 +28,7 @@ fn decimal_texts(rt: HostRuntime) {
         (b"000000001".as_slice(), Some(Fixed(65536))),
         (b"0000000001".as_slice(), None),
     ] {
-        assert_eq!(rt; Fixed::parse(text), word, "at {text:?}");
+        assert!(rt; Fixed::parse(text) == word);
     }
 }
 
@@ -47,11 +47,7 @@ fn exact_decimals(rt: HostRuntime) -> Result<(), NoMem> {
         (i32::MAX, b"32767.9999847412109375".as_slice()),
         (i32::MIN, b"-32768".as_slice()),
     ] {
-        assert_eq!(rt;
-            Fixed(word).to_text(rt.alloc())?.as_bytes(),
-            text,
-            "at {word}"
-        );
+        assert!(rt; Fixed(word).to_text(rt.alloc())?.as_bytes() == text);
     }
     Ok(())
 }
@@ -59,34 +55,34 @@ fn exact_decimals(rt: HostRuntime) -> Result<(), NoMem> {
 #[test]
 fn dots_of_lengths(rt: HostRuntime) {
     // The default window of a flatbed, 80 by 100 mm, at 50 dots per inch.
-    assert_eq!(rt; px(Fixed(80 * 65536), 50), 157);
-    assert_eq!(rt; px(Fixed(100 * 65536), 50), 196);
+    assert!(rt; px(Fixed(80 * 65536), 50) == 157);
+    assert!(rt; px(Fixed(100 * 65536), 50) == 196);
     // The width of a hand scanner, 110 mm, at 75 dots per inch.
-    assert_eq!(rt; px(Fixed(110 * 65536), 75), 324);
+    assert!(rt; px(Fixed(110 * 65536), 75) == 324);
     // One dot needs 26 dots per inch at 1 mm: 25 give none.
-    assert_eq!(rt; px(Fixed(65536), 26), 1);
-    assert_eq!(rt; px(Fixed(65536), 25), 0);
-    assert_eq!(rt; px(Fixed(-65536), 1200), 0);
-    assert_eq!(rt; px_between(Fixed(65536), Fixed(3 * 65536), 26), 2);
-    assert_eq!(rt; px_between(Fixed(i32::MAX), Fixed(i32::MIN), 1200), 0);
-    assert_eq!(rt; px_between(Fixed(i32::MIN), Fixed(i32::MAX), 1200), 3096188);
+    assert!(rt; px(Fixed(65536), 26) == 1);
+    assert!(rt; px(Fixed(65536), 25) == 0);
+    assert!(rt; px(Fixed(-65536), 1200) == 0);
+    assert!(rt; px_between(Fixed(65536), Fixed(3 * 65536), 26) == 2);
+    assert!(rt; px_between(Fixed(i32::MAX), Fixed(i32::MIN), 1200) == 0);
+    assert!(rt; px_between(Fixed(i32::MIN), Fixed(i32::MAX), 1200) == 3096188);
 }
 
 #[test]
 fn texts(rt: HostRuntime) -> Result<(), Fail> {
     let text = Text::new(rt.alloc(), b"flatbed:0")?;
-    assert_eq!(rt; text.as_bytes(), b"flatbed:0".as_slice());
+    assert!(rt; text.as_bytes() == b"flatbed:0".as_slice());
     let empty = Text::new(rt.alloc(), b"")?;
     assert!(rt; empty.as_bytes().is_empty());
-    assert_eq!(rt; Text::new(rt.alloc(), b"a\0b").err(), Some(TextFault::Nul));
+    assert!(rt; Text::new(rt.alloc(), b"a\0b").err() == Some(TextFault::Nul));
     let joined = Text::from_vec(b"a b".to_vec(rt.alloc())?);
-    assert_eq!(rt;
+    assert!(rt;
         joined
             .ok()
             .map(|text| text.into_vec())
             .ok_or("text")?
-            .as_slice(),
-        b"a b".as_slice()
+            .as_slice()
+            == b"a b".as_slice()
     );
     assert!(rt; Text::from_vec(b"a\0b".to_vec(rt.alloc())?).is_err());
     let copy = text.try_clone(rt.alloc())?;
@@ -98,39 +94,30 @@ fn texts(rt: HostRuntime) -> Result<(), Fail> {
 #[test]
 fn statuses(rt: HostRuntime) {
     for code in 0..12 {
-        assert_eq!(rt; Status::from_code(code).map(|s| s.code()), Some(code));
+        assert!(rt; Status::from_code(code).map(|s| s.code()) == Some(code));
     }
-    assert_eq!(rt; Status::from_code(12), None);
-    assert_eq!(rt;
-        Status::from_code(4).map(|s| s.name()),
-        Some("SANE_STATUS_INVAL")
-    );
-    assert_eq!(rt; Status::AccessDenied.name(), "SANE_STATUS_ACCESS_DENIED");
+    assert!(rt; Status::from_code(12) == None);
+    assert!(rt; Status::from_code(4).map(|s| s.name()) == Some("SANE_STATUS_INVAL"));
+    assert!(rt; Status::AccessDenied.name() == "SANE_STATUS_ACCESS_DENIED");
 }
 
 #[test]
 fn kinds_and_units(rt: HostRuntime) {
     for code in 0..6 {
-        assert_eq!(rt; Kind::from_code(code).map(|kind| kind.code()), Some(code));
+        assert!(rt; Kind::from_code(code).map(|kind| kind.code()) == Some(code));
     }
-    assert_eq!(rt; Kind::from_code(6), None);
-    assert_eq!(rt; Kind::from_code(3), Some(Kind::String));
+    assert!(rt; Kind::from_code(6) == None);
+    assert!(rt; Kind::from_code(3) == Some(Kind::String));
     for code in 0..7 {
-        assert_eq!(rt;
-            Unit::from_code(code).map(|measure| measure.code()),
-            Some(code)
-        );
+        assert!(rt; Unit::from_code(code).map(|measure| measure.code()) == Some(code));
     }
-    assert_eq!(rt; Unit::from_code(7), None);
-    assert_eq!(rt; Unit::from_code(4), Some(Unit::Dpi));
+    assert!(rt; Unit::from_code(7) == None);
+    assert!(rt; Unit::from_code(4) == Some(Unit::Dpi));
     for code in 0..5 {
-        assert_eq!(rt;
-            FrameFormat::from_code(code).map(|format| format.code()),
-            Some(code)
-        );
+        assert!(rt; FrameFormat::from_code(code).map(|format| format.code()) == Some(code));
     }
-    assert_eq!(rt; FrameFormat::from_code(5), None);
-    assert_eq!(rt; FrameFormat::from_code(2), Some(FrameFormat::Red));
+    assert!(rt; FrameFormat::from_code(5) == None);
+    assert!(rt; FrameFormat::from_code(2) == Some(FrameFormat::Red));
     let all = Cap::SOFT_SELECT
         | Cap::HARD_SELECT
         | Cap::SOFT_DETECT
@@ -138,8 +125,8 @@ fn kinds_and_units(rt: HostRuntime) {
         | Cap::AUTOMATIC
         | Cap::INACTIVE
         | Cap::ADVANCED;
-    assert_eq!(rt; all, 127);
-    assert_eq!(rt; Cap::SOFT_SELECT | Cap::SOFT_DETECT | Cap::INACTIVE, 37);
-    assert_eq!(rt; Info::INEXACT | Info::RELOAD_PARAMS, 5);
-    assert_eq!(rt; Info::RELOAD_OPTIONS, 2);
+    assert!(rt; all == 127);
+    assert!(rt; (Cap::SOFT_SELECT | Cap::SOFT_DETECT | Cap::INACTIVE) == 37);
+    assert!(rt; (Info::INEXACT | Info::RELOAD_PARAMS) == 5);
+    assert!(rt; Info::RELOAD_OPTIONS == 2);
 }

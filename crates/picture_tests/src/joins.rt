@@ -64,17 +64,17 @@ fn frames_in_pieces(rt: HostRuntime) -> Result<(), Fail> {
         // Two colors and three lost pixels.
         let colors = told(FrameFormat::Rgb, 8, 15, 2, 1);
         let file = file_of(rt.alloc(), &colors, ByteOrder::Little, lost, piece)?;
-        assert_eq!(rt;
-            file.as_slice(),
-            b"P6\n# SANE data follows\n2 1\n255\n\x01\x02\x03\x04\x05\x06".as_slice()
+        assert!(rt;
+            file.as_slice()
+                == b"P6\n# SANE data follows\n2 1\n255\n\x01\x02\x03\x04\x05\x06".as_slice()
         );
         // Two colors of sixteen bits in both byte orders.
         let wide = told(FrameFormat::Rgb, 16, 12, 2, 1);
         for (order, payload) in [(ByteOrder::Big, big), (ByteOrder::Little, little)] {
             let file = file_of(rt.alloc(), &wide, order, payload, piece)?;
-            assert_eq!(rt;
-                file.as_slice(),
-                b"P6\n# SANE data follows\n2 1\n65535\n\0\x01\0\x02\0\x03\0\x04\0\x05\x01\0".as_slice()
+            assert!(rt;
+                file.as_slice()
+                    == b"P6\n# SANE data follows\n2 1\n65535\n\0\x01\0\x02\0\x03\0\x04\0\x05\x01\0".as_slice()
             );
         }
         // Nine bits a row: two bytes of the file, where the frame has three; filled with zeros.
@@ -86,9 +86,8 @@ fn frames_in_pieces(rt: HostRuntime) -> Result<(), Fail> {
             b"\x80\xFF\xFF\x41\x7F\0",
             piece,
         )?;
-        assert_eq!(rt;
-            file.as_slice(),
-            b"P4\n# SANE data follows\n9 2\n\x80\x80\x41\x00".as_slice()
+        assert!(rt;
+            file.as_slice() == b"P4\n# SANE data follows\n9 2\n\x80\x80\x41\x00".as_slice()
         );
     }
     Ok(())
@@ -100,7 +99,7 @@ fn last_row_waits_for_the_end(rt: HostRuntime) -> Result<(), Fail> {
     let mut out = PnmOut::new();
     let mut file = Vec::new(rt.alloc());
     pull_all(&mut out, &mut join, &mut file)?;
-    assert_eq!(rt; file.len(), 0);
+    assert!(rt; file.len() == 0);
     join.begin(
         rt.alloc(),
         &told(FrameFormat::Gray, 8, 1, 1, 2),
@@ -108,20 +107,17 @@ fn last_row_waits_for_the_end(rt: HostRuntime) -> Result<(), Fail> {
     );
     join.feed(b"\x07");
     pull_all(&mut out, &mut join, &mut file)?;
-    assert_eq!(rt; file.len(), 32);
+    assert!(rt; file.len() == 32);
     join.feed(b"\x09");
     pull_all(&mut out, &mut join, &mut file)?;
-    assert_eq!(rt; file.len(), 32);
-    assert_eq!(rt; join.end(), Ok(true));
+    assert!(rt; file.len() == 32);
+    assert!(rt; join.end() == Ok(true));
     // What comes after the whole picture changes nothing.
     join.feed(b"\x0B");
-    assert_eq!(rt; join.end(), Ok(true));
-    assert_eq!(rt; join.fault(), None);
+    assert!(rt; join.end() == Ok(true));
+    assert!(rt; join.fault() == None);
     pull_all(&mut out, &mut join, &mut file)?;
-    assert_eq!(rt;
-        file.as_slice(),
-        b"P5\n# SANE data follows\n1 2\n255\n\x07\x09".as_slice()
-    );
+    assert!(rt; file.as_slice() == b"P5\n# SANE data follows\n1 2\n255\n\x07\x09".as_slice());
     Ok(())
 }
 
@@ -133,24 +129,24 @@ fn faults_of_frames(rt: HostRuntime) {
     let mut long = FrameJoin::new(rt.alloc());
     long.begin(rt.alloc(), &colors, ByteOrder::Big);
     long.feed(b"\x01\x02\x03\x04\x05\x06\x07");
-    assert_eq!(rt; long.fault(), Some(JoinFault::Long));
-    assert_eq!(rt; out.pull(&mut long, &mut buf), 0);
+    assert!(rt; long.fault() == Some(JoinFault::Long));
+    assert!(rt; out.pull(&mut long, &mut buf) == 0);
     // The first fault stands for good.
     long.begin(rt.alloc(), &colors, ByteOrder::Big);
-    assert_eq!(rt; long.end(), Err(JoinFault::Long));
+    assert!(rt; long.end() == Err(JoinFault::Long));
     let mut short = FrameJoin::new(rt.alloc());
     short.begin(rt.alloc(), &colors, ByteOrder::Big);
     short.feed(b"\x01\x02\x03\x04\x05");
-    assert_eq!(rt; short.end(), Err(JoinFault::Short));
-    assert_eq!(rt; short.fault(), Some(JoinFault::Short));
+    assert!(rt; short.end() == Err(JoinFault::Short));
+    assert!(rt; short.fault() == Some(JoinFault::Short));
     let mut again = FrameJoin::new(rt.alloc());
     again.begin(rt.alloc(), &colors, ByteOrder::Big);
     again.begin(rt.alloc(), &colors, ByteOrder::Big);
-    assert_eq!(rt; again.fault(), Some(JoinFault::Shape));
+    assert!(rt; again.fault() == Some(JoinFault::Shape));
     let mut idle = FrameJoin::new(rt.alloc());
     idle.feed(b"\x01");
-    assert_eq!(rt; idle.end(), Ok(false));
-    assert_eq!(rt; idle.fault(), None);
+    assert!(rt; idle.end() == Ok(false));
+    assert!(rt; idle.fault() == None);
 }
 
 #[test]
@@ -172,8 +168,8 @@ fn shapes_refused(rt: HostRuntime) {
     ] {
         let mut join = FrameJoin::new(rt.alloc());
         join.begin(rt.alloc(), &params, ByteOrder::Big);
-        assert_eq!(rt; join.fault(), Some(JoinFault::Shape));
-        assert_eq!(rt; join.end(), Err(JoinFault::Shape));
+        assert!(rt; join.fault() == Some(JoinFault::Shape));
+        assert!(rt; join.end() == Err(JoinFault::Shape));
     }
     for params in [
         told(FrameFormat::Gray, 8, 1_048_576, 1, 65536),
@@ -182,6 +178,6 @@ fn shapes_refused(rt: HostRuntime) {
     ] {
         let mut join = FrameJoin::new(rt.alloc());
         join.begin(rt.alloc(), &params, ByteOrder::Big);
-        assert_eq!(rt; join.fault(), None);
+        assert!(rt; join.fault() == None);
     }
 }

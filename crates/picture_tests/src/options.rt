@@ -1,5 +1,5 @@
-use option_desc::{Constraint, Descriptor, Value, Words, fits, put, read_text, show_text};
 use constraint::{Range, StringList, WordList};
+use option_desc::{Constraint, Descriptor, Value, Words, fits, put, read_text, show_text};
 use sane_fixed::{Cap, Fixed, Kind, Status, Text, Unit};
 use std::alloc::Global;
 use std::test::Fail;
@@ -61,7 +61,7 @@ fn bottom_right_in_whole_millimetres(rt: HostRuntime) -> Result<(), Fail> {
         let value = put(rt.alloc(), &desc, &Value::Fixed(Fixed(asked)))
             .ok()
             .ok_or("a value")?;
-        assert_eq!(rt; value, (Value::Fixed(Fixed(given)), differs), "at {asked}");
+        assert!(rt; value == (Value::Fixed(Fixed(given)), differs));
     }
     Ok(())
 }
@@ -80,7 +80,7 @@ fn resolutions_and_depths(rt: HostRuntime) -> Result<(), Fail> {
         let value = put(rt.alloc(), desc, &Value::Int(asked))
             .ok()
             .ok_or("a value")?;
-        assert_eq!(rt; value, (Value::Int(given), differs), "at {asked}");
+        assert!(rt; value == (Value::Int(given), differs));
     }
     Ok(())
 }
@@ -91,12 +91,12 @@ fn modes(rt: HostRuntime) -> Result<(), Fail> {
     let gray = Text::new(rt.alloc(), b"Gray")?;
     let begun = Value::Text(Text::new(rt.alloc(), b"gr")?);
     let given = put(rt.alloc(), &desc, &begun).ok().ok_or("a value")?;
-    assert_eq!(rt; given, (Value::Text(gray.try_clone(rt.alloc())?), true));
+    assert!(rt; given == (Value::Text(gray.try_clone(rt.alloc())?), true));
     let whole = Value::Text(gray.try_clone(rt.alloc())?);
     let kept = put(rt.alloc(), &desc, &whole).ok().ok_or("a value")?;
-    assert_eq!(rt; kept, (Value::Text(gray), false));
+    assert!(rt; kept == (Value::Text(gray), false));
     let other = Value::Text(Text::new(rt.alloc(), b"SANE")?);
-    assert_eq!(rt; put(rt.alloc(), &desc, &other).err(), Some(Status::Inval));
+    assert!(rt; put(rt.alloc(), &desc, &other).err() == Some(Status::Inval));
     Ok(())
 }
 
@@ -104,7 +104,7 @@ fn modes(rt: HostRuntime) -> Result<(), Fail> {
 fn a_table_with_one_word_too_large(rt: HostRuntime) -> Result<(), Fail> {
     let desc = table(rt.alloc(), 1024)?;
     let mut words = vec![in rt.alloc(); 7; 256]?;
-    assert_eq!(rt; words.len(), 256);
+    assert!(rt; words.len() == 256);
     words[3] = 300;
     let asked = Value::Words(Words::from_vec(words));
     let given = put(rt.alloc(), &desc, &asked).ok().ok_or("a value")?;
@@ -112,12 +112,12 @@ fn a_table_with_one_word_too_large(rt: HostRuntime) -> Result<(), Fail> {
     let Value::Words(given) = given.0 else {
         return Err("words")?;
     };
-    assert_eq!(rt; given.as_slice().get(3), Some(&255));
-    assert_eq!(rt; given.as_slice().get(2), Some(&7));
+    assert!(rt; given.as_slice().get(3) == Some(&255));
+    assert!(rt; given.as_slice().get(2) == Some(&7));
     // 255 words do not fit.
     let few = Value::Words(Words::from_vec(vec![in rt.alloc(); 7; 255]?));
     assert!(rt; !fits(&desc, &few));
-    assert_eq!(rt; put(rt.alloc(), &desc, &few).err(), Some(Status::Inval));
+    assert!(rt; put(rt.alloc(), &desc, &few).err() == Some(Status::Inval));
     Ok(())
 }
 
@@ -163,7 +163,7 @@ fn a_range_binds_no_flag(rt: HostRuntime) -> Result<(), Fail> {
     let kept = put(rt.alloc(), &bound, &Value::Flag(false))
         .ok()
         .ok_or("a value")?;
-    assert_eq!(rt; kept, (Value::Flag(false), false));
+    assert!(rt; kept == (Value::Flag(false), false));
     Ok(())
 }
 
@@ -177,17 +177,10 @@ fn texts_of_flags(rt: HostRuntime) -> Result<(), Fail> {
         (b"".as_slice(), None),
     ] {
         let read = read_text(rt.alloc(), &flag, text);
-        assert_eq!(rt;
-            read.ok(),
-            value.map(|flag| Value::Flag(flag)),
-            "at {text:?}"
-        );
+        assert!(rt; read.ok() == value.map(|flag| Value::Flag(flag)));
     }
     let group = option(rt.alloc(), Kind::Group, 0, Constraint::Free)?;
-    assert_eq!(rt;
-        read_text(rt.alloc(), &group, b"yes").err(),
-        Some(Status::Inval)
-    );
+    assert!(rt; read_text(rt.alloc(), &group, b"yes").err() == Some(Status::Inval));
     Ok(())
 }
 
@@ -206,15 +199,11 @@ fn texts_of_integers(rt: HostRuntime) -> Result<(), Fail> {
         (b"+1".as_slice(), None),
     ] {
         let read = read_text(rt.alloc(), &number, text);
-        assert_eq!(rt;
-            read.ok(),
-            value.map(|word| Value::Int(word)),
-            "at {text:?}"
-        );
+        assert!(rt; read.ok() == value.map(|word| Value::Int(word)));
     }
     let fixed = option(rt.alloc(), Kind::Fixed, 4, Constraint::Free)?;
     let length = read_text(rt.alloc(), &fixed, b"80.5");
-    assert_eq!(rt; length.ok(), Some(Value::Fixed(Fixed(0x0050_8000))));
+    assert!(rt; length.ok() == Some(Value::Fixed(Fixed(0x0050_8000))));
     Ok(())
 }
 
@@ -225,12 +214,9 @@ fn texts_of_vectors(rt: HostRuntime) -> Result<(), Fail> {
         .ok()
         .ok_or("words")?;
     assert!(rt; fits(&table, &words));
-    assert_eq!(rt;
-        show_text(rt.alloc(), &table, &words)?.as_bytes(),
-        b"1,-20,300".as_slice()
-    );
+    assert!(rt; show_text(rt.alloc(), &table, &words)?.as_bytes() == b"1,-20,300".as_slice());
     let three = Words::from_vec(vec![in rt.alloc(); 1, -20, 300]?);
-    assert_eq!(rt; words, Value::Words(three));
+    assert!(rt; words == Value::Words(three));
     // How many words there are is a matter of what fits.
     let two = read_text(rt.alloc(), &table, b"1,2").ok().ok_or("words")?;
     assert!(rt; !fits(&table, &two));
@@ -240,11 +226,7 @@ fn texts_of_vectors(rt: HostRuntime) -> Result<(), Fail> {
         b"1,2,".as_slice(),
         b"1, 2".as_slice(),
     ] {
-        assert_eq!(rt;
-            read_text(rt.alloc(), &table, text).err(),
-            Some(Status::Inval),
-            "at {text:?}"
-        );
+        assert!(rt; read_text(rt.alloc(), &table, text).err() == Some(Status::Inval));
     }
     Ok(())
 }
@@ -256,17 +238,11 @@ fn texts_of_lengths_and_strings(rt: HostRuntime) -> Result<(), Fail> {
         .ok()
         .ok_or("words")?;
     let shown = show_text(rt.alloc(), &lengths, &pair)?;
-    assert_eq!(rt; shown.as_bytes(), b"0.600006103515625,-1".as_slice());
+    assert!(rt; shown.as_bytes() == b"0.600006103515625,-1".as_slice());
     let mode = mode(rt.alloc())?;
     let gray = read_text(rt.alloc(), &mode, b"gr").ok().ok_or("a text")?;
-    assert_eq!(rt;
-        show_text(rt.alloc(), &mode, &gray)?.as_bytes(),
-        b"gr".as_slice()
-    );
-    assert_eq!(rt;
-        read_text(rt.alloc(), &mode, b"a\0b").err(),
-        Some(Status::Inval)
-    );
+    assert!(rt; show_text(rt.alloc(), &mode, &gray)?.as_bytes() == b"gr".as_slice());
+    assert!(rt; read_text(rt.alloc(), &mode, b"a\0b").err() == Some(Status::Inval));
     Ok(())
 }
 
@@ -279,20 +255,11 @@ fn shown_values(rt: HostRuntime) -> Result<(), Fail> {
         (81 * MM, b"81".as_slice()),
     ] {
         let shown = show_text(rt.alloc(), &desc, &Value::Fixed(Fixed(word)))?;
-        assert_eq!(rt; shown.as_bytes(), text);
+        assert!(rt; shown.as_bytes() == text);
     }
-    assert_eq!(rt;
-        show_text(rt.alloc(), &desc, &Value::Int(-150))?.as_bytes(),
-        b"-150".as_slice()
-    );
-    assert_eq!(rt;
-        show_text(rt.alloc(), &flag, &Value::Flag(true))?.as_bytes(),
-        b"yes".as_slice()
-    );
-    assert_eq!(rt;
-        show_text(rt.alloc(), &flag, &Value::Flag(false))?.as_bytes(),
-        b"no".as_slice()
-    );
+    assert!(rt; show_text(rt.alloc(), &desc, &Value::Int(-150))?.as_bytes() == b"-150".as_slice());
+    assert!(rt; show_text(rt.alloc(), &flag, &Value::Flag(true))?.as_bytes() == b"yes".as_slice());
+    assert!(rt; show_text(rt.alloc(), &flag, &Value::Flag(false))?.as_bytes() == b"no".as_slice());
     Ok(())
 }
 
@@ -301,12 +268,12 @@ fn copies(rt: HostRuntime) -> Result<(), Fail> {
     let desc = mode(rt.alloc())?;
     let copy = desc.try_clone(rt.alloc())?;
     assert!(rt; copy.name == desc.name && copy.title == desc.title && copy.about == desc.about);
-    assert_eq!(rt; copy.size, 6);
+    assert!(rt; copy.size == 6);
     let Constraint::Strings(list) = &copy.constraint else {
         return Err("a list")?;
     };
-    assert_eq!(rt; list.match_string(b"Color"), Some((1, false)));
+    assert!(rt; list.match_string(b"Color") == Some((1, false)));
     let value = Value::Words(Words::from_vec(vec![in rt.alloc(); 4, 5]?));
-    assert_eq!(rt; value.try_clone(rt.alloc())?, value);
+    assert!(rt; value.try_clone(rt.alloc())? == value);
     Ok(())
 }

@@ -78,17 +78,17 @@ fn rows_of_page_files(rt: HostRuntime) -> Result<(), Fail> {
         ),
     ] {
         let mut page = opened(&rt, rt.alloc(), text);
-        assert_eq!(rt; page.size(), (2, 2));
-        assert_eq!(rt; page.dpi(), 50);
-        assert_eq!(rt; both_rows(&mut page)?, rows);
+        assert!(rt; page.size() == (2, 2));
+        assert!(rt; page.dpi() == 50);
+        assert!(rt; both_rows(&mut page)? == rows);
         page.rewind()?;
-        assert_eq!(rt; page.size(), (2, 2));
-        assert_eq!(rt; both_rows(&mut page)?, rows, "a second time");
-        assert_eq!(rt; page.failures(), 0);
+        assert!(rt; page.size() == (2, 2));
+        assert!(rt; both_rows(&mut page)? == rows);
+        assert!(rt; page.failures() == 0);
         let whole = read_page(rt.alloc(), text, 50)?;
-        assert_eq!(rt; (whole.width(), whole.height()), (2, 2));
-        assert_eq!(rt; whole.row(0), rows.0.as_slice());
-        assert_eq!(rt; whole.row(1), rows.1.as_slice());
+        assert!(rt; (whole.width(), whole.height()) == (2, 2));
+        assert!(rt; whole.row(0) == rows.0.as_slice());
+        assert!(rt; whole.row(1) == rows.1.as_slice());
     }
     Ok(())
 }
@@ -132,11 +132,11 @@ fn refused_files(rt: HostRuntime) {
         let Err((refused, _)) = PnmPage::open(rt.alloc(), Cursor::new(text), dpi) else {
             panic!(rt; "{text:?} is opened");
         };
-        assert_eq!(rt; refused, OpenFault::Page(fault), "at {text:?}");
+        assert!(rt; refused == OpenFault::Page(fault));
         let Err(refused) = read_page(rt.alloc(), text, dpi) else {
             panic!(rt; "{text:?} is read");
         };
-        assert_eq!(rt; refused, fault, "at {text:?}");
+        assert!(rt; refused == fault);
     }
 }
 
@@ -148,22 +148,22 @@ fn a_file_cut_short(rt: HostRuntime) -> Result<(), Fail> {
         Err((fault, _)) => panic!(rt; "{fault:?}"),
     };
     let mut source = Source::Pnm(page);
-    assert_eq!(rt; source.size(), (2, 2));
-    assert_eq!(rt; both_rows(&mut source)?, GRAY_ROWS);
+    assert!(rt; source.size() == (2, 2));
+    assert!(rt; both_rows(&mut source)? == GRAY_ROWS);
     fs::write(&rt, "page.pgm", b"P5\n2 2\n255\n\x00\xff\x33".as_slice())?;
     source.rewind()?;
-    assert_eq!(rt; source.size(), (2, 2));
+    assert!(rt; source.size() == (2, 2));
     assert!(rt; both_rows(&mut source).is_err());
-    assert_eq!(rt; source.failures(), 1);
-    assert_eq!(rt; source.size(), (2, 2));
+    assert!(rt; source.failures() == 1);
+    assert!(rt; source.size() == (2, 2));
     // The rows are lost until a rewind.
     fs::write(&rt, "page.pgm", GRAYS)?;
     assert!(rt; both_rows(&mut source).is_err());
-    assert_eq!(rt; source.failures(), 2);
+    assert!(rt; source.failures() == 2);
     source.rewind()?;
-    assert_eq!(rt; source.size(), (2, 2));
-    assert_eq!(rt; both_rows(&mut source)?, GRAY_ROWS);
-    assert_eq!(rt; source.failures(), 2);
+    assert!(rt; source.size() == (2, 2));
+    assert!(rt; both_rows(&mut source)? == GRAY_ROWS);
+    assert!(rt; source.failures() == 2);
     Ok(())
 }
 
@@ -228,25 +228,25 @@ fn place_of_failure(
     };
     let mut page = match PnmPage::open(alloc, reader, 50) {
         Err((fault, _)) => {
-            assert_eq!(rt; fault, OpenFault::Device, "at call {fails_at}");
+            assert!(rt; fault == OpenFault::Device);
             return Ok(0);
         }
         Ok(page) => page,
     };
-    assert_eq!(rt; page.size(), (2, 2));
+    assert!(rt; page.size() == (2, 2));
     let mut place = 3;
     if both_rows(&mut page).is_err() {
         place = 1;
     }
     if page.rewind().is_err() {
         place = 2;
-        assert_eq!(rt; page.size(), (2, 2));
+        assert!(rt; page.size() == (2, 2));
         assert!(rt; both_rows(&mut page).is_err(), "the rows are lost");
         page.rewind()?;
     }
-    assert_eq!(rt; page.failures(), [1, 1, 2, 0][place], "at call {fails_at}");
-    assert_eq!(rt; page.size(), (2, 2));
-    assert_eq!(rt; both_rows(&mut page)?, GRAY_ROWS, "at call {fails_at}");
+    assert!(rt; page.failures() == [1, 1, 2, 0][place]);
+    assert!(rt; page.size() == (2, 2));
+    assert!(rt; both_rows(&mut page)? == GRAY_ROWS);
     Ok(place)
 }
 
@@ -262,7 +262,7 @@ fn each_call_of_the_reader_fails_in_turn(rt: HostRuntime) -> Result<(), Fail> {
         }
         // Opening: to the start, four reads of the header, to the raster, two reads for its rows (two bytes each), one
         // at its end, and to the raster again. Then a read for each row, and a rewind.
-        assert_eq!(rt; places, [10, 2, 1, 0]);
+        assert!(rt; places == [10, 2, 1, 0]);
     }
     Ok(())
 }
@@ -290,16 +290,16 @@ fn many_reads(rt: HostRuntime) -> Result<(), Fail> {
             Ok(page) => page,
             Err((fault, _)) => panic!(&rt; "{fault:?} at {columns} x {rows}"),
         };
-        assert_eq!(rt; page.size(), (columns, rows));
+        assert!(rt; page.size() == (columns, rows));
         let mut row = vec![in rt.alloc(); 0u16; 3 * page.size().0 as usize]?;
         for _ in 0..rows {
-            assert_eq!(rt; row.len(), 3 * page.size().0 as usize);
-            assert_eq!(rt; page.next_row(&mut row)?, true);
+            assert!(rt; row.len() == (3 * page.size().0 as usize));
+            assert!(rt; page.next_row(&mut row)? == true);
             assert!(rt; row.iter().all(|sample| *sample == 7 * 257));
         }
-        assert_eq!(rt; row.len(), 3 * page.size().0 as usize);
-        assert_eq!(rt; page.next_row(&mut row)?, false);
-        assert_eq!(rt; page.failures(), 0);
+        assert!(rt; row.len() == (3 * page.size().0 as usize));
+        assert!(rt; page.next_row(&mut row)? == false);
+        assert!(rt; page.failures() == 0);
     }
     Ok(())
 }
@@ -311,34 +311,30 @@ fn a_page_that_fails_once(rt: HostRuntime) -> Result<(), Fail> {
         // Two passes of a rewind and two rows.
         let mut calls = 0u32;
         for _ in 0..2 {
-            assert_eq!(rt; source.size(), (2, 2));
+            assert!(rt; source.size() == (2, 2));
             let mut row = [0u16; 6];
             if source.rewind().is_err() {
                 break;
             }
             calls = calls.saturating_add(1);
-            assert_eq!(rt; source.size(), (2, 2));
+            assert!(rt; source.size() == (2, 2));
             if source.next_row(&mut row).is_err() {
                 break;
             }
             calls = calls.saturating_add(1);
-            assert_eq!(rt; row, GRAY_ROWS.0);
-            assert_eq!(rt; source.size(), (2, 2));
+            assert!(rt; row == GRAY_ROWS.0);
+            assert!(rt; source.size() == (2, 2));
             if source.next_row(&mut row).is_err() {
                 break;
             }
             calls = calls.saturating_add(1);
-            assert_eq!(rt; row, GRAY_ROWS.1);
+            assert!(rt; row == GRAY_ROWS.1);
         }
-        assert_eq!(rt; calls, given, "at {n}");
-        assert_eq!(rt; source.failures(), u64::from(given < 6));
+        assert!(rt; calls == given);
+        assert!(rt; source.failures() == u64::from(given < 6));
         source.rewind()?;
-        assert_eq!(rt; source.size(), (2, 2));
-        assert_eq!(rt;
-            both_rows(&mut source)?,
-            GRAY_ROWS,
-            "after the fault at {n}"
-        );
+        assert!(rt; source.size() == (2, 2));
+        assert!(rt; both_rows(&mut source)? == GRAY_ROWS);
     }
     Ok(())
 }
@@ -347,13 +343,13 @@ fn a_page_that_fails_once(rt: HostRuntime) -> Result<(), Fail> {
 fn a_page_in_memory(rt: HostRuntime) -> Result<(), Fail> {
     let page: Page = read_page(rt.alloc(), GRAYS, 50)?;
     let mut source = Source::Memory(MemoryPage::new(page));
-    assert_eq!(rt; source.size(), (2, 2));
-    assert_eq!(rt; source.dpi(), 50);
-    assert_eq!(rt; both_rows(&mut source)?, GRAY_ROWS);
+    assert!(rt; source.size() == (2, 2));
+    assert!(rt; source.dpi() == 50);
+    assert!(rt; both_rows(&mut source)? == GRAY_ROWS);
     source.rewind()?;
-    assert_eq!(rt; source.size(), (2, 2));
-    assert_eq!(rt; both_rows(&mut source)?, GRAY_ROWS);
-    assert_eq!(rt; source.failures(), 0);
+    assert!(rt; source.size() == (2, 2));
+    assert!(rt; both_rows(&mut source)? == GRAY_ROWS);
+    assert!(rt; source.failures() == 0);
     Ok(())
 }
 
@@ -388,9 +384,9 @@ fn columns_of_windows(rt: HostRuntime) -> Result<(), Fail> {
     ] {
         let scene = window(26, left * 65536, right * 65536);
         let map = ColumnMap::new(rt.alloc(), &scene, width, dpi)?;
-        assert_eq!(rt; map.places().len(), 4);
+        assert!(rt; map.places().len() == 4);
         let seen = [map.at(0), map.at(1), map.at(2), map.at(3)];
-        assert_eq!(rt; seen, columns);
+        assert!(rt; seen == columns);
     }
     Ok(())
 }

@@ -1,7 +1,7 @@
 ghost use Rattle.std.specs.Prelude.{◌≡◌, ◌<◌, pos, ◌≤ℤ◌};
 
-use pnm_writer::{PlainFault, PnmFault, Samples, read_pnm, scan_plain};
 use page_picture::{DeviceKind, Mode, Scene, read_page};
+use pnm_writer::{PlainFault, PnmFault, Samples, read_pnm, scan_plain};
 use sane_fixed::Fixed;
 use std::test::Fail;
 
@@ -43,10 +43,10 @@ fn white_margin_beyond_the_page(rt: HostRuntime) -> Result<(), Fail> {
         &scene(Mode::Gray, 8, 50, mm(80), mm(100)),
     )?;
     let (head, raster) = file.as_slice().split_at(file.len().min(35));
-    assert_eq!(rt; head, b"P5\n# SANE data follows\n157 196\n255\n".as_slice());
-    assert_eq!(rt; raster.len(), 30_772);
-    assert_eq!(rt; raster.first(), Some(&0));
-    assert_eq!(rt; raster.iter().filter(|b| **b == 255).count(), 30_771);
+    assert!(rt; head == b"P5\n# SANE data follows\n157 196\n255\n".as_slice());
+    assert!(rt; raster.len() == 30_772);
+    assert!(rt; raster.first() == Some(&0));
+    assert!(rt; raster.iter().filter(|b| **b == 255).count() == 30_771);
     Ok(())
 }
 
@@ -54,15 +54,9 @@ fn white_margin_beyond_the_page(rt: HostRuntime) -> Result<(), Fail> {
 fn page_half_seen(rt: HostRuntime) -> Result<(), Fail> {
     let page = read_page(rt.alloc(), b"P5\n1 1\n255\n\x00", 26)?;
     let gray = scan_plain(rt.alloc(), &page, &scene(Mode::Gray, 8, 26, mm(2), mm(1)))?;
-    assert_eq!(rt;
-        gray.as_slice(),
-        b"P5\n# SANE data follows\n2 1\n255\n\x00\xFF".as_slice()
-    );
+    assert!(rt; gray.as_slice() == b"P5\n# SANE data follows\n2 1\n255\n\x00\xFF".as_slice());
     let bits = scan_plain(rt.alloc(), &page, &scene(Mode::Gray, 1, 26, mm(2), mm(1)))?;
-    assert_eq!(rt;
-        bits.as_slice(),
-        b"P4\n# SANE data follows\n2 1\n\x80".as_slice()
-    );
+    assert!(rt; bits.as_slice() == b"P4\n# SANE data follows\n2 1\n\x80".as_slice());
     Ok(())
 }
 
@@ -73,10 +67,7 @@ fn window_from_its_origin(rt: HostRuntime) -> Result<(), Fail> {
     let mut window = scene(Mode::Gray, 8, 26, mm(3), mm(1));
     window.tl_x = mm(1);
     let file = scan_plain(rt.alloc(), &page, &window)?;
-    assert_eq!(rt;
-        file.as_slice(),
-        b"P5\n# SANE data follows\n2 1\n255\n\x02\x03".as_slice()
-    );
+    assert!(rt; file.as_slice() == b"P5\n# SANE data follows\n2 1\n255\n\x02\x03".as_slice());
     Ok(())
 }
 
@@ -84,27 +75,15 @@ fn window_from_its_origin(rt: HostRuntime) -> Result<(), Fail> {
 fn red_in_every_mode(rt: HostRuntime) -> Result<(), Fail> {
     let page = read_page(rt.alloc(), b"P6\n1 1\n255\n\xFF\x00\x00", 26)?;
     let gray = scan_plain(rt.alloc(), &page, &scene(Mode::Gray, 8, 26, mm(1), mm(1)))?;
-    assert_eq!(rt;
-        gray.as_slice(),
-        b"P5\n# SANE data follows\n1 1\n255\n\x4C".as_slice()
-    );
+    assert!(rt; gray.as_slice() == b"P5\n# SANE data follows\n1 1\n255\n\x4C".as_slice());
     let wide = scan_plain(rt.alloc(), &page, &scene(Mode::Gray, 16, 26, mm(1), mm(1)))?;
-    assert_eq!(rt;
-        wide.as_slice(),
-        b"P5\n# SANE data follows\n1 1\n65535\n\x4C\x8A".as_slice()
-    );
+    assert!(rt; wide.as_slice() == b"P5\n# SANE data follows\n1 1\n65535\n\x4C\x8A".as_slice());
     let bits = scan_plain(rt.alloc(), &page, &scene(Mode::Gray, 1, 26, mm(1), mm(1)))?;
-    assert_eq!(rt;
-        bits.as_slice(),
-        b"P4\n# SANE data follows\n1 1\n\x80".as_slice()
-    );
+    assert!(rt; bits.as_slice() == b"P4\n# SANE data follows\n1 1\n\x80".as_slice());
     let color = scan_plain(rt.alloc(), &page, &scene(Mode::Color, 8, 26, mm(1), mm(1)))?;
-    assert_eq!(rt;
-        color.as_slice(),
-        b"P6\n# SANE data follows\n1 1\n255\n\xFF\x00\x00".as_slice()
-    );
+    assert!(rt; color.as_slice() == b"P6\n# SANE data follows\n1 1\n255\n\xFF\x00\x00".as_slice());
     let none = scan_plain(rt.alloc(), &page, &scene(Mode::Color, 1, 26, mm(1), mm(1)));
-    assert_eq!(rt; none.err(), Some(PlainFault::NoPicture));
+    assert!(rt; none.err() == Some(PlainFault::NoPicture));
     Ok(())
 }
 
@@ -150,47 +129,35 @@ fn refused_texts(rt: HostRuntime) {
             PnmFault::Trailing,
         ),
     ] {
-        assert_eq!(rt; read_pnm(rt.alloc(), text).err(), Some(fault));
+        assert!(rt; read_pnm(rt.alloc(), text).err() == Some(fault));
     }
-    assert_eq!(rt; PnmFault::BadMagic as u32, 1);
-    assert_eq!(rt; PnmFault::NoMem as u32, 7);
+    assert!(rt; (PnmFault::BadMagic as u32) == 1);
+    assert!(rt; (PnmFault::NoMem as u32) == 7);
 }
 
 #[test]
 fn pictures_read(rt: HostRuntime) -> Result<(), Fail> {
     // Nine bits a row: two bytes, filled with bits that are no part of the picture.
     let bits = read_pnm(rt.alloc(), b"P4\n9 2\n\x80\xFF\x41\x7F")?;
-    assert_eq!(rt;
-        (bits.width, bits.height, bits.channels, bits.maxval),
-        (9, 2, 1, 1)
-    );
-    assert_eq!(rt;
-        bits.samples.into_vec().as_slice(),
-        [1, 0, 0, 0, 0, 0, 0, 0, 1, 0, 1, 0, 0, 0, 0, 0, 1, 0].as_slice()
+    assert!(rt; (bits.width, bits.height, bits.channels, bits.maxval) == (9, 2, 1, 1));
+    assert!(rt;
+        bits.samples.into_vec().as_slice()
+            == [1, 0, 0, 0, 0, 0, 0, 0, 1, 0, 1, 0, 0, 0, 0, 0, 1, 0].as_slice()
     );
     let colors = read_pnm(
         rt.alloc(),
         b"P6\n3 1\n7\n\x01\x02\x03\x04\x05\x06\x07\x00\x01",
     )?;
-    assert_eq!(rt;
-        (colors.width, colors.height, colors.channels, colors.maxval),
-        (3, 1, 3, 7)
-    );
-    assert_eq!(rt;
-        colors.samples.as_slice(),
-        [1, 2, 3, 4, 5, 6, 7, 0, 1].as_slice()
-    );
+    assert!(rt; (colors.width, colors.height, colors.channels, colors.maxval) == (3, 1, 3, 7));
+    assert!(rt; colors.samples.as_slice() == [1, 2, 3, 4, 5, 6, 7, 0, 1].as_slice());
     // A comment in every gap, and samples of two bytes.
     let wide = read_pnm(
         rt.alloc(),
         b"P6\n#a\n# b\r 2\t#\n1\n\x0B#c 9\n\x0C300 \x00\x01\x00\x02\x00\x03\x01\x2C\x00\x00\x00\xFF",
     )?;
-    assert_eq!(rt;
-        (wide.width, wide.height, wide.channels, wide.maxval),
-        (2, 1, 3, 300)
-    );
-    assert_eq!(rt; wide.samples.as_slice(), [1, 2, 3, 300, 0, 255].as_slice());
+    assert!(rt; (wide.width, wide.height, wide.channels, wide.maxval) == (2, 1, 3, 300));
+    assert!(rt; wide.samples.as_slice() == [1, 2, 3, 300, 0, 255].as_slice());
     let given = Samples::new(wide.samples.into_vec());
-    assert_eq!(rt; given.as_slice().len(), 6);
+    assert!(rt; given.as_slice().len() == 6);
     Ok(())
 }

@@ -1,11 +1,11 @@
 mod descriptors;
 mod replies;
 
-use wire_codec::*;
 use option_desc::Constraint;
 use sane_fixed::{ByteOrder, FrameFormat, Info, Kind, Params, Status, Text};
 use std::alloc::Global;
 use std::test::*;
+use wire_codec::*;
 
 /// A message fed byte by byte: nothing before the last byte, and then the request.
 fn request_by_bytes(alloc: Global, bytes: &[u8]) -> Option<Request> {
@@ -77,15 +77,15 @@ fn init_of_user(rt: HostRuntime) -> Result<(), Fail> {
     ];
     match request_by_bytes(rt.alloc(), &bytes).ok_or("a request")? {
         Request::Init { version, user } => {
-            assert_eq!(rt; version, 0x1000003);
-            assert_eq!(rt; user.as_bytes(), b"user".as_slice());
+            assert!(rt; version == 0x1000003);
+            assert!(rt; user.as_bytes() == b"user".as_slice());
         }
         _ => assert!(rt; false),
     }
     match reply_by_bytes(rt.alloc(), Procedure::Init, &[0, 0, 0, 0, 1, 0, 0, 3]).ok_or("a reply")? {
         Reply::Init { status, version } => {
-            assert_eq!(rt; status, Status::Good);
-            assert_eq!(rt; version, 0x1000003);
+            assert!(rt; status == Status::Good);
+            assert!(rt; version == 0x1000003);
         }
         _ => assert!(rt; false),
     }
@@ -98,8 +98,8 @@ fn no_devices_in_both_spellings(rt: HostRuntime) -> Result<(), Fail> {
     for bytes in [with_null.as_slice(), [0; 8].as_slice()] {
         match reply_by_bytes(rt.alloc(), Procedure::GetDevices, bytes).ok_or("a reply")? {
             Reply::GetDevices { status, devices } => {
-                assert_eq!(rt; status, Status::Good);
-                assert_eq!(rt; devices.as_slice().len(), 0);
+                assert!(rt; status == Status::Good);
+                assert!(rt; devices.as_slice().len() == 0);
             }
             _ => assert!(rt; false),
         }
@@ -150,22 +150,20 @@ fn set_of_br_x(rt: HostRuntime) -> Result<(), Fail> {
         0x50, 0x80, 0,
     ];
     let request = request_by_bytes(rt.alloc(), &bytes).ok_or("a request")?;
-    assert_eq!(rt;
-        option_fields(&request),
-        Some((0, 6, Action::SetValue, Kind::Fixed, Some(0x508000)))
+    assert!(rt;
+        option_fields(&request) == Some((0, 6, Action::SetValue, Kind::Fixed, Some(0x508000)))
     );
     let encoded = encode_request(rt.alloc(), &request)
         .ok()
         .ok_or("it has a spelling")?;
-    assert_eq!(rt; encoded.as_slice(), bytes.as_slice());
+    assert!(rt; encoded.as_slice() == bytes.as_slice());
     let reply = [
         0, 0, 0, 0, 0, 0, 0, 5, 0, 0, 0, 2, 0, 0, 0, 4, 0, 0, 0, 1, 0, 0x51, 0, 0, 0, 0, 0, 0,
     ];
     let reply = reply_by_bytes(rt.alloc(), Procedure::ControlOption, &reply).ok_or("a reply")?;
     let info = Info(Info::INEXACT + Info::RELOAD_PARAMS);
-    assert_eq!(rt;
-        option_reply_fields(&reply),
-        Some((Status::Good, info, Kind::Fixed, Some(0x510000), 0))
+    assert!(rt;
+        option_reply_fields(&reply) == Some((Status::Good, info, Kind::Fixed, Some(0x510000), 0))
     );
     Ok(())
 }
@@ -320,10 +318,10 @@ fn start_and_parameters(rt: HostRuntime) -> Result<(), Fail> {
             order,
             resource,
         } => {
-            assert_eq!(rt; status, Status::Good);
-            assert_eq!(rt; port, 40001);
-            assert_eq!(rt; order, ByteOrder::Little);
-            assert_eq!(rt; resource.as_bytes().len(), 0);
+            assert!(rt; status == Status::Good);
+            assert!(rt; port == 40001);
+            assert!(rt; order == ByteOrder::Little);
+            assert!(rt; resource.as_bytes().len() == 0);
         }
         _ => assert!(rt; false),
     }
@@ -332,7 +330,7 @@ fn start_and_parameters(rt: HostRuntime) -> Result<(), Fail> {
     ];
     match reply_by_bytes(rt.alloc(), Procedure::GetParameters, &params).ok_or("a reply")? {
         Reply::GetParameters { status, params } => {
-            assert_eq!(rt; status, Status::Good);
+            assert!(rt; status == Status::Good);
             let wanted = Params {
                 format: FrameFormat::Gray,
                 last_frame: true,
@@ -341,7 +339,7 @@ fn start_and_parameters(rt: HostRuntime) -> Result<(), Fail> {
                 lines: Some(1),
                 depth: 8,
             };
-            assert_eq!(rt; params, wanted);
+            assert!(rt; params == wanted);
         }
         _ => assert!(rt; false),
     }
@@ -373,16 +371,16 @@ fn a_descriptor_of_each_constraint(rt: HostRuntime) -> Result<(), Fail> {
     match reply_by_bytes(rt.alloc(), Procedure::GetOptionDescriptors, &bytes).ok_or("a reply")? {
         Reply::GetOptionDescriptors { descriptors } => {
             let all = descriptors.as_slice();
-            assert_eq!(rt; all.len(), 4);
+            assert!(rt; all.len() == 4);
             for descriptor in all {
-                assert_eq!(rt; descriptor.name.as_bytes(), b"a".as_slice());
-                assert_eq!(rt; descriptor.kind, Kind::Int);
-                assert_eq!(rt; descriptor.size, 4);
+                assert!(rt; descriptor.name.as_bytes() == b"a".as_slice());
+                assert!(rt; descriptor.kind == Kind::Int);
+                assert!(rt; descriptor.size == 4);
                 match &descriptor.constraint {
                     Constraint::Free => {}
-                    Constraint::Span(range) => assert_eq!(rt; range.min(), -1),
-                    Constraint::Words(words) => assert_eq!(rt; words.as_slice(), [-1].as_slice()),
-                    Constraint::Strings(entries) => assert_eq!(rt; entries.as_slice().len(), 1),
+                    Constraint::Span(range) => assert!(rt; range.min() == -1),
+                    Constraint::Words(words) => assert!(rt; words.as_slice() == [-1].as_slice()),
+                    Constraint::Strings(entries) => assert!(rt; entries.as_slice().len() == 1),
                 }
             }
         }
@@ -393,19 +391,12 @@ fn a_descriptor_of_each_constraint(rt: HostRuntime) -> Result<(), Fail> {
 
 #[test]
 fn three_faults(rt: HostRuntime) {
-    assert_eq!(rt;
-        fault_of(rt.alloc(), &[0, 0, 0, 0x0b]),
-        Some(WireFault::BadCode)
-    );
+    assert!(rt; fault_of(rt.alloc(), &[0, 0, 0, 0x0b]) == Some(WireFault::BadCode));
     let action = [0, 0, 0, 5, 0, 0, 0, 0, 0, 0, 0, 6, 0, 0, 0, 2];
-    assert_eq!(rt; fault_of(rt.alloc(), &action), Some(WireFault::BadValue));
-    assert_eq!(rt;
-        fault_of(rt.alloc(), &[0, 0, 0, 2, 0, 0, 4, 1]),
-        Some(WireFault::TooLong)
-    );
-    assert_eq!(rt;
-        fault_of(rt.alloc(), &[0, 0, 0, 2, 0, 0, 0, 2, 0x61, 0x62]),
-        Some(WireFault::BadValue)
+    assert!(rt; fault_of(rt.alloc(), &action) == Some(WireFault::BadValue));
+    assert!(rt; fault_of(rt.alloc(), &[0, 0, 0, 2, 0, 0, 4, 1]) == Some(WireFault::TooLong));
+    assert!(rt;
+        fault_of(rt.alloc(), &[0, 0, 0, 2, 0, 0, 0, 2, 0x61, 0x62]) == Some(WireFault::BadValue)
     );
     let mut decoder = Decoder::new(rt.alloc());
     assert!(rt;
@@ -425,9 +416,9 @@ fn a_long_string_by_bytes(rt: HostRuntime) -> Result<(), Fail> {
     let bytes = encode_request(alloc, &Request::Open { name })
         .ok()
         .ok_or("it has a spelling")?;
-    assert_eq!(rt; bytes.len(), 1008);
+    assert!(rt; bytes.len() == 1008);
     match request_by_bytes(alloc, bytes.as_slice()).ok_or("a request")? {
-        Request::Open { name } => assert_eq!(rt; name.as_bytes().len(), 999),
+        Request::Open { name } => assert!(rt; name.as_bytes().len() == 999),
         _ => assert!(rt; false),
     }
     Ok(())
@@ -489,14 +480,11 @@ fn records_in_pieces(rt: HostRuntime) -> Result<(), Fail> {
             }
             at += used;
         }
-        assert_eq!(rt; payload.as_slice(), [0xaa, 0xbb].as_slice());
-        assert_eq!(rt; end, Some(5));
-        assert_eq!(rt; at, 15);
+        assert!(rt; payload.as_slice() == [0xaa, 0xbb].as_slice());
+        assert!(rt; end == Some(5));
+        assert!(rt; at == 15);
     }
-    assert_eq!(rt; record_head(2).as_slice(), [0, 0, 0, 2].as_slice());
-    assert_eq!(rt;
-        record_end(Status::Eof).as_slice(),
-        [0xff, 0xff, 0xff, 0xff, 5].as_slice()
-    );
+    assert!(rt; record_head(2).as_slice() == [0, 0, 0, 2].as_slice());
+    assert!(rt; record_end(Status::Eof).as_slice() == [0xff, 0xff, 0xff, 0xff, 5].as_slice());
     Ok(())
 }

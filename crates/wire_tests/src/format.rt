@@ -1,6 +1,6 @@
-use wire_format::*;
 use std::alloc::Global;
 use std::test::*;
+use wire_format::*;
 
 /// A number below ten, as a word.
 #[derive(Clone, Copy, Debug, PartialEq, Eq)]
@@ -96,30 +96,23 @@ const ONE: Stop = Stop::More(Wanted { count: 1, least: 0 });
 
 #[test]
 fn a_word_is_judged_inside_it(rt: HostRuntime) {
-    assert_eq!(rt;
-        stop_of(word_between(&[], 0, 10, Fault::BadCode)),
-        Some(ONE)
+    assert!(rt; stop_of(word_between(&[], 0, 10, Fault::BadCode)) == Some(ONE));
+    assert!(rt; stop_of(word_between(&[0, 0, 0], 0, 10, Fault::BadCode)) == Some(ONE));
+    assert!(rt;
+        stop_of(word_between(&[1], 0, 10, Fault::BadCode)) == Some(Stop::Bad(Fault::BadCode))
     );
-    assert_eq!(rt;
-        stop_of(word_between(&[0, 0, 0], 0, 10, Fault::BadCode)),
-        Some(ONE)
+    assert!(rt;
+        stop_of(word_between(&[0, 0, 0, 11], 0, 10, Fault::BadCode))
+            == Some(Stop::Bad(Fault::BadCode))
     );
-    assert_eq!(rt;
-        stop_of(word_between(&[1], 0, 10, Fault::BadCode)),
-        Some(Stop::Bad(Fault::BadCode))
-    );
-    assert_eq!(rt;
-        stop_of(word_between(&[0, 0, 0, 11], 0, 10, Fault::BadCode)),
-        Some(Stop::Bad(Fault::BadCode))
-    );
-    assert_eq!(rt;
-        stop_of(word_between(&[0, 0, 4, 1], 0, 1024, Fault::TooLong)),
-        Some(Stop::Bad(Fault::TooLong))
+    assert!(rt;
+        stop_of(word_between(&[0, 0, 4, 1], 0, 1024, Fault::TooLong))
+            == Some(Stop::Bad(Fault::TooLong))
     );
     match word_between(&[0, 0, 4, 0, 7], 0, 1024, Fault::TooLong) {
         Ok((n, rest)) => {
-            assert_eq!(rt; n, 1024);
-            assert_eq!(rt; rest, [7].as_slice());
+            assert!(rt; n == 1024);
+            assert!(rt; rest == [7].as_slice());
         }
         Err(_) => assert!(rt; false),
     }
@@ -127,22 +120,16 @@ fn a_word_is_judged_inside_it(rt: HostRuntime) {
 
 #[test]
 fn a_byte_and_a_run(rt: HostRuntime) {
-    assert_eq!(rt; stop_of(byte_between(&[], 0, 0)), Some(ONE));
-    assert_eq!(rt;
-        stop_of(byte_between(&[1], 0, 0)),
-        Some(Stop::Bad(Fault::BadValue))
-    );
+    assert!(rt; stop_of(byte_between(&[], 0, 0)) == Some(ONE));
+    assert!(rt; stop_of(byte_between(&[1], 0, 0)) == Some(Stop::Bad(Fault::BadValue)));
     assert!(rt; byte_between(&[0, 1], 0, 0).is_ok());
     let wanted = Wanted { count: 2, least: 1 };
-    assert_eq!(rt; stop_of(run(b"us", 1, 4)), Some(Stop::More(wanted)));
-    assert_eq!(rt;
-        stop_of(run(&[117, 0], 1, 4)),
-        Some(Stop::Bad(Fault::BadValue))
-    );
+    assert!(rt; stop_of(run(b"us", 1, 4)) == Some(Stop::More(wanted)));
+    assert!(rt; stop_of(run(&[117, 0], 1, 4)) == Some(Stop::Bad(Fault::BadValue)));
     match run(&[117, 115, 101, 114, 0], 1, 4) {
         Ok((front, rest)) => {
-            assert_eq!(rt; front, b"user".as_slice());
-            assert_eq!(rt; rest, [0].as_slice());
+            assert!(rt; front == b"user".as_slice());
+            assert!(rt; rest == [0].as_slice());
         }
         Err(_) => assert!(rt; false),
     }
@@ -154,28 +141,21 @@ fn values_at_places(rt: HostRuntime) -> Result<(), Fail> {
     let (digits, rest) = places::<DigitWord>(rt.alloc(), 2, &bytes)
         .ok()
         .ok_or("two digits")?;
-    assert_eq!(rt; rest, [1].as_slice());
-    assert_eq!(rt;
-        digits.as_slice(),
-        [Digit { value: 3 }, Digit { value: 9 }].as_slice()
-    );
+    assert!(rt; rest == [1].as_slice());
+    assert!(rt; digits.as_slice() == [Digit { value: 3 }, Digit { value: 9 }].as_slice());
     assert!(rt; !is_any_long::<DigitWord>(digits.as_slice()));
     let mut out = Vec::new(rt.alloc());
     put_all::<DigitWord>(&mut out, digits.as_slice())
         .ok()
         .ok_or("both are spelled")?;
-    assert_eq!(rt; out.as_slice(), [0, 0, 0, 3, 0, 0, 0, 9].as_slice());
-    assert_eq!(rt;
-        put_all::<DigitWord>(&mut out, &[Digit { value: 10 }]),
-        Err(WriteError::Unspelled)
+    assert!(rt; out.as_slice() == [0, 0, 0, 3, 0, 0, 0, 9].as_slice());
+    assert!(rt;
+        put_all::<DigitWord>(&mut out, &[Digit { value: 10 }]) == Err(WriteError::Unspelled)
     );
-    assert_eq!(rt;
-        stop_of(places::<DigitWord>(rt.alloc(), 2, &bytes[..5])),
-        Some(ONE)
-    );
-    assert_eq!(rt;
-        stop_of(places::<DigitWord>(rt.alloc(), 2, &[0, 0, 0, 3, 1])),
-        Some(Stop::Bad(Fault::BadValue))
+    assert!(rt; stop_of(places::<DigitWord>(rt.alloc(), 2, &bytes[..5])) == Some(ONE));
+    assert!(rt;
+        stop_of(places::<DigitWord>(rt.alloc(), 2, &[0, 0, 0, 3, 1]))
+            == Some(Stop::Bad(Fault::BadValue))
     );
     Ok(())
 }
@@ -186,27 +166,27 @@ fn one_after_another(rt: HostRuntime) -> Result<(), Fail> {
     let (pair, rest) = PairOfWords::read(rt.alloc(), &bytes)
         .ok()
         .ok_or("two digits")?;
-    assert_eq!(rt; rest.len(), 0);
-    assert_eq!(rt; pair.second, Digit { value: 9 });
-    assert_eq!(rt; PairOfWords::is_long(&pair), false);
+    assert!(rt; rest.len() == 0);
+    assert!(rt; pair.second == Digit { value: 9 });
+    assert!(rt; PairOfWords::is_long(&pair) == false);
     let mut out = Vec::new(rt.alloc());
     PairOfWords::put(&mut out, &pair)
         .ok()
         .ok_or("both are spelled")?;
-    assert_eq!(rt; out.as_slice(), bytes.as_slice());
+    assert!(rt; out.as_slice() == bytes.as_slice());
     Ok(())
 }
 
 #[test]
 fn a_limit(rt: HostRuntime) {
     let bytes = [1, 2, 3];
-    assert_eq!(rt; front(&bytes, 2), [1, 2].as_slice());
-    assert_eq!(rt; front(&bytes, 4), bytes.as_slice());
-    assert_eq!(rt; used(&bytes, &bytes[1..]), 1);
+    assert!(rt; front(&bytes, 2) == [1, 2].as_slice());
+    assert!(rt; front(&bytes, 4) == bytes.as_slice());
+    assert!(rt; used(&bytes, &bytes[1..]) == 1);
     let past: Result<((), &[u8]), ReadError> = Err(past_limit(ReadError::Stop(ONE), true));
-    assert_eq!(rt; stop_of(past), Some(Stop::Bad(Fault::TooLong)));
+    assert!(rt; stop_of(past) == Some(Stop::Bad(Fault::TooLong)));
     let within: Result<((), &[u8]), ReadError> = Err(past_limit(ReadError::Stop(ONE), false));
-    assert_eq!(rt; stop_of(within), Some(ONE));
+    assert!(rt; stop_of(within) == Some(ONE));
 }
 
 #[test]
@@ -218,15 +198,9 @@ fn words_and_bytes_are_written(rt: HostRuntime) -> Result<(), Fail> {
         .ok_or("5 is below 9")?;
     put_byte_between(&mut out, 0, 0, 0).ok().ok_or("0 is 0")?;
     put_run(&mut out, b"user", 1, 4).ok().ok_or("no NUL")?;
-    assert_eq!(rt;
-        out.as_slice(),
-        [1, 2, 3, 4, 0, 0, 0, 5, 0, 117, 115, 101, 114].as_slice()
-    );
-    assert_eq!(rt; put_run(&mut out, &[0], 1, 1), Err(WriteError::Unspelled));
-    assert_eq!(rt;
-        put_byte_between(&mut out, 1, 0, 0),
-        Err(WriteError::Unspelled)
-    );
+    assert!(rt; out.as_slice() == [1, 2, 3, 4, 0, 0, 0, 5, 0, 117, 115, 101, 114].as_slice());
+    assert!(rt; put_run(&mut out, &[0], 1, 1) == Err(WriteError::Unspelled));
+    assert!(rt; put_byte_between(&mut out, 1, 0, 0) == Err(WriteError::Unspelled));
     assert!(rt; is_past(1025, 0, 1024, Fault::TooLong));
     assert!(rt; !is_past(1024, 0, 1024, Fault::TooLong));
     assert!(rt; !is_past(12, 0, 11, Fault::BadValue));

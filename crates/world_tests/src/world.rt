@@ -1,4 +1,3 @@
-use scan_world::{Event, World, WorldFault};
 use device_api::Device;
 use dispatch::Registry;
 use flatbed_dev::Flatbed;
@@ -7,6 +6,7 @@ use net_backend::{Job, Outcome, Task};
 use page_picture::{MemoryPage, Source, read_page};
 use sane_fixed::{ByteOrder, Text};
 use saned_core::Daemon;
+use scan_world::{Event, World, WorldFault};
 use std::alloc::Global;
 use std::process::Abort;
 
@@ -137,7 +137,7 @@ fn missions_job(rt: &impl Abort, alloc: Global, most: usize) {
     drive(rt, alloc, &mut world, 1, most);
     assert!(rt; is_done(world.outcome(0).expect(rt, "a job")));
     let file = world.file(0).expect(rt, "a file");
-    assert_eq!(rt; file, b"P5\n# SANE data follows\n1 1\n255\n\x07".as_slice());
+    assert!(rt; file == b"P5\n# SANE data follows\n1 1\n255\n\x07".as_slice());
     assert!(rt; !world.starved(0));
 }
 
@@ -159,14 +159,14 @@ fn batch(rt: &impl Abort, alloc: Global, most: usize) {
     let mut world = world_of(rt, alloc, devices, jobs);
     drive(rt, alloc, &mut world, 1, most);
     assert!(rt; is_done(world.outcome(0).expect(rt, "a job")));
-    assert_eq!(rt; world.finished(0), 3u32);
+    assert!(rt; world.finished(0) == 3u32);
     for k in 1..4u32 {
         let file = world.file_at(0, k).expect(rt, "a file");
-        assert_eq!(rt; file, b"P5\n# SANE data follows\n1 1\n255\n\x07".as_slice());
+        assert!(rt; file == b"P5\n# SANE data follows\n1 1\n255\n\x07".as_slice());
     }
     assert!(rt; world.file_at(0, 0).is_none());
     assert!(rt; world.file_at(0, 4).is_none());
-    assert_eq!(rt; world.file(0).expect(rt, "a file").len(), 0usize);
+    assert!(rt; world.file(0).expect(rt, "a file").len() == 0usize);
 }
 
 #[test]
@@ -196,9 +196,9 @@ fn no_world(rt: HostRuntime) {
         jobs.push(job(&rt, alloc, b"flatbed:0", ROW, Task::Batch(0)))
             .expect(&rt, "memory");
     }
-    assert_eq!(&rt; refused(&rt, alloc, jobs), WorldFault::TooManyJobs);
+    assert!(&rt; refused(&rt, alloc, jobs) == WorldFault::TooManyJobs);
     let mut jobs = Vec::new(alloc);
     jobs.push(job(&rt, alloc, b"flatbed:0", ROW, Task::Batch(17)))
         .expect(&rt, "memory");
-    assert_eq!(&rt; refused(&rt, alloc, jobs), WorldFault::BadJob);
+    assert!(&rt; refused(&rt, alloc, jobs) == WorldFault::BadJob);
 }

@@ -177,7 +177,7 @@ fn ask(
     for byte in row.sent {
         fed = daemon.feed(alloc, id, &[*byte]);
     }
-    assert_eq!(rt; fed == Fed::Over, next == Stage::Over);
+    assert!(rt; (fed == Fed::Over) == (next == Stage::Over));
     let mut buf = [0; 8192];
     let count = daemon.take_reply(id, &mut buf);
     let reply = &buf[..count];
@@ -187,7 +187,7 @@ fn ask(
         "request {at} at {stage:?}"
     );
     let is_framed = daemon.frame(id) == FrameState::Waiting;
-    assert_eq!(rt; is_framed, next == Stage::Framed);
+    assert!(rt; is_framed == (next == Stage::Framed));
     next
 }
 
@@ -237,11 +237,11 @@ fn bytes_that_spell_nothing(rt: HostRuntime) {
         let (id, _) = at_stage(&rt, alloc, &mut daemon, &[0, 2, 7]);
         let mut fed = Fed::Standing;
         for byte in sent {
-            assert_eq!(&rt; fed, Fed::Standing);
+            assert!(&rt; fed == Fed::Standing);
             fed = daemon.feed(alloc, id, &[*byte]);
         }
-        assert_eq!(&rt; fed, Fed::Over);
-        assert_eq!(&rt; daemon.take_reply(id, &mut [0; 64]), 0usize);
-        assert_eq!(&rt; daemon.frame(id), FrameState::Quiet);
+        assert!(&rt; fed == Fed::Over);
+        assert!(&rt; daemon.take_reply(id, &mut [0; 64]) == 0usize);
+        assert!(&rt; daemon.frame(id) == FrameState::Quiet);
     }
 }

@@ -1,9 +1,9 @@
 //! Sockets of the system: the clients connect and speak before the daemon takes its first turn.
 
-use saned_cli::{LocalNet, ServeEnd, serve};
 use dispatch::Registry;
 use flatbed_dev::Flatbed;
 use md5_auth::Users;
+use saned_cli::{LocalNet, ServeEnd, serve};
 use saned_core::Daemon;
 use std::alloc::Global;
 use std::io::{Read, Write};
@@ -44,10 +44,10 @@ fn clients_on_loopback(rt: HostRuntime) -> Result<(), Fail> {
     stranger.write_all(b"GET / HTTP/1.0\r\n\r\n")?;
     let mut daemon = daemon(&rt, alloc);
     let end = serve(alloc, &mut daemon, &mut net, 3, 100_000);
-    assert_eq!(rt; end, ServeEnd::Sessions);
+    assert!(rt; end == ServeEnd::Sessions);
     let mut replies = Vec::new(alloc);
     first.read_to_end(&mut replies)?;
-    assert_eq!(rt; replies.as_slice(), REPLIES);
+    assert!(rt; replies.as_slice() == REPLIES);
     Ok(())
 }
 
@@ -58,7 +58,7 @@ fn nobody_comes(rt: HostRuntime) -> Result<(), Fail> {
     let mut daemon = daemon(&rt, alloc);
     // The naps begin after 200,000 turns.
     let end = serve(alloc, &mut daemon, &mut net, 0, 200_100);
-    assert_eq!(rt; end, ServeEnd::Idle);
+    assert!(rt; end == ServeEnd::Idle);
     Ok(())
 }
 

@@ -1,8 +1,8 @@
-use saned_cli::{Ending, Options, OptionsFault, read_options, read_seed, text_of};
 use config_pages::NoPage;
 use dispatch::{ConfigFault, ConfigReason};
 use md5_auth::{LineFault, LineReason};
 use sane_fixed::ByteOrder;
+use saned_cli::{Ending, Options, OptionsFault, read_options, read_seed, text_of};
 use std::alloc::Global;
 use std::process::Abort;
 use std::test::Fail;
@@ -24,12 +24,12 @@ fn options(rt: &impl Abort, alloc: Global, line: &str) -> Result<Options, Option
 #[test]
 fn defaults(rt: HostRuntime) -> Result<(), Fail> {
     let found = options(&rt, rt.alloc(), "--config -")?;
-    assert_eq!(rt; found.config.as_str(), "-");
+    assert!(rt; found.config.as_str() == "-");
     assert!(rt; found.users.is_none() && found.seed.is_none());
-    assert_eq!(rt; found.port, 6566);
-    assert_eq!(rt; found.byte_order, ByteOrder::Little);
-    assert_eq!(rt; found.sessions, 0);
-    assert_eq!(rt; found.idle_turns, 10_000_000);
+    assert!(rt; found.port == 6566);
+    assert!(rt; found.byte_order == ByteOrder::Little);
+    assert!(rt; found.sessions == 0);
+    assert!(rt; found.idle_turns == 10_000_000);
     Ok(())
 }
 
@@ -38,19 +38,19 @@ fn all_options(rt: HostRuntime) -> Result<(), Fail> {
     let line =
         "--idle-turns 1 --sessions=1000000000 --byte-order big --port 65535 --seed x --users u --config c";
     let found = options(&rt, rt.alloc(), line)?;
-    assert_eq!(rt; found.config.as_str(), "c");
+    assert!(rt; found.config.as_str() == "c");
     let Some(users) = &found.users else {
         panic!(rt; "no users")
     };
-    assert_eq!(rt; users.as_str(), "u");
+    assert!(rt; users.as_str() == "u");
     let Some(seed) = &found.seed else {
         panic!(rt; "no seed")
     };
-    assert_eq!(rt; seed.as_str(), "x");
-    assert_eq!(rt; found.port, 65_535);
-    assert_eq!(rt; found.byte_order, ByteOrder::Big);
-    assert_eq!(rt; found.sessions, 1_000_000_000);
-    assert_eq!(rt; found.idle_turns, 1);
+    assert!(rt; seed.as_str() == "x");
+    assert!(rt; found.port == 65_535);
+    assert!(rt; found.byte_order == ByteOrder::Big);
+    assert!(rt; found.sessions == 1_000_000_000);
+    assert!(rt; found.idle_turns == 1);
     Ok(())
 }
 
@@ -80,7 +80,7 @@ fn bad_command_lines(rt: HostRuntime) -> Result<(), Fail> {
     ] {
         match options(&rt, rt.alloc(), line) {
             Ok(_) => panic!(rt; "taken: {line}"),
-            Err(why) => assert_eq!(rt; why, OptionsFault::Bad, "at {line}"),
+            Err(why) => assert!(rt; why == OptionsFault::Bad),
         }
     }
     Ok(())
@@ -93,7 +93,7 @@ fn seeds(rt: HostRuntime) {
         panic!(rt; "no seed")
     };
     for (i, byte) in seed.iter().enumerate() {
-        assert_eq!(rt; usize::from(*byte), i);
+        assert!(rt; usize::from(*byte) == i);
     }
     for text in [
         b"".as_slice(),
@@ -142,8 +142,8 @@ fn texts_of_endings(rt: HostRuntime) -> Result<(), Fail> {
     ] {
         let mut told = Vec::new(rt.alloc());
         ending.tell(&mut told)?;
-        assert_eq!(rt; told.as_slice(), line.as_bytes());
-        assert_eq!(rt; ending.exit_status(), status);
+        assert!(rt; told.as_slice() == line.as_bytes());
+        assert!(rt; ending.exit_status() == status);
     }
     Ok(())
 }
@@ -152,7 +152,7 @@ fn texts_of_endings(rt: HostRuntime) -> Result<(), Fail> {
 fn texts_are_read_to_their_limit(rt: HostRuntime) -> Result<(), Fail> {
     for (most, wanted) in [(0, b"".as_slice()), (2, b"ab"), (3, b"abc"), (9, b"abc")] {
         let text = text_of(rt.alloc(), b"abc".as_slice(), most)?;
-        assert_eq!(rt; text.as_slice(), wanted);
+        assert!(rt; text.as_slice() == wanted);
     }
     Ok(())
 }

@@ -37,19 +37,16 @@ fn gives(
     let answer = set_option(alloc, setup, n, &asked)
         .ok()
         .expect(rt, "a value");
-    assert_eq!(rt; answer, (given, Info(info)));
+    assert!(rt; answer == (given, Info(info)));
     let kept = get_option(alloc, setup, n).ok().expect(rt, "a value");
-    assert_eq!(rt; kept, answer.0);
+    assert!(rt; kept == answer.0);
 }
 
 fn refuses(rt: &impl Abort, alloc: Global, setup: &mut Setup, n: u32, asked: Value)
     requires { IsAllowed setup.old }
     ensures { IsAllowed setup.new }
 {
-    assert_eq!(rt;
-        set_option(alloc, setup, n, &asked).err(),
-        Some(Status::Inval)
-    );
+    assert!(rt; set_option(alloc, setup, n, &asked).err() == Some(Status::Inval));
 }
 
 #[test]
@@ -222,7 +219,7 @@ fn what_the_first_read_answers(rt: HostRuntime) {
         text(&rt, alloc, eof),
         0,
     );
-    assert_eq!(rt; setup.told, Some(Status::Eof));
+    assert!(rt; setup.told == Some(Status::Eof));
     // Two names begin so.
     refuses(
         &rt,
@@ -238,7 +235,7 @@ fn what_the_first_read_answers(rt: HostRuntime) {
         11,
         text(&rt, alloc, b"SANE_STATUS_GOOD"),
     );
-    assert_eq!(rt; setup.told, Some(Status::Eof));
+    assert!(rt; setup.told == Some(Status::Eof));
     gives(
         &rt,
         alloc,
@@ -248,7 +245,7 @@ fn what_the_first_read_answers(rt: HostRuntime) {
         text(&rt, alloc, b"Default"),
         1,
     );
-    assert_eq!(rt; setup.told, None);
+    assert!(rt; setup.told == None);
 }
 
 #[test]
@@ -299,10 +296,10 @@ fn gamma_tables(rt: HostRuntime) {
     let Value::Words(words) = &new else {
         panic!(rt; "words");
     };
-    assert_eq!(rt; words.as_slice().len(), 256);
-    assert_eq!(rt; words.as_slice().get(255), Some(&255));
+    assert!(rt; words.as_slice().len() == 256);
+    assert!(rt; words.as_slice().get(255) == Some(&255));
     refuses(&rt, alloc, &mut setup, 8, table(&rt, alloc, 255, 3, 9));
-    assert_eq!(rt; get_option(alloc, &setup, 8).ok(), Some(new));
+    assert!(rt; get_option(alloc, &setup, 8).ok() == Some(new));
     gives(
         &rt,
         alloc,
@@ -314,13 +311,10 @@ fn gamma_tables(rt: HostRuntime) {
     );
     gives(&rt, alloc, &mut setup, 2, Value::Int(16), Value::Int(16), 6);
     refuses(&rt, alloc, &mut setup, 8, table(&rt, alloc, 256, 3, 9));
-    assert_eq!(rt; get_option(alloc, &setup, 8).err(), Some(Status::Inval));
+    assert!(rt; get_option(alloc, &setup, 8).err() == Some(Status::Inval));
     gives(&rt, alloc, &mut setup, 2, Value::Int(8), Value::Int(8), 6);
     // Its words were kept.
-    assert_eq!(rt;
-        get_option(alloc, &setup, 8).ok(),
-        Some(table(&rt, alloc, 256, 3, 255))
-    );
+    assert!(rt; get_option(alloc, &setup, 8).ok() == Some(table(&rt, alloc, 256, 3, 255)));
 }
 
 #[test]
@@ -331,9 +325,9 @@ fn options_that_cannot_be_set(rt: HostRuntime) {
     refuses(&rt, alloc, &mut setup, 4, Value::Flag(true));
     refuses(&rt, alloc, &mut setup, 5, Value::Int(1));
     refuses(&rt, alloc, &mut setup, 3, Value::Flag(true));
-    assert_eq!(rt; get_option(alloc, &setup, 0).ok(), Some(Value::Int(5)));
-    assert_eq!(rt; get_option(alloc, &setup, 4).ok(), Some(Value::Flag(true)));
-    assert_eq!(rt; get_option(alloc, &setup, 5).err(), Some(Status::Inval));
+    assert!(rt; get_option(alloc, &setup, 0).ok() == Some(Value::Int(5)));
+    assert!(rt; get_option(alloc, &setup, 4).ok() == Some(Value::Flag(true)));
+    assert!(rt; get_option(alloc, &setup, 5).err() == Some(Status::Inval));
 }
 
 #[test]
@@ -341,12 +335,12 @@ fn one_option_alone(rt: HostRuntime) {
     let alloc = rt.alloc();
     let mut setup = defaults(DeviceKind::Hand, ByteOrder::Little);
     let option = option_at(DeviceKind::Hand, 3).expect(&rt, "an option");
-    assert_eq!(rt; option, ScanOption::Resolution);
-    assert_eq!(rt; option_at(DeviceKind::Hand, 5), None);
-    assert_eq!(rt; options_of(DeviceKind::ThreePass).len(), 13);
-    assert_eq!(rt; option_value(alloc, &setup, option), Ok(Value::Int(75)));
+    assert!(rt; option == ScanOption::Resolution);
+    assert!(rt; option_at(DeviceKind::Hand, 5) == None);
+    assert!(rt; options_of(DeviceKind::ThreePass).len() == 13);
+    assert!(rt; option_value(alloc, &setup, option) == Ok(Value::Int(75)));
     let desc = descriptor(alloc, &setup, option).expect(&rt, "memory");
-    assert_eq!(rt; desc.name.as_bytes(), b"resolution".as_slice());
+    assert!(rt; desc.name.as_bytes() == b"resolution".as_slice());
     assert!(rt; is_active(&setup, ScanOption::GammaTable));
     assert!(rt; !is_active(&setup, ScanOption::ThreePassOrder));
     gives(
@@ -359,7 +353,7 @@ fn one_option_alone(rt: HostRuntime) {
         4,
     );
     reset_setup(&mut setup);
-    assert_eq!(rt; get_option(alloc, &setup, 3), Ok(Value::Int(75)));
+    assert!(rt; get_option(alloc, &setup, 3) == Ok(Value::Int(75)));
 }
 
 #[test]

@@ -1,8 +1,8 @@
 //! Pages that are fed one after another.
 
 use super::{MODE, page, read_all, scans, set_text, set_window, text};
-use flatbed_dev::{Feeder, FeederFault};
 use device_api::Device;
+use flatbed_dev::{Feeder, FeederFault};
 use page_picture::{FailingPage, MemoryPage, Source};
 use sane_fixed::{ByteOrder, FrameFormat, Params, Status};
 use std::alloc::Global;
@@ -42,7 +42,7 @@ fn feeder(rt: &impl Abort, alloc: Global, pages: Vec<Source>) -> Feeder {
 }
 
 fn expect_empty(rt: &impl Abort, alloc: Global, feeder: &mut Feeder) {
-    assert_eq!(rt; feeder.start(alloc), Err(Status::NoDocs));
+    assert!(rt; feeder.start(alloc) == Err(Status::NoDocs));
     assert!(rt; feeder.at_rest());
 }
 
@@ -50,11 +50,8 @@ fn expect_empty(rt: &impl Abort, alloc: Global, feeder: &mut Feeder) {
 fn pages_one_after_another(rt: HostRuntime) {
     let alloc = rt.alloc();
     let mut feeder = feeder(&rt, alloc, dots(&rt, alloc, &[7, 9]));
-    assert_eq!(&rt; feeder.info().model.as_bytes(), b"Feeder".as_slice());
-    assert_eq!(&rt;
-        feeder.info().class.as_bytes(),
-        b"sheetfed scanner".as_slice()
-    );
+    assert!(&rt; feeder.info().model.as_bytes() == b"Feeder".as_slice());
+    assert!(&rt; feeder.info().class.as_bytes() == b"sheetfed scanner".as_slice());
     scans(&rt, alloc, &mut feeder, &[7]);
     scans(&rt, alloc, &mut feeder, &[9]);
     expect_empty(&rt, alloc, &mut feeder);
@@ -62,7 +59,7 @@ fn pages_one_after_another(rt: HostRuntime) {
     set_window(&rt, alloc, &mut feeder, 0, 1);
     expect_empty(&rt, alloc, &mut feeder);
     assert!(rt; feeder.load(dot(&rt, alloc, 5)).is_ok());
-    assert_eq!(&rt; feeder.start(alloc), Err(Status::Inval));
+    assert!(&rt; feeder.start(alloc) == Err(Status::Inval));
     set_window(&rt, alloc, &mut feeder, 1, 1);
     scans(&rt, alloc, &mut feeder, &[5]);
 }
@@ -80,9 +77,9 @@ fn told_without_a_page(rt: HostRuntime) {
         lines: Some(0),
         depth: 8,
     };
-    assert_eq!(&rt; feeder.params(), none);
+    assert!(&rt; feeder.params() == none);
     assert!(rt; feeder.load(dot(&rt, alloc, 5)).is_ok());
-    assert_eq!(&rt; feeder.params().bytes_per_line, 3);
+    assert!(&rt; feeder.params().bytes_per_line == 3);
 }
 
 #[test]
@@ -93,8 +90,8 @@ fn a_tray_of_sixteen(rt: HostRuntime) {
     match Feeder::new(alloc, name, dots(&rt, alloc, &grays), ByteOrder::Little) {
         Ok(_) => panic!(&rt; "seventeen pages"),
         Err((fault, pages)) => {
-            assert_eq!(&rt; fault, FeederFault::TooMany);
-            assert_eq!(&rt; pages.len(), 17);
+            assert!(&rt; fault == FeederFault::TooMany);
+            assert!(&rt; pages.len() == 17);
         }
     }
     let mut feeder = feeder(&rt, alloc, dots(&rt, alloc, &grays[..15]));
@@ -103,10 +100,10 @@ fn a_tray_of_sixteen(rt: HostRuntime) {
     for gray in 1..16u8 {
         scans(&rt, alloc, &mut feeder, &[gray]);
     }
-    assert_eq!(&rt; feeder.start(alloc), Ok(()));
+    assert!(&rt; feeder.start(alloc) == Ok(()));
     assert!(rt; feeder.load(dot(&rt, alloc, 17)).is_err());
     let (got, _, status) = read_all(&rt, alloc, &mut feeder);
-    assert_eq!(&rt; (got.as_slice(), status), ([16u8].as_slice(), Status::Eof));
+    assert!(&rt; (got.as_slice(), status) == ([16u8].as_slice(), Status::Eof));
     expect_empty(&rt, alloc, &mut feeder);
 }
 
@@ -120,12 +117,12 @@ fn a_page_that_fails(rt: HostRuntime) {
         pages.push(dot(&rt, alloc, 9)).expect(&rt, "memory");
         let mut feeder = feeder(&rt, alloc, pages);
         if n == 1 {
-            assert_eq!(&rt; feeder.start(alloc), Err(Status::IoError));
+            assert!(&rt; feeder.start(alloc) == Err(Status::IoError));
             scans(&rt, alloc, &mut feeder, &[3]);
         } else {
-            assert_eq!(&rt; feeder.start(alloc), Ok(()));
+            assert!(&rt; feeder.start(alloc) == Ok(()));
             let (got, _, status) = read_all(&rt, alloc, &mut feeder);
-            assert_eq!(&rt; (got.len(), status), (0, Status::IoError));
+            assert!(&rt; (got.len(), status) == (0, Status::IoError));
             assert!(rt; feeder.at_rest());
         }
         scans(&rt, alloc, &mut feeder, &[9]);
@@ -140,12 +137,12 @@ fn reset_and_cancel(rt: HostRuntime) {
     let mut feeder = feeder(&rt, alloc, dots(&rt, alloc, &[7, 8, 9]));
     feeder.reset();
     feeder.cancel();
-    assert_eq!(&rt; feeder.start(alloc), Ok(()));
+    assert!(&rt; feeder.start(alloc) == Ok(()));
     feeder.reset();
-    assert_eq!(&rt; feeder.read(&mut [0u8; 4]), Err(Status::Inval));
-    assert_eq!(&rt; feeder.start(alloc), Ok(()));
+    assert!(&rt; feeder.read(&mut [0u8; 4]) == Err(Status::Inval));
+    assert!(&rt; feeder.start(alloc) == Ok(()));
     feeder.cancel();
-    assert_eq!(&rt; feeder.read(&mut [0u8; 4]), Err(Status::Cancelled));
+    assert!(&rt; feeder.read(&mut [0u8; 4]) == Err(Status::Cancelled));
     set_window(&rt, alloc, &mut feeder, 1, 1);
     scans(&rt, alloc, &mut feeder, &[9]);
     expect_empty(&rt, alloc, &mut feeder);

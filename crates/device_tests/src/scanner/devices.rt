@@ -1,6 +1,5 @@
 //! Virtual scanners by the calls of the trait, as boxes.
 
-use virtual_scanner::VirtualScanner;
 use crate::scanner::scan::{read_picture, reset_all, scan_with};
 use device_api::Device;
 use option_desc::Value;
@@ -8,6 +7,7 @@ use page_picture::{DeviceKind, FailingPage, MemoryPage, Page, Source, read_page}
 use sane_fixed::{ByteOrder, Fixed, FrameFormat, Params, Status, Text};
 use std::alloc::Global;
 use std::process::Abort;
+use virtual_scanner::VirtualScanner;
 
 fn text(rt: &impl Abort, alloc: Global, bytes: &[u8]) -> Text {
     Text::new(alloc, bytes).ok().expect(rt, "memory")
@@ -60,15 +60,15 @@ fn window(rt: &impl Abort, alloc: Global, device: &mut Box<dyn Device>, x: i32, 
 
 /// Starts, and the frame gives these bytes.
 fn frame(rt: &impl Abort, alloc: Global, device: &mut Box<dyn Device>, want: &[u8]) {
-    assert_eq!(rt; device.start(alloc), Ok(()));
+    assert!(rt; device.start(alloc) == Ok(()));
     let mut got = Vec::new(alloc);
     let mut buf = [0u8; 7];
     for _ in 0..1000 {
         match device.read(&mut buf) {
             Ok(n) => got.extend_from_slice(&buf[..n]).expect(rt, "memory"),
             Err(status) => {
-                assert_eq!(rt; status, Status::Eof);
-                assert_eq!(rt; got.as_slice(), want);
+                assert!(rt; status == Status::Eof);
+                assert!(rt; got.as_slice() == want);
                 return;
             }
         }
@@ -83,8 +83,8 @@ fn a_gray_frame(rt: HostRuntime) {
     let device = scanner(&rt, alloc, DeviceKind::Flatbed, source);
     let mut device: Box<dyn Device> = Box::new(alloc, device).expect(&rt, "memory");
     window(&rt, alloc, &mut device, 1, 1);
-    assert_eq!(rt; device.order(), ByteOrder::Big);
-    assert_eq!(rt; device.info().model.as_bytes(), b"Flatbed".as_slice());
+    assert!(rt; device.order() == ByteOrder::Big);
+    assert!(rt; device.info().model.as_bytes() == b"Flatbed".as_slice());
     frame(&rt, alloc, &mut device, &[10]);
     assert!(rt; device.at_rest());
 }
@@ -123,30 +123,24 @@ fn three_passes(rt: HostRuntime) {
     put_text(&rt, alloc, &mut device, 8, b"BGR");
     window(&rt, alloc, &mut device, 2, 1);
     frame(&rt, alloc, &mut device, &[0, 3, 1, 0]);
-    assert_eq!(rt; device.params().format, FrameFormat::Blue);
+    assert!(rt; device.params().format == FrameFormat::Blue);
     // Between the passes nothing can be set, and no page put in.
     assert!(rt; !device.at_rest());
-    assert_eq!(rt;
-        device.set(alloc, 2, &Value::Int(8)).err(),
-        Some(Status::DeviceBusy)
-    );
+    assert!(rt; device.set(alloc, 2, &Value::Int(8)).err() == Some(Status::DeviceBusy));
     assert!(rt;
         device
             .load(memory(&rt, alloc, b"P5\n1 1\n255\n\x0a"))
             .is_err()
     );
     let mut buf = [0u8; 7];
-    assert_eq!(rt; device.read(&mut buf), Err(Status::Inval));
+    assert!(rt; device.read(&mut buf) == Err(Status::Inval));
     frame(&rt, alloc, &mut device, &[0, 2, 0, 5]);
     frame(&rt, alloc, &mut device, &[0, 1, 0, 4]);
     assert!(rt; device.at_rest());
     // The same by the contract alone, all passes one after another.
     let mut all = Vec::new(alloc);
-    assert_eq!(rt; read_picture(alloc, &mut *device, &mut all), Ok(()));
-    assert_eq!(rt;
-        all.as_slice(),
-        [0u8, 3, 1, 0, 0, 2, 0, 5, 0, 1, 0, 4].as_slice()
-    );
+    assert!(rt; read_picture(alloc, &mut *device, &mut all) == Ok(()));
+    assert!(rt; all.as_slice() == [0u8, 3, 1, 0, 0, 2, 0, 5, 0, 1, 0, 4].as_slice());
     assert!(rt;
         device
             .load(memory(&rt, alloc, b"P5\n1 1\n255\n\x0a"))
@@ -164,11 +158,11 @@ fn what_the_first_read_tells(rt: HostRuntime) {
     put_text(&rt, alloc, &mut device, 11, b"SANE_STATUS_EOF");
     frame(&rt, alloc, &mut device, &[]);
     put_text(&rt, alloc, &mut device, 11, b"SANE_STATUS_JAMMED");
-    assert_eq!(rt; device.start(alloc), Ok(()));
+    assert!(rt; device.start(alloc) == Ok(()));
     let mut buf = [0u8; 7];
-    assert_eq!(rt; device.read(&mut buf), Err(Status::Jammed));
+    assert!(rt; device.read(&mut buf) == Err(Status::Jammed));
     assert!(rt; device.at_rest());
-    assert_eq!(rt; device.read(&mut buf), Err(Status::Inval));
+    assert!(rt; device.read(&mut buf) == Err(Status::Inval));
 }
 
 #[test]
@@ -180,13 +174,13 @@ fn a_cancelled_scan(rt: HostRuntime) {
     window(&rt, alloc, &mut device, 1, 1);
     let mut buf = [0u8; 7];
     device.cancel();
-    assert_eq!(rt; device.read(&mut buf), Err(Status::Inval));
-    assert_eq!(rt; device.start(alloc), Ok(()));
-    assert_eq!(rt; device.start(alloc), Err(Status::DeviceBusy));
+    assert!(rt; device.read(&mut buf) == Err(Status::Inval));
+    assert!(rt; device.start(alloc) == Ok(()));
+    assert!(rt; device.start(alloc) == Err(Status::DeviceBusy));
     device.cancel();
-    assert_eq!(rt; device.read(&mut buf), Err(Status::Cancelled));
+    assert!(rt; device.read(&mut buf) == Err(Status::Cancelled));
     frame(&rt, alloc, &mut device, &[10]);
-    assert_eq!(rt; device.read(&mut buf), Err(Status::Inval));
+    assert!(rt; device.read(&mut buf) == Err(Status::Inval));
 }
 
 #[test]
@@ -196,7 +190,7 @@ fn no_picture_and_a_fault(rt: HostRuntime) {
     let device = scanner(&rt, alloc, DeviceKind::Flatbed, source);
     let mut device: Box<dyn Device> = Box::new(alloc, device).expect(&rt, "memory");
     window(&rt, alloc, &mut device, 0, 1);
-    assert_eq!(rt; device.start(alloc), Err(Status::Inval));
+    assert!(rt; device.start(alloc) == Err(Status::Inval));
     let none = Params {
         format: FrameFormat::Gray,
         last_frame: true,
@@ -205,11 +199,11 @@ fn no_picture_and_a_fault(rt: HostRuntime) {
         lines: Some(0),
         depth: 8,
     };
-    assert_eq!(rt; device.params(), none);
+    assert!(rt; device.params() == none);
     window(&rt, alloc, &mut device, 1, 1);
-    assert_eq!(rt; device.start(alloc), Ok(()));
+    assert!(rt; device.start(alloc) == Ok(()));
     let mut buf = [0u8; 7];
-    assert_eq!(rt; device.read(&mut buf), Err(Status::IoError));
+    assert!(rt; device.read(&mut buf) == Err(Status::IoError));
     assert!(rt; device.at_rest());
     frame(&rt, alloc, &mut device, &[10]);
 }
@@ -224,10 +218,7 @@ fn scanned_by_the_contract_alone(rt: HostRuntime) {
     let bytes = scan_with(alloc, &mut *device, 3, &Value::Int(1))
         .ok()
         .expect(&rt, "a frame");
-    assert_eq!(rt;
-        bytes.as_slice(),
-        [10u8, 255, 255, 255, 255, 255, 255, 255, 255].as_slice()
-    );
+    assert!(rt; bytes.as_slice() == [10u8, 255, 255, 255, 255, 255, 255, 255, 255].as_slice());
 }
 
 #[test]
@@ -253,5 +244,5 @@ fn boxes_reset_one_after_another(rt: HostRuntime) {
         Some(Value::Int(75)),
         Some(Value::Int(50)),
     ];
-    assert_eq!(rt; resolutions.as_slice(), want.as_slice());
+    assert!(rt; resolutions.as_slice() == want.as_slice());
 }

@@ -1,10 +1,10 @@
-use virtual_scanner::VirtualScanner;
 use device_api::Device;
 use option_desc::Value;
 use page_picture::{DeviceKind, MemoryPage, Page, Source, read_page};
 use sane_fixed::{ByteOrder, Fixed, FrameFormat, Params, Status, Text};
 use std::alloc::Global;
 use std::process::Abort;
+use virtual_scanner::VirtualScanner;
 
 fn text(rt: &impl Abort, alloc: Global, bytes: &[u8]) -> Text {
     Text::new(alloc, bytes).expect(rt, "a text")
@@ -46,28 +46,25 @@ fn a_hand_scanner(rt: HostRuntime) {
     let alloc = rt.alloc();
     let black = b"P5\n1 10\n255\n\x00\x00\x00\x00\x00\x00\x00\x00\x00\x00";
     let mut hand = scanner(&rt, alloc, DeviceKind::Hand, page(&rt, alloc, black, 75));
-    assert_eq!(&rt;
-        hand.info().class.as_bytes(),
-        b"handheld scanner".as_slice()
-    );
+    assert!(&rt; hand.info().class.as_bytes() == b"handheld scanner".as_slice());
     set(&rt, alloc, &mut hand, 2, Value::Int(1));
-    assert_eq!(&rt;
-        hand.params(),
-        Params {
-            format: FrameFormat::Gray,
-            last_frame: true,
-            bytes_per_line: 41,
-            pixels_per_line: 324,
-            lines: None,
-            depth: 1,
-        }
+    assert!(&rt;
+        hand.params()
+            == Params {
+                format: FrameFormat::Gray,
+                last_frame: true,
+                bytes_per_line: 41,
+                pixels_per_line: 324,
+                lines: None,
+                depth: 1,
+            }
     );
     hand.start(alloc).expect(&rt, "a start");
     let (got, status) = read_all(&rt, alloc, &mut hand);
-    assert_eq!(&rt; status, Status::Eof);
-    assert_eq!(&rt; got.len(), 410);
+    assert!(&rt; status == Status::Eof);
+    assert!(&rt; got.len() == 410);
     for (i, byte) in got.iter().enumerate() {
-        assert_eq!(&rt; *byte, if i % 41 == 0 { 0x80 } else { 0 });
+        assert!(&rt; *byte == (if i % 41 == 0 { 0x80 } else { 0 }));
     }
     assert!(&rt; hand.at_rest());
 }
@@ -108,21 +105,18 @@ fn a_three_pass_scanner(rt: HostRuntime) {
     ] {
         three.start(alloc).expect(&rt, "a start");
         let told = three.params();
-        assert_eq!(&rt;
-            (told.format, told.last_frame),
-            (format, format == FrameFormat::Red)
-        );
+        assert!(&rt; (told.format, told.last_frame) == (format, format == FrameFormat::Red));
         let (got, status) = read_all(&rt, alloc, &mut three);
-        assert_eq!(&rt; got.as_slice(), &want[..]);
-        assert_eq!(&rt; status, Status::Eof);
+        assert!(&rt; got.as_slice() == &want[..]);
+        assert!(&rt; status == Status::Eof);
         // Between passes nothing can be set, and no page put in.
         let last = format == FrameFormat::Red;
-        assert_eq!(&rt; three.at_rest(), last);
+        assert!(&rt; three.at_rest() == last);
         if !last {
-            assert_eq!(&rt; three.params().format, format);
-            assert_eq!(&rt; three.read(&mut [0u8; 4]), Err(Status::Inval));
+            assert!(&rt; three.params().format == format);
+            assert!(&rt; three.read(&mut [0u8; 4]) == Err(Status::Inval));
             let busy = three.set(alloc, 2, &Value::Int(8)).err();
-            assert_eq!(&rt; busy, Some(Status::DeviceBusy));
+            assert!(&rt; busy == Some(Status::DeviceBusy));
             let other = page(&rt, alloc, b"P5\n1 1\n255\n\x00", 26);
             assert!(&rt; three.load(other).is_err());
         }

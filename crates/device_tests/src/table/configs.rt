@@ -8,7 +8,7 @@ use std::test::Fail;
 fn expect_fault<R: Abort + AllocGlobal>(rt: &R, config: &[u8], line: u32, reason: ConfigReason) {
     match parse_config(rt.alloc(), config) {
         Ok(_) => panic!(rt; "not refused: {config:?}"),
-        Err(fault) => assert_eq!(rt; fault, ConfigFault { line, reason }, "at {config:?}"),
+        Err(fault) => assert!(rt; fault == ConfigFault { line, reason }),
     }
 }
 
@@ -36,7 +36,7 @@ fn devices_of_configs(rt: HostRuntime) -> Result<(), Fail> {
         (6, DeviceKind::ThreePass, 10, 1, b"/a:b".as_slice()),
         (7, DeviceKind::Feeder, 3, 26, b"a hex:50 b".as_slice()),
     ];
-    assert_eq!(rt; devices.len(), wanted.len());
+    assert!(rt; devices.len() == wanted.len());
     let names = [
         b"flatbed:0".as_slice(),
         b"hand:99",
@@ -44,13 +44,13 @@ fn devices_of_configs(rt: HostRuntime) -> Result<(), Fail> {
         b"feeder:3",
     ];
     for (device, name) in devices.iter().zip(names) {
-        assert_eq!(rt; device.name(rt.alloc())?.as_bytes(), name);
+        assert!(rt; device.name(rt.alloc())?.as_bytes() == name);
     }
     for (device, (line, kind, index, dpi, pages)) in devices.iter().zip(wanted) {
-        assert_eq!(rt; device.line, line);
-        assert_eq!(rt; device.kind, kind);
-        assert_eq!(rt; device.index, index);
-        assert_eq!(rt; device.dpi, dpi);
+        assert!(rt; device.line == line);
+        assert!(rt; device.kind == kind);
+        assert!(rt; device.index == index);
+        assert!(rt; device.dpi == dpi);
         let mut told = Vec::new(rt.alloc());
         for (i, page) in device.pages.iter().enumerate() {
             if i > 0 {
@@ -58,7 +58,7 @@ fn devices_of_configs(rt: HostRuntime) -> Result<(), Fail> {
             }
             told.extend_from_slice(page.as_bytes())?;
         }
-        assert_eq!(rt; told.as_slice(), pages);
+        assert!(rt; told.as_slice() == pages);
     }
     Ok(())
 }
@@ -138,9 +138,9 @@ fn seventeen_pages(rt: HostRuntime) -> Result<(), Fail> {
         Ok(devices) => devices,
         Err(fault) => panic!(&rt; "refused: {fault}"),
     };
-    assert_eq!(rt; devices.len(), 1);
+    assert!(rt; devices.len() == 1);
     for device in &devices {
-        assert_eq!(rt; device.pages.len(), 16);
+        assert!(rt; device.pages.len() == 16);
     }
     let more = repeated(alloc, sixteen, 1, b" q")?;
     expect_fault(&rt, &more, 1, ConfigReason::WrongFields);
@@ -152,11 +152,11 @@ fn seventeen_devices(rt: HostRuntime) -> Result<(), Fail> {
     let alloc = rt.alloc();
     let sixteen =
         b"hand 0 1 x\nhand 1 1 x\nhand 2 1 x\nhand 3 1 x\nhand 4 1 x\nhand 5 1 x\nhand 6 1 x\nhand 7 1 x\nhand 8 1 x\nhand 9 1 x\nhand 10 1 x\nhand 11 1 x\nhand 12 1 x\nhand 13 1 x\nhand 14 1 x\nhand 15 1 x\n";
-    assert_eq!(rt;
+    assert!(rt;
         parse_config(alloc, sixteen)
             .map(|devices| devices.len())
-            .ok(),
-        Some(16)
+            .ok()
+            == Some(16)
     );
     let more = repeated(alloc, sixteen, 1, b"hand 16 1 x")?;
     expect_fault(&rt, &more, 17, ConfigReason::TooManyDevices);

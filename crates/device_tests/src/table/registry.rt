@@ -1,5 +1,5 @@
-use dispatch::{Lease, Registry, RegistryFault, backend_of};
 use device_api::Device;
+use dispatch::{Lease, Registry, RegistryFault, backend_of};
 use flatbed_dev::Flatbed;
 use option_desc::Value;
 use page_picture::{MemoryPage, Source, read_page};
@@ -40,8 +40,8 @@ fn expect_refused(rt: &impl Abort, alloc: Global, names: &[&[u8]], wanted: Regis
     match Registry::new(alloc, flatbeds(rt, alloc, names)) {
         Ok(_) => panic!(rt; "not refused"),
         Err((fault, devices)) => {
-            assert_eq!(rt; fault, wanted);
-            assert_eq!(rt; devices.len(), names.len());
+            assert!(rt; fault == wanted);
+            assert!(rt; devices.len() == names.len());
         }
     }
 }
@@ -56,7 +56,7 @@ fn devices_that_are_refused(rt: HostRuntime) {
     ];
     expect_refused(&rt, alloc, &seventeen, RegistryFault::TooMany);
     let sixteen = registry(&rt, alloc, &seventeen[..16]);
-    assert_eq!(rt; sixteen.list(alloc).map(|all| all.len()).ok(), Some(16));
+    assert!(rt; sixteen.list(alloc).map(|all| all.len()).ok() == Some(16));
 }
 
 /// What a taking was refused with; a device that was taken is dropped by a registry that has no place for it.
@@ -92,15 +92,9 @@ fn a_device_is_handed_out_reset(rt: HostRuntime) {
         Ok(lease) => lease,
         Err(status) => panic!(&rt; "not taken: {status:?}"),
     };
-    assert_eq!(rt; lease.device.get(alloc, RESOLUTION).ok(), Some(Value::Int(50)));
-    assert_eq!(rt;
-        refusal(&rt, alloc, registry.take(b"flatbed:0")),
-        Some(Status::DeviceBusy)
-    );
-    assert_eq!(rt;
-        refusal(&rt, alloc, registry.take(b"flatbed:2")),
-        Some(Status::Inval)
-    );
+    assert!(rt; lease.device.get(alloc, RESOLUTION).ok() == Some(Value::Int(50)));
+    assert!(rt; refusal(&rt, alloc, registry.take(b"flatbed:0")) == Some(Status::DeviceBusy));
+    assert!(rt; refusal(&rt, alloc, registry.take(b"flatbed:2")) == Some(Status::Inval));
     registry.give_back(lease);
 }
 
@@ -109,28 +103,22 @@ fn a_device_is_handed_out_reset(rt: HostRuntime) {
 fn leased_and_unplugged(rt: HostRuntime) {
     let alloc = rt.alloc();
     let mut registry = registry(&rt, alloc, &[b"flatbed:0", b"flatbed:1"]);
-    assert_eq!(rt; refusal(&rt, alloc, registry.take(b"flatbed:0")), None);
-    assert_eq!(rt; registry.list(alloc).map(|all| all.len()).ok(), Some(2));
-    assert_eq!(rt;
-        registry.unplug(b"flatbed:0").err(),
-        Some(Status::DeviceBusy)
-    );
-    assert_eq!(rt; registry.unplug(b"flatbed:2").err(), Some(Status::Inval));
+    assert!(rt; refusal(&rt, alloc, registry.take(b"flatbed:0")) == None);
+    assert!(rt; registry.list(alloc).map(|all| all.len()).ok() == Some(2));
+    assert!(rt; registry.unplug(b"flatbed:0").err() == Some(Status::DeviceBusy));
+    assert!(rt; registry.unplug(b"flatbed:2").err() == Some(Status::Inval));
     assert!(rt; registry.unplug(b"flatbed:1").is_ok());
-    assert_eq!(rt; registry.unplug(b"flatbed:1").err(), Some(Status::Inval));
-    assert_eq!(rt;
-        refusal(&rt, alloc, registry.take(b"flatbed:1")),
-        Some(Status::Inval)
-    );
-    assert_eq!(rt; registry.list(alloc).map(|all| all.len()).ok(), Some(1));
+    assert!(rt; registry.unplug(b"flatbed:1").err() == Some(Status::Inval));
+    assert!(rt; refusal(&rt, alloc, registry.take(b"flatbed:1")) == Some(Status::Inval));
+    assert!(rt; registry.list(alloc).map(|all| all.len()).ok() == Some(1));
 }
 
 #[test]
 fn names_of_backends(rt: HostRuntime) {
-    assert_eq!(rt; backend_of(b"flatbed:0"), b"flatbed".as_slice());
-    assert_eq!(rt; backend_of(b"net:host:flatbed:0"), b"net".as_slice());
-    assert_eq!(rt; backend_of(b":0"), b"".as_slice());
-    assert_eq!(rt; backend_of(b"flatbed"), b"flatbed".as_slice());
+    assert!(rt; backend_of(b"flatbed:0") == b"flatbed".as_slice());
+    assert!(rt; backend_of(b"net:host:flatbed:0") == b"net".as_slice());
+    assert!(rt; backend_of(b":0") == b"".as_slice());
+    assert!(rt; backend_of(b"flatbed") == b"flatbed".as_slice());
 }
 
 /// Sets a resolution of 100, starts a scan, and reads one byte of it.
@@ -178,11 +166,11 @@ fn a_lease_of_another_registry(rt: HostRuntime) {
         };
         let mut own = registry(&rt, alloc, &names);
         if out {
-            assert_eq!(rt; refusal(&rt, alloc, own.take(names[1])), None);
+            assert!(rt; refusal(&rt, alloc, own.take(names[1])) == None);
         }
         own.give_back(foreign);
         let wanted = if out { Some(Status::DeviceBusy) } else { None };
-        assert_eq!(rt; own.unplug(names[1]).err(), wanted);
+        assert!(rt; own.unplug(names[1]).err() == wanted);
     }
     let mut other = registry(&rt, alloc, &[b"flatbed:0", b"flatbed:1"]);
     let Ok(foreign) = other.take(b"flatbed:1") else {
@@ -190,7 +178,7 @@ fn a_lease_of_another_registry(rt: HostRuntime) {
     };
     let mut own = registry(&rt, alloc, &[b"flatbed:0"]);
     own.give_back(foreign);
-    assert_eq!(rt; own.list(alloc).map(|all| all.len()).ok(), Some(1));
+    assert!(rt; own.list(alloc).map(|all| all.len()).ok() == Some(1));
 }
 
 /// A device comes back from a client that left it in the middle of a scan, and the next one finds it as
@@ -205,7 +193,7 @@ fn a_device_that_was_given_back(rt: HostRuntime) {
         Err(status) => panic!(&rt; "not taken: {status:?}"),
     };
     assert!(rt; lease.device.at_rest());
-    assert_eq!(rt; lease.device.get(alloc, RESOLUTION).ok(), Some(Value::Int(50)));
+    assert!(rt; lease.device.get(alloc, RESOLUTION).ok() == Some(Value::Int(50)));
     registry.give_back(lease);
 }
 
@@ -229,25 +217,16 @@ fn load<D: Device>(
 fn pages_and_names(rt: HostRuntime) {
     let alloc = rt.alloc();
     let mut registry = registry(&rt, alloc, &[b"flatbed:0", b"flatbed:1"]);
-    assert_eq!(rt; load(&rt, alloc, &mut registry, b"flatbed:0"), None);
-    assert_eq!(rt;
-        load(&rt, alloc, &mut registry, b"flatbed:2"),
-        Some(Status::Inval)
-    );
+    assert!(rt; load(&rt, alloc, &mut registry, b"flatbed:0") == None);
+    assert!(rt; load(&rt, alloc, &mut registry, b"flatbed:2") == Some(Status::Inval));
     let Ok(lease) = registry.take(b"flatbed:0") else {
         panic!(&rt; "not taken")
     };
     assert!(rt; registry.lists(b"flatbed:0"));
-    assert_eq!(rt;
-        load(&rt, alloc, &mut registry, b"flatbed:0"),
-        Some(Status::DeviceBusy)
-    );
+    assert!(rt; load(&rt, alloc, &mut registry, b"flatbed:0") == Some(Status::DeviceBusy));
     registry.put_back(lease);
-    assert_eq!(rt; load(&rt, alloc, &mut registry, b"flatbed:0"), None);
+    assert!(rt; load(&rt, alloc, &mut registry, b"flatbed:0") == None);
     assert!(rt; registry.unplug(b"flatbed:0").is_ok());
     assert!(rt; !registry.lists(b"flatbed:0"));
-    assert_eq!(rt;
-        load(&rt, alloc, &mut registry, b"flatbed:0"),
-        Some(Status::Inval)
-    );
+    assert!(rt; load(&rt, alloc, &mut registry, b"flatbed:0") == Some(Status::Inval));
 }

@@ -129,7 +129,7 @@ fn cancels_and_losses(rt: HostRuntime) {
         drain(&rt, &mut played);
         if most == 78 {
             assert!(&rt; is_done(played.client.outcome()));
-            assert_eq!(&rt; played.files.len(), 32usize);
+            assert!(&rt; played.files.len() == 32usize);
         } else if most < 78 {
             ends(
                 &rt,
@@ -137,7 +137,7 @@ fn cancels_and_losses(rt: HostRuntime) {
                 Status::Cancelled,
                 Why::Cancelled,
             );
-            assert_eq!(&rt; played.sent.ends_with(cancel), most >= 40);
+            assert!(&rt; played.sent.ends_with(cancel) == (most >= 40));
             assert!(&rt; played.sent.ends_with(b"\0\0\0\x0a"));
             assert!(&rt; played.files.len() < 32);
         }
@@ -149,10 +149,10 @@ fn cancels_and_losses(rt: HostRuntime) {
             if most < 78 && (link == Link::Control || most >= 68) {
                 ends(&rt, played.client.outcome(), Status::IoError, Why::Lost);
                 assert!(&rt; played.files.len() < 32);
-                assert_eq!(&rt; played.sent.len(), sent);
+                assert!(&rt; played.sent.len() == sent);
             } else {
                 let is_whole = played.files.len() == 32;
-                assert_eq!(&rt; is_done(played.client.outcome()), is_whole);
+                assert!(&rt; is_done(played.client.outcome()) == is_whole);
             }
         }
     }

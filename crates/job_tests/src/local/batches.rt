@@ -1,9 +1,9 @@
 //! Batches: pages scanned one after another, each to an output of its own.
 
 use super::{TWO_ROWS, done, ends, flatbed_on, job, text};
-use local_job::{run_local, run_local_batch};
 use device_api::Device;
 use flatbed_dev::Feeder;
+use local_job::{run_local, run_local_batch};
 use page_picture::{FailingPage, MemoryPage, Source, read_page};
 use sane_fixed::{ByteOrder, Status};
 use scan_job::{Outcome, Shelf, ShelfFault, Task, Why};
@@ -66,15 +66,15 @@ fn empty_drawer(alloc: Global, refused_open: u32, refused_close: u32) -> Drawer 
 
 /// The outputs of the shelf are the whole files of these grays, numbered from 1.
 fn holds(rt: &impl Abort, shelf: &Drawer, grays: &[u8]) {
-    assert_eq!(rt; shelf.taken.len(), grays.len());
+    assert!(rt; shelf.taken.len() == grays.len());
     let mut number = 0u32;
     for (output, gray) in shelf.taken.iter().zip(grays) {
         let (given, file) = output;
         number = number.saturating_add(1);
         let mut want = *DARK;
         want[31] = *gray;
-        assert_eq!(rt; *given, number);
-        assert_eq!(rt; file.as_slice(), want.as_slice());
+        assert!(rt; *given == number);
+        assert!(rt; file.as_slice() == want.as_slice());
     }
 }
 
@@ -133,7 +133,7 @@ fn pages_of_a_tray(rt: HostRuntime) {
             &rt,
             batch(&rt, alloc, &mut device, Task::Batch(count), &mut shelf),
         );
-        assert_eq!(&rt; reports.settings.as_slice().len(), 3);
+        assert!(&rt; reports.settings.as_slice().len() == 3);
         holds(&rt, &shelf, first);
         // What is left is a batch of its own, and where nothing is there is no page.
         let mut shelf = empty_drawer(alloc, 0, 0);
@@ -141,7 +141,7 @@ fn pages_of_a_tray(rt: HostRuntime) {
         holds(&rt, &shelf, rest);
         if rest.is_empty() {
             ends(&rt, &next, Status::NoDocs, Why::Answer);
-            assert_eq!(&rt; shelf.opens, 0);
+            assert!(&rt; shelf.opens == 0);
         } else {
             done(&rt, next);
         }
@@ -182,7 +182,7 @@ fn a_page_that_fails(rt: HostRuntime) {
         let outcome = batch(&rt, alloc, &mut device, Task::Batch(16), &mut shelf);
         ends(&rt, &outcome, Status::IoError, Why::Answer);
         if let Some((number, file)) = shelf.taken.get(1) {
-            assert_eq!(&rt; *number, 2);
+            assert!(&rt; *number == 2);
             assert!(&rt; file.len() < 32);
             assert!(&rt; DARK.starts_with(file.as_slice()));
         }
@@ -212,9 +212,9 @@ fn a_page_that_fails_in_the_middle(rt: HostRuntime) {
     let both = job(&rt, alloc, settings, Task::Batch(2));
     let outcome = run_local_batch(alloc, &mut device, &both, &mut shelf);
     ends(&rt, &outcome, Status::IoError, Why::Answer);
-    assert_eq!(&rt; shelf.taken.len(), 2);
+    assert!(&rt; shelf.taken.len() == 2);
     let whole = b"P5\n# SANE data follows\n1 2\n255\n\x07\x09".as_slice();
-    assert_eq!(&rt; shelf.taken[0].1.as_slice(), whole);
+    assert!(&rt; shelf.taken[0].1.as_slice() == whole);
     let front = shelf.taken[1].1.as_slice();
     assert!(&rt; !front.is_empty() && front.len() < whole.len());
     assert!(&rt; whole.starts_with(front));
@@ -231,13 +231,13 @@ fn a_shelf_that_refuses(rt: HostRuntime) {
         let mut shelf = empty_drawer(alloc, k, 0);
         let outcome = batch(&rt, alloc, &mut device, Task::Batch(16), &mut shelf);
         ends(&rt, &outcome, Status::IoError, Why::Sink);
-        assert_eq!(&rt; (shelf.opens, shelf.number), (k, k));
+        assert!(&rt; (shelf.opens, shelf.number) == (k, k));
         holds(&rt, &shelf, &grays[..k as usize - 1]);
         let mut device = feeder(&rt, alloc, &grays);
         let mut shelf = empty_drawer(alloc, 0, k);
         let outcome = batch(&rt, alloc, &mut device, Task::Batch(16), &mut shelf);
         ends(&rt, &outcome, Status::IoError, Why::Sink);
-        assert_eq!(&rt; shelf.opens, k);
+        assert!(&rt; shelf.opens == k);
         holds(&rt, &shelf, &grays[..k as usize]);
     }
     // A job that ended otherwise ends so.
@@ -256,7 +256,7 @@ fn a_shelf_that_refuses(rt: HostRuntime) {
     let one = job(&rt, alloc, settings, Task::Batch(1));
     let outcome = run_local_batch(alloc, &mut device, &one, &mut shelf);
     ends(&rt, &outcome, Status::IoError, Why::Answer);
-    assert_eq!(&rt; shelf.closes, 1);
+    assert!(&rt; shelf.closes == 1);
 }
 
 #[test]
@@ -267,7 +267,7 @@ fn jobs_that_are_no_batch(rt: HostRuntime) {
     for task in [Task::List, Task::Show, Task::SetOnly] {
         done(&rt, batch(&rt, alloc, &mut device, task, &mut shelf));
     }
-    assert_eq!(&rt; shelf.opens, 0);
+    assert!(&rt; shelf.opens == 0);
     done(&rt, batch(&rt, alloc, &mut device, Task::Scan, &mut shelf));
     holds(&rt, &shelf, &[7]);
     // A batch of no page, or of too many, is refused, and so is a batch with an output for one file.
@@ -275,13 +275,13 @@ fn jobs_that_are_no_batch(rt: HostRuntime) {
         let mut shelf = empty_drawer(alloc, 0, 0);
         let outcome = batch(&rt, alloc, &mut device, Task::Batch(count), &mut shelf);
         ends(&rt, &outcome, Status::Inval, Why::Setting);
-        assert_eq!(&rt; shelf.opens, 0);
+        assert!(&rt; shelf.opens == 0);
     }
     let mut file = Vec::new(alloc);
     let one = job(&rt, alloc, ONE_PLACE, Task::Batch(1));
     let outcome = run_local(alloc, &mut device, &one, &mut file);
     ends(&rt, &outcome, Status::Inval, Why::Setting);
-    assert_eq!(&rt; file.len(), 0);
+    assert!(&rt; file.len() == 0);
     // The second page is still there; and an empty tray is no page for a scan.
     let mut shelf = empty_drawer(alloc, 0, 0);
     done(
@@ -303,5 +303,5 @@ fn no_page_told_by_a_read(rt: HostRuntime) {
     let both = job(&rt, alloc, settings, Task::Batch(2));
     let outcome = run_local_batch(alloc, &mut device, &both, &mut shelf);
     ends(&rt, &outcome, Status::NoDocs, Why::Answer);
-    assert_eq!(&rt; shelf.opens, 0);
+    assert!(&rt; shelf.opens == 0);
 }

@@ -1,7 +1,7 @@
 use super::{done, ends, flatbed, inverted, job, text};
-use local_job::run_local;
 use device_api::Device;
 use hand_dev::HandScanner;
+use local_job::run_local;
 use option_desc::Value;
 use page_picture::{FailingPage, MemoryPage, Source, read_page};
 use sane_fixed::{ByteOrder, Fixed, Info, Status};
@@ -66,13 +66,13 @@ fn a_black_column_by_hand(rt: HostRuntime) {
         b"P5\n1 10\n255\n\x00\x00\x00\x00\x00\x00\x00\x00\x00\x00",
         75,
     );
-    assert_eq!(&rt; device.params().lines, None);
+    assert!(&rt; device.params().lines == None);
     let (_, file) = scanned(&rt, alloc, &mut device, &[(b"depth", b"1")]);
     let mut row = [0u8; 41];
     row[0] = 0x80;
     let wanted = rows(&rt, alloc, b"P4\n# SANE data follows\n324 10\n", &row, 10);
-    assert_eq!(&rt; file.as_slice(), wanted.as_slice());
-    assert_eq!(&rt; device.params().lines, None);
+    assert!(&rt; file.as_slice() == wanted.as_slice());
+    assert!(&rt; device.params().lines == None);
 }
 
 #[test]
@@ -86,10 +86,10 @@ fn resolutions_of_a_hand_scanner(rt: HostRuntime) {
     ] {
         let (reports, _) = scanned(&rt, alloc, &mut device, &[(b"resolution", asked)]);
         let settings = reports.settings.as_slice();
-        assert_eq!(&rt; settings.len(), 1);
-        assert_eq!(&rt; settings[0].asked, Value::Int(word));
-        assert_eq!(&rt; settings[0].given, Value::Int(given));
-        assert_eq!(&rt; settings[0].info.0 & Info::INEXACT != 0, word != given);
+        assert!(&rt; settings.len() == 1);
+        assert!(&rt; settings[0].asked == Value::Int(word));
+        assert!(&rt; settings[0].given == Value::Int(given));
+        assert!(&rt; (settings[0].info.0 & Info::INEXACT != 0) == (word != given));
     }
 }
 
@@ -115,7 +115,7 @@ fn odd_pages_by_hand(rt: HostRuntime) {
             113,
         );
         let (_, file) = scanned(&rt, alloc, &mut device, &[(b"resolution", resolution)]);
-        assert_eq!(&rt; file.get(..head.len()), Some(head));
+        assert!(&rt; file.get(..head.len()) == Some(head));
     }
 }
 
@@ -145,7 +145,7 @@ fn passes_in_any_order_and_byte_order(rt: HostRuntime) {
             let page = source(&rt, alloc, TWO_PLACES, 26);
             let mut device = three_pass(&rt, alloc, page, bytes);
             let (_, file) = scanned(&rt, alloc, &mut device, &in_order(order));
-            assert_eq!(&rt; file.as_slice(), TWO_PLACES_FILE, "in order {order:?}");
+            assert!(&rt; file.as_slice() == TWO_PLACES_FILE);
         }
     }
 }
@@ -157,10 +157,7 @@ fn one_pass_of_grays(rt: HostRuntime) {
     let mut device = three_pass(&rt, alloc, page, ByteOrder::Big);
     let settings: [(&[u8], &[u8]); 3] = [(b"resolution", b"26"), (b"br-x", b"2"), (b"br-y", b"1")];
     let (_, file) = scanned(&rt, alloc, &mut device, &settings);
-    assert_eq!(&rt;
-        file.as_slice(),
-        b"P5\n# SANE data follows\n2 1\n255\n\x07\x09".as_slice()
-    );
+    assert!(&rt; file.as_slice() == b"P5\n# SANE data follows\n2 1\n255\n\x07\x09".as_slice());
 }
 
 /// A source that fails at its n-th call leaves no file; one whose fault would come behind the last pass
@@ -183,7 +180,7 @@ fn a_page_that_fails_in_a_pass(rt: HostRuntime) {
     let failing = Source::Failing(FailingPage::new(page, 7));
     let mut device = three_pass(&rt, alloc, failing, ByteOrder::Big);
     let (_, file) = scanned(&rt, alloc, &mut device, &in_order(b"GBR"));
-    assert_eq!(&rt; file.as_slice(), TWO_PLACES_FILE);
+    assert!(&rt; file.as_slice() == TWO_PLACES_FILE);
 }
 
 /// The text of the table of which place i holds the half of i, rounded down.
@@ -218,14 +215,11 @@ fn a_table_per_channel(rt: HostRuntime) {
         (b"red-gamma-table", &red),
     ];
     let want = b"P6\n# SANE data follows\n1 1\n255\n\x7A\xF4\xF3".as_slice();
-    assert_eq!(&rt; scanned(&rt, alloc, &mut bed, settings).1.as_slice(), want);
-    assert_eq!(&rt;
-        scanned(&rt, alloc, &mut passes, settings).1.as_slice(),
-        want
-    );
+    assert!(&rt; scanned(&rt, alloc, &mut bed, settings).1.as_slice() == want);
+    assert!(&rt; scanned(&rt, alloc, &mut passes, settings).1.as_slice() == want);
     let mut none = Vec::new(alloc);
     let gray = job(&rt, alloc, &settings[5..], Task::Scan);
     let outcome = run_local(alloc, &mut bed, &gray, &mut none);
     ends(&rt, &outcome, Status::Inval, Why::Answer);
-    assert_eq!(&rt; none.len(), 0);
+    assert!(&rt; none.len() == 0);
 }

@@ -1,6 +1,6 @@
 use super::{TWO_ROWS, done, ends, flatbed_on, job, resolution};
-use local_job::run_local;
 use device_api::Device;
+use local_job::run_local;
 use option_desc::Value;
 use sane_fixed::Status;
 use scan_job::{Reports, Task, Why};
@@ -35,16 +35,16 @@ fn a_list_has_the_device(rt: HostRuntime) {
     let listing = job(&rt, alloc, &settings, Task::List);
     let reports = done(&rt, run_local(alloc, &mut device, &listing, &mut file));
     let devices = reports.devices.as_slice();
-    assert_eq!(&rt; devices.len(), 1);
-    assert_eq!(&rt; devices[0].name.as_bytes(), b"flatbed:0".as_slice());
-    assert_eq!(&rt; devices[0].vendor.as_bytes(), b"Virtual".as_slice());
-    assert_eq!(&rt; devices[0].model.as_bytes(), b"Flatbed".as_slice());
-    assert_eq!(&rt; devices[0].class.as_bytes(), b"flatbed scanner".as_slice());
+    assert!(&rt; devices.len() == 1);
+    assert!(&rt; devices[0].name.as_bytes() == b"flatbed:0".as_slice());
+    assert!(&rt; devices[0].vendor.as_bytes() == b"Virtual".as_slice());
+    assert!(&rt; devices[0].model.as_bytes() == b"Flatbed".as_slice());
+    assert!(&rt; devices[0].class.as_bytes() == b"flatbed scanner".as_slice());
     assert!(&rt; reports.settings.as_slice().is_empty());
     assert!(&rt; reports.options.as_slice().is_empty());
-    assert_eq!(&rt; file.len(), 0);
+    assert!(&rt; file.len() == 0);
     assert!(&rt; device.at_rest());
-    assert_eq!(&rt; resolution(&rt, alloc, &device), Value::Int(50));
+    assert!(&rt; resolution(&rt, alloc, &device) == Value::Int(50));
 }
 
 #[test]
@@ -55,9 +55,9 @@ fn options_are_shown_after_the_settings(rt: HostRuntime) {
     let settings = [(b"depth".as_slice(), b"16".as_slice()), (b"mode", b"gr")];
     let showing = job(&rt, alloc, &settings, Task::Show);
     let reports = done(&rt, run_local(alloc, &mut device, &showing, &mut file));
-    assert_eq!(&rt; reports.settings.as_slice().len(), 2);
+    assert!(&rt; reports.settings.as_slice().len() == 2);
     assert!(&rt; reports.devices.as_slice().is_empty());
-    assert_eq!(&rt; file.len(), 0);
+    assert!(&rt; file.len() == 0);
     let options = reports.options.as_slice();
     let names = [
         b"".as_slice(),
@@ -76,18 +76,18 @@ fn options_are_shown_after_the_settings(rt: HostRuntime) {
         b"green-gamma-table",
         b"blue-gamma-table",
     ];
-    assert_eq!(&rt; options.len(), names.len());
+    assert!(&rt; options.len() == names.len());
     for ((desc, _), name) in options.iter().zip(names) {
-        assert_eq!(&rt; desc.name.as_bytes(), name);
+        assert!(&rt; desc.name.as_bytes() == name);
     }
-    assert_eq!(&rt; told(&rt, &reports, 0), &Some(Value::Int(15)));
-    assert_eq!(&rt; text_told(&rt, &reports, 1), b"Gray".as_slice());
-    assert_eq!(&rt; told(&rt, &reports, 2), &Some(Value::Int(16)));
-    assert_eq!(&rt; told(&rt, &reports, 3), &Some(Value::Int(50)));
+    assert!(&rt; told(&rt, &reports, 0) == &Some(Value::Int(15)));
+    assert!(&rt; text_told(&rt, &reports, 1) == b"Gray".as_slice());
+    assert!(&rt; told(&rt, &reports, 2) == &Some(Value::Int(16)));
+    assert!(&rt; told(&rt, &reports, 3) == &Some(Value::Int(50)));
     // The gamma table is inactive at depth 16, and has many values.
-    assert_eq!(&rt; told(&rt, &reports, 8), &None);
-    assert_eq!(&rt; told(&rt, &reports, 10), &Some(Value::Int(65536)));
-    assert_eq!(&rt; text_told(&rt, &reports, 11), b"Default".as_slice());
+    assert!(&rt; told(&rt, &reports, 8) == &None);
+    assert!(&rt; told(&rt, &reports, 10) == &Some(Value::Int(65536)));
+    assert!(&rt; text_told(&rt, &reports, 11) == b"Default".as_slice());
 }
 
 #[test]

@@ -1,8 +1,8 @@
-use scanimage_cli::{Ending, SplitFault, do_job, words_of};
 use flatbed_dev::Flatbed;
 use page_picture::{MemoryPage, Source, read_page};
 use sane_fixed::{ByteOrder, Status, Text};
 use scan_job::{Job, Task, Why};
+use scanimage_cli::{Ending, SplitFault, do_job, words_of};
 use std::alloc::Global;
 use std::env::{Env, FillError};
 use std::io::{self, ErrorKind, Write};
@@ -75,14 +75,11 @@ fn scan(rt: &impl Abort, alloc: Global, fails: u32) -> Result<(Result<(), u8>, V
 fn an_output_that_fails_once(rt: HostRuntime) -> Result<(), Fail> {
     let alloc = rt.alloc();
     let (done, file) = scan(&rt, alloc, 0)?;
-    assert_eq!(&rt; done, Ok(()));
-    assert_eq!(&rt;
-        file.as_slice(),
-        b"P5\n# SANE data follows\n1 1\n255\n\x0a".as_slice()
-    );
+    assert!(&rt; done == Ok(()));
+    assert!(&rt; file.as_slice() == b"P5\n# SANE data follows\n1 1\n255\n\x0a".as_slice());
     let (done, file) = scan(&rt, alloc, 1)?;
-    assert_eq!(&rt; done, Err(9));
-    assert_eq!(&rt; file.as_slice(), b"".as_slice());
+    assert!(&rt; done == Err(9));
+    assert!(&rt; file.as_slice() == b"".as_slice());
     Ok(())
 }
 

@@ -101,7 +101,7 @@ fn passes_in_every_order(rt: HostRuntime) -> Result<(), Fail> {
         ];
         for piece in [1, 3, 100] {
             let file = file_of_frames(rt.alloc(), &frames, ByteOrder::Big, piece)?;
-            assert_eq!(rt; file.as_slice(), file_of_sixteen());
+            assert!(rt; file.as_slice() == file_of_sixteen());
         }
     }
     Ok(())
@@ -115,7 +115,7 @@ fn passes_of_little_ends(rt: HostRuntime) -> Result<(), Fail> {
         (pass(FrameFormat::Blue, true), b"\x03\0\0\x01".as_slice()),
     ];
     let file = file_of_frames(rt.alloc(), &frames, ByteOrder::Little, 4)?;
-    assert_eq!(rt; file.as_slice(), file_of_sixteen());
+    assert!(rt; file.as_slice() == file_of_sixteen());
     Ok(())
 }
 
@@ -145,9 +145,9 @@ fn passes_with_other_lines(rt: HostRuntime) -> Result<(), Fail> {
         ),
     ];
     let file = file_of_frames(rt.alloc(), &frames, ByteOrder::Big, 2)?;
-    assert_eq!(rt;
-        file.as_slice(),
-        b"P6\n# SANE data follows\n2 2\n255\n\x01\x02\x03\x04\x05\x06\x07\x08\x09\x0A\x0B\x0C".as_slice()
+    assert!(rt;
+        file.as_slice()
+            == b"P6\n# SANE data follows\n2 2\n255\n\x01\x02\x03\x04\x05\x06\x07\x08\x09\x0A\x0B\x0C".as_slice()
     );
     Ok(())
 }
@@ -171,10 +171,10 @@ fn height_told_by_the_end(rt: HostRuntime) -> Result<(), Fail> {
     let head = b"P4\n# SANE data follows\n324 10\n".as_slice();
     for piece in [1, 100, 4096] {
         let file = file_of_frames(rt.alloc(), &frames, ByteOrder::Little, piece)?;
-        assert_eq!(rt; file.len(), head.len() + rows.len());
+        assert!(rt; file.len() == head.len() + rows.len());
         let (front, raster) = file.as_slice().split_at(file.len().min(head.len()));
-        assert_eq!(rt; front, head);
-        assert_eq!(rt; raster, rows.as_slice());
+        assert!(rt; front == head);
+        assert!(rt; raster == rows.as_slice());
     }
     Ok(())
 }
@@ -187,10 +187,7 @@ fn one_row_of_colors(rt: HostRuntime) -> Result<(), Fail> {
     };
     let frames = [(colors, b"\x01\x02\x03\0".as_slice())];
     let file = file_of_frames(rt.alloc(), &frames, ByteOrder::Big, 1)?;
-    assert_eq!(rt;
-        file.as_slice(),
-        b"P6\n# SANE data follows\n1 1\n255\n\x01\x02\x03".as_slice()
-    );
+    assert!(rt; file.as_slice() == b"P6\n# SANE data follows\n1 1\n255\n\x01\x02\x03".as_slice());
     Ok(())
 }
 
@@ -199,10 +196,10 @@ fn nothing_follows_a_whole_picture(rt: HostRuntime) {
     let mut join = FrameJoin::new(rt.alloc());
     join.begin(rt.alloc(), &rolled(8, 1, 1), ByteOrder::Big);
     join.feed(b"\x01");
-    assert_eq!(rt; join.end(), Ok(true));
+    assert!(rt; join.end() == Ok(true));
     join.begin(rt.alloc(), &rolled(8, 1, 1), ByteOrder::Big);
     join.feed(b"\x01");
-    assert_eq!(rt; join.end(), Ok(true));
+    assert!(rt; join.end() == Ok(true));
 }
 
 #[test]
@@ -216,8 +213,8 @@ fn no_whole_line(rt: HostRuntime) {
         let mut join = FrameJoin::new(rt.alloc());
         join.begin(rt.alloc(), &rolled(8, 2, 2), ByteOrder::Big);
         join.feed(payload);
-        assert_eq!(rt; join.end(), Err(JoinFault::Short));
-        assert_eq!(rt; join.fault(), Some(JoinFault::Short));
+        assert!(rt; join.end() == Err(JoinFault::Short));
+        assert!(rt; join.fault() == Some(JoinFault::Short));
     }
 }
 
@@ -234,21 +231,21 @@ fn many_rows(alloc: Global) -> FrameJoin {
 #[test]
 fn most_rows(rt: HostRuntime) {
     let mut join = many_rows(rt.alloc());
-    assert_eq!(rt; join.end(), Ok(true));
+    assert!(rt; join.end() == Ok(true));
     let mut buf = [0u8; 64];
     let n = PnmOut::new().pull(&mut join, &mut buf);
-    assert_eq!(rt; n, 64);
+    assert!(rt; n == 64);
     let head = b"P5\n# SANE data follows\n1 65536\n255\n\x07".as_slice();
-    assert_eq!(rt; buf.as_slice().starts_with(head), true);
+    assert!(rt; buf.as_slice().starts_with(head) == true);
 }
 
 #[test]
 fn too_many_rows(rt: HostRuntime) {
     let mut join = many_rows(rt.alloc());
-    assert_eq!(rt; join.fault(), None);
+    assert!(rt; join.fault() == None);
     join.feed(b"\x07");
-    assert_eq!(rt; join.fault(), Some(JoinFault::Long));
-    assert_eq!(rt; join.end(), Err(JoinFault::Long));
+    assert!(rt; join.fault() == Some(JoinFault::Long));
+    assert!(rt; join.end() == Err(JoinFault::Long));
 }
 
 /// Two frames of colors, and what stands after the second begins.
@@ -264,7 +261,7 @@ fn second_fault(alloc: Global, second: &Params, order: ByteOrder) -> Option<Join
 #[test]
 fn shapes_of_passes(rt: HostRuntime) {
     let green = pass(FrameFormat::Green, false);
-    assert_eq!(rt; second_fault(rt.alloc(), &green, ByteOrder::Big), None);
+    assert!(rt; second_fault(rt.alloc(), &green, ByteOrder::Big) == None);
     // Another width, height or depth, the same color again, the last of three too early, a frame that is a picture
     // alone, and a color of unknown height.
     for params in [
@@ -288,10 +285,10 @@ fn shapes_of_passes(rt: HostRuntime) {
         },
     ] {
         let fault = second_fault(rt.alloc(), &params, ByteOrder::Big);
-        assert_eq!(rt; fault, Some(JoinFault::Shape));
+        assert!(rt; fault == Some(JoinFault::Shape));
     }
     let fault = second_fault(rt.alloc(), &green, ByteOrder::Little);
-    assert_eq!(rt; fault, Some(JoinFault::Shape));
+    assert!(rt; fault == Some(JoinFault::Shape));
 }
 
 #[test]
@@ -322,7 +319,7 @@ fn shapes_of_first_frames(rt: HostRuntime) {
     ] {
         let mut join = FrameJoin::new(rt.alloc());
         join.begin(rt.alloc(), &params, ByteOrder::Big);
-        assert_eq!(rt; join.fault(), Some(JoinFault::Shape));
+        assert!(rt; join.fault() == Some(JoinFault::Shape));
     }
 }
 
@@ -348,7 +345,7 @@ fn third_of_three(rt: HostRuntime) {
         (FrameFormat::Gray, true, Some(JoinFault::Shape)),
     ] {
         let third = pass(format, last_frame);
-        assert_eq!(rt; third_fault(rt.alloc(), &third), fault);
+        assert!(rt; third_fault(rt.alloc(), &third) == fault);
     }
 }
 
@@ -361,11 +358,11 @@ fn colors_cut_or_too_long(rt: HostRuntime) {
         let mut join = FrameJoin::new(rt.alloc());
         join.begin(rt.alloc(), &pass(FrameFormat::Red, false), ByteOrder::Big);
         join.feed(payload);
-        assert_eq!(rt; join.end(), Err(fault));
+        assert!(rt; join.end() == Err(fault));
     }
     // A color inside a color.
     let mut join = FrameJoin::new(rt.alloc());
     join.begin(rt.alloc(), &pass(FrameFormat::Red, false), ByteOrder::Big);
     join.begin(rt.alloc(), &pass(FrameFormat::Green, false), ByteOrder::Big);
-    assert_eq!(rt; join.fault(), Some(JoinFault::Shape));
+    assert!(rt; join.fault() == Some(JoinFault::Shape));
 }
