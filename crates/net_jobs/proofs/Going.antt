@@ -20,7 +20,7 @@ use Rattle.net_jobs.proofs.Receiving.{stage_lost, lost_from}
 
 -- ---- no data connection is open while none is received
 
-none_open : {R : Type 0} (left_of : R → Option (List ℕ)) (coming0 coming : Option (List (List ℕ))) (streams : List (List ℕ)) (stream : Option R) (c : Talker) (past : Past) → is_receiving c.outcome c.progress ≡ false
+pub none_open : {R : Type 0} (left_of : R → Option (List ℕ)) (coming0 coming : Option (List (List ℕ))) (streams : List (List ℕ)) (stream : Option R) (c : Talker) (past : Past) → is_receiving c.outcome c.progress ≡ false
     → Linked left_of coming0 coming streams stream c past → stream ≡ None
 none_open left_of coming0 coming streams None c past e l = refl
 none_open left_of coming0 coming streams (Some conn) c past e l = absurd (let clash : true ≡ false = sym l.receives ∙ e in cc)

@@ -42,7 +42,7 @@ use Rattle.net_jobs.proofs.Receiving.{receiving_runs}
 
 -- ---- each frame of a job that has not ended otherwise ended with EOF
 
-runs_on : (o : Outcome) → is_running o ≡ true → is_ended o ≡ false
+pub runs_on : (o : Outcome) → is_running o ≡ true → is_ended o ≡ false
 runs_on Running e = refl
 runs_on (Done reports) e = refl
 runs_on (Ended status why) e = absurd (let clash : false ≡ true = e in cc)
@@ -52,7 +52,7 @@ eof_only task notes file past None e = absurd (let clash : true ≡ false = e in
 eof_only task notes file past (Some statuses.Eof) e = refl
 eof_only task notes file past (Some status) e = absurd (let clash : true ≡ false = e in cc)
 
-turning_runs : (o : Outcome) (progress : Progress) → turns o progress ≡ true → is_ended o ≡ false
+pub turning_runs : (o : Outcome) (progress : Progress) → turns o progress ≡ true → is_ended o ≡ false
 turning_runs Running progress e = refl
 turning_runs (Done reports) progress e = refl
 turning_runs (Ended status why) progress e = absurd (let clash : false ≡ true = e in cc)
@@ -74,7 +74,7 @@ ends_well errand first (Gave bytes ∷ before) course r e = ends_well errand fir
 abbrev gave_course : Course → List ℕ → Course
 gave_course course bytes = record course { talk = record course.talk { past = after_pull bytes course.talk.past } }
 
-gave_linked : {R : Type 0} (left_of : R → Option (List ℕ)) (coming0 coming : Option (List (List ℕ))) (streams : List (List ℕ)) (stream : Option R) (c : Talker) (join : Joining) (past : Past) (bytes : List ℕ)
+pub gave_linked : {R : Type 0} (left_of : R → Option (List ℕ)) (coming0 coming : Option (List (List ℕ))) (streams : List (List ℕ)) (stream : Option R) (c : Talker) (join : Joining) (past : Past) (bytes : List ℕ)
     → Linked left_of coming0 coming streams stream c past → Linked left_of coming0 coming streams stream (record c { join = join }) (after_pull bytes past)
 gave_linked left_of coming0 coming streams None c join past bytes l = record { wholes = l.wholes; begin = l.begin; brought = l.brought; empty = l.empty }
 gave_linked left_of coming0 coming streams (Some conn) c join past bytes l = record {
@@ -204,11 +204,11 @@ pub drained_as : {C R : Type 0} (remaining contents : C → Option (List ℕ)) (
 drained_as remaining contents left_of job first coming0 held failed other control coming stream c holds e d = subst (λ (b : Bool). Drained remaining contents left_of job first coming0 held b control coming stream c holds) e d
 
 -- the control connection is lost, if the job runs
-cut_out : (runs : Bool) (c new : Talker) → new ≡ (if runs then ended statuses.IoError whys.Lost c else c) → new.out ≡ c.out
+pub cut_out : (runs : Bool) (c new : Talker) → new ≡ (if runs then ended statuses.IoError whys.Lost c else c) → new.out ≡ c.out
 cut_out true c new e = ap (λ (v : Talker). v.out) e
 cut_out false c new e = ap (λ (v : Talker). v.out) e
 
-cut_alive : (runs : Bool) (c new : Talker) → new ≡ (if runs then ended statuses.IoError whys.Lost c else c) → is_ended new.outcome ≡ false → is_ended c.outcome ≡ false
+pub cut_alive : (runs : Bool) (c new : Talker) → new ≡ (if runs then ended statuses.IoError whys.Lost c else c) → is_ended new.outcome ≡ false → is_ended c.outcome ≡ false
 cut_alive true c new e alive = absurd (let clash : true ≡ false = sym (ap (λ (v : Talker). is_ended v.outcome) e) ∙ alive in cc)
 cut_alive false c new e alive = ap (λ (v : Talker). is_ended v.outcome) (sym e) ∙ alive
 
@@ -321,7 +321,7 @@ not_done talk rest outcome reports e (ByMemory x) = let clash : Done reports ≡
 not_done talk rest outcome reports e (ByGarble procedure awaits no_start x) = let clash : Done reports ≡ Ended statuses.IoError whys.Malformed = sym e ∙ x in cc
 not_done talk rest outcome reports e (ByShape task fault x) = unjoined_not_done task talk.notes fault reports (sym x ∙ e)
 
-followed : {R : Type 0} (left_of : R → Option (List ℕ)) (coming0 coming : Option (List (List ℕ))) (course : Course) (rest : List ℕ) (stream : Option R) (c : Talker) (past : Past) (reports : Reports) → c.outcome ≡ Done reports
+pub followed : {R : Type 0} (left_of : R → Option (List ℕ)) (coming0 coming : Option (List (List ℕ))) (course : Course) (rest : List ℕ) (stream : Option R) (c : Talker) (past : Past) (reports : Reports) → c.outcome ≡ Done reports
     → Follows left_of coming0 coming course rest stream c past ⊎ Falls coming0 coming course rest c → Follows left_of coming0 coming course rest stream c past
 followed left_of coming0 coming course rest stream c past reports e (inl f) = f
 followed left_of coming0 coming course rest stream c past reports e (inr f) = absurd (not_done course.talk rest c.outcome reports e f.cause)
@@ -332,12 +332,12 @@ pub record Unopened (coming0 coming : Option (List (List ℕ))) (streams : List 
   pub begin : BeginWith wholes streams
   pub brought : HasBrought coming0 coming wholes
 
-unopened : {R : Type 0} (left_of : R → Option (List ℕ)) (coming0 coming : Option (List (List ℕ))) (streams : List (List ℕ)) (stream : Option R) (c : Talker) (past : Past) → is_running c.outcome ≡ false
+pub unopened : {R : Type 0} (left_of : R → Option (List ℕ)) (coming0 coming : Option (List (List ℕ))) (streams : List (List ℕ)) (stream : Option R) (c : Talker) (past : Past) → is_running c.outcome ≡ false
     → Linked left_of coming0 coming streams stream c past → Unopened coming0 coming streams
 unopened left_of coming0 coming streams None c past over l = record { wholes = l.wholes; begin = l.begin; brought = l.brought }
 unopened left_of coming0 coming streams (Some conn) c past over l = absurd (let clash : true ≡ false = sym (receiving_runs c.outcome c.progress l.receives) ∙ over in cc)
 
-task_is : (c : Talker) (job : Job) → c.errand ≡ errand_of job → c.errand.task ≡ job.task
+pub task_is : (c : Talker) (job : Job) → c.errand ≡ errand_of job → c.errand.task ≡ job.task
 task_is c job e = ap (λ (x : Errand). x.task) e
 
 scan_joined : (outcome : Outcome) (progress : Progress) (past : Past) (task : Task) (reports : Reports) → task ≡ tasks.Scan → outcome ≡ Done reports → Fits task outcome progress past → IsJoined past
@@ -389,7 +389,7 @@ ended_unjoined task past single f = f
 pub ran_by : {C R : Type 0} (remaining contents : C → Option (List ℕ)) (left_of : R → Option (List ℕ)) (job : Job) (first : C) (coming0 : Option (List (List ℕ))) (control : C) (coming : Option (List (List ℕ))) (stream : Option R) (c : Talker) (given : Given) (read_ wrote left : List ℕ) (failed : Bool)
     → Calls remaining contents first read_ wrote failed control → (s : Stage left_of job read_ wrote left coming0 coming given stream c)
     → (stands : Follows left_of coming0 coming s.course s.rest stream c s.past ⊎ Falls coming0 coming s.course s.rest c)
-    → (ran : Ran remaining contents job first coming0 control coming) × ((ran.course.talk.outcome ≡ c.outcome) ⊎ EndsBy ran.course.talk ran.rest c.outcome)
+    → (ran : Ran remaining contents job first coming0 control coming) × ((ran.course.talk.outcome ≡ c.outcome) ⊎ EndsBy ran.course.talk ran.rest c.outcome) × (ran.course.pages ≡ given.pages)
 ran_by remaining contents left_of job first coming0 control coming stream c given read_ wrote left failed calls s (inl f) =
     let l = lets_go left_of coming0 coming s.course.streams stream c s.past f.linked in (
       record {
@@ -408,6 +408,7 @@ ran_by remaining contents left_of job first coming0 control coming stream c give
         few = l.few;
       },
       inl (ap (λ (t : Talk). t.outcome) (sym f.talk_is)),
+      s.pages_is,
     )
 ran_by remaining contents left_of job first coming0 control coming stream c given read_ wrote left failed calls s (inr f) = (
   record {
@@ -426,9 +427,10 @@ ran_by remaining contents left_of job first coming0 control coming stream c give
     few = f.few;
   },
   inr f.cause,
+  s.pages_is,
 )
 
-cause_of : (talk : Talk) (rest : List ℕ) (outcome told : Outcome) → outcome ≡ told → (talk.outcome ≡ outcome) ⊎ EndsBy talk rest outcome → (talk.outcome ≡ told) ⊎ (EndsBy talk rest told ⊎ (told ≡ Ended statuses.IoError whys.Sink))
+pub cause_of : (talk : Talk) (rest : List ℕ) (outcome told : Outcome) → outcome ≡ told → (talk.outcome ≡ outcome) ⊎ EndsBy talk rest outcome → (talk.outcome ≡ told) ⊎ (EndsBy talk rest told ⊎ (told ≡ Ended statuses.IoError whys.Sink))
 cause_of talk rest outcome told e (inl x) = inl (x ∙ e)
 cause_of talk rest outcome told e (inr x) = inr (inl (subst (λ (o : Outcome). EndsBy talk rest o) e x))
 

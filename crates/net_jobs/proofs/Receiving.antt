@@ -26,7 +26,7 @@ use Rattle.client_rules.specs.declared.progress.Progress.TheVariants as stages
 use Rattle.client_rules.specs.declared.progress.Notes.{Notes}
 use Rattle.client_rules.specs.declared.progress.Next.TheVariants.{Wait, Finish}
 use Rattle.client_rules.specs.Talking.{unjoined, page_whole, frame_joined, frame_ended_by, status_of}
-use Rattle.client_rules.specs.Talks.{Talk, errand_of, is_running, is_receiving, is_lost_by, next_outcome, next_progress, took, wanted, connected, FitsAt}
+use Rattle.client_rules.specs.Talks.{Talk, errand_of, is_running, is_receiving, is_ended, is_lost_by, next_outcome, next_progress, took, wanted, connected, FitsAt}
 use Rattle.client_rules.proofs.Fitting.{may_end}
 use Rattle.net_client.specs.Talker.{Talker, talk_of, Serves, ended, phase_connected}
 use Rattle.net_client.specs.Imaging.{Receives, Goes, Ends, Fails, EndsFrame}
@@ -199,7 +199,7 @@ abbrev text_in : List ℕ → Option (List ℕ) → List ℕ
 text_in else_ None = else_
 text_in else_ (Some text) = text
 
-behind_some : (out new : List ℕ) (text : Option (List ℕ)) → behind out text ≡ Some new → (said : List ℕ) × (text ≡ Some said) × (new ≡ out ++ said)
+pub behind_some : (out new : List ℕ) (text : Option (List ℕ)) → behind out text ≡ Some new → (said : List ℕ) × (text ≡ Some said) × (new ≡ out ++ said)
 behind_some out new None e = absurd (let clash : None ≡ Some new = e in cc)
 behind_some out new (Some said) e = (said, refl, ap (λ (o : Option (List ℕ)). text_in new o) (sym e))
 
@@ -341,6 +341,12 @@ unjoined_over task notes Shape = refl
 unjoined_over task notes Long = refl
 unjoined_over task notes Short = refl
 unjoined_over task notes NoMem = refl
+
+pub unjoined_ended : (task : Task) (notes : Notes) (fault : JoinFault) → is_ended (next_outcome task notes (unjoined fault)) ≡ true
+unjoined_ended task notes Shape = refl
+unjoined_ended task notes Long = refl
+unjoined_ended task notes Short = refl
+unjoined_ended task notes NoMem = refl
 
 pub stage_fails : {R : Type 0} (left_of : R → Option (List ℕ)) (job : Job) (read_ wrote : List ℕ) (coming0 coming : Option (List (List ℕ))) (given : Given) (was : R) (old new : Talker) (piece : List ℕ)
     → is_running old.outcome ≡ true
