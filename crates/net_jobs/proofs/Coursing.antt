@@ -87,7 +87,7 @@ hears_keep errand t u (r ∷ rs) text sent clean h =
 
 -- the course with replies more
 abbrev pub heard_on : Course → List ℕ → List ℕ → Talk → Course
-heard_on was text sent u = record { text = was.text ++ text; streams = was.streams; sent = was.sent ++ sent; talk = u }
+heard_on was text sent u = record { text = was.text ++ text; streams = was.streams; pages = was.pages; sent = was.sent ++ sent; talk = u }
 
 live_next : (task : Task) (notes : Notes) (next : Next) (procedure : Procedure) → awaited (next_progress next) ≡ Some procedure → is_running (next_outcome task notes next) ≡ true
 live_next task notes (Wait progress) procedure e = refl
@@ -102,8 +102,8 @@ heard_none was text sent u a b e =
 
 heard_twice : (was : Course) (front back said more : List ℕ) (t u : Talk) → heard_on (heard_on was front said t) back more u ≡ heard_on was (front ++ back) (said ++ more) u
 heard_twice was front back said more t u =
-    ap (λ (l : List ℕ). record { text = l; streams = was.streams; sent = (was.sent ++ said) ++ more; talk = u }) (append_assoc was.text front back)
-    ∙ ap (λ (l : List ℕ). record { text = was.text ++ (front ++ back); streams = was.streams; sent = l; talk = u }) (append_assoc was.sent said more)
+    ap (λ (l : List ℕ). record { text = l; streams = was.streams; pages = was.pages; sent = (was.sent ++ said) ++ more; talk = u }) (append_assoc was.text front back)
+    ∙ ap (λ (l : List ℕ). record { text = was.text ++ (front ++ back); streams = was.streams; pages = was.pages; sent = l; talk = u }) (append_assoc was.sent said more)
 
 pub runs_hear : (errand : Errand) (first was : Course) (events : List Event) (rs : List Reply) (text sent : List ℕ) (u : Talk) → ((procedure : Procedure) → awaited was.talk.progress ≡ Some procedure → is_running was.talk.outcome ≡ true)
     → Runs errand first events was → Hears errand was.talk rs text sent u → (more : List Event) × Runs errand first more (heard_on was text sent u)

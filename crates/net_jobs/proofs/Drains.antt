@@ -33,7 +33,7 @@ no_turn v past e s = no_turn_by v.errand.task v.outcome v.progress past e s.fits
 
 -- ---- no fault stands in a scan that has not ended otherwise
 
-joined_calm : (fault : Option JoinFault) (under : Option Frame) (ended : List Frame) → answer_by fault under ended ≡ Ok true → fault ≡ None
+pub joined_calm : (fault : Option JoinFault) (under : Option Frame) (ended : List Frame) → answer_by fault under ended ≡ Ok true → fault ≡ None
 joined_calm (Some f) under ended e = absurd (let clash : Err f ≡ Ok true = e in cc)
 joined_calm None under ended e = refl
 
@@ -55,10 +55,10 @@ pub record IsUnderway (past : Past) (old : Talker) (first : Option (List ℕ)) (
   pub alive : 0 < pulls → is_ended old.outcome ≡ false
 
 -- giving nothing changes nothing
-pulled_none : (past : Past) → after_pull [] past ≡ past
+pub pulled_none : (past : Past) → after_pull [] past ≡ past
 pulled_none past = ap (λ (l : List ℕ). record past { given = l }) (append-nil past.given)
 
-pulled_twice : (past : Past) (xs ys : List ℕ) → after_pull ys (after_pull xs past) ≡ after_pull (xs ++ ys) past
+pub pulled_twice : (past : Past) (xs ys : List ℕ) → after_pull ys (after_pull xs past) ≡ after_pull (xs ++ ys) past
 pulled_twice past xs ys = ap (λ (l : List ℕ). record past { given = l }) (append_assoc past.given xs ys)
 
 pub begun : (past : Past) (old : Talker) (first contents : Option (List ℕ)) → Serves past old → Appends first contents past.given → IsUnderway past old first 0 old contents
@@ -71,10 +71,10 @@ begun past old first contents serves taken = record {
   alive = λ positive. absurd (omega (arith, positive));
 }
 
-join_only : (old was now : Talker) → was ≡ record old { join = was.join } → now ≡ record was { join = now.join } → now ≡ record old { join = now.join }
+pub join_only : (old was now : Talker) → was ≡ record old { join = was.join } → now ≡ record was { join = now.join } → now ≡ record old { join = now.join }
 join_only old was now a b = b ∙ ap (λ (v : Talker). record v { join = now.join }) a
 
-not_ended : (b : Bool) (n : ℕ) → n ≢ 0 → (b ≡ true → n ≡ 0) → b ≡ false
+pub not_ended : (b : Bool) (n : ℕ) → n ≢ 0 → (b ≡ true → n ≡ 0) → b ≡ false
 not_ended true n some none = absurd (some (none refl))
 not_ended false n some none = refl
 
@@ -94,7 +94,7 @@ one_more past first before after_ i n old was now piece some size carried stoppe
       alive = λ positive. sym (ap (λ (v : Talker). is_ended v.outcome) u.rest) ∙ not_ended (is_ended was.outcome) n some (λ e. (stopped e).0);
     }
 
-unmoved : (b : Bool) (was now : Talker) → b ≡ b → (b ≡ true → now ≡ was) → (b ≡ false → now ≡ record was { join = now.join }) → now ≡ record was { join = now.join }
+pub unmoved : (b : Bool) (was now : Talker) → b ≡ b → (b ≡ true → now ≡ was) → (b ≡ false → now ≡ record was { join = now.join }) → now ≡ record was { join = now.join }
 unmoved true was now e stopped same = stopped refl ∙ ap (λ (j : Joining). record was { join = j }) (sym (ap (λ (v : Talker). v.join) (stopped refl)))
 unmoved false was now e stopped same = same refl
 

@@ -28,11 +28,11 @@ use Rattle.client_rules.specs.declared.progress.Link.TheVariants as links
 use Rattle.client_rules.specs.declared.progress.Progress.{Progress}
 use Rattle.client_rules.specs.declared.progress.Notes.{Notes}
 use Rattle.client_rules.specs.Talking.{unjoined, frame_ended_by, status_of}
-use Rattle.client_rules.specs.Talks.{Talk, errand_of, is_running, is_ended, is_batch, is_lost_by, next_outcome, Fits, FitsEnded}
+use Rattle.client_rules.specs.Talks.{Talk, errand_of, is_running, is_ended, is_batch, is_lost_by, turns, next_outcome, Fits, FitsEnded}
 use Rattle.net_client.specs.Talker.{Talker, Serves, IsFresh, ended}
-use Rattle.net_jobs.specs.Courses.{Event, Replied, Opened, Came, Finished, Gave, Course, Did, Runs, EndWell}
+use Rattle.net_jobs.specs.Courses.{Event, Replied, Opened, Came, Finished, Gave, Turned, Course, Did, Runs, EndWell}
 use Rattle.net_jobs.specs.Links.{Calls, Wrote, Failed, HasBrought, BeginWith}
-use Rattle.net_jobs.specs.Going.{Linked, Follows, Falls, Stage, Going, EndsBy, ByLoss, ByMemory, ByGarble, ByShape}
+use Rattle.net_jobs.specs.Going.{Linked, Follows, Falls, Given, nothing, Stage, Going, EndsBy, ByLoss, ByMemory, ByGarble, ByShape}
 use Rattle.net_jobs.specs.Promised.{Ran, RanDone, RanEnded, HasRun}
 use Rattle.net_jobs.specs.Draining.{IsDrainedTo, StopsShort}
 use Rattle.net_jobs.proofs.Coursing.{did_quiet}
@@ -42,7 +42,7 @@ use Rattle.net_jobs.proofs.Receiving.{receiving_runs}
 
 -- ---- each frame of a job that has not ended otherwise ended with EOF
 
-runs_on : (o : Outcome) → is_running o ≡ true → is_ended o ≡ false
+pub runs_on : (o : Outcome) → is_running o ≡ true → is_ended o ≡ false
 runs_on Running e = refl
 runs_on (Done reports) e = refl
 runs_on (Ended status why) e = absurd (let clash : false ≡ true = e in cc)
@@ -51,6 +51,11 @@ eof_only : (task : Task) (notes : Notes) (file : ℕ) (past : Past) (status : Op
 eof_only task notes file past None e = absurd (let clash : true ≡ false = e in cc)
 eof_only task notes file past (Some statuses.Eof) e = refl
 eof_only task notes file past (Some status) e = absurd (let clash : true ≡ false = e in cc)
+
+pub turning_runs : (o : Outcome) (progress : Progress) → turns o progress ≡ true → is_ended o ≡ false
+turning_runs Running progress e = refl
+turning_runs (Done reports) progress e = refl
+turning_runs (Ended status why) progress e = absurd (let clash : false ≡ true = e in cc)
 
 pub ends_well : (errand : Errand) (first : Course) (events : List Event) (course : Course) → Runs errand first events course → is_ended course.talk.outcome ≡ false → EndWell events
 ends_well errand first [] course r e = tt
@@ -61,6 +66,7 @@ ends_well errand first (Finished status ∷ before) course r e = (
   eof_only errand.task r.0.talk.notes r.0.talk.notes.file r.0.talk.past (status_of status) (ap (λ (c : Course). is_ended c.talk.outcome) (sym r.2.7) ∙ e),
   ends_well errand first before r.0 r.1 (runs_on r.0.talk.outcome r.2.3),
 )
+ends_well errand first (Turned bytes ∷ before) course r e = ends_well errand first before r.0 r.1 (turning_runs r.0.talk.outcome r.0.talk.progress r.2.1)
 ends_well errand first (Gave bytes ∷ before) course r e = ends_well errand first before r.0 r.1 (ap (λ (c : Course). is_ended c.talk.outcome) (sym r.2) ∙ e)
 
 -- ---- what was drained
@@ -68,7 +74,7 @@ ends_well errand first (Gave bytes ∷ before) course r e = ends_well errand fir
 abbrev gave_course : Course → List ℕ → Course
 gave_course course bytes = record course { talk = record course.talk { past = after_pull bytes course.talk.past } }
 
-gave_linked : {R : Type 0} (left_of : R → Option (List ℕ)) (coming0 coming : Option (List (List ℕ))) (streams : List (List ℕ)) (stream : Option R) (c : Talker) (join : Joining) (past : Past) (bytes : List ℕ)
+pub gave_linked : {R : Type 0} (left_of : R → Option (List ℕ)) (coming0 coming : Option (List (List ℕ))) (streams : List (List ℕ)) (stream : Option R) (c : Talker) (join : Joining) (past : Past) (bytes : List ℕ)
     → Linked left_of coming0 coming streams stream c past → Linked left_of coming0 coming streams stream (record c { join = join }) (after_pull bytes past)
 gave_linked left_of coming0 coming streams None c join past bytes l = record { wholes = l.wholes; begin = l.begin; brought = l.brought; empty = l.empty }
 gave_linked left_of coming0 coming streams (Some conn) c join past bytes l = record {
@@ -84,17 +90,22 @@ gave_linked left_of coming0 coming streams (Some conn) c join past bytes l = rec
   receives = l.receives;
 }
 
-stage_gave_by : {R : Type 0} (left_of : R → Option (List ℕ)) (job : Job) (read_ wrote left : List ℕ) (coming0 coming : Option (List (List ℕ))) (given bytes : List ℕ) (stream : Option R) (c : Talker) (join : Joining)
-    → c.errand ≡ errand_of job → (past : Past) → past.given ≡ given → Serves (after_pull bytes past) (record c { join = join }) → (course : Course) (rest : List ℕ) → Did job course read_ wrote rest left
+-- bytes more of the file under way
+abbrev pub more_given : Given → List ℕ → Given
+more_given given bytes = record { pages = given.pages; bytes = given.bytes ++ bytes }
+
+pub stage_gave_by : {R : Type 0} (left_of : R → Option (List ℕ)) (job : Job) (read_ wrote left : List ℕ) (coming0 coming : Option (List (List ℕ))) (given : Given) (bytes : List ℕ) (stream : Option R) (c : Talker) (join : Joining)
+    → c.errand ≡ errand_of job → (past : Past) → past.given ≡ given.bytes → Serves (after_pull bytes past) (record c { join = join }) → (course : Course) (rest : List ℕ) → course.pages ≡ given.pages → Did job course read_ wrote rest left
     → Follows left_of coming0 coming course rest stream c past ⊎ Falls coming0 coming course rest c
-    → (s : Stage left_of job read_ wrote left coming0 coming (given ++ bytes) stream (record c { join = join })) × (s.past ≡ after_pull bytes past)
-stage_gave_by left_of job read_ wrote left coming0 coming given bytes stream c join errand past given_is serves course rest did (inl f) = (
+    → (s : Stage left_of job read_ wrote left coming0 coming (more_given given bytes) stream (record c { join = join })) × (s.past ≡ after_pull bytes past)
+stage_gave_by left_of job read_ wrote left coming0 coming given bytes stream c join errand past given_is serves course rest pages_is did (inl f) = (
   record {
     errand = errand;
     past = after_pull bytes past;
     serves = serves;
     given_is = ap (λ (l : List ℕ). l ++ bytes) given_is;
     course = gave_course course bytes;
+    pages_is = pages_is;
     rest = rest;
     did = did_quiet job course (gave_course course bytes) (Gave bytes) read_ wrote rest left refl refl refl did;
     stands = inl (record {
@@ -105,13 +116,14 @@ stage_gave_by left_of job read_ wrote left coming0 coming given bytes stream c j
   },
   refl,
 )
-stage_gave_by left_of job read_ wrote left coming0 coming given bytes stream c join errand past given_is serves course rest did (inr f) = (
+stage_gave_by left_of job read_ wrote left coming0 coming given bytes stream c join errand past given_is serves course rest pages_is did (inr f) = (
   record {
     errand = errand;
     past = after_pull bytes past;
     serves = serves;
     given_is = ap (λ (l : List ℕ). l ++ bytes) given_is;
     course = course;
+    pages_is = pages_is;
     rest = rest;
     did = did;
     stands = inr (record {
@@ -131,31 +143,31 @@ stage_gave_by left_of job read_ wrote left coming0 coming given bytes stream c j
 -- ---- between two turns: how far the job is, and that the output holds what was given of the file
 
 pub record Drained {C R : Type 0} (remaining contents : C → Option (List ℕ)) (left_of : R → Option (List ℕ)) (job : Job) (first : C) (coming0 : Option (List (List ℕ))) (held : Option (List ℕ)) (failed : Bool) (control : C) (coming : Option (List (List ℕ))) (stream : Option R) (c : Talker) (holds : Option (List ℕ)) : Type 0 where
-  pub given : List ℕ
+  pub given : Given
   pub going : Going remaining contents left_of job first coming0 given failed control coming stream c
-  pub taken : Appends held holds given
-  pub none : (job.task ≡ tasks.Scan → ⊥) → given ≡ []
-  pub shown : job.task ≡ tasks.Scan → is_ended c.outcome ≡ false → IsJoined going.stage.past → (p : Picture) → ShowsFrames going.stage.past.ended p → Denotes given p
+  pub taken : Appends held holds given.bytes
+  pub none : (job.task ≡ tasks.Scan → ⊥) → given.bytes ≡ []
+  pub shown : job.task ≡ tasks.Scan → is_ended c.outcome ≡ false → IsJoined going.stage.past → (p : Picture) → ShowsFrames going.stage.past.ended p → Denotes given.bytes p
 
 pub drained_first : {C R : Type 0} (remaining contents : C → Option (List ℕ)) (left_of : R → Option (List ℕ)) (job : Job) (control : C) (coming : Option (List (List ℕ))) (held : Option (List ℕ)) (c : Talker) → IsFresh job c
     → Drained remaining contents left_of job control coming held false control coming None c held
 drained_first remaining contents left_of job control coming held c f =
     let g = going_begun remaining contents left_of job control coming c f in
     record {
-      given = [];
+      given = nothing;
       going = g.0;
       taken = Appends-nil held;
       none = λ other. refl;
       shown = λ scan alive joined. absurd (let clash : Ok false ≡ Ok true = subst (λ (q : Past). IsJoined q) g.1 joined in cc);
     }
 
-drained_at : {C R : Type 0} (remaining contents : C → Option (List ℕ)) (left_of : R → Option (List ℕ)) (job : Job) (first : C) (coming0 : Option (List (List ℕ))) (held : Option (List ℕ)) (failed : Bool) (control : C) (coming : Option (List (List ℕ))) (stream : Option R) (c now : Talker) (was holds : Option (List ℕ)) (given : List ℕ)
+drained_at : {C R : Type 0} (remaining contents : C → Option (List ℕ)) (left_of : R → Option (List ℕ)) (job : Job) (first : C) (coming0 : Option (List (List ℕ))) (held : Option (List ℕ)) (failed : Bool) (control : C) (coming : Option (List (List ℕ))) (stream : Option R) (c now : Talker) (was holds : Option (List ℕ)) (given : Given)
     → job.task ≡ tasks.Scan → (g : Going remaining contents left_of job first coming0 given failed control coming stream c) → (d : IsDrainedTo g.stage.past c held now holds)
-    → (s : Stage left_of job g.read_ g.wrote g.left coming0 coming (given ++ d.bytes) stream (record c { join = now.join })) → s.past ≡ after_pull d.bytes g.stage.past
+    → (s : Stage left_of job g.read_ g.wrote g.left coming0 coming (more_given given d.bytes) stream (record c { join = now.join })) → s.past ≡ after_pull d.bytes g.stage.past
     → Drained remaining contents left_of job first coming0 held failed control coming stream now holds
 drained_at {C} {R} remaining contents left_of job first coming0 held failed control coming stream c now was holds given scan g d s past_is =
     subst (λ (v : Talker). Drained remaining contents left_of job first coming0 held failed control coming stream v holds) (sym d.rest) (record {
-      given = given ++ d.bytes;
+      given = more_given given d.bytes;
       going = record { read_ = g.read_; wrote = g.wrote; left = g.left; calls = g.calls; stage = s; left_is = g.left_is };
       taken = subst (λ (l : List ℕ). Appends held holds (l ++ d.bytes)) g.stage.given_is d.taken;
       none = λ other. absurd (other scan);
@@ -164,20 +176,20 @@ drained_at {C} {R} remaining contents left_of job first coming0 held failed cont
     })
 
 -- a turn in which the output took what was given
-pub drained_more : {C R : Type 0} (remaining contents : C → Option (List ℕ)) (left_of : R → Option (List ℕ)) (job : Job) (first : C) (coming0 : Option (List (List ℕ))) (held : Option (List ℕ)) (failed : Bool) (control : C) (coming : Option (List (List ℕ))) (stream : Option R) (c now : Talker) (was holds : Option (List ℕ)) (given : List ℕ)
-    → job.task ≡ tasks.Scan → Appends held was given → (g : Going remaining contents left_of job first coming0 given failed control coming stream c)
+pub drained_more : {C R : Type 0} (remaining contents : C → Option (List ℕ)) (left_of : R → Option (List ℕ)) (job : Job) (first : C) (coming0 : Option (List (List ℕ))) (held : Option (List ℕ)) (failed : Bool) (control : C) (coming : Option (List (List ℕ))) (stream : Option R) (c now : Talker) (was holds : Option (List ℕ)) (given : Given)
+    → job.task ≡ tasks.Scan → Appends held was given.bytes → (g : Going remaining contents left_of job first coming0 given failed control coming stream c)
     → ((past : Past) → c.errand.task ≡ tasks.Scan → Serves past c → Appends held was past.given → IsDrainedTo past c held now holds)
     → Drained remaining contents left_of job first coming0 held failed control coming stream now holds
 drained_more {C} {R} remaining contents left_of job first coming0 held failed control coming stream c now was holds given scan taken g drains =
     let s = g.stage in
     let d = drains s.past (ap (λ (e : Errand). e.task) s.errand ∙ scan) s.serves (subst (λ (l : List ℕ). Appends held was l) (sym s.given_is) taken) in
     let serves = subst (λ (v : Talker). Serves (after_pull d.bytes s.past) v) d.rest d.serves in
-    let gave = stage_gave_by left_of job g.read_ g.wrote g.left coming0 coming given d.bytes stream c now.join s.errand s.past s.given_is serves s.course s.rest s.did s.stands in
+    let gave = stage_gave_by left_of job g.read_ g.wrote g.left coming0 coming given d.bytes stream c now.join s.errand s.past s.given_is serves s.course s.rest s.pages_is s.did s.stands in
     drained_at remaining contents left_of job first coming0 held failed control coming stream c now was holds given scan g d gave.0 gave.1
 
 -- one that writes nothing
-pub drained_none : {C R : Type 0} (remaining contents : C → Option (List ℕ)) (left_of : R → Option (List ℕ)) (job : Job) (first : C) (coming0 : Option (List (List ℕ))) (held : Option (List ℕ)) (failed : Bool) (control : C) (coming : Option (List (List ℕ))) (stream : Option R) (c : Talker) (holds : Option (List ℕ)) (given : List ℕ)
-    → (job.task ≡ tasks.Scan → ⊥) → given ≡ [] → Appends held holds given → Going remaining contents left_of job first coming0 given failed control coming stream c
+pub drained_none : {C R : Type 0} (remaining contents : C → Option (List ℕ)) (left_of : R → Option (List ℕ)) (job : Job) (first : C) (coming0 : Option (List (List ℕ))) (held : Option (List ℕ)) (failed : Bool) (control : C) (coming : Option (List (List ℕ))) (stream : Option R) (c : Talker) (holds : Option (List ℕ)) (given : Given)
+    → (job.task ≡ tasks.Scan → ⊥) → given.bytes ≡ [] → Appends held holds given.bytes → Going remaining contents left_of job first coming0 given failed control coming stream c
     → Drained remaining contents left_of job first coming0 held failed control coming stream c holds
 drained_none remaining contents left_of job first coming0 held failed control coming stream c holds given other none taken g = record {
   given = given;
@@ -192,11 +204,11 @@ pub drained_as : {C R : Type 0} (remaining contents : C → Option (List ℕ)) (
 drained_as remaining contents left_of job first coming0 held failed other control coming stream c holds e d = subst (λ (b : Bool). Drained remaining contents left_of job first coming0 held b control coming stream c holds) e d
 
 -- the control connection is lost, if the job runs
-cut_out : (runs : Bool) (c new : Talker) → new ≡ (if runs then ended statuses.IoError whys.Lost c else c) → new.out ≡ c.out
+pub cut_out : (runs : Bool) (c new : Talker) → new ≡ (if runs then ended statuses.IoError whys.Lost c else c) → new.out ≡ c.out
 cut_out true c new e = ap (λ (v : Talker). v.out) e
 cut_out false c new e = ap (λ (v : Talker). v.out) e
 
-cut_alive : (runs : Bool) (c new : Talker) → new ≡ (if runs then ended statuses.IoError whys.Lost c else c) → is_ended new.outcome ≡ false → is_ended c.outcome ≡ false
+pub cut_alive : (runs : Bool) (c new : Talker) → new ≡ (if runs then ended statuses.IoError whys.Lost c else c) → is_ended new.outcome ≡ false → is_ended c.outcome ≡ false
 cut_alive true c new e alive = absurd (let clash : true ≡ false = sym (ap (λ (v : Talker). is_ended v.outcome) e) ∙ alive in cc)
 cut_alive false c new e alive = ap (λ (v : Talker). is_ended v.outcome) (sym e) ∙ alive
 
@@ -225,7 +237,7 @@ drained_cut remaining contents left_of job first coming0 held failed control com
 
 -- what a job that is over did, before its outcome is told
 pub record Closed {C R : Type 0} (remaining contents : C → Option (List ℕ)) (left_of : R → Option (List ℕ)) (job : Job) (first : C) (coming0 : Option (List (List ℕ))) (held : Option (List ℕ)) (control : C) (coming : Option (List (List ℕ))) (stream : Option R) (c : Talker) (holds : Option (List ℕ)) : Type 0 where
-  pub given : List ℕ
+  pub given : Given
   pub read_ : List ℕ
   pub wrote : List ℕ
   pub left : List ℕ
@@ -233,9 +245,9 @@ pub record Closed {C R : Type 0} (remaining contents : C → Option (List ℕ)) 
   pub calls : Calls remaining contents first read_ wrote failed control
   pub stage : Stage left_of job read_ wrote left coming0 coming given stream c
   pub all : failed ≡ false → left ≡ []
-  pub taken : Appends held holds given
-  pub none : (job.task ≡ tasks.Scan → ⊥) → given ≡ []
-  pub shown : job.task ≡ tasks.Scan → is_ended c.outcome ≡ false → IsJoined stage.past → (p : Picture) → ShowsFrames stage.past.ended p → Denotes given p
+  pub taken : Appends held holds given.bytes
+  pub none : (job.task ≡ tasks.Scan → ⊥) → given.bytes ≡ []
+  pub shown : job.task ≡ tasks.Scan → is_ended c.outcome ≡ false → IsJoined stage.past → (p : Picture) → ShowsFrames stage.past.ended p → Denotes given.bytes p
 
 -- the last bytes, or a front of them, were written
 closed_by : {C R : Type 0} (remaining contents : C → Option (List ℕ)) (left_of : R → Option (List ℕ)) (job : Job) (first : C) (coming0 : Option (List (List ℕ))) (held : Option (List ℕ)) (control now : C) (coming : Option (List (List ℕ))) (stream : Option R) (c : Talker) (holds : Option (List ℕ)) (n : ℕ) (short : Bool)
@@ -309,7 +321,7 @@ not_done talk rest outcome reports e (ByMemory x) = let clash : Done reports ≡
 not_done talk rest outcome reports e (ByGarble procedure awaits no_start x) = let clash : Done reports ≡ Ended statuses.IoError whys.Malformed = sym e ∙ x in cc
 not_done talk rest outcome reports e (ByShape task fault x) = unjoined_not_done task talk.notes fault reports (sym x ∙ e)
 
-followed : {R : Type 0} (left_of : R → Option (List ℕ)) (coming0 coming : Option (List (List ℕ))) (course : Course) (rest : List ℕ) (stream : Option R) (c : Talker) (past : Past) (reports : Reports) → c.outcome ≡ Done reports
+pub followed : {R : Type 0} (left_of : R → Option (List ℕ)) (coming0 coming : Option (List (List ℕ))) (course : Course) (rest : List ℕ) (stream : Option R) (c : Talker) (past : Past) (reports : Reports) → c.outcome ≡ Done reports
     → Follows left_of coming0 coming course rest stream c past ⊎ Falls coming0 coming course rest c → Follows left_of coming0 coming course rest stream c past
 followed left_of coming0 coming course rest stream c past reports e (inl f) = f
 followed left_of coming0 coming course rest stream c past reports e (inr f) = absurd (not_done course.talk rest c.outcome reports e f.cause)
@@ -320,12 +332,12 @@ pub record Unopened (coming0 coming : Option (List (List ℕ))) (streams : List 
   pub begin : BeginWith wholes streams
   pub brought : HasBrought coming0 coming wholes
 
-unopened : {R : Type 0} (left_of : R → Option (List ℕ)) (coming0 coming : Option (List (List ℕ))) (streams : List (List ℕ)) (stream : Option R) (c : Talker) (past : Past) → is_running c.outcome ≡ false
+pub unopened : {R : Type 0} (left_of : R → Option (List ℕ)) (coming0 coming : Option (List (List ℕ))) (streams : List (List ℕ)) (stream : Option R) (c : Talker) (past : Past) → is_running c.outcome ≡ false
     → Linked left_of coming0 coming streams stream c past → Unopened coming0 coming streams
 unopened left_of coming0 coming streams None c past over l = record { wholes = l.wholes; begin = l.begin; brought = l.brought }
 unopened left_of coming0 coming streams (Some conn) c past over l = absurd (let clash : true ≡ false = sym (receiving_runs c.outcome c.progress l.receives) ∙ over in cc)
 
-task_is : (c : Talker) (job : Job) → c.errand ≡ errand_of job → c.errand.task ≡ job.task
+pub task_is : (c : Talker) (job : Job) → c.errand ≡ errand_of job → c.errand.task ≡ job.task
 task_is c job e = ap (λ (x : Errand). x.task) e
 
 scan_joined : (outcome : Outcome) (progress : Progress) (past : Past) (task : Task) (reports : Reports) → task ≡ tasks.Scan → outcome ≡ Done reports → Fits task outcome progress past → IsJoined past
@@ -360,7 +372,7 @@ run_done remaining contents left_of job first coming0 held control coming stream
       all = d.all;
       read_all = refl;
       end_well = ends_well (errand_of job) _ s.did.events s.course s.did.runs (ap is_ended told);
-      text = d.given;
+      text = d.given.bytes;
       taken = d.taken;
       file = λ scan.
           let joined = scan_joined c.outcome c.progress s.past c.errand.task reports (task_is c job s.errand ∙ scan) done s.serves.fits in
@@ -374,10 +386,10 @@ ended_unjoined (tasks.Batch count) past single f = absurd (let clash : true ≡ 
 ended_unjoined task past single f = f
 
 -- what a job did, whether it follows its course or not
-pub ran_by : {C R : Type 0} (remaining contents : C → Option (List ℕ)) (left_of : R → Option (List ℕ)) (job : Job) (first : C) (coming0 : Option (List (List ℕ))) (control : C) (coming : Option (List (List ℕ))) (stream : Option R) (c : Talker) (given read_ wrote left : List ℕ) (failed : Bool)
+pub ran_by : {C R : Type 0} (remaining contents : C → Option (List ℕ)) (left_of : R → Option (List ℕ)) (job : Job) (first : C) (coming0 : Option (List (List ℕ))) (control : C) (coming : Option (List (List ℕ))) (stream : Option R) (c : Talker) (given : Given) (read_ wrote left : List ℕ) (failed : Bool)
     → Calls remaining contents first read_ wrote failed control → (s : Stage left_of job read_ wrote left coming0 coming given stream c)
     → (stands : Follows left_of coming0 coming s.course s.rest stream c s.past ⊎ Falls coming0 coming s.course s.rest c)
-    → (ran : Ran remaining contents job first coming0 control coming) × ((ran.course.talk.outcome ≡ c.outcome) ⊎ EndsBy ran.course.talk ran.rest c.outcome)
+    → (ran : Ran remaining contents job first coming0 control coming) × ((ran.course.talk.outcome ≡ c.outcome) ⊎ EndsBy ran.course.talk ran.rest c.outcome) × (ran.course.pages ≡ given.pages)
 ran_by remaining contents left_of job first coming0 control coming stream c given read_ wrote left failed calls s (inl f) =
     let l = lets_go left_of coming0 coming s.course.streams stream c s.past f.linked in (
       record {
@@ -396,6 +408,7 @@ ran_by remaining contents left_of job first coming0 control coming stream c give
         few = l.few;
       },
       inl (ap (λ (t : Talk). t.outcome) (sym f.talk_is)),
+      s.pages_is,
     )
 ran_by remaining contents left_of job first coming0 control coming stream c given read_ wrote left failed calls s (inr f) = (
   record {
@@ -414,9 +427,10 @@ ran_by remaining contents left_of job first coming0 control coming stream c give
     few = f.few;
   },
   inr f.cause,
+  s.pages_is,
 )
 
-cause_of : (talk : Talk) (rest : List ℕ) (outcome told : Outcome) → outcome ≡ told → (talk.outcome ≡ outcome) ⊎ EndsBy talk rest outcome → (talk.outcome ≡ told) ⊎ (EndsBy talk rest told ⊎ (told ≡ Ended statuses.IoError whys.Sink))
+pub cause_of : (talk : Talk) (rest : List ℕ) (outcome told : Outcome) → outcome ≡ told → (talk.outcome ≡ outcome) ⊎ EndsBy talk rest outcome → (talk.outcome ≡ told) ⊎ (EndsBy talk rest told ⊎ (told ≡ Ended statuses.IoError whys.Sink))
 cause_of talk rest outcome told e (inl x) = inl (x ∙ e)
 cause_of talk rest outcome told e (inr x) = inr (inl (subst (λ (o : Outcome). EndsBy talk rest o) e x))
 
@@ -430,7 +444,7 @@ run_ended remaining contents left_of job first coming0 held control coming strea
     record {
       ran = r.0;
       cause = cause_of r.0.course.talk r.0.rest c.outcome (Ended status why) over r.1;
-      text = d.given;
+      text = d.given.bytes;
       taken = d.taken;
       not_whole = subst (λ (l : List ℕ). IsWhole l → ⊥) s.given_is (law s.past c.join s.serves.stands (ended_unjoined c.errand.task s.past (ap is_batch (task_is c job s.errand) ∙ single) fits));
     }
@@ -451,8 +465,8 @@ has_run remaining contents left_of job first coming0 held control coming stream 
     run_over remaining contents left_of job first coming0 held control coming stream c holds outcome single law shows (ap is_running e ∙ over) (sym e) d
 
 -- the output did not take the file
-pub run_sunk : {C R : Type 0} (remaining contents : C → Option (List ℕ)) (left_of : R → Option (List ℕ)) (job : Job) (first : C) (coming0 : Option (List (List ℕ))) (held was : Option (List ℕ)) (failed : Bool) (control : C) (coming : Option (List (List ℕ))) (stream : Option R) (c : Talker) (holds : Option (List ℕ)) (given : List ℕ)
-    → job.task ≡ tasks.Scan → Appends held was given → (g : Going remaining contents left_of job first coming0 given failed control coming stream c)
+pub run_sunk : {C R : Type 0} (remaining contents : C → Option (List ℕ)) (left_of : R → Option (List ℕ)) (job : Job) (first : C) (coming0 : Option (List (List ℕ))) (held was : Option (List ℕ)) (failed : Bool) (control : C) (coming : Option (List (List ℕ))) (stream : Option R) (c : Talker) (holds : Option (List ℕ)) (given : Given)
+    → job.task ≡ tasks.Scan → Appends held was given.bytes → (g : Going remaining contents left_of job first coming0 given failed control coming stream c)
     → ((past : Past) → c.errand.task ≡ tasks.Scan → Serves past c → Appends held was past.given → StopsShort held holds)
     → RanEnded remaining contents job first coming0 control coming held holds (Ended statuses.IoError whys.Sink)
 run_sunk remaining contents left_of job first coming0 held was failed control coming stream c holds given scan taken g stops =
@@ -463,8 +477,8 @@ run_sunk remaining contents left_of job first coming0 held was failed control co
 
 -- ---- a turn's end: what a job gave of its file, if it is a scan
 
-given_by : {C R : Type 0} (remaining contents : C → Option (List ℕ)) (left_of : R → Option (List ℕ)) (job : Job) (first : C) (coming0 : Option (List (List ℕ))) (held : Option (List ℕ)) (failed : Bool) (control : C) (coming : Option (List (List ℕ))) (stream : Option R) (c now : Talker) (was holds : Option (List ℕ)) (given : List ℕ) (is_scan : Bool) (scans : Bool)
-    → is_scan ≡ scans → is_scan ≡ true ↔ job.task ≡ tasks.Scan → Appends held was given → ((job.task ≡ tasks.Scan → ⊥) → given ≡ []) → Going remaining contents left_of job first coming0 given failed control coming stream c
+given_by : {C R : Type 0} (remaining contents : C → Option (List ℕ)) (left_of : R → Option (List ℕ)) (job : Job) (first : C) (coming0 : Option (List (List ℕ))) (held : Option (List ℕ)) (failed : Bool) (control : C) (coming : Option (List (List ℕ))) (stream : Option R) (c now : Talker) (was holds : Option (List ℕ)) (given : Given) (is_scan : Bool) (scans : Bool)
+    → is_scan ≡ scans → is_scan ≡ true ↔ job.task ≡ tasks.Scan → Appends held was given.bytes → ((job.task ≡ tasks.Scan → ⊥) → given.bytes ≡ []) → Going remaining contents left_of job first coming0 given failed control coming stream c
     → (is_scan ≡ false → (now ≡ c) × (holds ≡ was))
     → (is_scan ≡ true → (past : Past) → c.errand.task ≡ tasks.Scan → Serves past c → Appends held was past.given → IsDrainedTo past c held now holds)
     → Drained remaining contents left_of job first coming0 held failed control coming stream now holds
@@ -474,10 +488,10 @@ given_by remaining contents left_of job first coming0 held failed control coming
     let other : job.task ≡ tasks.Scan → ⊥ = λ s. (let clash : true ≡ false = sym (scan.1 s) ∙ e in cc) in
     let kept = same e in
     subst (λ (v : Talker). Drained remaining contents left_of job first coming0 held failed control coming stream v holds) (sym kept.0)
-    (drained_none remaining contents left_of job first coming0 held failed control coming stream c holds given other (none other) (subst (λ (o : Option (List ℕ)). Appends held o given) (sym kept.1) taken) g)
+    (drained_none remaining contents left_of job first coming0 held failed control coming stream c holds given other (none other) (subst (λ (o : Option (List ℕ)). Appends held o given.bytes) (sym kept.1) taken) g)
 
-pub given_more : {C R : Type 0} (remaining contents : C → Option (List ℕ)) (left_of : R → Option (List ℕ)) (job : Job) (first : C) (coming0 : Option (List (List ℕ))) (held : Option (List ℕ)) (failed : Bool) (control : C) (coming : Option (List (List ℕ))) (stream : Option R) (c now : Talker) (was holds : Option (List ℕ)) (given : List ℕ) (is_scan : Bool)
-    → is_scan ≡ true ↔ job.task ≡ tasks.Scan → Appends held was given → ((job.task ≡ tasks.Scan → ⊥) → given ≡ []) → Going remaining contents left_of job first coming0 given failed control coming stream c
+pub given_more : {C R : Type 0} (remaining contents : C → Option (List ℕ)) (left_of : R → Option (List ℕ)) (job : Job) (first : C) (coming0 : Option (List (List ℕ))) (held : Option (List ℕ)) (failed : Bool) (control : C) (coming : Option (List (List ℕ))) (stream : Option R) (c now : Talker) (was holds : Option (List ℕ)) (given : Given) (is_scan : Bool)
+    → is_scan ≡ true ↔ job.task ≡ tasks.Scan → Appends held was given.bytes → ((job.task ≡ tasks.Scan → ⊥) → given.bytes ≡ []) → Going remaining contents left_of job first coming0 given failed control coming stream c
     → (is_scan ≡ false → (now ≡ c) × (holds ≡ was))
     → (is_scan ≡ true → (past : Past) → c.errand.task ≡ tasks.Scan → Serves past c → Appends held was past.given → IsDrainedTo past c held now holds)
     → Drained remaining contents left_of job first coming0 held failed control coming stream now holds

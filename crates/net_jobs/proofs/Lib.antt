@@ -6,3 +6,8 @@ pub mod Receiving
 pub mod Going
 pub mod Drains
 pub mod Leaving
+pub mod Shelves
+pub mod Pages
+pub mod Counting
+pub mod Shelving
+pub mod Batching

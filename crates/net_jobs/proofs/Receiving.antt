@@ -24,8 +24,9 @@ use Rattle.client_rules.specs.declared.progress.Link.TheVariants as links
 use Rattle.client_rules.specs.declared.progress.Progress.{Progress}
 use Rattle.client_rules.specs.declared.progress.Progress.TheVariants as stages
 use Rattle.client_rules.specs.declared.progress.Notes.{Notes}
+use Rattle.client_rules.specs.declared.progress.Next.TheVariants.{Wait, Finish}
 use Rattle.client_rules.specs.Talking.{unjoined, page_whole, frame_joined, frame_ended_by, status_of}
-use Rattle.client_rules.specs.Talks.{Talk, errand_of, is_running, is_receiving, is_batch, is_lost_by, next_outcome, next_progress, took, wanted, connected, FitsAt}
+use Rattle.client_rules.specs.Talks.{Talk, errand_of, is_running, is_receiving, is_ended, is_lost_by, next_outcome, next_progress, took, wanted, connected, FitsAt}
 use Rattle.client_rules.proofs.Fitting.{may_end}
 use Rattle.net_client.specs.Talker.{Talker, talk_of, Serves, ended, phase_connected}
 use Rattle.net_client.specs.Imaging.{Receives, Goes, Ends, Fails, EndsFrame}
@@ -33,14 +34,14 @@ use Rattle.net_client.proofs.Hearings.{fits_at}
 use Rattle.net_client.proofs.Records.{two_steps}
 use Rattle.net_jobs.specs.Courses.{Opened, Came, Finished, Course, Did, Lives, after_frame, sent_after, end_at}
 use Rattle.net_jobs.specs.Links.{Brings}
-use Rattle.net_jobs.specs.Going.{came_in, BetweenFrames, Linked, Follows, Stage, ByLoss, ByShape}
+use Rattle.net_jobs.specs.Going.{came_in, BetweenFrames, Linked, Follows, Given, Stage, ByLoss, ByShape}
 use Rattle.net_jobs.proofs.Coursing.{did_quiet, did_say}
 use Rattle.net_jobs.proofs.Frames.{records_end, brought_one, read_more, front_of, begin_more}
 use Rattle.net_jobs.proofs.Staging.{following, falls, stage_starved}
 
 -- ---- a connection is lost
 
-pub lost_from : {R : Type 0} (left_of : R → Option (List ℕ)) (job : Job) (read_ wrote left : List ℕ) (coming0 coming : Option (List (List ℕ))) (given : List ℕ) (stream after_ : Option R) (old new : Talker) → is_running old.outcome ≡ true
+pub lost_from : {R : Type 0} (left_of : R → Option (List ℕ)) (job : Job) (read_ wrote left : List ℕ) (coming0 coming : Option (List (List ℕ))) (given : Given) (stream after_ : Option R) (old new : Talker) → is_running old.outcome ≡ true
     → new ≡ ended statuses.IoError whys.Lost old → (s : Stage left_of job read_ wrote left coming0 coming given stream old) → (t : Stage left_of job read_ wrote left coming0 coming given after_ new) × (t.past ≡ s.past)
 lost_from left_of job read_ wrote left coming0 coming given stream after_ old new running new_is s =
     let at = fits_at s.past old running s.serves in
@@ -51,6 +52,7 @@ lost_from left_of job read_ wrote left coming0 coming given stream after_ old ne
         serves = subst (λ (v : Talker). Serves s.past v) (sym new_is) (record { stands = s.serves.stands; fits = may_end old.errand.task old.progress s.past at.0 at.1 });
         given_is = s.given_is;
         course = s.course;
+        pages_is = s.pages_is;
         rest = s.rest;
         did = s.did;
         stands = inr (falls left_of coming0 coming s.course s.rest s.rest stream old new s.past f running (ByLoss (ap (λ (v : Talker). v.outcome) new_is)) (ap (λ (v : Talker). is_running v.outcome) new_is));
@@ -58,7 +60,7 @@ lost_from left_of job read_ wrote left coming0 coming given stream after_ old ne
       refl,
     )
 
-pub stage_lost : {R : Type 0} (left_of : R → Option (List ℕ)) (job : Job) (read_ wrote left : List ℕ) (coming0 coming : Option (List (List ℕ))) (given : List ℕ) (stream after_ : Option R) (old new : Talker) → is_running old.outcome ≡ true
+pub stage_lost : {R : Type 0} (left_of : R → Option (List ℕ)) (job : Job) (read_ wrote left : List ℕ) (coming0 coming : Option (List (List ℕ))) (given : Given) (stream after_ : Option R) (old new : Talker) → is_running old.outcome ≡ true
     → new ≡ ended statuses.IoError whys.Lost old → Stage left_of job read_ wrote left coming0 coming given stream old → Stage left_of job read_ wrote left coming0 coming given after_ new
 stage_lost left_of job read_ wrote left coming0 coming given stream after_ old new running new_is s = (lost_from left_of job read_ wrote left coming0 coming given stream after_ old new running new_is s).0
 
@@ -88,7 +90,7 @@ between : {R : Type 0} (left_of : R → Option (List ℕ)) (coming0 coming : Opt
 between left_of coming0 coming streams None c past e l = l
 between left_of coming0 coming streams (Some conn) c past e l = absurd (let clash : true ≡ false = sym l.receives ∙ e in cc)
 
-opened_from : {R : Type 0} (left_of : R → Option (List ℕ)) (job : Job) (read_ wrote : List ℕ) (coming0 coming now : Option (List (List ℕ))) (given : List ℕ) (stream : Option R) (conn : R) (old new : Talker) (port : ℕ)
+opened_from : {R : Type 0} (left_of : R → Option (List ℕ)) (job : Job) (read_ wrote : List ℕ) (coming0 coming now : Option (List (List ℕ))) (given : Given) (stream : Option R) (conn : R) (old new : Talker) (port : ℕ)
     → is_running old.outcome ≡ true → old.progress ≡ stages.Imaging port false → Brings coming now (left_of conn)
     → new ≡ record old { progress = connected old.progress; phase = phase_connected old.progress old.phase } → ((past : Past) → Serves past old → Serves past new)
     → (s : Stage left_of job read_ wrote old.out coming0 coming given stream old) → Follows left_of coming0 coming s.course s.rest stream old s.past → Stage left_of job read_ wrote new.out coming0 now given (Some conn) new
@@ -107,6 +109,7 @@ opened_from left_of job read_ wrote coming0 coming now given stream conn old new
       serves = serves s.past s.serves;
       given_is = s.given_is;
       course = course;
+      pages_is = s.pages_is;
       rest = s.rest;
       did = subst (λ (l : List ℕ). Did job course read_ wrote s.rest l) (sym (ap (λ (v : Talker). v.out) new_is)) (did_quiet job s.course course Opened read_ wrote s.rest old.out lives refl refl s.did);
       stands = inl (record {
@@ -127,7 +130,7 @@ opened_from left_of job read_ wrote coming0 coming now given stream conn old new
       });
     }
 
-pub stage_opened : {R : Type 0} (left_of : R → Option (List ℕ)) (job : Job) (read_ wrote : List ℕ) (coming0 coming now : Option (List (List ℕ))) (given : List ℕ) (stream : Option R) (conn : R) (old new : Talker) (port : ℕ)
+pub stage_opened : {R : Type 0} (left_of : R → Option (List ℕ)) (job : Job) (read_ wrote : List ℕ) (coming0 coming now : Option (List (List ℕ))) (given : Given) (stream : Option R) (conn : R) (old new : Talker) (port : ℕ)
     → is_running old.outcome ≡ true → wanted old.progress ≡ Some port → Brings coming now (left_of conn)
     → new ≡ record old { progress = connected old.progress; phase = phase_connected old.progress old.phase } → ((past : Past) → Serves past old → Serves past new)
     → Stage left_of job read_ wrote old.out coming0 coming given stream old → Stage left_of job read_ wrote new.out coming0 now given (Some conn) new
@@ -154,7 +157,7 @@ lives_came errand course old past frame given talk_is running under = (
   refl,
 )
 
-pub stage_goes : {R : Type 0} (left_of : R → Option (List ℕ)) (job : Job) (read_ wrote : List ℕ) (coming0 coming : Option (List (List ℕ))) (given : List ℕ) (was now : R) (old new : Talker) (piece : List ℕ)
+pub stage_goes : {R : Type 0} (left_of : R → Option (List ℕ)) (job : Job) (read_ wrote : List ℕ) (coming0 coming : Option (List (List ℕ))) (given : Given) (was now : R) (old new : Talker) (piece : List ℕ)
     → is_running old.outcome ≡ true → Consumes (left_of was) (left_of now) piece
     → (s : Stage left_of job read_ wrote old.out coming0 coming given (Some was) old) → Follows left_of coming0 coming s.course s.rest (Some was) old s.past → Goes old s.past piece new
     → Stage left_of job read_ wrote new.out coming0 coming given (Some now) new
@@ -169,6 +172,7 @@ stage_goes left_of job read_ wrote coming0 coming given was now old new piece ru
       serves = g.serves;
       given_is = s.given_is;
       course = course;
+      pages_is = s.pages_is;
       rest = s.rest;
       did = subst (λ (x : List ℕ). Did job course read_ wrote s.rest x) (sym (ap (λ (v : Talker). v.out) g.rest)) (did_quiet job s.course course (Came g.reads.given) read_ wrote s.rest old.out lives refl refl s.did);
       stands = inl (record {
@@ -195,7 +199,7 @@ abbrev text_in : List ℕ → Option (List ℕ) → List ℕ
 text_in else_ None = else_
 text_in else_ (Some text) = text
 
-behind_some : (out new : List ℕ) (text : Option (List ℕ)) → behind out text ≡ Some new → (said : List ℕ) × (text ≡ Some said) × (new ≡ out ++ said)
+pub behind_some : (out new : List ℕ) (text : Option (List ℕ)) → behind out text ≡ Some new → (said : List ℕ) × (text ≡ Some said) × (new ≡ out ++ said)
 behind_some out new None e = absurd (let clash : None ≡ Some new = e in cc)
 behind_some out new (Some said) e = (said, refl, ap (λ (o : Option (List ℕ)). text_in new o) (sym e))
 
@@ -206,19 +210,23 @@ unjoined_shut Long outcome = refl
 unjoined_shut Short outcome = refl
 unjoined_shut NoMem outcome = refl
 
-page_shut : (task : Task) (file : ℕ) (outcome : Outcome) → is_batch task ≡ false → is_receiving outcome (next_progress (page_whole task file)) ≡ false
-page_shut (tasks.Batch count) file outcome single = absurd (let clash : true ≡ false = single in cc)
-page_shut task file outcome single = refl
+more_shut : (more : Bool) (outcome : Outcome) → is_receiving outcome (next_progress (if more then Wait stages.Turning else Finish [])) ≡ false
+more_shut true outcome = refl
+more_shut false outcome = refl
 
-joined_shut : (task : Task) (file : ℕ) (answer : Result Bool JoinFault) (outcome : Outcome) → is_batch task ≡ false → is_receiving outcome (next_progress (frame_joined task file answer)) ≡ false
-joined_shut task file (Ok true) outcome single = page_shut task file outcome single
-joined_shut task file (Ok false) outcome single = refl
-joined_shut task file (Err fault) outcome single = unjoined_shut fault outcome
+page_shut : (task : Task) (file : ℕ) (outcome : Outcome) → is_receiving outcome (next_progress (page_whole task file)) ≡ false
+page_shut (tasks.Batch count) file outcome = more_shut (nat_lt file count) outcome
+page_shut task file outcome = refl
 
-status_shut : (task : Task) (file : ℕ) (past : Past) (status : Option Status) (outcome : Outcome) → is_batch task ≡ false → is_receiving outcome (next_progress (frame_ended_by task file past status).next) ≡ false
-status_shut task file past None outcome single = refl
-status_shut task file past (Some statuses.Eof) outcome single = joined_shut task file _ outcome single
-status_shut task file past (Some status) outcome single = refl
+joined_shut : (task : Task) (file : ℕ) (answer : Result Bool JoinFault) (outcome : Outcome) → is_receiving outcome (next_progress (frame_joined task file answer)) ≡ false
+joined_shut task file (Ok true) outcome = page_shut task file outcome
+joined_shut task file (Ok false) outcome = refl
+joined_shut task file (Err fault) outcome = unjoined_shut fault outcome
+
+status_shut : (task : Task) (file : ℕ) (past : Past) (status : Option Status) (outcome : Outcome) → is_receiving outcome (next_progress (frame_ended_by task file past status).next) ≡ false
+status_shut task file past None outcome = refl
+status_shut task file past (Some statuses.Eof) outcome = joined_shut task file _ outcome
+status_shut task file past (Some status) outcome = refl
 
 -- and none makes it wait for a data connection
 unjoined_quiet : (fault : JoinFault) (port : ℕ) → next_progress (unjoined fault) ≡ stages.Imaging port false → ⊥
@@ -227,22 +235,26 @@ unjoined_quiet Long port e = let clash : stages.Over ≡ stages.Imaging port fal
 unjoined_quiet Short port e = let clash : stages.Over ≡ stages.Imaging port false = e in cc
 unjoined_quiet NoMem port e = let clash : stages.Over ≡ stages.Imaging port false = e in cc
 
-page_quiet : (task : Task) (file port : ℕ) → is_batch task ≡ false → next_progress (page_whole task file) ≡ stages.Imaging port false → ⊥
-page_quiet (tasks.Batch count) file port single e = let clash : true ≡ false = single in cc
-page_quiet task file port single e = let clash : stages.Over ≡ stages.Imaging port false = e in cc
+more_quiet : (more : Bool) (port : ℕ) → next_progress (if more then Wait stages.Turning else Finish []) ≡ stages.Imaging port false → ⊥
+more_quiet true port e = let clash : stages.Turning ≡ stages.Imaging port false = e in cc
+more_quiet false port e = let clash : stages.Over ≡ stages.Imaging port false = e in cc
 
-joined_quiet : (task : Task) (file port : ℕ) (answer : Result Bool JoinFault) → is_batch task ≡ false → next_progress (frame_joined task file answer) ≡ stages.Imaging port false → ⊥
-joined_quiet task file port (Ok true) single e = page_quiet task file port single e
-joined_quiet task file port (Ok false) single e = let clash : stages.Starting false ≡ stages.Imaging port false = e in cc
-joined_quiet task file port (Err fault) single e = unjoined_quiet fault port e
+page_quiet : (task : Task) (file port : ℕ) → next_progress (page_whole task file) ≡ stages.Imaging port false → ⊥
+page_quiet (tasks.Batch count) file port e = more_quiet (nat_lt file count) port e
+page_quiet task file port e = let clash : stages.Over ≡ stages.Imaging port false = e in cc
 
-status_quiet : (task : Task) (file port : ℕ) (past : Past) (status : Option Status) → is_batch task ≡ false → next_progress (frame_ended_by task file past status).next ≡ stages.Imaging port false → ⊥
-status_quiet task file port past None single e = let clash : stages.Over ≡ stages.Imaging port false = e in cc
-status_quiet task file port past (Some statuses.Eof) single e = joined_quiet task file port _ single e
-status_quiet task file port past (Some status) single e = let clash : stages.Over ≡ stages.Imaging port false = e in cc
+joined_quiet : (task : Task) (file port : ℕ) (answer : Result Bool JoinFault) → next_progress (frame_joined task file answer) ≡ stages.Imaging port false → ⊥
+joined_quiet task file port (Ok true) e = page_quiet task file port e
+joined_quiet task file port (Ok false) e = let clash : stages.Starting false ≡ stages.Imaging port false = e in cc
+joined_quiet task file port (Err fault) e = unjoined_quiet fault port e
+
+status_quiet : (task : Task) (file port : ℕ) (past : Past) (status : Option Status) → next_progress (frame_ended_by task file past status).next ≡ stages.Imaging port false → ⊥
+status_quiet task file port past None e = let clash : stages.Over ≡ stages.Imaging port false = e in cc
+status_quiet task file port past (Some statuses.Eof) e = joined_quiet task file port _ e
+status_quiet task file port past (Some status) e = let clash : stages.Over ≡ stages.Imaging port false = e in cc
 
 abbrev ended_course : Errand → Course → ℕ → List ℕ → List ℕ → Course
-ended_course errand course status stream said = record { text = course.text; streams = course.streams ++ stream ∷ []; sent = course.sent ++ said; talk = after_frame errand course.talk status }
+ended_course errand course status stream said = record { text = course.text; streams = course.streams ++ stream ∷ []; pages = course.pages; sent = course.sent ++ said; talk = after_frame errand course.talk status }
 
 -- a frame's end changes nothing of what was given
 closed_given : (full : Bool) (past grown : Past) → grown.given ≡ past.given → (if full then grown else failed Short past).given ≡ past.given
@@ -277,11 +289,11 @@ feed_gives : (bytes : List ℕ) (starved : Bool) (past : Past) → (after_feed b
 unfolding after_feed
 feed_gives bytes starved past = fed_with past.fault past.under bytes starved past
 
-pub stage_ends : {R : Type 0} (left_of : R → Option (List ℕ)) (job : Job) (read_ wrote : List ℕ) (coming0 coming : Option (List (List ℕ))) (given : List ℕ) (was now : R) (old new : Talker) (piece : List ℕ)
-    → is_batch job.task ≡ false → is_running old.outcome ≡ true → Consumes (left_of was) (left_of now) piece
+pub stage_ends : {R : Type 0} (left_of : R → Option (List ℕ)) (job : Job) (read_ wrote : List ℕ) (coming0 coming : Option (List (List ℕ))) (given : Given) (was now : R) (old new : Talker) (piece : List ℕ)
+    → is_running old.outcome ≡ true → Consumes (left_of was) (left_of now) piece
     → (s : Stage left_of job read_ wrote old.out coming0 coming given (Some was) old) → Follows left_of coming0 coming s.course s.rest (Some was) old s.past → Ends old s.past piece new
     → Stage left_of job read_ wrote new.out coming0 coming given None new
-stage_ends left_of job read_ wrote coming0 coming given was now old new piece single running consumed s f e =
+stage_ends left_of job read_ wrote coming0 coming given was now old new piece running consumed s f e =
     let l = f.linked in
     let bytes : List ℕ = e.reads.reads.given in
     let frame : Frame = record e.frame { payload = e.frame.payload ++ bytes } in
@@ -306,6 +318,7 @@ stage_ends left_of job read_ wrote coming0 coming given was now old new piece si
       serves = e.ends.serves;
       given_is = status_gives old.errand.task old.notes.file past (status_of e.status) ∙ s.given_is;
       course = course;
+      pages_is = s.pages_is;
       rest = s.rest;
       did = subst (λ (x : List ℕ). Did job course read_ wrote s.rest x) (sym says.2) did;
       stands = inl (record {
@@ -316,7 +329,7 @@ stage_ends left_of job read_ wrote coming0 coming given was now old new piece si
           begin = begin_more l.wholes s.course.streams more.0 stream l.begin
               (front_of coming0 (left_of now) more.0 (l.bytes ++ piece) stream e.reads.rest (ap (λ (x : List ℕ). l.bytes ++ x) e.reads.whole ∙ sym (append_assoc l.bytes e.reads.used e.reads.rest)) more.2);
           brought = more.1;
-          empty = λ port at. absurd (status_quiet old.errand.task old.notes.file port past (status_of e.status) (ap (λ (x : Errand). is_batch x.task) s.errand ∙ single) (sym (ap (λ (t : Talk). t.progress) e.ends.talk) ∙ at));
+          empty = λ port at. absurd (status_quiet old.errand.task old.notes.file port past (status_of e.status) (sym (ap (λ (t : Talk). t.progress) e.ends.talk) ∙ at));
         };
       });
     }
@@ -329,7 +342,13 @@ unjoined_over task notes Long = refl
 unjoined_over task notes Short = refl
 unjoined_over task notes NoMem = refl
 
-pub stage_fails : {R : Type 0} (left_of : R → Option (List ℕ)) (job : Job) (read_ wrote : List ℕ) (coming0 coming : Option (List (List ℕ))) (given : List ℕ) (was : R) (old new : Talker) (piece : List ℕ)
+pub unjoined_ended : (task : Task) (notes : Notes) (fault : JoinFault) → is_ended (next_outcome task notes (unjoined fault)) ≡ true
+unjoined_ended task notes Shape = refl
+unjoined_ended task notes Long = refl
+unjoined_ended task notes Short = refl
+unjoined_ended task notes NoMem = refl
+
+pub stage_fails : {R : Type 0} (left_of : R → Option (List ℕ)) (job : Job) (read_ wrote : List ℕ) (coming0 coming : Option (List (List ℕ))) (given : Given) (was : R) (old new : Talker) (piece : List ℕ)
     → is_running old.outcome ≡ true
     → (s : Stage left_of job read_ wrote old.out coming0 coming given (Some was) old) → Follows left_of coming0 coming s.course s.rest (Some was) old s.past → Fails old s.past piece new
     → Stage left_of job read_ wrote new.out coming0 coming given None new
@@ -339,6 +358,7 @@ stage_fails left_of job read_ wrote coming0 coming given was old new piece runni
   serves = e.serves;
   given_is = feed_gives e.reads.last e.reads.starved (took s.past e.frame e.reads.before) ∙ s.given_is;
   course = s.course;
+  pages_is = s.pages_is;
   rest = s.rest;
   did = subst (λ (l : List ℕ). Did job s.course read_ wrote s.rest l) (sym (ap (λ (v : Talker). v.out) e.rest)) s.did;
   stands = inr (falls left_of coming0 coming s.course s.rest s.rest (Some was) old new s.past f running
@@ -359,35 +379,35 @@ over_shut : (outcome : Outcome) (progress : Progress) → is_running outcome ≡
 over_shut outcome (stages.Imaging port opened) e = ap (λ (b : Bool). b && opened) e
 over_shut outcome progress e = refl
 
-ends_shut : (old new : Talker) (past : Past) (status : ℕ) → is_batch old.errand.task ≡ false → EndsFrame old past status new → is_receiving new.outcome new.progress ≡ false
-ends_shut old new past status single e = ap (λ (t : Talk). is_receiving new.outcome t.progress) e.talk ∙ status_shut old.errand.task old.notes.file past (status_of status) new.outcome single
+ends_shut : (old new : Talker) (past : Past) (status : ℕ) → EndsFrame old past status new → is_receiving new.outcome new.progress ≡ false
+ends_shut old new past status e = ap (λ (t : Talk). is_receiving new.outcome t.progress) e.talk ∙ status_shut old.errand.task old.notes.file past (status_of status) new.outcome
 
-pub stage_received : {R : Type 0} (left_of : R → Option (List ℕ)) (job : Job) (read_ wrote : List ℕ) (coming0 coming : Option (List (List ℕ))) (given : List ℕ) (was now : R) (old new : Talker) (piece : List ℕ)
-    → is_batch job.task ≡ false → is_running old.outcome ≡ true → Consumes (left_of was) (left_of now) piece → is_receiving new.outcome new.progress ≡ true
+pub stage_received : {R : Type 0} (left_of : R → Option (List ℕ)) (job : Job) (read_ wrote : List ℕ) (coming0 coming : Option (List (List ℕ))) (given : Given) (was now : R) (old new : Talker) (piece : List ℕ)
+    → is_running old.outcome ≡ true → Consumes (left_of was) (left_of now) piece → is_receiving new.outcome new.progress ≡ true
     → (s : Stage left_of job read_ wrote old.out coming0 coming given (Some was) old) → Receives old s.past piece new
     → Stage left_of job read_ wrote new.out coming0 coming given (Some now) new
-stage_received left_of job read_ wrote coming0 coming given was now old new piece single running consumed still s (inl g) =
+stage_received left_of job read_ wrote coming0 coming given was now old new piece running consumed still s (inl g) =
     stage_goes left_of job read_ wrote coming0 coming given was now old new piece running consumed s (following left_of coming0 coming s.course s.rest (Some was) old s.past running s.stands) g
-stage_received left_of job read_ wrote coming0 coming given was now old new piece single running consumed still s (inr (inl e)) =
-    absurd (let clash : true ≡ false = sym still ∙ ends_shut _ new _ e.status (ap (λ (x : Errand). is_batch x.task) s.errand ∙ single) e.ends in cc)
-stage_received left_of job read_ wrote coming0 coming given was now old new piece single running consumed still s (inr (inr (inl e))) =
+stage_received left_of job read_ wrote coming0 coming given was now old new piece running consumed still s (inr (inl e)) =
+    absurd (let clash : true ≡ false = sym still ∙ ends_shut _ new _ e.status e.ends in cc)
+stage_received left_of job read_ wrote coming0 coming given was now old new piece running consumed still s (inr (inr (inl e))) =
     absurd (let clash : true ≡ false = sym still ∙ over_shut new.outcome new.progress (ap is_running e.starved.outcome) in cc)
-stage_received left_of job read_ wrote coming0 coming given was now old new piece single running consumed still s (inr (inr (inr e))) =
+stage_received left_of job read_ wrote coming0 coming given was now old new piece running consumed still s (inr (inr (inr e))) =
     absurd (let clash : true ≡ false = sym still ∙ ap (λ (v : Talker). is_receiving v.outcome v.progress) e.rest in cc)
 
-pub stage_let_go : {R : Type 0} (left_of : R → Option (List ℕ)) (job : Job) (read_ wrote : List ℕ) (coming0 coming : Option (List (List ℕ))) (given : List ℕ) (was now : R) (old new : Talker) (piece : List ℕ)
-    → is_batch job.task ≡ false → is_receiving old.outcome old.progress ≡ true → Consumes (left_of was) (left_of now) piece → is_receiving new.outcome new.progress ≡ false
+pub stage_let_go : {R : Type 0} (left_of : R → Option (List ℕ)) (job : Job) (read_ wrote : List ℕ) (coming0 coming : Option (List (List ℕ))) (given : Given) (was now : R) (old new : Talker) (piece : List ℕ)
+    → is_receiving old.outcome old.progress ≡ true → Consumes (left_of was) (left_of now) piece → is_receiving new.outcome new.progress ≡ false
     → (s : Stage left_of job read_ wrote old.out coming0 coming given (Some was) old) → Receives old s.past piece new
     → Stage left_of job read_ wrote new.out coming0 coming given None new
-stage_let_go left_of job read_ wrote coming0 coming given was now old new piece single receives consumed still s (inl g) =
+stage_let_go left_of job read_ wrote coming0 coming given was now old new piece receives consumed still s (inl g) =
     absurd (let clash : true ≡ false = sym receives ∙ sym (ap (λ (v : Talker). is_receiving v.outcome v.progress) g.rest) ∙ still in cc)
-stage_let_go left_of job read_ wrote coming0 coming given was now old new piece single receives consumed still s (inr (inl e)) =
+stage_let_go left_of job read_ wrote coming0 coming given was now old new piece receives consumed still s (inr (inl e)) =
     let running = receiving_runs old.outcome old.progress receives in
-    stage_ends left_of job read_ wrote coming0 coming given was now old new piece single running consumed s (following left_of coming0 coming s.course s.rest (Some was) old s.past running s.stands) e
-stage_let_go left_of job read_ wrote coming0 coming given was now old new piece single receives consumed still s (inr (inr (inl e))) =
+    stage_ends left_of job read_ wrote coming0 coming given was now old new piece running consumed s (following left_of coming0 coming s.course s.rest (Some was) old s.past running s.stands) e
+stage_let_go left_of job read_ wrote coming0 coming given was now old new piece receives consumed still s (inr (inr (inl e))) =
     let running = receiving_runs old.outcome old.progress receives in
-    stage_starved left_of job read_ wrote coming0 coming given s.rest s.rest (Some was) None old new s.past s.course running s.errand s.given_is s.did (following left_of coming0 coming s.course s.rest (Some was) old s.past running s.stands) e.starved
-stage_let_go left_of job read_ wrote coming0 coming given was now old new piece single receives consumed still s (inr (inr (inr e))) =
+    stage_starved left_of job read_ wrote coming0 coming given s.rest s.rest (Some was) None old new s.past s.course running s.errand s.given_is s.pages_is s.did (following left_of coming0 coming s.course s.rest (Some was) old s.past running s.stands) e.starved
+stage_let_go left_of job read_ wrote coming0 coming given was now old new piece receives consumed still s (inr (inr (inr e))) =
     let running = receiving_runs old.outcome old.progress receives in
     stage_fails left_of job read_ wrote coming0 coming given was old new piece running s (following left_of coming0 coming s.course s.rest (Some was) old s.past running s.stands) e
 
@@ -398,7 +418,7 @@ lost_image outcome (stages.Imaging port true) e = e
 lost_image outcome (stages.Imaging port false) e = absurd (let clash : false ≡ true = sym (shut (is_running outcome)) ∙ e in cc)
 lost_image outcome progress e = absurd (let clash : false ≡ true = e in cc)
 
-pub stage_image_lost : {R : Type 0} (left_of : R → Option (List ℕ)) (job : Job) (read_ wrote : List ℕ) (coming0 coming : Option (List (List ℕ))) (given : List ℕ) (stream after_ : Option R) (old new : Talker) → is_receiving old.outcome old.progress ≡ true
+pub stage_image_lost : {R : Type 0} (left_of : R → Option (List ℕ)) (job : Job) (read_ wrote : List ℕ) (coming0 coming : Option (List (List ℕ))) (given : Given) (stream after_ : Option R) (old new : Talker) → is_receiving old.outcome old.progress ≡ true
     → new ≡ (if is_lost_by links.Image old.outcome old.progress then ended statuses.IoError whys.Lost old else old)
     → Stage left_of job read_ wrote old.out coming0 coming given stream old → Stage left_of job read_ wrote new.out coming0 coming given after_ new
 stage_image_lost left_of job read_ wrote coming0 coming given stream after_ old new receives lost s =
@@ -411,7 +431,7 @@ lost_wanted : (outcome : Outcome) (progress : Progress) (port : ℕ) → is_runn
 lost_wanted outcome (stages.Imaging other opened) port running e = ap (λ (b : Bool). b && true) running
 lost_wanted outcome progress port running e = absurd (let clash : None ≡ Some port = e in cc)
 
-pub stage_wanted_lost : {R : Type 0} (left_of : R → Option (List ℕ)) (job : Job) (read_ wrote : List ℕ) (coming0 coming : Option (List (List ℕ))) (given : List ℕ) (stream after_ : Option R) (old new : Talker) (port : ℕ) → is_running old.outcome ≡ true
+pub stage_wanted_lost : {R : Type 0} (left_of : R → Option (List ℕ)) (job : Job) (read_ wrote : List ℕ) (coming0 coming : Option (List (List ℕ))) (given : Given) (stream after_ : Option R) (old new : Talker) (port : ℕ) → is_running old.outcome ≡ true
     → wanted old.progress ≡ Some port → new ≡ (if is_lost_by links.Image old.outcome old.progress then ended statuses.IoError whys.Lost old else old)
     → Stage left_of job read_ wrote old.out coming0 coming given stream old → Stage left_of job read_ wrote new.out coming0 coming given after_ new
 stage_wanted_lost left_of job read_ wrote coming0 coming given stream after_ old new port running wants lost s =

@@ -1,22 +1,22 @@
 -- How far a job is, call by call of its client.
-use Rattle.std.proofs.Common.{◌≡◌, ◌∙◌, ◌⊎◌, ◌≤◌, ℕ, Bool, true, false, Option, Some, None, List, [], ◌∷◌, ◌++◌, length, refl, sym, ap, subst, inl, inr, arith}
+use Rattle.std.proofs.Common.{◌≡◌, ◌∙◌, ◌⊎◌, ◌≤◌, ℕ, Bool, true, false, Option, Some, None, Ok, Err, List, [], ◌∷◌, ◌++◌, length, refl, sym, ap, subst, inl, inr, arith}
 use Rattle.std.specs.Prelude.{◌&&◌}
 use Rattle.std.proofs.lemmas.List.{append-nil}
-use Rattle.frame_join.specs.FrameHistory.{Past, no_past}
+use Rattle.page_picture.specs.Shows.{Frame}
+use Rattle.frame_join.specs.declared.join_stage.JoinFault.{JoinFault}
+use Rattle.frame_join.specs.FrameHistory.{Past, no_past, answer_by}
 use Rattle.scan_job.specs.declared.job.Job.{Job}
-use Rattle.scan_job.specs.declared.job.Task.{Task}
 use Rattle.scan_job.specs.declared.outcome.Outcome.{Outcome}
-use Rattle.client_rules.specs.declared.progress.Errand.{Errand}
 use Rattle.client_rules.specs.declared.progress.Progress.{Progress}
 use Rattle.client_rules.specs.declared.progress.Progress.TheVariants as stages
-use Rattle.client_rules.specs.Talks.{Talk, errand_of, is_running, is_batch, is_receiving, suits, FitsAt}
+use Rattle.client_rules.specs.Talks.{Talk, errand_of, is_running, is_receiving, FitsAt}
 use Rattle.client_rules.proofs.Fitting.{may_end}
 use Rattle.net_client.specs.Talker.{Talker, talk_of, Serves, IsFresh}
 use Rattle.net_client.specs.Hearing.{awaited, HasHeard, Heeds, Whole, Garbled, Starved, Choked, IsGarbled, IsStarved}
 use Rattle.net_client.proofs.Hearings.{fits_at}
 use Rattle.net_jobs.specs.Courses.{Course, Did, begun}
 use Rattle.net_jobs.specs.Links.{HasBrought, BeginWith}
-use Rattle.net_jobs.specs.Going.{came_in, Linked, Follows, Falls, Stage, EndsBy, ByMemory, ByGarble}
+use Rattle.net_jobs.specs.Going.{came_in, Linked, Follows, Falls, Given, nothing, Stage, EndsBy, ByMemory, ByGarble}
 use Rattle.net_jobs.proofs.Coursing.{heard_on, did_hear, did_read, did_nothing, fresh_is, hears_keep}
 
 -- ---- what a job that runs is
@@ -67,22 +67,27 @@ abbrev is_open : Progress → Bool
 is_open (stages.Imaging port opened) = opened
 is_open progress = false
 
-clean_by : (task : Task) (progress : Progress) (past : Past) → is_batch task ≡ false → (true && is_open progress) ≡ false → suits task progress ≡ true → FitsAt progress past
+joined_clean : (fault : Option JoinFault) (under : Option Frame) (ended : List Frame) → answer_by fault under ended ≡ Ok true → came_in under ≡ []
+joined_clean (Some f) under ended e = absurd (let clash : Err f ≡ Ok true = e in cc)
+joined_clean None (Some f) ended e = absurd (let clash : Ok false ≡ Ok true = e in cc)
+joined_clean None None ended e = refl
+
+clean_by : (progress : Progress) (past : Past) → (true && is_open progress) ≡ false → FitsAt progress past
     → ((port : ℕ) → progress ≡ stages.Imaging port false → came_in past.under ≡ []) → came_in past.under ≡ []
-clean_by task (stages.Imaging port true) past single shut s f empty = absurd (let clash : true ≡ false = shut in cc)
-clean_by task (stages.Imaging port false) past single shut s f empty = empty port refl
-clean_by task stages.Turning past single shut s f empty = absurd (let clash : true ≡ false = sym s ∙ single in cc)
-clean_by task progress past single shut s f empty = ap came_in f.1
+clean_by (stages.Imaging port true) past shut f empty = absurd (let clash : true ≡ false = shut in cc)
+clean_by (stages.Imaging port false) past shut f empty = empty port refl
+clean_by stages.Turning past shut f empty = joined_clean past.fault past.under past.ended f.0
+clean_by progress past shut f empty = ap came_in f.1
 
 shut_at : (outcome : Outcome) (progress : Progress) → is_running outcome ≡ true → is_receiving outcome progress ≡ false → (true && is_open progress) ≡ false
 shut_at outcome (stages.Imaging port opened) running e = ap (λ (b : Bool). b && opened) (sym running) ∙ e
 shut_at outcome progress running e = refl
 
-pub clean_at : (c : Talker) (past : Past) → is_batch c.errand.task ≡ false → is_running c.outcome ≡ true → is_receiving c.outcome c.progress ≡ false → Serves past c
+pub clean_at : (c : Talker) (past : Past) → is_running c.outcome ≡ true → is_receiving c.outcome c.progress ≡ false → Serves past c
     → ((port : ℕ) → c.progress ≡ stages.Imaging port false → came_in past.under ≡ []) → came_in past.under ≡ []
-clean_at c past single running shut serves empty =
+clean_at c past running shut serves empty =
     let at = fits_at past c running serves in
-    clean_by c.errand.task c.progress past single (shut_at c.outcome c.progress running shut) at.0 at.1 empty
+    clean_by c.progress past (shut_at c.outcome c.progress running shut) at.1 empty
 
 -- ---- a new client
 
@@ -90,7 +95,7 @@ nothing_brought : (coming : Option (List (List ℕ))) → HasBrought coming comi
 nothing_brought None = tt
 nothing_brought (Some all) = (all, refl, refl)
 
-pub stage_begun : {R : Type 0} (left_of : R → Option (List ℕ)) (job : Job) (coming : Option (List (List ℕ))) (c : Talker) → IsFresh job c → (s : Stage left_of job [] [] c.out coming coming [] None c) × (s.past ≡ no_past)
+pub stage_begun : {R : Type 0} (left_of : R → Option (List ℕ)) (job : Job) (coming : Option (List (List ℕ))) (c : Talker) → IsFresh job c → (s : Stage left_of job [] [] c.out coming coming nothing None c) × (s.past ≡ no_past)
 stage_begun left_of job coming c f = (
   record {
     errand = ap (λ (v : Talker). v.errand) f.value;
@@ -98,6 +103,7 @@ stage_begun left_of job coming c f = (
     serves = f.serves;
     given_is = refl;
     course = begun job;
+    pages_is = refl;
     rest = [];
     did = did_nothing job c f;
     stands = inl (record {
@@ -130,10 +136,10 @@ given_heard : (old new : Talker) (past : Past) (piece given : List ℕ) → came
 given_heard old new past piece given clean given_is h = (hears_keep old.errand (talk_of old past) (talk_of new h.past_then) h.told h.text h.sent clean h.hears).0 ∙ given_is
 
 -- bytes that begin no reply
-stage_garbled : {R : Type 0} (left_of : R → Option (List ℕ)) (job : Job) (read_ wrote : List ℕ) (coming0 coming : Option (List (List ℕ))) (given : List ℕ) (was new : Talker) (past : Past) (course : Course)
-    → is_running was.outcome ≡ true → was.errand ≡ errand_of job → Serves past was → past.given ≡ given → Did job course read_ wrote was.input.rest was.out → Follows left_of coming0 coming course was.input.rest None was past
+stage_garbled : {R : Type 0} (left_of : R → Option (List ℕ)) (job : Job) (read_ wrote : List ℕ) (coming0 coming : Option (List (List ℕ))) (given : Given) (was new : Talker) (past : Past) (course : Course)
+    → is_running was.outcome ≡ true → was.errand ≡ errand_of job → Serves past was → past.given ≡ given.bytes → course.pages ≡ given.pages → Did job course read_ wrote was.input.rest was.out → Follows left_of coming0 coming course was.input.rest None was past
     → IsGarbled was new → Stage left_of job read_ wrote new.out coming0 coming given None new
-stage_garbled left_of job read_ wrote coming0 coming given was new past course running errand serves given_is did f g =
+stage_garbled left_of job read_ wrote coming0 coming given was new past course running errand serves given_is pages_is did f g =
     let at = fits_at past was running serves in
     record {
       errand = ap (λ (v : Talker). v.errand) g.ends ∙ errand;
@@ -141,6 +147,7 @@ stage_garbled left_of job read_ wrote coming0 coming given was new past course r
       serves = subst (λ (v : Talker). Serves past v) (sym g.ends) (record { stands = serves.stands; fits = may_end was.errand.task was.progress past at.0 at.1 });
       given_is = given_is;
       course = course;
+      pages_is = pages_is;
       rest = was.input.rest;
       did = subst (λ (l : List ℕ). Did job course read_ wrote was.input.rest l) (sym (ap (λ (v : Talker). v.out) g.ends)) did;
       stands = inr (falls left_of coming0 coming course was.input.rest was.input.rest None was new past f running
@@ -148,48 +155,50 @@ stage_garbled left_of job read_ wrote coming0 coming given was new past course r
     }
 
 -- memory was wanting
-pub stage_starved : {R : Type 0} (left_of : R → Option (List ℕ)) (job : Job) (read_ wrote : List ℕ) (coming0 coming : Option (List (List ℕ))) (given rest next : List ℕ) (stream after_ : Option R) (was new : Talker) (past : Past) (course : Course)
-    → is_running was.outcome ≡ true → was.errand ≡ errand_of job → past.given ≡ given → Did job course read_ wrote next was.out → Follows left_of coming0 coming course rest stream was past
+pub stage_starved : {R : Type 0} (left_of : R → Option (List ℕ)) (job : Job) (read_ wrote : List ℕ) (coming0 coming : Option (List (List ℕ))) (given : Given) (rest next : List ℕ) (stream after_ : Option R) (was new : Talker) (past : Past) (course : Course)
+    → is_running was.outcome ≡ true → was.errand ≡ errand_of job → past.given ≡ given.bytes → course.pages ≡ given.pages → Did job course read_ wrote next was.out → Follows left_of coming0 coming course rest stream was past
     → IsStarved was past new → Stage left_of job read_ wrote new.out coming0 coming given after_ new
-stage_starved left_of job read_ wrote coming0 coming given rest next stream after_ was new past course running errand given_is did f s = record {
+stage_starved left_of job read_ wrote coming0 coming given rest next stream after_ was new past course running errand given_is pages_is did f s = record {
   errand = s.errand ∙ errand;
   past = s.past_then;
   serves = s.serves;
   given_is = s.given ∙ given_is;
   course = course;
+  pages_is = pages_is;
   rest = next;
   did = subst (λ (l : List ℕ). Did job course read_ wrote next l) (sym s.out) did;
   stands = inr (falls left_of coming0 coming course rest next stream was new past f running (ByMemory s.outcome) (ap is_running s.outcome));
 }
 
-heard_by : {R : Type 0} (left_of : R → Option (List ℕ)) (job : Job) (read_ wrote : List ℕ) (coming0 coming : Option (List (List ℕ))) (given : List ℕ) (old new : Talker) (piece : List ℕ) → is_running old.outcome ≡ true
+heard_by : {R : Type 0} (left_of : R → Option (List ℕ)) (job : Job) (read_ wrote : List ℕ) (coming0 coming : Option (List (List ℕ))) (given : Given) (old new : Talker) (piece : List ℕ) → is_running old.outcome ≡ true
     → (s : Stage left_of job read_ wrote old.out coming0 coming given None old) → Follows left_of coming0 coming s.course s.rest None old s.past → came_in s.past.under ≡ []
     → Heeds old s.past piece new → Stage left_of job (read_ ++ piece) wrote new.out coming0 coming given None new
 heard_by left_of job read_ wrote coming0 coming given old new piece running s f clean (Whole h wants) = record {
   errand = h.errand ∙ s.errand;
   past = h.past_then;
   serves = h.serves;
-  given_is = given_heard old new s.past piece given clean s.given_is h;
+  given_is = given_heard old new s.past piece given.bytes clean s.given_is h;
   course = heard_on s.course h.text h.sent (talk_of new h.past_then);
+  pages_is = s.pages_is;
   rest = new.input.rest;
   did = did_hear job s.course read_ wrote s.rest old new s.past piece s.errand f.talk_is f.rest_is running s.did h;
   stands = inl (follow_heard left_of coming0 coming s.course s.rest old new s.past piece clean f h);
 }
 heard_by left_of job read_ wrote coming0 coming given old new piece running s f clean (Garbled was h runs g) =
     stage_garbled left_of job (read_ ++ piece) wrote coming0 coming given was new h.past_then (heard_on s.course h.text h.sent (talk_of was h.past_then)) runs (h.errand ∙ s.errand) h.serves
-    (given_heard old was s.past piece given clean s.given_is h) (did_hear job s.course read_ wrote s.rest old was s.past piece s.errand f.talk_is f.rest_is running s.did h)
+    (given_heard old was s.past piece given.bytes clean s.given_is h) s.pages_is (did_hear job s.course read_ wrote s.rest old was s.past piece s.errand f.talk_is f.rest_is running s.did h)
     (follow_heard left_of coming0 coming s.course s.rest old was s.past piece clean f h) g
 heard_by left_of job read_ wrote coming0 coming given old new piece running s f clean (Starved was h runs starved) =
     stage_starved left_of job (read_ ++ piece) wrote coming0 coming given was.input.rest was.input.rest None None was new h.past_then (heard_on s.course h.text h.sent (talk_of was h.past_then)) runs (h.errand ∙ s.errand)
-    (given_heard old was s.past piece given clean s.given_is h) (did_hear job s.course read_ wrote s.rest old was s.past piece s.errand f.talk_is f.rest_is running s.did h)
+    (given_heard old was s.past piece given.bytes clean s.given_is h) s.pages_is (did_hear job s.course read_ wrote s.rest old was s.past piece s.errand f.talk_is f.rest_is running s.did h)
     (follow_heard left_of coming0 coming s.course s.rest old was s.past piece clean f h) starved
 heard_by left_of job read_ wrote coming0 coming given old new piece running s f clean (Choked starved) =
-    stage_starved left_of job (read_ ++ piece) wrote coming0 coming given s.rest (s.rest ++ piece) None None old new s.past s.course running s.errand s.given_is (did_read job s.course read_ wrote s.rest old.out piece s.did) f starved
+    stage_starved left_of job (read_ ++ piece) wrote coming0 coming given s.rest (s.rest ++ piece) None None old new s.past s.course running s.errand s.given_is s.pages_is (did_read job s.course read_ wrote s.rest old.out piece s.did) f starved
 
-pub stage_heard : {R : Type 0} (left_of : R → Option (List ℕ)) (job : Job) (read_ wrote : List ℕ) (coming0 coming : Option (List (List ℕ))) (given : List ℕ) (old new : Talker) (piece : List ℕ)
-    → is_batch job.task ≡ false → is_running old.outcome ≡ true → is_receiving old.outcome old.progress ≡ false
+pub stage_heard : {R : Type 0} (left_of : R → Option (List ℕ)) (job : Job) (read_ wrote : List ℕ) (coming0 coming : Option (List (List ℕ))) (given : Given) (old new : Talker) (piece : List ℕ)
+    → is_running old.outcome ≡ true → is_receiving old.outcome old.progress ≡ false
     → (s : Stage left_of job read_ wrote old.out coming0 coming given None old) → Heeds old s.past piece new → Stage left_of job (read_ ++ piece) wrote new.out coming0 coming given None new
-stage_heard left_of job read_ wrote coming0 coming given old new piece single running shut s heeds =
+stage_heard left_of job read_ wrote coming0 coming given old new piece running shut s heeds =
     let f = following left_of coming0 coming s.course s.rest None old s.past running s.stands in
-    let clean = clean_at old s.past (ap (λ (e : Errand). is_batch e.task) s.errand ∙ single) running shut s.serves f.linked.empty in
+    let clean = clean_at old s.past running shut s.serves f.linked.empty in
     heard_by left_of job read_ wrote coming0 coming given old new piece running s f clean heeds

@@ -78,19 +78,28 @@ pub record Falls (coming0 coming : Option (List (List ℕ))) (course : Course) (
   pub brought : HasBrought coming0 coming (wholes ++ unread)
   pub few : length unread ≤ 1
 
--- what a job did so far and gave of its file, and what of its requests is left to go out
-pub record Stage {R : Type 0} (left_of : R → Option (List ℕ)) (job : Job) (read_ wrote left : List ℕ) (coming0 coming : Option (List (List ℕ))) (given : List ℕ) (stream : Option R) (c : Talker) : Type 0 where
+-- what was given of a job's files: the pages that were turned, and the bytes of the file under way
+pub record Given : Type 0 where
+  pub pages : List Past
+  pub bytes : List ℕ
+
+abbrev pub nothing : Given
+nothing = record { pages = []; bytes = [] }
+
+-- what a job did so far and gave of its files, and what of its requests is left to go out
+pub record Stage {R : Type 0} (left_of : R → Option (List ℕ)) (job : Job) (read_ wrote left : List ℕ) (coming0 coming : Option (List (List ℕ))) (given : Given) (stream : Option R) (c : Talker) : Type 0 where
   pub errand : c.errand ≡ errand_of job
   pub past : Past
   pub serves : Serves past c
-  pub given_is : past.given ≡ given
+  pub given_is : past.given ≡ given.bytes
   pub course : Course
+  pub pages_is : course.pages ≡ given.pages
   pub rest : List ℕ
   pub did : Did job course read_ wrote rest left
   pub stands : Follows left_of coming0 coming course rest stream c past ⊎ Falls coming0 coming course rest c
 
 -- and its control connection
-pub record Going {C R : Type 0} (remaining contents : C → Option (List ℕ)) (left_of : R → Option (List ℕ)) (job : Job) (first : C) (coming0 : Option (List (List ℕ))) (given : List ℕ) (failed : Bool) (control : C) (coming : Option (List (List ℕ))) (stream : Option R) (c : Talker) : Type 0 where
+pub record Going {C R : Type 0} (remaining contents : C → Option (List ℕ)) (left_of : R → Option (List ℕ)) (job : Job) (first : C) (coming0 : Option (List (List ℕ))) (given : Given) (failed : Bool) (control : C) (coming : Option (List (List ℕ))) (stream : Option R) (c : Talker) : Type 0 where
   pub read_ : List ℕ
   pub wrote : List ℕ
   pub left : List ℕ

@@ -4,3 +4,6 @@ pub mod Going
 pub mod Links
 pub mod Promised
 pub mod Draining
+pub mod Outputs
+pub mod Batches
+pub mod Paging

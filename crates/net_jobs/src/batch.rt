@@ -1,47 +1,79 @@
-ghost use Rattle.std.specs.Prelude.{◌≡◌, ◌<◌, length};
+ghost use Rattle.std.specs.Prelude.{◌≡◌, ◌<◌, ◌⊎◌, ◌+◌, ◌++◌, ℕ, None, List, Option, true, false, length, take, option_map, [], IfOk};
+ghost use Rattle.scan_job.specs.declared.job.Job.{Job as JobValue};
+ghost use Rattle.scan_job.specs.JobSize.{HasCount};
 ghost use Rattle.scan_job.specs.Outcomes.{IsOver};
+ghost use Rattle.scan_job.specs.Shelves.{Stock, Taken};
+ghost use Rattle.frame_join.specs.FrameHistory.{Past};
+ghost use Rattle.client_rules.specs.Talks.{scans, is_ended};
+ghost use Rattle.net_client.specs.Talker.{Serves, IsFresh};
+ghost use Rattle.net_jobs.specs.Outputs.{HasTaken, IsUnderWay, GivesBack};
+ghost use Rattle.net_jobs.specs.Paging.{GoesOn, TurnsOn, FallsShort, HasCome};
+ghost use Rattle.net_jobs.specs.Batches.{HasBatchRun, RefusesBatch, closed_as};
 
 use crate::dial::Dial;
 use crate::running::{MOST_PULLS, MOST_READS, go_on, leave, piece, refused};
 use byte_output::put;
+use frame_join::{no_file_is_endless, no_front_is_whole, not_whole_before, whole_shows};
 use net_client::{Client, Link};
+use netpbm::no_whole_prefix;
 use sane_fixed::Status;
-use scan_job::{Job, JobFault, Outcome, Shelf, Why};
+use scan_job::{Job, JobFault, Outcome, Shelf, Task, Why};
 use std::alloc::Global;
 use std::io::{Read, Write};
+use std::mem;
 
-/// Writes bytes of the file of that number to its output, which is asked for at the first. Says whether it took them.
+/// Whether a task scans pages.
+fn is_scanning(task: Task) -> bool
+    ensures { result ≡ scans task }
+{
+    match task {
+        Task::Scan | Task::Batch(_) => true,
+        Task::List | Task::Show | Task::SetOnly => false,
+    }
+}
+
+/// Writes bytes of the file of that number to its output, which is asked for at the first. Says whether it took them all;
+/// else it took a proper front of them.
 fn shelve<S: Shelf>(
     shelf: &mut S,
     under: &mut Option<S::Out>,
     number: u32,
     bytes: &[u8],
     reads: &mut u64,
-) -> bool {
-    let mut out = match under.take() {
-        Some(out) => out,
+) -> bool
+    requires { 0 < length bytes.now }
+    ensures whole { result ≡ true → (before : Option Stock) (outputs : List Taken) (had : List ℕ) → HasTaken before outputs (S.stock shelf.old) (option_map S.Out.contents under.old) number had
+        → HasTaken before outputs (S.stock shelf.new) (option_map S.Out.contents under.new) number (had ++ bytes.now) }
+    ensures front { result ≡ false → (before : Option Stock) (outputs : List Taken) (had : List ℕ) → HasTaken before outputs (S.stock shelf.old) (option_map S.Out.contents under.old) number had
+        → (n : ℕ) × (n < length bytes.now) × HasTaken before outputs (S.stock shelf.new) (option_map S.Out.contents under.new) number (had ++ take n bytes.now) }
+{
+    match under {
+        Some(out) => put(out, bytes, reads),
         None => match shelf.open(number) {
-            Ok(out) => out,
-            Err(_) => return false,
+            Ok(mut out) => {
+                let took = put(&mut out, bytes, reads);
+                match mem::replace(under, Some(out)) {
+                    None => took,
+                    Some(_) => unreachable!(),
+                }
+            }
+            Err(_) => false,
         },
-    };
-    let is_taken = put(&mut out, bytes, reads);
-    match std::mem::replace(under, Some(out)) {
-        Some(other) => shelf.close(other).is_ok() && is_taken,
-        None => is_taken,
     }
 }
 
-/// Gives an output back. Says whether it was taken.
-fn put_back<S: Shelf>(shelf: &mut S, under: Option<S::Out>) -> bool {
+/// Gives an output back, if there is one. Says whether it was taken.
+fn put_back<S: Shelf>(shelf: &mut S, under: Option<S::Out>) -> bool
+    ensures { GivesBack (S.stock shelf.old) (option_map S.Out.contents under) (S.stock shelf.new) }
+{
     match under {
         Some(out) => shelf.close(out).is_ok(),
         None => true,
     }
 }
 
-/// Writes all bytes of the file that may go out, and gives its output back after the last byte of a page that another is
-/// to follow. Says whether the outputs took them.
+/// Writes all bytes of the file that may go out, but none behind the last byte of a page that another is to follow; then its
+/// output is given back. Says whether the shelf and the output took all this.
 fn drain<S: Shelf>(
     client: &mut Client,
     room: &mut [u8],
@@ -49,10 +81,24 @@ fn drain<S: Shelf>(
     under: &mut Option<S::Out>,
     reads: &mut u64,
 ) -> bool
+    requires { 0 < length room.old }
     ensures room { length room.new ≡ length room.old }
+    // `k` is the number of the file under way, and `past` what the client was told and gave.
+    ensures drained { result ≡ true → (before : Option Stock) (outputs : List Taken) (k : ℕ) (past : Past) → scans client.old.errand.task ≡ true → (is_ended client.old.outcome ≡ false → client.old.notes.file ≡ k) → Serves past client.old
+        → IsUnderWay before outputs (S.stock shelf.old) (option_map S.Out.contents under.old) k past.given
+        → GoesOn past client.old k before outputs client.new (S.stock shelf.new) (option_map S.Out.contents under.new)
+        ⊎ TurnsOn past client.old k before outputs client.new (S.stock shelf.new) (option_map S.Out.contents under.new) }
+    ensures short { result ≡ false → (before : Option Stock) (outputs : List Taken) (k : ℕ) (past : Past) → scans client.old.errand.task ≡ true → (is_ended client.old.outcome ≡ false → client.old.notes.file ≡ k) → Serves past client.old
+        → IsUnderWay before outputs (S.stock shelf.old) (option_map S.Out.contents under.old) k past.given
+        → FallsShort k before outputs (S.stock shelf.new) (option_map S.Out.contents under.new)
+        ⊎ TurnsOn past client.old k before outputs client.new (S.stock shelf.new) (option_map S.Out.contents under.new) }
 {
-    for _ in 0..MOST_PULLS {
+    no_file_is_endless();
+    no_front_is_whole();
+    no_whole_prefix();
+    for _i in 0..MOST_PULLS {
         let number = client.file_number();
+        let is_page = client.is_turning();
         let n = client.take_file(room);
         if n == 0 {
             return true;
@@ -60,11 +106,38 @@ fn drain<S: Shelf>(
         if !shelve(shelf, under, number, &room[..n], reads) {
             return false;
         }
-        if client.file_number() != number && !put_back(shelf, under.take()) {
-            return false;
+        if is_page && !client.is_turning() {
+            return put_back(shelf, under.take());
         }
     }
     false
+}
+
+/// Writes the bytes of the files of a job that scans; nothing of any other job.
+fn fill<S: Shelf>(
+    client: &mut Client,
+    is_scanning: bool,
+    room: &mut [u8],
+    shelf: &mut S,
+    under: &mut Option<S::Out>,
+    reads: &mut u64,
+) -> bool
+    requires { 0 < length room.old }
+    ensures room { length room.new ≡ length room.old }
+    ensures none { is_scanning ≡ false → (result ≡ true) × (client.new ≡ client.old) × (shelf.new ≡ shelf.old) × (under.new ≡ under.old) }
+    ensures drained { is_scanning ≡ true → result ≡ true → (before : Option Stock) (outputs : List Taken) (k : ℕ) (past : Past) → scans client.old.errand.task ≡ true → (is_ended client.old.outcome ≡ false → client.old.notes.file ≡ k) → Serves past client.old
+        → IsUnderWay before outputs (S.stock shelf.old) (option_map S.Out.contents under.old) k past.given
+        → GoesOn past client.old k before outputs client.new (S.stock shelf.new) (option_map S.Out.contents under.new)
+        ⊎ TurnsOn past client.old k before outputs client.new (S.stock shelf.new) (option_map S.Out.contents under.new) }
+    ensures short { result ≡ false → (before : Option Stock) (outputs : List Taken) (k : ℕ) (past : Past) → scans client.old.errand.task ≡ true → (is_ended client.old.outcome ≡ false → client.old.notes.file ≡ k) → Serves past client.old
+        → IsUnderWay before outputs (S.stock shelf.old) (option_map S.Out.contents under.old) k past.given
+        → FallsShort k before outputs (S.stock shelf.new) (option_map S.Out.contents under.new)
+        ⊎ TurnsOn past client.old k before outputs client.new (S.stock shelf.new) (option_map S.Out.contents under.new) }
+{
+    if !is_scanning {
+        return true;
+    }
+    drain(client, room, shelf, under, reads)
 }
 
 /// Runs a client to its end. The output under way stays open.
@@ -74,12 +147,17 @@ fn run_client<C: Read + Write, D: Dial, S: Shelf>(
     dial: &mut D,
     shelf: &mut S,
     under: &mut Option<S::Out>,
+    is_scanning: bool,
     piece: &mut [u8],
     room: &mut [u8],
 ) -> Outcome
     requires { 0 < length room.old }
-    ensures { IsOver result }
+    ensures over { IsOver result }
+    ensures came { (job : JobValue) → IsFresh job client → HasCount job.task → is_scanning ≡ scans job.task → option_map S.Out.contents under.old ≡ None
+        → HasCome C.remaining C.contents job control.old (D.coming dial.old) control.new (D.coming dial.new) (S.stock shelf.old) (S.stock shelf.new) (option_map S.Out.contents under.new) result }
 {
+    not_whole_before();
+    whole_shows();
     let mut reads = MOST_READS;
     let mut stream = None;
     for _ in 0..MOST_READS {
@@ -95,7 +173,7 @@ fn run_client<C: Read + Write, D: Dial, S: Shelf>(
             room,
             &mut reads,
         );
-        if !drain(&mut client, room, shelf, under, &mut reads) {
+        if !fill(&mut client, is_scanning, room, shelf, under, &mut reads) {
             return Outcome::Ended(Status::IoError, Why::Sink);
         }
         if !is_up {
@@ -111,6 +189,7 @@ fn run_client<C: Read + Write, D: Dial, S: Shelf>(
 fn closed(outcome: Outcome, is_taken: bool) -> Outcome
     requires { IsOver outcome }
     ensures over { IsOver result }
+    ensures closed { result ≡ closed_as outcome is_taken }
 {
     match outcome {
         Outcome::Done(reports) => {
@@ -135,13 +214,20 @@ pub fn run_batch<C: Read + Write, D: Dial, S: Shelf>(
     shelf: &mut S,
 ) -> Outcome
     ensures over { IsOver result }
+    // A job that is refused, or finds no memory for its buffers, touches no stream and no shelf.
+    ensures ran { RefusesBatch job result control.old control.new dial.old dial.new shelf.old shelf.new
+        ⊎ HasBatchRun C.remaining C.contents job control.old (D.coming dial.old) control.new (D.coming dial.new) (S.stock shelf.old) (S.stock shelf.new) result }
 {
+    if let Some(fault) = job.fault() {
+        return refused(fault);
+    }
     let Ok(mut read) = piece(alloc) else {
         return refused(JobFault::NoMem);
     };
     let Ok(mut room) = piece(alloc) else {
         return refused(JobFault::NoMem);
     };
+    let is_scanning = is_scanning(job.task);
     let client = match Client::new(alloc, job) {
         Ok(client) => client,
         Err((fault, _job)) => return refused(fault),
@@ -153,6 +239,7 @@ pub fn run_batch<C: Read + Write, D: Dial, S: Shelf>(
         dial,
         shelf,
         &mut under,
+        is_scanning,
         read.as_mut_slice(),
         room.as_mut_slice(),
     );

@@ -7,7 +7,7 @@ ghost use Rattle.frame_join.specs.FrameHistory.{Past};
 ghost use Rattle.client_rules.specs.Talks.{is_running, is_receiving, is_batch, wanted};
 ghost use Rattle.net_client.specs.Talker.{Serves, IsFresh};
 ghost use Rattle.net_jobs.specs.Draining.{IsDrainedTo, StopsShort};
-ghost use Rattle.net_jobs.specs.Going.{Stage, Going, HeardOrLost};
+ghost use Rattle.net_jobs.specs.Going.{Given, Stage, Going, HeardOrLost};
 ghost use Rattle.net_jobs.specs.Promised.{HasRun, Refuses, refused_as};
 
 use crate::dial::Dial;
@@ -121,7 +121,7 @@ fn see<R: Read + Drop>(
 )
     requires { is_receiving client.old.outcome client.old.progress ≡ true }
     ensures room { length piece.new ≡ length piece.old }
-    ensures stage { (job : JobValue) (read_ wrote : List ℕ) (coming0 coming : Option (List (List ℕ))) (given : List ℕ) → is_batch job.task ≡ false
+    ensures stage { (job : JobValue) (read_ wrote : List ℕ) (coming0 coming : Option (List (List ℕ))) (given : Given)
         → Stage R.remaining job read_ wrote client.old.out coming0 coming given stream.old client.old → Stage R.remaining job read_ wrote client.new.out coming0 coming given stream.new client.new }
 {
     let Some(mut conn) = stream.take() else {
@@ -143,7 +143,7 @@ fn see<R: Read + Drop>(
 fn connect<D: Dial>(client: &mut Client, dial: &mut D, stream: &mut Option<D::Conn>, port: u16)
     requires running { is_running client.old.outcome ≡ true }
     requires wanted { wanted client.old.progress ≡ Some port }
-    ensures stage { (job : JobValue) (read_ wrote : List ℕ) (coming0 : Option (List (List ℕ))) (given : List ℕ) → is_batch job.task ≡ false
+    ensures stage { (job : JobValue) (read_ wrote : List ℕ) (coming0 : Option (List (List ℕ))) (given : Given)
         → Stage D.Conn.remaining job read_ wrote client.old.out coming0 (D.coming dial.old) given stream.old client.old
         → Stage D.Conn.remaining job read_ wrote client.new.out coming0 (D.coming dial.new) given stream.new client.new }
 {
@@ -171,7 +171,7 @@ pub(crate) fn go_on<C: Read + Write, D: Dial>(
     requires running { is_running client.old.outcome ≡ true }
     ensures piece { length piece.new ≡ length piece.old }
     ensures room { length room.new ≡ length room.old }
-    ensures going { (job : JobValue) (first : C) (coming0 : Option (List (List ℕ))) (given : List ℕ) → is_batch job.task ≡ false
+    ensures going { (job : JobValue) (first : C) (coming0 : Option (List (List ℕ))) (given : Given)
         → Going C.remaining C.contents D.Conn.remaining job first coming0 given false control.old (D.coming dial.old) stream.old client.old
         → Going C.remaining C.contents D.Conn.remaining job first coming0 given (not result) control.new (D.coming dial.new) stream.new client.new }
 {

@@ -1,16 +1,14 @@
 -- All pulls of a file, one after another.
 use Rattle.std.proofs.Common.{◌≡◌, ◌≢◌, ◌∙◌, ℕ, ◌+◌, ◌<◌, ◌≤◌, ◌^◌, Bool, true, false, List, [], ◌∷◌, ◌++◌, None, length, refl, sym, ap, subst, arith, length-append, append_assoc}
 use Rattle.std.proofs.lemmas.List.{append-nil}
-use Rattle.netpbm.specs.Picture.{Picture}
 use Rattle.netpbm.specs.Pnm.{Denotes, IsWhole}
-use Rattle.page_picture.specs.Shows.{ShowsFrames}
-use Rattle.frame_join.specs.FrameHistory.{Past, IsJoined, no_past, after_pull}
+use Rattle.frame_join.specs.FrameHistory.{Past, no_past, after_pull}
 use Rattle.frame_join.specs.Joining.{Joining, Stands}
 use Rattle.client_rules.specs.Talks.{is_ended, scans, turns}
-use Rattle.net_client.specs.Talker.{Talker, Serves, TurnsPage}
+use Rattle.net_client.specs.Talker.{Talker, TurnsPage}
 use Rattle.scan_world.specs.declared.post.Post.{Post}
 use Rattle.scan_world.specs.declared.draining.Pull.TheVariants.{More}
-use Rattle.scan_world.specs.Draining.{Holds, IsGiven, TurnsTo, RunsDry, Pulls, Drained}
+use Rattle.scan_world.specs.Draining.{HasPlace, Holds, IsGiven, TurnsTo, RunsDry, Pulls, Drained}
 use Rattle.scan_world.proofs.Pulls.{calm_by}
 
 -- after so many pulls that gave bytes
@@ -45,8 +43,14 @@ given_then a b c x y = record {
 ended_as : (a b : Post) → IsGiven a b → is_ended b.client.outcome ≡ is_ended a.client.outcome
 ended_as a b x = ap (λ (v : Talker). is_ended v.outcome) x.client
 
-turns_as : (a b : Post) → IsGiven a b → turns b.client.outcome b.client.progress ≡ turns a.client.outcome a.client.progress
+pub turns_as : (a b : Post) → IsGiven a b → turns b.client.outcome b.client.progress ≡ turns a.client.outcome a.client.progress
 turns_as a b x = ap (λ (v : Talker). turns v.outcome v.progress) x.client
+
+pub scans_then : (a b : Post) → IsGiven a b → scans a.task ≡ true → scans b.task ≡ true
+scans_then a b x scan = ap (λ (p : Post). scans p.task) x.rest ∙ scan
+
+pub place_then : (a b : Post) (pages : List Past) → IsGiven a b → HasPlace a pages → HasPlace b pages
+place_then a b pages x less on = less (sym (turns_as a b x) ∙ on)
 
 some_bytes : (xs : List ℕ) → xs ≢ [] → 1 ≤ length xs
 some_bytes [] ne = absurd (ne refl)

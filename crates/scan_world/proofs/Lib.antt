@@ -1,3 +1,9 @@
 pub mod Pulls
 pub mod AllPulls
 pub mod Histories
+pub mod Numbers
+pub mod Standing
+pub mod Told
+pub mod Deciding
+pub mod Events
+pub mod Falling

@@ -1,9 +1,9 @@
 -- A file is laid down pull by pull.
-use Rattle.std.proofs.Common.{◌≡◌, ◌≢◌, ◌∙◌, ℕ, zero, suc, inl, inr, ◌⊎◌, ◌+◌, ◌<◌, ◌≤◌, ◌^◌, Ok, Err, Bool, true, false, List, [], ◌∷◌, ◌++◌, Option, Some, None, option_map, length, slice_get, slice_set, nat_lt, if◌then◌else◌, refl, sym, ap, subst, arith, length-append, append_assoc}
+use Rattle.std.proofs.Common.{◌≡◌, ◌≢◌, ◌∙◌, ℕ, zero, suc, inl, inr, ◌⊎◌, ◌+◌, ◌<◌, Ok, Err, Bool, true, false, List, [], ◌∷◌, ◌++◌, Option, Some, None, option_map, length, slice_get, slice_set, nat_lt, if◌then◌else◌, refl, sym, ap, subst, arith, length-append}
 use Rattle.std.proofs.lemmas.List.{append-nil, length-set}
 use Rattle.std.proofs.lemmas.Option.{slice_get_within}
 use Rattle.netpbm.specs.Picture.{Picture}
-use Rattle.netpbm.specs.Pnm.{Denotes, IsWhole}
+use Rattle.netpbm.specs.Pnm.{Denotes}
 use Rattle.page_picture.specs.Shows.{ShowsFrames, Frame}
 use Rattle.frame_join.specs.declared.join_stage.JoinFault.{JoinFault}
 use Rattle.frame_join.specs.FrameHistory.{Past, IsJoined, no_past, after_pull, answer_by}
@@ -20,7 +20,7 @@ use Rattle.net_client.specs.Talker.{Talker, Serves, TakesPage, Stays, Turns, Tur
 use Rattle.net_client.proofs.Hearings.{calm_at}
 use Rattle.scan_world.specs.declared.post.Post.{Post}
 use Rattle.scan_world.specs.Posts.{IsKept, laid_by}
-use Rattle.scan_world.specs.Draining.{Keeps, HasFiles, Holds, IsGiven, TurnsTo, RunsDry, Drained}
+use Rattle.scan_world.specs.Draining.{Keeps, HasFiles, Holds, IsGiven, IsLaid, TurnsTo, RunsDry}
 
 -- ---- no fault stands in a scan that has not ended otherwise
 
@@ -102,7 +102,7 @@ snoc_suc : (pages : List Past) (p x q : Past) (k : ℕ) → ((slice_get pages k 
 snoc_suc pages p x q k (inl e) = inl e
 snoc_suc pages p x q k (inr e) = inr (ap suc e.0, e.1)
 
-snoc_at : (pages : List Past) (x q : Past) (k : ℕ) → slice_get (pages ++ x ∷ []) k ≡ Some q → ((slice_get pages k ≡ Some q) ⊎ ((k ≡ length pages) × (q ≡ x)))
+pub snoc_at : (pages : List Past) (x q : Past) (k : ℕ) → slice_get (pages ++ x ∷ []) k ≡ Some q → ((slice_get pages k ≡ Some q) ⊎ ((k ≡ length pages) × (q ≡ x)))
 snoc_at [] x q zero e = inr (refl, cc)
 snoc_at [] x q (suc k) e = absurd (let clash : None ≡ Some q = e in cc)
 snoc_at (p ∷ pages) x q zero e = inl e
@@ -127,7 +127,7 @@ laid_within : (b : Bool) (p : Post) → b ≡ true → (if b then with_page p el
 laid_within true p e = refl
 laid_within false p e = absurd (let clash : false ≡ true = e in cc)
 
-laid_as : (p : Post) → p.finished < 16 → laid_by p ≡ with_page p
+pub laid_as : (p : Post) → p.finished < 16 → laid_by p ≡ with_page p
 laid_as p h = laid_within (nat_lt p.finished 16) p (grind (arith, h))
 
 each_laid : (pages : List Past) (q x : Past) (p : Post) (k : ℕ) → p.finished ≡ length pages → length p.pages ≡ 16 → length pages < 16 → Keeps p.is_starved x.given p.file
@@ -139,7 +139,7 @@ each_laid pages q x p k count room less file each (inl at) =
 each_laid pages q x p k count room less file each (inr e) =
     (p.file, subst (λ (n : ℕ). slice_get (slice_set p.pages p.finished p.file) n ≡ Some p.file) (count ∙ sym e.0) (set_here p.pages p.finished p.file (omega (arith, count, room, less))), subst (λ (r : Past). Keeps p.is_starved r.given p.file) (sym e.1) file)
 
-files_laid : (x : Past) (pages : List Past) (p : Post) → length pages < 16 → HasFiles x.given pages p → HasFiles [] (pages ++ x ∷ []) (laid_by p)
+pub files_laid : (x : Past) (pages : List Past) (p : Post) → length pages < 16 → HasFiles x.given pages p → HasFiles [] (pages ++ x ∷ []) (laid_by p)
 files_laid x pages p less h =
     subst (λ (q : Post). HasFiles [] (pages ++ x ∷ []) q) (sym (laid_as p (omega (arith, h.count, less))))
     (record {
@@ -255,3 +255,18 @@ page_more b past pages bytes old new c (Turns whole shows turned serves) kept st
 
 pub still_alive : (v : Talker) → IsStill v → is_ended v.outcome ≡ false
 still_alive v t = turns_alive v.outcome v.progress t
+
+-- ---- what else of the post changes
+
+pub laid_kept : (b : Bool) (bytes : List ℕ) (old new : Post) (c : Talker) → IsKept b bytes (record old { client = c }) new → IsLaid old new
+laid_kept b bytes old new c kept = subst (λ (p : Post). IsLaid old p) (sym (kept_rest b bytes (record old { client = c }) new kept)) refl
+
+laid_either : (b : Bool) (p : Post) → IsLaid p (if b then with_page p else record p { file = Some [] })
+laid_either true p = refl
+laid_either false p = refl
+
+pub laid_always : (p : Post) → IsLaid p (laid_by p)
+laid_always p = laid_either (nat_lt p.finished 16) p
+
+pub laid_then : (a b c : Post) → IsLaid a b → IsLaid b c → IsLaid a c
+laid_then a b c x y = y ∙ ap (λ (p : Post). record p { client = c.client; file = c.file; pages = c.pages; finished = c.finished; is_starved = c.is_starved }) x

@@ -1,5 +1,5 @@
 -- What may happen to a job: when it can, and what it makes of the daemon and of the job's post.
-use Rattle.std.specs.Prelude.{ℕ, ◌≡◌, ◌≢◌, ◌<◌, ◌==◌, ◌&&◌, ◌⊎◌, ◌++◌, if◌then◌else◌, min, Bool, true, false, is_some, Option, Some, None, IsSome, List, [], take, drop, length}
+use Rattle.std.specs.Prelude.{ℕ, ◌≡◌, ◌≢◌, ◌<◌, ◌==◌, ◌&&◌, ◌⊎◌, ◌++◌, if◌then◌else◌, min, Bool, true, false, Option, Some, None, IsSome, List, [], take, drop, length}
 use Rattle.saned_core.specs.declared.seat.SessionId.{SessionId}
 use Rattle.saned_core.specs.declared.seat.Fed.{Fed}
 use Rattle.saned_core.specs.declared.seat.Fed.TheVariants.{Standing, Over, Starved}
@@ -11,7 +11,6 @@ use Rattle.saned_core.specs.State.{Core, opened, is_closed, ended, session_of, r
 use Rattle.saned_core.specs.Feeding.{Feeds}
 use Rattle.saned_core.specs.Turns.{Turns}
 use Rattle.frame_join.specs.FrameHistory.{Past}
-use Rattle.scan_job.specs.declared.job.Task.{Task}
 use Rattle.scan_job.specs.declared.outcome.Outcome.{Outcome}
 use Rattle.scan_job.specs.declared.outcome.Outcome.TheVariants as outcomes
 use Rattle.client_rules.specs.Talks.{is_batch, is_receiving, is_running, wanted}
@@ -102,12 +101,12 @@ FeedsPiece k n d p e q = (fed : Fed) × Feeds k d (moved n p.client.out) fed e �
 abbrev pub taken : ℕ → ℕ → Core → Core
 taken k n d = record d { seats = on_seat (after_taken (length (moved n (replies_of d k)))) k d.seats }
 
--- the client heeds a piece, and what it gives of its file is laid down
+-- the client of a job that runs heeds a piece, and what it gives of its file is laid down
 pub record Hears (piece : List ℕ) (old new : Post) : Type 0 where
+  pub over : is_running old.client.outcome ≡ false → new ≡ old
   pub mid : Talker
-  pub over : is_running old.client.outcome ≡ false → mid ≡ old.client
   pub heeds : is_running old.client.outcome ≡ true → (past : Past) → Serves past old.client → Heeds old.client past piece mid
-  pub drains : Drains (record old { client = mid }) new
+  pub drains : is_running old.client.outcome ≡ true → Drains (record old { client = mid }) new
 
 -- ---- the data connection
 
@@ -128,7 +127,7 @@ Sends k bytes is_last d p e q =
     ⊎ ((e ≡ image_lost k d) × (q ≡ cut_off (spent p)))
 
 abbrev pub SendsStep : ℕ → DataStep → List ℕ → Core → Post → Core → Post → Type 0
-SendsStep k Idle buf d p e q = (e ≡ d) × (q ≡ p)
+SendsStep k Idle buf d p e q = (e ≡ d) × (q ≡ spent p)
 SendsStep k (Bytes n) buf d p e q = Sends k (take n buf) false d p e q
 SendsStep k (Last n) buf d p e q = Sends k (take n buf) true d p e q
 
@@ -152,18 +151,20 @@ is_done outcomes.Running = false
 is_done (outcomes.Done reports) = true
 is_done (outcomes.Ended status why) = false
 
--- a batch that became done with its last page
-abbrev pub finished : Post → Post → Post
-finished old p = if is_running old.client.outcome && (is_done p.client.outcome && is_batch p.task) then laid_by p else p
+-- a batch that is done with its last page
+abbrev pub finished : Post → Post
+finished p = if is_done p.client.outcome && is_batch p.task then laid_by p else p
 
--- the client takes a piece of a frame's records, and what it gives of its file is laid down; so is the last page of a batch
+-- the client of a job that runs takes a piece of a frame's records, and what it gives of its file is laid down; so is the last
+-- page of a batch
 pub record Sees (piece : List ℕ) (old new : Post) : Type 0 where
+  pub over : is_running old.client.outcome ≡ false → new ≡ old
   pub mid : Talker
   pub idle : is_receiving old.client.outcome old.client.progress ≡ false → mid ≡ old.client
   pub receives : is_receiving old.client.outcome old.client.progress ≡ true → (past : Past) → Serves past old.client → Receives old.client past piece mid
   pub after : Post
-  pub drains : Drains (record old { client = mid }) after
-  pub finishes : new ≡ finished old after
+  pub drains : is_running old.client.outcome ≡ true → Drains (record old { client = mid }) after
+  pub finishes : is_running old.client.outcome ≡ true → new ≡ finished after
 
 abbrev pub SeesPiece : ℕ → Post → Post → Type 0
 SeesPiece n p q =

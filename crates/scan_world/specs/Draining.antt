@@ -34,6 +34,10 @@ pub record IsGiven (old new : Post) : Type 0 where
   pub client : new.client ≡ record old.client { join = new.client.join }
   pub rest : new ≡ record old { client = new.client; file = new.file; is_starved = new.is_starved }
 
+-- of the post the client, the files and whether a growth was refused alone change
+abbrev pub IsLaid : Post → Post → Type 0
+IsLaid old new = new ≡ record old { client = new.client; file = new.file; pages = new.pages; finished = new.finished; is_starved = new.is_starved }
+
 -- the file of a page is whole, that of the picture that the page's frames show, and laid by, and the client turns to the next
 pub record TurnsTo (past : Past) (pages : List Past) (old new : Post) : Type 0 where
   pub turned : turns old.client.outcome old.client.progress ≡ true
@@ -43,7 +47,7 @@ pub record TurnsTo (past : Past) (pages : List Past) (old new : Post) : Type 0 w
   pub join : Joining
   pub client : TurnsPage (record old.client { join = join }) new.client
   pub holds : Holds no_past (pages ++ after_pull bytes past ∷ []) new
-  pub rest : new ≡ record old { client = new.client; file = new.file; pages = new.pages; finished = new.finished; is_starved = new.is_starved }
+  pub rest : IsLaid old new
 
 -- nothing more is to come now of a file that waits for no turn
 pub record RunsDry (past : Past) (pages : List Past) (old new : Post) : Type 0 where
@@ -64,7 +68,12 @@ abbrev pub Drained : Bool → Past → List Past → Post → Post → Type 0
 Drained true past pages old new = TurnsTo past pages old new
 Drained false past pages old new = RunsDry past pages old new
 
+-- there is a place for the page that is under way where it will be laid by
+abbrev pub HasPlace : Post → List Past → Type 0
+HasPlace p pages = turns p.client.outcome p.client.progress ≡ true → length pages < 16
+
 pub record Drains (old new : Post) : Type 0 where
   -- a job of another task has no file
   pub none : scans old.task ≡ false → new ≡ old
-  pub drains : (past : Past) (pages : List Past) → scans old.task ≡ true → length pages < 16 → Holds past pages old → Drained (turns old.client.outcome old.client.progress) past pages old new
+  pub rest : IsLaid old new
+  pub drains : (past : Past) (pages : List Past) → scans old.task ≡ true → HasPlace old pages → Holds past pages old → Drained (turns old.client.outcome old.client.progress) past pages old new

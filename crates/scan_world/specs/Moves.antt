@@ -1,5 +1,5 @@
 -- The next move of a job, and how many it may still take.
-use Rattle.std.specs.Prelude.{ℕ, ◌≡◌, ◌⊎◌, Bool, true, false, cond, Option, Some, None, option_map, List, [], ◌∷◌}
+use Rattle.std.specs.Prelude.{ℕ, ◌≡◌, ◌⊎◌, true, false, cond, Option, Some, None, option_map, List, [], ◌∷◌}
 use Rattle.saned_core.specs.State.{Core}
 use Rattle.client_rules.specs.Talks.{is_running}
 use Rattle.scan_world.specs.declared.event.Event.{Event}

@@ -14,7 +14,6 @@ use Rattle.frame_join.specs.FrameHistory.{Past}
 use Rattle.net_client.specs.Sending.{requests_text}
 use Rattle.net_client.specs.Talker.{Talker, IsFresh, Serves, ended, phase_connected}
 use Rattle.saned_core.specs.declared.seat.SessionId.{SessionId}
-use Rattle.scan_world.specs.declared.post.Image.{Image}
 use Rattle.scan_world.specs.declared.post.Post.{Post}
 
 -- ---- a new one

@@ -1,12 +1,15 @@
 -- A daemon and the posts of some jobs, and what events make of them.
-use Rattle.std.specs.Prelude.{ℕ, ◌≡◌, ◌≤◌, ◌<◌, List, [], ◌∷◌, All, Some, length, slice_get, slice_set}
+use Rattle.std.specs.Prelude.{ℕ, ◌≡◌, ◌≤◌, ◌<◌, List, [], ◌∷◌, All, Some, None, length, slice_get, slice_set}
 use Rattle.page_picture.specs.Source.{SourceState}
 use Rattle.page_picture.specs.declared.sources.kinds.Source.{Source}
 use Rattle.device_api.specs.State.{DeviceState}
-use Rattle.dispatch.specs.Table.{after_unplug}
+use Rattle.dispatch.specs.RegistryFault.{HaveOwnNames, MayStand}
+use Rattle.dispatch.specs.Table.{after_unplug, fresh_table}
+use Rattle.md5_auth.specs.declared.users.Entry.{Entry}
+use Rattle.md5_auth.specs.Challenges.{HasGiven}
 use Rattle.scan_job.specs.declared.job.Job.{Job}
 use Rattle.scan_job.specs.JobSize.{HasCount, HasJobSize}
-use Rattle.saned_core.specs.State.{Core, DaemonState, core}
+use Rattle.saned_core.specs.State.{DaemonState, core}
 use Rattle.saned_core.specs.Loading as daemon
 use Rattle.scan_world.specs.declared.event.Event.{Event}
 use Rattle.scan_world.specs.declared.event.Event.TheVariants.{Connect, ToDaemon, ToClient, DataConnect, DataTurn, DataToClient, LoseControl, LoseImage, Cancel, Load, Unplug}
@@ -43,11 +46,34 @@ AreNew (job ∷ jobs) (p ∷ posts) = IsNew job p × AreNew jobs posts
 abbrev pub IsFit : Job → Type 0
 IsFit job = HasJobSize job × HasCount job.task
 
+-- jobs that a world takes
+abbrev pub MayRun : List Job → Type 0
+MayRun jobs = (length jobs ≤ 8) × All IsFit jobs
+
 -- the first fault of jobs, in the order of the tests; where memory was wanting they have none
 abbrev pub HasFault : WorldFault → List Job → Type 0
+HasFault faults.SameName jobs = ⊥
+HasFault faults.TooManyDevices jobs = ⊥
 HasFault faults.TooManyJobs jobs = 8 < length jobs
 HasFault faults.BadJob jobs = (length jobs ≤ 8) × ¬ All IsFit jobs
-HasFault faults.NoMem jobs = (length jobs ≤ 8) × All IsFit jobs
+HasFault faults.NoMem jobs = MayRun jobs
+
+-- the same of devices and jobs: the faults of devices come before those of jobs
+abbrev pub HasFaultAmong : WorldFault → List DeviceState → List Job → Type 0
+HasFaultAmong faults.SameName devices jobs = ¬ HaveOwnNames devices
+HasFaultAmong faults.TooManyDevices devices jobs = HaveOwnNames devices × (16 < length devices)
+HasFaultAmong faults.TooManyJobs devices jobs = MayStand devices × HasFault faults.TooManyJobs jobs
+HasFaultAmong faults.BadJob devices jobs = MayStand devices × HasFault faults.BadJob jobs
+HasFaultAmong faults.NoMem devices jobs = MayStand devices × HasFault faults.NoMem jobs
+
+-- a new daemon of these devices, each of them reset, and a new post for each job
+pub record Begins (devices : List DeviceState) (users : List Entry) (seed : List ℕ) (jobs : List Job) (w : Scene) : Type 0 where
+  pub registry : w.daemon.registry ≡ fresh_table devices
+  pub users_are : w.daemon.users ≡ users
+  pub challenges : HasGiven seed 0 w.daemon.stream
+  pub sessions : w.daemon.seats ≡ None ∷ None ∷ None ∷ None ∷ None ∷ None ∷ None ∷ None ∷ []
+  pub opened : w.daemon.opened ≡ 0
+  pub posts : AreNew jobs w.posts
 
 -- ---- events
 

@@ -1,12 +1,12 @@
 //! What may happen to a job: whether it can, and how it is done.
 
-ghost use Rattle.std.specs.Prelude.{◌≡◌, ◌≢◌, ◌≤◌, ◌↔◌, ◌&&◌, if◌then◌else◌, [], min, Some, None, true, false, IsTrue, IsSome, take, drop, length, OnOk, OnErr};
+ghost use Rattle.std.specs.Prelude.{◌≡◌, ◌≢◌, ◌≤◌, ◌↔◌, ◌&&◌, [], min, Some, None, true, false, IsTrue, IsSome, take, drop, length, OnOk, OnErr};
 ghost use Rattle.saned_core.specs.declared.seat.FrameState.TheVariants as frames;
 ghost use Rattle.saned_core.specs.State.{core, is_closed, replies_of, after_connected, on_seat, on_session, ended};
-ghost use Rattle.client_rules.specs.Talks.{is_batch, is_running};
+ghost use Rattle.client_rules.specs.Talks.{is_running};
 ghost use Rattle.scan_world.specs.declared.post.Image.{Image};
-ghost use Rattle.scan_world.specs.Posts.{IsCancelled, dialled, laid_by, spent, unimaged, unlinked};
-ghost use Rattle.scan_world.specs.Deeds.{Can, Connects, Does, FeedsPiece, Flows, HasImage, Happens, Hears, NeedsLink, Sees, SeesPiece, Sends, TakesTurn, after_fed, closed, frame_at, image_lost, is_done, left, loaded, moved, number_in, taken, with_image};
+ghost use Rattle.scan_world.specs.Posts.{IsCancelled, dialled, spent, unimaged, unlinked};
+ghost use Rattle.scan_world.specs.Deeds.{Can, Connects, Does, FeedsPiece, Flows, HasImage, Happens, Hears, NeedsLink, Sees, SeesPiece, Sends, TakesTurn, after_fed, closed, finished, frame_at, image_lost, is_done, left, loaded, moved, number_in, taken, with_image};
 
 use crate::event::Deed;
 use crate::post::{Image, Post};
@@ -134,10 +134,13 @@ fn to_daemon<D: Device>(
     note(fed, post);
 }
 
-/// A piece comes to the client on its control connection.
+/// A piece comes to the client on its control connection. A job that is over ignores it.
 fn hear(alloc: Global, post: &mut Post, piece: &[u8])
     ensures { Hears piece.now post.old post.new }
 {
+    if !post.is_running() {
+        return;
+    }
     post.client.feed_control(piece);
     post.drain(alloc);
 }
@@ -227,7 +230,7 @@ fn take_turn<D: Device>(daemon: &mut Daemon<D>, post: &mut Post, id: SessionId)
     let mut room = [0u8; RECORD];
     // What it wrote is never more than the room.
     match daemon.data_turn(id, &mut room) {
-        DataStep::Idle => {}
+        DataStep::Idle => post.spend(),
         DataStep::Bytes(n) => send(daemon, post, id, &room[..n.min(room.len())], false),
         DataStep::Last(n) => send(daemon, post, id, &room[..n.min(room.len())], true),
     }
@@ -242,23 +245,25 @@ fn is_done(outcome: &Outcome) -> bool
     }
 }
 
-/// The last page of a batch that became done with it is laid by.
-fn finish(alloc: Global, post: &mut Post, was_running: bool)
-    ensures { post.new ≡ (if was_running && (is_done post.old.client.outcome && is_batch post.old.task) then laid_by post.old else post.old) }
+/// The last page of a batch that is done with it is laid by.
+fn finish(alloc: Global, post: &mut Post)
+    ensures { post.new ≡ finished post.old }
 {
-    if was_running && is_done(post.client.outcome()) && post.task.is_batch() {
+    if is_done(post.client.outcome()) && post.task.is_batch() {
         post.lay_by(alloc);
     }
 }
 
-/// A piece comes to the client on its data connection.
+/// A piece comes to the client on its data connection. A job that is over ignores it.
 fn see(alloc: Global, post: &mut Post, piece: &[u8])
     ensures { Sees piece.now post.old post.new }
 {
-    let was_running = post.is_running();
+    if !post.is_running() {
+        return;
+    }
     post.client.feed_data(piece);
     post.drain(alloc);
-    finish(alloc, post, was_running);
+    finish(alloc, post);
 }
 
 /// Takes the first bytes on the data connection.

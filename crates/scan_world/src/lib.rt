@@ -2,14 +2,17 @@
 #![tactic(auto)]
 
 mod deeds;
+mod devices;
 mod draining;
 mod event;
 mod file;
+mod laws;
 mod moves;
 mod post;
 mod world;
 mod world_fault;
 
 pub use event::Event;
+pub use laws::{files_stand, moves_fall, rest_is_quiet};
 pub use world::World;
 pub use world_fault::WorldFault;

@@ -7,12 +7,15 @@ ghost use Rattle.scan_world.specs.declared.event.Deed.{Deed};
 ghost use Rattle.client_rules.specs.Talks.{is_running};
 ghost use Rattle.scan_world.specs.Deeds.{event_of};
 ghost use Rattle.scan_world.specs.Moves.{IsNext, IsNextMove, in_order, left_of};
+ghost use Rattle.scan_world.specs.Rounds.{HasRound, HasTurn, RunsOut};
+ghost use Rattle.scan_world.specs.Worlds.{seen};
 
 use crate::deeds::{PIECE, can};
 use crate::event::{Deed, Event};
 use crate::post::Post;
 use crate::world::World;
 use device_api::Device;
+use page_picture::{PageSource, Source};
 use saned_core::Daemon;
 
 /// The loss of a control connection whose session the daemon has ended.
@@ -95,6 +98,45 @@ impl<D: Device> World<D> {
         match self.post(i) {
             Some(post) => left_of(post),
             None => 0,
+        }
+    }
+
+    /// The turn of job i: its next move is made, where it has one and may still take a move. Answers whether it was made.
+    fn take_move(&mut self, i: usize) -> bool
+        ensures { HasTurn ⟦<Source as PageSource>⟧.source i result (seen D.state self.old) (seen D.state self.new) }
+    {
+        if self.moves_left(i) == 0 {
+            return false;
+        }
+        match self.next_move(i) {
+            Some(event) => {
+                self.step(event);
+                true
+            }
+            None => false,
+        }
+    }
+
+    /// A turn of each job, in their order. Answers whether a move was made.
+    fn round(&mut self) -> bool
+        ensures { HasRound ⟦<Source as PageSource>⟧.source result (seen D.state self.old) (seen D.state self.new) }
+    {
+        let mut goes_on = false;
+        for i in 0..self.posts.len() {
+            if self.take_move(i) {
+                goes_on = true;
+            }
+        }
+        goes_on
+    }
+
+    /// Next moves of all jobs by turns, until none has one, or may still take one.
+    pub fn run_all(&mut self)
+        ensures { RunsOut ⟦<Source as PageSource>⟧.source (seen D.state self.old) (seen D.state self.new) }
+    {
+        let mut goes_on = true;
+        while goes_on {
+            goes_on = self.round();
         }
     }
 }

@@ -1,9 +1,9 @@
 //! One daemon and the clients of some jobs.
 
-ghost use Rattle.std.specs.Prelude.{◌≡◌, ◌↔◌, Some, None, All, false, IfOk, IfErr, IfSome, IsNone, IsTrue, min, option_and_then, option_map, slice_get};
+ghost use Rattle.std.specs.Prelude.{◌≡◌, ◌↔◌, Some, None, All, false, IfOk, IfErr, IfSome, IsNone, IsTrue, OnOk, min, option_and_then, option_map, slice_get};
 ghost use Rattle.scan_world.specs.declared.post.Post.{Post};
 ghost use Rattle.scan_world.specs.Posts.{page_of};
-ghost use Rattle.scan_world.specs.Worlds.{AreNew, At, HasFault, IsFit, Leads, Runs, seen};
+ghost use Rattle.scan_world.specs.Worlds.{AreNew, At, HasFault, IsFit, Leads, MayRun, Runs, seen};
 
 use crate::deeds::happen;
 use crate::event::{Deed, Event};
@@ -37,7 +37,7 @@ impl<D> Model for World<D> {
 }
 
 /// Why no world is made for these jobs, apart from want of memory.
-fn fault_of(jobs: &[Job]) -> Option<WorldFault>
+pub(crate) fn fault_of(jobs: &[Job]) -> Option<WorldFault>
     ensures some { IfSome result (λ f. HasFault f jobs.now) }
     ensures none { IsNone result → HasFault WorldFault.NoMem jobs.now }
 {
@@ -69,7 +69,7 @@ fn is_fit(job: &Job) -> bool
 }
 
 /// A post for each job.
-fn posts_of(alloc: Global, jobs: Vec<Job>) -> Result<Vec<Post>, NoMem>
+pub(crate) fn posts_of(alloc: Global, jobs: Vec<Job>) -> Result<Vec<Post>, NoMem>
     ensures { IfOk result (λ posts. AreNew jobs.items posts.items) }
 {
     let mut posts = Vec::new(alloc);
@@ -91,6 +91,7 @@ impl<D: Device> World<D> {
         jobs: Vec<Job>,
     ) -> Result<World<D>, (WorldFault, Daemon<D>)>
         ensures begins { IfOk result (λ w. (w.daemon ≡ daemon) × AreNew jobs.items w.posts) }
+        ensures accepted { OnOk result (MayRun jobs.items) }
         ensures fault { IfErr result (λ e. HasFault e.0 jobs.items) }
         ensures back { IfErr result (λ e. e.1 ≡ daemon) }
     {

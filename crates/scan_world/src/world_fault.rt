@@ -3,6 +3,12 @@ use thiserror::Error;
 /// Why no world is made.
 #[derive(Clone, Copy, Debug, PartialEq, Eq, Error)]
 pub enum WorldFault {
+    /// Two devices have one name.
+    #[error("same name twice")]
+    SameName = 1,
+    /// More than sixteen devices were handed in.
+    #[error("more than 16 devices")]
+    TooManyDevices = 2,
     /// More than eight jobs were handed in.
     #[error("more than 8 jobs")]
     TooManyJobs = 3,
@@ -12,6 +18,10 @@ pub enum WorldFault {
     #[error("out of memory")]
     NoMem = 5,
 }
+
+const _: () = prove!(WorldFault::SameName as u32 == 1);
+
+const _: () = prove!(WorldFault::TooManyDevices as u32 == 2);
 
 const _: () = prove!(WorldFault::TooManyJobs as u32 == 3);
 

@@ -202,3 +202,133 @@ fn no_world(rt: HostRuntime) {
         .expect(&rt, "memory");
     assert!(&rt; refused(&rt, alloc, jobs) == WorldFault::BadJob);
 }
+
+/// Boxed flatbeds of these names.
+fn boxes_into(rt: &impl Abort, alloc: Global, names: &[&[u8]], devices: &mut Vec<Box<dyn Device>>) {
+    for name in names {
+        match Box::new(alloc, flatbed(rt, alloc, name)) {
+            Ok(device) => devices.push(device).expect(rt, "memory"),
+            Err(_) => panic!(rt; "no box"),
+        }
+    }
+}
+
+/// Jobs of one task at one device.
+fn jobs_of(rt: &impl Abort, alloc: Global, count: usize, task: Task) -> Vec<Job> {
+    let mut jobs = Vec::new(alloc);
+    for _i in 0..count {
+        jobs.push(job(rt, alloc, b"flatbed:1", ROW, task))
+            .expect(rt, "memory");
+    }
+    jobs
+}
+
+/// Why no world is made of devices of these names and these jobs: the devices come back in their order.
+fn refused_by_new(rt: &impl Abort, alloc: Global, names: &[&[u8]], jobs: Vec<Job>) -> WorldFault {
+    let mut devices = Vec::new(alloc);
+    boxes_into(rt, alloc, names, &mut devices);
+    let users = Users::parse(alloc, b"").expect(rt, "users");
+    match World::new(alloc, devices, users, NO_SEED, jobs) {
+        Ok(_) => panic!(rt; "a world"),
+        Err((fault, devices)) => {
+            assert_eq!(rt; devices.len(), names.len());
+            for (k, device) in devices.iter().enumerate() {
+                assert_eq!(rt; device.info().name.as_bytes(), names[k]);
+            }
+            fault
+        }
+    }
+}
+
+/// A world of boxed devices, users, a seed and jobs.
+#[test]
+fn made_of_devices(rt: HostRuntime) {
+    let alloc = rt.alloc();
+    let mut devices = Vec::new(alloc);
+    boxes_into(&rt, alloc, &[b"flatbed:0", b"flatbed:1"], &mut devices);
+    let users = Users::parse(alloc, b"").expect(&rt, "users");
+    let jobs = jobs_of(&rt, alloc, 1, Task::Scan);
+    let mut world = match World::new(alloc, devices, users, NO_SEED, jobs) {
+        Ok(world) => world,
+        Err(_) => panic!(&rt; "no world"),
+    };
+    drive(&rt, alloc, &mut world, 1, 4096);
+    assert!(&rt; is_done(world.outcome(0).expect(&rt, "a job")));
+    assert_eq!(&rt; world.file(0).expect(&rt, "a file"), SEVEN);
+}
+
+/// Each fault of devices and jobs, with those that come after it standing too.
+#[test]
+fn none_made_of_devices(rt: HostRuntime) {
+    let alloc = rt.alloc();
+    let same: [&[u8]; 17] = [b"flatbed:1"; 17];
+    let bad = jobs_of(&rt, alloc, 9, Task::Batch(0));
+    assert_eq!(&rt;
+        refused_by_new(&rt, alloc, &same, bad),
+        WorldFault::SameName
+    );
+    let many: [&[u8]; 17] = [
+        b"flatbed:0",
+        b"flatbed:1",
+        b"flatbed:2",
+        b"flatbed:3",
+        b"flatbed:4",
+        b"flatbed:5",
+        b"flatbed:6",
+        b"flatbed:7",
+        b"flatbed:8",
+        b"flatbed:9",
+        b"flatbed:10",
+        b"flatbed:11",
+        b"flatbed:12",
+        b"flatbed:13",
+        b"flatbed:14",
+        b"flatbed:15",
+        b"flatbed:16",
+    ];
+    let bad = jobs_of(&rt, alloc, 9, Task::Batch(0));
+    assert_eq!(&rt;
+        refused_by_new(&rt, alloc, &many, bad),
+        WorldFault::TooManyDevices
+    );
+    let bad = jobs_of(&rt, alloc, 9, Task::Batch(0));
+    assert_eq!(&rt;
+        refused_by_new(&rt, alloc, &many[..16], bad),
+        WorldFault::TooManyJobs
+    );
+    let bad = jobs_of(&rt, alloc, 8, Task::Batch(17));
+    assert_eq!(&rt; refused_by_new(&rt, alloc, &[], bad), WorldFault::BadJob);
+}
+
+/// Three jobs, whose next moves are made by turns: one scans a page, one asks for the devices, and one finds no device.
+#[test]
+fn all_run(rt: HostRuntime) {
+    let alloc = rt.alloc();
+    let mut devices = Vec::new(alloc);
+    devices
+        .push(flatbed(&rt, alloc, b"flatbed:0"))
+        .expect(&rt, "memory");
+    let mut jobs = Vec::new(alloc);
+    jobs.push(job(&rt, alloc, b"flatbed:0", ROW, Task::Scan))
+        .expect(&rt, "memory");
+    jobs.push(job(&rt, alloc, b"", &[], Task::List))
+        .expect(&rt, "memory");
+    jobs.push(job(&rt, alloc, b"flatbed:1", ROW, Task::Scan))
+        .expect(&rt, "memory");
+    let mut world = world_of(&rt, alloc, devices, jobs);
+    world.run_all();
+    assert!(&rt; is_done(world.outcome(0).expect(&rt, "a job")));
+    assert_eq!(&rt; world.file(0).expect(&rt, "a file"), SEVEN);
+    assert!(&rt; is_done(world.outcome(1).expect(&rt, "a job")));
+    assert!(&rt;
+        match world.outcome(2).expect(&rt, "a job") {
+            Outcome::Ended(_, _) => true,
+            _ => false,
+        }
+    );
+    for i in 0..3usize {
+        assert!(&rt; world.next_move(i).is_none());
+        assert_eq!(&rt; world.moves_left(i), 0);
+        assert!(&rt; !world.starved(i));
+    }
+}

@@ -1,4 +1,4 @@
-use Rattle.std.proofs.Common.{◌≡◌, ◌∙◌, inl, refl, sym, ap, subst, List, Bool, ℕ, Some}
+use Rattle.std.proofs.Common.{◌≡◌, ◌∙◌, inl, refl, sym, ap, List, Bool, ℕ, Some}
 use Rattle.saned_core.specs.State.{Core, core}
 use Rattle.scan_world.specs.declared.post.Image.{Image}
 use Rattle.scan_world.specs.declared.post.Post.{Post}

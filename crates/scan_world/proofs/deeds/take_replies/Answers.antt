@@ -1,7 +1,6 @@
-use Rattle.std.proofs.Common.{◌≡◌, ◌≤◌, ◌⊎◌, inl, inr, ◌∙◌, ℕ, List, ◌++◌, min, take, drop, length, refl, sym, ap, arith, subst, append_assoc}
-use Rattle.std.proofs.lemmas.List.{length-take, length-take-le, take_all, take-append-le}
-use Rattle.saned_core.specs.State.{core, replies_of, after_taken, on_seat, Core}
-use Rattle.scan_world.specs.Deeds.{moved, taken}
+use Rattle.std.proofs.Common.{◌≡◌, ◌≤◌, ◌⊎◌, inl, inr, ◌∙◌, ℕ, List, ◌++◌, min, take, drop, length, sym, ap, arith, subst, append_assoc}
+use Rattle.std.proofs.lemmas.List.{length-take-le, take_all, take-append-le}
+use Rattle.saned_core.specs.State.{core, replies_of, after_taken, on_seat}
 use Rattle.scan_world.proofs.deeds.take_replies.Goals as goal
 
 -- what was taken is as many as the buffer has room for, or all

@@ -1,4 +1,4 @@
-use Rattle.std.proofs.Common.{◌≡◌, ◌∙◌, ℕ, zero, suc, ◌+◌, ap, ◌<◌, ◌⊎◌, inl, inr, List, length, refl, sym, subst, arith, slice_index_or}
+use Rattle.std.proofs.Common.{◌≡◌, ◌∙◌, ℕ, zero, suc, ◌+◌, ap, ◌<◌, ◌⊎◌, inl, inr, List, length, refl, subst, arith, slice_index_or}
 use Rattle.std.proofs.lemmas.List.{get_or_default}
 use Rattle.scan_job.specs.declared.job.Job.{Job}
 use Rattle.scan_world.specs.Worlds.{IsFit}

@@ -1,11 +1,11 @@
-use Rattle.std.proofs.Common.{◌≡◌, ◌∙◌, ℕ, List, [], true, false, rules, take, length, sym, ap, arith}
+use Rattle.std.proofs.Common.{◌≡◌, ◌∙◌, ℕ, List, true, false, rules, take, length, sym, ap, arith}
 use Rattle.std.proofs.lemmas.List.{length-take}
 use Rattle.client_rules.specs.Talks.{is_ended, turns}
-use Rattle.scan_world.proofs.Pulls.{dry, errand_kept, given_more, holds_more, not_ended, unmoved}
+use Rattle.scan_world.proofs.Pulls.{dry, errand_kept, given_more, holds_more, laid_kept, not_ended, unmoved}
 use Rattle.scan_world.proofs.post.Post.pull.Goals as goal
 
-pub returns-then-count-eq0 : goal.returns-then-count-eq0
-returns-then-count-eq0 c = λ past pages scan less h.
+pub returns-then-count-eq0-clause-pulls : goal.returns-then-count-eq0-clause-pulls
+returns-then-count-eq0-clause-pulls c = λ past pages scan less h.
     let old = c.args.self.now in
     let mid = c.take_file-count.new.self in
     let buf = c.take_file-count.new.buf in
@@ -14,8 +14,8 @@ returns-then-count-eq0 c = λ past pages scan less h.
     dry c.keep.result past pages (take c.take_file-count.result buf) old c.keep.new.self mid (ap (λ (n : ℕ). take n buf) c.if-count-eq0.true) c.keep.ensures same (c.take_file-count.ensures.carried past h.serves still) still
     (λ alive joined p shows. c.take_file-count.ensures.denotes past h.serves alive joined c.if-count-eq0.true (search rules) p shows) h
 
-pub returns-else-count-eq0 : goal.returns-else-count-eq0
-returns-else-count-eq0 c = λ past pages scan less h.
+pub returns-else-count-eq0-clause-pulls : goal.returns-else-count-eq0-clause-pulls
+returns-else-count-eq0-clause-pulls c = λ past pages scan less h.
     let old = c.args.self.now in
     let mid = c.take_file-count.new.self in
     let buf = c.take_file-count.new.buf in
@@ -29,3 +29,14 @@ returns-else-count-eq0 c = λ past pages scan less h.
       given_more c.keep.result (take n buf) old c.keep.new.self mid c.keep.ensures same,
       not_ended (is_ended old.client.outcome) n c.if-count-eq0.false (λ e. (c.take_file-count.ensures.ended e).0),
     )
+
+pub returns-then-is_turning-clause-pulls : goal.returns-then-is_turning-clause-pulls
+returns-then-is_turning-clause-pulls c = λ past pages scan less h.
+    let on : turns c.args.self.now.client.outcome c.args.self.now.client.progress ≡ true = sym c.is_turning.ensures ∙ c.if-is_turning.true in
+    c.pull_page.ensures.pulls past pages scan (less on) h
+
+pub returns-then-count-eq0-clause-rest : goal.returns-then-count-eq0-clause-rest
+returns-then-count-eq0-clause-rest c = laid_kept c.keep.result (take c.take_file-count.result c.take_file-count.new.buf) c.args.self.now c.keep.new.self c.take_file-count.new.self c.keep.ensures
+
+pub returns-else-count-eq0-clause-rest : goal.returns-else-count-eq0-clause-rest
+returns-else-count-eq0-clause-rest c = laid_kept c.keep.result (take c.take_file-count.result c.take_file-count.new.buf) c.args.self.now c.keep.new.self c.take_file-count.new.self c.keep.ensures

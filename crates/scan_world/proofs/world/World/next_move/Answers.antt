@@ -1,4 +1,4 @@
-use Rattle.std.proofs.Common.{◌≡◌, ◌∙◌, ℕ, Option, Some, None, subst}
+use Rattle.std.proofs.Common.{◌∙◌, ℕ, Option, Some, None, subst}
 use Rattle.saned_core.specs.State.{Core, core}
 use Rattle.scan_world.specs.declared.event.Event.{Event}
 use Rattle.scan_world.specs.declared.post.Post.{Post}

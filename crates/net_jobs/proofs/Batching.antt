@@ -1,0 +1,315 @@
+-- How a job over streams is over whose files go to a shelf.
+use Rattle.std.proofs.Common.{◌≡◌, ◌≢◌, ◌∙◌, ◌⊎◌, ◌≤◌, ◌+◌, ℕ, Bool, true, false, Option, Some, None, Ok, Err, Result, List, [], ◌++◌, length, refl, sym, ap, subst, inl, inr, arith, length-append}
+use Rattle.std.specs.Prelude.{All}
+use Rattle.std.proofs.lemmas.List.{append-nil}
+use Rattle.std.proofs.lemmas.List.Elements.{All-append, All-nil, All-same}
+use Rattle.sane_fixed.specs.declared.status.Status.{Status}
+use Rattle.sane_fixed.specs.declared.status.Status.TheVariants as statuses
+use Rattle.netpbm.specs.Picture.{Picture}
+use Rattle.netpbm.specs.Pnm.{Denotes, IsWhole}
+use Rattle.page_picture.specs.Shows.{Frame, ShowsFrames}
+use Rattle.frame_join.specs.declared.join_stage.JoinFault.{JoinFault}
+use Rattle.frame_join.specs.declared.join_stage.Stage.{Stage as JoinStage}
+use Rattle.frame_join.specs.declared.join_stage.Stage.TheVariants.{Idle, Under, Keeping, Between, Whole, WholeColors, Failed as FailedJoin}
+use Rattle.frame_join.specs.FrameHistory.{Past, IsJoined, is_joined, answer_of, answer_by}
+use Rattle.frame_join.specs.JoinSteps.{answer_at}
+use Rattle.frame_join.specs.Joining.{Joining, Stands, StandsAt}
+use Rattle.frame_join.proofs.EndLaws.{answers}
+use Rattle.frame_join.proofs.StreamLaws.{nothing_is_not_whole}
+use Rattle.scan_job.specs.JobSize.{HasCount}
+use Rattle.scan_job.specs.Shelves.{Stock, Taken}
+use Rattle.scan_job.specs.declared.job.Job.{Job}
+use Rattle.scan_job.specs.declared.job.Task.{Task}
+use Rattle.scan_job.specs.declared.job.Task.TheVariants as tasks
+use Rattle.scan_job.specs.declared.outcome.Outcome.{Outcome}
+use Rattle.scan_job.specs.declared.outcome.Outcome.TheVariants.{Running, Done, Ended}
+use Rattle.scan_job.specs.declared.outcome.Why.{Why}
+use Rattle.scan_job.specs.declared.outcome.Why.TheVariants as whys
+use Rattle.scan_job.specs.declared.report.Reports.{Reports}
+use Rattle.client_rules.specs.Talks.{Talk, errand_of, is_running, is_ended, scans, Fits, FitsDone, FitsEnded, IsBetween}
+use Rattle.net_client.specs.Talker.{Talker, Serves}
+use Rattle.net_jobs.specs.Going.{Given, Going}
+use Rattle.net_jobs.specs.Links.{HasBrought}
+use Rattle.net_jobs.specs.Outputs.{TakesBack, HasTaken, IsUnderWay, GivesBack, outputs_from}
+use Rattle.net_jobs.specs.Paging.{TurnsOn, FallsShort, CameDone, CameEnded, HasCome}
+use Rattle.net_jobs.specs.Batches.{IsPageFile, MayScan, last_of, pages_of, closed_as, BatchEnded, HasBatchRun}
+use Rattle.net_jobs.proofs.Counting.{IsFew, counts}
+use Rattle.net_jobs.proofs.Leaving.{cause_of, followed, unopened, task_is, ran_by, ends_well}
+use Rattle.net_jobs.proofs.Shelves.{given_back, none_back, left_behind, outputs_more}
+use Rattle.net_jobs.proofs.Shelving.{Laid, Shut, OnShelf, one_file, laid_next, from_here}
+
+-- ---- a join between frames has given nothing, if its picture is not whole
+
+silent_at : (stage : JoinStage) (past : Past) (v : Joining) → answer_at stage ≡ Ok false → StandsAt stage past v → past.under ≡ None → past.given ≡ []
+silent_at Idle past v e at under = at.2
+silent_at Under past v e at under = absurd (let clash : None ≡ Some at.0 = sym under ∙ at.2 in cc)
+silent_at Keeping past v e at under = absurd (let clash : None ≡ Some at.0 = sym under ∙ at.1 in cc)
+silent_at Between past v e at under = at.1.silent.given_is
+silent_at Whole past v e at under = absurd (let clash : Ok true ≡ Ok false = e in cc)
+silent_at WholeColors past v e at under = absurd (let clash : Ok true ≡ Ok false = e in cc)
+silent_at (FailedJoin fault) past v e at under = absurd (let clash : Err fault ≡ Ok false = e in cc)
+
+between_answers : (fault : Option JoinFault) (under : Option Frame) (ended : List Frame) → fault ≡ None → under ≡ None → is_joined ended ≡ false → answer_by fault under ended ≡ Ok false
+between_answers (Some f) under ended a b c = absurd (let clash : Some f ≡ None = a in cc)
+between_answers None (Some f) ended a b c = absurd (let clash : Some f ≡ None = b in cc)
+between_answers None None ended a b c = ap (λ (x : Bool). Ok x) c
+
+between_silent : (past : Past) (v : Joining) → Stands past v → IsBetween past → past.given ≡ []
+between_silent past v s b = silent_at v.stage past v (sym (answers past v s) ∙ between_answers past.fault past.under past.ended b.0 b.1 b.2) s.at_stage b.1
+
+-- ---- a job that is done
+
+done_fits : (task : Task) (outcome : Outcome) (reports : Reports) (v : Talker) (past : Past) → outcome ≡ Done reports → Fits task outcome v.progress past → FitsDone task past
+done_fits task outcome reports v past e f = subst (λ (o : Outcome). Fits task o v.progress past) e f
+
+-- only a job that scans has a whole picture then
+joined_scans : (task : Task) (past : Past) → FitsDone task past → IsJoined past → scans task ≡ true
+joined_scans tasks.List past f joined = absurd (f joined)
+joined_scans tasks.Show past f joined = absurd (f joined)
+joined_scans tasks.SetOnly past f joined = absurd (f joined)
+joined_scans tasks.Scan past f joined = refl
+joined_scans (tasks.Batch count) past f joined = refl
+
+none_between : (past : Past) (v : Joining) → Stands past v → (IsJoined past → ⊥) → IsJoined past ⊎ IsBetween past → past.given ≡ []
+none_between past v s unjoined (inl joined) = absurd (unjoined joined)
+none_between past v s unjoined (inr b) = between_silent past v s b
+
+done_none : (task : Task) (past : Past) (v : Joining) → Stands past v → FitsDone task past → (IsJoined past → ⊥) → (scans task ≡ false → past.given ≡ []) → past.given ≡ []
+done_none tasks.List past v s f unjoined none = none refl
+done_none tasks.Show past v s f unjoined none = none refl
+done_none tasks.SetOnly past v s f unjoined none = none refl
+done_none tasks.Scan past v s f unjoined none = absurd (unjoined f)
+done_none (tasks.Batch count) past v s f unjoined none = none_between past v s unjoined f
+
+last_few : (a : Result Bool JoinFault) (page : Past) → length (last_of a page) ≤ 1
+last_few (Ok true) page = omega arith
+last_few (Ok false) page = omega arith
+last_few (Err fault) page = omega arith
+
+last_one : (a : Result Bool JoinFault) (page : Past) → a ≡ Ok true → length (last_of a page) ≡ 1
+last_one (Ok true) page e = refl
+last_one (Ok false) page e = absurd (let clash : Ok false ≡ Ok true = e in cc)
+last_one (Err fault) page e = absurd (let clash : Err fault ≡ Ok true = e in cc)
+
+last_none : (a : Result Bool JoinFault) (page : Past) → (a ≡ Ok true → ⊥) → last_of a page ≡ []
+last_none (Ok true) page e = absurd (e refl)
+last_none (Ok false) page e = refl
+last_none (Err fault) page e = refl
+
+may_scan : (task : Task) (n : ℕ) (past : Past) → FitsDone task past → IsFew task n → MayScan task (n + length (last_of (answer_of past) past))
+may_scan tasks.List n past f few = omega (arith, few, ap (λ (l : List Past). length l) (last_none (answer_of past) past f))
+may_scan tasks.Show n past f few = omega (arith, few, ap (λ (l : List Past). length l) (last_none (answer_of past) past f))
+may_scan tasks.SetOnly n past f few = omega (arith, few, ap (λ (l : List Past). length l) (last_none (answer_of past) past f))
+may_scan tasks.Scan n past f few = omega (arith, few, last_one (answer_of past) past f)
+may_scan (tasks.Batch count) n past f few = omega (arith, few, last_few (answer_of past) past)
+
+last_file : (a : Result Bool JoinFault) (page : Past) → (a ≡ Ok true → IsPageFile page) → All IsPageFile (last_of a page)
+last_file (Ok true) page file = one_file page (file refl)
+last_file (Ok false) page file = All-nil IsPageFile
+last_file (Err fault) page file = All-nil IsPageFile
+
+pub came_done : {C R : Type 0} (remaining contents : C → Option (List ℕ)) (left_of : R → Option (List ℕ)) (job : Job) (first : C) (coming0 : Option (List (List ℕ))) (before : Option Stock) (control : C) (coming : Option (List (List ℕ))) (stream : Option R) (c : Talker) (now : Option Stock) (out : Option (Option (List ℕ))) (reports : Reports)
+    → HasCount job.task → ((past : Past) (join : Joining) → Stands past join → IsJoined past → (p : Picture) × ShowsFrames past.ended p) → c.outcome ≡ Done reports
+    → Shut remaining contents left_of job first coming0 before control coming stream c now out → CameDone remaining contents job first coming0 control coming before now out (Done reports)
+came_done remaining contents left_of job first coming0 before control coming stream c now out reports h shows done d =
+    let s = d.stage in
+    let f = followed left_of coming0 coming s.course s.rest stream c s.past reports done s.stands in
+    let l = unopened left_of coming0 coming s.course.streams stream c s.past (ap is_running done) f.linked in
+    let told : s.course.talk.outcome ≡ Done reports = ap (λ (t : Talk). t.outcome) (sym f.talk_is) ∙ done in
+    let past_is : s.past ≡ s.course.talk.past = ap (λ (t : Talk). t.past) f.talk_is in
+    let fits : FitsDone job.task s.past = subst (λ (t : Task). FitsDone t s.past) (task_is c job s.errand) (done_fits c.errand.task c.outcome reports c s.past done s.serves.fits) in
+    let given_is : d.given.bytes ≡ s.past.given = sym s.given_is in
+    let file : IsJoined s.past → IsPageFile s.past = λ joined.
+    (let p = shows s.past c.join s.serves.stands joined in
+    record { picture = p.0; shows = p.1; file = subst (λ (t : List ℕ). Denotes t p.0) given_is (d.shelf.shown (joined_scans job.task s.past fits joined) (ap is_ended done) joined p.0 p.1) }) in
+    let few = (counts job s.did.events s.course h s.did.runs).few in
+    record {
+      ran = record {
+        read_ = d.read_;
+        wrote = d.wrote;
+        rest = s.rest;
+        left = d.left;
+        failed = d.failed;
+        course = s.course;
+        calls = d.calls;
+        did = s.did;
+        wholes = l.wholes;
+        unread = [];
+        begin = l.begin;
+        brought = subst (λ (w : List (List ℕ)). HasBrought coming0 coming w) (sym (append-nil l.wholes)) l.brought;
+        few = omega arith;
+      };
+      told = told;
+      all = d.all;
+      read_all = refl;
+      end_well = ends_well (errand_of job) _ s.did.events s.course s.did.runs (ap is_ended told);
+      count = subst (λ (n : ℕ). MayScan job.task n) (sym (length-append s.course.pages (last_of (answer_of s.course.talk.past) s.course.talk.past)))
+          (may_scan job.task (length s.course.pages) s.course.talk.past (subst (λ (q : Past). FitsDone job.task q) past_is fits) few);
+      files = All-append IsPageFile s.course.pages (last_of (answer_of s.course.talk.past) s.course.talk.past) (All-same IsPageFile s.course.pages d.given.pages s.pages_is d.shelf.files)
+          (subst (λ (q : Past). All IsPageFile (last_of (answer_of q) q)) past_is (last_file (answer_of s.past) s.past file));
+      taken = subst (λ (q : List Past). HasTaken before (outputs_from 1 q) now out (length q + 1) s.course.talk.past.given) (sym s.pages_is)
+          (subst (λ (t : List ℕ). HasTaken before (outputs_from 1 d.given.pages) now out (length d.given.pages + 1) t) (given_is ∙ ap (λ (q : Past). q.given) past_is) d.shelf.under_way.taken);
+      none = λ unjoined. d.shelf.under_way.asked (given_is ∙ done_none job.task s.past c.join s.serves.stands fits (λ joined. unjoined (subst (λ (q : Past). IsJoined q) past_is joined)) (λ other. s.given_is ∙ d.shelf.none other));
+      last = λ joined. subst (λ (q : Past). IsPageFile q) past_is (file (subst (λ (q : Past). IsJoined q) (sym past_is) joined));
+    }
+
+-- ---- a job that has ended otherwise
+
+ended_fits : (outcome : Outcome) (status : Status) (why : Why) (task : Task) (v : Talker) (past : Past) → outcome ≡ Ended status why → Fits task outcome v.progress past → FitsEnded task past
+ended_fits outcome status why task v past e f = subst (λ (o : Outcome). Fits task o v.progress past) e f
+
+ended_part : (task : Task) (past : Past) → FitsEnded task past → IsJoined past → IsWhole past.given → ⊥
+ended_part tasks.List past f joined w = f joined
+ended_part tasks.Show past f joined w = f joined
+ended_part tasks.SetOnly past f joined w = f joined
+ended_part tasks.Scan past f joined w = f joined
+ended_part (tasks.Batch count) past f joined w = f joined w
+
+pub came_ended : {C R : Type 0} (remaining contents : C → Option (List ℕ)) (left_of : R → Option (List ℕ)) (job : Job) (first : C) (coming0 : Option (List (List ℕ))) (before : Option Stock) (control : C) (coming : Option (List (List ℕ))) (stream : Option R) (c : Talker) (now : Option Stock) (out : Option (Option (List ℕ))) (status : Status) (why : Why)
+    → ((past : Past) (join : Joining) → Stands past join → (IsJoined past → ⊥) → IsWhole past.given → ⊥) → c.outcome ≡ Ended status why
+    → Shut remaining contents left_of job first coming0 before control coming stream c now out → CameEnded remaining contents job first coming0 control coming before now out (Ended status why)
+came_ended remaining contents left_of job first coming0 before control coming stream c now out status why law over d =
+    let s = d.stage in
+    let r = ran_by remaining contents left_of job first coming0 control coming stream c d.given d.read_ d.wrote d.left d.failed d.calls s s.stands in
+    let fits = ended_fits c.outcome status why c.errand.task c s.past over s.serves.fits in
+    record {
+      ran = r.0;
+      cause = cause_of r.0.course.talk r.0.rest c.outcome (Ended status why) over r.1;
+      files = All-same IsPageFile r.0.course.pages d.given.pages r.2 d.shelf.files;
+      text = d.given.bytes;
+      taken = subst (λ (q : List Past). HasTaken before (outputs_from 1 q) now out (length q + 1) d.given.bytes) (sym r.2) d.shelf.under_way.taken;
+      not_whole = subst (λ (t : List ℕ). IsWhole t → ⊥) s.given_is (λ w. law s.past c.join s.serves.stands (λ joined. ended_part c.errand.task s.past fits joined w) w);
+    }
+
+came_over : {C R : Type 0} (remaining contents : C → Option (List ℕ)) (left_of : R → Option (List ℕ)) (job : Job) (first : C) (coming0 : Option (List (List ℕ))) (before : Option Stock) (control : C) (coming : Option (List (List ℕ))) (stream : Option R) (c : Talker) (now : Option Stock) (out : Option (Option (List ℕ))) (outcome : Outcome)
+    → HasCount job.task → ((past : Past) (join : Joining) → Stands past join → (IsJoined past → ⊥) → IsWhole past.given → ⊥)
+    → ((past : Past) (join : Joining) → Stands past join → IsJoined past → (p : Picture) × ShowsFrames past.ended p) → is_running outcome ≡ false → c.outcome ≡ outcome
+    → Shut remaining contents left_of job first coming0 before control coming stream c now out → HasCome remaining contents job first coming0 control coming before now out outcome
+came_over remaining contents left_of job first coming0 before control coming stream c now out Running h law shows over e d = let clash : true ≡ false = over in cc
+came_over remaining contents left_of job first coming0 before control coming stream c now out (Done reports) h law shows over e d = came_done remaining contents left_of job first coming0 before control coming stream c now out reports h shows e d
+came_over remaining contents left_of job first coming0 before control coming stream c now out (Ended status why) h law shows over e d = came_ended remaining contents left_of job first coming0 before control coming stream c now out status why law e d
+
+pub has_come : {C R : Type 0} (remaining contents : C → Option (List ℕ)) (left_of : R → Option (List ℕ)) (job : Job) (first : C) (coming0 : Option (List (List ℕ))) (before : Option Stock) (control : C) (coming : Option (List (List ℕ))) (stream : Option R) (c : Talker) (now : Option Stock) (out : Option (Option (List ℕ))) (outcome : Outcome)
+    → HasCount job.task → ((past : Past) (join : Joining) → Stands past join → (IsJoined past → ⊥) → IsWhole past.given → ⊥)
+    → ((past : Past) (join : Joining) → Stands past join → IsJoined past → (p : Picture) × ShowsFrames past.ended p) → is_running c.outcome ≡ false → outcome ≡ c.outcome
+    → Shut remaining contents left_of job first coming0 before control coming stream c now out → HasCome remaining contents job first coming0 control coming before now out outcome
+has_come remaining contents left_of job first coming0 before control coming stream c now out outcome h law shows over e d =
+    came_over remaining contents left_of job first coming0 before control coming stream c now out outcome h law shows (ap is_running e ∙ over) (sym e) d
+
+-- ---- the shelf or an output did not take what it was to
+
+sunk_next : {C R : Type 0} (remaining contents : C → Option (List ℕ)) (left_of : R → Option (List ℕ)) (job : Job) (first : C) (coming0 : Option (List (List ℕ))) (before : Option Stock) (failed : Bool) (control : C) (coming : Option (List (List ℕ))) (stream : Option R) (c : Talker) (now : Option Stock) (out : Option (Option (List ℕ)))
+    → out ≡ None → (d : Laid remaining contents left_of job first coming0 before failed control coming stream c now out) → d.given.bytes ≡ [] → CameEnded remaining contents job first coming0 control coming before now out (Ended statuses.IoError whys.Sink)
+sunk_next remaining contents left_of job first coming0 before failed control coming stream c now out none d silent =
+    let s = d.going.stage in
+    let r = ran_by remaining contents left_of job first coming0 control coming stream c d.given d.going.read_ d.going.wrote d.going.left failed d.going.calls s s.stands in
+    record {
+      ran = r.0;
+      cause = inr (inr refl);
+      files = All-same IsPageFile r.0.course.pages d.given.pages r.2 d.shelf.files;
+      text = d.given.bytes;
+      taken = subst (λ (q : List Past). HasTaken before (outputs_from 1 q) now out (length q + 1) d.given.bytes) (sym r.2) d.shelf.under_way.taken;
+      not_whole = λ w. nothing_is_not_whole (subst (λ (t : List ℕ). IsWhole t) silent w);
+    }
+
+sunk_by : {C R : Type 0} (remaining contents : C → Option (List ℕ)) (left_of : R → Option (List ℕ)) (job : Job) (first : C) (coming0 : Option (List (List ℕ))) (before : Option Stock) (failed : Bool) (control : C) (coming : Option (List (List ℕ))) (stream : Option R) (c now : Talker) (then_ : Option Stock) (out : Option (Option (List ℕ))) (given : Given)
+    → ((past : Past) (join : Joining) → Stands past join → IsJoined past → (p : Picture) × ShowsFrames past.ended p) → scans job.task ≡ true → All IsPageFile given.pages
+    → (g : Going remaining contents left_of job first coming0 given failed control coming stream c)
+    → FallsShort (length given.pages + 1) before (outputs_from 1 given.pages) then_ out ⊎ TurnsOn g.stage.past c (length given.pages + 1) before (outputs_from 1 given.pages) now then_ out
+    → CameEnded remaining contents job first coming0 control coming before then_ out (Ended statuses.IoError whys.Sink)
+sunk_by remaining contents left_of job first coming0 before failed control coming stream c now then_ out given shows scanning files g (inl short) =
+    let s = g.stage in
+    let r = ran_by remaining contents left_of job first coming0 control coming stream c given g.read_ g.wrote g.left failed g.calls s s.stands in
+    record {
+      ran = r.0;
+      cause = inr (inr refl);
+      files = All-same IsPageFile r.0.course.pages given.pages r.2 files;
+      text = short.text;
+      taken = subst (λ (q : List Past). HasTaken before (outputs_from 1 q) then_ out (length q + 1) short.text) (sym r.2) short.taken;
+      not_whole = short.not_whole;
+    }
+sunk_by remaining contents left_of job first coming0 before failed control coming stream c now then_ out given shows scanning files g (inr e) =
+    let d = laid_next remaining contents left_of job first coming0 before failed control coming stream c now then_ out given shows scanning files g e in
+    sunk_next remaining contents left_of job first coming0 before failed control coming stream now then_ out e.none d.0 d.1
+
+sunk_at : {C R : Type 0} (remaining contents : C → Option (List ℕ)) (left_of : R → Option (List ℕ)) (job : Job) (first : C) (coming0 : Option (List (List ℕ))) (before was : Option Stock) (failed : Bool) (control : C) (coming : Option (List (List ℕ))) (stream : Option R) (c old now : Talker) (then_ : Option Stock) (under out : Option (Option (List ℕ))) (given : Given) (past : Past) (is_scanning b : Bool) (result : Bool)
+    → is_scanning ≡ b → is_scanning ≡ scans job.task → HasCount job.task → ((past : Past) (join : Joining) → Stands past join → IsJoined past → (p : Picture) × ShowsFrames past.ended p)
+    → OnShelf job before was under given old past → (g : Going remaining contents left_of job first coming0 given failed control coming stream c)
+    → result ≡ false → (is_scanning ≡ false → result ≡ true)
+    → ((before : Option Stock) (outputs : List Taken) (k : ℕ) (q : Past) → scans c.errand.task ≡ true → (is_ended c.outcome ≡ false → c.notes.file ≡ k) → Serves q c → IsUnderWay before outputs was under k q.given
+    → FallsShort k before outputs then_ out ⊎ TurnsOn q c k before outputs now then_ out)
+    → CameEnded remaining contents job first coming0 control coming before then_ out (Ended statuses.IoError whys.Sink)
+sunk_at remaining contents left_of job first coming0 before was failed control coming stream c old now then_ under out given past is_scanning true result e scanning h shows shelf g fails none goes =
+    sunk_by remaining contents left_of job first coming0 before failed control coming stream c now then_ out given shows (sym scanning ∙ e) shelf.files g
+    (from_here remaining contents left_of job first coming0 before was failed control coming stream c old under given past (λ b outputs k q. FallsShort k b outputs then_ out ⊎ TurnsOn q c k b outputs now then_ out) (sym scanning ∙ e) h shelf g goes)
+sunk_at remaining contents left_of job first coming0 before was failed control coming stream c old now then_ under out given past is_scanning false result e scanning h shows shelf g fails none goes =
+    absurd (let clash : true ≡ false = sym (none e) ∙ fails in cc)
+
+pub came_sunk : {C R : Type 0} (remaining contents : C → Option (List ℕ)) (left_of : R → Option (List ℕ)) (job : Job) (first : C) (coming0 : Option (List (List ℕ))) (before was : Option Stock) (failed : Bool) (control : C) (coming : Option (List (List ℕ))) (stream : Option R) (c old now : Talker) (then_ : Option Stock) (under out : Option (Option (List ℕ))) (given : Given) (past : Past) (is_scanning result : Bool)
+    → is_scanning ≡ scans job.task → HasCount job.task → ((past : Past) (join : Joining) → Stands past join → IsJoined past → (p : Picture) × ShowsFrames past.ended p)
+    → OnShelf job before was under given old past → (g : Going remaining contents left_of job first coming0 given failed control coming stream c)
+    → result ≡ false → (is_scanning ≡ false → result ≡ true)
+    → ((before : Option Stock) (outputs : List Taken) (k : ℕ) (q : Past) → scans c.errand.task ≡ true → (is_ended c.outcome ≡ false → c.notes.file ≡ k) → Serves q c → IsUnderWay before outputs was under k q.given
+    → FallsShort k before outputs then_ out ⊎ TurnsOn q c k before outputs now then_ out)
+    → CameEnded remaining contents job first coming0 control coming before then_ out (Ended statuses.IoError whys.Sink)
+came_sunk remaining contents left_of job first coming0 before was failed control coming stream c old now then_ under out given past is_scanning result scanning h shows shelf g fails none goes =
+    sunk_at remaining contents left_of job first coming0 before was failed control coming stream c old now then_ under out given past is_scanning is_scanning result refl scanning h shows shelf g fails none goes
+
+-- ---- the last output is given back
+
+last_back : (a : Result Bool JoinFault) (page : Past) (pages : List Past) (before was new : Option Stock) (out : Option (Option (List ℕ))) → HasTaken before (outputs_from 1 pages) was out (length pages + 1) page.given → ((a ≡ Ok true → ⊥) → out ≡ None)
+    → (a ≡ Ok true → page.given ≢ []) → GivesBack was out new → TakesBack before (outputs_from 1 (pages ++ last_of a page)) new
+last_back (Ok true) page pages before was new out taken none some back =
+    subst (λ (l : List Taken). TakesBack before l new) (sym (outputs_more 1 pages page)) (given_back before was new (outputs_from 1 pages) (length pages + 1) page.given out (some refl) taken back)
+last_back (Ok false) page pages before was new out taken none some back =
+    subst (λ (l : List Past). TakesBack before (outputs_from 1 l) new) (sym (append-nil pages)) (none_back before was new (outputs_from 1 pages) (length pages + 1) page.given out (none (λ e. (let clash : Ok false ≡ Ok true = e in cc))) taken back)
+last_back (Err fault) page pages before was new out taken none some back =
+    subst (λ (l : List Past). TakesBack before (outputs_from 1 l) new) (sym (append-nil pages)) (none_back before was new (outputs_from 1 pages) (length pages + 1) page.given out (none (λ e. (let clash : Err fault ≡ Ok true = e in cc))) taken back)
+
+file_is_some : (page : Past) → IsPageFile page → page.given ≢ []
+file_is_some page f e = nothing_is_not_whole (subst (λ (t : List ℕ). IsWhole t) e (f.picture, f.file))
+
+pub close_done : {C : Type 0} (remaining contents : C → Option (List ℕ)) (job : Job) (first : C) (coming0 : Option (List (List ℕ))) (now : C) (coming : Option (List (List ℕ))) (before was new : Option Stock) (out : Option (Option (List ℕ))) (reports : Reports) (is_taken : Bool)
+    → CameDone remaining contents job first coming0 now coming before was out (Done reports) → GivesBack was out new → HasBatchRun remaining contents job first coming0 now coming before new (closed_as (Done reports) is_taken)
+close_done remaining contents job first coming0 now coming before was new out reports true d back = record {
+  ran = d.ran;
+  told = d.told;
+  all = d.all;
+  read_all = d.read_all;
+  end_well = d.end_well;
+  count = d.count;
+  files = d.files;
+  outputs = last_back (answer_of d.ran.course.talk.past) d.ran.course.talk.past d.ran.course.pages before was new out d.taken d.none (λ joined. file_is_some d.ran.course.talk.past (d.last joined)) back;
+}
+close_done remaining contents job first coming0 now coming before was new out reports false d back = record {
+  ran = d.ran;
+  cause = inr (inr refl);
+  pages = pages_of d.ran.course;
+  left = [];
+  finished = inr (refl, refl, refl, (reports, d.told));
+  files = d.files;
+  is_left = tt;
+  outputs = subst (λ (l : List Taken). TakesBack before l new) (sym (append-nil (outputs_from 1 (pages_of d.ran.course))))
+      (last_back (answer_of d.ran.course.talk.past) d.ran.course.talk.past d.ran.course.pages before was new out d.taken d.none (λ joined. file_is_some d.ran.course.talk.past (d.last joined)) back);
+}
+
+pub close_ended : {C : Type 0} (remaining contents : C → Option (List ℕ)) (job : Job) (first : C) (coming0 : Option (List (List ℕ))) (now : C) (coming : Option (List (List ℕ))) (before was new : Option Stock) (out : Option (Option (List ℕ))) (status : Status) (why : Why)
+    → CameEnded remaining contents job first coming0 now coming before was out (Ended status why) → GivesBack was out new → BatchEnded remaining contents job first coming0 now coming before new (Ended status why)
+close_ended remaining contents job first coming0 now coming before was new out status why d back =
+    let left = left_behind before was new (outputs_from 1 d.ran.course.pages) (length d.ran.course.pages + 1) d.text out d.taken back d.not_whole in
+    record {
+      ran = d.ran;
+      cause = d.cause;
+      pages = d.ran.course.pages;
+      left = left.0;
+      finished = inl refl;
+      files = d.files;
+      is_left = left.1;
+      outputs = left.2;
+    }
+
+pub close : {C : Type 0} (remaining contents : C → Option (List ℕ)) (job : Job) (first : C) (coming0 : Option (List (List ℕ))) (now : C) (coming : Option (List (List ℕ))) (before was new : Option Stock) (out : Option (Option (List ℕ))) (outcome : Outcome) (is_taken : Bool)
+    → HasCome remaining contents job first coming0 now coming before was out outcome → GivesBack was out new → HasBatchRun remaining contents job first coming0 now coming before new (closed_as outcome is_taken)
+close remaining contents job first coming0 now coming before was new out Running is_taken d back = absurd d
+close remaining contents job first coming0 now coming before was new out (Done reports) is_taken d back = close_done remaining contents job first coming0 now coming before was new out reports is_taken d back
+close remaining contents job first coming0 now coming before was new out (Ended status why) is_taken d back = close_ended remaining contents job first coming0 now coming before was new out status why d back

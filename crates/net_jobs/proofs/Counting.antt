@@ -1,0 +1,322 @@
+-- The number of the file under way is one more than the pages that were turned.
+use Rattle.std.proofs.Common.{◌≡◌, ◌∙◌, ◌+◌, ◌<◌, ℕ, Bool, true, false, Option, Some, None, Result, Ok, Err, List, [], ◌∷◌, ◌++◌, length, refl, sym, ap, subst, arith, length-append}
+use Rattle.std.specs.Prelude.{if◌then◌else◌, nat_lt, position, slice_get}
+use Rattle.std.proofs.lemmas.Bool.{ltb-true, ltb-false}
+use Rattle.sane_fixed.specs.declared.status.Status.{Status}
+use Rattle.sane_fixed.specs.declared.status.Status.TheVariants as statuses
+use Rattle.sane_fixed.specs.declared.kind.Kind.{Kind}
+use Rattle.sane_fixed.specs.declared.info.Info.{Info}
+use Rattle.sane_fixed.specs.declared.byte_order.ByteOrder.{ByteOrder}
+use Rattle.sane_fixed.specs.declared.params.Params.{Params}
+use Rattle.option_desc.specs.declared.descriptor.Descriptor.{Descriptor}
+use Rattle.option_desc.specs.declared.value.Value.{Value}
+use Rattle.option_desc.specs.Reads.{read}
+use Rattle.device_api.specs.Options.{has_cap}
+use Rattle.md5_auth.specs.ChallengeReading.{answer_of}
+use Rattle.frame_join.specs.declared.join_stage.JoinFault.{JoinFault}
+use Rattle.frame_join.specs.declared.join_stage.JoinFault.TheVariants.{Shape, Long, Short, NoMem}
+use Rattle.frame_join.specs.FrameHistory.{Past, after_begin, after_pull}
+use Rattle.wire_message.specs.declared.message.Reply.{Reply}
+use Rattle.wire_message.specs.declared.message.Reply.TheVariants as replies
+use Rattle.wire_message.specs.declared.message.WireValue.{WireValue}
+use Rattle.scan_job.specs.Shown.{with_value}
+use Rattle.scan_job.specs.JobSize.{HasCount}
+use Rattle.scan_job.specs.declared.job.Job.{Job}
+use Rattle.scan_job.specs.declared.job.Task.{Task}
+use Rattle.scan_job.specs.declared.job.Task.TheVariants as tasks
+use Rattle.scan_job.specs.declared.outcome.Outcome.{Outcome}
+use Rattle.scan_job.specs.declared.outcome.Outcome.TheVariants.{Running, Done, Ended}
+use Rattle.client_rules.specs.WireValues.{given_like, value_in}
+use Rattle.client_rules.specs.declared.progress.Errand.{Errand}
+use Rattle.client_rules.specs.declared.progress.Progress.{Progress}
+use Rattle.client_rules.specs.declared.progress.Progress.TheVariants as stages
+use Rattle.client_rules.specs.declared.progress.Notes.{Notes}
+use Rattle.client_rules.specs.declared.progress.Next.{Next}
+use Rattle.client_rules.specs.declared.progress.Next.TheVariants.{Wait, Finish, Stop}
+use Rattle.client_rules.specs.Talking.{Turn, turn, answered, if_good, after_greeting, greeted, listed, challenged, admitted, opened_with, opened, allowed, few, wants_value, gets_at, gets, after_settings, named, puts, puts_at, puts_named, next_of, next_setting, described, after_put, given_to, of_kind, put_good, put_told, was_put, got, got_good, got_told, was_got, is_all, started_by, started_with, started, unjoined, begun_by, status_of, page_whole, frame_joined, frame_ended_by}
+use Rattle.client_rules.specs.Talks.{errand_of, next_notes, next_progress, shaped_by, shaped, heard_at, answer_to, after_reply, connected, turns, next_file}
+use Rattle.net_jobs.specs.Courses.{Event, Replied, Opened, Came, Finished, Gave, Turned, Course, Runs, Lives, begun, end_at}
+
+-- ---- a reply leaves the number as it is, and turns to no page
+
+abbrev Plain : ℕ → Turn → Type 0
+Plain file t = (t.notes.file ≡ file) × (next_progress t.next ≡ stages.Turning → ⊥)
+
+over : stages.Over ≡ stages.Turning → ⊥
+over e = cc
+
+if_good_plain : (notes : Notes) (status : Status) (next : Next) → (next_progress next ≡ stages.Turning → ⊥) → Plain notes.file (turn notes (if_good status next))
+if_good_plain notes statuses.Good next plain = (refl, plain)
+if_good_plain notes status next plain = (refl, over)
+
+greeting_plain : (task : Task) → after_greeting task ≡ stages.Turning → ⊥
+greeting_plain tasks.List e = let clash : stages.Listing ≡ stages.Turning = e in cc
+greeting_plain task e = let clash : stages.Opening ≡ stages.Turning = e in cc
+
+greets : (task : Task) (notes : Notes) (r : Reply) → Plain notes.file (turn notes (greeted task r))
+greets task notes (replies.Init status version) = if_good_plain notes status (Wait (after_greeting task)) (greeting_plain task)
+greets task notes r = (refl, over)
+
+lists : (notes : Notes) (r : Reply) → Plain notes.file (turn notes (listed r))
+lists notes (replies.GetDevices status devices) = if_good_plain notes status (Finish devices) over
+lists notes r = (refl, over)
+
+challenges : (notes : Notes) (resource : List ℕ) (answer : Option (List ℕ)) → Plain notes.file (turn notes (challenged resource answer))
+challenges notes resource (Some answer) = (refl, λ e. (let clash : stages.Allowing resource answer ≡ stages.Turning = e in cc))
+challenges notes resource None = (refl, over)
+
+admits : (notes : Notes) (status : Status) (word : ℕ) → Plain notes.file (admitted notes status word)
+admits notes statuses.Good word = (refl, λ e. (let clash : stages.Describing ≡ stages.Turning = e in cc))
+admits notes status word = (refl, over)
+
+opens_with : (password : List ℕ) (notes : Notes) (status : Status) (word : ℕ) (resource : List ℕ) → Plain notes.file (opened_with password notes status word resource)
+opens_with password notes status word [] = admits notes status word
+opens_with password notes status word (b ∷ bytes) = challenges notes (b ∷ bytes) (answer_of (b ∷ bytes) password)
+
+opens : (password : List ℕ) (notes : Notes) (r : Reply) → Plain notes.file (opened password notes r)
+opens password notes (replies.Open status word resource) = opens_with password notes status word resource
+opens password notes r = (refl, over)
+
+allows : (notes : Notes) (r : Reply) → Plain notes.file (turn notes (allowed r))
+allows notes replies.Authorize = (refl, λ e. (let clash : stages.Reopening ≡ stages.Turning = e in cc))
+allows notes r = (refl, over)
+
+gets_one : (notes : Notes) (option : Option (Descriptor × Option Value)) (n : ℕ) → Plain notes.file (turn notes (gets_at option n))
+gets_one notes None n = (refl, over)
+gets_one notes (Some option) n = (refl, λ e. (let clash : stages.Getting n option.0.kind option.0.size ≡ stages.Turning = e in cc))
+
+gets_next : (notes : Notes) (known : List (Descriptor × Option Value)) (place : Option ℕ) → Plain notes.file (turn notes (gets known place))
+gets_next notes known None = (refl, over)
+gets_next notes known (Some n) = gets_one notes (slice_get known n) n
+
+settings_end : (task : Task) (notes : Notes) → Plain notes.file (turn notes (after_settings task notes.known))
+settings_end tasks.List notes = (refl, over)
+settings_end tasks.Show notes = gets_next notes notes.known (few (position wants_value notes.known))
+settings_end tasks.SetOnly notes = (refl, over)
+settings_end tasks.Scan notes = (refl, λ e. (let clash : stages.Starting true ≡ stages.Turning = e in cc))
+settings_end (tasks.Batch count) notes = (refl, λ e. (let clash : stages.Starting true ≡ stages.Turning = e in cc))
+
+puts_one : (notes : Notes) (name : List ℕ) (n : ℕ) (kind : Kind) (value : Option Value) → Plain notes.file (turn notes (puts name n kind value))
+puts_one notes name n kind None = (refl, over)
+puts_one notes name n kind (Some value) = (refl, λ e. (let clash : stages.Putting n kind name value ≡ stages.Turning = e in cc))
+
+puts_one_at : (notes : Notes) (name text : List ℕ) (n : ℕ) (option : Option (Descriptor × Option Value)) → Plain notes.file (turn notes (puts_at name text n option))
+puts_one_at notes name text n None = (refl, over)
+puts_one_at notes name text n (Some option) = puts_one notes name n option.0.kind (read option.0 text)
+
+puts_one_named : (notes : Notes) (name text : List ℕ) (known : List (Descriptor × Option Value)) (place : Option ℕ) → Plain notes.file (turn notes (puts_named name text known place))
+puts_one_named notes name text known None = (refl, over)
+puts_one_named notes name text known (Some n) = puts_one_at notes name text n (slice_get known n)
+
+goes_on_by : (task : Task) (notes : Notes) (left : List (List ℕ × List ℕ)) → Plain notes.file (next_of task notes left)
+goes_on_by task notes [] = settings_end task notes
+goes_on_by task notes (setting ∷ left) = puts_one_named (record notes { left = left }) setting.0 setting.1 notes.known (named setting.0 notes.known)
+
+goes_on : (task : Task) (notes : Notes) → Plain notes.file (next_setting task notes)
+unfolding next_setting
+goes_on task notes = goes_on_by task notes notes.left
+
+describes : (task : Task) (notes : Notes) (r : Reply) → Plain notes.file (described task notes r)
+describes task notes (replies.GetOptionDescriptors descriptors) = goes_on task _
+describes task notes r = (refl, over)
+
+puts_after : (task : Task) (notes : Notes) (reloads : Bool) → Plain notes.file (after_put task notes reloads)
+puts_after task notes true = (refl, λ e. (let clash : stages.Describing ≡ stages.Turning = e in cc))
+puts_after task notes false = goes_on task notes
+
+puts_given : (task : Task) (notes : Notes) (name : List ℕ) (value : Value) (info : Info) (given : Option Value) → Plain notes.file (given_to task notes name value info given)
+puts_given task notes name value info None = (refl, over)
+puts_given task notes name value info (Some given) = puts_after task _ (has_cap info.0 2)
+
+puts_good : (task : Task) (notes : Notes) (kind : Kind) (name : List ℕ) (value : Value) (status : Status) (info : Info) (given : Kind) (found : WireValue) → Plain notes.file (put_good task notes kind name value status info given found)
+puts_good task notes kind name value statuses.Good info given found = puts_given task notes name value info (of_kind kind given (given_like value found))
+puts_good task notes kind name value status info given found = (refl, over)
+
+puts_told : (task : Task) (notes : Notes) (kind : Kind) (name : List ℕ) (value : Value) (status : Status) (info : Info) (given : Kind) (found : WireValue) (resource : List ℕ) → Plain notes.file (put_told task notes kind name value status info given found resource)
+puts_told task notes kind name value status info given found [] = puts_good task notes kind name value status info given found
+puts_told task notes kind name value status info given found (x ∷ bytes) = (refl, over)
+
+puts_reply : (task : Task) (notes : Notes) (kind : Kind) (name : List ℕ) (value : Value) (r : Reply) → Plain notes.file (was_put task notes kind name value r)
+puts_reply task notes kind name value (replies.ControlOption status info given found resource) = puts_told task notes kind name value status info given found resource
+puts_reply task notes kind name value r = (refl, over)
+
+gets_found : (notes : Notes) (n : ℕ) (found : Option Value) → Plain notes.file (got notes n found)
+gets_found notes n None = (refl, over)
+gets_found notes n (Some value) = gets_next (record notes { known = with_value n value notes.known }) (with_value n value notes.known) (few (position wants_value (with_value n value notes.known)))
+
+gets_good : (notes : Notes) (n : ℕ) (kind : Kind) (status : Status) (given : Kind) (found : WireValue) → Plain notes.file (got_good notes n kind status given found)
+gets_good notes n kind statuses.Good given found = gets_found notes n (of_kind kind given (value_in kind found))
+gets_good notes n kind status given found = (refl, over)
+
+gets_told : (notes : Notes) (n : ℕ) (kind : Kind) (status : Status) (given : Kind) (found : WireValue) (resource : List ℕ) → Plain notes.file (got_told notes n kind status given found resource)
+gets_told notes n kind status given found [] = gets_good notes n kind status given found
+gets_told notes n kind status given found (x ∷ bytes) = (refl, over)
+
+gets_reply : (notes : Notes) (n : ℕ) (kind : Kind) (r : Reply) → Plain notes.file (was_got notes n kind r)
+gets_reply notes n kind (replies.ControlOption status info given found resource) = gets_told notes n kind status given found resource
+gets_reply notes n kind r = (refl, over)
+
+no_docs : (all : Bool) (notes : Notes) → Plain notes.file (turn notes (if all then Finish [] else answered statuses.NoDocs))
+no_docs true notes = (refl, over)
+no_docs false notes = (refl, over)
+
+starts_by : (notes : Notes) (all : Bool) (status : Status) (port : ℕ) (order : ByteOrder) → Plain notes.file (turn notes (started_by all status port order))
+starts_by notes all statuses.Good port order = (refl, λ e. (let clash : stages.Shaping port order ≡ stages.Turning = e in cc))
+starts_by notes all statuses.NoDocs port order = no_docs all notes
+starts_by notes all status port order = (refl, over)
+
+starts_with : (notes : Notes) (all : Bool) (status : Status) (port : ℕ) (order : ByteOrder) (resource : List ℕ) → Plain notes.file (turn notes (started_with all status port order resource))
+starts_with notes all status port order [] = starts_by notes all status port order
+starts_with notes all status port order (x ∷ bytes) = (refl, over)
+
+starts : (task : Task) (first : Bool) (notes : Notes) (r : Reply) → Plain notes.file (turn notes (started task first notes.file r))
+starts task first notes (replies.Start status port order resource) = starts_with notes (is_all task first notes.file) status port order resource
+starts task first notes r = (refl, over)
+
+unjoined_plain : (fault : JoinFault) → next_progress (unjoined fault) ≡ stages.Turning → ⊥
+unjoined_plain Shape e = over e
+unjoined_plain Long e = over e
+unjoined_plain Short e = over e
+unjoined_plain NoMem e = over e
+
+begins : (notes : Notes) (fault : Option JoinFault) (port : ℕ) → Plain notes.file (turn notes (begun_by fault port))
+begins notes None port = (refl, λ e. (let clash : stages.Imaging port false ≡ stages.Turning = e in cc))
+begins notes (Some fault) port = (refl, unjoined_plain fault)
+
+shapes_by : (notes : Notes) (status : Status) (port : ℕ) (order : ByteOrder) (params : Params) (past : Past) → Plain notes.file (turn notes (shaped_by status port order params past).next)
+shapes_by notes statuses.Good port order params past = begins notes (after_begin params order false past).fault port
+shapes_by notes status port order params past = (refl, over)
+
+shapes : (notes : Notes) (port : ℕ) (order : ByteOrder) (past : Past) (r : Reply) → Plain notes.file (turn notes (shaped port order past r).next)
+shapes notes port order past (replies.GetParameters status params) = shapes_by notes status port order params past
+shapes notes port order past r = (refl, over)
+
+reply_plain : (progress : Progress) (errand : Errand) (notes : Notes) (past : Past) (r : Reply) → Plain notes.file (heard_at progress errand notes past r).turn
+reply_plain stages.Greeting errand notes past r = greets errand.task notes r
+reply_plain stages.Listing errand notes past r = lists notes r
+reply_plain stages.Opening errand notes past r = opens errand.password notes r
+reply_plain (stages.Allowing resource answer) errand notes past r = allows notes r
+reply_plain stages.Reopening errand notes past r = opens errand.password notes r
+reply_plain stages.Describing errand notes past r = describes errand.task notes r
+reply_plain (stages.Putting n kind name value) errand notes past r = puts_reply errand.task notes kind name value r
+reply_plain (stages.Getting n kind size) errand notes past r = gets_reply notes n kind r
+reply_plain (stages.Starting first) errand notes past r = starts errand.task first notes r
+reply_plain (stages.Shaping port order) errand notes past r = shapes notes port order past r
+reply_plain (stages.Imaging port opened) errand notes past r = (refl, over)
+reply_plain stages.Turning errand notes past r = (refl, over)
+reply_plain stages.Over errand notes past r = (refl, over)
+
+next_file_is : (notes : Notes) (next : Next) → (next_notes notes next).file ≡ notes.file
+next_file_is notes (Wait progress) = refl
+next_file_is notes (Finish devices) = refl
+next_file_is notes (Stop status why) = refl
+
+-- ---- what is known of a course
+
+-- a batch goes on to a further page only below its count
+abbrev pub HasMore : Task → ℕ → Type 0
+HasMore (tasks.Batch count) file = file < count
+HasMore task file = ⊥
+
+abbrev pub IsFew : Task → ℕ → Type 0
+IsFew (tasks.Batch count) n = n < count
+IsFew task n = n ≡ 0
+
+pub record Counts (task : Task) (course : Course) : Type 0 where
+  pub number : course.talk.notes.file ≡ length course.pages + 1
+  pub turning : course.talk.progress ≡ stages.Turning → HasMore task course.talk.notes.file
+  pub few : IsFew task (length course.pages)
+
+none_few : (task : Task) → HasCount task → IsFew task 0
+none_few tasks.List h = refl
+none_few tasks.Show h = refl
+none_few tasks.SetOnly h = refl
+none_few tasks.Scan h = refl
+none_few (tasks.Batch count) h = omega (arith, h.0)
+
+counts_begun : (job : Job) → HasCount job.task → Counts job.task (begun job)
+counts_begun job h = record { number = refl; turning = λ e. absurd (let clash : stages.Greeting ≡ stages.Turning = e in cc); few = none_few job.task h }
+
+-- ---- a frame's end
+
+more_pages : (task : Task) (count file : ℕ) (more : Bool) → nat_lt file count ≡ more → next_progress (if more then Wait stages.Turning else Finish []) ≡ stages.Turning → file < count
+more_pages task count file true e turning = ltb-true file count e
+more_pages task count file false e turning = absurd (over turning)
+
+page_more : (task : Task) (file : ℕ) → next_progress (page_whole task file) ≡ stages.Turning → HasMore task file
+page_more (tasks.Batch count) file e = more_pages (tasks.Batch count) count file (nat_lt file count) refl e
+page_more task file e = over e
+
+joined_more : (task : Task) (file : ℕ) (answer : Result Bool JoinFault) → next_progress (frame_joined task file answer) ≡ stages.Turning → HasMore task file
+joined_more task file (Ok true) e = page_more task file e
+joined_more task file (Ok false) e = absurd (let clash : stages.Starting false ≡ stages.Turning = e in cc)
+joined_more task file (Err fault) e = absurd (unjoined_plain fault e)
+
+status_more : (task : Task) (file : ℕ) (past : Past) (status : Option Status) → next_progress (frame_ended_by task file past status).next ≡ stages.Turning → HasMore task file
+status_more task file past None e = absurd (over e)
+status_more task file past (Some statuses.Eof) e = joined_more task file _ e
+status_more task file past (Some status) e = absurd (over e)
+
+-- ---- event by event
+
+counts_replied : (errand : Errand) (was : Course) (r : Reply) (text sent : List ℕ) → Counts errand.task was → Counts errand.task (record { text = text; streams = was.streams; pages = was.pages; sent = sent; talk = after_reply errand was.talk r })
+counts_replied errand was r text sent c =
+    let plain = reply_plain was.talk.progress errand was.talk.notes was.talk.past r in
+    record {
+      number = next_file_is (answer_to errand was.talk r).turn.notes (answer_to errand was.talk r).turn.next ∙ plain.0 ∙ c.number;
+      turning = λ e. absurd (plain.1 e);
+      few = c.few;
+    }
+
+stays_turning : (progress : Progress) → connected progress ≡ stages.Turning → progress ≡ stages.Turning
+stays_turning (stages.Imaging port true) e = e
+stays_turning (stages.Imaging port false) e = absurd (let clash : stages.Imaging port true ≡ stages.Turning = e in cc)
+stays_turning progress e = e
+
+pub is_turning_at : (outcome : Outcome) (progress : Progress) → turns outcome progress ≡ true → progress ≡ stages.Turning
+is_turning_at outcome stages.Turning e = refl
+is_turning_at Running progress e = absurd (let clash : false ≡ true = e in cc)
+is_turning_at (Done reports) progress e = absurd (let clash : false ≡ true = e in cc)
+is_turning_at (Ended status why) progress e = absurd (let clash : false ≡ true = e in cc)
+
+grows_by : (below : Bool) (file : ℕ) → nat_lt file 4294967295 ≡ below → file < 4294967295 → (if below then file + 1 else file) ≡ file + 1
+grows_by true file e less = refl
+grows_by false file e less = absurd (omega (arith, ltb-false file 4294967295 e, less))
+
+turned_more : (task : Task) (file n : ℕ) → HasCount task → HasMore task file → file ≡ n + 1 → (next_file file ≡ file + 1) × IsFew task (n + 1)
+turned_more (tasks.Batch count) file n h more e = (grows_by (nat_lt file 4294967295) file refl (omega (arith, h.1, more)), omega (arith, more, e))
+turned_more tasks.List file n h more e = absurd more
+turned_more tasks.Show file n h more e = absurd more
+turned_more tasks.SetOnly file n h more e = absurd more
+turned_more tasks.Scan file n h more e = absurd more
+
+one_longer : (pages : List Past) (page : Past) → length (pages ++ page ∷ []) ≡ length pages + 1
+one_longer pages page = length-append pages (page ∷ [])
+
+counts_on : (errand : Errand) (was now : Course) (event : Event) → HasCount errand.task → Counts errand.task was → Lives errand was event now → Counts errand.task now
+counts_on errand was now (Replied r) h c l = subst (λ (x : Course). Counts errand.task x) (sym l.5) (counts_replied errand was r _ _ c)
+counts_on errand was now Opened h c l =
+    subst (λ (x : Course). Counts errand.task x) (sym l.1) (record { number = c.number; turning = λ e. c.turning (stays_turning was.talk.progress e); few = c.few })
+counts_on errand was now (Came bytes) h c l = subst (λ (x : Course). Counts errand.task x) (sym l.3) (record { number = c.number; turning = c.turning; few = c.few })
+counts_on errand was now (Finished status) h c l =
+    subst (λ (x : Course). Counts errand.task x) (sym l.7) (record {
+      number = next_file_is was.talk.notes (end_at errand was.talk status).next ∙ c.number;
+      turning = λ e. (let m = status_more errand.task was.talk.notes.file was.talk.past (status_of status) e in subst (λ (i : ℕ). HasMore errand.task i) (sym (next_file_is was.talk.notes (end_at errand was.talk status).next)) m);
+      few = c.few;
+    })
+counts_on errand was now (Gave bytes) h c l = subst (λ (x : Course). Counts errand.task x) (sym l) (record { number = c.number; turning = c.turning; few = c.few })
+counts_on errand was now (Turned bytes) h c l =
+    let more = turned_more errand.task was.talk.notes.file (length was.pages) h (c.turning (is_turning_at was.talk.outcome was.talk.progress l.1)) c.number in
+    let longer = one_longer was.pages (after_pull bytes was.talk.past) in
+    subst (λ (x : Course). Counts errand.task x) (sym l.4) (record {
+      number = more.0 ∙ ap (λ (i : ℕ). i + 1) (c.number ∙ sym longer);
+      turning = λ e. absurd (let clash : stages.Starting true ≡ stages.Turning = e in cc);
+      few = subst (λ (i : ℕ). IsFew errand.task i) (sym longer) more.1;
+    })
+
+counts_by : (errand : Errand) (first : Course) (events : List Event) (course : Course) → HasCount errand.task → Counts errand.task first → Runs errand first events course → Counts errand.task course
+counts_by errand first [] course h c r = subst (λ (x : Course). Counts errand.task x) (sym r) c
+counts_by errand first (event ∷ before) course h c r = counts_on errand r.0 course event h (counts_by errand first before r.0 h c r.1) r.2
+
+pub counts : (job : Job) (events : List Event) (course : Course) → HasCount job.task → Runs (errand_of job) (begun job) events course → Counts job.task course
+counts job events course h r = counts_by (errand_of job) (begun job) events course h (counts_begun job h) r

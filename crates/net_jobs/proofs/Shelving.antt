@@ -1,0 +1,359 @@
+-- Between two turns of a job whose files go to a shelf.
+use Rattle.std.proofs.Common.{◌≡◌, ◌∙◌, ◌⊎◌, ◌≤◌, ◌+◌, ℕ, Bool, true, false, Option, Some, None, Ok, List, [], ◌∷◌, ◌++◌, length, take, drop, refl, sym, ap, subst, inl, inr}
+use Rattle.std.specs.Prelude.{All, nat_lt, if◌then◌else◌}
+use Rattle.std.specs.Io.KnownBytes.{Appends}
+use Rattle.std.proofs.lemmas.Bool.{ltb-false}
+use Rattle.std.proofs.lemmas.List.{take-append-drop, drop_all}
+use Rattle.std.proofs.lemmas.List.Elements.{All-append, All-nil, All-from_recursion}
+use Rattle.sane_fixed.specs.declared.status.Status.TheVariants as statuses
+use Rattle.netpbm.specs.Picture.{Picture}
+use Rattle.netpbm.specs.Pnm.{Denotes, IsWhole}
+use Rattle.page_picture.specs.Shows.{ShowsFrames}
+use Rattle.frame_join.specs.FrameHistory.{Past, IsJoined, no_past, after_pull}
+use Rattle.frame_join.specs.Joining.{Joining, Stands}
+use Rattle.scan_job.specs.JobSize.{HasCount}
+use Rattle.scan_job.specs.Shelves.{Stock, Taken}
+use Rattle.scan_job.specs.declared.job.Job.{Job}
+use Rattle.scan_job.specs.declared.job.Task.{Task}
+use Rattle.scan_job.specs.declared.outcome.Outcome.{Outcome}
+use Rattle.scan_job.specs.declared.outcome.Outcome.TheVariants.{Running, Done, Ended}
+use Rattle.scan_job.specs.declared.outcome.Why.TheVariants as whys
+use Rattle.client_rules.specs.declared.progress.Errand.{Errand}
+use Rattle.client_rules.specs.declared.progress.Link.TheVariants as links
+use Rattle.client_rules.specs.declared.progress.Progress.{Progress}
+use Rattle.client_rules.specs.declared.progress.Progress.TheVariants as stages
+use Rattle.client_rules.specs.Asking.{asked}
+use Rattle.client_rules.specs.Talks.{Talk, errand_of, is_running, is_receiving, is_ended, is_lost_by, scans, turns}
+use Rattle.net_client.specs.Sending.{request_text}
+use Rattle.net_client.specs.Talker.{Talker, Serves, IsFresh, TurnsPage, talk_of, ended}
+use Rattle.net_jobs.specs.Courses.{Course, Lives, Turned, turned}
+use Rattle.net_jobs.specs.Going.{Linked, Follows, Falls, Given, nothing, Stage, Going, EndsBy, ByLoss, ByMemory, ByGarble, ByShape}
+use Rattle.net_jobs.specs.Links.{Calls, Wrote, Failed}
+use Rattle.net_jobs.specs.Outputs.{TakesBack, HasTaken, IsUnderWay, outputs_from}
+use Rattle.net_jobs.specs.Paging.{GoesOn, TurnsOn}
+use Rattle.net_jobs.specs.Batches.{IsPageFile}
+use Rattle.net_jobs.proofs.Coursing.{did_say}
+use Rattle.net_jobs.proofs.Staging.{following}
+use Rattle.net_jobs.proofs.Receiving.{behind_some, unjoined_ended}
+use Rattle.net_jobs.proofs.Going.{none_open, stage_wrote, stage_cut, going_begun}
+use Rattle.net_jobs.proofs.Counting.{Counts, counts, is_turning_at}
+use Rattle.net_jobs.proofs.Leaving.{more_given, stage_gave_by, task_is, cut_out, cut_alive}
+use Rattle.net_jobs.proofs.Pages.{turning_fits}
+use Rattle.net_jobs.proofs.Shelves.{begins_with_none, none_under_way, outputs_more}
+
+-- what a shelf holds of a job's files: the pages that were turned, each whole, and what was given of the one under way
+pub record OnShelf (job : Job) (before now : Option Stock) (out : Option (Option (List ℕ))) (given : Given) (c : Talker) (past : Past) : Type 0 where
+  pub under_way : IsUnderWay before (outputs_from 1 given.pages) now out (length given.pages + 1) given.bytes
+  pub files : All IsPageFile given.pages
+  pub none : scans job.task ≡ false → given.bytes ≡ []
+  pub shown : scans job.task ≡ true → is_ended c.outcome ≡ false → IsJoined past → (p : Picture) → ShowsFrames past.ended p → Denotes given.bytes p
+
+pub record Laid {C R : Type 0} (remaining contents : C → Option (List ℕ)) (left_of : R → Option (List ℕ)) (job : Job) (first : C) (coming0 : Option (List (List ℕ))) (before : Option Stock) (failed : Bool) (control : C) (coming : Option (List (List ℕ))) (stream : Option R) (c : Talker) (now : Option Stock) (out : Option (Option (List ℕ))) : Type 0 where
+  pub given : Given
+  pub going : Going remaining contents left_of job first coming0 given failed control coming stream c
+  pub shelf : OnShelf job before now out given c going.stage.past
+
+pub laid_first : {C R : Type 0} (remaining contents : C → Option (List ℕ)) (left_of : R → Option (List ℕ)) (job : Job) (control : C) (coming : Option (List (List ℕ))) (before : Option Stock) (out : Option (Option (List ℕ))) (c : Talker) → IsFresh job c → out ≡ None
+    → Laid remaining contents left_of job control coming before false control coming None c before out
+laid_first remaining contents left_of job control coming before out c f none =
+    let g = going_begun remaining contents left_of job control coming c f in
+    record {
+      given = nothing;
+      going = g.0;
+      shelf = record {
+        under_way = record { taken = subst (λ (o : Option (Option (List ℕ))). HasTaken before [] before o 1 []) (sym none) (begins_with_none before 1); asked = λ e. none };
+        files = All-nil IsPageFile;
+        none = λ other. refl;
+        shown = λ scanning alive joined. absurd (let clash : Ok false ≡ Ok true = subst (λ (q : Past). IsJoined q) g.1 joined in cc);
+      };
+    }
+
+-- ---- the number of the file under way
+
+falls_ended : (talk : Talk) (rest : List ℕ) (outcome : Outcome) → EndsBy talk rest outcome → is_ended outcome ≡ true
+falls_ended talk rest outcome (ByLoss x) = ap is_ended x
+falls_ended talk rest outcome (ByMemory x) = ap is_ended x
+falls_ended talk rest outcome (ByGarble procedure awaits no_start x) = ap is_ended x
+falls_ended talk rest outcome (ByShape task fault x) = ap is_ended x ∙ unjoined_ended task talk.notes fault
+
+number_by : {R : Type 0} (left_of : R → Option (List ℕ)) (coming0 coming : Option (List (List ℕ))) (task : Task) (course : Course) (rest : List ℕ) (stream : Option R) (c : Talker) (past : Past) → Counts task course → is_ended c.outcome ≡ false
+    → Follows left_of coming0 coming course rest stream c past ⊎ Falls coming0 coming course rest c → c.notes.file ≡ length course.pages + 1
+number_by left_of coming0 coming task course rest stream c past n alive (inl f) = ap (λ (t : Talk). t.notes.file) f.talk_is ∙ n.number
+number_by left_of coming0 coming task course rest stream c past n alive (inr f) = absurd (let clash : true ≡ false = sym (falls_ended course.talk rest c.outcome f.cause) ∙ alive in cc)
+
+pub number_at : {R : Type 0} (left_of : R → Option (List ℕ)) (job : Job) (read_ wrote left : List ℕ) (coming0 coming : Option (List (List ℕ))) (given : Given) (stream : Option R) (c : Talker) → HasCount job.task → Stage left_of job read_ wrote left coming0 coming given stream c
+    → is_ended c.outcome ≡ false → c.notes.file ≡ length given.pages + 1
+number_at left_of job read_ wrote left coming0 coming given stream c h s alive =
+    number_by left_of coming0 coming job.task s.course s.rest stream c s.past (counts job s.did.events s.course h s.did.runs) alive s.stands ∙ ap (λ (l : List Past). length l + 1) s.pages_is
+
+-- ---- a page is turned
+
+abbrev turned_course : Course → List ℕ → List ℕ → Course
+turned_course course bytes said = record { text = course.text; streams = course.streams; pages = course.pages ++ after_pull bytes course.talk.past ∷ []; sent = course.sent ++ said; talk = turned course.talk }
+
+abbrev pub turned_given : Given → Past → Given
+turned_given given page = record { pages = given.pages ++ page ∷ []; bytes = [] }
+
+turning_shut : (outcome : Outcome) (progress : Progress) → turns outcome progress ≡ true → is_receiving outcome progress ≡ false
+turning_shut outcome stages.Turning e = refl
+turning_shut outcome progress e = ap (λ (p : Progress). is_receiving outcome p) (is_turning_at outcome progress e)
+
+turning_running : (outcome : Outcome) (progress : Progress) → turns outcome progress ≡ true → is_running outcome ≡ true
+turning_running Running progress e = refl
+turning_running (Done reports) progress e = absurd (let clash : false ≡ true = e in cc)
+turning_running (Ended status why) progress e = absurd (let clash : false ≡ true = e in cc)
+
+linked_none : {R : Type 0} (left_of : R → Option (List ℕ)) (coming0 coming : Option (List (List ℕ))) (streams : List (List ℕ)) (c new : Talker) (past : Past) → Linked left_of coming0 coming streams None c past → Linked left_of coming0 coming streams None new no_past
+linked_none left_of coming0 coming streams c new past l = record { wholes = l.wholes; begin = l.begin; brought = l.brought; empty = λ port e. refl }
+
+linked_turned : {R : Type 0} (left_of : R → Option (List ℕ)) (coming0 coming : Option (List (List ℕ))) (streams : List (List ℕ)) (stream : Option R) (c new : Talker) (past : Past) → stream ≡ None → Linked left_of coming0 coming streams stream c past
+    → Linked left_of coming0 coming streams stream new no_past
+linked_turned {R} left_of coming0 coming streams stream c new past none l =
+    subst (λ (o : Option R). Linked left_of coming0 coming streams o new no_past) (sym none) (linked_none left_of coming0 coming streams c new past (subst (λ (o : Option R). Linked left_of coming0 coming streams o c past) none l))
+
+pub stage_turned : {R : Type 0} (left_of : R → Option (List ℕ)) (job : Job) (read_ wrote left : List ℕ) (coming0 coming : Option (List (List ℕ))) (given : Given) (stream : Option R) (c new : Talker) (join : Joining) (bytes said : List ℕ)
+    → turns c.outcome c.progress ≡ true → (s : Stage left_of job read_ wrote left coming0 coming given stream c) → IsWhole (s.past.given ++ bytes) → TurnsPage (record c { join = join }) new → Serves no_past new
+    → request_text (asked c.errand c.notes.word (stages.Starting true)) ≡ Some said
+    → (t : Stage left_of job read_ wrote (left ++ said) coming0 coming (turned_given given (after_pull bytes s.past)) stream new) × (t.past ≡ no_past)
+stage_turned left_of job read_ wrote left coming0 coming given stream c new join bytes said turning s whole page serves says =
+    let f = following left_of coming0 coming s.course s.rest stream c s.past (turning_running c.outcome c.progress turning) s.stands in
+    let course : Course = turned_course s.course bytes said in
+    let asks : request_text (asked (errand_of job) s.course.talk.notes.word (stages.Starting true)) ≡ Some said
+    = sym (ap (λ (t : Talk). request_text (asked (errand_of job) t.notes.word (stages.Starting true))) f.talk_is) ∙ sym (ap (λ (e : Errand). request_text (asked e c.notes.word (stages.Starting true))) s.errand) ∙ says in
+    let turns_there : turns s.course.talk.outcome s.course.talk.progress ≡ true = sym (ap (λ (t : Talk). turns t.outcome t.progress) f.talk_is) ∙ turning in
+    let whole_there : IsWhole (s.course.talk.past.given ++ bytes) = subst (λ (t : Talk). IsWhole (t.past.given ++ bytes)) f.talk_is whole in
+    let lives : Lives (errand_of job) s.course (Turned bytes) course = (said, turns_there, whole_there, asks, refl) in (
+      record {
+        errand = ap (λ (v : Talker). v.errand) page.rest ∙ s.errand;
+        past = no_past;
+        serves = serves;
+        given_is = refl;
+        course = course;
+        pages_is = ap (λ (l : List Past). l ++ after_pull bytes s.course.talk.past ∷ []) s.pages_is ∙ ap (λ (t : Talk). given.pages ++ after_pull bytes t.past ∷ []) (sym f.talk_is);
+        rest = s.rest;
+        did = did_say job s.course course (Turned bytes) read_ wrote s.rest left said lives refl refl s.did;
+        stands = inl (record {
+          talk_is = ap (λ (v : Talker). talk_of v no_past) page.rest ∙ ap (λ (t : Talk). turned t) f.talk_is;
+          rest_is = ap (λ (v : Talker). v.input.rest) page.rest ∙ f.rest_is;
+          linked = linked_turned left_of coming0 coming s.course.streams stream c new s.past (none_open left_of coming0 coming s.course.streams stream c s.past (turning_shut c.outcome c.progress turning) f.linked) f.linked;
+        });
+      },
+      refl,
+    )
+
+-- ---- a turn's end: what the job gave of its files
+
+laid_on : {C R : Type 0} (remaining contents : C → Option (List ℕ)) (left_of : R → Option (List ℕ)) (job : Job) (first : C) (coming0 : Option (List (List ℕ))) (before : Option Stock) (failed : Bool) (control : C) (coming : Option (List (List ℕ))) (stream : Option R) (c now : Talker) (then_ : Option Stock) (out : Option (Option (List ℕ))) (given : Given)
+    → scans job.task ≡ true → All IsPageFile given.pages → (g : Going remaining contents left_of job first coming0 given failed control coming stream c) → (e : GoesOn g.stage.past c (length given.pages + 1) before (outputs_from 1 given.pages) now then_ out)
+    → (s : Stage left_of job g.read_ g.wrote g.left coming0 coming (more_given given e.bytes) stream (record c { join = now.join })) → s.past ≡ after_pull e.bytes g.stage.past
+    → Laid remaining contents left_of job first coming0 before failed control coming stream now then_ out
+laid_on remaining contents left_of job first coming0 before failed control coming stream c now then_ out given scanning files g e s past_is =
+    subst (λ (v : Talker). Laid remaining contents left_of job first coming0 before failed control coming stream v then_ out) (sym e.rest) (record {
+      given = more_given given e.bytes;
+      going = record { read_ = g.read_; wrote = g.wrote; left = g.left; calls = g.calls; stage = s; left_is = g.left_is };
+      shelf = record {
+        under_way = subst (λ (l : List ℕ). IsUnderWay before (outputs_from 1 given.pages) then_ out (length given.pages + 1) (l ++ e.bytes)) g.stage.given_is e.under_way;
+        files = files;
+        none = λ other. absurd (let clash : true ≡ false = sym scanning ∙ other in cc);
+        shown = λ scan alive joined p shows.
+            subst (λ (l : List ℕ). Denotes (l ++ e.bytes) p) g.stage.given_is (e.denotes alive (subst (λ (q : Past). IsJoined q) past_is joined) p (subst (λ (q : Past). ShowsFrames q.ended p) past_is shows));
+      };
+    })
+
+-- the file of a page that is turned
+turned_file : (past : Past) (join : Joining) (bytes : List ℕ) → ((past : Past) (join : Joining) → Stands past join → IsJoined past → (p : Picture) × ShowsFrames past.ended p) → Stands past join → IsJoined past
+    → ((p : Picture) → ShowsFrames past.ended p → Denotes (past.given ++ bytes) p) → IsPageFile (after_pull bytes past)
+turned_file past join bytes shows stands joined denotes = let p = shows past join stands joined in record { picture = p.0; shows = p.1; file = denotes p.0 p.1 }
+
+pub one_file : (page : Past) → IsPageFile page → All IsPageFile (page ∷ [])
+one_file page file = All-from_recursion IsPageFile (page ∷ []) (file, tt)
+
+pub laid_next : {C R : Type 0} (remaining contents : C → Option (List ℕ)) (left_of : R → Option (List ℕ)) (job : Job) (first : C) (coming0 : Option (List (List ℕ))) (before : Option Stock) (failed : Bool) (control : C) (coming : Option (List (List ℕ))) (stream : Option R) (c now : Talker) (then_ : Option Stock) (out : Option (Option (List ℕ))) (given : Given)
+    → ((past : Past) (join : Joining) → Stands past join → IsJoined past → (p : Picture) × ShowsFrames past.ended p)
+    → scans job.task ≡ true → All IsPageFile given.pages → (g : Going remaining contents left_of job first coming0 given failed control coming stream c) → (e : TurnsOn g.stage.past c (length given.pages + 1) before (outputs_from 1 given.pages) now then_ out)
+    → (d : Laid remaining contents left_of job first coming0 before failed control coming stream now then_ out) × (d.given.bytes ≡ [])
+laid_next remaining contents left_of job first coming0 before failed control coming stream c now then_ out given shows scanning files g e =
+    let s = g.stage in
+    let says = behind_some c.out now.out (request_text (asked c.errand c.notes.word (stages.Starting true))) e.client.text in
+    let t = stage_turned left_of job g.read_ g.wrote g.left coming0 coming given stream c now e.join e.bytes says.0 e.turning s e.whole e.client e.serves says.1 in
+    let page : Past = after_pull e.bytes s.past in
+    let fits = turning_fits c.errand.task c.outcome c.progress s.past e.turning s.serves.fits in
+    let file : IsPageFile page = turned_file s.past c.join e.bytes shows s.serves.stands fits.0 e.denotes in (
+      record {
+        given = turned_given given page;
+        going = record { read_ = g.read_; wrote = g.wrote; left = g.left ++ says.0; calls = g.calls; stage = t.0; left_is = λ x. ap (λ (l : List ℕ). l ++ says.0) (g.left_is x) ∙ sym says.2 };
+        shelf = record {
+          under_way = record {
+            taken = subst (λ (o : Option (Option (List ℕ))). HasTaken before (outputs_from 1 (given.pages ++ page ∷ [])) then_ o (length (given.pages ++ page ∷ []) + 1) []) (sym e.none)
+                (none_under_way before then_ (outputs_from 1 (given.pages ++ page ∷ [])) (length (given.pages ++ page ∷ []) + 1)
+                (subst (λ (l : List Taken). TakesBack before l then_) (sym (outputs_more 1 given.pages page)) e.taken));
+            asked = λ x. e.none;
+          };
+          files = All-append IsPageFile given.pages (page ∷ []) files (one_file page file);
+          none = λ other. refl;
+          shown = λ scan alive joined. absurd (let clash : Ok false ≡ Ok true = subst (λ (q : Past). IsJoined q) t.1 joined in cc);
+        };
+      },
+      refl,
+    )
+
+pub laid_more : {C R : Type 0} (remaining contents : C → Option (List ℕ)) (left_of : R → Option (List ℕ)) (job : Job) (first : C) (coming0 : Option (List (List ℕ))) (before : Option Stock) (failed : Bool) (control : C) (coming : Option (List (List ℕ))) (stream : Option R) (c now : Talker) (then_ : Option Stock) (out : Option (Option (List ℕ))) (given : Given)
+    → ((past : Past) (join : Joining) → Stands past join → IsJoined past → (p : Picture) × ShowsFrames past.ended p)
+    → scans job.task ≡ true → All IsPageFile given.pages → (g : Going remaining contents left_of job first coming0 given failed control coming stream c)
+    → GoesOn g.stage.past c (length given.pages + 1) before (outputs_from 1 given.pages) now then_ out ⊎ TurnsOn g.stage.past c (length given.pages + 1) before (outputs_from 1 given.pages) now then_ out
+    → Laid remaining contents left_of job first coming0 before failed control coming stream now then_ out
+laid_more remaining contents left_of job first coming0 before failed control coming stream c now then_ out given shows scanning files g (inl e) =
+    let s = g.stage in
+    let serves = subst (λ (v : Talker). Serves (after_pull e.bytes s.past) v) e.rest e.serves in
+    let gave = stage_gave_by left_of job g.read_ g.wrote g.left coming0 coming given e.bytes stream c now.join s.errand s.past s.given_is serves s.course s.rest s.pages_is s.did s.stands in
+    laid_on remaining contents left_of job first coming0 before failed control coming stream c now then_ out given scanning files g e gave.0 gave.1
+laid_more remaining contents left_of job first coming0 before failed control coming stream c now then_ out given shows scanning files g (inr e) =
+    (laid_next remaining contents left_of job first coming0 before failed control coming stream c now then_ out given shows scanning files g e).0
+
+-- one that writes nothing
+pub laid_none : {C R : Type 0} (remaining contents : C → Option (List ℕ)) (left_of : R → Option (List ℕ)) (job : Job) (first : C) (coming0 : Option (List (List ℕ))) (before : Option Stock) (failed : Bool) (control : C) (coming : Option (List (List ℕ))) (stream : Option R) (c old : Talker) (now : Option Stock) (out : Option (Option (List ℕ))) (given : Given) (past : Past)
+    → scans job.task ≡ false → OnShelf job before now out given old past → Going remaining contents left_of job first coming0 given failed control coming stream c
+    → Laid remaining contents left_of job first coming0 before failed control coming stream c now out
+laid_none remaining contents left_of job first coming0 before failed control coming stream c old now out given past other shelf g = record {
+  given = given;
+  going = g;
+  shelf = record { under_way = shelf.under_way; files = shelf.files; none = shelf.none; shown = λ scan. absurd (let clash : true ≡ false = sym scan ∙ other in cc) };
+}
+
+pub laid_as : {C R : Type 0} (remaining contents : C → Option (List ℕ)) (left_of : R → Option (List ℕ)) (job : Job) (first : C) (coming0 : Option (List (List ℕ))) (before : Option Stock) (failed other : Bool) (control : C) (coming : Option (List (List ℕ))) (stream : Option R) (c : Talker) (now : Option Stock) (out : Option (Option (List ℕ))) → failed ≡ other
+    → Laid remaining contents left_of job first coming0 before failed control coming stream c now out → Laid remaining contents left_of job first coming0 before other control coming stream c now out
+laid_as remaining contents left_of job first coming0 before failed other control coming stream c now out e d = subst (λ (b : Bool). Laid remaining contents left_of job first coming0 before b control coming stream c now out) e d
+
+-- the control connection is lost, if the job runs
+pub laid_cut : {C R : Type 0} (remaining contents : C → Option (List ℕ)) (left_of : R → Option (List ℕ)) (job : Job) (first : C) (coming0 : Option (List (List ℕ))) (before : Option Stock) (failed : Bool) (control : C) (coming : Option (List (List ℕ))) (stream : Option R) (c new : Talker) (now : Option Stock) (out : Option (Option (List ℕ)))
+    → new ≡ (if is_lost_by links.Control c.outcome c.progress then ended statuses.IoError whys.Lost c else c)
+    → Laid remaining contents left_of job first coming0 before failed control coming stream c now out → Laid remaining contents left_of job first coming0 before failed control coming stream new now out
+laid_cut remaining contents left_of job first coming0 before failed control coming stream c new now out lost d =
+    let g = d.going in
+    let s = stage_cut left_of job g.read_ g.wrote g.left coming0 coming d.given stream c new lost g.stage in
+    record {
+      given = d.given;
+      going = record { read_ = g.read_; wrote = g.wrote; left = g.left; calls = g.calls; stage = s.0; left_is = λ e. g.left_is e ∙ sym (cut_out (is_running c.outcome) c new lost) };
+      shelf = record {
+        under_way = d.shelf.under_way;
+        files = d.shelf.files;
+        none = d.shelf.none;
+        shown = λ scan alive joined p shows. d.shelf.shown scan (cut_alive (is_running c.outcome) c new lost alive) (subst (λ (q : Past). IsJoined q) s.1 joined) p (subst (λ (q : Past). ShowsFrames q.ended p) s.1 shows);
+      };
+    }
+
+-- ---- the end
+
+-- what a job that is over did, before its outcome is told
+pub record Shut {C R : Type 0} (remaining contents : C → Option (List ℕ)) (left_of : R → Option (List ℕ)) (job : Job) (first : C) (coming0 : Option (List (List ℕ))) (before : Option Stock) (control : C) (coming : Option (List (List ℕ))) (stream : Option R) (c : Talker) (now : Option Stock) (out : Option (Option (List ℕ))) : Type 0 where
+  pub given : Given
+  pub read_ : List ℕ
+  pub wrote : List ℕ
+  pub left : List ℕ
+  pub failed : Bool
+  pub calls : Calls remaining contents first read_ wrote failed control
+  pub stage : Stage left_of job read_ wrote left coming0 coming given stream c
+  pub all : failed ≡ false → left ≡ []
+  pub shelf : OnShelf job before now out given c stage.past
+
+same_shelf : (job : Job) (before now : Option Stock) (out : Option (Option (List ℕ))) (given : Given) (c : Talker) (past then_ : Past) → then_ ≡ past → OnShelf job before now out given c past → OnShelf job before now out given c then_
+same_shelf job before now out given c past then_ same s = record {
+  under_way = s.under_way;
+  files = s.files;
+  none = s.none;
+  shown = λ scan alive joined p shows. s.shown scan alive (subst (λ (q : Past). IsJoined q) same joined) p (subst (λ (q : Past). ShowsFrames q.ended p) same shows);
+}
+
+-- the last bytes, or a front of them, were written
+shut_by : {C R : Type 0} (remaining contents : C → Option (List ℕ)) (left_of : R → Option (List ℕ)) (job : Job) (first : C) (coming0 : Option (List (List ℕ))) (before : Option Stock) (control then_ : C) (coming : Option (List (List ℕ))) (stream : Option R) (c : Talker) (now : Option Stock) (out : Option (Option (List ℕ))) (n : ℕ) (short : Bool)
+    → nat_lt n (length c.out) ≡ short → n ≤ length c.out → Appends (contents control) (contents then_) (take n c.out) → (d : Laid remaining contents left_of job first coming0 before false control coming stream c now out)
+    → (s : Stage left_of job d.going.read_ (d.going.wrote ++ take n c.out) (drop n c.out) coming0 coming d.given stream c) → s.past ≡ d.going.stage.past
+    → Shut remaining contents left_of job first coming0 before then_ coming stream c now out
+shut_by remaining contents left_of job first coming0 before control then_ coming stream c now out n true short within took d s same = record {
+  given = d.given;
+  read_ = d.going.read_;
+  wrote = d.going.wrote ++ take n c.out;
+  left = drop n c.out;
+  failed = true;
+  calls = Failed d.going.read_ d.going.wrote false control then_ (take n c.out) d.going.calls took;
+  stage = s;
+  all = λ e. absurd (let clash : true ≡ false = e in cc);
+  shelf = same_shelf job before now out d.given c d.going.stage.past s.past same d.shelf;
+}
+shut_by remaining contents left_of job first coming0 before control then_ coming stream c now out n false short within took d s same = record {
+  given = d.given;
+  read_ = d.going.read_;
+  wrote = d.going.wrote ++ take n c.out;
+  left = drop n c.out;
+  failed = false;
+  calls = Wrote d.going.read_ d.going.wrote false control then_ (take n c.out) d.going.calls took;
+  stage = s;
+  all = λ e. drop_all n c.out (ltb-false n (length c.out) short);
+  shelf = same_shelf job before now out d.given c d.going.stage.past s.past same d.shelf;
+}
+
+pub shut_left : {C R : Type 0} (remaining contents : C → Option (List ℕ)) (left_of : R → Option (List ℕ)) (job : Job) (first : C) (coming0 : Option (List (List ℕ))) (before : Option Stock) (control then_ : C) (coming : Option (List (List ℕ))) (stream : Option R) (c : Talker) (now : Option Stock) (out : Option (Option (List ℕ)))
+    → (n : ℕ) × (n ≤ length c.out) × Appends (contents control) (contents then_) (take n c.out) → Laid remaining contents left_of job first coming0 before false control coming stream c now out
+    → Shut remaining contents left_of job first coming0 before then_ coming stream c now out
+shut_left remaining contents left_of job first coming0 before control then_ coming stream c now out w d =
+    let g = d.going in
+    let s = stage_wrote left_of job g.read_ g.wrote g.left (take w.0 c.out) (drop w.0 c.out) coming0 coming d.given stream c c (g.left_is refl ∙ sym (take-append-drop w.0 c.out)) refl g.stage in
+    shut_by remaining contents left_of job first coming0 before control then_ coming stream c now out w.0 (nat_lt w.0 (length c.out)) refl w.1 w.2 d s.0 s.1
+
+-- a write failed before
+pub shut_cut : {C R : Type 0} (remaining contents : C → Option (List ℕ)) (left_of : R → Option (List ℕ)) (job : Job) (first : C) (coming0 : Option (List (List ℕ))) (before : Option Stock) (control : C) (coming : Option (List (List ℕ))) (stream : Option R) (c : Talker) (now : Option Stock) (out : Option (Option (List ℕ)))
+    → Laid remaining contents left_of job first coming0 before true control coming stream c now out → Shut remaining contents left_of job first coming0 before control coming stream c now out
+shut_cut remaining contents left_of job first coming0 before control coming stream c now out d = record {
+  given = d.given;
+  read_ = d.going.read_;
+  wrote = d.going.wrote;
+  left = d.going.left;
+  failed = true;
+  calls = d.going.calls;
+  stage = d.going.stage;
+  all = λ e. absurd (let clash : true ≡ false = e in cc);
+  shelf = d.shelf;
+}
+
+-- ---- a turn's end, whatever the task
+
+-- how far the job is before its files are filled, as the contract wants it
+under_way_at : (job : Job) (before was : Option Stock) (under : Option (Option (List ℕ))) (given : Given) (old : Talker) (past then_ : Past) → then_.given ≡ given.bytes → OnShelf job before was under given old past
+    → IsUnderWay before (outputs_from 1 given.pages) was under (length given.pages + 1) then_.given
+under_way_at job before was under given old past then_ given_is s = subst (λ (l : List ℕ). IsUnderWay before (outputs_from 1 given.pages) was under (length given.pages + 1) l) (sym given_is) s.under_way
+
+-- what a contract of this kind says of the file under way
+pub from_here : {C R : Type 0} (remaining contents : C → Option (List ℕ)) (left_of : R → Option (List ℕ)) (job : Job) (first : C) (coming0 : Option (List (List ℕ))) (before was : Option Stock) (failed : Bool) (control : C) (coming : Option (List (List ℕ))) (stream : Option R) (c old : Talker) (under : Option (Option (List ℕ))) (given : Given) (past : Past)
+    (Then : Option Stock → List Taken → ℕ → Past → Type 0) → scans job.task ≡ true → HasCount job.task → OnShelf job before was under given old past → (g : Going remaining contents left_of job first coming0 given failed control coming stream c)
+    → ((before : Option Stock) (outputs : List Taken) (k : ℕ) (q : Past) → scans c.errand.task ≡ true → (is_ended c.outcome ≡ false → c.notes.file ≡ k) → Serves q c → IsUnderWay before outputs was under k q.given → Then before outputs k q)
+    → Then before (outputs_from 1 given.pages) (length given.pages + 1) g.stage.past
+from_here remaining contents left_of job first coming0 before was failed control coming stream c old under given past Then scanning h shelf g goes =
+    goes before (outputs_from 1 given.pages) (length given.pages + 1) g.stage.past (ap scans (task_is c job g.stage.errand) ∙ scanning)
+    (λ alive. number_at left_of job g.read_ g.wrote g.left coming0 coming given stream c h g.stage alive) g.stage.serves (under_way_at job before was under given old past g.stage.past g.stage.given_is shelf)
+
+laid_by : {C R : Type 0} (remaining contents : C → Option (List ℕ)) (left_of : R → Option (List ℕ)) (job : Job) (first : C) (coming0 : Option (List (List ℕ))) (before was : Option Stock) (failed : Bool) (control : C) (coming : Option (List (List ℕ))) (stream : Option R) (c old now : Talker) (then_ : Option Stock) (under out : Option (Option (List ℕ))) (given : Given) (past : Past) (is_scanning b : Bool)
+    → is_scanning ≡ b → is_scanning ≡ scans job.task → HasCount job.task → ((past : Past) (join : Joining) → Stands past join → IsJoined past → (p : Picture) × ShowsFrames past.ended p)
+    → OnShelf job before was under given old past → (g : Going remaining contents left_of job first coming0 given failed control coming stream c)
+    → (is_scanning ≡ false → (now ≡ c) × (then_ ≡ was) × (out ≡ under))
+    → (is_scanning ≡ true → (before : Option Stock) (outputs : List Taken) (k : ℕ) (q : Past) → scans c.errand.task ≡ true → (is_ended c.outcome ≡ false → c.notes.file ≡ k) → Serves q c → IsUnderWay before outputs was under k q.given
+    → GoesOn q c k before outputs now then_ out ⊎ TurnsOn q c k before outputs now then_ out)
+    → Laid remaining contents left_of job first coming0 before failed control coming stream now then_ out
+laid_by remaining contents left_of job first coming0 before was failed control coming stream c old now then_ under out given past is_scanning true e scanning h shows shelf g none goes =
+    laid_more remaining contents left_of job first coming0 before failed control coming stream c now then_ out given shows (sym scanning ∙ e) shelf.files g
+    (from_here remaining contents left_of job first coming0 before was failed control coming stream c old under given past (λ b outputs k q. GoesOn q c k b outputs now then_ out ⊎ TurnsOn q c k b outputs now then_ out) (sym scanning ∙ e) h shelf g (goes e))
+laid_by remaining contents left_of job first coming0 before was failed control coming stream c old now then_ under out given past is_scanning false e scanning h shows shelf g none goes =
+    let same = none e in
+    subst (λ (v : Talker). Laid remaining contents left_of job first coming0 before failed control coming stream v then_ out) (sym same.0)
+    (subst (λ (o : Option Stock). Laid remaining contents left_of job first coming0 before failed control coming stream c o out) (sym same.1)
+    (subst (λ (o : Option (Option (List ℕ))). Laid remaining contents left_of job first coming0 before failed control coming stream c was o) (sym same.2)
+    (laid_none remaining contents left_of job first coming0 before failed control coming stream c old was under given past (sym scanning ∙ e) shelf g)))
+
+pub laid_then : {C R : Type 0} (remaining contents : C → Option (List ℕ)) (left_of : R → Option (List ℕ)) (job : Job) (first : C) (coming0 : Option (List (List ℕ))) (before was : Option Stock) (failed : Bool) (control : C) (coming : Option (List (List ℕ))) (stream : Option R) (c old now : Talker) (then_ : Option Stock) (under out : Option (Option (List ℕ))) (given : Given) (past : Past) (is_scanning : Bool)
+    → is_scanning ≡ scans job.task → HasCount job.task → ((past : Past) (join : Joining) → Stands past join → IsJoined past → (p : Picture) × ShowsFrames past.ended p)
+    → OnShelf job before was under given old past → (g : Going remaining contents left_of job first coming0 given failed control coming stream c)
+    → (is_scanning ≡ false → (now ≡ c) × (then_ ≡ was) × (out ≡ under))
+    → (is_scanning ≡ true → (before : Option Stock) (outputs : List Taken) (k : ℕ) (q : Past) → scans c.errand.task ≡ true → (is_ended c.outcome ≡ false → c.notes.file ≡ k) → Serves q c → IsUnderWay before outputs was under k q.given
+    → GoesOn q c k before outputs now then_ out ⊎ TurnsOn q c k before outputs now then_ out)
+    → Laid remaining contents left_of job first coming0 before failed control coming stream now then_ out
+laid_then remaining contents left_of job first coming0 before was failed control coming stream c old now then_ under out given past is_scanning scanning h shows shelf g none goes =
+    laid_by remaining contents left_of job first coming0 before was failed control coming stream c old now then_ under out given past is_scanning is_scanning refl scanning h shows shelf g none goes

@@ -1,0 +1,73 @@
+-- The bytes of a job's files on their way from a client to the outputs of a shelf.
+use Rattle.std.specs.Prelude.{ℕ, ◌+◌, ◌≡◌, ◌⊎◌, true, false, Option, None, List, [], ◌∷◌, ◌++◌, All, length}
+use Rattle.sane_fixed.specs.declared.status.Status.TheVariants as statuses
+use Rattle.netpbm.specs.Picture.{Picture}
+use Rattle.netpbm.specs.Pnm.{Denotes, IsWhole}
+use Rattle.page_picture.specs.Shows.{ShowsFrames}
+use Rattle.frame_join.specs.FrameHistory.{Past, IsJoined, no_past, after_pull}
+use Rattle.frame_join.specs.Joining.{Joining}
+use Rattle.scan_job.specs.declared.job.Job.{Job}
+use Rattle.scan_job.specs.declared.outcome.Outcome.{Outcome}
+use Rattle.scan_job.specs.declared.outcome.Outcome.TheVariants.{Running, Done, Ended}
+use Rattle.scan_job.specs.declared.outcome.Why.TheVariants as whys
+use Rattle.scan_job.specs.Shelves.{Stock, Taken}
+use Rattle.client_rules.specs.Talks.{is_ended, turns}
+use Rattle.net_client.specs.Talker.{Talker, Serves, TurnsPage}
+use Rattle.net_jobs.specs.Courses.{EndWell}
+use Rattle.net_jobs.specs.Going.{EndsBy}
+use Rattle.net_jobs.specs.Outputs.{TakesBack, HasTaken, IsUnderWay, output_of, outputs_from}
+use Rattle.net_jobs.specs.Promised.{Ran}
+use Rattle.net_jobs.specs.Batches.{IsPageFile, MayScan, pages_of}
+
+-- the client gave bytes of its file, not the last ones of a page, and the output took them
+pub record GoesOn (past : Past) (old : Talker) (k : ℕ) (before : Option Stock) (outputs : List Taken) (new : Talker) (after : Option Stock) (out : Option (Option (List ℕ))) : Type 0 where
+  pub bytes : List ℕ
+  pub serves : Serves (after_pull bytes past) new
+  pub rest : new ≡ record old { join = new.join }
+  pub under_way : IsUnderWay before outputs after out k (past.given ++ bytes)
+  pub denotes : is_ended old.outcome ≡ false → IsJoined past → (p : Picture) → ShowsFrames past.ended p → Denotes (past.given ++ bytes) p
+
+-- the client gave the last bytes of a page's file and turned to the next page, and the file's output was given back
+pub record TurnsOn (past : Past) (old : Talker) (k : ℕ) (before : Option Stock) (outputs : List Taken) (new : Talker) (after : Option Stock) (out : Option (Option (List ℕ))) : Type 0 where
+  pub bytes : List ℕ
+  pub turning : turns old.outcome old.progress ≡ true
+  pub whole : IsWhole (past.given ++ bytes)
+  pub denotes : (p : Picture) → ShowsFrames past.ended p → Denotes (past.given ++ bytes) p
+  pub join : Joining
+  pub client : TurnsPage (record old { join = join }) new
+  pub serves : Serves no_past new
+  pub taken : TakesBack before (outputs ++ output_of k (past.given ++ bytes) ∷ []) after
+  pub none : out ≡ None
+
+-- an output could not be had, or did not take all bytes: what it took is no whole file
+pub record FallsShort (k : ℕ) (before : Option Stock) (outputs : List Taken) (after : Option Stock) (out : Option (Option (List ℕ))) : Type 0 where
+  pub text : List ℕ
+  pub taken : HasTaken before outputs after out k text
+  pub not_whole : IsWhole text → ⊥
+
+-- ---- a job that is over, before the output under way is given back
+
+pub record CameDone {C : Type 0} (remaining contents : C → Option (List ℕ)) (job : Job) (first : C) (coming0 : Option (List (List ℕ))) (now : C) (coming : Option (List (List ℕ))) (before after : Option Stock) (out : Option (Option (List ℕ))) (outcome : Outcome) : Type 0 where
+  pub ran : Ran remaining contents job first coming0 now coming
+  pub told : ran.course.talk.outcome ≡ outcome
+  pub all : ran.failed ≡ false → ran.left ≡ []
+  pub read_all : ran.unread ≡ []
+  pub end_well : EndWell ran.did.events
+  pub count : MayScan job.task (length (pages_of ran.course))
+  pub files : All IsPageFile (pages_of ran.course)
+  pub taken : HasTaken before (outputs_from 1 ran.course.pages) after out (length ran.course.pages + 1) ran.course.talk.past.given
+  pub none : (IsJoined ran.course.talk.past → ⊥) → out ≡ None
+  pub last : IsJoined ran.course.talk.past → IsPageFile ran.course.talk.past
+
+pub record CameEnded {C : Type 0} (remaining contents : C → Option (List ℕ)) (job : Job) (first : C) (coming0 : Option (List (List ℕ))) (now : C) (coming : Option (List (List ℕ))) (before after : Option Stock) (out : Option (Option (List ℕ))) (outcome : Outcome) : Type 0 where
+  pub ran : Ran remaining contents job first coming0 now coming
+  pub cause : (ran.course.talk.outcome ≡ outcome) ⊎ (EndsBy ran.course.talk ran.rest outcome ⊎ (outcome ≡ Ended statuses.IoError whys.Sink))
+  pub files : All IsPageFile ran.course.pages
+  pub text : List ℕ
+  pub taken : HasTaken before (outputs_from 1 ran.course.pages) after out (length ran.course.pages + 1) text
+  pub not_whole : IsWhole text → ⊥
+
+abbrev pub HasCome : {C : Type 0} → (C → Option (List ℕ)) → (C → Option (List ℕ)) → Job → C → Option (List (List ℕ)) → C → Option (List (List ℕ)) → Option Stock → Option Stock → Option (Option (List ℕ)) → Outcome → Type 0
+HasCome remaining contents job first coming0 now coming before after out Running = ⊥
+HasCome remaining contents job first coming0 now coming before after out (Done reports) = CameDone remaining contents job first coming0 now coming before after out (Done reports)
+HasCome remaining contents job first coming0 now coming before after out (Ended status why) = CameEnded remaining contents job first coming0 now coming before after out (Ended status why)

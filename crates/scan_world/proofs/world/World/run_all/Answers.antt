@@ -1,0 +1,18 @@
+use Rattle.page_picture.specs.Shown.{shown}
+use Rattle.scan_world.specs.Worlds.{seen}
+use Rattle.scan_world.proofs.Falling.{less_by, out_by, rounds_begun, rounds_by}
+use Rattle.scan_world.proofs.world.World.run_all.Goals as goal
+
+pub loop-goes_on-init : goal.loop-goes_on-init
+loop-goes_on-init g c = rounds_begun shown (seen g.D.Device.state c.args.self.now)
+
+pub loop-goes_on-smaller : goal.loop-goes_on-smaller
+loop-goes_on-smaller g c =
+    less_by shown c.loop-goes_on.goes_on c.round-goes_on.result (seen g.D.Device.state c.loop-goes_on.self) (seen g.D.Device.state c.round-goes_on.new.self) c.loop-goes_on-test.true c.round-goes_on.ensures
+
+pub loop-goes_on-preserved : goal.loop-goes_on-preserved
+loop-goes_on-preserved g c =
+    rounds_by shown c.loop-goes_on.goes_on c.round-goes_on.result (seen g.D.Device.state c.args.self.now) (seen g.D.Device.state c.loop-goes_on.self) (seen g.D.Device.state c.round-goes_on.new.self) c.loop-goes_on-test.true c.loop-goes_on.invariant c.round-goes_on.ensures
+
+pub returns : goal.returns
+returns g c = out_by shown c.loop-goes_on.goes_on (seen g.D.Device.state c.args.self.now) (seen g.D.Device.state c.loop-goes_on.self) c.loop-goes_on-test.false c.loop-goes_on.invariant

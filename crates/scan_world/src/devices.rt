@@ -1,0 +1,101 @@
+//! Worlds made of devices and jobs.
+
+ghost use Rattle.std.specs.Prelude.{◌≡◌, map, IfOk, IfErr, IfSome, IsNone, OnOk};
+ghost use Rattle.device_api.specs.State.{DeviceState};
+ghost use Rattle.dispatch.specs.RegistryFault.{MayStand};
+ghost use Rattle.dispatch.specs.Table.{has_name, is_called, repeats};
+ghost use Rattle.scan_world.specs.Worlds.{Begins, HasFaultAmong, MayRun, seen};
+
+use crate::world::{World, fault_of, posts_of};
+use crate::world_fault::WorldFault;
+use device_api::Device;
+use dispatch::Registry;
+use md5_auth::Users;
+use net_backend::Job;
+use sane_fixed::NoMem;
+use saned_core::Daemon;
+use std::alloc::Global;
+
+/// The most devices of a world.
+const MOST_DEVICES: usize = 16;
+
+/// Whether the device has the name.
+fn is_called<D: Device>(device: &D, name: &[u8]) -> bool
+    ensures { result ≡ is_called name.now (D.state device.now) }
+{
+    device.info().name.as_bytes() == name
+}
+
+/// Whether one of the devices has the name.
+fn has_name<D: Device>(devices: &[D], name: &[u8]) -> bool
+    ensures { result ≡ has_name name.now (map D.state devices.now) }
+{
+    for device in devices {
+        if is_called(device, name) {
+            return true;
+        }
+    }
+    false
+}
+
+/// Whether two of the devices have one name.
+fn repeats<D: Device>(devices: &[D]) -> bool
+    ensures { result ≡ repeats (map D.state devices.now) }
+{
+    for (k, device) in devices.iter().enumerate() {
+        if has_name(&devices[k + 1..], device.info().name.as_bytes()) {
+            return true;
+        }
+    }
+    false
+}
+
+/// Why no world is made of these devices and jobs, apart from want of memory.
+fn fault_among<D: Device>(devices: &[D], jobs: &[Job]) -> Option<WorldFault>
+    ensures some { IfSome result (λ f. HasFaultAmong f (map D.state devices.now) jobs.now) }
+    ensures none { IsNone result → HasFaultAmong WorldFault.NoMem (map D.state devices.now) jobs.now }
+{
+    if repeats(devices) {
+        return Some(WorldFault::SameName);
+    }
+    if devices.len() > MOST_DEVICES {
+        return Some(WorldFault::TooManyDevices);
+    }
+    fault_of(jobs)
+}
+
+impl World<Box<dyn Device>> {
+    /// A world of these devices, users and jobs, whose daemon's challenges come from the seed: nothing has happened, and each
+    /// device was reset. Where it is refused the devices come back as they were: `SameName` where two of them have one name,
+    /// `TooManyDevices` above sixteen, `TooManyJobs` above eight, `BadJob` where a client refuses one, in this order; `NoMem`
+    /// comes only where none of these stands.
+    pub fn new(
+        alloc: Global,
+        devices: Vec<Box<dyn Device>>,
+        users: Users,
+        seed: [u8; 32],
+        jobs: Vec<Job>,
+    ) -> Result<World<Box<dyn Device>>, (WorldFault, Vec<Box<dyn Device>>)>
+        ensures begins { IfOk result (λ w. Begins (map ⟦<Box<dyn Device> as Device>⟧.state devices.items) users seed jobs.items (seen ⟦<Box<dyn Device> as Device>⟧.state w)) }
+        ensures accepted { OnOk result (MayStand (map ⟦<Box<dyn Device> as Device>⟧.state devices.items) × MayRun jobs.items) }
+        ensures fault { IfErr result (λ e. HasFaultAmong e.0 (map ⟦<Box<dyn Device> as Device>⟧.state devices.items) jobs.items) }
+        ensures back { IfErr result (λ e. e.1 ≡ devices) }
+    {
+        if let Some(fault) = fault_among(devices.as_slice(), jobs.as_slice()) {
+            return Err((fault, devices));
+        }
+        let posts = match posts_of(alloc, jobs) {
+            Ok(posts) => posts,
+            Err(NoMem) => return Err((WorldFault::NoMem, devices)),
+        };
+        match Registry::new(alloc, devices) {
+            Ok(registry) => Ok(World {
+                alloc,
+                daemon: Daemon::new(registry, users, seed),
+                posts,
+            }),
+            // The names and the number were tested above.
+            Err((_, devices)) => Err((WorldFault::NoMem, devices)),
+        }
+    }
+}
