@@ -231,9 +231,9 @@ fn refused_by_new(rt: &impl Abort, alloc: Global, names: &[&[u8]], jobs: Vec<Job
     match World::new(alloc, devices, users, NO_SEED, jobs) {
         Ok(_) => panic!(rt; "a world"),
         Err((fault, devices)) => {
-            assert_eq!(rt; devices.len(), names.len());
+            assert!(rt; devices.len() == names.len());
             for (k, device) in devices.iter().enumerate() {
-                assert_eq!(rt; device.info().name.as_bytes(), names[k]);
+                assert!(rt; device.info().name.as_bytes() == names[k]);
             }
             fault
         }
@@ -254,7 +254,7 @@ fn made_of_devices(rt: HostRuntime) {
     };
     drive(&rt, alloc, &mut world, 1, 4096);
     assert!(&rt; is_done(world.outcome(0).expect(&rt, "a job")));
-    assert_eq!(&rt; world.file(0).expect(&rt, "a file"), SEVEN);
+    assert!(&rt; world.file(0).expect(&rt, "a file") == SEVEN);
 }
 
 /// Each fault of devices and jobs, with those that come after it standing too.
@@ -263,10 +263,7 @@ fn none_made_of_devices(rt: HostRuntime) {
     let alloc = rt.alloc();
     let same: [&[u8]; 17] = [b"flatbed:1"; 17];
     let bad = jobs_of(&rt, alloc, 9, Task::Batch(0));
-    assert_eq!(&rt;
-        refused_by_new(&rt, alloc, &same, bad),
-        WorldFault::SameName
-    );
+    assert!(&rt; refused_by_new(&rt, alloc, &same, bad) == WorldFault::SameName);
     let many: [&[u8]; 17] = [
         b"flatbed:0",
         b"flatbed:1",
@@ -287,17 +284,11 @@ fn none_made_of_devices(rt: HostRuntime) {
         b"flatbed:16",
     ];
     let bad = jobs_of(&rt, alloc, 9, Task::Batch(0));
-    assert_eq!(&rt;
-        refused_by_new(&rt, alloc, &many, bad),
-        WorldFault::TooManyDevices
-    );
+    assert!(&rt; refused_by_new(&rt, alloc, &many, bad) == WorldFault::TooManyDevices);
     let bad = jobs_of(&rt, alloc, 9, Task::Batch(0));
-    assert_eq!(&rt;
-        refused_by_new(&rt, alloc, &many[..16], bad),
-        WorldFault::TooManyJobs
-    );
+    assert!(&rt; refused_by_new(&rt, alloc, &many[..16], bad) == WorldFault::TooManyJobs);
     let bad = jobs_of(&rt, alloc, 8, Task::Batch(17));
-    assert_eq!(&rt; refused_by_new(&rt, alloc, &[], bad), WorldFault::BadJob);
+    assert!(&rt; refused_by_new(&rt, alloc, &[], bad) == WorldFault::BadJob);
 }
 
 /// Three jobs, whose next moves are made by turns: one scans a page, one asks for the devices, and one finds no device.
@@ -318,7 +309,7 @@ fn all_run(rt: HostRuntime) {
     let mut world = world_of(&rt, alloc, devices, jobs);
     world.run_all();
     assert!(&rt; is_done(world.outcome(0).expect(&rt, "a job")));
-    assert_eq!(&rt; world.file(0).expect(&rt, "a file"), SEVEN);
+    assert!(&rt; world.file(0).expect(&rt, "a file") == SEVEN);
     assert!(&rt; is_done(world.outcome(1).expect(&rt, "a job")));
     assert!(&rt;
         match world.outcome(2).expect(&rt, "a job") {
@@ -328,7 +319,7 @@ fn all_run(rt: HostRuntime) {
     );
     for i in 0..3usize {
         assert!(&rt; world.next_move(i).is_none());
-        assert_eq!(&rt; world.moves_left(i), 0);
+        assert!(&rt; world.moves_left(i) == 0);
         assert!(&rt; !world.starved(i));
     }
 }
