@@ -33,7 +33,7 @@ use Rattle.net_jobs.specs.Links.{HasBrought}
 use Rattle.net_jobs.specs.Outputs.{TakesBack, HasTaken, IsUnderWay, GivesBack, outputs_from}
 use Rattle.net_jobs.specs.Paging.{TurnsOn, FallsShort, CameDone, CameEnded, HasCome}
 use Rattle.net_jobs.specs.Batches.{IsPageFile, MayScan, last_of, pages_of, closed_as, BatchEnded, HasBatchRun}
-use Rattle.net_jobs.proofs.Counting.{IsFew, counts}
+use Rattle.net_jobs.proofs.Counting.{IsFew, HasSome, counts}
 use Rattle.net_jobs.proofs.Leaving.{cause_of, followed, unopened, task_is, ran_by, ends_well}
 use Rattle.net_jobs.proofs.Shelves.{given_back, none_back, left_behind, outputs_more}
 use Rattle.net_jobs.proofs.Shelving.{Laid, Shut, OnShelf, one_file, laid_next, from_here}
@@ -96,12 +96,16 @@ last_none (Ok true) page e = absurd (e refl)
 last_none (Ok false) page e = refl
 last_none (Err fault) page e = refl
 
-may_scan : (task : Task) (n : ℕ) (past : Past) → FitsDone task past → IsFew task n → MayScan task (n + length (last_of (answer_of past) past))
-may_scan tasks.List n past f few = omega (arith, few, ap (λ (l : List Past). length l) (last_none (answer_of past) past f))
-may_scan tasks.Show n past f few = omega (arith, few, ap (λ (l : List Past). length l) (last_none (answer_of past) past f))
-may_scan tasks.SetOnly n past f few = omega (arith, few, ap (λ (l : List Past). length l) (last_none (answer_of past) past f))
-may_scan tasks.Scan n past f few = omega (arith, few, last_one (answer_of past) past f)
-may_scan (tasks.Batch count) n past f few = omega (arith, few, last_few (answer_of past) past)
+batch_some : (count n file : ℕ) (past : Past) → file ≡ n + 1 → IsJoined past ⊎ HasSome (tasks.Batch count) file → 1 ≤ n + length (last_of (answer_of past) past)
+batch_some count n file past e (inl joined) = omega (arith, last_one (answer_of past) past joined)
+batch_some count n file past e (inr some) = omega (arith, e, some)
+
+may_scan : (task : Task) (n file : ℕ) (past : Past) → FitsDone task past → IsFew task n → file ≡ n + 1 → IsJoined past ⊎ HasSome task file → MayScan task (n + length (last_of (answer_of past) past))
+may_scan tasks.List n file past f few e some = omega (arith, few, ap (λ (l : List Past). length l) (last_none (answer_of past) past f))
+may_scan tasks.Show n file past f few e some = omega (arith, few, ap (λ (l : List Past). length l) (last_none (answer_of past) past f))
+may_scan tasks.SetOnly n file past f few e some = omega (arith, few, ap (λ (l : List Past). length l) (last_none (answer_of past) past f))
+may_scan tasks.Scan n file past f few e some = omega (arith, few, last_one (answer_of past) past f)
+may_scan (tasks.Batch count) n file past f few e some = (batch_some count n file past e some, omega (arith, few, last_few (answer_of past) past))
 
 last_file : (a : Result Bool JoinFault) (page : Past) → (a ≡ Ok true → IsPageFile page) → All IsPageFile (last_of a page)
 last_file (Ok true) page file = one_file page (file refl)
@@ -122,7 +126,7 @@ came_done remaining contents left_of job first coming0 before control coming str
     let file : IsJoined s.past → IsPageFile s.past = λ joined.
     (let p = shows s.past c.join s.serves.stands joined in
     record { picture = p.0; shows = p.1; file = subst (λ (t : List ℕ). Denotes t p.0) given_is (d.shelf.shown (joined_scans job.task s.past fits joined) (ap is_ended done) joined p.0 p.1) }) in
-    let few = (counts job s.did.events s.course h s.did.runs).few in
+    let counted = counts job s.did.events s.course h s.did.runs in
     record {
       ran = record {
         read_ = d.read_;
@@ -144,7 +148,7 @@ came_done remaining contents left_of job first coming0 before control coming str
       read_all = refl;
       end_well = ends_well (errand_of job) _ s.did.events s.course s.did.runs (ap is_ended told);
       count = subst (λ (n : ℕ). MayScan job.task n) (sym (length-append s.course.pages (last_of (answer_of s.course.talk.past) s.course.talk.past)))
-          (may_scan job.task (length s.course.pages) s.course.talk.past (subst (λ (q : Past). FitsDone job.task q) past_is fits) few);
+          (may_scan job.task (length s.course.pages) s.course.talk.notes.file s.course.talk.past (subst (λ (q : Past). FitsDone job.task q) past_is fits) counted.few counted.number (counted.done reports told));
       files = All-append IsPageFile s.course.pages (last_of (answer_of s.course.talk.past) s.course.talk.past) (All-same IsPageFile s.course.pages d.given.pages s.pages_is d.shelf.files)
           (subst (λ (q : Past). All IsPageFile (last_of (answer_of q) q)) past_is (last_file (answer_of s.past) s.past file));
       taken = subst (λ (q : List Past). HasTaken before (outputs_from 1 q) now out (length q + 1) s.course.talk.past.given) (sym s.pages_is)

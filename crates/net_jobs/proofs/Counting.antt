@@ -1,6 +1,6 @@
 -- The number of the file under way is one more than the pages that were turned.
-use Rattle.std.proofs.Common.{◌≡◌, ◌∙◌, ◌+◌, ◌<◌, ℕ, Bool, true, false, Option, Some, None, Result, Ok, Err, List, [], ◌∷◌, ◌++◌, length, refl, sym, ap, subst, arith, length-append}
-use Rattle.std.specs.Prelude.{if◌then◌else◌, nat_lt, position, slice_get}
+use Rattle.std.proofs.Common.{◌≡◌, ◌∙◌, ◌⊎◌, inl, inr, ◌+◌, ◌<◌, ℕ, Bool, true, false, Option, Some, None, Result, Ok, Err, List, [], ◌∷◌, ◌++◌, length, refl, sym, ap, subst, arith, length-append}
+use Rattle.std.specs.Prelude.{◌&&◌, if◌then◌else◌, nat_lt, position, slice_get}
 use Rattle.std.proofs.lemmas.Bool.{ltb-true, ltb-false}
 use Rattle.sane_fixed.specs.declared.status.Status.{Status}
 use Rattle.sane_fixed.specs.declared.status.Status.TheVariants as statuses
@@ -15,7 +15,7 @@ use Rattle.device_api.specs.Options.{has_cap}
 use Rattle.md5_auth.specs.ChallengeReading.{answer_of}
 use Rattle.frame_join.specs.declared.join_stage.JoinFault.{JoinFault}
 use Rattle.frame_join.specs.declared.join_stage.JoinFault.TheVariants.{Shape, Long, Short, NoMem}
-use Rattle.frame_join.specs.FrameHistory.{Past, after_begin, after_pull}
+use Rattle.frame_join.specs.FrameHistory.{Past, IsJoined, after_begin, after_pull}
 use Rattle.wire_message.specs.declared.message.Reply.{Reply}
 use Rattle.wire_message.specs.declared.message.Reply.TheVariants as replies
 use Rattle.wire_message.specs.declared.message.WireValue.{WireValue}
@@ -24,6 +24,8 @@ use Rattle.scan_job.specs.JobSize.{HasCount}
 use Rattle.scan_job.specs.declared.job.Job.{Job}
 use Rattle.scan_job.specs.declared.job.Task.{Task}
 use Rattle.scan_job.specs.declared.job.Task.TheVariants as tasks
+use Rattle.scan_job.specs.declared.report.Reports.{Reports}
+use Rattle.scan_job.specs.declared.outcome.Why.TheVariants as whys
 use Rattle.scan_job.specs.declared.outcome.Outcome.{Outcome}
 use Rattle.scan_job.specs.declared.outcome.Outcome.TheVariants.{Running, Done, Ended}
 use Rattle.client_rules.specs.WireValues.{given_like, value_in}
@@ -34,144 +36,180 @@ use Rattle.client_rules.specs.declared.progress.Notes.{Notes}
 use Rattle.client_rules.specs.declared.progress.Next.{Next}
 use Rattle.client_rules.specs.declared.progress.Next.TheVariants.{Wait, Finish, Stop}
 use Rattle.client_rules.specs.Talking.{Turn, turn, answered, if_good, after_greeting, greeted, listed, challenged, admitted, opened_with, opened, allowed, few, wants_value, gets_at, gets, after_settings, named, puts, puts_at, puts_named, next_of, next_setting, described, after_put, given_to, of_kind, put_good, put_told, was_put, got, got_good, got_told, was_got, is_all, started_by, started_with, started, unjoined, begun_by, status_of, page_whole, frame_joined, frame_ended_by}
-use Rattle.client_rules.specs.Talks.{errand_of, next_notes, next_progress, shaped_by, shaped, heard_at, answer_to, after_reply, connected, turns, next_file}
+use Rattle.client_rules.specs.Talks.{is_running, lists, shows, next_outcome, errand_of, next_notes, next_progress, shaped_by, shaped, heard_at, answer_to, after_reply, connected, turns, next_file}
 use Rattle.net_jobs.specs.Courses.{Event, Replied, Opened, Came, Finished, Gave, Turned, Course, Runs, Lives, begun, end_at}
 
 -- ---- a reply leaves the number as it is, and turns to no page
 
-abbrev Plain : ℕ → Turn → Type 0
-Plain file t = (t.notes.file ≡ file) × (next_progress t.next ≡ stages.Turning → ⊥)
+-- only these jobs come to these replies
+abbrev Apt : Task → Progress → Type 0
+Apt task stages.Listing = lists task ≡ true
+Apt task (stages.Getting n kind size) = shows task ≡ true
+Apt task progress = Unit {0}
+
+-- a batch that a reply ends well has had a page
+abbrev pub HasSome : Task → ℕ → Type 0
+HasSome (tasks.Batch count) file = 1 < file
+HasSome task file = Unit {0}
+
+abbrev Leads : Task → ℕ → Next → Type 0
+Leads task file (Wait progress) = Apt task progress
+Leads task file (Finish devices) = HasSome task file
+Leads task file (Stop status why) = Unit {0}
+
+some_listed : (task : Task) (file : ℕ) → lists task ≡ true → HasSome task file
+some_listed (tasks.Batch count) file e = absurd (let clash : false ≡ true = e in cc)
+some_listed task file e = tt
+
+some_shown : (task : Task) (file : ℕ) → shows task ≡ true → HasSome task file
+some_shown (tasks.Batch count) file e = absurd (let clash : false ≡ true = e in cc)
+some_shown task file e = tt
+
+both_set : (first second : Bool) → (first && second) ≡ true → second ≡ true
+both_set true second e = e
+both_set false second e = absurd (let clash : false ≡ true = e in cc)
+
+some_all : (task : Task) (first : Bool) (file : ℕ) → is_all task first file ≡ true → HasSome task file
+some_all (tasks.Batch count) first file e = ltb-true 1 file (both_set first (nat_lt 1 file) e)
+some_all task first file e = tt
+
+abbrev Plain : Task → ℕ → Turn → Type 0
+Plain task file t = (t.notes.file ≡ file) × (next_progress t.next ≡ stages.Turning → ⊥) × Leads task file t.next
 
 over : stages.Over ≡ stages.Turning → ⊥
 over e = cc
 
-if_good_plain : (notes : Notes) (status : Status) (next : Next) → (next_progress next ≡ stages.Turning → ⊥) → Plain notes.file (turn notes (if_good status next))
-if_good_plain notes statuses.Good next plain = (refl, plain)
-if_good_plain notes status next plain = (refl, over)
+if_good_plain : (task : Task) (notes : Notes) (status : Status) (next : Next) → (next_progress next ≡ stages.Turning → ⊥) → Leads task notes.file next → Plain task notes.file (turn notes (if_good status next))
+if_good_plain task notes statuses.Good next plain leads = (refl, plain, leads)
+if_good_plain task notes status next plain leads = (refl, over, tt)
 
 greeting_plain : (task : Task) → after_greeting task ≡ stages.Turning → ⊥
 greeting_plain tasks.List e = let clash : stages.Listing ≡ stages.Turning = e in cc
 greeting_plain task e = let clash : stages.Opening ≡ stages.Turning = e in cc
 
-greets : (task : Task) (notes : Notes) (r : Reply) → Plain notes.file (turn notes (greeted task r))
-greets task notes (replies.Init status version) = if_good_plain notes status (Wait (after_greeting task)) (greeting_plain task)
-greets task notes r = (refl, over)
+greeting_apt : (task : Task) → Apt task (after_greeting task)
+greeting_apt tasks.List = refl
+greeting_apt task = tt
 
-lists : (notes : Notes) (r : Reply) → Plain notes.file (turn notes (listed r))
-lists notes (replies.GetDevices status devices) = if_good_plain notes status (Finish devices) over
-lists notes r = (refl, over)
+greets : (task : Task) (notes : Notes) (r : Reply) → Plain task notes.file (turn notes (greeted task r))
+greets task notes (replies.Init status version) = if_good_plain task notes status (Wait (after_greeting task)) (greeting_plain task) (greeting_apt task)
+greets task notes r = (refl, over, tt)
 
-challenges : (notes : Notes) (resource : List ℕ) (answer : Option (List ℕ)) → Plain notes.file (turn notes (challenged resource answer))
-challenges notes resource (Some answer) = (refl, λ e. (let clash : stages.Allowing resource answer ≡ stages.Turning = e in cc))
-challenges notes resource None = (refl, over)
+lists_plain : (task : Task) (notes : Notes) (r : Reply) → lists task ≡ true → Plain task notes.file (turn notes (listed r))
+lists_plain task notes (replies.GetDevices status devices) s = if_good_plain task notes status (Finish devices) over (some_listed task notes.file s)
+lists_plain task notes r s = (refl, over, tt)
 
-admits : (notes : Notes) (status : Status) (word : ℕ) → Plain notes.file (admitted notes status word)
-admits notes statuses.Good word = (refl, λ e. (let clash : stages.Describing ≡ stages.Turning = e in cc))
-admits notes status word = (refl, over)
+challenges : (task : Task) (notes : Notes) (resource : List ℕ) (answer : Option (List ℕ)) → Plain task notes.file (turn notes (challenged resource answer))
+challenges task notes resource (Some answer) = (refl, λ e. (let clash : stages.Allowing resource answer ≡ stages.Turning = e in cc), tt)
+challenges task notes resource None = (refl, over, tt)
 
-opens_with : (password : List ℕ) (notes : Notes) (status : Status) (word : ℕ) (resource : List ℕ) → Plain notes.file (opened_with password notes status word resource)
-opens_with password notes status word [] = admits notes status word
-opens_with password notes status word (b ∷ bytes) = challenges notes (b ∷ bytes) (answer_of (b ∷ bytes) password)
+admits : (task : Task) (notes : Notes) (status : Status) (word : ℕ) → Plain task notes.file (admitted notes status word)
+admits task notes statuses.Good word = (refl, λ e. (let clash : stages.Describing ≡ stages.Turning = e in cc), tt)
+admits task notes status word = (refl, over, tt)
 
-opens : (password : List ℕ) (notes : Notes) (r : Reply) → Plain notes.file (opened password notes r)
-opens password notes (replies.Open status word resource) = opens_with password notes status word resource
-opens password notes r = (refl, over)
+opens_with : (task : Task) (password : List ℕ) (notes : Notes) (status : Status) (word : ℕ) (resource : List ℕ) → Plain task notes.file (opened_with password notes status word resource)
+opens_with task password notes status word [] = admits task notes status word
+opens_with task password notes status word (b ∷ bytes) = challenges task notes (b ∷ bytes) (answer_of (b ∷ bytes) password)
 
-allows : (notes : Notes) (r : Reply) → Plain notes.file (turn notes (allowed r))
-allows notes replies.Authorize = (refl, λ e. (let clash : stages.Reopening ≡ stages.Turning = e in cc))
-allows notes r = (refl, over)
+opens : (task : Task) (password : List ℕ) (notes : Notes) (r : Reply) → Plain task notes.file (opened password notes r)
+opens task password notes (replies.Open status word resource) = opens_with task password notes status word resource
+opens task password notes r = (refl, over, tt)
 
-gets_one : (notes : Notes) (option : Option (Descriptor × Option Value)) (n : ℕ) → Plain notes.file (turn notes (gets_at option n))
-gets_one notes None n = (refl, over)
-gets_one notes (Some option) n = (refl, λ e. (let clash : stages.Getting n option.0.kind option.0.size ≡ stages.Turning = e in cc))
+allows : (task : Task) (notes : Notes) (r : Reply) → Plain task notes.file (turn notes (allowed r))
+allows task notes replies.Authorize = (refl, λ e. (let clash : stages.Reopening ≡ stages.Turning = e in cc), tt)
+allows task notes r = (refl, over, tt)
 
-gets_next : (notes : Notes) (known : List (Descriptor × Option Value)) (place : Option ℕ) → Plain notes.file (turn notes (gets known place))
-gets_next notes known None = (refl, over)
-gets_next notes known (Some n) = gets_one notes (slice_get known n) n
+gets_one : (task : Task) (notes : Notes) (option : Option (Descriptor × Option Value)) (n : ℕ) → shows task ≡ true → Plain task notes.file (turn notes (gets_at option n))
+gets_one task notes None n s = (refl, over, some_shown task notes.file s)
+gets_one task notes (Some option) n s = (refl, λ e. (let clash : stages.Getting n option.0.kind option.0.size ≡ stages.Turning = e in cc), s)
 
-settings_end : (task : Task) (notes : Notes) → Plain notes.file (turn notes (after_settings task notes.known))
-settings_end tasks.List notes = (refl, over)
-settings_end tasks.Show notes = gets_next notes notes.known (few (position wants_value notes.known))
-settings_end tasks.SetOnly notes = (refl, over)
-settings_end tasks.Scan notes = (refl, λ e. (let clash : stages.Starting true ≡ stages.Turning = e in cc))
-settings_end (tasks.Batch count) notes = (refl, λ e. (let clash : stages.Starting true ≡ stages.Turning = e in cc))
+gets_next : (task : Task) (notes : Notes) (known : List (Descriptor × Option Value)) (place : Option ℕ) → shows task ≡ true → Plain task notes.file (turn notes (gets known place))
+gets_next task notes known None s = (refl, over, some_shown task notes.file s)
+gets_next task notes known (Some n) s = gets_one task notes (slice_get known n) n s
 
-puts_one : (notes : Notes) (name : List ℕ) (n : ℕ) (kind : Kind) (value : Option Value) → Plain notes.file (turn notes (puts name n kind value))
-puts_one notes name n kind None = (refl, over)
-puts_one notes name n kind (Some value) = (refl, λ e. (let clash : stages.Putting n kind name value ≡ stages.Turning = e in cc))
+settings_end : (task : Task) (notes : Notes) → Plain task notes.file (turn notes (after_settings task notes.known))
+settings_end tasks.List notes = (refl, over, tt)
+settings_end tasks.Show notes = gets_next tasks.Show notes notes.known (few (position wants_value notes.known)) refl
+settings_end tasks.SetOnly notes = (refl, over, tt)
+settings_end tasks.Scan notes = (refl, λ e. (let clash : stages.Starting true ≡ stages.Turning = e in cc), tt)
+settings_end (tasks.Batch count) notes = (refl, λ e. (let clash : stages.Starting true ≡ stages.Turning = e in cc), tt)
 
-puts_one_at : (notes : Notes) (name text : List ℕ) (n : ℕ) (option : Option (Descriptor × Option Value)) → Plain notes.file (turn notes (puts_at name text n option))
-puts_one_at notes name text n None = (refl, over)
-puts_one_at notes name text n (Some option) = puts_one notes name n option.0.kind (read option.0 text)
+puts_one : (task : Task) (notes : Notes) (name : List ℕ) (n : ℕ) (kind : Kind) (value : Option Value) → Plain task notes.file (turn notes (puts name n kind value))
+puts_one task notes name n kind None = (refl, over, tt)
+puts_one task notes name n kind (Some value) = (refl, λ e. (let clash : stages.Putting n kind name value ≡ stages.Turning = e in cc), tt)
 
-puts_one_named : (notes : Notes) (name text : List ℕ) (known : List (Descriptor × Option Value)) (place : Option ℕ) → Plain notes.file (turn notes (puts_named name text known place))
-puts_one_named notes name text known None = (refl, over)
-puts_one_named notes name text known (Some n) = puts_one_at notes name text n (slice_get known n)
+puts_one_at : (task : Task) (notes : Notes) (name text : List ℕ) (n : ℕ) (option : Option (Descriptor × Option Value)) → Plain task notes.file (turn notes (puts_at name text n option))
+puts_one_at task notes name text n None = (refl, over, tt)
+puts_one_at task notes name text n (Some option) = puts_one task notes name n option.0.kind (read option.0 text)
 
-goes_on_by : (task : Task) (notes : Notes) (left : List (List ℕ × List ℕ)) → Plain notes.file (next_of task notes left)
+puts_one_named : (task : Task) (notes : Notes) (name text : List ℕ) (known : List (Descriptor × Option Value)) (place : Option ℕ) → Plain task notes.file (turn notes (puts_named name text known place))
+puts_one_named task notes name text known None = (refl, over, tt)
+puts_one_named task notes name text known (Some n) = puts_one_at task notes name text n (slice_get known n)
+
+goes_on_by : (task : Task) (notes : Notes) (left : List (List ℕ × List ℕ)) → Plain task notes.file (next_of task notes left)
 goes_on_by task notes [] = settings_end task notes
-goes_on_by task notes (setting ∷ left) = puts_one_named (record notes { left = left }) setting.0 setting.1 notes.known (named setting.0 notes.known)
+goes_on_by task notes (setting ∷ left) = puts_one_named task (record notes { left = left }) setting.0 setting.1 notes.known (named setting.0 notes.known)
 
-goes_on : (task : Task) (notes : Notes) → Plain notes.file (next_setting task notes)
+goes_on : (task : Task) (notes : Notes) → Plain task notes.file (next_setting task notes)
 unfolding next_setting
 goes_on task notes = goes_on_by task notes notes.left
 
-describes : (task : Task) (notes : Notes) (r : Reply) → Plain notes.file (described task notes r)
+describes : (task : Task) (notes : Notes) (r : Reply) → Plain task notes.file (described task notes r)
 describes task notes (replies.GetOptionDescriptors descriptors) = goes_on task _
-describes task notes r = (refl, over)
+describes task notes r = (refl, over, tt)
 
-puts_after : (task : Task) (notes : Notes) (reloads : Bool) → Plain notes.file (after_put task notes reloads)
-puts_after task notes true = (refl, λ e. (let clash : stages.Describing ≡ stages.Turning = e in cc))
+puts_after : (task : Task) (notes : Notes) (reloads : Bool) → Plain task notes.file (after_put task notes reloads)
+puts_after task notes true = (refl, λ e. (let clash : stages.Describing ≡ stages.Turning = e in cc), tt)
 puts_after task notes false = goes_on task notes
 
-puts_given : (task : Task) (notes : Notes) (name : List ℕ) (value : Value) (info : Info) (given : Option Value) → Plain notes.file (given_to task notes name value info given)
-puts_given task notes name value info None = (refl, over)
+puts_given : (task : Task) (notes : Notes) (name : List ℕ) (value : Value) (info : Info) (given : Option Value) → Plain task notes.file (given_to task notes name value info given)
+puts_given task notes name value info None = (refl, over, tt)
 puts_given task notes name value info (Some given) = puts_after task _ (has_cap info.0 2)
 
-puts_good : (task : Task) (notes : Notes) (kind : Kind) (name : List ℕ) (value : Value) (status : Status) (info : Info) (given : Kind) (found : WireValue) → Plain notes.file (put_good task notes kind name value status info given found)
+puts_good : (task : Task) (notes : Notes) (kind : Kind) (name : List ℕ) (value : Value) (status : Status) (info : Info) (given : Kind) (found : WireValue) → Plain task notes.file (put_good task notes kind name value status info given found)
 puts_good task notes kind name value statuses.Good info given found = puts_given task notes name value info (of_kind kind given (given_like value found))
-puts_good task notes kind name value status info given found = (refl, over)
+puts_good task notes kind name value status info given found = (refl, over, tt)
 
-puts_told : (task : Task) (notes : Notes) (kind : Kind) (name : List ℕ) (value : Value) (status : Status) (info : Info) (given : Kind) (found : WireValue) (resource : List ℕ) → Plain notes.file (put_told task notes kind name value status info given found resource)
+puts_told : (task : Task) (notes : Notes) (kind : Kind) (name : List ℕ) (value : Value) (status : Status) (info : Info) (given : Kind) (found : WireValue) (resource : List ℕ) → Plain task notes.file (put_told task notes kind name value status info given found resource)
 puts_told task notes kind name value status info given found [] = puts_good task notes kind name value status info given found
-puts_told task notes kind name value status info given found (x ∷ bytes) = (refl, over)
+puts_told task notes kind name value status info given found (x ∷ bytes) = (refl, over, tt)
 
-puts_reply : (task : Task) (notes : Notes) (kind : Kind) (name : List ℕ) (value : Value) (r : Reply) → Plain notes.file (was_put task notes kind name value r)
+puts_reply : (task : Task) (notes : Notes) (kind : Kind) (name : List ℕ) (value : Value) (r : Reply) → Plain task notes.file (was_put task notes kind name value r)
 puts_reply task notes kind name value (replies.ControlOption status info given found resource) = puts_told task notes kind name value status info given found resource
-puts_reply task notes kind name value r = (refl, over)
+puts_reply task notes kind name value r = (refl, over, tt)
 
-gets_found : (notes : Notes) (n : ℕ) (found : Option Value) → Plain notes.file (got notes n found)
-gets_found notes n None = (refl, over)
-gets_found notes n (Some value) = gets_next (record notes { known = with_value n value notes.known }) (with_value n value notes.known) (few (position wants_value (with_value n value notes.known)))
+gets_found : (task : Task) (notes : Notes) (n : ℕ) (found : Option Value) → shows task ≡ true → Plain task notes.file (got notes n found)
+gets_found task notes n None s = (refl, over, tt)
+gets_found task notes n (Some value) s = gets_next task (record notes { known = with_value n value notes.known }) (with_value n value notes.known) (few (position wants_value (with_value n value notes.known))) s
 
-gets_good : (notes : Notes) (n : ℕ) (kind : Kind) (status : Status) (given : Kind) (found : WireValue) → Plain notes.file (got_good notes n kind status given found)
-gets_good notes n kind statuses.Good given found = gets_found notes n (of_kind kind given (value_in kind found))
-gets_good notes n kind status given found = (refl, over)
+gets_good : (task : Task) (notes : Notes) (n : ℕ) (kind : Kind) (status : Status) (given : Kind) (found : WireValue) → shows task ≡ true → Plain task notes.file (got_good notes n kind status given found)
+gets_good task notes n kind statuses.Good given found s = gets_found task notes n (of_kind kind given (value_in kind found)) s
+gets_good task notes n kind status given found s = (refl, over, tt)
 
-gets_told : (notes : Notes) (n : ℕ) (kind : Kind) (status : Status) (given : Kind) (found : WireValue) (resource : List ℕ) → Plain notes.file (got_told notes n kind status given found resource)
-gets_told notes n kind status given found [] = gets_good notes n kind status given found
-gets_told notes n kind status given found (x ∷ bytes) = (refl, over)
+gets_told : (task : Task) (notes : Notes) (n : ℕ) (kind : Kind) (status : Status) (given : Kind) (found : WireValue) (resource : List ℕ) → shows task ≡ true → Plain task notes.file (got_told notes n kind status given found resource)
+gets_told task notes n kind status given found [] s = gets_good task notes n kind status given found s
+gets_told task notes n kind status given found (x ∷ bytes) s = (refl, over, tt)
 
-gets_reply : (notes : Notes) (n : ℕ) (kind : Kind) (r : Reply) → Plain notes.file (was_got notes n kind r)
-gets_reply notes n kind (replies.ControlOption status info given found resource) = gets_told notes n kind status given found resource
-gets_reply notes n kind r = (refl, over)
+gets_reply : (task : Task) (notes : Notes) (n : ℕ) (kind : Kind) (r : Reply) → shows task ≡ true → Plain task notes.file (was_got notes n kind r)
+gets_reply task notes n kind (replies.ControlOption status info given found resource) s = gets_told task notes n kind status given found resource s
+gets_reply task notes n kind r s = (refl, over, tt)
 
-no_docs : (all : Bool) (notes : Notes) → Plain notes.file (turn notes (if all then Finish [] else answered statuses.NoDocs))
-no_docs true notes = (refl, over)
-no_docs false notes = (refl, over)
+no_docs : (task : Task) (all : Bool) (notes : Notes) → (all ≡ true → HasSome task notes.file) → Plain task notes.file (turn notes (if all then Finish [] else answered statuses.NoDocs))
+no_docs task true notes some = (refl, over, some refl)
+no_docs task false notes some = (refl, over, tt)
 
-starts_by : (notes : Notes) (all : Bool) (status : Status) (port : ℕ) (order : ByteOrder) → Plain notes.file (turn notes (started_by all status port order))
-starts_by notes all statuses.Good port order = (refl, λ e. (let clash : stages.Shaping port order ≡ stages.Turning = e in cc))
-starts_by notes all statuses.NoDocs port order = no_docs all notes
-starts_by notes all status port order = (refl, over)
+starts_by : (task : Task) (notes : Notes) (all : Bool) (status : Status) (port : ℕ) (order : ByteOrder) → (all ≡ true → HasSome task notes.file) → Plain task notes.file (turn notes (started_by all status port order))
+starts_by task notes all statuses.Good port order some = (refl, λ e. (let clash : stages.Shaping port order ≡ stages.Turning = e in cc), tt)
+starts_by task notes all statuses.NoDocs port order some = no_docs task all notes some
+starts_by task notes all status port order some = (refl, over, tt)
 
-starts_with : (notes : Notes) (all : Bool) (status : Status) (port : ℕ) (order : ByteOrder) (resource : List ℕ) → Plain notes.file (turn notes (started_with all status port order resource))
-starts_with notes all status port order [] = starts_by notes all status port order
-starts_with notes all status port order (x ∷ bytes) = (refl, over)
+starts_with : (task : Task) (notes : Notes) (all : Bool) (status : Status) (port : ℕ) (order : ByteOrder) (resource : List ℕ) → (all ≡ true → HasSome task notes.file) → Plain task notes.file (turn notes (started_with all status port order resource))
+starts_with task notes all status port order [] some = starts_by task notes all status port order some
+starts_with task notes all status port order (x ∷ bytes) some = (refl, over, tt)
 
-starts : (task : Task) (first : Bool) (notes : Notes) (r : Reply) → Plain notes.file (turn notes (started task first notes.file r))
-starts task first notes (replies.Start status port order resource) = starts_with notes (is_all task first notes.file) status port order resource
-starts task first notes r = (refl, over)
+starts : (task : Task) (first : Bool) (notes : Notes) (r : Reply) → Plain task notes.file (turn notes (started task first notes.file r))
+starts task first notes (replies.Start status port order resource) = starts_with task notes (is_all task first notes.file) status port order resource (some_all task first notes.file)
+starts task first notes r = (refl, over, tt)
 
 unjoined_plain : (fault : JoinFault) → next_progress (unjoined fault) ≡ stages.Turning → ⊥
 unjoined_plain Shape e = over e
@@ -179,32 +217,38 @@ unjoined_plain Long e = over e
 unjoined_plain Short e = over e
 unjoined_plain NoMem e = over e
 
-begins : (notes : Notes) (fault : Option JoinFault) (port : ℕ) → Plain notes.file (turn notes (begun_by fault port))
-begins notes None port = (refl, λ e. (let clash : stages.Imaging port false ≡ stages.Turning = e in cc))
-begins notes (Some fault) port = (refl, unjoined_plain fault)
+unjoined_leads : (task : Task) (file : ℕ) (fault : JoinFault) → Leads task file (unjoined fault)
+unjoined_leads task file Shape = tt
+unjoined_leads task file Long = tt
+unjoined_leads task file Short = tt
+unjoined_leads task file NoMem = tt
 
-shapes_by : (notes : Notes) (status : Status) (port : ℕ) (order : ByteOrder) (params : Params) (past : Past) → Plain notes.file (turn notes (shaped_by status port order params past).next)
-shapes_by notes statuses.Good port order params past = begins notes (after_begin params order false past).fault port
-shapes_by notes status port order params past = (refl, over)
+begins : (task : Task) (notes : Notes) (fault : Option JoinFault) (port : ℕ) → Plain task notes.file (turn notes (begun_by fault port))
+begins task notes None port = (refl, λ e. (let clash : stages.Imaging port false ≡ stages.Turning = e in cc), tt)
+begins task notes (Some fault) port = (refl, unjoined_plain fault, unjoined_leads task notes.file fault)
 
-shapes : (notes : Notes) (port : ℕ) (order : ByteOrder) (past : Past) (r : Reply) → Plain notes.file (turn notes (shaped port order past r).next)
-shapes notes port order past (replies.GetParameters status params) = shapes_by notes status port order params past
-shapes notes port order past r = (refl, over)
+shapes_by : (task : Task) (notes : Notes) (status : Status) (port : ℕ) (order : ByteOrder) (params : Params) (past : Past) → Plain task notes.file (turn notes (shaped_by status port order params past).next)
+shapes_by task notes statuses.Good port order params past = begins task notes (after_begin params order false past).fault port
+shapes_by task notes status port order params past = (refl, over, tt)
 
-reply_plain : (progress : Progress) (errand : Errand) (notes : Notes) (past : Past) (r : Reply) → Plain notes.file (heard_at progress errand notes past r).turn
-reply_plain stages.Greeting errand notes past r = greets errand.task notes r
-reply_plain stages.Listing errand notes past r = lists notes r
-reply_plain stages.Opening errand notes past r = opens errand.password notes r
-reply_plain (stages.Allowing resource answer) errand notes past r = allows notes r
-reply_plain stages.Reopening errand notes past r = opens errand.password notes r
-reply_plain stages.Describing errand notes past r = describes errand.task notes r
-reply_plain (stages.Putting n kind name value) errand notes past r = puts_reply errand.task notes kind name value r
-reply_plain (stages.Getting n kind size) errand notes past r = gets_reply notes n kind r
-reply_plain (stages.Starting first) errand notes past r = starts errand.task first notes r
-reply_plain (stages.Shaping port order) errand notes past r = shapes notes port order past r
-reply_plain (stages.Imaging port opened) errand notes past r = (refl, over)
-reply_plain stages.Turning errand notes past r = (refl, over)
-reply_plain stages.Over errand notes past r = (refl, over)
+shapes : (task : Task) (notes : Notes) (port : ℕ) (order : ByteOrder) (past : Past) (r : Reply) → Plain task notes.file (turn notes (shaped port order past r).next)
+shapes task notes port order past (replies.GetParameters status params) = shapes_by task notes status port order params past
+shapes task notes port order past r = (refl, over, tt)
+
+reply_plain : (progress : Progress) (errand : Errand) (notes : Notes) (past : Past) (r : Reply) → Apt errand.task progress → Plain errand.task notes.file (heard_at progress errand notes past r).turn
+reply_plain stages.Greeting errand notes past r s = greets errand.task notes r
+reply_plain stages.Listing errand notes past r s = lists_plain errand.task notes r s
+reply_plain stages.Opening errand notes past r s = opens errand.task errand.password notes r
+reply_plain (stages.Allowing resource answer) errand notes past r s = allows errand.task notes r
+reply_plain stages.Reopening errand notes past r s = opens errand.task errand.password notes r
+reply_plain stages.Describing errand notes past r s = describes errand.task notes r
+reply_plain (stages.Putting n kind name value) errand notes past r s = puts_reply errand.task notes kind name value r
+reply_plain (stages.Getting n kind size) errand notes past r s = gets_reply errand.task notes n kind r s
+reply_plain (stages.Starting first) errand notes past r s = starts errand.task first notes r
+reply_plain (stages.Shaping port order) errand notes past r s = shapes errand.task notes port order past r
+reply_plain (stages.Imaging port opened) errand notes past r s = (refl, over, tt)
+reply_plain stages.Turning errand notes past r s = (refl, over, tt)
+reply_plain stages.Over errand notes past r s = (refl, over, tt)
 
 next_file_is : (notes : Notes) (next : Next) → (next_notes notes next).file ≡ notes.file
 next_file_is notes (Wait progress) = refl
@@ -226,6 +270,8 @@ pub record Counts (task : Task) (course : Course) : Type 0 where
   pub number : course.talk.notes.file ≡ length course.pages + 1
   pub turning : course.talk.progress ≡ stages.Turning → HasMore task course.talk.notes.file
   pub few : IsFew task (length course.pages)
+  pub apt : Apt task course.talk.progress
+  pub done : (reports : Reports) → course.talk.outcome ≡ Done reports → IsJoined course.talk.past ⊎ HasSome task course.talk.notes.file
 
 none_few : (task : Task) → HasCount task → IsFew task 0
 none_few tasks.List h = refl
@@ -235,7 +281,7 @@ none_few tasks.Scan h = refl
 none_few (tasks.Batch count) h = omega (arith, h.0)
 
 counts_begun : (job : Job) → HasCount job.task → Counts job.task (begun job)
-counts_begun job h = record { number = refl; turning = λ e. absurd (let clash : stages.Greeting ≡ stages.Turning = e in cc); few = none_few job.task h }
+counts_begun job h = record { number = refl; turning = λ e. absurd (let clash : stages.Greeting ≡ stages.Turning = e in cc); few = none_few job.task h; apt = tt; done = λ reports e. absurd (let clash : Running ≡ Done reports = e in cc) }
 
 -- ---- a frame's end
 
@@ -257,21 +303,86 @@ status_more task file past None e = absurd (over e)
 status_more task file past (Some statuses.Eof) e = joined_more task file _ e
 status_more task file past (Some status) e = absurd (over e)
 
+-- and what it leads to
+more_apt : (task : Task) (more : Bool) → Apt task (next_progress (if more then Wait stages.Turning else Finish []))
+more_apt task true = tt
+more_apt task false = tt
+
+page_apt : (task : Task) (file : ℕ) → Apt task (next_progress (page_whole task file))
+page_apt (tasks.Batch count) file = more_apt (tasks.Batch count) (nat_lt file count)
+page_apt task file = tt
+
+unjoined_apt : (task : Task) (fault : JoinFault) → Apt task (next_progress (unjoined fault))
+unjoined_apt task Shape = tt
+unjoined_apt task Long = tt
+unjoined_apt task Short = tt
+unjoined_apt task NoMem = tt
+
+joined_apt : (task : Task) (file : ℕ) (answer : Result Bool JoinFault) → Apt task (next_progress (frame_joined task file answer))
+joined_apt task file (Ok true) = page_apt task file
+joined_apt task file (Ok false) = tt
+joined_apt task file (Err fault) = unjoined_apt task fault
+
+ended_apt : (task : Task) (file : ℕ) (past : Past) (status : Option Status) → Apt task (next_progress (frame_ended_by task file past status).next)
+ended_apt task file past None = tt
+ended_apt task file past (Some statuses.Eof) = joined_apt task file _
+ended_apt task file past (Some status) = tt
+
+unjoined_not_done : (task : Task) (notes : Notes) (fault : JoinFault) (reports : Reports) → next_outcome task notes (unjoined fault) ≡ Done reports → ⊥
+unjoined_not_done task notes Shape reports e = let clash : Ended statuses.IoError whys.Malformed ≡ Done reports = e in cc
+unjoined_not_done task notes Long reports e = let clash : Ended statuses.IoError whys.Long ≡ Done reports = e in cc
+unjoined_not_done task notes Short reports e = let clash : Ended statuses.IoError whys.Short ≡ Done reports = e in cc
+unjoined_not_done task notes NoMem reports e = let clash : Ended statuses.NoMem whys.Memory ≡ Done reports = e in cc
+
+joined_done : (task : Task) (notes : Notes) (file : ℕ) (answer : Result Bool JoinFault) (reports : Reports) → next_outcome task notes (frame_joined task file answer) ≡ Done reports → answer ≡ Ok true
+joined_done task notes file (Ok true) reports e = refl
+joined_done task notes file (Ok false) reports e = absurd (let clash : Running ≡ Done reports = e in cc)
+joined_done task notes file (Err fault) reports e = absurd (unjoined_not_done task notes fault reports e)
+
+ended_joined : (task : Task) (notes : Notes) (file : ℕ) (past : Past) (status : Option Status) (reports : Reports) → next_outcome task notes (frame_ended_by task file past status).next ≡ Done reports → IsJoined (frame_ended_by task file past status).past
+ended_joined task notes file past None reports e = absurd (let clash : Ended statuses.IoError whys.Malformed ≡ Done reports = e in cc)
+ended_joined task notes file past (Some statuses.Eof) reports e = joined_done task notes file _ reports e
+ended_joined task notes file past (Some statuses.Good) reports e = absurd (let clash : Ended statuses.IoError whys.Malformed ≡ Done reports = e in cc)
+ended_joined task notes file past (Some status) reports e = absurd (let clash : Ended status whys.Answer ≡ Done reports = e in cc)
+
 -- ---- event by event
+
+leads_apt : (task : Task) (file : ℕ) (next : Next) → Leads task file next → Apt task (next_progress next)
+leads_apt task file (Wait progress) l = l
+leads_apt task file (Finish devices) l = tt
+leads_apt task file (Stop status why) l = tt
+
+leads_some : (task : Task) (file : ℕ) (notes : Notes) (next : Next) (reports : Reports) → Leads task file next → next_outcome task notes next ≡ Done reports → HasSome task file
+leads_some task file notes (Wait progress) reports l e = absurd (let clash : Running ≡ Done reports = e in cc)
+leads_some task file notes (Finish devices) reports l e = l
+leads_some task file notes (Stop status why) reports l e = absurd (let clash : Ended status why ≡ Done reports = e in cc)
 
 counts_replied : (errand : Errand) (was : Course) (r : Reply) (text sent : List ℕ) → Counts errand.task was → Counts errand.task (record { text = text; streams = was.streams; pages = was.pages; sent = sent; talk = after_reply errand was.talk r })
 counts_replied errand was r text sent c =
-    let plain = reply_plain was.talk.progress errand was.talk.notes was.talk.past r in
+    let plain = reply_plain was.talk.progress errand was.talk.notes was.talk.past r c.apt in
+    let file = next_file_is (answer_to errand was.talk r).turn.notes (answer_to errand was.talk r).turn.next ∙ plain.0 in
     record {
-      number = next_file_is (answer_to errand was.talk r).turn.notes (answer_to errand was.talk r).turn.next ∙ plain.0 ∙ c.number;
+      number = file ∙ c.number;
       turning = λ e. absurd (plain.1 e);
       few = c.few;
+      apt = leads_apt errand.task was.talk.notes.file (answer_to errand was.talk r).turn.next plain.2;
+      done = λ reports e. inr (subst (λ (i : ℕ). HasSome errand.task i) (sym file) (leads_some errand.task was.talk.notes.file (answer_to errand was.talk r).turn.notes (answer_to errand was.talk r).turn.next reports plain.2 e));
     }
 
 stays_turning : (progress : Progress) → connected progress ≡ stages.Turning → progress ≡ stages.Turning
 stays_turning (stages.Imaging port true) e = e
 stays_turning (stages.Imaging port false) e = absurd (let clash : stages.Imaging port true ≡ stages.Turning = e in cc)
 stays_turning progress e = e
+
+stays_apt : (task : Task) (progress : Progress) → Apt task progress → Apt task (connected progress)
+stays_apt task (stages.Imaging port true) a = tt
+stays_apt task (stages.Imaging port false) a = tt
+stays_apt task progress a = a
+
+not_turning : (outcome : Outcome) (progress : Progress) (reports : Reports) → outcome ≡ Done reports → turns outcome progress ≡ true → ⊥
+not_turning Running progress reports e t = let clash : Running ≡ Done reports = e in cc
+not_turning (Done r) progress reports e t = let clash : false ≡ true = t in cc
+not_turning (Ended status why) progress reports e t = let clash : false ≡ true = t in cc
 
 pub is_turning_at : (outcome : Outcome) (progress : Progress) → turns outcome progress ≡ true → progress ≡ stages.Turning
 is_turning_at outcome stages.Turning e = refl
@@ -296,15 +407,17 @@ one_longer pages page = length-append pages (page ∷ [])
 counts_on : (errand : Errand) (was now : Course) (event : Event) → HasCount errand.task → Counts errand.task was → Lives errand was event now → Counts errand.task now
 counts_on errand was now (Replied r) h c l = subst (λ (x : Course). Counts errand.task x) (sym l.5) (counts_replied errand was r _ _ c)
 counts_on errand was now Opened h c l =
-    subst (λ (x : Course). Counts errand.task x) (sym l.1) (record { number = c.number; turning = λ e. c.turning (stays_turning was.talk.progress e); few = c.few })
-counts_on errand was now (Came bytes) h c l = subst (λ (x : Course). Counts errand.task x) (sym l.3) (record { number = c.number; turning = c.turning; few = c.few })
+    subst (λ (x : Course). Counts errand.task x) (sym l.1) (record { number = c.number; turning = λ e. c.turning (stays_turning was.talk.progress e); few = c.few; apt = stays_apt errand.task was.talk.progress c.apt; done = c.done })
+counts_on errand was now (Came bytes) h c l = subst (λ (x : Course). Counts errand.task x) (sym l.3) (record { number = c.number; turning = c.turning; few = c.few; apt = c.apt; done = λ reports e. absurd (let clash : true ≡ false = sym l.1 ∙ ap is_running e in cc) })
 counts_on errand was now (Finished status) h c l =
     subst (λ (x : Course). Counts errand.task x) (sym l.7) (record {
       number = next_file_is was.talk.notes (end_at errand was.talk status).next ∙ c.number;
       turning = λ e. (let m = status_more errand.task was.talk.notes.file was.talk.past (status_of status) e in subst (λ (i : ℕ). HasMore errand.task i) (sym (next_file_is was.talk.notes (end_at errand was.talk status).next)) m);
       few = c.few;
+      apt = ended_apt errand.task was.talk.notes.file was.talk.past (status_of status);
+      done = λ reports e. inl (ended_joined errand.task was.talk.notes was.talk.notes.file was.talk.past (status_of status) reports e);
     })
-counts_on errand was now (Gave bytes) h c l = subst (λ (x : Course). Counts errand.task x) (sym l) (record { number = c.number; turning = c.turning; few = c.few })
+counts_on errand was now (Gave bytes) h c l = subst (λ (x : Course). Counts errand.task x) (sym l) (record { number = c.number; turning = c.turning; few = c.few; apt = c.apt; done = c.done })
 counts_on errand was now (Turned bytes) h c l =
     let more = turned_more errand.task was.talk.notes.file (length was.pages) h (c.turning (is_turning_at was.talk.outcome was.talk.progress l.1)) c.number in
     let longer = one_longer was.pages (after_pull bytes was.talk.past) in
@@ -312,6 +425,8 @@ counts_on errand was now (Turned bytes) h c l =
       number = more.0 ∙ ap (λ (i : ℕ). i + 1) (c.number ∙ sym longer);
       turning = λ e. absurd (let clash : stages.Starting true ≡ stages.Turning = e in cc);
       few = subst (λ (i : ℕ). IsFew errand.task i) (sym longer) more.1;
+      apt = tt;
+      done = λ reports e. absurd (not_turning was.talk.outcome was.talk.progress reports e l.1);
     })
 
 counts_by : (errand : Errand) (first : Course) (events : List Event) (course : Course) → HasCount errand.task → Counts errand.task first → Runs errand first events course → Counts errand.task course

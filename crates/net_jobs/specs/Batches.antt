@@ -38,10 +38,10 @@ last_of (Err fault) page = []
 abbrev pub pages_of : Course → List Past
 pages_of course = course.pages ++ last_of (answer_of course.talk.past) course.talk.past
 
--- as many pages as the job may scan
+-- as many pages as the job may scan: a batch at least one
 abbrev pub MayScan : Task → ℕ → Type 0
 MayScan tasks.Scan n = n ≡ 1
-MayScan (tasks.Batch count) n = n ≤ count
+MayScan (tasks.Batch count) n = (1 ≤ n) × (n ≤ count)
 MayScan task n = n ≡ 0
 
 -- the outcome of a job whose last output was given back, and taken or refused

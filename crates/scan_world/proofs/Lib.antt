@@ -7,3 +7,4 @@ pub mod Told
 pub mod Deciding
 pub mod Events
 pub mod Falling
+pub mod Telling

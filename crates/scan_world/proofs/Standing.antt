@@ -23,8 +23,7 @@ use Rattle.scan_world.proofs.Pulls.{files_laid, laid_as, snoc_at}
 
 -- ---- what was told of a client that ran
 
--- The client goes on from a history to another, of which as much was given. What is done with the data of a frame is whole, and
--- of a batch the last page.
+-- The client goes on from a history to another, of which as much was given.
 pub record IsTold (old : Talker) (past : Past) (new : Talker) : Type 0 where
   pub now : Past
   pub given : now.given ≡ past.given
@@ -214,14 +213,14 @@ drained past pages p q c u t d =
 
 -- ---- the last page of a batch
 
-last_page : (told : Past) (past : Past) (pages : List Past) (p : Post) → IsUnderWay past pages p → is_done p.client.outcome ≡ true → IsJoined past → IsPage past
-last_page told past pages p u done joined =
+pub last_page : (past : Past) (pages : List Past) (p : Post) → IsUnderWay past pages p → is_done p.client.outcome ≡ true → IsJoined past → IsPage past
+last_page past pages p u done joined =
     let shown = joined_shows past p.client.join u.holds.serves.stands joined in
     let denotes = u.done done joined in
     record { whole = (shown.0, denotes shown.0 shown.1); denotes = denotes }
 
-pub all_laid : (told past : Past) (pages : List Past) (p : Post) → IsUnderWay past pages p → is_done p.client.outcome ≡ true → IsJoined past → length pages < 16 → p.task ≡ tasks.Batch (length pages + 1) → FilesStand (laid_by p)
-all_laid told past pages p u done joined less all =
+all_laid : (past : Past) (pages : List Past) (p : Post) → IsUnderWay past pages p → is_done p.client.outcome ≡ true → IsJoined past → length pages < 16 → p.task ≡ tasks.Batch (length pages + 1) → FilesStand (laid_by p)
+all_laid past pages p u done joined less all =
     let x = pages ++ past ∷ [] in
     let count : length x ≡ length pages + 1 = length-append pages (past ∷ []) in
     let is = laid_as p (omega (arith, u.holds.files.count, less)) in
@@ -229,7 +228,7 @@ all_laid told past pages p u done joined less all =
       done = ap (λ (q : Post). is_done q.client.outcome) is ∙ done;
       all = ap (λ (q : Post). q.task) is ∙ all ∙ ap (λ (k : ℕ). tasks.Batch k) (sym count);
       files = files_laid past pages p less u.holds.files;
-      pages_are = pages_more pages past u.pages_are (last_page told past pages p u done joined);
+      pages_are = pages_more pages past u.pages_are (last_page past pages p u done joined);
     })
 
 by_end : (b : Bool) (told : Past) (pages : List Past) (was : Outcome) (p : Post) → (is_done p.client.outcome && is_batch p.task) ≡ b → IsDrained told pages was p
@@ -239,7 +238,7 @@ by_end true told pages was p e d last =
     let done = and_left (is_done p.client.outcome) (is_batch p.task) e in
     let l = last done (and_right (is_done p.client.outcome) (is_batch p.task) e) in
     let u : IsUnderWay d.past pages p = subst (λ (x : List Past). IsUnderWay d.past x p) (d.same done) d.under in
-    all_laid told d.past pages p u done (d.joined done l.0) l.1 l.2
+    all_laid d.past pages p u done (d.joined done l.0) l.1 l.2
   where
     and_left : (a b : Bool) → (a && b) ≡ true → a ≡ true
     and_left true b e = refl

@@ -22,6 +22,12 @@ pub record IsPage (page : Past) : Type 0 where
 abbrev pub ArePages : List Past → Type 0
 ArePages pages = (k : ℕ) (page : Past) → slice_get pages k ≡ Some page → IsPage page
 
+-- a whole file, and the page that it is of
+pub record IsFileOf (file : List ℕ) : Type 0 where
+  pub page : Past
+  pub given : file ≡ page.given
+  pub is : IsPage page
+
 -- a file of this number, from 1, is one of the job
 abbrev pub IsAmong : Task → ℕ → Type 0
 IsAmong (tasks.Batch count) file = (file ≤ count) × (count ≤ 16)

@@ -13,6 +13,6 @@ mod world;
 mod world_fault;
 
 pub use event::Event;
-pub use laws::{files_stand, moves_fall, rest_is_quiet};
+pub use laws::{files_stand, files_tell, moves_fall, rest_is_quiet};
 pub use world::World;
 pub use world_fault::WorldFault;
