@@ -1,0 +1,277 @@
+-- A new world stands for that nothing has happened.
+use Rattle.std.specs.Prelude.{All}
+use Rattle.std.specs.List.{AllByRecursion}
+use Rattle.std.proofs.Common.{◌≡◌, ◌≢◌, inl, ◌∙◌, ℕ, zero, suc, ◌≤◌, List, [], ◌∷◌, Option, Some, None, Bool, true, false, refl, sym, ap, subst, map, length, slice_get, slice_index_or, arith}
+use Rattle.std.proofs.lemmas.List.{length-map}
+use Rattle.sane_fixed.specs.declared.byte_order.ByteOrder.TheVariants.{Little}
+use Rattle.page_picture.specs.Page as page
+use Rattle.page_picture.specs.Page.{IsSheet}
+use Rattle.page_picture.specs.declared.scene.DeviceKind.{DeviceKind}
+use Rattle.page_picture.specs.declared.scene.DeviceKind.TheVariants.{Flatbed, Hand, ThreePass, Feeder}
+use Rattle.md5_auth.specs.declared.users.Entry.{Entry}
+use Rattle.frame_join.specs.FrameHistory.{no_past}
+use Rattle.device_api.specs.Allowed.{HasLimits, IsHeld, IsPageCount}
+use Rattle.device_api.specs.State.{DeviceState, Held, Phase, after_cancel, cancelled_in, feeds, is_feeder, left_behind}
+use Rattle.device_api.specs.State.Phase.{AtRest, Between, Reading}
+use Rattle.device_api.proofs.AllowedLaws.{defaults_allowed}
+use Rattle.dispatch.specs.RegistryFault.{HaveOwnNames}
+use Rattle.dispatch.specs.Table.{Table, fresh_table}
+use Rattle.saned_core.specs.declared.seat.Seat.{Seat}
+use Rattle.saned_core.specs.declared.seat.SessionId.{SessionId}
+use Rattle.scan_job.specs.declared.job.Job.{Job}
+use Rattle.client_rules.specs.Talks.{is_running}
+use Rattle.net_client.specs.Talker.{IsFresh, Talker}
+use Rattle.scan_rules.specs.Devices.{IsAllowed, IsShaped}
+use Rattle.scan_rules.specs.Scanners.{AreShaped, IsFit, IsStocked}
+use Rattle.scan_rules.specs.Standing.{fresh}
+use Rattle.scan_rules.proofs.Promised.{beginning_sound}
+use Rattle.client_reading.proofs.Calling.{made_alike}
+use Rattle.desk_rules.specs.Reading.{ShowsTable, sheets}
+use Rattle.desk_rules.specs.Cores.{fresh_device, fresh_devices}
+use Rattle.desk_rules.proofs.Beginning.{registries_show}
+use Rattle.scan_world.specs.declared.post.Post.{Post}
+use Rattle.scan_world.specs.Posts.{IsNew, budget_of, no_pages}
+use Rattle.scan_world.specs.Worlds.{AreNew, Scene}
+use Rattle.world_rules.specs.Told.{place_in, rules_job}
+use Rattle.world_rules.specs.Stands.{AreApart, IsBelow, IsFaithful, IsFaithfulPlace, IsFaithfulSeat, IsTrueTo, KeepsFiles, Means, Sits, SitsAt, Talks, are_named, is_laid}
+use Rattle.world_rules.specs.Beginning.{IsNewDaemon, IsSteady, NewWorldsStand, make_of, name_of, nothing_told, wires_of}
+use Rattle.world_rules.proofs.Faithful.{cancel_true}
+
+-- ---- lists
+
+all_each : {X : Type 0} (P : X → Type 0) (xs : List X) → All P xs → AllByRecursion P xs
+all_each P [] h = tt
+all_each P (x ∷ xs) h = (h 0 x (omega arith), all_each P xs (λ k d low. h (suc k) d (omega (arith, low))))
+
+all_there : {X : Type 0} (P : X → Type 0) (xs : List X) (k : ℕ) (x : X) → AllByRecursion P xs → slice_get xs k ≡ Some x → P x
+all_there P [] k x h e = absurd (cc)
+all_there P (y ∷ xs) zero x h e = let same : y ≡ x = cc in subst P same h.0
+all_there P (y ∷ xs) (suc k) x h e = all_there P xs k x h.1 e
+
+at_index : {X : Type 0} (xs : List X) (k : ℕ) (x d : X) → slice_get xs k ≡ Some x → slice_index_or xs k d ≡ x
+at_index [] k x d e = absurd (cc)
+at_index (y ∷ xs) zero x d e = cc
+at_index (y ∷ xs) (suc k) x d e = at_index xs k x d e
+
+past_end : {X : Type 0} (xs : List X) (k : ℕ) → length xs ≤ k → slice_get xs k ≡ None
+past_end [] k h = refl
+past_end (x ∷ xs) zero h = absurd (omega (arith, h))
+past_end (x ∷ xs) (suc k) h = past_end xs k (omega (arith, h))
+
+-- ---- the devices are fit
+
+-- pages within their limits, true to their sources
+abbrev AreHeld : List Held → Type 0
+AreHeld pages = AllByRecursion IsHeld pages
+
+left_held : (b : Bool) (pages : List Held) → AreHeld pages → AreHeld (left_behind b pages)
+left_held false pages h = h
+left_held true [] h = h
+left_held true (p ∷ pages) h = h.1
+
+left_count : (b : Bool) (pages : List Held) → IsPageCount b (length pages) → IsPageCount b (length (left_behind b pages))
+left_count false pages h = h
+left_count true [] h = h
+left_count true (p ∷ pages) h = omega (arith, h)
+
+cancelled_held : (phase : Phase) (s : DeviceState) → AreHeld s.pages → AreHeld (cancelled_in phase s).pages
+cancelled_held (AtRest c) s h = h
+cancelled_held (Between n) s h = left_held (feeds s) s.pages h
+cancelled_held (Reading pass given) s h = left_held (feeds s) s.pages h
+
+cancelled_count : (phase : Phase) (s : DeviceState) → IsPageCount (feeds s) (length s.pages) → IsPageCount (feeds s) (length (cancelled_in phase s).pages)
+cancelled_count (AtRest c) s h = h
+cancelled_count (Between n) s h = left_count (feeds s) s.pages h
+cancelled_count (Reading pass given) s h = left_count (feeds s) s.pages h
+
+stocked : (kind : DeviceKind) (tray : List page.Sheet) (n : ℕ) → length tray ≡ n → IsPageCount (is_feeder kind) n → IsStocked kind tray
+stocked Flatbed tray n e h = e ∙ h
+stocked Hand tray n e h = e ∙ h
+stocked ThreePass tray n e h = e ∙ h
+stocked Feeder tray n e h = omega (arith, e, h)
+
+shaped : (pages : List Held) → AreHeld pages → AreShaped (sheets pages)
+unfolding IsShaped
+shaped [] h = tt
+shaped (p ∷ pages) h = (h.0.shape, shaped pages h.1)
+
+fit_one : (s : DeviceState) → HasLimits s → IsFit (make_of (Some s)) (fresh_device (Some s))
+unfolding IsAllowed
+fit_one s h =
+    let c = after_cancel s in
+    record {
+      laid_down = λ _. refl;
+      allowed = defaults_allowed c.setup.scene.kind c.setup.order;
+      stocked = stocked s.setup.scene.kind (sheets c.pages) (length c.pages) (length-map c.pages (λ (held : Held). held.page)) (cancelled_count s.phase s h.count);
+      shaped = shaped c.pages (cancelled_held s.phase s (all_each IsHeld s.pages h.pages));
+    }
+
+fit_none : IsFit (make_of None) (fresh_device None)
+unfolding IsAllowed
+fit_none = record { laid_down = λ _. refl; allowed = defaults_allowed Flatbed Little; stocked = omega arith; shaped = tt }
+
+fit_at : (o : Option DeviceState) → ((s : DeviceState) → o ≡ Some s → HasLimits s) → IsFit (make_of o) (fresh_device o)
+fit_at None h = fit_none
+fit_at (Some s) h = fit_one s (h s refl)
+
+free_at : (o : Option DeviceState) → (fresh_device o).holder ≡ None
+free_at None = refl
+free_at (Some s) = refl
+
+-- ---- and true to their pages
+
+true_one : (pages : List Held) → AllByRecursion IsHeld pages → AllByRecursion (λ (held : Held). held.steady ≡ true) pages → AllByRecursion IsTrueTo pages
+true_one [] h s = tt
+true_one (p ∷ pages) h s = ((s.0, h.0.sheet s.0), true_one pages h.1 s.1)
+
+steady_true : (s : DeviceState) → IsSteady s → IsFaithful s
+steady_true s h = true_one s.pages (all_each IsHeld s.pages h.limits.pages) (all_each (λ (held : Held). held.steady ≡ true) s.pages h.steady)
+
+table_true : (devices : List DeviceState) → AllByRecursion IsSteady devices → AllByRecursion IsFaithfulPlace (fresh_table devices)
+table_true [] h = tt
+table_true (s ∷ devices) h = (cancel_true s (steady_true s h.0), table_true devices h.1)
+
+-- ---- their names
+
+table_names : (devices : List DeviceState) → map name_of devices ≡ map are_named (fresh_table devices)
+table_names [] = refl
+table_names (s ∷ devices) = ap (λ (names : List (List ℕ)). s.info.name ∷ names) (table_names devices)
+
+apart_from : (name : List ℕ) (devices : List DeviceState) (k : ℕ) (other : List ℕ) → AllByRecursion (λ (s : DeviceState). name ≢ s.info.name) devices → slice_get (map name_of devices) k ≡ Some other → name ≢ other
+apart_from name [] k other h e = absurd (cc)
+apart_from name (s ∷ devices) zero other h e = λ same. h.0 (let is : s.info.name ≡ other = cc in same ∙ sym is)
+apart_from name (s ∷ devices) (suc k) other h e = apart_from name devices k other h.1 e
+
+apart : (devices : List DeviceState) → HaveOwnNames devices → AreApart (map name_of devices)
+apart [] h j k name e f = absurd (cc)
+apart (s ∷ devices) h zero zero name e f = refl
+apart (s ∷ devices) h zero (suc k) name e f = absurd (apart_from s.info.name devices k name (all_each (λ (x : DeviceState). s.info.name ≢ x.info.name) devices h.0) f (let is : s.info.name ≡ name = cc in is))
+apart (s ∷ devices) h (suc j) zero name e f = absurd (apart_from s.info.name devices j name (all_each (λ (x : DeviceState). s.info.name ≢ x.info.name) devices h.0) e (let is : s.info.name ≡ name = cc in is))
+apart (s ∷ devices) h (suc j) (suc k) name e f = ap suc (apart devices h.1 j k name e f)
+
+-- ---- the jobs
+
+pub record IsNewAt (jobs : List Job) (i : ℕ) (p : Post) : Type 0 where
+  pub job : Job
+  pub at : slice_get jobs i ≡ Some job
+  pub new : IsNew job p
+
+new_at : (jobs : List Job) (posts : List Post) (i : ℕ) (p : Post) → AreNew jobs posts → slice_get posts i ≡ Some p → IsNewAt jobs i p
+new_at [] [] i p h e = absurd (cc)
+new_at [] (q ∷ posts) i p h e = absurd h
+new_at (job ∷ jobs) [] i p h e = absurd h
+new_at (job ∷ jobs) (q ∷ posts) zero p h e = let same : q ≡ p = cc in record { job = job; at = refl; new = subst (λ (x : Post). IsNew job x) same h.0 }
+new_at (job ∷ jobs) (q ∷ posts) (suc i) p h e = let more = new_at jobs posts i p h.1 e in record { job = more.job; at = more.at; new = more.new }
+
+as_many : (jobs : List Job) (posts : List Post) → AreNew jobs posts → length jobs ≡ length posts
+as_many [] [] h = refl
+as_many [] (q ∷ posts) h = absurd h
+as_many (job ∷ jobs) [] h = absurd h
+as_many (job ∷ jobs) (q ∷ posts) h = ap suc (as_many jobs posts h.1)
+
+-- the post of a job to which nothing has happened
+abbrev new_post : Job → Talker → Post
+new_post job c = record {
+  task = job.task;
+  client = c;
+  was_connected = false;
+  link = None;
+  is_over = false;
+  image = None;
+  file = Some [];
+  pages = no_pages;
+  finished = 0;
+  is_starved = false;
+  budget = budget_of job.task;
+}
+
+new_talks : (users : List Entry) (names : List (List ℕ)) (job : Job) (c : Talker) → IsFresh job c → Talks (place_in names) job no_past [] (fresh (rules_job users names job)) (new_post job c)
+new_talks users names job c h =
+    let made = made_alike (place_in names) job (rules_job users names job) c refl h in
+    record {
+      task = refl;
+      errand = ap (λ (v : Talker). v.errand) h.value;
+      word = ap (λ (v : Talker). v.notes.word) h.value;
+      over = λ e. absurd (let clash : true ≡ false = sym (ap (λ (v : Talker). is_running v.outcome) h.value) ∙ e in cc);
+      serves = h.serves;
+      reads = made.0;
+      idle = λ _. refl;
+      begun = λ _. inl refl;
+      files = subst (λ (b : Bool). KeepsFiles b no_past [] (new_post job c)) (sym (ap (λ (v : Talker). is_laid job.task v.outcome no_past) h.value)) (record { file = refl; each = λ k q e. absurd (let clash : None ≡ Some q = e in cc); count = refl; room = refl });
+      finished = λ k q e. absurd (let clash : None ≡ Some q = e in cc);
+    }
+
+new_means : (users : List Entry) (names : List (List ℕ)) (job : Job) (c : Talker) → IsFresh job c → Means (place_in names) job (wires_of (Some (new_post job c))) (fresh (rules_job users names job)) (new_post job c)
+new_means users names job c h =
+    let made = made_alike (place_in names) job (rules_job users names job) c refl h in
+    record {
+      linked = refl;
+      before = λ _. (refl, refl);
+      over = λ e. absurd (let clash : false ≡ true = e in cc);
+      calm = λ _. refl;
+      image = λ e. absurd (let clash : false ≡ true = e in cc);
+      last = λ im e. absurd (let clash : None ≡ Some im = e in cc);
+      first = λ _. made.1;
+      up = λ e. absurd (let clash : false ≡ true = e in cc);
+      down = λ _. refl;
+      flow = refl;
+      starved = λ e. absurd e;
+    }
+
+-- ---- the world
+
+-- nobody holds a device
+new_table : (i : ℕ) (devices : List DeviceState) → ShowsTable i (λ k. make_of (slice_get devices k)) [] (fresh_table devices) (fresh_devices devices)
+new_table i devices = registries_show i (λ k. make_of (slice_get devices k)) devices (λ k s e. record { kind = ap (λ (o : Option DeviceState). (make_of o).model) e; order = ap (λ (o : Option DeviceState). (make_of o).order) e })
+
+new_sits : (jobs : List Job) (other : Job) (devices : List DeviceState) (w : Scene) (i : ℕ) (p : Post) → IsNewDaemon devices w.daemon → IsNewAt jobs i p → slice_get w.posts i ≡ Some p → SitsAt (nothing_told jobs other devices w.daemon.users w.posts) w.daemon i p
+new_sits jobs other devices w i p d n at =
+    let users = w.daemon.users in
+    let names = map name_of devices in
+    let make = λ (k : ℕ). make_of (slice_get devices k) in
+    let device = fresh_devices devices in
+    let job_is : slice_index_or jobs i other ≡ n.job = at_index jobs i n.job other n.at in
+    subst (λ (job : Job). Sits users names job make device i (fresh (rules_job users names job)) (wires_of (slice_get w.posts i)) no_past [] w.daemon p) (sym job_is)
+    (subst (λ (o : Option Post). Sits users names n.job make device i (fresh (rules_job users names n.job)) (wires_of o) no_past [] w.daemon p) (sym at)
+    (subst (λ (x : Post). Sits users names n.job make device i (fresh (rules_job users names n.job)) (wires_of (Some x)) no_past [] w.daemon x) (sym n.new.rest) (record {
+      job_is = refl;
+      talks = new_talks users names n.job p.client n.new.client;
+      carries = record { up = refl; asking = refl; down = refl; telling = ap (λ (v : Talker). v.input.rest) n.new.client.value; image = refl };
+      means = new_means users names n.job p.client n.new.client;
+      served = (refl, subst (λ (t : Table). ShowsTable i make [] t device) (sym d.registry) (new_table i devices));
+    })))
+
+unlinked : (jobs : List Job) (i : ℕ) (p : Post) (id : SessionId) → IsNewAt jobs i p → p.link ≡ Some id → ⊥
+unlinked jobs i p id n e = let clash : None ≡ Some id = sym (ap (λ (x : Post). x.link) n.new.rest) ∙ e in absurd (cc)
+
+pub new_worlds_stand : NewWorldsStand
+new_worlds_stand jobs other devices w new d names steady =
+    let t = nothing_told jobs other devices w.daemon.users w.posts in
+    let all = all_each IsSteady devices steady in
+    record {
+      sound = beginning_sound t.rules.make t.rules.device (λ i. rules_job w.daemon.users t.names (slice_index_or jobs i other)) t.rules.places (λ k. free_at (slice_get devices k))
+          (λ k. fit_at (slice_get devices k) (λ s e. (all_there IsSteady devices k s all e).limits));
+      is_of = record {
+        count = as_many jobs w.posts new;
+        users = refl;
+        names = table_names devices ∙ ap (map are_named) (sym d.registry);
+        apart = apart devices names;
+        places = refl;
+      };
+      posts = λ i p at. new_sits jobs other devices w i p d (new_at jobs w.posts i p new at) at;
+      beyond = λ i high. record {
+        stage = refl;
+        linked = refl;
+        carriage = refl;
+        image = ap (λ (o : Option Post). (wires_of o).image) (past_end w.posts i high);
+        table = subst (λ (r : Table). ShowsTable i t.rules.make [] r t.rules.device) (sym d.registry) (new_table i devices);
+      };
+      own = λ i j a b x y at_a at_b is_x is_y same. absurd (unlinked jobs i a x (new_at jobs w.posts i a new at_a) is_x);
+      links = λ i p id at is. absurd (unlinked jobs i p id (new_at jobs w.posts i p new at) is);
+      seats = subst (λ (seats : List (Option (Seat DeviceState))). AllByRecursion (IsBelow w.daemon.opened) seats) (sym d.seats) (tt, (tt, (tt, (tt, (tt, (tt, (tt, (tt, tt))))))));
+      faithful = record {
+        lying = subst (λ (r : Table). AllByRecursion IsFaithfulPlace r) (sym d.registry) (table_true devices all);
+        lent = subst (λ (seats : List (Option (Seat DeviceState))). AllByRecursion IsFaithfulSeat seats) (sym d.seats) (tt, (tt, (tt, (tt, (tt, (tt, (tt, (tt, tt))))))));
+      };
+      begun = λ i. tt;
+    }

@@ -1,0 +1,16 @@
+pub mod Lists
+pub mod Faithful
+pub mod Minds
+pub mod Spelling
+pub mod Sees
+pub mod Changing
+pub mod Taking
+pub mod Cancelling
+pub mod Lost
+pub mod Calling
+pub mod Losing
+pub mod Unimaged
+pub mod Dialling
+pub mod Fresh
+pub mod Connecting
+pub mod Beginnings

@@ -1,0 +1,5 @@
+use Rattle.world_rules.proofs.Beginnings.{new_worlds_stand}
+use Rattle.world_rules.proofs.beginning.a_new_world_stands.Goals as goal
+
+pub returns : goal.returns
+returns c = new_worlds_stand

@@ -1,0 +1,82 @@
+-- What an event does to what stands: its steps by the rules, and the bytes that it moves.
+use Rattle.std.specs.Prelude.{ℕ, ◌≡◌, ◌≢◌, ◌<◌, ◌⊎◌, ◌++◌, true, false, Option, Some, None, IsSome, List, [], ◌∷◌}
+use Rattle.scan_rules.specs.Client.{Idle, farewell}
+use Rattle.scan_rules.specs.Daemon.{Waiting, Streaming, Ending}
+use Rattle.scan_rules.specs.Deeds as deeds
+use Rattle.scan_rules.specs.Steps.{Step, By, IsHistory, IsImaging, IsUnderWay}
+use Rattle.scan_world.specs.declared.event.Deed.{Deed}
+use Rattle.scan_world.specs.declared.event.Deed.TheVariants.{Connect, ToDaemon, ToClient, DataConnect, DataTurn, DataToClient, LoseControl, LoseImage, Cancel}
+use Rattle.world_rules.specs.Told.{Told, Wires, party, wires, wired_then}
+use Rattle.world_rules.specs.Spelled.{SpellsAsked}
+use Rattle.scan_world.specs.Worlds.{At, Scene}
+use Rattle.world_rules.specs.Stands.{Stands, woken}
+
+-- ---- when it can happen
+
+abbrev pub HasBytes : Option (List ℕ) → Type 0
+HasBytes None = ⊥
+HasBytes (Some bytes) = bytes ≢ []
+
+abbrev pub Can : Told → ℕ → Deed → Type 0
+Can t i Connect = (i < t.count) × ((party t i).mind.stage ≡ Idle)
+Can t i (ToDaemon n) = ((party t i).linked ≡ true) × ((wires t i).up ≢ []) × (0 < n)
+Can t i (ToClient n) = ((party t i).linked ≡ true) × ((wires t i).down ≢ []) × (0 < n)
+Can t i DataConnect = ((party t i).base.carriage ≡ Waiting) × IsImaging (party t i).mind.stage
+Can t i DataTurn = IsSome (wires t i).image × (((party t i).base.carriage ≡ Streaming) ⊎ ((party t i).base.carriage ≡ Ending))
+Can t i (DataToClient n) = HasBytes (wires t i).image × (0 < n)
+Can t i LoseControl = (party t i).linked ≡ true
+Can t i LoseImage = IsSome (wires t i).image × ((party t i).linked ≡ true)
+Can t i Cancel = (i < t.count) × IsUnderWay (party t i).mind.stage
+
+-- ---- what it does
+
+-- it takes these steps, and then the bytes of the job's connections are these
+pub record Takes (t : Told) (i : ℕ) (steps : List Step) (x : Wires) (u : Told) : Type 0 where
+  pub legal : IsHistory t.rules steps
+  pub then_is : u ≡ wired_then t i steps x
+
+-- no byte is on the way from the daemon any more, or to its session
+abbrev pub cut : Wires → Wires
+cut x = record x { asking = []; down = []; image = None }
+
+abbrev pub with_image : Option (List ℕ) → Wires → Wires
+with_image image x = record x { image = image }
+
+-- a session is opened for the client, or there is none for want of memory, and the connection is lost
+abbrev pub Connects : Told → ℕ → List Step → Told → Type 0
+Connects t i steps u =
+    ((steps ≡ By i deeds.Connects ∷ []) × Takes t i steps (wires t i) u)
+    ⊎ ((steps ≡ By i deeds.Connects ∷ By i (deeds.Loses true) ∷ []) × Takes t i steps (cut (wires t i)) u)
+
+abbrev pub Dials : Told → ℕ → List Step → Told → Type 0
+Dials t i steps u = (steps ≡ By i deeds.Dials ∷ []) × Takes t i steps (with_image (Some []) (wires t i)) u
+
+abbrev pub LosesControl : Told → ℕ → List Step → Told → Type 0
+LosesControl t i steps u = (steps ≡ By i (deeds.Loses false) ∷ []) × Takes t i steps (cut (wires t i)) u
+
+abbrev pub LosesImage : Told → ℕ → List Step → Told → Type 0
+LosesImage t i steps u = (steps ≡ By i (deeds.LosesImage false) ∷ []) × Takes t i steps (with_image None (wires t i)) u
+
+-- the client says farewell
+pub record GivesUp (t : Told) (i : ℕ) (steps : List Step) (u : Told) : Type 0 where
+  pub text : List ℕ
+  pub spells : SpellsAsked (t.jobs i) (party t i).mind (farewell (woken (party t i).mind.stage (party t i).mind).stage) text
+  pub steps_are : steps ≡ By i deeds.Stops ∷ []
+  pub takes : Takes t i steps (record (wires t i) { up = (wires t i).up ++ text }) u
+
+-- ---- what it leads to
+
+-- it can happen and does that, or it changes nothing
+pub record Happens (May Done : Type 0) (t : Told) (steps : List Step) (u : Told) : Type 0 where
+  pub does : May → Done
+  pub cannot : (May → ⊥) → (steps ≡ []) × (u ≡ t)
+
+-- whatever a world stands for, what the event makes of it stands for what these steps lead to
+pub record Leads (deed : Deed) (Does : Told → ℕ → List Step → Told → Type 0) (t : Told) (i : ℕ) (v : Scene) : Type 0 where
+  pub steps : List Step
+  pub then_told : Told
+  pub happens : Happens (Can t i deed) (Does t i steps then_told) t steps then_told
+  pub stands : Stands then_told v
+
+abbrev pub Follows : Deed → (Told → ℕ → List Step → Told → Type 0) → Type 0
+Follows deed Does = (t : Told) (i : ℕ) (w v : Scene) → Stands t w → At w i deed v → Leads deed Does t i v

@@ -1,0 +1,5 @@
+pub mod Told
+pub mod Spelled
+pub mod Stands
+pub mod Happens
+pub mod Beginning

@@ -1,0 +1,88 @@
+-- What stands of a world, as plain data that contracts alone see: the rules' own, and the bytes beside it.
+use Rattle.std.specs.Prelude.{ℕ, ◌==◌, ◌&&◌, if◌then◌else◌, Bool, Option, Some, None, List, [], ◌∷◌, ◌++◌, length, map, position}
+use Rattle.std.specs.List.{list_any}
+use Rattle.md5.specs.Md5.{md5}
+use Rattle.md5_auth.specs.declared.users.Entry.{Entry}
+use Rattle.device_api.specs.declared.device_info.DeviceInfo.{DeviceInfo}
+use Rattle.frame_join.specs.FrameHistory.{Past}
+use Rattle.scan_job.specs.declared.job.Job.{Job}
+use Rattle.scan_rules.specs.Words.{same_text}
+use Rattle.scan_rules.specs.Client as rules
+use Rattle.scan_rules.specs.Standing.{Party, Standing, put}
+use Rattle.scan_rules.specs.Steps.{Step, after_all}
+use Rattle.client_reading.specs.Reading.{task_of, wish_of}
+
+-- The bytes of a job's connections: what its client has written and was not delivered, and what came of it to the session behind
+-- its last whole request; the replies that were not delivered, and what came of them to the client behind the last whole one; and
+-- what is on the way on its data connection, where that stands.
+pub record Wires : Type 0 where
+  pub up : List ℕ
+  pub asking : List ℕ
+  pub down : List ℕ
+  pub telling : List ℕ
+  pub image : Option (List ℕ)
+
+-- what never changes: the users, the names of all places, and the jobs
+pub record Told : Type 0 where
+  pub rules : Standing
+  pub users : List Entry
+  pub names : List (List ℕ)
+  pub count : ℕ
+  pub jobs : ℕ → Job
+  pub wires : ℕ → Wires
+  -- what the join of a job was told and gave of the page under way, and of the pages before it
+  pub past : ℕ → Past
+  pub pages : ℕ → List Past
+
+-- ---- a job by the rules
+
+-- the place of a name; a name that no place has is read as the place behind all
+abbrev pub found : ℕ → Option ℕ → ℕ
+found n None = n
+found n (Some k) = k
+
+abbrev pub place_named : List (List ℕ) → List ℕ → ℕ
+place_named names name = found (length names) (position (λ other. same_text other name) names)
+
+abbrev pub place_in : List (List ℕ) → DeviceInfo → ℕ
+place_in names info = place_named names info.name
+
+-- what stands before the first colon of a device's name, or the name where it has none
+abbrev pub backend_of : List ℕ → List ℕ
+backend_of [] = []
+backend_of (c ∷ name) = if c == 58 then [] else c ∷ backend_of name
+
+-- some line of the users names the backend
+abbrev pub is_guarded : List Entry → List ℕ → Bool
+is_guarded users backend = list_any (λ (entry : Entry). same_text entry.backend backend) users
+
+-- some line of that user and backend has a password that gives the same digest behind the challenge
+abbrev pub is_allowed : List Entry → List ℕ → List ℕ → List ℕ → List ℕ → Bool
+is_allowed users user password backend challenge =
+    list_any (λ (entry : Entry). (same_text entry.user user && same_text entry.backend backend) && same_text (md5 (challenge ++ entry.password)) (md5 (challenge ++ password))) users
+
+abbrev pub rules_job : List Entry → List (List ℕ) → Job → rules.Job
+rules_job users names job =
+    record {
+      wants = place_named names job.device;
+      guarded = is_guarded users (backend_of job.device);
+      allows = λ challenge. is_allowed users job.user job.password (backend_of job.device) challenge;
+      settings = map wish_of job.settings.items;
+      task = task_of job.task;
+    }
+
+-- ---- what stands of one job
+
+abbrev pub party : Told → ℕ → Party
+party t i = t.rules.party i
+
+abbrev pub wires : Told → ℕ → Wires
+wires t i = t.wires i
+
+-- behind these steps, of which job i has these bytes and this history
+abbrev pub told_then : Told → ℕ → List Step → Wires → Past → List Past → Told
+told_then t i steps x past pages = record t { rules = after_all t.rules steps; wires = put t.wires i x; past = put t.past i past; pages = put t.pages i pages }
+
+-- of which job i has these bytes
+abbrev pub wired_then : Told → ℕ → List Step → Wires → Told
+wired_then t i steps x = told_then t i steps x (t.past i) (t.pages i)

@@ -1,0 +1,35 @@
+//! Events of a job. Where one can happen it is these steps of the rules, and the world stands for what they lead to; where it cannot
+//! nothing changes.
+
+ghost use Rattle.scan_world.specs.declared.event.Deed.TheVariants.{Cancel, Connect, DataConnect, LoseControl, LoseImage};
+ghost use Rattle.world_rules.specs.Happens.{Connects, Dials, Follows, GivesUp, LosesControl, LosesImage};
+
+/// A control connection is made: a session is opened for it, or, where there is none to be had, it is lost at once.
+#[tactic(none)]
+pub fn a_connection_stands()
+    ensures { Follows Connect Connects }
+{}
+
+/// The connection for a frame's data is made.
+#[tactic(none)]
+pub fn a_data_connection_stands()
+    ensures { Follows DataConnect Dials }
+{}
+
+/// A control connection is lost: the job ends, what its session holds is given back, and nothing is on the way to its client any more.
+#[tactic(none)]
+pub fn a_loss_stands()
+    ensures { Follows LoseControl LosesControl }
+{}
+
+/// A data connection is lost: a job that is under way ends, and its frame is cancelled.
+#[tactic(none)]
+pub fn a_data_loss_stands()
+    ensures { Follows LoseImage LosesImage }
+{}
+
+/// A job is given up: it ends, and its client says farewell.
+#[tactic(none)]
+pub fn a_cancel_stands()
+    ensures { Follows Cancel GivesUp }
+{}

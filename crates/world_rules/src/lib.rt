@@ -1,0 +1,11 @@
+//! What a world stands for by the rules: whatever happens to one of its jobs is by their steps.
+#![tactic(auto)]
+
+mod beginning;
+mod events;
+
+pub use beginning::a_new_world_stands;
+pub use events::{
+    a_cancel_stands, a_connection_stands, a_data_connection_stands, a_data_loss_stands,
+    a_loss_stands,
+};
