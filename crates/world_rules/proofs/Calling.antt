@@ -44,7 +44,7 @@ use Rattle.world_rules.proofs.Taking.{put_self, same_session}
 
 -- ---- names of places
 
-slot_names : (t : Table) (k : ℕ) (slot : Slot DeviceState) → map are_named (with_slot t k slot) ≡ map are_named t
+pub slot_names : (t : Table) (k : ℕ) (slot : Slot DeviceState) → map are_named (with_slot t k slot) ≡ map are_named t
 unfolding with_slot
 slot_names [] k slot = refl
 slot_names (p ∷ t) zero slot = refl

@@ -32,7 +32,7 @@ cancel_true s h = cancelled_true s.phase s h
 
 -- ---- leases and places
 
-slot_true : (t : Table) (k : ℕ) (slot : Slot DeviceState) → IsFaithfulSlot slot → AllByRecursion IsFaithfulPlace t → AllByRecursion IsFaithfulPlace (with_slot t k slot)
+pub slot_true : (t : Table) (k : ℕ) (slot : Slot DeviceState) → IsFaithfulSlot slot → AllByRecursion IsFaithfulPlace t → AllByRecursion IsFaithfulPlace (with_slot t k slot)
 unfolding with_slot
 slot_true [] k slot s h = h
 slot_true (p ∷ t) zero slot s h = (s, h.1)

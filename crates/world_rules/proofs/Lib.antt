@@ -14,3 +14,5 @@ pub mod Dialling
 pub mod Fresh
 pub mod Connecting
 pub mod Beginnings
+pub mod Finding
+pub mod Unplugging

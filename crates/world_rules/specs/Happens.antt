@@ -1,9 +1,10 @@
 -- What an event does to what stands: its steps by the rules, and the bytes that it moves.
-use Rattle.std.specs.Prelude.{ℕ, ◌≡◌, ◌≢◌, ◌<◌, ◌⊎◌, ◌++◌, true, false, Option, Some, None, IsSome, List, [], ◌∷◌}
+use Rattle.std.specs.Prelude.{ℕ, ◌≡◌, ◌≢◌, ◌<◌, ◌⊎◌, ◌++◌, true, false, Option, Some, None, IsSome, List, [], ◌∷◌, slice_get}
 use Rattle.scan_rules.specs.Client.{Idle, farewell}
 use Rattle.scan_rules.specs.Daemon.{Waiting, Streaming, Ending}
 use Rattle.scan_rules.specs.Deeds as deeds
-use Rattle.scan_rules.specs.Steps.{Step, By, IsHistory, IsImaging, IsUnderWay}
+use Rattle.scan_rules.specs.Steps.{Step, By, Unplugs, IsHistory, IsImaging, IsUnderWay, after_all}
+use Rattle.dispatch.specs.Table.{after_unplug}
 use Rattle.scan_world.specs.declared.event.Deed.{Deed}
 use Rattle.scan_world.specs.declared.event.Deed.TheVariants.{Connect, ToDaemon, ToClient, DataConnect, DataTurn, DataToClient, LoseControl, LoseImage, Cancel}
 use Rattle.world_rules.specs.Told.{Told, Wires, party, wires, wired_then}
@@ -72,11 +73,35 @@ pub record Happens (May Done : Type 0) (t : Told) (steps : List Step) (u : Told)
   pub cannot : (May → ⊥) → (steps ≡ []) × (u ≡ t)
 
 -- whatever a world stands for, what the event makes of it stands for what these steps lead to
-pub record Leads (deed : Deed) (Does : Told → ℕ → List Step → Told → Type 0) (t : Told) (i : ℕ) (v : Scene) : Type 0 where
+pub record LeadsTo (May : Type 0) (Does : List Step → Told → Type 0) (t : Told) (v : Scene) : Type 0 where
   pub steps : List Step
   pub then_told : Told
-  pub happens : Happens (Can t i deed) (Does t i steps then_told) t steps then_told
+  pub happens : Happens May (Does steps then_told) t steps then_told
   pub stands : Stands then_told v
+
+abbrev pub Leads : Deed → (Told → ℕ → List Step → Told → Type 0) → Told → ℕ → Scene → Type 0
+Leads deed Does t i v = LeadsTo (Can t i deed) (Does t i) t v
 
 abbrev pub Follows : Deed → (Told → ℕ → List Step → Told → Type 0) → Type 0
 Follows deed Does = (t : Told) (i : ℕ) (w v : Scene) → Stands t w → At w i deed v → Leads deed Does t i v
+
+-- ---- what comes to a device
+
+-- the place of that name has a device that is listed and that nobody holds
+pub record CanUnplug (t : Told) (name : List ℕ) : Type 0 where
+  pub place : ℕ
+  pub named : slice_get t.names place ≡ Some name
+  pub listed : (t.rules.device place).listed ≡ true
+  pub free : (t.rules.device place).holder ≡ None
+
+-- it is listed no more
+pub record TakesOut (t : Told) (name : List ℕ) (steps : List Step) (u : Told) : Type 0 where
+  pub place : ℕ
+  pub named : slice_get t.names place ≡ Some name
+  pub steps_are : steps ≡ Unplugs place ∷ []
+  pub legal : IsHistory t.rules steps
+  pub then_is : u ≡ record t { rules = after_all t.rules steps }
+
+abbrev pub UnplugsFollow : Type 0
+UnplugsFollow =
+    (t : Told) (w : Scene) (name : List ℕ) → Stands t w → LeadsTo (CanUnplug t name) (TakesOut t name) t (record w { daemon = record w.daemon { registry = after_unplug w.daemon.registry name } })

@@ -2,9 +2,11 @@
 #![tactic(auto)]
 
 mod beginning;
+mod devices;
 mod events;
 
 pub use beginning::a_new_world_stands;
+pub use devices::an_unplug_stands;
 pub use events::{
     a_cancel_stands, a_connection_stands, a_data_connection_stands, a_data_loss_stands,
     a_loss_stands,

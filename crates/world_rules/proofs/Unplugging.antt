@@ -1,0 +1,219 @@
+-- A device is taken out.
+use Rattle.std.proofs.Common.{◌≡◌, ◌≢◌, ◌⊎◌, inl, inr, ◌∙◌, ℕ, List, [], ◌∷◌, Option, Some, None, Bool, true, false, refl, sym, ap, subst, map, length, slice_get, arith}
+use Rattle.std.specs.Prelude.{Ok}
+use Rattle.device_api.specs.State.{DeviceState}
+use Rattle.dispatch.specs.declared.table.place.Lease.{Lease}
+use Rattle.dispatch.specs.declared.table.place.Place.{Place}
+use Rattle.dispatch.specs.declared.table.place.Slot.{Slot}
+use Rattle.dispatch.specs.declared.table.place.Slot.TheVariants.{In, Out, Gone}
+use Rattle.dispatch.specs.Table.{Table, after_unplug, find_name, unplug_answer, unplug_at, unplug_of, unplugged_at, unplugged_of, with_slot}
+use Rattle.saned_desk.specs.declared.session.Awaited.{Awaited}
+use Rattle.saned_desk.specs.Holding.{held_by}
+use Rattle.saned_desk.specs.Rules.{Desk}
+use Rattle.saned_core.specs.declared.seat.SessionId.{SessionId}
+use Rattle.saned_core.specs.State.{Core}
+use Rattle.scan_rules.specs.Words.{Challenge}
+use Rattle.scan_rules.specs.Devices.{Make}
+use Rattle.scan_rules.specs.Scanners.{Device, is_held_by}
+use Rattle.scan_rules.specs.Standing.{Party, put}
+use Rattle.scan_rules.specs.Sessions.{Session, one_word}
+use Rattle.scan_rules.specs.Steps.{IsHistory, Unplugs, after_all, unplugged}
+use Rattle.scan_rules.proofs.Promised.{sound_after_all}
+use Rattle.desk_rules.specs.Reading.{IsAwaited, Shows, ShowsPlace, ShowsSlot, ShowsTable}
+use Rattle.desk_rules.specs.Cores.{ShowsSession}
+use Rattle.desk_rules.proofs.Changes.{Held}
+use Rattle.desk_rules.proofs.Moved.{put_elsewhere, put_there, unsome}
+use Rattle.desk_rules.proofs.Opening.{found_slot, held_there}
+use Rattle.desk_rules.proofs.Others.{IsThere}
+use Rattle.desk_rules.proofs.Tables.{unplugs_agree}
+use Rattle.scan_world.specs.Worlds.{Scene}
+use Rattle.world_rules.specs.Told.{Told}
+use Rattle.world_rules.specs.Stands.{AreApart, IsServed, Stands, are_named, session_by}
+use Rattle.world_rules.specs.Happens.{CanUnplug, LeadsTo, TakesOut, UnplugsFollow}
+use Rattle.world_rules.proofs.Calling.{slot_names}
+use Rattle.world_rules.proofs.Faithful.{slot_true}
+use Rattle.world_rules.proofs.Finding.{find_there, found_place, names_at, names_out}
+use Rattle.world_rules.proofs.Lists.{is_same}
+
+-- ---- what is taken out
+
+-- the place of that name, whose device is in
+pub record IsIn (registry : Table) (name : List ℕ) : Type 0 where
+  pub place : ℕ
+  pub at : Place DeviceState
+  pub state : DeviceState
+  pub found : find_name name registry ≡ Some place
+  pub is_at : slice_get registry place ≡ Some at
+  pub is_in : at.slot ≡ In state
+
+answer_in : (registry : Table) (name : List ℕ) → (h : IsIn registry name) → unplug_answer registry name ≡ Ok h.state
+unfolding unplug_answer
+answer_in registry name h = ap (unplug_at registry) h.found ∙ ap unplug_of (held_there registry h.place h.at (In h.state) h.is_at h.is_in)
+
+after_in : (registry : Table) (name : List ℕ) → (h : IsIn registry name) → after_unplug registry name ≡ with_slot registry h.place Gone
+unfolding after_unplug
+after_in registry name h = ap (unplugged_at registry) h.found ∙ ap (unplugged_of registry h.place) (held_there registry h.place h.at (In h.state) h.is_at h.is_in)
+
+abbrev out_of : (ℕ → Device) → ℕ → ℕ → Device
+out_of table d = put table d (unplugged (table d))
+
+table_out : (i : ℕ) (make : ℕ → Make) (held : Held) (registry : Table) (table : ℕ → Device) (name : List ℕ) → (h : IsIn registry name) → ShowsTable i make held registry table → ShowsTable i make held (with_slot registry h.place Gone) (out_of table h.place)
+table_out i make held registry table name h shows =
+    let u = unplugs_agree i make held registry table name h.state shows (answer_in registry name h) in
+    subst (λ (t : Table). ShowsTable i make held t (out_of table h.place)) (after_in registry name h)
+    (subst (λ (k : ℕ). ShowsTable i make held (after_unplug registry name) (out_of table k)) (unsome u.place h.place (sym u.named ∙ h.found)) u.shows)
+
+-- ---- the sessions
+
+awaited_out : (registry : Table) (name : List ℕ) (held : Held) (table : ℕ → Device) (a : Option Awaited) (sent : Option (Challenge × ℕ)) → (h : IsIn registry name) → AreApart (map are_named registry) → IsAwaited held registry table a sent → IsAwaited held (with_slot registry h.place Gone) (out_of table h.place) a sent
+awaited_out registry name held table None sent h apart is = is
+awaited_out registry name held table (Some a) None h apart is = absurd is
+awaited_out registry name held table (Some a) (Some sent) h apart is = (names_out registry a.name h.place sent.1 h.at table (find_name a.name (with_slot registry h.place Gone)) refl apart h.is_at is.0, is.1)
+
+holder_out : (table : ℕ → Device) (d k : ℕ) → (k ≡ d) ⊎ (k ≢ d) → (out_of table d k).holder ≡ (table k).holder
+holder_out table d k (inl e) = subst (λ (x : ℕ). (out_of table d x).holder ≡ (table x).holder) (sym e) (ap (λ (x : Device). x.holder) (put_there table d (unplugged (table d))))
+holder_out table d k (inr n) = ap (λ (x : Device). x.holder) (put_elsewhere table d (unplugged (table d)) k n)
+
+ruled_out : (j : ℕ) (table : ℕ → Device) (d : ℕ) (p : Party) → session_by j (out_of table d) p ≡ session_by j table p
+ruled_out j table d p = ap (λ (x : Option ℕ). one_word (is_held_by j x) p.base.job.wants p.base.carriage p.base.awaited) (holder_out table d p.base.job.wants (is_same p.base.job.wants d))
+
+shows_out : (j : ℕ) (make : ℕ → Make) (d : Desk) (table : ℕ → Device) (s : Session) (name : List ℕ) → (h : IsIn d.registry name) → AreApart (map are_named d.registry) → Shows j make d table s → Shows j make (record d { registry = with_slot d.registry h.place Gone }) (out_of table h.place) s
+shows_out j make d table s name h apart shows =
+    record {
+      words = shows.words;
+      four = shows.four;
+      carriage = shows.carriage;
+      frame = shows.frame;
+      awaited = awaited_out d.registry name d.session.held table d.session.awaited s.awaited h apart shows.awaited;
+      devices = table_out j make d.session.held d.registry table name h shows.devices;
+    }
+
+abbrev core_out : Core → ℕ → Core
+core_out d k = record d { registry = with_slot d.registry k Gone }
+
+served_out : (j : ℕ) (make : ℕ → Make) (d : Core) (link : Option SessionId) (served : Bool) (table : ℕ → Device) (p : Party) (name : List ℕ) → (h : IsIn d.registry name) → AreApart (map are_named d.registry) → IsServed j make d link served table (session_by j table p) →
+    IsServed j make (core_out d h.place) link served (out_of table h.place) (session_by j (out_of table h.place) p)
+served_out j make d None true table p name h apart is = absurd is
+served_out j make d (Some id) true table p name h apart is =
+    subst (λ (s : Session). ShowsSession j make (core_out d h.place) id.number (out_of table h.place) s) (sym (ruled_out j table h.place p))
+    (record { session = is.session; stands = is.stands; shows = shows_out j make _ table _ name h apart is.shows; begun = is.begun })
+served_out j make d None false table p name h apart is = (refl, table_out j make [] d.registry table name h is.1)
+served_out j make d (Some id) false table p name h apart is = (is.0, table_out j make [] d.registry table name h is.1)
+
+-- ---- the world
+
+-- what nobody sees of the device: it is listed, and nobody holds it
+listed_in : (i : ℕ) (make : Make) (k : ℕ) (dev : Device) (p : Place DeviceState) (s : DeviceState) → p.slot ≡ In s → ShowsSlot i make [] k dev p.info.name p.slot → (dev.listed ≡ true) × (dev.holder ≡ None)
+listed_in i make k dev p s e h =
+    let shown : ShowsSlot i make [] k dev p.info.name (In s) = subst (λ (slot : Slot DeviceState). ShowsSlot i make [] k dev p.info.name slot) e h in
+    (ap (λ (x : Device). x.listed) shown.0, ap (λ (x : Device). x.holder) shown.0)
+
+out_stands : (t : Told) (w : Scene) (name : List ℕ) → Stands t w → (d : IsIn w.daemon.registry name) → LeadsTo (CanUnplug t name) (TakesOut t name) t (record w { daemon = core_out w.daemon d.place })
+out_stands t w name h d =
+    let n = length w.posts in
+    let apart : AreApart (map are_named w.daemon.registry) = subst AreApart h.is_of.names h.is_of.apart in
+    let view : ShowsPlace n (t.rules.make d.place) [] d.place (t.rules.device d.place) (Some d.at) = subst (λ (o : Option (Place DeviceState)). ShowsPlace n (t.rules.make d.place) [] d.place (t.rules.device d.place) o) d.is_at ((h.beyond n (omega arith)).table.places d.place) in
+    let seen = listed_in n (t.rules.make d.place) d.place (t.rules.device d.place) d.at d.state d.is_in view in
+    let f = found_place w.daemon.registry name d.place d.found in
+    let named : slice_get t.names d.place ≡ Some name = ap (λ (names : List (List ℕ)). slice_get names d.place) h.is_of.names ∙ (names_at w.daemon.registry d.place f.place f.at ∙ ap (λ (x : List ℕ). Some x) f.name_is) in
+    let steps = Unplugs d.place ∷ [] in
+    let legal : IsHistory t.rules steps = (seen, tt) in
+    record {
+      steps = steps;
+      then_told = record t { rules = after_all t.rules steps };
+      happens = record {
+        does = λ _. record { place = d.place; named = named; steps_are = refl; legal = legal; then_is = refl };
+        cannot = λ never. absurd (never (record { place = d.place; named = named; listed = seen.0; free = seen.1 }));
+      };
+      stands = record {
+        sound = sound_after_all t.rules steps h.sound legal;
+        is_of = record {
+          count = h.is_of.count;
+          users = h.is_of.users;
+          names = h.is_of.names ∙ sym (slot_names w.daemon.registry d.place Gone);
+          apart = h.is_of.apart;
+          places = h.is_of.places;
+        };
+        posts = λ j post at.
+            let s = h.posts j post at in
+            record {
+              job_is = s.job_is;
+              talks = s.talks;
+              carries = s.carries;
+              means = s.means;
+              served = served_out j t.rules.make w.daemon post.link (t.rules.party j).served t.rules.device (t.rules.party j) name d apart s.served;
+            };
+        beyond = λ j high. let b = h.beyond j high in record { stage = b.stage; linked = b.linked; carriage = b.carriage; image = b.image; table = table_out j t.rules.make [] w.daemon.registry t.rules.device name d b.table };
+        own = h.own;
+        links = h.links;
+        seats = h.seats;
+        faithful = record { lying = slot_true w.daemon.registry d.place Gone tt h.faithful.lying; lent = h.faithful.lent };
+        begun = h.begun;
+      };
+    }
+
+-- ---- where it is refused
+
+nothing : (w : ℕ) (l : Lease DeviceState) → held_by [] w ≡ Some l → ⊥
+unfolding held_by
+nothing w l e = let clash : None ≡ Some l = e in absurd (cc)
+
+-- a device that may be taken out is in
+slot_in : (i : ℕ) (make : Make) (k : ℕ) (dev : Device) (name : List ℕ) (slot : Slot DeviceState) → dev.listed ≡ true → dev.holder ≡ None → ShowsSlot i make [] k dev name slot → (s : DeviceState) × (slot ≡ In s)
+slot_in i make k dev name Gone listed free h = absurd (let clash : false ≡ true = sym h.0 ∙ listed in cc)
+slot_in i make k dev name (In s) listed free h = (s, refl)
+slot_in i make k dev name Out listed free (is, inl holds) = absurd (nothing holds.word holds.lease holds.stands)
+slot_in i make k dev name Out listed free (is, inr away) = absurd (let clash : None ≡ Some away.other = sym free ∙ away.holder in cc)
+
+place_in : (t : Told) (w : Scene) (name : List ℕ) (can : CanUnplug t name) (o : Option (Place DeviceState)) → Stands t w → slice_get w.daemon.registry can.place ≡ o → ShowsPlace (length w.posts) (t.rules.make can.place) [] can.place (t.rules.device can.place) o → IsIn w.daemon.registry name
+place_in t w name can None h e view = absurd (let clash : false ≡ true = sym view.0 ∙ can.listed in cc)
+place_in t w name can (Some p) h e view =
+    let s = slot_in (length w.posts) (t.rules.make can.place) can.place (t.rules.device can.place) p.info.name p.slot can.listed can.free view in
+    let named : Some p.info.name ≡ Some name = sym (names_at w.daemon.registry can.place p e) ∙ (ap (λ (names : List (List ℕ)). slice_get names can.place) (sym h.is_of.names) ∙ can.named) in
+    record {
+      place = can.place;
+      at = p;
+      state = s.0;
+      found = find_there w.daemon.registry name can.place p (subst AreApart h.is_of.names h.is_of.apart) e (unsome p.info.name name named) (subst IsThere (sym s.1) tt);
+      is_at = e;
+      is_in = s.1;
+    }
+
+refused : (t : Told) (w : Scene) (name : List ℕ) → Stands t w → after_unplug w.daemon.registry name ≡ w.daemon.registry → (IsIn w.daemon.registry name → ⊥) → LeadsTo (CanUnplug t name) (TakesOut t name) t (record w { daemon = record w.daemon { registry = after_unplug w.daemon.registry name } })
+refused t w name h same never =
+    subst (λ (r : Table). LeadsTo (CanUnplug t name) (TakesOut t name) t (record w { daemon = record w.daemon { registry = r } })) (sym same)
+    (record {
+      steps = [];
+      then_told = t;
+      happens = record { does = λ can. absurd (never (place_in t w name can (slice_get w.daemon.registry can.place) h refl ((h.beyond (length w.posts) (omega arith)).table.places can.place))); cannot = λ _. (refl, refl) };
+      stands = h;
+    })
+
+-- ---- the event
+
+taken_out : (t : Told) (w : Scene) (name : List ℕ) → Stands t w → IsIn w.daemon.registry name → LeadsTo (CanUnplug t name) (TakesOut t name) t (record w { daemon = record w.daemon { registry = after_unplug w.daemon.registry name } })
+taken_out t w name h d = subst (λ (r : Table). LeadsTo (CanUnplug t name) (TakesOut t name) t (record w { daemon = record w.daemon { registry = r } })) (sym (after_in w.daemon.registry name d)) (out_stands t w name h d)
+
+unknown : (registry : Table) (name : List ℕ) → find_name name registry ≡ None → after_unplug registry name ≡ registry
+unfolding after_unplug
+unknown registry name e = ap (unplugged_at registry) e
+
+out_already : (registry : Table) (name : List ℕ) (k : ℕ) (p : Place DeviceState) → find_name name registry ≡ Some k → slice_get registry k ≡ Some p → p.slot ≡ Out → after_unplug registry name ≡ registry
+unfolding after_unplug
+out_already registry name k p e at out = ap (unplugged_at registry) e ∙ ap (unplugged_of registry k) (held_there registry k p Out at out)
+
+by_slot : (t : Told) (w : Scene) (name : List ℕ) (k : ℕ) (p : Place DeviceState) → Stands t w → find_name name w.daemon.registry ≡ Some k → slice_get w.daemon.registry k ≡ Some p → ((s : DeviceState) × (p.slot ≡ In s)) ⊎ (p.slot ≡ Out) →
+    LeadsTo (CanUnplug t name) (TakesOut t name) t (record w { daemon = record w.daemon { registry = after_unplug w.daemon.registry name } })
+by_slot t w name k p h e at (inl s) = taken_out t w name h (record { place = k; at = p; state = s.0; found = e; is_at = at; is_in = s.1 })
+by_slot t w name k p h e at (inr out) =
+    refused t w name h (out_already w.daemon.registry name k p e at out) (λ d.
+    let place : d.place ≡ k = unsome d.place k (sym d.found ∙ e) in
+    let same : d.at ≡ p = unsome d.at p (sym d.is_at ∙ (ap (slice_get w.daemon.registry) place ∙ at)) in
+    let clash : In d.state ≡ Out = sym d.is_in ∙ (ap (λ (x : Place DeviceState). x.slot) same ∙ out) in absurd (cc))
+
+by_name : (t : Told) (w : Scene) (name : List ℕ) (o : Option ℕ) → Stands t w → find_name name w.daemon.registry ≡ o → LeadsTo (CanUnplug t name) (TakesOut t name) t (record w { daemon = record w.daemon { registry = after_unplug w.daemon.registry name } })
+by_name t w name None h e = refused t w name h (unknown w.daemon.registry name e) (λ d. let clash : None ≡ Some d.place = sym e ∙ d.found in absurd (cc))
+by_name t w name (Some k) h e = let f = found_slot name w.daemon.registry k e in by_slot t w name k f.place h e f.at f.slot
+
+pub unplugs_follow : UnplugsFollow
+unplugs_follow t w name h = by_name t w name (find_name name w.daemon.registry) h refl
