@@ -16,3 +16,4 @@ pub mod Connecting
 pub mod Beginnings
 pub mod Finding
 pub mod Unplugging
+pub mod Promised
