@@ -17,3 +17,4 @@ pub mod Beginnings
 pub mod Finding
 pub mod Unplugging
 pub mod Promised
+pub mod Paged

@@ -4,7 +4,7 @@ use Rattle.std.specs.List.{AllByRecursion}
 use Rattle.std.proofs.Common.{◌≡◌, ◌≢◌, ◌∙◌, ℕ, List, [], ◌∷◌, ◌++◌, Option, Some, Bool, true, false, refl, sym, ap, subst, map, slice_get}
 use Rattle.netpbm.specs.Pnm.{Denotes}
 use Rattle.page_picture.specs.Page.{IsSheet}
-use Rattle.page_picture.specs.Shows.{Frame, ShowsFrames}
+use Rattle.page_picture.specs.Shows.{Frame}
 use Rattle.device_api.specs.InForce as devices
 use Rattle.frame_join.specs.FrameHistory.{Past, is_joined}
 use Rattle.scan_job.specs.declared.job.Task.{Task}
@@ -24,6 +24,7 @@ use Rattle.scan_rules.specs.InForce as ruled
 use Rattle.scan_rules.specs.Scanners.{Begin}
 use Rattle.scan_rules.specs.Settings.{pair_of}
 use Rattle.scan_rules.specs.Standing.{make_for}
+use Rattle.scan_rules.specs.Sync.{IsPicture}
 use Rattle.scan_rules.proofs.Meaning.{pictures_meant}
 use Rattle.scan_rules.proofs.Promised.{done_allowed, ends_caused, lists_right, scans_right, settings_answered}
 use Rattle.scan_rules.proofs.SameSettings.{settings_same}
@@ -35,8 +36,8 @@ use Rattle.scan_world.specs.Deeds.{is_done}
 use Rattle.scan_world.specs.Draining.{Keeps}
 use Rattle.scan_world.specs.Worlds.{Scene}
 use Rattle.world_rules.specs.Told.{Told, place_in}
-use Rattle.world_rules.specs.Stands.{KeepsFiles, Stands, is_laid, woken}
-use Rattle.world_rules.specs.Promises.{HasCause, IsOutcome, KeepsPromise, OutcomesAreRight, ScansAreMeant}
+use Rattle.world_rules.specs.Stands.{IsFinished, KeepsFiles, Stands, is_laid, woken}
+use Rattle.world_rules.specs.Promises.{HasCause, IsMeant, IsOutcome, KeepsPromise, OutcomesAreRight, ScansAreMeant}
 use Rattle.world_rules.proofs.Minds.{under_by, woken_under}
 
 -- ---- a mind that is over is the rules' own
@@ -118,6 +119,25 @@ not_laid : (task : Task) (o : Outcome) (past : Past) (b : Bool) → is_done o �
 not_laid task o past true e n = ap (λ (x : Bool). cond x (cond (is_batch task) (is_joined past.ended) false) false) e ∙ ap (λ (x : Bool). cond x (is_joined past.ended) false) n
 not_laid task o past false e n = ap (λ (x : Bool). cond x (cond (is_batch task) (is_joined past.ended) false) false) e
 
+-- the file of a finished page denotes what the settings mean on the page of its start
+pub meant_by : (t : Told) (w : Scene) (i : ℕ) (post : Post) (begin : Begin) (q : Past) (file : List ℕ) → Stands t w → slice_get w.posts i ≡ Some post → IsPicture (make_for t.rules i) (t.rules.party i).base.job.settings begin q.ended → IsSheet begin.page → IsFinished q → file ≡ q.given →
+    IsMeant (make_for t.rules i) (t.jobs i).settings.items begin file
+meant_by t w i post begin q file h at picture sheet finished given =
+    let s = h.posts i post at in
+    let me = t.rules.party i in
+    let k = make_for t.rules i in
+    let meant = pictures_meant k me.base.job.settings begin q.ended picture sheet in
+    let settings : me.base.job.settings ≡ map wish_of (t.jobs i).settings.items = ap (λ (x : rules.Job). x.settings) s.job_is in
+    let in_force : option_map (λ r. r.0) (devices.in_force k.model k.order (t.jobs i).settings.items) ≡ Some begin.options =
+    ap (λ (x : List (List ℕ × List ℕ)). option_map (λ r. r.0) (devices.in_force k.model k.order x)) (sym (ap (map pair_of) settings ∙ same_pairs (t.jobs i).settings.items))
+    ∙ (sym (settings_same k me.base.job.settings) ∙ ap (option_map (λ (f : ruled.Forced). f.options)) picture.0.1) in
+    record {
+      picture = meant.0;
+      in_force = in_force;
+      meant = meant.1;
+      denotes = subst (λ (x : List ℕ). Denotes x meant.0) (sym given) (finished.denotes meant.0 meant.2);
+    }
+
 pub scans_are_meant : ScansAreMeant
 scans_are_meant t w i post reports file h at scan done kept =
     let s = h.posts i post at in
@@ -133,22 +153,11 @@ scans_are_meant t w i post reports file h at scan done kept =
     let all : frames ∷ [] ≡ wholes past.ended = sym c.4 ∙ (ap (λ (m : Mind). m.pages) (sym same) ∙ (s.talks.reads.files.all ∙ ap (λ (pages : List Past). map (λ (q : Past). q.ended) pages ++ wholes past.ended) none)) in
     let whole = only_whole (is_joined past.ended) past.ended frames refl (sym all) in
     let sheet : IsSheet begin.page = (subst (λ (x : List Begin). AllByRecursion (λ (b : Begin). IsSheet b.page) x) c.3 (h.begun i)).0 in
-    let meant = pictures_meant k me.base.job.settings begin frames c.5 sheet in
-    let finished = s.talks.done (ap is_done done) whole.0 in
     let files = subst (λ (b : Bool). KeepsFiles b past (t.pages i) post) (not_laid (t.jobs i).task post.client.outcome past (is_done post.client.outcome) refl (no_batch (t.jobs i).task scan)) s.talks.files in
     let given : file ≡ past.given = subst (λ (x : Option (List ℕ)). Keeps post.is_starved past.given x) kept files.file in
-    let settings : me.base.job.settings ≡ map wish_of (t.jobs i).settings.items = ap (λ (x : rules.Job). x.settings) s.job_is in
-    let in_force : option_map (λ r. r.0) (devices.in_force k.model k.order (t.jobs i).settings.items) ≡ Some begin.options =
-    ap (λ (x : List (List ℕ × List ℕ)). option_map (λ r. r.0) (devices.in_force k.model k.order x)) (sym (ap (map pair_of) settings ∙ same_pairs (t.jobs i).settings.items))
-    ∙ (sym (settings_same k me.base.job.settings) ∙ ap (option_map (λ (f : ruled.Forced). f.options)) c.5.0.1) in
     record {
       begin = begin;
       later = c.1;
       started = c.3;
-      meant = record {
-        picture = meant.0;
-        in_force = in_force;
-        meant = meant.1;
-        denotes = subst (λ (x : List ℕ). Denotes x meant.0) (sym given) (finished.denotes meant.0 (subst (λ (x : List Frame). ShowsFrames x meant.0) (sym whole.1) meant.2));
-      };
+      meant = meant_by t w i post begin past file h at (subst (λ (x : List Frame). IsPicture k me.base.job.settings begin x) (sym whole.1) c.5) sheet (s.talks.done (ap is_done done) whole.0) given;
     }

@@ -1,5 +1,5 @@
 -- What is promised of a job's outcome and of its file, of whatever a world stands for.
-use Rattle.std.specs.Prelude.{ℕ, ◌≡◌, ◌≢◌, Some, option_map, List, ◌∷◌, map, slice_get}
+use Rattle.std.specs.Prelude.{◌<◌, ℕ, ◌≡◌, ◌≢◌, Some, option_map, List, ◌∷◌, map, slice_get}
 use Rattle.sane_fixed.specs.declared.status.Status.{Status as Code}
 use Rattle.netpbm.specs.Picture.{Picture}
 use Rattle.netpbm.specs.Pnm.{Denotes}
@@ -78,3 +78,13 @@ pub record HasScanned (t : Told) (i : ℕ) (file : List ℕ) : Type 0 where
 abbrev pub ScansAreMeant : Type 0
 ScansAreMeant =
     (t : Told) (w : Scene) (i : ℕ) (post : Post) (reports : Reports) (file : List ℕ) → Stands t w → slice_get w.posts i ≡ Some post → (t.jobs i).task ≡ tasks.Scan → post.client.outcome ≡ Done reports → post.file ≡ Some file → HasScanned t i file
+
+-- page k of a batch, from 0, is that of its k-th start
+pub record HasScannedPage (t : Told) (i k : ℕ) (file : List ℕ) : Type 0 where
+  pub begin : Begin
+  pub started : slice_get (party t i).base.started k ≡ Some begin
+  pub meant : IsMeant (make_for t.rules i) (t.jobs i).settings.items begin file
+
+abbrev pub PagesAreMeant : Type 0
+PagesAreMeant =
+    (t : Told) (w : Scene) (i k : ℕ) (post : Post) (file : List ℕ) → Stands t w → slice_get w.posts i ≡ Some post → k < post.finished → slice_get post.pages k ≡ Some (Some file) → HasScannedPage t i k file

@@ -12,4 +12,4 @@ pub use events::{
     a_cancel_stands, a_connection_stands, a_data_connection_stands, a_data_loss_stands,
     a_loss_stands,
 };
-pub use promises::{a_scan_is_meant, outcomes_are_right};
+pub use promises::{a_scan_is_meant, outcomes_are_right, pages_are_meant};

@@ -1,6 +1,6 @@
 //! What is promised of jobs, of whatever a world stands for.
 
-ghost use Rattle.world_rules.specs.Promises.{OutcomesAreRight, ScansAreMeant};
+ghost use Rattle.world_rules.specs.Promises.{OutcomesAreRight, PagesAreMeant, ScansAreMeant};
 
 /// A job that runs is under way; one that is done kept its promise on its settings, on permission and on its list; one that ended
 /// otherwise has its cause.
@@ -13,4 +13,11 @@ pub fn outcomes_are_right()
 #[tactic(none)]
 pub fn a_scan_is_meant()
     ensures { ScansAreMeant }
+{}
+
+/// Whatever became of a batch, the file of each page that it finished denotes the picture that its settings mean on the page of
+/// the start of that number.
+#[tactic(none)]
+pub fn pages_are_meant()
+    ensures { PagesAreMeant }
 {}
