@@ -31,6 +31,7 @@ use Rattle.desk_rules.specs.Cores.{fresh_device, fresh_devices}
 use Rattle.desk_rules.proofs.Beginning.{registries_show}
 use Rattle.scan_world.specs.declared.post.Post.{Post}
 use Rattle.scan_world.specs.Posts.{IsNew, budget_of, no_pages}
+use Rattle.scan_world.specs.Deeds.{is_done}
 use Rattle.scan_world.specs.Worlds.{AreNew, Scene}
 use Rattle.world_rules.specs.Told.{place_in, rules_job}
 use Rattle.world_rules.specs.Stands.{AreApart, IsBelow, IsFaithful, IsFaithfulPlace, IsFaithfulSeat, IsTrueTo, KeepsFiles, Means, Sits, SitsAt, Talks, are_named, is_laid}
@@ -199,6 +200,8 @@ new_talks users names job c h =
       begun = λ _. inl refl;
       files = subst (λ (b : Bool). KeepsFiles b no_past [] (new_post job c)) (sym (ap (λ (v : Talker). is_laid job.task v.outcome no_past) h.value)) (record { file = refl; each = λ k q e. absurd (let clash : None ≡ Some q = e in cc); count = refl; room = refl });
       finished = λ k q e. absurd (let clash : None ≡ Some q = e in cc);
+      alone = λ _. refl;
+      done = λ e joined. absurd (let clash : false ≡ true = sym (ap (λ (v : Talker). is_done v.outcome) h.value) ∙ e in cc);
     }
 
 new_means : (users : List Entry) (names : List (List ℕ)) (job : Job) (c : Talker) → IsFresh job c → Means (place_in names) job (wires_of (Some (new_post job c))) (fresh (rules_job users names job)) (new_post job c)

@@ -119,6 +119,8 @@ talks_stopped place job past pages p old out h runs c s =
       files = let f = subst (λ (b : Bool). KeepsFiles b past pages old) (laid_not job.task old.client.outcome past (not_done old.client.outcome runs)) h.files in
           record { file = f.file; each = f.each; count = f.count; room = f.room };
       finished = h.finished;
+      alone = h.alone;
+      done = λ e joined. absurd (let clash : false ≡ true = e in cc);
     }
 
 -- nothing flows to a job that is over

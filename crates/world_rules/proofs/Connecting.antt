@@ -86,6 +86,8 @@ talks_linked place job past pages p old id e h =
       begun = λ clash. absurd (let different : true ≡ false = clash in cc);
       files = files_same (is_laid job.task old.client.outcome past) past pages old id h.files;
       finished = h.finished;
+      alone = h.alone;
+      done = h.done;
     }
   where
     files_same : (b : Bool) (past : Past) (pages : List Past) (old : Post) (id : SessionId) → KeepsFiles b past pages old → KeepsFiles b past pages (linked id (spent old))

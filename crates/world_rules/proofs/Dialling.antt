@@ -225,6 +225,8 @@ talks_dialled place job past pages p old h =
       begun = h.begun;
       files = let f = h.files in files_same (is_laid job.task old.client.outcome past) past pages old f;
       finished = h.finished;
+      alone = h.alone;
+      done = h.done;
     }
   where
     files_same : (b : Bool) (past : Past) (pages : List Past) (old : Post) → KeepsFiles b past pages old → KeepsFiles b past pages (posts.dialled (spent old))

@@ -16,3 +16,5 @@ pub mod Connecting
 pub mod Beginnings
 pub mod Finding
 pub mod Unplugging
+pub mod Promised
+pub mod Paged

@@ -27,6 +27,7 @@ use Rattle.scan_rules.specs.Standing.{Base, Party}
 use Rattle.client_reading.specs.Reading.{Reads}
 use Rattle.client_reading.proofs.Calling.{lost_alike}
 use Rattle.scan_world.specs.declared.post.Post.{Post}
+use Rattle.scan_world.specs.Deeds.{is_done}
 use Rattle.scan_world.specs.Draining.{HasFiles, Keeps}
 use Rattle.world_rules.specs.Stands.{KeepsFiles, Talks, is_laid, woken}
 use Rattle.world_rules.proofs.Minds.{run_is, runs_under, stopped_over, stopped_woken, stops_idle, stops_over}
@@ -73,6 +74,10 @@ if_serves false c past runs h = h
 laid_if : (b : Bool) (task : Task) (c : Talker) (past : Past) → (b ≡ true → is_running c.outcome ≡ true) → is_laid task (ends_if b c).outcome past ≡ is_laid task c.outcome past
 laid_if true task c past runs = ap (λ (o : Outcome). is_laid task o past) (sym (run_is c.outcome (runs refl)))
 laid_if false task c past runs = refl
+
+done_if : (b : Bool) (c : Talker) → is_done (ends_if b c).outcome ≡ true → is_done c.outcome ≡ true
+done_if true c e = absurd (let clash : false ≡ true = e in cc)
+done_if false c e = e
 
 -- ---- how it reads
 
@@ -138,4 +143,6 @@ talks_lost place job past pages p base old new link b e n same l h q mind base_i
       begun = λ _. inr (λ u. stops_over IoError Lost p.mind.stage (subst IsUnderWay stage u));
       files = subst (λ (x : Bool). KeepsFiles x past pages new) (sym (ap (λ (c : Talker). is_laid job.task c.outcome past) l.client ∙ laid_if b job.task old.client past runs)) (all_lost (is_laid job.task old.client.outcome past) b past pages old new l h.files);
       finished = h.finished;
+      alone = h.alone;
+      done = λ e joined. h.done (done_if b old.client (sym (ap (λ (c : Talker). is_done c.outcome) l.client) ∙ e)) joined;
     }

@@ -3,3 +3,4 @@ pub mod Spelled
 pub mod Stands
 pub mod Happens
 pub mod Beginning
+pub mod Promises

@@ -79,6 +79,9 @@ pub record Talks (place : DeviceInfo → ℕ) (job : Job) (past : Past) (pages :
   pub begun : post.was_connected ≡ false → (p.mind.stage ≡ Idle) ⊎ (IsUnderWay p.mind.stage → ⊥)
   pub files : KeepsFiles (is_laid job.task post.client.outcome past) past pages post
   pub finished : (k : ℕ) (q : Past) → slice_get pages k ≡ Some q → IsFinished q
+  -- a job of one page has none before it, and the file of a job that is done is whole
+  pub alone : is_batch job.task ≡ false → pages ≡ []
+  pub done : is_done post.client.outcome ≡ true → is_joined past.ended ≡ true → IsFinished past
 
 -- ---- the connections
 

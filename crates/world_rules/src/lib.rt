@@ -4,6 +4,7 @@
 mod beginning;
 mod devices;
 mod events;
+mod promises;
 
 pub use beginning::a_new_world_stands;
 pub use devices::an_unplug_stands;
@@ -11,3 +12,4 @@ pub use events::{
     a_cancel_stands, a_connection_stands, a_data_connection_stands, a_data_loss_stands,
     a_loss_stands,
 };
+pub use promises::{a_scan_is_meant, outcomes_are_right, pages_are_meant};

@@ -1,0 +1,23 @@
+//! What is promised of jobs, of whatever a world stands for.
+
+ghost use Rattle.world_rules.specs.Promises.{OutcomesAreRight, PagesAreMeant, ScansAreMeant};
+
+/// A job that runs is under way; one that is done kept its promise on its settings, on permission and on its list; one that ended
+/// otherwise has its cause.
+#[tactic(none)]
+pub fn outcomes_are_right()
+    ensures { OutcomesAreRight }
+{}
+
+/// The file of a scan that is done denotes exactly the picture that its settings mean on the page of its first start.
+#[tactic(none)]
+pub fn a_scan_is_meant()
+    ensures { ScansAreMeant }
+{}
+
+/// Whatever became of a batch, the file of each page that it finished denotes the picture that its settings mean on the page of
+/// the start of that number.
+#[tactic(none)]
+pub fn pages_are_meant()
+    ensures { PagesAreMeant }
+{}
