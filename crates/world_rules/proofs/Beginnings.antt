@@ -34,7 +34,8 @@ use Rattle.scan_world.specs.Posts.{IsNew, budget_of, no_pages}
 use Rattle.scan_world.specs.Deeds.{is_done}
 use Rattle.scan_world.specs.Worlds.{AreNew, Scene}
 use Rattle.world_rules.specs.Told.{place_in, rules_job}
-use Rattle.world_rules.specs.Stands.{AreApart, IsBelow, IsFaithful, IsFaithfulPlace, IsFaithfulSeat, IsTrueTo, KeepsFiles, Means, Sits, SitsAt, Talks, are_named, is_laid}
+use Rattle.world_rules.specs.Stands.{AreApart, AreSeated, IsBelow, IsFaithful, IsFaithfulPlace, IsFaithfulSeat, IsTrueTo, KeepsFiles, Means, Sits, SitsAt, Talks, are_named, is_laid}
+use Rattle.world_rules.proofs.Seated.{none_seated}
 use Rattle.world_rules.specs.Beginning.{IsNewDaemon, IsSteady, NewWorldsStand, make_of, name_of, nothing_told, wires_of}
 use Rattle.world_rules.proofs.Faithful.{cancel_true}
 
@@ -272,6 +273,7 @@ new_worlds_stand jobs other devices w new d names steady =
       own = λ i j a b x y at_a at_b is_x is_y same. absurd (unlinked jobs i a x (new_at jobs w.posts i a new at_a) is_x);
       links = λ i p id at is. absurd (unlinked jobs i p id (new_at jobs w.posts i p new at) is);
       seats = subst (λ (seats : List (Option (Seat DeviceState))). AllByRecursion (IsBelow w.daemon.opened) seats) (sym d.seats) (tt, (tt, (tt, (tt, (tt, (tt, (tt, (tt, tt))))))));
+      seated = subst (λ (seats : List (Option (Seat DeviceState))). AreSeated seats w.posts) (sym d.seats) (none_seated w.posts);
       faithful = record {
         lying = subst (λ (r : Table). AllByRecursion IsFaithfulPlace r) (sym d.registry) (table_true devices all);
         lent = subst (λ (seats : List (Option (Seat DeviceState))). AllByRecursion IsFaithfulSeat seats) (sym d.seats) (tt, (tt, (tt, (tt, (tt, (tt, (tt, (tt, tt))))))));

@@ -49,6 +49,7 @@ use Rattle.world_rules.specs.Stands.{KeepsFiles, Means, Stands, Talks, is_laid, 
 use Rattle.world_rules.specs.Happens.{GivesUp, Leads}
 use Rattle.world_rules.proofs.Changing.{stands_change}
 use Rattle.world_rules.proofs.Minds.{runs_under, stopped_woken, stops_idle, stops_over, under_runs, woken_known}
+use Rattle.world_rules.proofs.Seated.{reseats_same}
 use Rattle.world_rules.proofs.Spelling.{spell_behind}
 use Rattle.world_rules.proofs.Taking.{DecidesAt, done, leaves_core, one_change, one_party, put_self, same_served, sits_there}
 
@@ -194,6 +195,7 @@ given_up_stands t w i p out h at low runs c text =
         served = same_served i t.rules.make w.daemon p.link me.served t.rules.device u.rules.device (stops_by me) same s.served;
       });
       link = λ id e. inl e;
+      reseats = reseats_same p.link w.daemon;
       begun = subst (λ (x : Party). AllByRecursion (λ (b : Begin). IsSheet b.page) x.base.started) (sym (one_party t i deeds.Stops bytes (t.past i) (t.pages i))) (h.begun i);
     }))
 

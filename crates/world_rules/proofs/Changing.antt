@@ -19,6 +19,7 @@ use Rattle.world_rules.specs.Told.{Told, Wires}
 use Rattle.desk_rules.specs.Reading.{ShowsTable}
 use Rattle.world_rules.specs.Stands.{AreApart, Carries, HaveOwn, IsNobody, IsServed, Sits, SitsAt, Stands, numbered, seat_by, session_by}
 use Rattle.world_rules.proofs.Lists.{is_same, set_elsewhere, set_length, set_there}
+use Rattle.world_rules.proofs.Seated.{Reseats, seated_change}
 use Rattle.world_rules.proofs.Sees.{IsOther, Leaves, seat_stands, served_stands, table_stands}
 
 -- what never changes is the same, and so is all of every job but i
@@ -42,6 +43,7 @@ pub record Change (i : ℕ) (t u : Told) (w : Scene) (p q : Post) (e : Core) : T
   pub sits : SitsAt u e i q
   -- its session is the one that it had, or was not opened before
   pub link : (id : SessionId) → q.link ≡ Some id → (p.link ≡ Some id) ⊎ ((w.daemon.opened ≤ id.number) × (id.number < e.opened))
+  pub reseats : Reseats p.link q.link w.daemon e
   pub begun : AllByRecursion (λ (b : Begin). IsSheet b.page) (u.rules.party i).base.started
 
 abbrev changed : Scene → ℕ → Post → Core → Scene
@@ -160,6 +162,7 @@ stands_change t u w i p q e h at low c =
       own = λ j k a b x y at_j at_k is_x is_y same. own_stays t u w i j k p q a b e x y h at c is_x is_y same (link_of t u w i j p q a e at (is_same j i) at_j) (link_of t u w i k p q b e at (is_same k i) at_k);
       links = λ j post id there is. link_below t u w i j p q post e id h at c is (link_of t u w i j p q post e at (is_same j i) there);
       seats = c.leaves.below;
+      seated = seated_change w.posts i p q w.daemon e at h.seated h.seats c.reseats;
       faithful = c.leaves.faithful;
       begun = λ j. begun_stays t u w i j p q e h c (is_same j i);
     }

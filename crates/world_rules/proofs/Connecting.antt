@@ -43,6 +43,7 @@ use Rattle.world_rules.proofs.Fresh.{fresh_served, fresh_there, leaves_opened}
 use Rattle.world_rules.proofs.Losing.{carries_cut, loses_by, means_cut}
 use Rattle.world_rules.proofs.Lost.{IsLost, talks_lost}
 use Rattle.world_rules.proofs.Minds.{runs_under, under_runs}
+use Rattle.world_rules.proofs.Seated.{Reseats, reseats_opened, reseats_same}
 use Rattle.world_rules.proofs.Sees.{Leaves}
 use Rattle.world_rules.proofs.Taking.{DecidesAt, done, leaves_core, one_change, one_party, put_self, sits_there}
 use Rattle.world_rules.proofs.Unimaged.{both_or}
@@ -155,6 +156,7 @@ linked_stands t w i p id h at low idle closed number =
         served = fresh_served i t.rules.make w.daemon id t.rules.device u.rules.device (connected me) closed h.seats number same idle.free idle.quiet idle.awaits table;
       });
       link = λ x is. let same_id : Some id ≡ Some x = is in let number_is : x.number ≡ w.daemon.opened = sym (ap number_of same_id) ∙ number in inr (omega (arith, number_is), omega (arith, number_is));
+      reseats = subst (λ (x : Option SessionId). Reseats x (Some id) w.daemon e) (sym idle.link) (reseats_opened w.daemon id number);
       begun = subst (λ (x : Party). AllByRecursion (λ (b : Begin). IsSheet b.page) x.base.started) (sym party) (h.begun i);
     }))
 
@@ -231,6 +233,7 @@ shut_stands t w i p h at low idle =
         served = (refl, same_tables i t.rules.make [] w.daemon.registry t.rules.device u.rules.device same table);
       });
       link = λ x none. absurd (let clash : None ≡ Some x = none in cc);
+      reseats = subst (λ (x : Option SessionId). Reseats x None w.daemon w.daemon) (sym idle.link) (reseats_same None w.daemon);
       begun = subst (λ (x : Party). AllByRecursion (λ (b : Begin). IsSheet b.page) x.base.started) (sym (two_party t i bytes)) (h.begun i);
     }))
 

@@ -57,6 +57,7 @@ use Rattle.world_rules.specs.Stands.{Carries, IsServed, KeepsFiles, Means, Stand
 use Rattle.world_rules.specs.Happens.{Dials, Leads, with_image}
 use Rattle.world_rules.proofs.Calling.{input_on, is_connected, on_core, replies_on}
 use Rattle.world_rules.proofs.Changing.{stands_change}
+use Rattle.world_rules.proofs.Seated.{reseats_on}
 use Rattle.world_rules.proofs.Sees.{Leaves}
 use Rattle.world_rules.proofs.Taking.{DecidesAt, done, one_change, one_party, put_self, sits_there}
 use Rattle.world_rules.proofs.Unimaged.{both_or, waits_as}
@@ -295,6 +296,7 @@ dialled_stands t w i p id h at low link some frame =
             (subst (λ (x : Bool). IsServed i t.rules.make e (Some id) x u.rules.device (session_by i u.rules.device after)) (sym waits.served) both.1);
       });
       link = λ x is. inl is;
+      reseats = reseats_on after_connected p.link w.daemon id.number;
       begun = subst (λ (x : Party). AllByRecursion (λ (b : Begin). IsSheet b.page) x.base.started) (sym party) (h.begun i);
     }))
 

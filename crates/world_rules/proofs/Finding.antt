@@ -23,7 +23,7 @@ use Rattle.desk_rules.proofs.Others.{IsThere}
 use Rattle.world_rules.specs.Stands.{AreApart, are_named}
 use Rattle.world_rules.proofs.Lists.{is_same}
 
-same_texts : (a b : List ℕ) → Decides (pointwise nat_eq a b) (a ≡ b)
+pub same_texts : (a b : List ℕ) → Decides (pointwise nat_eq a b) (a ≡ b)
 same_texts a b = slice_eq-Decides (λ x y. (eqb-true x y, eq-eqb x y)) a b _ refl
 
 -- ---- a place that is found

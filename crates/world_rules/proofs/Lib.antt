@@ -2,6 +2,7 @@ pub mod Lists
 pub mod Faithful
 pub mod Minds
 pub mod Spelling
+pub mod Seated
 pub mod Sees
 pub mod Changing
 pub mod Taking
@@ -15,6 +16,7 @@ pub mod Fresh
 pub mod Connecting
 pub mod Beginnings
 pub mod Finding
+pub mod Leasing
 pub mod Unplugging
 pub mod Promised
 pub mod Paged

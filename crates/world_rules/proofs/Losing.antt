@@ -38,6 +38,7 @@ use Rattle.world_rules.proofs.Cancelling.{flows_over, other_cause}
 use Rattle.world_rules.proofs.Changing.{stands_change}
 use Rattle.world_rules.proofs.Lost.{IsLost, if_input, if_out, talks_lost}
 use Rattle.world_rules.proofs.Minds.{stops_idle, stops_over, under_runs}
+use Rattle.world_rules.proofs.Seated.{Reseats, reseats_ended}
 use Rattle.world_rules.proofs.Sees.{Leaves}
 use Rattle.world_rules.proofs.Taking.{DecidesAt, done, one_change, one_party, sits_there}
 
@@ -113,6 +114,7 @@ unlinked_stands t w i p id h at low link =
         served = (refl, shows_ended i t.rules.make w.daemon id me.served t.rules.device me served);
       });
       link = λ x none. absurd (let clash : None ≡ Some x = none in cc);
+      reseats = subst (λ (x : Option SessionId). Reseats x None w.daemon e) (sym link) (reseats_ended w.daemon id h.seated.apart);
       begun = subst (λ (x : Party). AllByRecursion (λ (b : Begin). IsSheet b.page) x.base.started) (sym party) (h.begun i);
     }))
 

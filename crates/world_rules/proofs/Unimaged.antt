@@ -48,6 +48,7 @@ use Rattle.world_rules.proofs.Cancelling.{flows_over, other_cause}
 use Rattle.world_rules.proofs.Changing.{stands_change}
 use Rattle.world_rules.proofs.Lost.{IsLost, if_input, if_out, talks_lost}
 use Rattle.world_rules.proofs.Minds.{run_is, stops_idle, stops_over, under_runs}
+use Rattle.world_rules.proofs.Seated.{reseats_on}
 use Rattle.world_rules.proofs.Sees.{Leaves}
 use Rattle.world_rules.proofs.Taking.{DecidesAt, done, one_change, one_party, sits_there}
 
@@ -186,6 +187,7 @@ unimaged_stands t w i p id h at low link some =
         served = subst (λ (x : Option SessionId). IsServed i t.rules.make e x me.served u.rules.device (session_by i u.rules.device after)) (sym link) both.1;
       });
       link = λ x is. inl is;
+      reseats = reseats_on after_lost p.link w.daemon id.number;
       begun = subst (λ (x : Party). AllByRecursion (λ (b : Begin). IsSheet b.page) x.base.started) (sym party) (h.begun i);
     }))
 

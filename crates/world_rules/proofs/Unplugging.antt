@@ -147,6 +147,7 @@ out_stands t w name h d =
         own = h.own;
         links = h.links;
         seats = h.seats;
+        seated = h.seated;
         faithful = record { lying = slot_true w.daemon.registry d.place Gone tt h.faithful.lying; lent = h.faithful.lent };
         begun = h.begun;
       };

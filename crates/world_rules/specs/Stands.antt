@@ -213,6 +213,20 @@ pub record IsOf (t : Told) (w : Scene) : Type 0 where
 abbrev pub HaveOwn : Scene → Type 0
 HaveOwn w = (i j : ℕ) (a b : Post) (x y : SessionId) → slice_get w.posts i ≡ Some a → slice_get w.posts j ≡ Some b → a.link ≡ Some x → b.link ≡ Some y → x.number ≡ y.number → i ≡ j
 
+-- some post has the session of that number
+pub record IsLinked (posts : List Post) (n : ℕ) : Type 0 where
+  pub place : ℕ
+  pub post : Post
+  pub id : SessionId
+  pub at : slice_get posts place ≡ Some post
+  pub link : post.link ≡ Some id
+  pub number : id.number ≡ n
+
+-- each seat is for the session of a post, and no two are for one
+pub record AreSeated (seats : List (Option (Seat DeviceState))) (posts : List Post) : Type 0 where
+  pub linked : (k : ℕ) (seat : Seat DeviceState) → slice_get seats k ≡ Some (Some seat) → IsLinked posts seat.number
+  pub apart : (j k : ℕ) (a b : Seat DeviceState) → slice_get seats j ≡ Some (Some a) → slice_get seats k ≡ Some (Some b) → a.number ≡ b.number → j ≡ k
+
 pub record Stands (t : Told) (w : Scene) : Type 0 where
   pub sound : Sound t.rules
   pub is_of : IsOf t w
@@ -221,6 +235,7 @@ pub record Stands (t : Told) (w : Scene) : Type 0 where
   pub own : HaveOwn w
   pub links : (i : ℕ) (post : Post) (id : SessionId) → slice_get w.posts i ≡ Some post → post.link ≡ Some id → id.number < w.daemon.opened
   pub seats : AllByRecursion (IsBelow w.daemon.opened) w.daemon.seats
+  pub seated : AreSeated w.daemon.seats w.posts
   pub faithful : AreFaithful w.daemon
   -- the pages that were started are sheets
   pub begun : (i : ℕ) → AllByRecursion (λ (b : Begin). IsSheet b.page) (t.rules.party i).base.started
