@@ -18,3 +18,9 @@ pub mod Finding
 pub mod Unplugging
 pub mod Promised
 pub mod Paged
+pub mod Records
+pub mod Turned
+pub mod ReadTrue
+pub mod Streamed
+pub mod CutOff
+pub mod Turning
