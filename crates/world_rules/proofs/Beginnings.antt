@@ -215,6 +215,7 @@ new_means users names job c h =
       calm = λ _. refl;
       image = λ e. absurd (let clash : false ≡ true = e in cc);
       last = λ im e. absurd (let clash : None ≡ Some im = e in cc);
+      unended = tt;
       first = λ _. made.1;
       up = λ e. absurd (let clash : false ≡ true = e in cc);
       down = λ _. refl;

@@ -69,7 +69,7 @@ let_go_names t (Some session) = given_names t session.held
 
 -- ---- a client holds no device but the one that its job names
 
-word_wanted : (b : Bool) (d w k : ℕ) (c : Bool) → eqb w 0 ≡ c → only_word b d w ≡ Some k → k ≡ d
+pub word_wanted : (b : Bool) (d w k : ℕ) (c : Bool) → eqb w 0 ≡ c → only_word b d w ≡ Some k → k ≡ d
 word_wanted true d w k true e h = let same : Some d ≡ Some k = sym (ap (λ (x : Bool). cond x (Some d) None) e) ∙ h in sym (unsome d k same)
 word_wanted false d w k true e h = let clash : None ≡ Some k = sym (ap (λ (x : Bool). cond x None None) e) ∙ h in absurd (cc)
 word_wanted b d w k false e h = let clash : None ≡ Some k = sym (ap (λ (x : Bool). cond x (cond b (Some d) None) None) e) ∙ h in absurd (cc)

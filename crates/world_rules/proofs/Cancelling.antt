@@ -154,6 +154,7 @@ means_stopped place job x p old out text h alive s =
       calm = h.calm;
       image = h.image;
       last = h.last;
+      unended = h.unended;
       first = λ e. absurd (stops_idle GivenUp Cancelled p.mind.stage e);
       up = λ served. asked_then job p.mind p.todo x.asking x.up text (λ e. alive served e) (h.up served) s;
       down = λ u. absurd (stops_over GivenUp Cancelled p.mind.stage u);

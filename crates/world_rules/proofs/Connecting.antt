@@ -117,6 +117,7 @@ means_linked place job x p old id e nothing over h =
       calm = λ clash. absurd (let different : true ≡ false = clash in cc);
       image = h.image;
       last = h.last;
+      unended = h.unended;
       first = λ clash. absurd (let different : Running Greeting ≡ Idle = clash in cc);
       up = λ _. subst (λ (bytes : List ℕ). SpellsAsked job p.mind (Init ∷ []) (bytes ++ x.up)) (sym nothing) (h.first e);
       down = λ _. h.down (subst IsUnderWay (sym e) tt);

@@ -254,6 +254,7 @@ means_dialled place job x p old served due is flow h =
       calm = λ e. absurd (let clash : true ≡ false = sym served ∙ e in cc);
       image = λ _. refl;
       last = λ im e. let same : record { bytes = []; is_last = false } ≡ im = unsome _ im e in sym (ap (λ (y : Image). y.is_last) same) ∙ sym (ap is_some flow.ending_is);
+      unended = flow.ending_is;
       first = h.first;
       up = h.up;
       down = λ u. told_nothing place old.client.progress (connected old.client.progress) p.due (x.telling ++ x.down) due (h.down u);

@@ -17,7 +17,7 @@ use Rattle.world_rules.specs.Stands.{IsBelow, IsFaithful, IsFaithfulLease, IsFai
 
 -- ---- a device
 
-left_true : (b : Bool) (pages : List Held) → AllByRecursion IsTrueTo pages → AllByRecursion IsTrueTo (left_behind b pages)
+pub left_true : (b : Bool) (pages : List Held) → AllByRecursion IsTrueTo pages → AllByRecursion IsTrueTo (left_behind b pages)
 left_true false pages h = h
 left_true true [] h = h
 left_true true (p ∷ pages) h = h.1

@@ -20,3 +20,9 @@ pub mod Leasing
 pub mod Unplugging
 pub mod Promised
 pub mod Paged
+pub mod Records
+pub mod Turned
+pub mod ReadTrue
+pub mod Streamed
+pub mod CutOff
+pub mod Turning

@@ -72,6 +72,7 @@ means_cut place job x p cause new starved before link image =
       calm = λ _. refl;
       image = λ h. absurd (let clash : false ≡ true = h in cc);
       last = λ im e. absurd (let clash : None ≡ Some im = sym image ∙ e in cc);
+      unended = tt;
       first = λ e. absurd (stops_idle IoError Lost p.mind.stage e);
       up = λ e. absurd (let clash : false ≡ true = e in cc);
       down = λ u. absurd (stops_over IoError Lost p.mind.stage u);

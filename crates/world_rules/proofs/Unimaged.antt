@@ -24,7 +24,7 @@ use Rattle.scan_rules.specs.Client as rules
 use Rattle.scan_rules.specs.Client.{Idle, Mind, Stage}
 use Rattle.scan_rules.specs.Hearing.{stopped, stops}
 use Rattle.scan_rules.specs.Causes.{Cause, LinkLost, Met, WasStarved}
-use Rattle.scan_rules.specs.Daemon.{Carriage}
+use Rattle.scan_rules.specs.Daemon.{Carriage, Quiet, Waiting, Streaming, Ending}
 use Rattle.scan_rules.specs.Deeds as deeds
 use Rattle.scan_rules.specs.Deeds.{left_by_loss, without_image}
 use Rattle.scan_rules.specs.Standing.{Party}
@@ -41,7 +41,7 @@ use Rattle.scan_world.specs.Deeds as world
 use Rattle.scan_world.specs.Worlds.{Scene}
 use Rattle.world_rules.specs.Told.{Told, Wires, place_in, wired_then}
 use Rattle.world_rules.specs.Spelled.{Flows, FlowsBy}
-use Rattle.world_rules.specs.Stands.{Carries, IsServed, Means, Stands, Talks, bytes_of, seat_by, session_by, woken}
+use Rattle.world_rules.specs.Stands.{Carries, HasNoEnd, IsServed, Means, Stands, Talks, bytes_of, seat_by, session_by, woken}
 use Rattle.world_rules.specs.Happens.{Leads, LosesImage, with_image}
 use Rattle.world_rules.proofs.Calling.{input_on, is_lost, on_core, replies_on}
 use Rattle.world_rules.proofs.Cancelling.{flows_over, other_cause}
@@ -54,10 +54,10 @@ use Rattle.world_rules.proofs.Taking.{DecidesAt, done, one_change, one_party, si
 
 -- ---- a job that is under way has a data connection for the data of a frame alone
 
-none_some : {X : Type 0} (o : Option X) → o ≡ None → IsSome o → ⊥
+pub none_some : {X : Type 0} (o : Option X) → o ≡ None → IsSome o → ⊥
 none_some o e h = let clash : false ≡ true = subst IsSome e h in absurd (cc)
 
-by_imaging : (g : rules.Progress) (c : Carriage) (progress : Progress) (phase : Phase) (image : Option (List ℕ)) (flight : List ℕ) (ending : Option Status) → FlowsBy g c progress phase image flight ending → IsSome image → IsImaging (rules.Running g)
+pub by_imaging : (g : rules.Progress) (c : Carriage) (progress : Progress) (phase : Phase) (image : Option (List ℕ)) (flight : List ℕ) (ending : Option Status) → FlowsBy g c progress phase image flight ending → IsSome image → IsImaging (rules.Running g)
 by_imaging (rules.Imaging params heard) c progress phase image flight ending h some = (params, heard, refl)
 by_imaging rules.Greeting c progress phase image flight ending h some = absurd (none_some image h some)
 by_imaging rules.Listing c progress phase image flight ending h some = absurd (none_some image h some)
@@ -131,6 +131,13 @@ carries_dropped x core id b old new l image h =
       image = ap (option_map bytes_of) image;
     }
 
+-- where there is no end
+no_end : (c : Carriage) → HasNoEnd c None
+no_end Quiet = tt
+no_end Waiting = tt
+no_end Streaming = refl
+no_end Ending = refl
+
 pub means_dropped : (place : DeviceInfo → ℕ) (job : Job) (x : Wires) (p : Party) (cause : Cause) (old new : Post) → (Met WasStarved (cause ∷ p.base.met) → new.is_starved ≡ true) → new.was_connected ≡ old.was_connected → new.link ≡ old.link → new.is_over ≡ old.is_over → new.image ≡ None → Means place job x p old → Means place job (with_image None x) (drops_by cause p) new
 means_dropped place job x p cause old new starved connected link over image h =
     record {
@@ -140,6 +147,7 @@ means_dropped place job x p cause old new starved connected link over image h =
       calm = λ e. ap left_by_loss (h.calm e);
       image = λ h. absurd (let clash : false ≡ true = h in cc);
       last = λ im e. absurd (let clash : None ≡ Some im = sym image ∙ e in cc);
+      unended = no_end (left_by_loss p.base.carriage);
       first = λ e. absurd (stops_idle IoError Lost p.mind.stage e);
       up = λ served. h.up served;
       down = λ u. absurd (stops_over IoError Lost p.mind.stage u);
@@ -193,7 +201,7 @@ unimaged_stands t w i p id h at low link some =
 
 -- ---- the event
 
-some_or : {X : Type 0} (o : Option X) → IsSome o ⊎ (IsSome o → ⊥)
+pub some_or : {X : Type 0} (o : Option X) → IsSome o ⊎ (IsSome o → ⊥)
 some_or None = inr (λ x. let clash : false ≡ true = x in absurd (cc))
 some_or (Some x) = inl refl
 
@@ -202,11 +210,11 @@ both_or (inl a) (inl b) = inl (a, b)
 both_or (inl a) (inr n) = inr (λ x. n x.1)
 both_or (inr n) b = inr (λ x. n x.0)
 
-bytes_some : (o : Option Image) → IsSome (option_map bytes_of o) → IsSome o
+pub bytes_some : (o : Option Image) → IsSome (option_map bytes_of o) → IsSome o
 bytes_some None h = h
 bytes_some (Some image) h = h
 
-some_bytes : (o : Option Image) → IsSome o → IsSome (option_map bytes_of o)
+pub some_bytes : (o : Option Image) → IsSome o → IsSome (option_map bytes_of o)
 some_bytes None h = h
 some_bytes (Some image) h = h
 

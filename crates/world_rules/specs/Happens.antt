@@ -1,5 +1,10 @@
 -- What an event does to what stands: its steps by the rules, and the bytes that it moves.
-use Rattle.std.specs.Prelude.{ℕ, ◌≡◌, ◌≢◌, ◌<◌, ◌⊎◌, ◌++◌, true, false, Option, Some, None, IsSome, List, [], ◌∷◌, slice_get}
+use Rattle.std.specs.Prelude.{ℕ, ◌≡◌, ◌≢◌, ◌<◌, ◌⊎◌, ◌++◌, true, false, Option, Some, None, IsSome, option_map, List, [], ◌∷◌, slice_get}
+use Rattle.sane_fixed.specs.declared.status.Status.{Status as Code}
+use Rattle.sane_fixed.specs.declared.status.Status.TheVariants as codes
+use Rattle.sane_fixed.specs.Status.{status_code}
+use Rattle.data_records.specs.Records.{counted, ending}
+use Rattle.scan_rules.specs.Devices.{status_of}
 use Rattle.scan_rules.specs.Client.{Idle, farewell}
 use Rattle.scan_rules.specs.Daemon.{Waiting, Streaming, Ending}
 use Rattle.scan_rules.specs.Deeds as deeds
@@ -57,6 +62,31 @@ LosesControl t i steps u = (steps ≡ By i (deeds.Loses false) ∷ []) × Takes 
 
 abbrev pub LosesImage : Told → ℕ → List Step → Told → Type 0
 LosesImage t i steps u = (steps ≡ By i (deeds.LosesImage false) ∷ []) × Takes t i steps (with_image None (wires t i)) u
+
+-- the record that a turn sends: these bytes behind their number, or the end with its status
+abbrev pub IsRecordOf : deeds.Deed → List ℕ → Type 0
+IsRecordOf (deeds.Turns bytes) text = text ≡ counted bytes
+IsRecordOf deeds.TurnsLast text = text ≡ ending (status_code codes.Eof)
+IsRecordOf deeds.TurnsShort text = text ≡ ending (status_code codes.Eof)
+IsRecordOf (deeds.TurnsNamed status) text = (code : Code) × (status_of code ≡ status) × (text ≡ ending (status_code code))
+IsRecordOf (deeds.TurnsFault fault) text = text ≡ ending (status_code codes.IoError)
+IsRecordOf deeds.TurnsOff text = text ≡ ending (status_code codes.Cancelled)
+IsRecordOf deed text = ⊥
+
+abbrev pub with_record : List ℕ → Wires → Wires
+with_record text x = with_image (option_map (λ bytes. bytes ++ text) x.image) x
+
+-- it comes onto the data connection, or there is no memory for it and the connection is lost
+abbrev pub Sends : Told → ℕ → deeds.Deed → List ℕ → List Step → Told → Type 0
+Sends t i deed text steps u =
+    ((steps ≡ By i deed ∷ []) × Takes t i steps (with_record text (wires t i)) u)
+    ⊎ ((steps ≡ By i deed ∷ By i (deeds.LosesImage true) ∷ []) × Takes t i steps (with_image None (wires t i)) u)
+
+pub record Turns (t : Told) (i : ℕ) (steps : List Step) (u : Told) : Type 0 where
+  pub deed : deeds.Deed
+  pub text : List ℕ
+  pub is : IsRecordOf deed text
+  pub sends : Sends t i deed text steps u
 
 -- the client says farewell
 pub record GivesUp (t : Told) (i : ℕ) (steps : List Step) (u : Told) : Type 0 where

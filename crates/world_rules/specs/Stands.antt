@@ -24,12 +24,12 @@ use Rattle.scan_job.specs.declared.outcome.Outcome.{Outcome}
 use Rattle.client_rules.specs.declared.progress.Progress.TheVariants as stages
 use Rattle.client_rules.specs.Talks.{errand_of, is_batch, is_running}
 use Rattle.net_client.specs.Talker.{Serves, talk_of}
-use Rattle.scan_rules.specs.Words.{Init}
+use Rattle.scan_rules.specs.Words.{Init, Status}
 use Rattle.scan_rules.specs.Devices.{Make}
 use Rattle.scan_rules.specs.Client.{Mind, Stage, Idle, Running, Done, Ended, Greeting, running}
 use Rattle.scan_rules.specs.Causes.{Met, WasStarved}
 use Rattle.scan_rules.specs.Scanners.{Begin, Device, is_held_by}
-use Rattle.scan_rules.specs.Daemon.{Quiet}
+use Rattle.scan_rules.specs.Daemon.{Carriage, Quiet, Waiting, Streaming, Ending}
 use Rattle.scan_rules.specs.Standing.{Party}
 use Rattle.scan_rules.specs.Sessions.{Session as RuledSession, one_word}
 use Rattle.scan_rules.specs.Steps.{IsUnderWay}
@@ -96,6 +96,13 @@ pub record Carries (wires : Wires) (seat : Option (Seat DeviceState)) (post : Po
   pub telling : post.client.input.rest ≡ wires.telling
   pub image : option_map bytes_of post.image ≡ wires.image
 
+-- a frame that streams, or that is to be ended, has no end yet
+abbrev pub HasNoEnd : Carriage → Option Status → Type 0
+HasNoEnd Quiet ending = Unit {0}
+HasNoEnd Waiting ending = Unit {0}
+HasNoEnd Streaming ending = ending ≡ None
+HasNoEnd Ending ending = ending ≡ None
+
 -- and what it means by the rules
 pub record Means (place : DeviceInfo → ℕ) (job : Job) (wires : Wires) (p : Party) (post : Post) : Type 0 where
   pub linked : p.linked ≡ is_some post.link
@@ -104,6 +111,7 @@ pub record Means (place : DeviceInfo → ℕ) (job : Job) (wires : Wires) (p : P
   pub calm : p.served ≡ false → p.base.carriage ≡ Quiet
   pub image : IsSome wires.image → p.image ≡ true
   pub last : (image : Image) → post.image ≡ Some image → image.is_last ≡ is_some p.base.ending
+  pub unended : HasNoEnd p.base.carriage p.base.ending
   -- what a client that is not connected yet has written is its greeting
   pub first : p.mind.stage ≡ Idle → SpellsAsked job p.mind (Init ∷ []) wires.up
   pub up : p.served ≡ true → SpellsAsked job p.mind p.todo (wires.asking ++ wires.up)

@@ -1,8 +1,8 @@
 //! Events of a job. Where one can happen it is these steps of the rules, and the world stands for what they lead to; where it cannot
 //! nothing changes.
 
-ghost use Rattle.scan_world.specs.declared.event.Deed.TheVariants.{Cancel, Connect, DataConnect, LoseControl, LoseImage};
-ghost use Rattle.world_rules.specs.Happens.{Connects, Dials, Follows, GivesUp, LosesControl, LosesImage};
+ghost use Rattle.scan_world.specs.declared.event.Deed.TheVariants.{Cancel, Connect, DataConnect, DataTurn, LoseControl, LoseImage};
+ghost use Rattle.world_rules.specs.Happens.{Connects, Dials, Follows, GivesUp, LosesControl, LosesImage, Turns};
 
 /// A control connection is made: a session is opened for it, or, where there is none to be had, it is lost at once.
 #[tactic(none)]
@@ -14,6 +14,13 @@ pub fn a_connection_stands()
 #[tactic(none)]
 pub fn a_data_connection_stands()
     ensures { Follows DataConnect Dials }
+{}
+
+/// A turn of the data connection: a record of the frame's bytes, or its end, comes onto it; or, where there is no memory for it, the
+/// connection is lost.
+#[tactic(none)]
+pub fn a_turn_stands()
+    ensures { Follows DataTurn Turns }
 {}
 
 /// A control connection is lost: the job ends, what its session holds is given back, and nothing is on the way to its client any more.

@@ -1,0 +1,380 @@
+-- A turn of a job's data connection.
+use Rattle.std.specs.Prelude.{is_some, option_map, IsSome}
+use Rattle.std.specs.List.{AllByRecursion}
+use Rattle.std.proofs.Common.{◌≡◌, ◌⊎◌, inl, inr, ◌∙◌, ℕ, ◌<◌, List, [], ◌∷◌, ◌++◌, Option, Some, None, Bool, true, false, refl, sym, ap, subst, map, slice_get, slice_set}
+use Rattle.page_picture.specs.Page.{IsSheet}
+use Rattle.sane_fixed.specs.declared.status.Status.TheVariants as codes
+use Rattle.sane_fixed.specs.Status.{status_code}
+use Rattle.device_api.specs.declared.device_info.DeviceInfo.{DeviceInfo}
+use Rattle.data_records.specs.declared.records.Phase.{Phase}
+use Rattle.frame_join.specs.FrameHistory.{Past}
+use Rattle.saned_desk.specs.declared.session.Carriage.{Carriage as WordCarriage}
+use Rattle.saned_desk.specs.declared.session.Carriage.TheVariants as word
+use Rattle.saned_core.specs.declared.seat.DataStep.{DataStep}
+use Rattle.saned_core.specs.declared.seat.DataStep.TheVariants as did
+use Rattle.saned_core.specs.declared.seat.FrameState.{FrameState}
+use Rattle.saned_core.specs.declared.seat.FrameState.TheVariants as frames
+use Rattle.saned_core.specs.declared.seat.SessionId.{SessionId}
+use Rattle.saned_core.specs.State.{Core, after_lost, frame_in, frame_of, replies_in, seat_of}
+use Rattle.saned_core.specs.Feeding.{input_in}
+use Rattle.scan_job.specs.declared.job.Job.{Job}
+use Rattle.client_rules.specs.declared.progress.Progress.{Progress}
+use Rattle.scan_rules.specs.Words.{Status}
+use Rattle.scan_rules.specs.Causes.{Cause, Met, Names, NamesEof, SourceFailed, WasStarved}
+use Rattle.scan_rules.specs.Client as rules
+use Rattle.scan_rules.specs.Client.{Idle, Stage}
+use Rattle.scan_rules.specs.Daemon.{Carriage, Quiet, Waiting, Streaming, Ending}
+use Rattle.scan_rules.specs.Deeds as deeds
+use Rattle.scan_rules.specs.Deeds.{device_after, party_after}
+use Rattle.scan_rules.specs.Devices.{Make}
+use Rattle.scan_rules.specs.Scanners.{Begin, Device}
+use Rattle.scan_rules.specs.Standing.{Party, listed, make_for, put, wanted, wants}
+use Rattle.scan_rules.specs.Steps.{By, MayCome, Step}
+use Rattle.scan_rules.proofs.Promised.{sound_after_all}
+use Rattle.desk_rules.specs.Cores.{ShowsSession}
+use Rattle.desk_rules.specs.Reading.{IsCarriage}
+use Rattle.desk_rules.proofs.Moved.{put_there, unsome}
+use Rattle.scan_world.specs.declared.event.Deed.TheVariants as events
+use Rattle.scan_world.specs.declared.post.Image.{Image}
+use Rattle.scan_world.specs.declared.post.Post.{Post}
+use Rattle.scan_world.specs.Posts.{cut_off, spent}
+use Rattle.scan_world.specs.Deeds as world
+use Rattle.scan_world.specs.Worlds.{Scene}
+use Rattle.world_rules.specs.Told.{Told, Wires, place_in, wired_then}
+use Rattle.world_rules.specs.Spelled.{Carried, Dialled, Flows, FlowsAt}
+use Rattle.world_rules.specs.Stands.{Carries, HasNoEnd, IsServed, KeepsFiles, Means, Stands, Talks, bytes_of, is_laid, seat_by, session_by}
+use Rattle.world_rules.specs.Happens.{Can, Leads, Turns, with_image, with_record}
+use Rattle.world_rules.proofs.Calling.{on_core}
+use Rattle.world_rules.proofs.Cancelling.{other_cause}
+use Rattle.world_rules.proofs.Changing.{stands_change}
+use Rattle.world_rules.proofs.CutOff.{cut_stands, put_again, set_again, stands_retold}
+use Rattle.world_rules.proofs.Lists.{set_there}
+use Rattle.world_rules.proofs.Records.{carries_end, carries_more}
+use Rattle.world_rules.proofs.Sees.{Leaves}
+use Rattle.world_rules.proofs.Streamed.{Streamed, devices_after, streamed}
+use Rattle.world_rules.proofs.Taking.{DecidesAt, done, one_change, one_party, put_self, sits_there}
+use Rattle.world_rules.proofs.Turned.{IsShortRecord, Turn, Failed, Gives, Named, Off, Short, Whole, carriage_after, deed_of, device_is, ending_after, flight_after, is_end, job_after, met_after, party_is, record_of, text_of}
+use Rattle.world_rules.proofs.Unimaged.{both_or, by_imaging, bytes_some, none_some, some_bytes, some_or}
+
+-- ---- what is on the way
+
+carried_turned : (turn : Turn) (phase : Phase) (text flight : List ℕ) → IsShortRecord turn → Carried phase text flight None → Carried phase (text ++ text_of turn) (flight_after turn flight) (ending_after turn None)
+carried_turned (Gives bytes) phase text flight short c = carries_more phase text flight bytes short c
+carried_turned Whole phase text flight short c = (codes.Eof, refl, carries_end phase text flight (status_code codes.Eof) c)
+carried_turned (Named code) phase text flight short c = (code, refl, carries_end phase text flight (status_code code) c)
+carried_turned Short phase text flight short c = (codes.Eof, refl, carries_end phase text flight (status_code codes.Eof) c)
+carried_turned (Failed fault) phase text flight short c = (codes.IoError, refl, carries_end phase text flight (status_code codes.IoError) c)
+carried_turned Off phase text flight short c = (codes.Cancelled, refl, carries_end phase text flight (status_code codes.Cancelled) c)
+
+-- a frame that is streamed, or to be ended
+abbrev Started : Carriage → Type 0
+Started c = (c ≡ Streaming) ⊎ (c ≡ Ending)
+
+to_dialled : (c : Carriage) (progress : Progress) (phase : Phase) (image : Option (List ℕ)) (flight : List ℕ) (ending : Option Status) → Started c → FlowsAt c progress phase image flight ending → Dialled progress phase image flight ending
+to_dialled c progress phase image flight ending (inl e) h = subst (λ (x : Carriage). FlowsAt x progress phase image flight ending) e h
+to_dialled c progress phase image flight ending (inr e) h = subst (λ (x : Carriage). FlowsAt x progress phase image flight ending) e h
+
+from_dialled : (c : Carriage) (progress : Progress) (phase : Phase) (image : Option (List ℕ)) (flight : List ℕ) (ending : Option Status) → Started c → Dialled progress phase image flight ending → FlowsAt c progress phase image flight ending
+from_dialled c progress phase image flight ending (inl e) h = subst (λ (x : Carriage). FlowsAt x progress phase image flight ending) (sym e) h
+from_dialled c progress phase image flight ending (inr e) h = subst (λ (x : Carriage). FlowsAt x progress phase image flight ending) (sym e) h
+
+at_turned : (turn : Turn) (c : Carriage) (progress : Progress) (phase : Phase) (image : Option (List ℕ)) (flight : List ℕ) (ending : Option Status) → Started c → Dialled progress phase image flight ending → FlowsAt (carriage_after turn c) progress phase image flight ending
+at_turned (Gives bytes) c progress phase image flight ending started h = from_dialled c progress phase image flight ending started h
+at_turned Whole c progress phase image flight ending started h = h
+at_turned (Named code) c progress phase image flight ending started h = h
+at_turned Short c progress phase image flight ending started h = h
+at_turned (Failed fault) c progress phase image flight ending started h = h
+at_turned Off c progress phase image flight ending started h = h
+
+dialled_turned : (turn : Turn) (progress : Progress) (phase : Phase) (image : Option (List ℕ)) (flight : List ℕ) (ending : Option Status) → IsShortRecord turn → ending ≡ None → Dialled progress phase image flight ending →
+    Dialled progress phase (option_map (λ (bytes : List ℕ). bytes ++ text_of turn) image) (flight_after turn flight) (ending_after turn ending)
+dialled_turned turn progress phase image flight ending short none h =
+    record {
+      wants = h.wants;
+      text = h.text ++ text_of turn;
+      image_is = ap (option_map (λ (bytes : List ℕ). bytes ++ text_of turn)) h.image_is;
+      carried =
+          subst (λ (x : Option Status). Carried phase (h.text ++ text_of turn) (flight_after turn flight) (ending_after turn x)) (sym none)
+          (carried_turned turn phase h.text flight short (subst (λ (x : Option Status). Carried phase h.text flight x) none h.carried));
+    }
+
+flows_turned : (st : Stage) (turn : Turn) (c : Carriage) (progress : Progress) (phase : Phase) (image : Option (List ℕ)) (flight : List ℕ) (ending : Option Status) → IsShortRecord turn → Started c → ending ≡ None → IsSome image → Flows st c progress phase image flight ending →
+    Flows st (carriage_after turn c) progress phase (option_map (λ (bytes : List ℕ). bytes ++ text_of turn) image) (flight_after turn flight) (ending_after turn ending)
+flows_turned Idle turn c progress phase image flight ending short started none some h = absurd (none_some image h some)
+flows_turned (rules.Running g) turn c progress phase image flight ending short started none some h =
+    let is = by_imaging g c progress phase image flight ending h some in
+    let at : FlowsAt c progress phase image flight ending = subst (λ (x : Stage). Flows x c progress phase image flight ending) is.2 h in
+    subst (λ (x : Stage). Flows x (carriage_after turn c) progress phase (option_map (λ (bytes : List ℕ). bytes ++ text_of turn) image) (flight_after turn flight) (ending_after turn ending)) (sym is.2)
+    (at_turned turn c progress phase _ _ _ started (dialled_turned turn progress phase image flight ending short none (to_dialled c progress phase image flight ending started at)))
+flows_turned rules.Done turn c progress phase image flight ending short started none some h = tt
+flows_turned (rules.Ended status why) turn c progress phase image flight ending short started none some h = tt
+
+-- ---- what is meant by it
+
+no_ending : (c : Carriage) (ending : Option Status) → Started c → HasNoEnd c ending → ending ≡ None
+no_ending c ending (inl e) h = subst (λ (x : Carriage). HasNoEnd x ending) e h
+no_ending c ending (inr e) h = subst (λ (x : Carriage). HasNoEnd x ending) e h
+
+last_turned : (turn : Turn) (ending : Option Status) → ending ≡ None → is_end turn ≡ is_some (ending_after turn ending)
+last_turned (Gives bytes) ending none = sym (ap is_some none)
+last_turned Whole ending none = refl
+last_turned (Named code) ending none = refl
+last_turned Short ending none = refl
+last_turned (Failed fault) ending none = refl
+last_turned Off ending none = refl
+
+unended_turned : (turn : Turn) (c : Carriage) (ending : Option Status) → HasNoEnd c ending → HasNoEnd (carriage_after turn c) (ending_after turn ending)
+unended_turned (Gives bytes) c ending h = h
+unended_turned Whole c ending h = tt
+unended_turned (Named code) c ending h = tt
+unended_turned Short c ending h = tt
+unended_turned (Failed fault) c ending h = tt
+unended_turned Off c ending h = tt
+
+starved_turned : (turn : Turn) (met : List Cause) → Met WasStarved (met_after turn met) → Met WasStarved met
+starved_turned (Gives bytes) met h = h
+starved_turned Whole met h = h
+starved_turned (Named code) met h = other_cause WasStarved (Names _) met (λ e. absurd (cc)) h
+starved_turned Short met h = other_cause WasStarved NamesEof met (λ e. absurd (cc)) h
+starved_turned (Failed fault) met h = other_cause WasStarved SourceFailed met (λ e. absurd (cc)) h
+starved_turned Off met h = h
+
+some_record : (o : Option (List ℕ)) (text : List ℕ) → IsSome o → IsSome (option_map (λ (bytes : List ℕ). bytes ++ text) o)
+some_record None text h = h
+some_record (Some bytes) text h = refl
+
+-- the post with the record
+abbrev gained : Turn → Image → Post → Post
+gained turn im p = world.with_image (world.loaded (text_of turn) (is_end turn) im) (spent p)
+
+talks_turned : (turn : Turn) (im : Image) (place : DeviceInfo → ℕ) (job : Job) (past : Past) (pages : List Past) (p : Party) (old : Post) → Talks place job past pages p old → Talks place job past pages (job_after turn p) (gained turn im old)
+talks_turned turn im place job past pages p old h =
+    record {
+      task = h.task;
+      errand = h.errand;
+      word = h.word;
+      over = h.over;
+      serves = h.serves;
+      reads = h.reads;
+      idle = h.idle;
+      begun = h.begun;
+      files = files_same (is_laid job.task old.client.outcome past) past pages old h.files;
+      finished = h.finished;
+      alone = h.alone;
+      done = h.done;
+    }
+  where
+    files_same : (b : Bool) (past : Past) (pages : List Past) (old : Post) → KeepsFiles b past pages old → KeepsFiles b past pages (gained turn im old)
+    files_same true past pages old f = record { file = f.file; each = f.each; count = f.count; room = f.room }
+    files_same false past pages old f = record { file = f.file; each = f.each; count = f.count; room = f.room }
+
+carries_turned : (turn : Turn) (im : Image) (x : Wires) (d e : Core) (id : SessionId) (old : Post) → old.image ≡ Some im → input_in (seat_of e.seats id.number) ≡ input_in (seat_of d.seats id.number) → replies_in (seat_of e.seats id.number) ≡ replies_in (seat_of d.seats id.number) → Carries x (seat_by d (Some id)) old →
+    Carries (with_record (text_of turn) x) (seat_by e (Some id)) (gained turn im old)
+carries_turned turn im x d e id old is input replies h =
+    let now : Some im.bytes ≡ x.image = sym (ap (option_map bytes_of) is) ∙ h.image in
+    record {
+      up = h.up;
+      asking = input ∙ h.asking;
+      down = replies ∙ h.down;
+      telling = h.telling;
+      image = ap (option_map (λ (bytes : List ℕ). bytes ++ text_of turn)) now;
+    }
+
+means_turned : (turn : Turn) (im : Image) (place : DeviceInfo → ℕ) (job : Job) (x : Wires) (p : Party) (old : Post) → p.served ≡ true → Started p.base.carriage → IsShortRecord turn → IsSome x.image → Means place job x p old → Means place job (with_record (text_of turn) x) (job_after turn p) (gained turn im old)
+means_turned turn im place job x p old served started short some h =
+    let none = no_ending p.base.carriage p.base.ending started h.unended in
+    record {
+      linked = h.linked;
+      before = h.before;
+      over = h.over;
+      calm = λ e. absurd (let clash : true ≡ false = sym served ∙ e in cc);
+      image = λ _. h.image some;
+      last = λ y e. let same : world.loaded (text_of turn) (is_end turn) im ≡ y = unsome _ y e in sym (ap (λ (z : Image). z.is_last) same) ∙ last_turned turn p.base.ending none;
+      unended = unended_turned turn p.base.carriage p.base.ending h.unended;
+      first = h.first;
+      up = h.up;
+      down = h.down;
+      flow = flows_turned p.mind.stage turn p.base.carriage old.client.progress old.client.phase x.image p.base.flight p.base.ending short started none some h.flow;
+      starved = λ met. h.starved (starved_turned turn p.base.met met);
+    }
+
+-- ---- the turn, and its record on the connection
+
+abbrev turn_steps : ℕ → Turn → List Step
+turn_steps i turn = By i (deed_of turn) ∷ []
+
+abbrev told_turn : Told → ℕ → Turn → Told
+told_turn t i turn = wired_then t i (turn_steps i turn) (with_record (text_of turn) (t.wires i))
+
+turned_party : (t : Told) (i : ℕ) (turn : Turn) → (told_turn t i turn).rules.party i ≡ job_after turn (t.rules.party i)
+turned_party t i turn = one_party t i (deed_of turn) (with_record (text_of turn) (t.wires i)) (t.past i) (t.pages i) ∙ party_is turn i (make_for t.rules i) (listed t.rules) (t.rules.party i) (wanted t.rules i)
+
+turned_stands : (t : Told) (w : Scene) (i : ℕ) (p : Post) (id : SessionId) (im : Image) (mid : Core) (step : DataStep) (buf : List ℕ) → Stands t w → slice_get w.posts i ≡ Some p → i < t.count → p.link ≡ Some id → p.image ≡ Some im → (t.rules.party i).served ≡ true → Started (t.rules.party i).base.carriage → IsSome (t.wires i).image →
+    (s : Streamed i t.rules.make w.daemon mid id t.rules.device (t.rules.party i) step buf) → Stands (told_turn t i s.turn) (record { daemon = mid; posts = slice_set w.posts i (gained s.turn im p) })
+turned_stands t w i p id im mid step buf h at low link image served started some turned =
+    let s = h.posts i p at in
+    let me = t.rules.party i in
+    let turn = turned.turn in
+    let place = place_in t.names in
+    let bytes : Wires = with_record (text_of turn) (t.wires i) in
+    let u : Told = told_turn t i turn in
+    let q = gained turn im p in
+    let after : Party = job_after turn me in
+    let device = sym (device_is turn i (make_for t.rules i) (listed t.rules) me (wanted t.rules i)) in
+    let leaves : Leaves i t.rules.make (Some id) w.daemon mid t.rules.device u.rules.device = subst (λ (x : Device). Leaves i t.rules.make (Some id) w.daemon mid t.rules.device (put t.rules.device me.base.job.wants x)) device turned.leaves in
+    let shows : ShowsSession i t.rules.make mid id.number u.rules.device (session_by i u.rules.device after) =
+    subst (λ (x : Device). ShowsSession i t.rules.make mid id.number (put t.rules.device me.base.job.wants x) (session_by i (put t.rules.device me.base.job.wants x) after)) device turned.shows in
+    let party = turned_party t i turn in
+    stands_change t u w i p q mid h at (subst (λ (n : ℕ). i < n) h.is_of.count low) (record {
+      told = one_change t i (deed_of turn) bytes (t.past i) (t.pages i);
+      leaves = subst (λ (x : Option SessionId). Leaves i t.rules.make x w.daemon mid t.rules.device u.rules.device) (sym link) leaves;
+      sound = sound_after_all t.rules (turn_steps i turn) h.sound (turned.may, tt);
+      sits = sits_there u mid i q after bytes (t.past i) (t.pages i) party (put_there t.wires i bytes) (put_there t.past i (t.past i)) (put_there t.pages i (t.pages i)) (record {
+        job_is = s.job_is;
+        talks = talks_turned turn im place (t.jobs i) (t.past i) (t.pages i) me p s.talks;
+        carries =
+            subst (λ (x : Option SessionId). Carries bytes (seat_by mid x) q) (sym link)
+            (carries_turned turn im (t.wires i) w.daemon mid id p image turned.input turned.replies (subst (λ (x : Option SessionId). Carries (t.wires i) (seat_by w.daemon x) p) link s.carries));
+        means = means_turned turn im place (t.jobs i) (t.wires i) me p served started turned.short some s.means;
+        served =
+            subst (λ (x : Option SessionId). IsServed i t.rules.make mid x me.served u.rules.device (session_by i u.rules.device after)) (sym link)
+            (subst (λ (x : Bool). IsServed i t.rules.make mid (Some id) x u.rules.device (session_by i u.rules.device after)) (sym served) shows);
+      });
+      link = λ x is. inl is;
+      begun = subst (λ (x : Party). AllByRecursion (λ (b : Begin). IsSheet b.page) x.base.started) (sym party) (h.begun i);
+    })
+
+-- ---- there is no memory for the record
+
+abbrev cut_steps : ℕ → Turn → List Step
+cut_steps i turn = By i (deed_of turn) ∷ By i (deeds.LosesImage true) ∷ []
+
+abbrev told_cut : Told → ℕ → Turn → Told
+told_cut t i turn = wired_then t i (cut_steps i turn) (with_image None (t.wires i))
+
+cut_turned : (t : Told) (w : Scene) (i : ℕ) (p : Post) (id : SessionId) (im : Image) (mid : Core) (turn : Turn) → slice_get w.posts i ≡ Some p → i < t.count → p.link ≡ Some id → IsSome (t.wires i).image → Stands (told_turn t i turn) (record { daemon = mid; posts = slice_set w.posts i (gained turn im p) }) →
+    Stands (told_cut t i turn) (record { daemon = world.image_lost id.number mid; posts = slice_set w.posts i (cut_off (spent p)) })
+cut_turned t w i p id im mid turn at low link some h =
+    let q = gained turn im p in
+    let u : Told = told_turn t i turn in
+    let bytes = with_record (text_of turn) (t.wires i) in
+    let wires : u.wires i ≡ bytes = put_there t.wires i bytes in
+    let has : IsSome (u.wires i).image = subst (λ (x : Wires). IsSome x.image) (sym wires) (some_record (t.wires i).image (text_of turn) some) in
+    let stands = cut_stands u (record { daemon = mid; posts = slice_set w.posts i q }) i q id h (set_there w.posts i q p at) low link has in
+    let v : Told = wired_then u i (By i (deeds.LosesImage true) ∷ []) (with_image None (u.wires i)) in
+    let now : Told = told_cut t i turn in
+    let posts = set_again w.posts i q (cut_off q) in
+    let again = stands_retold v (record { daemon = on_core after_lost mid id.number; posts = slice_set (slice_set w.posts i q) i (cut_off q) }) now.wires now.past now.pages
+    (put_again t.wires i bytes (with_image None (u.wires i)) (with_image None (t.wires i)) (sym (ap (with_image None) wires)))
+    (put_again t.past i (t.past i) (u.past i) (t.past i) (sym (put_there t.past i (t.past i))))
+    (put_again t.pages i (t.pages i) (u.pages i) (t.pages i) (sym (put_there t.pages i (t.pages i)))) stands in
+    subst (λ (x : List Post). Stands now (record { daemon = on_core after_lost mid id.number; posts = x })) posts again
+
+-- ---- the event
+
+flows_carried : (wc : WordCarriage) (c : Carriage) (framed : ℕ) → IsCarriage wc c framed → Started c → world.Flows (frame_of wc)
+flows_carried word.Quiet c framed h (inl e) = absurd (let clash : Quiet ≡ Streaming = sym h ∙ e in cc)
+flows_carried word.Quiet c framed h (inr e) = absurd (let clash : Quiet ≡ Ending = sym h ∙ e in cc)
+flows_carried (word.Waiting w) c framed h (inl e) = absurd (let clash : Waiting ≡ Streaming = sym h.0 ∙ e in cc)
+flows_carried (word.Waiting w) c framed h (inr e) = absurd (let clash : Waiting ≡ Ending = sym h.0 ∙ e in cc)
+flows_carried (word.Streaming w) c framed h s = tt
+flows_carried word.Ending c framed h s = tt
+
+carried_flows : (wc : WordCarriage) (c : Carriage) (framed : ℕ) → IsCarriage wc c framed → world.Flows (frame_of wc) → Started c
+carried_flows word.Quiet c framed h f = absurd f
+carried_flows (word.Waiting w) c framed h f = absurd f
+carried_flows (word.Streaming w) c framed h f = inl h.0
+carried_flows word.Ending c framed h f = inr h
+
+-- what flows is the frame of a session that goes on
+pub record IsStarted (i : ℕ) (make : ℕ → Make) (core : Core) (id : SessionId) (device : ℕ → Device) (p : Party) : Type 0 where
+  pub served : p.served ≡ true
+  pub started : Started p.base.carriage
+  pub shows : ShowsSession i make core id.number device (session_by i device p)
+
+started_by : (i : ℕ) (make : ℕ → Make) (core : Core) (id : SessionId) (served : Bool) (device : ℕ → Device) (p : Party) → p.served ≡ served → IsServed i make core (Some id) served device (session_by i device p) → world.Flows (world.frame_at core id.number) → IsStarted i make core id device p
+started_by i make core id true device p is h f =
+    record {
+      served = is;
+      started = carried_flows h.session.carriage p.base.carriage 0 h.shows.carriage (subst (λ (x : FrameState). world.Flows x) (ap frame_in h.stands) f);
+      shows = h;
+    }
+started_by i make core id false device p is h f = absurd (subst (λ (x : FrameState). world.Flows x) (ap frame_in h.0) f)
+
+frame_flows : (i : ℕ) (make : ℕ → Make) (core : Core) (link : Option SessionId) (device : ℕ → Device) (p : Party) → IsServed i make core link true device (session_by i device p) → Started p.base.carriage → world.number_in link (λ k. world.Flows (world.frame_at core k))
+frame_flows i make core None device p h s = absurd h
+frame_flows i make core (Some id) device p h s = subst (λ (x : FrameState). world.Flows x) (sym (ap frame_in h.stands)) (flows_carried h.session.carriage p.base.carriage 0 h.shows.carriage s)
+
+not_quiet : (c : Carriage) → Started c → c ≡ Quiet → ⊥
+not_quiet c (inl e) q = let clash : Quiet ≡ Streaming = sym q ∙ e in absurd (cc)
+not_quiet c (inr e) q = let clash : Quiet ≡ Ending = sym q ∙ e in absurd (cc)
+
+is_served : (b c : Bool) → b ≡ c → (b ≡ false → ⊥) → b ≡ true
+is_served b true e n = e
+is_served b false e n = absurd (n e)
+
+may_turn : (t : Told) (w : Scene) (i : ℕ) (p : Post) → Stands t w → slice_get w.posts i ≡ Some p → Can t i events.DataTurn → world.Can w.daemon p events.DataTurn
+may_turn t w i p h at can =
+    let s = h.posts i p at in
+    let me = t.rules.party i in
+    let served : me.served ≡ true = is_served me.served me.served refl (λ e. not_quiet me.base.carriage can.1 (s.means.calm e)) in
+    (bytes_some p.image (subst IsSome (sym s.carries.image) can.0), frame_flows i t.rules.make w.daemon p.link t.rules.device me (subst (λ (x : Bool). IsServed i t.rules.make w.daemon p.link x t.rules.device (session_by i t.rules.device me)) served s.served) can.1)
+
+flowing_or : (f : FrameState) → world.Flows f ⊎ (world.Flows f → ⊥)
+flowing_or frames.Quiet = inr (λ x. x)
+flowing_or frames.Waiting = inr (λ x. x)
+flowing_or frames.Streaming = inl tt
+flowing_or frames.Ending = inl tt
+
+flows_or : (core : Core) (link : Option SessionId) → world.number_in link (λ k. world.Flows (world.frame_at core k)) ⊎ (world.number_in link (λ k. world.Flows (world.frame_at core k)) → ⊥)
+flows_or core None = inr (λ x. x)
+flows_or core (Some id) = flowing_or (world.frame_at core id.number)
+
+-- the bytes of a connection that stands
+the_image : (o : Option Image) → IsSome o → (im : Image) × (o ≡ Some im)
+the_image None h = absurd (let clash : false ≡ true = h in cc)
+the_image (Some im) h = (im, refl)
+
+turn_leads : (t : Told) (w : Scene) (i : ℕ) (p : Post) (id : SessionId) → Stands t w → slice_get w.posts i ≡ Some p → i < t.count → p.link ≡ Some id → IsSome p.image → world.Flows (world.frame_at w.daemon id.number) → (e : Core) (q : Post) → world.TakesTurn id.number w.daemon p e q →
+    Leads events.DataTurn Turns t i (record { daemon = e; posts = slice_set w.posts i q })
+turn_leads t w i p id h at low link some flows e q d =
+    let s = h.posts i p at in
+    let me = t.rules.party i in
+    let served = subst (λ (x : Option SessionId). IsServed i t.rules.make w.daemon x me.served t.rules.device (session_by i t.rules.device me)) link s.served in
+    let is = started_by i t.rules.make w.daemon id me.served t.rules.device me refl served flows in
+    let has : IsSome (t.wires i).image = subst IsSome s.carries.image (some_bytes p.image some) in
+    let turned = streamed i t.rules.make (listed t.rules) w.daemon d.mid id t.rules.device me d.step d.buf h.seats h.faithful is.shows flows d.turns in
+    let stands : (im : Image) → p.image ≡ Some im → Stands (told_turn t i turned.turn) (record { daemon = d.mid; posts = slice_set w.posts i (gained turned.turn im p) }) = λ im image.
+    turned_stands t w i p id im d.mid d.step d.buf h at low link image is.served is.started has turned in
+    by_sent t w i p id d.mid turned.turn at low link some has is.started (λ im image. stands im image) turned.may (s.means.image has) e q (turned.sends id.number d.mid p e q d.sends)
+  where
+    by_sent : (t : Told) (w : Scene) (i : ℕ) (p : Post) (id : SessionId) (mid : Core) (turn : Turn) → slice_get w.posts i ≡ Some p → i < t.count → p.link ≡ Some id → IsSome p.image → IsSome (t.wires i).image → Started (t.rules.party i).base.carriage →
+        ((im : Image) → p.image ≡ Some im → Stands (told_turn t i turn) (record { daemon = mid; posts = slice_set w.posts i (gained turn im p) })) → MayCome i (make_for t.rules i) (t.rules.party i) (wanted t.rules i) (deed_of turn) → (t.rules.party i).image ≡ true →
+        (e : Core) (q : Post) → world.Sends id.number (text_of turn) (is_end turn) mid p e q → Leads events.DataTurn Turns t i (record { daemon = e; posts = slice_set w.posts i q })
+    by_sent t w i p id mid turn at low link some has started stands may dialled e q (inl sent) =
+        subst (λ (x : Core). Leads events.DataTurn Turns t i (record { daemon = x; posts = slice_set w.posts i q })) (sym sent.2)
+        (subst (λ (x : Post). Leads events.DataTurn Turns t i (record { daemon = mid; posts = slice_set w.posts i x })) (sym sent.3)
+        (done events.DataTurn Turns t i _ (turn_steps i turn) (told_turn t i turn) (has, started)
+        (record { deed = deed_of turn; text = text_of turn; is = record_of turn; sends = inl (refl, record { legal = (may, tt); then_is = refl }) }) (stands sent.0 sent.1)))
+    by_sent t w i p id mid turn at low link some has started stands may dialled e q (inr lost) =
+        let im = the_image p.image some in
+        let image : (told_turn t i turn).rules.party i ≡ job_after turn (t.rules.party i) = turned_party t i turn in
+        let may_lose = ap (λ (x : Party). x.image) image ∙ dialled in
+        subst (λ (x : Core). Leads events.DataTurn Turns t i (record { daemon = x; posts = slice_set w.posts i q })) (sym lost.0)
+        (subst (λ (x : Post). Leads events.DataTurn Turns t i (record { daemon = world.image_lost id.number mid; posts = slice_set w.posts i x })) (sym lost.1)
+        (done events.DataTurn Turns t i _ (cut_steps i turn) (told_cut t i turn) (has, started)
+        (record { deed = deed_of turn; text = text_of turn; is = record_of turn; sends = inr (refl, record { legal = (may, (may_lose, tt)); then_is = refl }) }) (cut_turned t w i p id im.0 mid turn at low link has (stands im.0 im.1))))
+
+pub turn_decides : DecidesAt events.DataTurn Turns
+turn_decides t w i p h at low =
+    record {
+      can = λ can. may_turn t w i p h at can;
+      either = both_or (some_or p.image) (flows_or w.daemon p.link);
+      does = λ can e q d. by_link t w i p p.link h at low refl can.0 can.1 e q d;
+    }
+  where
+    by_link : (t : Told) (w : Scene) (i : ℕ) (p : Post) (link : Option SessionId) → Stands t w → slice_get w.posts i ≡ Some p → i < t.count → p.link ≡ link → IsSome p.image → world.number_in p.link (λ k. world.Flows (world.frame_at w.daemon k)) →
+        (e : Core) (q : Post) → world.number_in p.link (λ k. world.TakesTurn k w.daemon p e q) → Leads events.DataTurn Turns t i (record { daemon = e; posts = slice_set w.posts i q })
+    by_link t w i p None h at low link some flows e q d = absurd (subst (λ (x : Option SessionId). world.number_in x (λ k. world.Flows (world.frame_at w.daemon k))) link flows)
+    by_link t w i p (Some id) h at low link some flows e q d =
+        turn_leads t w i p id h at low link some (subst (λ (x : Option SessionId). world.number_in x (λ k. world.Flows (world.frame_at w.daemon k))) link flows) e q (subst (λ (x : Option SessionId). world.number_in x (λ k. world.TakesTurn k w.daemon p e q)) link d)
