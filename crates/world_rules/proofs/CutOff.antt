@@ -22,6 +22,7 @@ use Rattle.scan_world.specs.Worlds.{Scene}
 use Rattle.world_rules.specs.Told.{Told, Wires, place_in, wired_then}
 use Rattle.world_rules.specs.Stands.{Carries, IsNobody, IsServed, Sits, SitsAt, Stands, seat_by, session_by}
 use Rattle.world_rules.specs.Happens.{with_image}
+use Rattle.world_rules.proofs.Seated.{reseats_on}
 use Rattle.world_rules.proofs.Calling.{is_lost, on_core}
 use Rattle.world_rules.proofs.Changing.{stands_change}
 use Rattle.world_rules.proofs.Lost.{IsLost, talks_lost}
@@ -66,6 +67,7 @@ cut_stands t w i p id h at low link some =
         served = subst (λ (x : Option SessionId). IsServed i t.rules.make e x me.served u.rules.device (session_by i u.rules.device after)) (sym link) both.1;
       });
       link = λ x is. inl is;
+      reseats = reseats_on after_lost p.link w.daemon id.number;
       begun = subst (λ (x : Party). AllByRecursion (λ (b : Begin). IsSheet b.page) x.base.started) (sym party) (h.begun i);
     })
 
@@ -95,6 +97,7 @@ stands_retold t w x y z e f g h =
       own = h.own;
       links = h.links;
       seats = h.seats;
+      seated = h.seated;
       faithful = h.faithful;
       begun = h.begun;
     }

@@ -8,7 +8,7 @@ use Rattle.device_api.specs.State.{DeviceState}
 use Rattle.saned_desk.specs.declared.session.Session.{Session as DeskSession}
 use Rattle.saned_core.specs.declared.seat.Seat.{Seat}
 use Rattle.saned_core.specs.declared.seat.SessionId.{SessionId}
-use Rattle.saned_core.specs.State.{Core, ended, fresh_seat, is_number, no_more, on_seat, on_session, opened, with_seat}
+use Rattle.saned_core.specs.State.{Core, ended, fresh_seat, is_number, no_more, on_seat, on_session, opened, with_seat, with_session}
 use Rattle.desk_rules.proofs.Moved.{unsome}
 use Rattle.scan_world.specs.declared.post.Post.{Post}
 use Rattle.world_rules.specs.Stands.{AreSeated, IsBelow, IsLinked}
@@ -86,6 +86,13 @@ none_number seat new e = absurd (let clash : None ≡ Some new = e in cc)
 
 pub reseats_on : (g : DeskSession DeviceState → DeskSession DeviceState) (link : Option SessionId) (d : Core) (n : ℕ) → Reseats link link d (record d { seats = on_seat (on_session g) n d.seats })
 reseats_on g link d n = record { place = 0; each = λ k s e. inl (was_on (on_session g) n d.seats (on_number g) k s e); still = λ id e. inl e }
+
+pub with_number : (now : DeskSession DeviceState) → KeepsNumber (with_session now)
+with_number now seat new e = ap (λ (x : Seat DeviceState). x.number) (sym (unsome (record seat { session = Some now }) new e))
+
+pub reseats_with : (now : DeskSession DeviceState) (link : Option SessionId) (d e : Core) (n : ℕ) → e.seats ≡ on_seat (with_session now) n d.seats → Reseats link link d e
+reseats_with now link d e n is =
+    record { place = 0; each = λ k s at. inl (was_on (with_session now) n d.seats (with_number now) k s (subst (λ (x : Seats). slice_get x k ≡ Some (Some s)) is at)); still = λ id o. inl o }
 
 pub reseats_ended : (d : Core) (id : SessionId) → Single d.seats → Reseats (Some id) None d (ended d id.number)
 reseats_ended d id h =

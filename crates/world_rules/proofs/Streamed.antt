@@ -34,6 +34,7 @@ use Rattle.desk_rules.proofs.Others.{own_of}
 use Rattle.scan_world.specs.declared.post.Post.{Post}
 use Rattle.scan_world.specs.Deeds as world
 use Rattle.world_rules.specs.Stands.{AreFaithful, IsBelow, IsFaithfulLease, IsFaithfulPlace, IsFaithfulSeat, IsFaithfulSession, are_named, session_by}
+use Rattle.world_rules.proofs.Seated.{Reseats, reseats_with, with_number}
 use Rattle.world_rules.proofs.Calling.{word_wanted}
 use Rattle.world_rules.proofs.Faithful.{on_seat_all, seat_all, session_true}
 use Rattle.world_rules.proofs.ReadTrue.{steady_read, stream_true}
@@ -53,11 +54,9 @@ pub record Streamed (i : ℕ) (make : ℕ → Make) (d e : Core) (id : SessionId
   pub shows : ShowsSession i make e id.number (devices_after turn table p.base.job.wants) (session_by i (devices_after turn table p.base.job.wants) (job_after turn p))
   pub input : input_in (seat_of e.seats id.number) ≡ input_in (seat_of d.seats id.number)
   pub replies : replies_in (seat_of e.seats id.number) ≡ replies_in (seat_of d.seats id.number)
+  pub reseats : (link : Option SessionId) → Reseats link link d e
 
 -- ---- its seat
-
-with_number : (now : DeskSession DeviceState) (seat new : Seat DeviceState) → with_session now seat ≡ Some new → new.number ≡ seat.number
-with_number now seat new e = ap (λ (x : Seat DeviceState). x.number) (sym (unsome (record seat { session = Some now }) new e))
 
 -- the seat with another session
 pub record IsSeated (n : ℕ) (seats : List (Option (Seat DeviceState))) (now : DeskSession DeviceState) : Type 0 where
@@ -150,6 +149,7 @@ streamed_by i make listed d e id table p step buf below faithful h g c =
       shows = shows;
       input = ap input_in seat ∙ sym (ap input_in seated.old);
       replies = ap replies_in seat ∙ sym (ap replies_in seated.old);
+      reseats = λ link. reseats_with now link d e n run.2;
     }
 
 -- ---- the frame streams, or is to be ended

@@ -241,6 +241,7 @@ turned_stands t w i p id im mid step buf h at low link image served started some
             (subst (λ (x : Bool). IsServed i t.rules.make mid (Some id) x u.rules.device (session_by i u.rules.device after)) (sym served) shows);
       });
       link = λ x is. inl is;
+      reseats = turned.reseats p.link;
       begun = subst (λ (x : Party). AllByRecursion (λ (b : Begin). IsSheet b.page) x.base.started) (sym party) (h.begun i);
     })
 
