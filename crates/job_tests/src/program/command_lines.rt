@@ -53,7 +53,7 @@ fn what_is_asked_for(rt: HostRuntime) -> Result<(), Fail> {
         ([b"--dont-scan".as_slice()].as_slice(), Task::SetOnly),
         ([b"--config".as_slice(), b"-"].as_slice(), Task::Scan),
     ] {
-        assert!(rt; task_of(&options(&rt, rt.alloc(), words)?) == task);
+        assert_eq!(rt; task_of(&options(&rt, rt.alloc(), words)?), task);
     }
     Ok(())
 }
@@ -175,7 +175,10 @@ fn words_that_are_no_command_line(rt: HostRuntime) -> Result<(), Fail> {
         [b"".as_slice()].as_slice(),
     ] {
         let words = texts(&rt, rt.alloc(), words)?;
-        assert!(rt; split_words(rt.alloc(), words.as_slice()).err() == Some(SplitFault::Bad));
+        assert_eq!(rt;
+            split_words(rt.alloc(), words.as_slice()).err(),
+            Some(SplitFault::Bad)
+        );
     }
     // What clap refuses.
     for words in [

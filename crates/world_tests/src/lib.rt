@@ -1,5 +1,0 @@
-//! Tests of the whole world.
-#![tactic(auto)]
-
-#[cfg(test)]
-mod world;
