@@ -125,7 +125,7 @@ turn_kept i k listed p dev step buf (deeds.Reads bytes) sends own = absurd sends
 turn_kept i k listed p dev step buf (deeds.Finishes name) sends own = absurd sends
 turn_kept i k listed p dev step buf (deeds.Loses memory) sends own = absurd sends
 turn_kept i k listed p dev step buf (deeds.LosesImage memory) sends own = absurd sends
-turn_kept i k listed p dev step buf deeds.Starves sends own = absurd sends
+turn_kept i k listed p dev step buf (deeds.Breaks memory) sends own = absurd sends
 turn_kept i k listed p dev step buf deeds.Chokes sends own = absurd sends
 turn_kept i k listed p dev step buf deeds.Stops sends own = absurd sends
 

@@ -22,7 +22,7 @@ use Rattle.saned_desk.specs.Rules.{Answers, AnswersBy, AnswersFree, AnswersGreet
 use Rattle.saned_desk.specs.Rules.Falters.{Under, All}
 use Rattle.saned_core.specs.declared.seat.Fed.TheVariants.{Standing, Over, Starved}
 use Rattle.saned_core.specs.Feeding as daemon
-use Rattle.saned_core.specs.Feeding.{AnswersAll, FeedsDesk, goes_on}
+use Rattle.saned_core.specs.Feeding.{AnswersAll, FaltersNext, FeedsDesk, goes_on}
 use Rattle.saned_core.specs.Feeding.Closes.{Garbled, Ended}
 use Rattle.scan_rules.specs.Devices.{Make}
 use Rattle.scan_rules.specs.Scanners.{Device, let_go, put_back, put_down}
@@ -94,14 +94,36 @@ ends_behind i make users d table s asked mid new far r =
 let_go_same : (mid new : Desk) → SameWords mid new → daemon.let_go mid ≡ daemon.let_go new
 let_go_same mid new same = ap (λ (t : Table). given_back t mid.session.held) (sym same.registry) ∙ ap (λ (h : Held). given_back new.registry h) (sym same.held)
 
-at_once : (i : ℕ) (make : ℕ → Make) (users : List Entry) (mid : Desk) (table : ℕ → Device) (s : Session) (new : Desk) → Shows i make mid table s → SameWords mid new → Returns i make users mid table s new
-at_once i make users mid table s new old same =
+-- the device of a word found no memory to start
+pub record IsStopped (mid new : Desk) : Type 0 where
+  pub word : ℕ
+  pub lease : Lease DeviceState
+  pub after : DeviceState
+  pub stands : held_by mid.session.held word ≡ Some lease
+  pub starts : Starts lease.device (Err code.NoMem) after
+  pub held : new.session.held ≡ on_word (λ _. with_device lease after) mid.session.held word
+
+-- all that the session holds is given back as it stands
+pub record Back (i : ℕ) (make : ℕ → Make) (mid : Desk) (table : ℕ → Device) (new : Desk) : Type 0 where
+  pub registry : new.registry ≡ mid.registry
+  pub words : (new.session.held ≡ mid.session.held) ⊎ IsStopped mid new
+  pub back : ShowsTable i make [] (daemon.let_go new) (λ k. let_go i (table k))
+  pub others : LeavesOthers i mid.registry (daemon.let_go new) table (λ k. let_go i (table k))
+
+pub back_same : (i : ℕ) (make : ℕ → Make) (mid : Desk) (table : ℕ → Device) (s : Session) (new : Desk) → Shows i make mid table s → SameWords mid new → Back i make mid table new
+back_same i make mid table s new old same =
     record {
-      devices = table;
-      closes = AtOnce refl;
+      registry = same.registry;
+      words = inl same.held;
       back = subst (λ (t : Table). ShowsTable i make [] t (λ k. let_go i (table k))) (let_go_same mid new same) (ends i make mid.session.held mid.registry table old.devices);
       others = subst (λ (t : Table). LeavesOthers i mid.registry t table (λ k. let_go i (table k))) (let_go_same mid new same) (ends_leave i make mid.session.held mid.registry table old.devices);
     }
+
+given_at_once : (i : ℕ) (make : ℕ → Make) (users : List Entry) (mid : Desk) (table : ℕ → Device) (s : Session) (new : Desk) → Back i make mid table new → Returns i make users mid table s new
+given_at_once i make users mid table s new b = record { devices = table; closes = AtOnce refl; back = b.back; others = b.others }
+
+at_once : (i : ℕ) (make : ℕ → Make) (users : List Entry) (mid : Desk) (table : ℕ → Device) (s : Session) (new : Desk) → Shows i make mid table s → SameWords mid new → Returns i make users mid table s new
+at_once i make users mid table s new old same = given_at_once i make users mid table s new (back_same i make mid table s new old same)
 
 -- one more request was served
 behind_one : (i : ℕ) (make : ℕ → Make) (users : List Entry) (mid : Desk) (table : ℕ → Device) (s : Session) (q : Asked) (said : Said) (new : Desk) → Served i make users mid table s q said new → Returns i make users mid table s new
@@ -123,7 +145,7 @@ answer_ends i make users mid table s q said new old begun g = by_end i make user
 -- no spelling stands in the rest, or a request ended it
 closed_by : (i : ℕ) (make : ℕ → Make) (users : List Entry) (mid : Desk) (table : ℕ → Device) (s : Session) (rest : List ℕ) (told : List Reply) (new : Desk) → Shows i make mid table s → IsBegun mid → daemon.Closes users mid rest told new → Returns i make users mid table s new
 closed_by i make users mid table s rest told new old begun (Garbled none said is) = at_once i make users mid table s new old (same_words mid mid new is refl refl)
-closed_by i make users mid table s rest told new old begun (Ended q said g ended) = answer_ends i make users mid table s q said new old begun g
+closed_by i make users mid table s rest told new old begun (Ended left q said takes g ended) = answer_ends i make users mid table s q said new old begun g
 
 -- ---- want of memory
 
@@ -136,7 +158,7 @@ rests_back i table p dev holder is k true e =
 rests_back i table p dev holder is k false e = ap (let_go i) (put_elsewhere table p dev k (eqb-false k p e))
 
 starved_start : (i : ℕ) (make : ℕ → Make) (users : List Entry) (mid : Desk) (table : ℕ → Device) (s : Session) (w : ℕ) (l : Lease DeviceState) (after : DeviceState) → Shows i make mid table s → held_by mid.session.held w ≡ Some l → Starts l.device (Err code.NoMem) after →
-    Returns i make users mid table s (with_held mid (on_word (λ _. with_device l after) mid.session.held w))
+    Back i make mid table (with_held mid (on_word (λ _. with_device l after) mid.session.held w))
 starved_start i make users mid table s w l after old e h =
     let shown = old.devices.leases w l e in
     let p = l.place in
@@ -158,8 +180,8 @@ starved_start i make users mid table s w l after old e h =
     let moved = moved_table i make mid table s w l old e new dev stays in
     let same : (k : ℕ) → let_go i (table k) ≡ let_go i (put table p dev k) = λ k. sym (rests_back i table p dev holder rested k (eqb k p) refl) in
     record {
-      devices = table;
-      closes = AtOnce refl;
+      registry = refl;
+      words = inr (record { word = w; lease = l; after = after; stands = e; starts = h; held = refl });
       back = same_tables i make [] (daemon.let_go new) (λ k. let_go i (put table p dev k)) (λ k. let_go i (table k)) same (ends i make new.session.held mid.registry (put table p dev) moved);
       others = leaves_same i mid.registry (daemon.let_go new) table (λ k. let_go i (put table p dev k)) (λ k. let_go i (table k)) same
           (leaves_then i mid.registry mid.registry (daemon.let_go new) table (put table p dev) (λ k. let_go i (put table p dev k)) (devices_leave i make mid.session.held mid.registry table w l after old.devices e) (ends_leave i make new.session.held mid.registry (put table p dev) moved));
@@ -170,60 +192,68 @@ no_reply told e = absurd (cc)
 
 -- by the word and the frame
 starved_at : (i : ℕ) (make : ℕ → Make) (users : List Entry) (mid : Desk) (table : ℕ → Device) (s : Session) (w : ℕ) (c : WordCarriage) (h lease : Option (Lease DeviceState)) → Shows i make mid table s → held_by mid.session.held w ≡ h → StartsLease c mid.session.port w h (Err (record {})) lease →
-    Returns i make users mid table s (with_held mid (on_word (λ _. lease) mid.session.held w))
+    Back i make mid table (with_held mid (on_word (λ _. lease) mid.session.held w))
 starved_at i make users mid table s w c None lease old e g = absurd (no_reply _ g.0)
 starved_at i make users mid table s w (word.Waiting v) (Some l) lease old e g = absurd (no_reply _ g.0)
 starved_at i make users mid table s w (word.Streaming v) (Some l) lease old e g = absurd (no_reply _ g.0)
 starved_at i make users mid table s w word.Ending (Some l) lease old e g = absurd (no_reply _ g.0)
 starved_at i make users mid table s w word.Quiet (Some l) lease old e g = by_told g.told_is
   where
-    by_told : ((g.answer ≢ Err code.NoMem) × (◌≡◌ {A = Result (Reply × WordCarriage) NoMem} (Err (record {})) (Ok (started word.Quiet mid.session.port w l.device.setup.order g.answer)))) ⊎ ((g.answer ≡ Err code.NoMem) × (◌≡◌ {A = Result (Reply × WordCarriage) NoMem} (Err (record {})) (Err (record {})))) → Returns i make users mid table s (with_held mid (on_word (λ _. lease) mid.session.held w))
+    by_told : ((g.answer ≢ Err code.NoMem) × (◌≡◌ {A = Result (Reply × WordCarriage) NoMem} (Err (record {})) (Ok (started word.Quiet mid.session.port w l.device.setup.order g.answer)))) ⊎ ((g.answer ≡ Err code.NoMem) × (◌≡◌ {A = Result (Reply × WordCarriage) NoMem} (Err (record {})) (Err (record {})))) → Back i make mid table (with_held mid (on_word (λ _. lease) mid.session.held w))
     by_told (inl t) = absurd (no_reply _ t.1)
     by_told (inr t) =
-        subst (λ (x : Option (Lease DeviceState)). Returns i make users mid table s (with_held mid (on_word (λ _. x) mid.session.held w))) (sym g.new_is)
+        subst (λ (x : Option (Lease DeviceState)). Back i make mid table (with_held mid (on_word (λ _. x) mid.session.held w))) (sym g.new_is)
         (starved_start i make users mid table s w l g.after old e (subst (λ (a : Result Unit Code). Starts l.device a g.after) t.0 g.starts))
 
-starved_word : (i : ℕ) (make : ℕ → Make) (users : List Entry) (mid : Desk) (table : ℕ → Device) (s : Session) (w : ℕ) (new : Desk) → Shows i make mid table s → StartsWord mid w (Err (record {})) new → Returns i make users mid table s new
+starved_word : (i : ℕ) (make : ℕ → Make) (users : List Entry) (mid : Desk) (table : ℕ → Device) (s : Session) (w : ℕ) (new : Desk) → Shows i make mid table s → StartsWord mid w (Err (record {})) new → Back i make mid table new
 starved_word i make users mid table s w new old g =
-    subst (λ (t : Desk). Returns i make users mid table s t) (sym g.new_is) (starved_at i make users mid table s w mid.session.carriage (held_by mid.session.held w) g.lease old refl g.starts)
+    subst (λ (t : Desk). Back i make mid table t) (sym g.new_is) (starved_at i make users mid table s w mid.session.carriage (held_by mid.session.held w) g.lease old refl g.starts)
 
 -- an answer of a session that was greeted and awaits nothing
 as_answer : (users : List Entry) (d : Desk) (q : Asked) (said : Said) (new : Desk) → d.session.greeted ≡ true → d.session.awaited ≡ None → AnswersFree users d q said new → Answers users d q said new
 as_answer users d q said new greeted none g = subst (λ (b : Bool). AnswersBy b users d q said new) (sym greeted) (subst (λ (a : Option Awaited). AnswersGreeted users d a q said new) (sym none) g)
 
-falters_free : (i : ℕ) (make : ℕ → Make) (users : List Entry) (mid : Desk) (table : ℕ → Device) (s : Session) (q : Asked) (new : Desk) → Shows i make mid table s → IsBegun mid → mid.session.greeted ≡ true → mid.session.awaited ≡ None → FaltersFree mid q new → Returns i make users mid table s new
-falters_free i make users mid table s (requests.Init version user) new old begun greeted none g = absurd g
-falters_free i make users mid table s requests.GetDevices new old begun greeted none g = at_once i make users mid table s new old (same_words mid mid new g refl refl)
-falters_free i make users mid table s (requests.Open name) new old begun greeted none (inl g) = at_once i make users mid table s new old (same_words mid mid new g refl refl)
-falters_free i make users mid table s (requests.Open name) new old begun greeted none (inr g) = at_once i make users mid table s new old (same_words mid (record mid { stream = g.1 }) new g.3 refl refl)
-falters_free i make users mid table s (requests.Close w) new old begun greeted none g = absurd g
-falters_free i make users mid table s (requests.GetOptionDescriptors w) new old begun greeted none g = at_once i make users mid table s new old (same_words mid mid new g refl refl)
-falters_free i make users mid table s (requests.ControlOption w n action kind value) new old begun greeted none (inl g) = at_once i make users mid table s new old (same_words mid mid new g refl refl)
-falters_free i make users mid table s (requests.ControlOption w n action kind value) new old begun greeted none (inr g) =
+-- all is given back as it stands, or the request was answered
+abbrev pub BackOrAnswered : ℕ → (ℕ → Make) → List Entry → Desk → (ℕ → Device) → Asked → Desk → Type 0
+BackOrAnswered i make users mid table q new = Back i make mid table new ⊎ ((said : Said) × Answers users mid q said new)
+
+falters_free : (i : ℕ) (make : ℕ → Make) (users : List Entry) (mid : Desk) (table : ℕ → Device) (s : Session) (q : Asked) (new : Desk) → Shows i make mid table s → mid.session.greeted ≡ true → mid.session.awaited ≡ None → FaltersFree mid q new → BackOrAnswered i make users mid table q new
+falters_free i make users mid table s (requests.Init version user) new old greeted none g = absurd g
+falters_free i make users mid table s requests.GetDevices new old greeted none g = inl (back_same i make mid table s new old (same_words mid mid new g refl refl))
+falters_free i make users mid table s (requests.Open name) new old greeted none (inl g) = inl (back_same i make mid table s new old (same_words mid mid new g refl refl))
+falters_free i make users mid table s (requests.Open name) new old greeted none (inr g) = inl (back_same i make mid table s new old (same_words mid (record mid { stream = g.1 }) new g.3 refl refl))
+falters_free i make users mid table s (requests.Close w) new old greeted none g = absurd g
+falters_free i make users mid table s (requests.GetOptionDescriptors w) new old greeted none g = inl (back_same i make mid table s new old (same_words mid mid new g refl refl))
+falters_free i make users mid table s (requests.ControlOption w n action kind value) new old greeted none (inl g) = inl (back_same i make mid table s new old (same_words mid mid new g refl refl))
+falters_free i make users mid table s (requests.ControlOption w n action kind value) new old greeted none (inr g) =
     let q = requests.ControlOption w n action kind value in
     let said = (control mid w n action kind value).0 in
-    answer_ends i make users mid table s q said new old begun (as_answer users mid q said new greeted none (refl, g))
-falters_free i make users mid table s (requests.GetParameters w) new old begun greeted none g = absurd g
-falters_free i make users mid table s (requests.Start w) new old begun greeted none g = starved_word i make users mid table s w new old g
-falters_free i make users mid table s (requests.Cancel w) new old begun greeted none g = absurd g
-falters_free i make users mid table s (requests.Authorize resource user password) new old begun greeted none g = absurd g
-falters_free i make users mid table s requests.Exit new old begun greeted none g = absurd g
+    inr (said, as_answer users mid q said new greeted none (refl, g))
+falters_free i make users mid table s (requests.GetParameters w) new old greeted none g = absurd g
+falters_free i make users mid table s (requests.Start w) new old greeted none g = inl (starved_word i make users mid table s w new old g)
+falters_free i make users mid table s (requests.Cancel w) new old greeted none g = absurd g
+falters_free i make users mid table s (requests.Authorize resource user password) new old greeted none g = absurd g
+falters_free i make users mid table s requests.Exit new old greeted none g = absurd g
 
-falters_greeted : (i : ℕ) (make : ℕ → Make) (users : List Entry) (mid : Desk) (table : ℕ → Device) (s : Session) (a : Option Awaited) (q : Asked) (new : Desk) → Shows i make mid table s → IsBegun mid → mid.session.greeted ≡ true → mid.session.awaited ≡ a → FaltersGreeted mid a q new → Returns i make users mid table s new
-falters_greeted i make users mid table s None q new old begun greeted e g = falters_free i make users mid table s q new old begun greeted e g
-falters_greeted i make users mid table s (Some aw) q new old begun greeted e g = absurd g
+falters_greeted : (i : ℕ) (make : ℕ → Make) (users : List Entry) (mid : Desk) (table : ℕ → Device) (s : Session) (a : Option Awaited) (q : Asked) (new : Desk) → Shows i make mid table s → mid.session.greeted ≡ true → mid.session.awaited ≡ a → FaltersGreeted mid a q new → BackOrAnswered i make users mid table q new
+falters_greeted i make users mid table s None q new old greeted e g = falters_free i make users mid table s q new old greeted e g
+falters_greeted i make users mid table s (Some aw) q new old greeted e g = absurd g
 
-falters_by : (i : ℕ) (make : ℕ → Make) (users : List Entry) (mid : Desk) (table : ℕ → Device) (s : Session) (b : Bool) (q : Asked) (new : Desk) → Shows i make mid table s → IsBegun mid → mid.session.greeted ≡ b → FaltersBy b mid q new → Returns i make users mid table s new
-falters_by i make users mid table s true q new old begun e g = falters_greeted i make users mid table s mid.session.awaited q new old begun e refl g
-falters_by i make users mid table s false q new old begun e g = absurd g
+falters_by : (i : ℕ) (make : ℕ → Make) (users : List Entry) (mid : Desk) (table : ℕ → Device) (s : Session) (b : Bool) (q : Asked) (new : Desk) → Shows i make mid table s → mid.session.greeted ≡ b → FaltersBy b mid q new → BackOrAnswered i make users mid table q new
+falters_by i make users mid table s true q new old e g = falters_greeted i make users mid table s mid.session.awaited q new old e refl g
+falters_by i make users mid table s false q new old e g = absurd g
 
-falters_end : (i : ℕ) (make : ℕ → Make) (users : List Entry) (mid : Desk) (table : ℕ → Device) (s : Session) (q : Asked) (new : Desk) → Shows i make mid table s → IsBegun mid → Falters users mid q new → Returns i make users mid table s new
-falters_end i make users mid table s q new old begun (Under g) = falters_by i make users mid table s mid.session.greeted q new old begun refl g
-falters_end i make users mid table s q new old begun (All said g) = answer_ends i make users mid table s q said new old begun g
+pub faltered : (i : ℕ) (make : ℕ → Make) (users : List Entry) (mid : Desk) (table : ℕ → Device) (s : Session) (q : Asked) (new : Desk) → Shows i make mid table s → Falters users mid q new → BackOrAnswered i make users mid table q new
+faltered i make users mid table s q new old (Under g) = falters_by i make users mid table s mid.session.greeted q new old refl g
+faltered i make users mid table s q new old (All said g) = inr (said, g)
 
-starved_by : (i : ℕ) (make : ℕ → Make) (users : List Entry) (mid : Desk) (table : ℕ → Device) (s : Session) (new : Desk) → Shows i make mid table s → IsBegun mid → (new ≡ mid) ⊎ ((q : Asked) × Falters users mid q new) → Returns i make users mid table s new
-starved_by i make users mid table s new old begun (inl is) = at_once i make users mid table s new old (same_words mid mid new is refl refl)
-starved_by i make users mid table s new old begun (inr g) = falters_end i make users mid table s g.0 new old begun g.1
+returned : (i : ℕ) (make : ℕ → Make) (users : List Entry) (mid : Desk) (table : ℕ → Device) (s : Session) (q : Asked) (new : Desk) → Shows i make mid table s → IsBegun mid → BackOrAnswered i make users mid table q new → Returns i make users mid table s new
+returned i make users mid table s q new old begun (inl b) = given_at_once i make users mid table s new b
+returned i make users mid table s q new old begun (inr g) = answer_ends i make users mid table s q g.0 new old begun g.1
+
+starved_by : (i : ℕ) (make : ℕ → Make) (users : List Entry) (mid : Desk) (table : ℕ → Device) (s : Session) (rest : List ℕ) (new : Desk) → Shows i make mid table s → IsBegun mid → (new ≡ mid) ⊎ FaltersNext users mid rest new → Returns i make users mid table s new
+starved_by i make users mid table s rest new old begun (inl is) = at_once i make users mid table s new old (same_words mid mid new is refl refl)
+starved_by i make users mid table s rest new old begun (inr g) = returned i make users mid table s g.request new old begun (faltered i make users mid table s g.request new old g.falters)
 
 -- ---- a piece
 
@@ -238,4 +268,4 @@ feeds_agree i make users d table s old piece rest text Over new shown begun g =
 feeds_agree i make users d table s old piece rest text Starved new shown begun g =
     let far = g.so_far in
     let goes = answers_all i make users d table s far.requests far.told g.mid shown begun far.answers in
-    (g.rest, far.requests, far.reads, ends_behind i make users d table s far.requests g.mid new goes (starved_by i make users g.mid goes.devices goes.session new goes.shows goes.begun g.falters))
+    (g.rest, far.requests, far.reads, ends_behind i make users d table s far.requests g.mid new goes (starved_by i make users g.mid goes.devices goes.session g.rest new goes.shows goes.begun g.falters))

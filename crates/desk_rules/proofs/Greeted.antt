@@ -88,10 +88,10 @@ pub same_words : (d e new : Desk) → new ≡ e → e.session.held ≡ d.session
 same_words d e new n held registry = record { held = ap (λ (x : Desk). x.session.held) n ∙ held; registry = ap (λ (x : Desk). x.registry) n ∙ registry }
 
 -- what goes on is no end
-goes : (said other : Said) → said ≡ other → goes_on other ≡ true → goes_on said ≡ false → ⊥
+pub goes : (said other : Said) → said ≡ other → goes_on other ≡ true → goes_on said ≡ false → ⊥
 goes said other e on no_more = let clash : true ≡ false = sym on ∙ sym (ap goes_on e) ∙ no_more in absurd (cc)
 
-open_ends : (users : List Entry) (d : Desk) (name : List ℕ) (free found : Option ℕ) (said : Said) (new : Desk) → OpensAt users d name free found said new → goes_on said ≡ false → ⊥
+pub open_ends : (users : List Entry) (d : Desk) (name : List ℕ) (free found : Option ℕ) (said : Said) (new : Desk) → OpensAt users d name free found said new → goes_on said ≡ false → ⊥
 open_ends users d name None found said new g off = goes said _ g.0 refl off
 open_ends users d name (Some w) None said new g off = goes said _ g.0 refl off
 open_ends users d name (Some w) (Some k) said new (inl asks) off = goes said _ asks.said_is refl off

@@ -258,7 +258,7 @@ starved_on : (pages : List Held) (s after : DeviceState) → StartsOn pages s (E
 starved_on [] s after h = absurd (let clash : Err code.NoMem ≡ Err code.NoDocs = h.0 in cc)
 starved_on (held ∷ pages) s after h = h.1
 
-starved_in : (phase : AnyPhase) (s after : DeviceState) → StartsIn phase s (Err code.NoMem) after → after ≡ stopped s
+pub starved_in : (phase : AnyPhase) (s after : DeviceState) → StartsIn phase s (Err code.NoMem) after → after ≡ stopped s
 starved_in (Rest c) s after h = starved_on s.pages s after h
 starved_in (Amid ended) s after h = starved_on s.pages s after h
 starved_in (Read pass given) s after h = absurd (let clash : Err code.NoMem ≡ Err code.DeviceBusy = h.0 in cc)

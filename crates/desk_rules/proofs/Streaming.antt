@@ -67,7 +67,7 @@ sent_end status window step buf (deeds.Reads bytes) is e = absurd is
 sent_end status window step buf (deeds.Finishes name) is e = absurd is
 sent_end status window step buf (deeds.Loses memory) is e = absurd is
 sent_end status window step buf (deeds.LosesImage memory) is e = absurd is
-sent_end status window step buf deeds.Starves is e = absurd is
+sent_end status window step buf (deeds.Breaks memory) is e = absurd is
 sent_end status window step buf deeds.Chokes is e = absurd is
 sent_end status window step buf deeds.Stops is e = absurd is
 
@@ -92,7 +92,7 @@ end_quiet status window i k listed p dev (deeds.Reads bytes) is = absurd is
 end_quiet status window i k listed p dev (deeds.Finishes name) is = absurd is
 end_quiet status window i k listed p dev (deeds.Loses memory) is = absurd is
 end_quiet status window i k listed p dev (deeds.LosesImage memory) is = absurd is
-end_quiet status window i k listed p dev deeds.Starves is = absurd is
+end_quiet status window i k listed p dev (deeds.Breaks memory) is = absurd is
 end_quiet status window i k listed p dev deeds.Chokes is = absurd is
 end_quiet status window i k listed p dev deeds.Stops is = absurd is
 

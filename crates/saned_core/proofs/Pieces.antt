@@ -23,8 +23,8 @@ starves_at_once users d old piece left before after = record { text = []; after_
 pub starves : (users : List Entry) (d mid : Desk) (old piece rest left before after : List ℕ) → GoesSoFar users d old piece rest mid before after → FeedsReplies Starved users d old piece left mid before after
 starves users d mid old piece rest left before after s = record { text = []; after_is = tt; feeds = record { rest = rest; mid = mid; text = s.text; so_far = s.progress; falters = inl refl } }
 
-pub starves_in : (users : List Entry) (d mid new : Desk) (old piece rest left before after end : List ℕ) (q : Request) → GoesSoFar users d old piece rest mid before after → Falters users mid q new → FeedsReplies Starved users d old piece left new before end
-starves_in users d mid new old piece rest left before after end q s f = record { text = []; after_is = tt; feeds = record { rest = rest; mid = mid; text = s.text; so_far = s.progress; falters = inr (q, f) } }
+pub starves_in : (users : List Entry) (d mid new : Desk) (old piece rest left behind before after end : List ℕ) (q : Request) → GoesSoFar users d old piece rest mid before after → Takes (limited message_limit request_format) rest behind q → Falters users mid q new → FeedsReplies Starved users d old piece left new before end
+starves_in users d mid new old piece rest left behind before after end q s k f = record { text = []; after_is = tt; feeds = record { rest = rest; mid = mid; text = s.text; so_far = s.progress; falters = inr (record { left = behind; request = q; takes = k; falters = f }) } }
 
 pub waits : (users : List Entry) (d mid : Desk) (old piece rest before after : List ℕ) → GoesSoFar users d old piece rest mid before after → WantsMore message_limit request_format rest → FeedsReplies Standing users d old piece rest mid before after
 waits users d mid old piece rest before after s w = record { text = s.text; after_is = s.after_is; feeds = record { so_far = s.progress; wants = w } }
@@ -36,11 +36,11 @@ garbles users d mid old piece rest left before after s n = record {
   feeds = record { rest = rest; mid = mid; front = s.text; back = []; last = []; so_far = s.progress; closes = Garbled n refl refl; says = refl; text_is = sym (append-nil s.text) };
 }
 
-pub ends : (users : List Entry) (d mid new : Desk) (old piece rest left before after end : List ℕ) (q : Request) (said : Said) → GoesSoFar users d old piece rest mid before after → Answers users mid q said new → SaysAs said after Over end → FeedsReplies Over users d old piece left new before end
-ends users d mid new old piece rest left before after end q said s a t = record {
+pub ends : (users : List Entry) (d mid new : Desk) (old piece rest left behind before after end : List ℕ) (q : Request) (said : Said) → GoesSoFar users d old piece rest mid before after → Takes (limited message_limit request_format) rest behind q → Answers users mid q said new → SaysAs said after Over end → FeedsReplies Over users d old piece left new before end
+ends users d mid new old piece rest left behind before after end q said s k a t = record {
   text = s.text ++ t.text;
   after_is = t.after_is ∙ ap (λ (x : List ℕ). x ++ t.text) s.after_is ∙ append_assoc before s.text t.text;
-  feeds = record { rest = rest; mid = mid; front = s.text; back = t.text; last = t.told; so_far = s.progress; closes = Ended q said a (t.ends refl); says = t.says; text_is = refl };
+  feeds = record { rest = rest; mid = mid; front = s.text; back = t.text; last = t.told; so_far = s.progress; closes = Ended behind q said k a (t.ends refl); says = t.says; text_is = refl };
 }
 
 pub goes_on_so : (users : List Entry) (d mid new : Desk) (old piece rest left before after end : List ℕ) (q : Request) (said : Said) → GoesSoFar users d old piece rest mid before after → Takes (limited message_limit request_format) rest left q → Answers users mid q said new → SaysAs said after Standing end → GoesSoFar users d old piece left new before end

@@ -4,7 +4,8 @@ use Rattle.rand_chacha.specs.ChaCha.{ChaCha}
 use Rattle.md5_auth.specs.declared.users.Entry.{Entry}
 use Rattle.device_api.specs.State.{DeviceState}
 use Rattle.dispatch.specs.Table.{Table}
-use Rattle.wire_format.specs.Limit.{WantsMore, IsNoStart}
+use Rattle.wire_format.specs.Lawful.{Takes}
+use Rattle.wire_format.specs.Limit.{limited, WantsMore, IsNoStart}
 use Rattle.wire_message.specs.Message.{message_limit, request as request_format, reply as reply_format}
 use Rattle.wire_codec.specs.Waiting.{AreSpelled, Waiting}
 use Rattle.wire_codec.specs.Waiting.Taken.{Asked}
@@ -87,10 +88,10 @@ pub record Reads (old piece : List ℕ) (requests : List Request) (rest : List �
   pub whole : old ++ piece ≡ text ++ rest
   pub spelled : AreSpelled (map (λ q. Asked q) requests) text
 
--- why a session is over: no spelling stands in the rest, or a request ended it
+-- why a session is over: no spelling stands in the rest, or the request in front of it ended it
 pub data Closes (users : List Entry) (d : Desk) (rest : List ℕ) (told : List Reply) (new : Desk) : Type 0 where
   Garbled : IsNoStart message_limit request_format rest → told ≡ [] → new ≡ d → Closes users d rest told new
-  Ended : (q : Request) (said : Said) → Answers users d q said new → EndsWith said told → Closes users d rest told new
+  Ended : (left : List ℕ) (q : Request) (said : Said) → Takes (limited message_limit request_format) rest left q → Answers users d q said new → EndsWith said told → Closes users d rest told new
 
 -- requests of the piece that were answered, each of which the session went on behind, and the bytes of the replies
 pub record Progress (users : List Entry) (d : Desk) (old piece rest : List ℕ) (mid : Desk) (text : List ℕ) : Type 0 where
@@ -123,13 +124,20 @@ pub record FeedsOver (users : List Entry) (d : Desk) (old piece : List ℕ) (new
   pub says : SaysAll last back
   pub text_is : text ≡ front ++ back
 
--- where memory was wanting some requests were answered, and one more may be under way
+-- the request in front of the rest is under way
+pub record FaltersNext (users : List Entry) (d : Desk) (rest : List ℕ) (new : Desk) : Type 0 where
+  pub left : List ℕ
+  pub request : Request
+  pub takes : Takes (limited message_limit request_format) rest left request
+  pub falters : Falters users d request new
+
+-- where memory was wanting some requests were answered, and the next one may be under way
 pub record RunsOut (users : List Entry) (d : Desk) (old piece : List ℕ) (new : Desk) : Type 0 where
   pub rest : List ℕ
   pub mid : Desk
   pub text : List ℕ
   pub so_far : Progress users d old piece rest mid text
-  pub falters : (new ≡ mid) ⊎ ((q : Request) × Falters users mid q new)
+  pub falters : (new ≡ mid) ⊎ FaltersNext users mid rest new
 
 -- by what becomes of the session
 abbrev pub FeedsDesk : Fed → List Entry → Desk → List ℕ → List ℕ → List ℕ → Desk → List ℕ → Type 0

@@ -263,15 +263,15 @@ stop_low (Running g) p q dev new status why u e = subst (λ (z : Stage). moves_a
 stop_low Done p q dev new status why u e = absurd u
 stop_low (Ended s w) p q dev new status why u e = absurd u
 
-starves_low : (i : ℕ) (k : Make) (p q : Party) (dev new : Device) (st : Stage) → p.mind.stage ≡ st → IsUnderWay st → p.served ≡ true → q.mind ≡ p.mind → q.served ≡ false → Talks i k p dev st → moves_of q new + 1 ≤ moves_at st p dev
-starves_low i k p q dev new Idle e u s m f h = absurd (cc (s, h.0))
-starves_low i k p q dev new (Running g) e u s m f h =
+breaks_low : (i : ℕ) (k : Make) (p q : Party) (dev new : Device) (st : Stage) → p.mind.stage ≡ st → IsUnderWay st → p.served ≡ true → q.mind ≡ p.mind → q.served ≡ false → Talks i k p dev st → moves_of q new + 1 ≤ moves_at st p dev
+breaks_low i k p q dev new Idle e u s m f h = absurd (cc (s, h.0))
+breaks_low i k p q dev new (Running g) e u s m f h =
     let before = ap (λ (x : Bool). runs_number x p.due g p.base p.mind dev) s in
     let after = ap (λ (x : Bool). runs_number x q.due g q.base q.mind new) f in
     let two = runs_two p.due g p.base p.mind dev in
     subst (λ (z : Stage). moves_at z q new + 1 ≤ moves_at (Running g) p dev) (sym (ap (λ (x : Mind). x.stage) m ∙ e)) (omega arith)
-starves_low i k p q dev new Done e u s m f h = absurd u
-starves_low i k p q dev new (Ended x w) e u s m f h = absurd u
+breaks_low i k p q dev new Done e u s m f h = absurd u
+breaks_low i k p q dev new (Ended x w) e u s m f h = absurd u
 
 -- EACH DEED
 pub paid : (i : ℕ) (k : Make) (listed : List ℕ) (p : Party) (dev : Device) (x : Deed) → IsUnderWay p.mind.stage → MayCome i k p dev x → IsFit k dev → Talks i k p dev p.mind.stage →
@@ -290,6 +290,6 @@ paid i k listed p dev (Deeds.Reads bytes) u l y h = reads_low i k p dev bytes (w
 paid i k listed p dev (Deeds.Finishes status) u l y h = finishes_low i k p dev status l.0.0 l.0.1 p.mind.stage l.0.2 l.1 l.2 h
 paid i k listed p dev (Deeds.Loses memory) u l y h = stop_low p.mind.stage p (party_after i k listed p dev (Deeds.Loses memory)) dev (device_after i k listed p dev (Deeds.Loses memory)) IoError Lost u refl
 paid i k listed p dev (Deeds.LosesImage memory) u l y h = stop_low p.mind.stage p (party_after i k listed p dev (Deeds.LosesImage memory)) dev (device_after i k listed p dev (Deeds.LosesImage memory)) IoError Lost u refl
-paid i k listed p dev Deeds.Starves u l y h = starves_low i k p (party_after i k listed p dev Deeds.Starves) dev (device_after i k listed p dev Deeds.Starves) p.mind.stage refl u l.0 refl refl h
+paid i k listed p dev (Deeds.Breaks memory) u l y h = breaks_low i k p (party_after i k listed p dev (Deeds.Breaks memory)) dev (device_after i k listed p dev (Deeds.Breaks memory)) p.mind.stage refl u l.0 refl refl h
 paid i k listed p dev Deeds.Chokes u l y h = stop_low p.mind.stage p (party_after i k listed p dev Deeds.Chokes) dev (device_after i k listed p dev Deeds.Chokes) NoMem Memory u refl
 paid i k listed p dev Deeds.Stops u l y h = stop_low p.mind.stage p (party_after i k listed p dev Deeds.Stops) dev (device_after i k listed p dev Deeds.Stops) GivenUp Cancelled u refl

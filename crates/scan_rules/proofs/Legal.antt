@@ -170,7 +170,7 @@ deed_goes i d k places p dev (Deeds.TurnsNamed status) z l = ((l.3.1, ap is_busy
 deed_goes i d k places p dev (Deeds.TurnsFault fault) z l = ((l.3.1, ap is_busy l.3.2), refl)
 deed_goes i d k places p dev (Deeds.Loses memory) z l = lets_go i d k dev
 deed_goes i d k places p dev (Deeds.LosesImage memory) z l = image_goes i d k p.base.carriage (is_held_by i dev.holder) dev refl
-deed_goes i d k places p dev Deeds.Starves z l = lets_go i d k dev
+deed_goes i d k places p dev (Deeds.Breaks memory) z l = lets_go i d k dev
 deed_goes i d k places p dev x z l = refl
 
 at_put : (s : Standing) (w : ℕ) (dev : Device) (ms : List Mark) → Leads (s.make w) (s.device w) ms dev → Leads (s.make w) (s.device w) ms (put s.device w dev w)

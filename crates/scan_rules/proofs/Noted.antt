@@ -159,7 +159,7 @@ deed_noted i d k ds p dev (Deeds.TurnsFault fault) = nothing p (party_after i k 
 deed_noted i d k ds p dev (Deeds.Loses memory) = nothing p (party_after i k ds p dev (Deeds.Loses memory)) (deed_marks i d k ds p dev (Deeds.Loses memory)) ds (lost_none (is_held_by i dev.holder) i d dev) refl refl
 deed_noted i d k ds p dev (Deeds.LosesImage memory) =
     nothing p (party_after i k ds p dev (Deeds.LosesImage memory)) (deed_marks i d k ds p dev (Deeds.LosesImage memory)) ds (off_none (is_held_by i dev.holder) p.base.carriage i d dev) refl refl
-deed_noted i d k ds p dev Deeds.Starves = nothing p (party_after i k ds p dev Deeds.Starves) (deed_marks i d k ds p dev Deeds.Starves) ds (lost_none (is_held_by i dev.holder) i d dev) refl refl
+deed_noted i d k ds p dev (Deeds.Breaks memory) = nothing p (party_after i k ds p dev (Deeds.Breaks memory)) (deed_marks i d k ds p dev (Deeds.Breaks memory)) ds (lost_none (is_held_by i dev.holder) i d dev) refl refl
 deed_noted i d k ds p dev x = nothing p (party_after i k ds p dev x) [] ds refl refl refl
 
 pub notes_true : NotesAreTrue

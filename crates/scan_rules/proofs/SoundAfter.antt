@@ -17,7 +17,7 @@ use Rattle.scan_rules.specs.Sound.{IsCalm, Talks, Finished, Sound}
 use Rattle.scan_rules.proofs.Others.{sound_change, sound_device}
 use Rattle.scan_rules.proofs.Image.{same_pages}
 use Rattle.scan_rules.proofs.Turns.{without_append, turned_right, last_right, short_right, fails_right, off_right}
-use Rattle.scan_rules.proofs.Kept.{IsKept, kept_connected, kept_answered, answered_pages, kept_heard, hear_pages, lift, kept_dialled, kept_read, read_pages, kept_finished, explains_loss, kept_stopped, kept_starved}
+use Rattle.scan_rules.proofs.Kept.{IsKept, kept_connected, kept_answered, answered_pages, kept_heard, hear_pages, lift, kept_dialled, kept_read, read_pages, kept_finished, explains_loss, kept_stopped, kept_broken}
 use Rattle.scan_rules.proofs.Treats.{treats, same_treated, fit_treated}
 
 not_quiet : (c d : Carriage) → c ≡ d → d ≢ Quiet → c ≢ Quiet
@@ -99,8 +99,8 @@ kept i k listed p dev (Deeds.LosesImage memory) l z t f = (
   kept_stopped i k p dev (image_off i p.base.carriage dev) p.mind.stage IoError Lost (loss memory) (Deeds.left_by_loss p.base.carriage) [] None p.todo p.due p.linked false p.served (explains_loss memory) t,
   same_pages k p.base (Deeds.without_image p.base (loss memory)) p.mind (stopped IoError Lost p.mind) refl refl refl f,
 )
-kept i k listed p dev Deeds.Starves l z t f =
-    (kept_starved i k p dev (let_go i dev) p.mind.stage l.0 l.1 t, same_pages k p.base (Deeds.hushed p.base) p.mind p.mind refl refl refl f)
+kept i k listed p dev (Deeds.Breaks memory) l z t f =
+    (kept_broken i k p dev (let_go i dev) p.mind.stage memory l.0 l.1 t, same_pages k p.base (Deeds.hushed memory p.base) p.mind p.mind refl refl refl f)
 kept i k listed p dev Deeds.Chokes l z t f = (
   kept_stopped i k p dev dev p.mind.stage NoMem Memory ClientStarved p.base.carriage p.base.flight p.base.ending p.todo p.due p.linked p.image p.served (refl, refl) t,
   same_pages k p.base (Deeds.with_cause p.base ClientStarved) p.mind (stopped NoMem Memory p.mind) refl refl refl f,

@@ -184,7 +184,7 @@ treats i k listed p dev Deeds.TurnsShort l = phased i k dev (ended_phase dev.pha
 treats i k listed p dev (Deeds.TurnsFault fault) l = rested i k dev l.3.1
 treats i k listed p dev (Deeds.Loses memory) l = lets_go i k dev
 treats i k listed p dev (Deeds.LosesImage memory) l = off_treats i k p.base.carriage dev
-treats i k listed p dev Deeds.Starves l = lets_go i k dev
+treats i k listed p dev (Deeds.Breaks memory) l = lets_go i k dev
 treats i k listed p dev x l = inl refl
 
 -- WHAT FOLLOWS

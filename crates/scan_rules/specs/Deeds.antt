@@ -30,10 +30,10 @@ pub data Deed : Type 0 where
   -- the client takes bytes of a frame, or its end
   Reads : (bytes : List ℕ) → Deed
   Finishes : (status : Status) → Deed
-  -- losses, by want of memory or not; want of memory in the session, and at the client; a cancel
+  -- losses, by want of memory or not; the end of the session by the daemon, for want of memory or not; want of memory at the client; a cancel
   Loses : (memory : Bool) → Deed
   LosesImage : (memory : Bool) → Deed
-  Starves : Deed
+  Breaks : (memory : Bool) → Deed
   Chokes : Deed
   Stops : Deed
 
@@ -117,9 +117,12 @@ left_by_loss Ending = Quiet
 abbrev pub without_image : Base → Cause → Base
 without_image b cause = record b { flight = []; ending = None; carriage = left_by_loss b.carriage; met = cause ∷ b.met }
 
--- the session is over for want of memory
-abbrev pub hushed : Base → Base
-hushed b = record b { carriage = Quiet; met = WasStarved ∷ b.met }
+-- the session is over: for want of memory, or for a reply past the limits of the wire, which explains no ending
+abbrev pub breaking : Bool → List Cause
+breaking memory = cond memory (WasStarved ∷ []) []
+
+abbrev pub hushed : Bool → Base → Base
+hushed memory b = record b { carriage = Quiet; met = breaking memory ++ b.met }
 
 abbrev pub with_cause : Base → Cause → Base
 with_cause b cause = record b { met = cause ∷ b.met }
@@ -141,7 +144,7 @@ party_after i k listed p dev (Finishes status) = finished p status
 party_after i k listed p dev (Loses memory) =
     record p { mind = stopped IoError Lost p.mind; todo = []; due = []; linked = false; image = false; served = false; base = bare p.base (loss memory) }
 party_after i k listed p dev (LosesImage memory) = record p { mind = stopped IoError Lost p.mind; image = false; base = without_image p.base (loss memory) }
-party_after i k listed p dev Starves = record p { todo = []; due = []; served = false; base = hushed p.base }
+party_after i k listed p dev (Breaks memory) = record p { todo = []; due = []; served = false; base = hushed memory p.base }
 party_after i k listed p dev Chokes = record p { mind = stopped NoMem Memory p.mind; base = with_cause p.base ClientStarved }
 party_after i k listed p dev Stops = record p { mind = stopped GivenUp Cancelled p.mind; todo = p.todo ++ farewell p.mind.stage; base = with_cause p.base GaveUp }
 
@@ -172,6 +175,6 @@ device_after i k listed p dev (Reads bytes) = dev
 device_after i k listed p dev (Finishes status) = dev
 device_after i k listed p dev (Loses memory) = let_go i dev
 device_after i k listed p dev (LosesImage memory) = image_off i p.base.carriage dev
-device_after i k listed p dev Starves = let_go i dev
+device_after i k listed p dev (Breaks memory) = let_go i dev
 device_after i k listed p dev Chokes = dev
 device_after i k listed p dev Stops = dev

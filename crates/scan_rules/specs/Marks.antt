@@ -157,7 +157,7 @@ deed_marks i d k listed p dev (Deeds.TurnsNamed status) = Rested i d ∷ []
 deed_marks i d k listed p dev (Deeds.TurnsFault fault) = Rested i d ∷ []
 deed_marks i d k listed p dev (Deeds.Loses memory) = lost_marks (is_held_by i dev.holder) i d dev
 deed_marks i d k listed p dev (Deeds.LosesImage memory) = off_marks (is_held_by i dev.holder) p.base.carriage i d dev
-deed_marks i d k listed p dev Deeds.Starves = lost_marks (is_held_by i dev.holder) i d dev
+deed_marks i d k listed p dev (Deeds.Breaks memory) = lost_marks (is_held_by i dev.holder) i d dev
 deed_marks i d k listed p dev x = []
 
 abbrev pub marks : Standing → Step → List Mark

@@ -133,7 +133,7 @@ price (Deeds.Reads bytes) = 0
 price (Deeds.Finishes status) = message
 price (Deeds.Loses memory) = 1
 price (Deeds.LosesImage memory) = 1
-price Deeds.Starves = 1
+price (Deeds.Breaks memory) = 1
 price Deeds.Chokes = 1
 price Deeds.Stops = 1
 

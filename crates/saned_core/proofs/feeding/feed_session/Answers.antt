@@ -29,7 +29,9 @@ returns-in-Err-TooLong g c = record {
 }
 
 pub returns-in-Err-answer-clause-desk : goal.returns-in-Err-answer-clause-desk
-returns-in-Err-answer-clause-desk g c = starves_in _ _ _ _ _ _ _ _ _ _ _ c.in-Ok-Some.request c.loop-request.invariant.so_far (Under c.in-Err-answer.ensures.err)
+returns-in-Err-answer-clause-desk g c =
+    let t = rw c.in-Ok-Some.field-0-is at c.in-Ok-Some.ensures.taken in
+    starves_in _ _ _ _ _ _ _ _ _ _ _ _ c.in-Ok-Some.request c.loop-request.invariant.so_far t.1 (Under c.in-Err-answer.ensures.err)
 
 pub loop-request-smaller : goal.loop-request-smaller
 loop-request-smaller g c = let t = rw c.in-Ok-Some.field-0-is at c.in-Ok-Some.ensures.taken in takes_less _ _ _ t.1
@@ -40,7 +42,11 @@ loop-request-preserved g c =
     record { fault = t.0; so_far = goes_on_so _ _ _ _ _ _ _ _ _ _ _ c.in-Ok-Some.request c.in-Ok-answer.said c.loop-request.invariant.so_far t.1 c.in-Ok-answer.ensures.ok c.in-Standing.ensures }
 
 pub returns-in-Over-clause-desk : goal.returns-in-Over-clause-desk
-returns-in-Over-clause-desk g c = ends _ _ _ _ _ _ _ _ _ _ _ c.in-Ok-Some.request c.in-Ok-answer.said c.loop-request.invariant.so_far c.in-Ok-answer.ensures.ok c.in-Over.ensures
+returns-in-Over-clause-desk g c =
+    let t = rw c.in-Ok-Some.field-0-is at c.in-Ok-Some.ensures.taken in
+    ends _ _ _ _ _ _ _ _ _ _ _ _ c.in-Ok-Some.request c.in-Ok-answer.said c.loop-request.invariant.so_far t.1 c.in-Ok-answer.ensures.ok c.in-Over.ensures
 
 pub returns-in-Starved-clause-desk : goal.returns-in-Starved-clause-desk
-returns-in-Starved-clause-desk g c = starves_in _ _ _ _ _ _ _ _ _ _ _ c.in-Ok-Some.request c.loop-request.invariant.so_far (All c.in-Ok-answer.said c.in-Ok-answer.ensures.ok)
+returns-in-Starved-clause-desk g c =
+    let t = rw c.in-Ok-Some.field-0-is at c.in-Ok-Some.ensures.taken in
+    starves_in _ _ _ _ _ _ _ _ _ _ _ _ c.in-Ok-Some.request c.loop-request.invariant.so_far t.1 (All c.in-Ok-answer.said c.in-Ok-answer.ensures.ok)
