@@ -1,6 +1,8 @@
 -- The end of a frame.
-use Rattle.std.proofs.Common.{◌≡◌, ℕ, Option, Some, None, Bool, true, false, List, [], ◌∷◌, ◌++◌, refl, sym, ap, subst, inl, inr}
+use Rattle.std.proofs.Common.{◌≡◌, ◌∙◌, ℕ, Option, Some, None, Bool, true, false, List, [], ◌∷◌, ◌++◌, refl, sym, ap, subst, inl, inr}
 use Rattle.std.specs.Prelude.{Result, Ok, Err, if◌then◌else◌, nat_lt}
+use Rattle.std.proofs.lemmas.List.{append-nil}
+use Rattle.wire_format.specs.Writer.{behind}
 use Rattle.sane_fixed.specs.declared.status.Status.{Status}
 use Rattle.sane_fixed.specs.declared.status.Status.TheVariants as statuses
 use Rattle.netpbm.specs.Picture.{Picture}
@@ -13,23 +15,26 @@ use Rattle.frame_join.specs.FrameHistory.{Past, no_past, closed, failed, is_full
 use Rattle.frame_join.specs.Joining.{Joining, Stands}
 use Rattle.data_records.specs.declared.records.Phase.{Phase}
 use Rattle.data_records.specs.declared.records.Phase.TheVariants as phases
+use Rattle.data_records.specs.Records.{HasEnded}
 use Rattle.scan_job.specs.declared.job.Task.{Task}
 use Rattle.scan_job.specs.declared.job.Task.TheVariants as tasks
 use Rattle.scan_job.specs.declared.outcome.Outcome.{Outcome}
 use Rattle.scan_job.specs.declared.outcome.Outcome.TheVariants.{Running, Done, Ended}
+use Rattle.scan_job.specs.declared.outcome.Why.{Why}
 use Rattle.client_rules.specs.declared.progress.Progress.{Progress}
 use Rattle.client_rules.specs.declared.progress.Progress.TheVariants as stages
 use Rattle.client_rules.specs.declared.progress.Notes.{Notes}
 use Rattle.client_rules.specs.declared.progress.Next.{Next}
-use Rattle.client_rules.specs.declared.progress.Next.TheVariants.{Wait, Finish}
+use Rattle.client_rules.specs.declared.progress.Next.TheVariants.{Wait, Finish, Stop}
+use Rattle.client_rules.specs.Asking.{asked}
 use Rattle.client_rules.specs.Talking.{turn, unjoined, page_whole, frame_joined, frame_ended_by, frame_ended, status_of, FrameEnd}
-use Rattle.net_client.specs.Talker.{TurnsPage, TakesPage, Stays, Turns, Talker, Serves, Settles, starved}
-use Rattle.client_rules.specs.Talks.{is_batch, is_ended, is_turning, turns, is_running, scans, IsWithin, FitsAt, Fits, FitsDone, NextFits, next_outcome, IsWait}
-use Rattle.net_client.specs.Hearing.{IsStarved}
+use Rattle.net_client.specs.Sending.{request_text}
+use Rattle.net_client.specs.Talker.{TurnsPage, TakesPage, Stays, Turns, Talker, Serves, Settles, ended}
+use Rattle.client_rules.specs.Talks.{is_batch, is_ended, is_turning, turns, is_running, scans, IsWithin, FitsAt, Fits, FitsDone, NextFits, next_outcome}
 use Rattle.client_rules.specs.Talks.{is_receiving, took}
-use Rattle.net_client.specs.Imaging.{EndsFrame, ReadsTo, ReadsEnd, ReadsFault, Receives}
+use Rattle.net_client.specs.Imaging.{EndsFrame, IsBehindFrame, ReadsTo, ReadsEnd, ReadsFault, Receives}
 use Rattle.client_rules.proofs.Fitting.{within_is_unjoined, faulty_is_unjoined, ended_unjoined, fault_ends}
-use Rattle.net_client.proofs.Hearings.{between, settles_well, wait_may_end, differs}
+use Rattle.net_client.proofs.Hearings.{between, settles_well, differs, running_is}
 
 -- ---- what the join says at the end of a frame
 
@@ -114,20 +119,46 @@ ends_frame old new join past status next was s w next_is stands settles =
     let well = settles_well old new old.progress (turn old.notes e.next) join e.past fits stands same in
     record { talk = well.0; serves = well.1; said = same.text; rest = differs old new old.progress (turn old.notes e.next) join same }
 
-pub end_starves : (old new : Talker) (join : Joining) (past : Past) (status : ℕ) (next : Next) → Stands past old.join → scans old.errand.task ≡ true → IsWithin past
-    → next ≡ (frame_ended old.errand.task old.notes.file past status).next → Stands (frame_ended old.errand.task old.notes.file past status).past join
-    → IsWait next → new ≡ starved (record old { join = join }) → IsStarved old past new
-end_starves old new join past status next was s w next_is stands waits new_is =
-    let e : FrameEnd = frame_ended old.errand.task old.notes.file past status in
-    let fits = ended_fits_by old.errand.task old.notes.file past (status_of status) s w (not_whole past old.join was (within_is_unjoined past w)) in
-    record {
-      outcome = ap (λ (v : Talker). v.outcome) new_is;
-      errand = ap (λ (v : Talker). v.errand) new_is;
-      out = ap (λ (v : Talker). v.out) new_is;
-      past_then = e.past;
-      given = ended_gives_by old.errand.task old.notes.file past (status_of status);
-      serves = subst (λ (v : Talker). Serves e.past v) (sym new_is) (record { stands = stands; fits = wait_may_end old.errand.task e.past e.next (subst IsWait next_is waits) fits });
-    }
+-- behind a frame START is sent for the next one, or nothing
+unjoined_waits : (fault : JoinFault) (progress : Progress) → unjoined fault ≡ Wait progress → IsBehindFrame progress
+unjoined_waits faults.Shape progress e = absurd (cc)
+unjoined_waits faults.Long progress e = absurd (cc)
+unjoined_waits faults.Short progress e = absurd (cc)
+unjoined_waits faults.NoMem progress e = absurd (cc)
+
+turns_behind : (more : Bool) (progress : Progress) → (if more then Wait stages.Turning else Finish []) ≡ Wait progress → IsBehindFrame progress
+turns_behind true progress e = let same : stages.Turning ≡ progress = cc in subst IsBehindFrame same tt
+turns_behind false progress e = absurd (cc)
+
+whole_waits : (task : Task) (file : ℕ) (progress : Progress) → page_whole task file ≡ Wait progress → IsBehindFrame progress
+whole_waits (tasks.Batch count) file progress e = turns_behind (nat_lt file count) progress e
+whole_waits tasks.List file progress e = absurd (cc)
+whole_waits tasks.Show file progress e = absurd (cc)
+whole_waits tasks.SetOnly file progress e = absurd (cc)
+whole_waits tasks.Scan file progress e = absurd (cc)
+
+joined_waits : (task : Task) (file : ℕ) (r : Result Bool JoinFault) (progress : Progress) → frame_joined task file r ≡ Wait progress → IsBehindFrame progress
+joined_waits task file (Ok true) progress e = whole_waits task file progress e
+joined_waits task file (Ok false) progress e = let same : stages.Starting false ≡ progress = cc in subst IsBehindFrame same tt
+joined_waits task file (Err x) progress e = unjoined_waits x progress e
+
+frame_waits : (task : Task) (file : ℕ) (past : Past) (status : Option Status) (progress : Progress) → (frame_ended_by task file past status).next ≡ Wait progress → IsBehindFrame progress
+frame_waits task file past (Some statuses.Eof) progress e = joined_waits task file (answer_of (after_end past)) progress e
+frame_waits task file past None progress e = absurd (cc)
+frame_waits task file past (Some status) progress e = absurd (cc)
+
+pub behind_frame : (task : Task) (file : ℕ) (past : Past) (status : ℕ) (progress : Progress) → Wait progress ≡ (frame_ended task file past status).next → IsBehindFrame progress
+behind_frame task file past status progress e = frame_waits task file past (status_of status) progress (sym e)
+
+pub waits_so : (old new : Talker) (progress : Progress) → is_running old.outcome ≡ true → new ≡ record old { progress = progress; out = new.out } → behind old.out (request_text (asked old.errand old.notes.word progress)) ≡ Some new.out
+    → Settles old (Wait progress) new
+waits_so old new progress running rest text = record { rest = rest ∙ ap (λ (o : Outcome). record old { outcome = o; progress = progress; out = new.out }) (running_is old.outcome running); text = text }
+
+pub stops_so : (old new : Talker) (status : Status) (why : Why) → new ≡ ended status why old → Settles old (Stop status why) new
+stops_so old new status why e = record {
+  rest = subst (λ (v : Talker). v ≡ record (ended status why old) { out = v.out }) (sym e) refl;
+  text = ap (λ (l : List ℕ). Some l) (append-nil old.out) ∙ ap (λ (v : Talker). Some v.out) (sym e);
+}
 
 -- ---- a piece
 
@@ -155,25 +186,25 @@ receiving_fits outcome progress task past then_ r f w = absurd (let clash : fals
 took_within : (past : Past) (frame : Frame) (given : List ℕ) → past.fault ≡ None → IsWithin (took past frame given)
 took_within past frame given calm = (calm, (_, refl))
 
-pub goes : (old : Talker) (past : Past) (piece : List ℕ) (phase : Phase) (join : Joining) → is_receiving old.outcome old.progress ≡ true → Serves past old
+pub goes : (old : Talker) (past : Past) (piece : List ℕ) (phase : Phase) (join : Joining) → is_receiving old.outcome old.progress ≡ true → Serves past old → (HasEnded phase → ⊥)
     → ((q : Past) (f : Frame) → Stands q old.join → q.fault ≡ None → q.under ≡ Some f → ReadsTo old.phase q f piece phase join) → Receives old past piece (record old { phase = phase; join = join })
-goes old past piece phase join r serves reads =
+goes old past piece phase join r serves going reads =
     let at = receives_at old past r serves in
     let told = reads past at.1.1.0 serves.stands at.1.0 at.1.1.1 in
     inl (record {
       frame = at.1.1.0;
       under = at.1.1.1;
       reads = told;
+      going = going;
       serves = record { stands = told.stands; fits = receiving_fits old.outcome old.progress old.errand.task past (took past at.1.1.0 told.given) r serves.fits (took_within past at.1.1.0 told.given at.1.0) };
       rest = refl;
     })
 
-pub ends : (old : Talker) (new : Talker) (past : Past) (piece : List ℕ) (status : ℕ) (join : Joining) (well : Bool) → is_receiving old.outcome old.progress ≡ true → Serves past old
+pub ends : (old : Talker) (new : Talker) (past : Past) (piece : List ℕ) (status : ℕ) (join : Joining) → is_receiving old.outcome old.progress ≡ true → Serves past old
     → ((q : Past) (f : Frame) → Stands q old.join → q.fault ≡ None → q.under ≡ Some f → ReadsEnd old.phase q f piece status join)
-    → (well ≡ true → (q : Past) → Stands q join → scans old.errand.task ≡ true → IsWithin q → EndsFrame (record old { phase = phases.Head; join = join }) q status new)
-    → (well ≡ false → (q : Past) → Stands q join → scans old.errand.task ≡ true → IsWithin q → IsStarved (record old { phase = phases.Head; join = join }) q new)
+    → ((q : Past) → Stands q join → scans old.errand.task ≡ true → IsWithin q → EndsFrame (record old { phase = phases.Head; join = join }) q status new)
     → Receives old past piece new
-ends old new past piece status join true r serves reads done starved_by =
+ends old new past piece status join r serves reads done =
     let at = receives_at old past r serves in
     let told = reads past at.1.1.0 serves.stands at.1.0 at.1.1.1 in
     inr (inl (record {
@@ -182,20 +213,8 @@ ends old new past piece status join true r serves reads done starved_by =
       status = status;
       join = join;
       reads = told;
-      ends = done refl (took past at.1.1.0 told.reads.given) told.reads.stands at.0 (took_within past at.1.1.0 told.reads.given at.1.0);
+      ends = done (took past at.1.1.0 told.reads.given) told.reads.stands at.0 (took_within past at.1.1.0 told.reads.given at.1.0);
     }))
-ends old new past piece status join false r serves reads done starved_by =
-    let at = receives_at old past r serves in
-    let told = reads past at.1.1.0 serves.stands at.1.0 at.1.1.1 in
-    let s = starved_by refl (took past at.1.1.0 told.reads.given) told.reads.stands at.0 (took_within past at.1.1.0 told.reads.given at.1.0) in
-    inr (inr (inl (record {
-      frame = at.1.1.0;
-      under = at.1.1.1;
-      status = status;
-      join = join;
-      reads = told;
-      starved = record { outcome = s.outcome; errand = s.errand; out = s.out; past_then = s.past_then; given = s.given; serves = s.serves };
-    })))
 
 fault_fits : (task : Task) (notes : Notes) (fault : JoinFault) (past : Past) → past.fault ≡ Some fault → Fits task (next_outcome task notes (unjoined fault)) stages.Over past
 fault_fits task notes faults.Shape past e = ended_unjoined task past (faulty_is_unjoined past faults.Shape e)
@@ -209,14 +228,14 @@ pub fails : (old : Talker) (past : Past) (piece : List ℕ) (fault : JoinFault) 
 fails old past piece fault phase join r serves reads =
     let at = receives_at old past r serves in
     let told = reads past at.1.1.0 serves.stands at.1.0 at.1.1.1 in
-    inr (inr (inr (record {
+    inr (inr (record {
       frame = at.1.1.0;
       under = at.1.1.1;
       fault = fault;
       reads = told;
       serves = record { stands = told.stands; fits = fault_fits old.errand.task old.notes fault _ told.fails };
       rest = refl;
-    })))
+    }))
 
 -- ---- the file
 

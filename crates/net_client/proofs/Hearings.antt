@@ -25,10 +25,10 @@ use Rattle.client_rules.specs.declared.progress.Next.TheVariants.{Wait, Finish, 
 use Rattle.client_rules.specs.Talking.{Turn}
 use Rattle.net_client.specs.Talker.{Talker, talk_of, Serves, Settles, sent_by, starved}
 use Rattle.client_rules.specs.Talks.{Talk, is_running, suits, FitsAt, Fits, FitsEnded, NextFits, settled, next_outcome, next_progress, heard_at, after_reply, Answer, IsWait, shaped, shaped_by}
-use Rattle.net_client.specs.Hearing.{IsReply, Hears, HearsReply, IsStarved, StandsStarved}
+use Rattle.net_client.specs.Hearing.{IsReply, Hears, HearsReply, IsChoked, StandsStarved}
 use Rattle.client_rules.proofs.Fitting.{heard_fits, shaped_fits, may_end, ended_unjoined, faulty_is_unjoined}
 
-running_is : (o : Outcome) → is_running o ≡ true → o ≡ Running
+pub running_is : (o : Outcome) → is_running o ≡ true → o ≡ Running
 running_is Running e = refl
 running_is (Done reports) e = absurd (let clash : false ≡ true = e in cc)
 running_is (Ended status why) e = absurd (let clash : false ≡ true = e in cc)
@@ -99,23 +99,27 @@ begun_gives_by false true false past grown e = e
 
 -- want of memory
 ends_starved : (past : Past) (task : Task) (progress : Progress) → suits task progress ≡ true → FitsAt progress past → (join : Joining) → StandsStarved past join
-    → (p : Past) × (p.given ≡ past.given) × Stands p join × FitsEnded task p
-ends_starved past task progress s f join (inl stands) = (past, refl, stands, may_end task progress past s f)
-ends_starved past task progress s f join (inr stands) = (failed NoMem past, refl, stands, ended_unjoined task (failed NoMem past) (faulty_is_unjoined (failed NoMem past) NoMem refl))
+    → (p : Past) × (p.given ≡ past.given) × (p.ended ≡ past.ended) × Stands p join × FitsEnded task p
+ends_starved past task progress s f join (inl stands) = (past, refl, refl, stands, may_end task progress past s f)
+ends_starved past task progress s f join (inr stands) = (failed NoMem past, refl, refl, stands, ended_unjoined task (failed NoMem past) (faulty_is_unjoined (failed NoMem past) NoMem refl))
 
 pub is_starved : (old mid new : Talker) (past : Past) → is_running old.outcome ≡ true → Serves past old → StandsStarved past mid.join
-    → mid ≡ record old { progress = mid.progress; notes = mid.notes; join = mid.join } → new ≡ starved mid → IsStarved old past new
+    → mid ≡ record old { progress = mid.progress; notes = mid.notes; join = mid.join } → new ≡ starved mid → IsChoked old past new
 is_starved old mid new past running serves stands mid_is new_is =
     let at = fits_at past old running serves in
     let e = ends_starved past old.errand.task old.progress at.0 at.1 mid.join stands in
     let errand : mid.errand ≡ old.errand = ap (λ (v : Talker). v.errand) mid_is in
     record {
-      outcome = ap (λ (v : Talker). v.outcome) new_is;
-      errand = ap (λ (v : Talker). v.errand) new_is ∙ errand;
-      out = ap (λ (v : Talker). v.out) new_is ∙ ap (λ (v : Talker). v.out) mid_is;
-      past_then = e.0;
-      given = e.1;
-      serves = subst (λ (v : Talker). Serves e.0 v) (sym new_is) (record { stands = e.2; fits = subst (λ (x : Errand). FitsEnded x.task e.0) (sym errand) e.3 });
+      starved = record {
+        outcome = ap (λ (v : Talker). v.outcome) new_is;
+        progress = ap (λ (v : Talker). v.progress) new_is;
+        errand = ap (λ (v : Talker). v.errand) new_is ∙ errand;
+        out = ap (λ (v : Talker). v.out) new_is ∙ ap (λ (v : Talker). v.out) mid_is;
+        past_then = e.0;
+        given = e.1;
+        serves = subst (λ (v : Talker). Serves e.0 v) (sym new_is) (record { stands = e.3; fits = subst (λ (x : Errand). FitsEnded x.task e.0) (sym errand) e.4 });
+      };
+      ended = e.2;
     }
 
 begun_gives : (p : Params) (o : ByteOrder) (starved : Bool) (fault : Option JoinFault) (under : Option Frame) (past : Past) → (begun fault under p o starved past).given ≡ past.given
@@ -139,6 +143,35 @@ answer_gives : (progress : Progress) (errand : Errand) (notes : Notes) (past : P
 answer_gives (stages.Shaping port order) errand notes past r = shaped_gives port order past r
 answer_gives progress errand notes past r = refl
 
+-- nor does a frame end by a reply
+begun_ends_by : (joined accepted starved : Bool) (past grown : Past) → grown.ended ≡ past.ended
+    → (if joined then past else (if not accepted then failed Shape past else (if starved then failed NoMem past else grown))).ended ≡ past.ended
+begun_ends_by true accepted starved past grown e = refl
+begun_ends_by false false starved past grown e = refl
+begun_ends_by false true true past grown e = refl
+begun_ends_by false true false past grown e = e
+
+begun_ends : (p : Params) (o : ByteOrder) (starved : Bool) (fault : Option JoinFault) (under : Option Frame) (past : Past) → (begun fault under p o starved past).ended ≡ past.ended
+begun_ends p o starved (Some f) under past = refl
+begun_ends p o starved None (Some g) past = refl
+begun_ends p o starved None None past = begun_ends_by (is_joined past.ended) (is_accepted past.ended p o) starved past (record past { under = Some (record { params = p; order = o; payload = [] }) }) refl
+
+begin_ends : (p : Params) (o : ByteOrder) (past : Past) → (after_begin p o false past).ended ≡ past.ended
+unfolding after_begin
+begin_ends p o past = begun_ends p o false past.fault past.under past
+
+shaped_ends_by : (status : Status) (port : ℕ) (order : ByteOrder) (p : Params) (past : Past) → (shaped_by status port order p past).past.ended ≡ past.ended
+shaped_ends_by statuses.Good port order p past = begin_ends p order past
+shaped_ends_by status port order p past = refl
+
+shaped_ends : (port : ℕ) (order : ByteOrder) (past : Past) (r : Reply) → (shaped port order past r).past.ended ≡ past.ended
+shaped_ends port order past (replies.GetParameters status p) = shaped_ends_by status port order p past
+shaped_ends port order past r = refl
+
+pub answer_ends : (progress : Progress) (errand : Errand) (notes : Notes) (past : Past) (r : Reply) → (heard_at progress errand notes past r).past.ended ≡ past.ended
+answer_ends (stages.Shaping port order) errand notes past r = shaped_ends port order past r
+answer_ends progress errand notes past r = refl
+
 pub wait_may_end : (task : Task) (past : Past) (next : Next) → IsWait next → NextFits task past next → FitsEnded task past
 wait_may_end task past (Wait progress) w f = may_end task progress past f.0 f.1
 wait_may_end task past (Finish devices) w f = absurd w
@@ -147,7 +180,7 @@ wait_may_end task past (Stop status why) w f = absurd w
 -- want of memory as the job goes on
 pub settles_starved : (old mid new : Talker) (past : Past) (r : Reply) (next : Next) → is_running old.outcome ≡ true → Serves past old
     → next ≡ (heard_at old.progress old.errand old.notes past r).turn.next → Stands (heard_at old.progress old.errand old.notes past r).past mid.join
-    → mid ≡ record old { progress = mid.progress; notes = mid.notes; join = mid.join } → IsWait next → new ≡ starved mid → IsStarved old past new
+    → mid ≡ record old { progress = mid.progress; notes = mid.notes; join = mid.join } → IsWait next → new ≡ starved mid → IsChoked old past new
 settles_starved old mid new past r next running serves next_is stands mid_is waits new_is =
     let a : Answer = heard_at old.progress old.errand old.notes past r in
     let at = fits_at past old running serves in
@@ -155,12 +188,16 @@ settles_starved old mid new past r next running serves next_is stands mid_is wai
     let errand : mid.errand ≡ old.errand = ap (λ (v : Talker). v.errand) mid_is in
     let may : FitsEnded old.errand.task a.past = wait_may_end old.errand.task a.past a.turn.next (subst IsWait next_is waits) fits in
     record {
-      outcome = ap (λ (v : Talker). v.outcome) new_is;
-      errand = ap (λ (v : Talker). v.errand) new_is ∙ errand;
-      out = ap (λ (v : Talker). v.out) new_is ∙ ap (λ (v : Talker). v.out) mid_is;
-      past_then = a.past;
-      given = answer_gives old.progress old.errand old.notes past r;
-      serves = subst (λ (v : Talker). Serves a.past v) (sym new_is) (record { stands = stands; fits = subst (λ (x : Errand). FitsEnded x.task a.past) (sym errand) may });
+      starved = record {
+        outcome = ap (λ (v : Talker). v.outcome) new_is;
+        progress = ap (λ (v : Talker). v.progress) new_is;
+        errand = ap (λ (v : Talker). v.errand) new_is ∙ errand;
+        out = ap (λ (v : Talker). v.out) new_is ∙ ap (λ (v : Talker). v.out) mid_is;
+        past_then = a.past;
+        given = answer_gives old.progress old.errand old.notes past r;
+        serves = subst (λ (v : Talker). Serves a.past v) (sym new_is) (record { stands = stands; fits = subst (λ (x : Errand). FitsEnded x.task a.past) (sym errand) may });
+      };
+      ended = answer_ends old.progress old.errand old.notes past r;
     }
 
 -- ---- one after another
@@ -198,3 +235,8 @@ hears_more errand t u (first ∷ rs) text sent front said r h is e =
 pub hears_gives : (errand : Errand) (t u : Talk) (rs : List Reply) (text sent : List ℕ) → Hears errand t rs text sent u → u.past.given ≡ t.past.given
 hears_gives errand t u [] text sent h = ap (λ (x : Talk). x.past.given) h.2
 hears_gives errand t u (r ∷ rs) text sent h = hears_gives errand (after_reply errand t r) u rs h.1 h.3 h.8 ∙ answer_gives t.progress errand t.notes t.past r
+
+-- nor do frames end with them
+pub hears_ends : (errand : Errand) (t u : Talk) (rs : List Reply) (text sent : List ℕ) → Hears errand t rs text sent u → u.past.ended ≡ t.past.ended
+hears_ends errand t u [] text sent h = ap (λ (x : Talk). x.past.ended) h.2
+hears_ends errand t u (r ∷ rs) text sent h = hears_ends errand (after_reply errand t r) u rs h.1 h.3 h.8 ∙ answer_ends t.progress errand t.notes t.past r

@@ -22,7 +22,7 @@ use Rattle.client_rules.specs.declared.progress.Progress.{Progress}
 use Rattle.client_rules.specs.declared.progress.Progress.TheVariants as stages
 use Rattle.net_client.specs.Talker.{Talker, talk_of, Serves, sent_by, ended}
 use Rattle.client_rules.specs.Talks.{Talk, is_running, answer_to, after_reply}
-use Rattle.net_client.specs.Hearing.{awaited, IsReply, Hears, HearsReply, HasHeard, IsStarved, Heeds, Whole, Garbled, Starved, outcome_by, StopsReading}
+use Rattle.net_client.specs.Hearing.{awaited, IsReply, Hears, HearsReply, HasHeard, IsChoked, Heeds, Whole, Garbled, Starved, outcome_by, StopsReading}
 use Rattle.client_rules.proofs.Fitting.{may_end}
 use Rattle.net_client.proofs.Hearings.{fits_at, hears_none, hears_more}
 
@@ -108,16 +108,20 @@ heard_more old mid got new past piece p r h waits got_is takes hears =
 
 -- ---- how a piece ends
 
-pub stop_starved : (old : Talker) (past : Past) (input : Waiting) → is_running old.outcome ≡ true → Serves past old → IsStarved old past (record old { outcome = Ended statuses.NoMem whys.Memory; progress = stages.Over; input = input })
+pub stop_starved : (old : Talker) (past : Past) (input : Waiting) → is_running old.outcome ≡ true → Serves past old → IsChoked old past (record old { outcome = Ended statuses.NoMem whys.Memory; progress = stages.Over; input = input })
 stop_starved old past input running serves =
     let at = fits_at past old running serves in
     record {
-      outcome = refl;
-      errand = refl;
-      out = refl;
-      past_then = past;
-      given = refl;
-      serves = record { stands = serves.stands; fits = may_end old.errand.task old.progress past at.0 at.1 };
+      starved = record {
+        outcome = refl;
+        progress = refl;
+        errand = refl;
+        out = refl;
+        past_then = past;
+        given = refl;
+        serves = record { stands = serves.stands; fits = may_end old.errand.task old.progress past at.0 at.1 };
+      };
+      ended = refl;
     }
 
 same_procedure : (p q : Procedure) (o : Option Procedure) (rest : List ℕ) → o ≡ Some p → o ≡ Some q → WantsMore message_limit (reply p) rest → WantsMore message_limit (reply q) rest
@@ -133,7 +137,7 @@ garbles old mid new past piece p h running waits ends none = Garbled mid h runni
 fails_by : (fault : WireFault) (old mid new : Talker) (past : Past) (piece : List ℕ) (p : Procedure) → HasHeard old past piece mid → is_running mid.outcome ≡ true → awaited mid.progress ≡ Some p
     → new ≡ record mid { outcome = outcome_by fault; progress = stages.Over; input = new.input } → (fault ≢ wire.NoMem → IsNoStart message_limit (reply p) mid.input.rest) → Heeds old past piece new
 fails_by wire.NoMem old mid new past piece p h running waits ends none =
-    Starved mid h running (subst (λ (v : Talker). IsStarved mid h.past_then v) (sym ends) (stop_starved mid h.past_then new.input running h.serves))
+    Starved mid h running (subst (λ (v : Talker). IsChoked mid h.past_then v) (sym ends) (stop_starved mid h.past_then new.input running h.serves))
 fails_by wire.BadCode old mid new past piece p h running waits ends none = garbles old mid new past piece p h running waits ends (none (λ e. cc))
 fails_by wire.BadValue old mid new past piece p h running waits ends none = garbles old mid new past piece p h running waits ends (none (λ e. cc))
 fails_by wire.TooLong old mid new past piece p h running waits ends none = garbles old mid new past piece p h running waits ends (none (λ e. cc))
@@ -142,12 +146,16 @@ pub stops : (old mid new : Talker) (past : Past) (piece : List ℕ) (p : Procedu
 stops old mid new past piece p h running waits (inl s) = subst (λ (v : Talker). Heeds old past piece v) (sym s.0) (wants_on old mid past piece p h waits s.1)
 stops old mid new past piece p h running waits (inr f) = fails_by f.fault old mid new past piece p h running waits f.ends f.no_start
 
-pub starves : (old mid got new : Talker) (past : Past) (piece : List ℕ) → HasHeard old past piece mid → is_running mid.outcome ≡ true → got ≡ record mid { input = got.input } → ((q : Past) → Serves q got → IsStarved got q new) → Heeds old past piece new
+pub starves : (old mid got new : Talker) (past : Past) (piece : List ℕ) → HasHeard old past piece mid → is_running mid.outcome ≡ true → got ≡ record mid { input = got.input } → ((q : Past) → Serves q got → IsChoked got q new) → Heeds old past piece new
 starves old mid got new past piece h running got_is starved_by =
     let then_ : Past = h.past_then in
     let serves : Serves then_ got = subst (λ (v : Talker). Serves then_ v) (sym got_is) (record { stands = h.serves.stands; fits = h.serves.fits }) in
-    let s : IsStarved (record mid { input = got.input }) then_ new = subst (λ (v : Talker). IsStarved v then_ new) got_is (starved_by then_ serves) in
-    Starved mid h running (record { outcome = s.outcome; errand = s.errand; out = s.out; past_then = s.past_then; given = s.given; serves = s.serves })
+    let choked : IsChoked (record mid { input = got.input }) then_ new = subst (λ (v : Talker). IsChoked v then_ new) got_is (starved_by then_ serves) in
+    let s = choked.starved in
+    Starved mid h running (record {
+      starved = record { outcome = s.outcome; progress = s.progress; errand = s.errand; out = s.out; past_then = s.past_then; given = s.given; serves = s.serves };
+      ended = choked.ended;
+    })
 
 over_is : (progress : Progress) (o : Option Procedure) → awaited progress ≡ o → o ≡ None → (q : Procedure) → awaited progress ≡ Some q → ⊥
 over_is progress o e none q f = let clash : Some q ≡ None = sym f ∙ e ∙ none in cc

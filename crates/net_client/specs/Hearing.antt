@@ -60,11 +60,17 @@ pub record HearsReply (old : Talker) (past : Past) (r : Reply) (new : Talker) : 
 -- memory was wanting: the job has ended so, and what was given of the file stays
 pub record IsStarved (old : Talker) (past : Past) (new : Talker) : Type 0 where
   pub outcome : new.outcome ≡ Ended statuses.NoMem whys.Memory
+  pub progress : new.progress ≡ stages.Over
   pub errand : new.errand ≡ old.errand
   pub out : new.out ≡ old.out
   pub past_then : Past
   pub given : past_then.given ≡ past.given
   pub serves : Serves past_then new
+
+-- the same as replies come: no frame ends by them
+pub record IsChoked (old : Talker) (past : Past) (new : Talker) : Type 0 where
+  pub starved : IsStarved old past new
+  pub ended : starved.past_then.ended ≡ past.ended
 
 -- the replies that came in a piece so far, and what is left of it
 pub record HasHeard (old : Talker) (past : Past) (piece : List ℕ) (new : Talker) : Type 0 where
@@ -93,8 +99,8 @@ pub record IsGarbled (was : Talker) (new : Talker) : Type 0 where
 pub data Heeds (old : Talker) (past : Past) (piece : List ℕ) (new : Talker) : Type 0 where
   Whole : HasHeard old past piece new → (is_running new.outcome ≡ true → WantsReply new.progress new.input.rest) → Heeds old past piece new
   Garbled : (was : Talker) → HasHeard old past piece was → is_running was.outcome ≡ true → IsGarbled was new → Heeds old past piece new
-  Starved : (was : Talker) → (h : HasHeard old past piece was) → is_running was.outcome ≡ true → IsStarved was h.past_then new → Heeds old past piece new
-  Choked : IsStarved old past new → Heeds old past piece new
+  Starved : (was : Talker) → (h : HasHeard old past piece was) → is_running was.outcome ≡ true → IsChoked was h.past_then new → Heeds old past piece new
+  Choked : IsChoked old past new → Heeds old past piece new
 
 -- the join stands for what was told, or for that and want of memory
 abbrev pub StandsStarved : Past → Joining → Type 0

@@ -1,5 +1,5 @@
 -- What a piece of a data connection's bytes makes of a client.
-use Rattle.std.specs.Prelude.{ℕ, ◌≡◌, ◌⊎◌, Bool, Some, List, ◌++◌}
+use Rattle.std.specs.Prelude.{ℕ, ◌≡◌, ◌⊎◌, Bool, true, false, Some, List, ◌++◌}
 use Rattle.wire_format.specs.Writer.{behind}
 use Rattle.page_picture.specs.Shows.{Frame}
 use Rattle.frame_join.specs.declared.join_stage.JoinFault.{JoinFault}
@@ -8,13 +8,13 @@ use Rattle.frame_join.specs.Joining.{Joining, Stands}
 use Rattle.data_records.specs.declared.records.Phase.{Phase}
 use Rattle.data_records.specs.declared.records.Phase.TheVariants as phases
 use Rattle.data_records.specs.Records.{Carries, HasEnded}
+use Rattle.client_rules.specs.declared.progress.Progress.{Progress}
 use Rattle.client_rules.specs.declared.progress.Progress.TheVariants as stages
 use Rattle.net_client.specs.declared.imaging.Came.{Came}
 use Rattle.net_client.specs.declared.imaging.Came.TheVariants.{More, Fault, End}
 use Rattle.client_rules.specs.Talking.{turn, unjoined, FrameEnd, frame_ended}
 use Rattle.net_client.specs.Talker.{Talker, talk_of, sends, Serves}
 use Rattle.client_rules.specs.Talks.{took, next_outcome, settled}
-use Rattle.net_client.specs.Hearing.{IsStarved}
 
 -- a reader used the bytes, and the join took what they gave
 pub record ReadsTo (old : Phase) (past : Past) (frame : Frame) (used : List ℕ) (new : Phase) (join : Joining) : Type 0 where
@@ -57,6 +57,17 @@ HasNotEnded (End status) phase = Unit {0}
 abbrev pub end_of : Talker → Past → ℕ → FrameEnd
 end_of v past status = frame_ended v.errand.task v.notes.file past status
 
+-- a client waits so behind a frame: for the next one, or for the file of its page to be taken
+abbrev pub IsBehindFrame : Progress → Type 0
+IsBehindFrame (stages.Starting first) = Unit {0}
+IsBehindFrame stages.Turning = Unit {0}
+IsBehindFrame progress = ⊥
+
+-- START is sent then
+abbrev pub is_starting : Progress → Bool
+is_starting (stages.Starting first) = true
+is_starting progress = false
+
 -- the end record: how the job goes on, and what is sent then
 pub record EndsFrame (old : Talker) (past : Past) (status : ℕ) (new : Talker) : Type 0 where
   pub talk : talk_of new (end_of old past status).past ≡ settled old.errand.task (turn old.notes (end_of old past status).next) (end_of old past status).past
@@ -69,6 +80,7 @@ pub record Goes (old : Talker) (past : Past) (piece : List ℕ) (new : Talker) :
   pub frame : Frame
   pub under : past.under ≡ Some frame
   pub reads : ReadsTo old.phase past frame piece new.phase new.join
+  pub going : HasEnded new.phase → ⊥
   pub serves : Serves (took past frame reads.given) new
   pub rest : new ≡ record old { phase = new.phase; join = new.join }
 
@@ -81,15 +93,6 @@ pub record Ends (old : Talker) (past : Past) (piece : List ℕ) (new : Talker) :
   pub reads : ReadsEnd old.phase past frame piece status join
   pub ends : EndsFrame (record old { phase = phases.Head; join = join }) (took past frame reads.reads.given) status new
 
--- and memory was wanting for what is to be sent then
-pub record Starves (old : Talker) (past : Past) (piece : List ℕ) (new : Talker) : Type 0 where
-  pub frame : Frame
-  pub under : past.under ≡ Some frame
-  pub status : ℕ
-  pub join : Joining
-  pub reads : ReadsEnd old.phase past frame piece status join
-  pub starved : IsStarved old past new
-
 -- the bytes are too many, or there is no memory for them
 pub record Fails (old : Talker) (past : Past) (piece : List ℕ) (new : Talker) : Type 0 where
   pub frame : Frame
@@ -100,4 +103,4 @@ pub record Fails (old : Talker) (past : Past) (piece : List ℕ) (new : Talker) 
   pub rest : new ≡ record old { outcome = next_outcome old.errand.task old.notes (unjoined fault); progress = stages.Over; phase = new.phase; join = new.join }
 
 abbrev pub Receives : Talker → Past → List ℕ → Talker → Type 0
-Receives old past piece new = Goes old past piece new ⊎ (Ends old past piece new ⊎ (Starves old past piece new ⊎ Fails old past piece new))
+Receives old past piece new = Goes old past piece new ⊎ (Ends old past piece new ⊎ Fails old past piece new)

@@ -2,6 +2,7 @@ ghost use Rattle.std.specs.Prelude.{◌≡◌, ◌≢◌, true, false};
 ghost use Rattle.scan_job.specs.JobSize.{HasFault};
 ghost use Rattle.client_rules.specs.Talks.{is_imaging};
 ghost use Rattle.net_client.specs.Hearing.{awaited, outcome_by};
+ghost use Rattle.net_client.specs.Imaging.{is_starting};
 
 use crate::asking::{ask, say_farewell, say_goodbye, say_start};
 use crate::imaging::{Came, read_on};
@@ -36,15 +37,15 @@ impl Model for Client {
     ghost use Rattle.std.specs.Prelude.{◌≡◌, ◌≤◌, true, None};
     ghost use Rattle.data_records.specs.Records.{HasEnded};
     ghost use Rattle.net_client.specs.Talker.{Talker};
-    ghost use Rattle.client_rules.specs.Talks.{is_running, turns};
+    ghost use Rattle.client_rules.specs.Talks.{is_imaging, is_running, turns};
 
     ghost Value = { Talker };
 
     ghost view = { λ c. record { errand = c.errand; outcome = c.outcome; progress = c.progress; notes = c.notes; out = c.out.text; input = c.decoder; phase = c.reader; join = c.join } };
 
-    // While the job runs there is room for its end, and for a page's START where that is to come.
+    // While the job runs there is room for its end, and for a START where that may come with no reply.
     // The decoder has answered no fault, and the reader is not behind the end.
-    ghost invariant = { λ c. (is_running c.outcome ≡ true → 12 ≤ c.out.room) × (turns c.outcome c.progress ≡ true → 20 ≤ c.out.room) × (is_running c.outcome ≡ true → c.decoder.fault ≡ None) × (HasEnded c.reader → ⊥) };
+    ghost invariant = { λ c. (is_running c.outcome ≡ true → 12 ≤ c.out.room) × (turns c.outcome c.progress ≡ true → 20 ≤ c.out.room) × (is_running c.outcome ≡ true → c.decoder.fault ≡ None) × (HasEnded c.reader → ⊥) × (is_running c.outcome ≡ true → is_imaging c.progress ≡ true → 20 ≤ c.out.room) };
 }
 
 impl Client {
@@ -52,7 +53,7 @@ impl Client {
     ghost use Rattle.std.specs.Prelude.{OnOk, OnErr};
     ghost use Rattle.frame_join.specs.FrameHistory.{Past};
     ghost use Rattle.frame_join.specs.Joining.{Stands};
-    ghost use Rattle.net_client.specs.Hearing.{HearsReply, IsStarved, StandsStarved, StopsReading, Heeds};
+    ghost use Rattle.net_client.specs.Hearing.{HearsReply, IsChoked, IsStarved, StandsStarved, StopsReading, Heeds};
     ghost use Rattle.client_rules.specs.declared.progress.Progress.TheVariants as stages;
     ghost use Rattle.client_rules.specs.Talking.{unjoined};
     ghost use Rattle.client_rules.specs.Talks.{next_outcome, scans, IsWithin};
@@ -65,15 +66,15 @@ impl Client {
     ghost use Rattle.client_rules.specs.Talks.{is_ended, turns};
     ghost use Rattle.net_client.specs.Talker.{TakesPage, TurnsPage};
     ghost use Rattle.client_rules.specs.Talks.{is_receiving};
-    ghost use Rattle.net_client.specs.Imaging.{EndsFrame, Receives};
+    ghost use Rattle.net_client.specs.Imaging.{EndsFrame, IsBehindFrame, Receives};
     ghost use Rattle.std.specs.Prelude.{IfSome, IsNone};
     ghost use Rattle.wire_format.specs.Limit.{limited};
     ghost use Rattle.wire_format.specs.Lawful.{Takes};
     ghost use Rattle.wire_message.specs.Message.{message_limit, reply};
     ghost use Rattle.wire_format.specs.Writer.{behind};
     ghost use Rattle.scan_job.specs.declared.outcome.Outcome.{Outcome as AnyOutcome};
-    ghost use Rattle.net_client.specs.Sending.{requests_text};
-    ghost use Rattle.client_rules.specs.Asking.{goodbye, farewell};
+    ghost use Rattle.net_client.specs.Sending.{request_text, requests_text};
+    ghost use Rattle.client_rules.specs.Asking.{asked, goodbye, farewell};
     ghost use Rattle.client_rules.specs.Talks.{is_running, reports_of, options_shown, IsWait, heard_at, is_lost_by, wanted, connected};
     ghost use Rattle.net_client.specs.Talker.{Settles, ended, starved, IsFresh, Serves, phase_connected};
     ghost use Rattle.scan_job.specs.JobSize.{HasFault};
@@ -287,7 +288,7 @@ impl Client {
     fn hear(&mut self, reply: Reply) -> bool
         requires { is_running self.old.outcome ≡ true }
         ensures heard { result ≡ true → (past : Past) → Serves past self.old → HearsReply self.old past reply self.new }
-        ensures starved { result ≡ false → (past : Past) → Serves past self.old → IsStarved self.old past self.new }
+        ensures starved { result ≡ false → (past : Past) → Serves past self.old → IsChoked self.old past self.new }
         ensures input { self.new.input ≡ self.old.input }
     {
         let next = self.next_by(reply);
@@ -358,7 +359,7 @@ impl Client {
             Came::Fault(fault) => self.fail(fault),
             Came::End(status) => {
                 self.reader = RecordReader::new();
-                let _ = self.end_frame(status);
+                self.end_frame(status);
             }
         }
     }
@@ -375,11 +376,10 @@ impl Client {
         }
     }
 
-    /// The end record of a frame comes; false where memory was wanting.
-    fn end_frame(&mut self, status: u8) -> bool
-        requires { is_running self.old.outcome ≡ true }
-        ensures ended { result ≡ true → (past : Past) → Stands past self.old.join → scans self.old.errand.task ≡ true → IsWithin past → EndsFrame self.old past status self.new }
-        ensures starved { result ≡ false → (past : Past) → Stands past self.old.join → scans self.old.errand.task ≡ true → IsWithin past → IsStarved self.old past self.new }
+    /// The end record of a frame comes. It takes no memory.
+    fn end_frame(&mut self, status: u8)
+        requires { is_receiving self.old.outcome self.old.progress ≡ true }
+        ensures { (past : Past) → Stands past self.old.join → scans self.old.errand.task ≡ true → IsWithin past → EndsFrame self.old past status self.new }
     {
         let next = frame_ended(
             self.alloc,
@@ -388,7 +388,23 @@ impl Client {
             self.notes.file,
             status,
         );
-        self.settle(next)
+        match next {
+            Next::Wait(progress) => self.wait_behind(progress),
+            Next::Finish(devices) => self.finish(devices),
+            Next::Stop(status, why) => self.stop(status, why),
+        }
+    }
+
+    /// The client waits so behind a frame; it asks for the next one.
+    fn wait_behind(&mut self, progress: Progress)
+        requires { is_receiving self.old.outcome self.old.progress ≡ true }
+        ensures rest { self.new ≡ record self.old { progress = progress; out = self.new.out } }
+        ensures text { IsBehindFrame progress → behind self.old.out (request_text (asked self.old.errand self.old.notes.word progress)) ≡ Some self.new.out }
+    {
+        if is_starting(&progress) {
+            say_start(&mut self.out, self.notes.word);
+        }
+        self.progress = progress;
     }
 
     fn is_ended(&self) -> bool
@@ -526,6 +542,15 @@ impl Client {
             self.progress = Progress::Imaging { port, opened: true };
             self.reader = RecordReader::new();
         }
+    }
+}
+
+fn is_starting(progress: &Progress) -> bool
+    ensures { result ≡ is_starting progress.now }
+{
+    match progress {
+        Progress::Starting { .. } => true,
+        _ => false,
     }
 }
 

@@ -37,7 +37,7 @@ use Rattle.net_jobs.specs.Links.{Brings}
 use Rattle.net_jobs.specs.Going.{came_in, BetweenFrames, Linked, Follows, Given, Stage, ByLoss, ByShape}
 use Rattle.net_jobs.proofs.Coursing.{did_quiet, did_say}
 use Rattle.net_jobs.proofs.Frames.{records_end, brought_one, read_more, front_of, begin_more}
-use Rattle.net_jobs.proofs.Staging.{following, falls, stage_starved}
+use Rattle.net_jobs.proofs.Staging.{following, falls}
 
 -- ---- a connection is lost
 
@@ -390,9 +390,7 @@ stage_received left_of job read_ wrote coming0 coming given was now old new piec
     stage_goes left_of job read_ wrote coming0 coming given was now old new piece running consumed s (following left_of coming0 coming s.course s.rest (Some was) old s.past running s.stands) g
 stage_received left_of job read_ wrote coming0 coming given was now old new piece running consumed still s (inr (inl e)) =
     absurd (let clash : true ≡ false = sym still ∙ ends_shut _ new _ e.status e.ends in cc)
-stage_received left_of job read_ wrote coming0 coming given was now old new piece running consumed still s (inr (inr (inl e))) =
-    absurd (let clash : true ≡ false = sym still ∙ over_shut new.outcome new.progress (ap is_running e.starved.outcome) in cc)
-stage_received left_of job read_ wrote coming0 coming given was now old new piece running consumed still s (inr (inr (inr e))) =
+stage_received left_of job read_ wrote coming0 coming given was now old new piece running consumed still s (inr (inr e)) =
     absurd (let clash : true ≡ false = sym still ∙ ap (λ (v : Talker). is_receiving v.outcome v.progress) e.rest in cc)
 
 pub stage_let_go : {R : Type 0} (left_of : R → Option (List ℕ)) (job : Job) (read_ wrote : List ℕ) (coming0 coming : Option (List (List ℕ))) (given : Given) (was now : R) (old new : Talker) (piece : List ℕ)
@@ -404,10 +402,7 @@ stage_let_go left_of job read_ wrote coming0 coming given was now old new piece 
 stage_let_go left_of job read_ wrote coming0 coming given was now old new piece receives consumed still s (inr (inl e)) =
     let running = receiving_runs old.outcome old.progress receives in
     stage_ends left_of job read_ wrote coming0 coming given was now old new piece running consumed s (following left_of coming0 coming s.course s.rest (Some was) old s.past running s.stands) e
-stage_let_go left_of job read_ wrote coming0 coming given was now old new piece receives consumed still s (inr (inr (inl e))) =
-    let running = receiving_runs old.outcome old.progress receives in
-    stage_starved left_of job read_ wrote coming0 coming given s.rest s.rest (Some was) None old new s.past s.course running s.errand s.given_is s.pages_is s.did (following left_of coming0 coming s.course s.rest (Some was) old s.past running s.stands) e.starved
-stage_let_go left_of job read_ wrote coming0 coming given was now old new piece receives consumed still s (inr (inr (inr e))) =
+stage_let_go left_of job read_ wrote coming0 coming given was now old new piece receives consumed still s (inr (inr e)) =
     let running = receiving_runs old.outcome old.progress receives in
     stage_fails left_of job read_ wrote coming0 coming given was old new piece running s (following left_of coming0 coming s.course s.rest (Some was) old s.past running s.stands) e
 

@@ -188,12 +188,12 @@ heard_by left_of job read_ wrote coming0 coming given old new piece running s f 
     stage_garbled left_of job (read_ ++ piece) wrote coming0 coming given was new h.past_then (heard_on s.course h.text h.sent (talk_of was h.past_then)) runs (h.errand ∙ s.errand) h.serves
     (given_heard old was s.past piece given.bytes clean s.given_is h) s.pages_is (did_hear job s.course read_ wrote s.rest old was s.past piece s.errand f.talk_is f.rest_is running s.did h)
     (follow_heard left_of coming0 coming s.course s.rest old was s.past piece clean f h) g
-heard_by left_of job read_ wrote coming0 coming given old new piece running s f clean (Starved was h runs starved) =
+heard_by left_of job read_ wrote coming0 coming given old new piece running s f clean (Starved was h runs choked) =
     stage_starved left_of job (read_ ++ piece) wrote coming0 coming given was.input.rest was.input.rest None None was new h.past_then (heard_on s.course h.text h.sent (talk_of was h.past_then)) runs (h.errand ∙ s.errand)
     (given_heard old was s.past piece given.bytes clean s.given_is h) s.pages_is (did_hear job s.course read_ wrote s.rest old was s.past piece s.errand f.talk_is f.rest_is running s.did h)
-    (follow_heard left_of coming0 coming s.course s.rest old was s.past piece clean f h) starved
-heard_by left_of job read_ wrote coming0 coming given old new piece running s f clean (Choked starved) =
-    stage_starved left_of job (read_ ++ piece) wrote coming0 coming given s.rest (s.rest ++ piece) None None old new s.past s.course running s.errand s.given_is s.pages_is (did_read job s.course read_ wrote s.rest old.out piece s.did) f starved
+    (follow_heard left_of coming0 coming s.course s.rest old was s.past piece clean f h) choked.starved
+heard_by left_of job read_ wrote coming0 coming given old new piece running s f clean (Choked choked) =
+    stage_starved left_of job (read_ ++ piece) wrote coming0 coming given s.rest (s.rest ++ piece) None None old new s.past s.course running s.errand s.given_is s.pages_is (did_read job s.course read_ wrote s.rest old.out piece s.did) f choked.starved
 
 pub stage_heard : {R : Type 0} (left_of : R → Option (List ℕ)) (job : Job) (read_ wrote : List ℕ) (coming0 coming : Option (List (List ℕ))) (given : Given) (old new : Talker) (piece : List ℕ)
     → is_running old.outcome ≡ true → is_receiving old.outcome old.progress ≡ false
