@@ -76,13 +76,13 @@ good_asked : (errand : Errand) (status : Status) (answer : words.Reply) (next : 
 good_asked errand statuses.Good answer next notes a = a
 good_asked errand status answer next notes a = a
 
-asks_asked : (errand : Errand) (challenge : Option (List ℕ)) (next : Next) (notes : Notes) → IsAsked errand next notes → AskedAt errand (asks challenge) next notes
-asks_asked errand None next notes a = a
-asks_asked errand (Some challenge) next notes a = a
+asks_asked : (errand : Errand) (resource : List ℕ) (challenge : Option (List ℕ)) (next : Next) (notes : Notes) → IsAsked errand next notes → AskedAt errand (asks resource challenge) next notes
+asks_asked errand resource None next notes a = a
+asks_asked errand resource (Some challenge) next notes a = a
 
 opens_asked : (errand : Errand) (status : Status) (resource : List ℕ) (next : Next) (notes : Notes) → IsAsked errand next notes → AskedAt errand (opens status resource) next notes
 opens_asked errand status [] next notes a = good_asked errand status words.Opened next notes a
-opens_asked errand status (b ∷ bytes) next notes a = asks_asked errand (challenge_of (b ∷ bytes)) next notes a
+opens_asked errand status (b ∷ bytes) next notes a = asks_asked errand (b ∷ bytes) (challenge_of (b ∷ bytes)) next notes a
 
 plain_asked : (errand : Errand) (status : Status) (answer : words.Reply) (resource : List ℕ) (next : Next) (notes : Notes) → IsAsked errand next notes → AskedAt errand (plain resource (good status answer)) next notes
 plain_asked errand status answer [] next notes a = good_asked errand status answer next notes a

@@ -70,11 +70,11 @@ admits x task notes m g statuses.Good word r t f k o =
     (f, (k, (ap (λ (ws : List words.Wish). rules.Running (rules.Describing ws)) (sym o.1), o.0)))
 admits x task notes m g status word r t f k o = refused x task notes m g status r f
 
-challenges : (x : Side) (task : Task) (notes : Notes) (m : rules.Mind) (g : rules.Progress) (resource password : List ℕ) (c : Option (List ℕ)) → challenge_of resource ≡ c → Takes g x.job m → FilesAs x m
-    → KnowsAs task x.pages notes m → IsOpen x.job notes m → Hears x task (turn notes (challenged resource (option_map (λ challenge. answer_text (md5 (challenge ++ password))) c))) m g (asks c)
-challenges x task notes m g resource password None e t f k o = ends x task notes m statuses.AccessDenied whys.Plain words.Plain refl f
-challenges x task notes m g resource password (Some c) e t f k o =
-    subst (λ (n : rules.Mind). Goes x task (turn notes (Wait (stages.Allowing resource (answer_text (md5 (c ++ password)))))) n) (sym (t.1 c)) (f, (k, ((c, (refl, e)), o)))
+challenges : (x : Side) (task : Task) (notes : Notes) (m : rules.Mind) (g : rules.Progress) (resource password : List ℕ) (c : Option (List ℕ)) → Takes g x.job m → FilesAs x m
+    → KnowsAs task x.pages notes m → IsOpen x.job notes m → Hears x task (turn notes (challenged resource (option_map (λ challenge. answer_text (md5 (challenge ++ password))) c))) m g (asks resource c)
+challenges x task notes m g resource password None t f k o = ends x task notes m statuses.AccessDenied whys.Plain words.Plain refl f
+challenges x task notes m g resource password (Some c) t f k o =
+    subst (λ (n : rules.Mind). Goes x task (turn notes (Wait (stages.Allowing resource (answer_text (md5 (c ++ password)))))) n) (sym (t.1 resource)) (f, (k, ((resource, (refl, refl)), o)))
 
 answers_by : (resource password : List ℕ) → md5_answer resource password ≡ option_map (λ challenge. answer_text (md5 (challenge ++ password))) (challenge_of resource)
 unfolding md5_answer
@@ -84,8 +84,8 @@ opens_with : (x : Side) (task : Task) (notes : Notes) (m : rules.Mind) (g : rule
     → FilesAs x m → KnowsAs task x.pages notes m → IsOpen x.job notes m → Hears x task (opened_with password notes status word resource) m g (opens status resource)
 opens_with x task notes m g password status word [] r t f k o = admits x task notes m g status word r t f k o
 opens_with x task notes m g password status word (b ∷ bytes) r t f k o =
-    subst (λ (a : Option (List ℕ)). Hears x task (turn notes (challenged (b ∷ bytes) a)) m g (asks (challenge_of (b ∷ bytes)))) (sym (answers_by (b ∷ bytes) password))
-    (challenges x task notes m g (b ∷ bytes) password (challenge_of (b ∷ bytes)) refl t f k o)
+    subst (λ (a : Option (List ℕ)). Hears x task (turn notes (challenged (b ∷ bytes) a)) m g (asks (b ∷ bytes) (challenge_of (b ∷ bytes)))) (sym (answers_by (b ∷ bytes) password))
+    (challenges x task notes m g (b ∷ bytes) password (challenge_of (b ∷ bytes)) t f k o)
 
 pub opens_one : (x : Side) (task : Task) (notes : Notes) (m : rules.Mind) (password : List ℕ) (r : Reply) → FilesAs x m → KnowsAs task x.pages notes m → IsOpen x.job notes m
     → Hears x task (opened password notes r) m rules.Opening (sense_at x.place stages.Opening r)

@@ -1,5 +1,5 @@
 -- What comes of a piece of a data connection, and the file of a page.
-use Rattle.std.proofs.Common.{arith, ◌≡◌, ◌∙◌, ◌≤◌, ◌+◌, ℕ, append-nil, inl, inr, Option, Some, None, Bool, true, false, List, [], ◌∷◌, ◌++◌, refl, sym, ap, subst, length, length-append, lt-ltb, le-ltb, ltb-true, ltb-false}
+use Rattle.std.proofs.Common.{arith, ◌≡◌, ◌∙◌, ◌≤◌, ◌+◌, ℕ, inl, inr, Option, Some, None, Bool, true, false, List, [], ◌∷◌, ◌++◌, refl, sym, ap, subst, length, length-append, lt-ltb, le-ltb, ltb-true, ltb-false}
 use Rattle.std.specs.Prelude.{if◌then◌else◌, nat_lt}
 use Rattle.sane_fixed.specs.declared.status.Status.TheVariants as statuses
 use Rattle.device_api.specs.declared.device_info.DeviceInfo.{DeviceInfo}
@@ -23,6 +23,7 @@ use Rattle.net_client.specs.Talker.{Talker, talk_of, Serves, sends, Stays, Turns
 use Rattle.client_rules.specs.Talks.{Talk, turns, Fits, FitsAt, next_outcome, is_receiving, took, next_progress, settled}
 use Rattle.scan_job.specs.JobSize.{HasCount}
 use Rattle.net_client.specs.Imaging.{Goes, Ends, Fails}
+use Rattle.net_client.proofs.Ending.{ended_gives_by}
 use Rattle.scan_rules.specs.Words as words
 use Rattle.scan_rules.specs.Client as rules
 use Rattle.scan_rules.specs.Hearing.{read_in, finish_in, stopped}
@@ -39,8 +40,6 @@ use Rattle.scan_job.specs.declared.outcome.Why.{Why}
 use Rattle.net_client.specs.Sending.{request_text}
 use Rattle.client_reading.proofs.Said.{one_text, settled_spells, next_word}
 use Rattle.data_records.specs.declared.records.Phase.{Phase}
-use Rattle.data_records.specs.declared.records.Phase.TheVariants as phases
-use Rattle.data_records.specs.Records.{Carries}
 use Rattle.wire_message.specs.declared.message.Request.TheVariants as requests
 use Rattle.client_rules.specs.Asking.{asked}
 use Rattle.client_reading.proofs.Replying.{ends_so}
@@ -128,13 +127,14 @@ took_short past f bytes v c s =
 -- ---- what comes of a piece
 
 went : (place : DeviceInfo → ℕ) (job : rules.Job) (pages : List (List Frame)) (old new : Talker) (past : Past) (piece : List ℕ) (m : rules.Mind) → At old past
-    → Reads place old.errand job pages (talk_of old past) m → Goes old past piece new → Received place job pages m old piece new
+    → Reads place old.errand job pages (talk_of old past) m → Goes old past piece new → Received place job pages m old past piece new
 went place job pages old new past piece m a r g =
     let given = g.reads.given in
     let most = took_short past g.frame given new.join a.calm g.reads.stands in
-    pieces.Goes given (took past g.frame given) g.reads.carries (ap (λ (v : Talker). v.out) g.rest)
+    pieces.Goes given (took past g.frame given) g.reads.carries g.rest g.going
     (record {
       serves = g.serves;
+      given_is = refl;
       reads =
           subst (λ (t : Talk). Reads place old.errand job pages t (read_in m.stage m given)) (sym (ap (λ (v : Talker). talk_of v (took past g.frame given)) g.rest))
           (takes place job pages old past g.frame given m a g.under most r);
@@ -151,13 +151,14 @@ closes : (place : DeviceInfo → ℕ) (job : rules.Job) (pages : List (List Fram
     → HasCount old.errand.task → At old past → Reads place old.errand job pages (talk_of old past) m → Serves (frame_ended old.errand.task old.notes.file past n).past new
     → talk_of new (frame_ended old.errand.task old.notes.file past n).past ≡ settled old.errand.task (turn old.notes (frame_ended old.errand.task old.notes.file past n).next) (frame_ended old.errand.task old.notes.file past n).past
     → sends old.errand old.notes.word (frame_ended old.errand.task old.notes.file past n).next ≡ Some sent
-    → EndsAs place old.errand job pages (frame_ended old.errand.task old.notes.file past n).past new m sent o
+    → EndsAs place old.errand job pages past.given (frame_ended old.errand.task old.notes.file past n).past new m sent o
 closes place job pages old new past n sent m None e t count a r serves talk said =
     let is : frame_ended old.errand.task old.notes.file past n ≡ record { next = malformed; past = past } = ap (λ (o : Option Status). frame_ended_by old.errand.task old.notes.file past o) e in
     let none : Some [] ≡ Some sent = sym (ap (λ (f : FrameEnd). sends old.errand old.notes.word f.next) is) ∙ said in
     let outcome : new.outcome ≡ Ended statuses.IoError whys.Malformed = ap (λ (y : Talk). y.outcome) talk ∙ ap (λ (f : FrameEnd). next_outcome old.errand.task old.notes f.next) is in (
       record {
         serves = serves;
+        given_is = ended_gives_by old.errand.task old.notes.file past (status_at n);
         reads =
             subst (λ (y : Past). Reads place old.errand job pages (talk_of new y) (stopped words.IoError words.Malformed m)) (sym (ap (λ (f : FrameEnd). f.past) is))
             (ends_so place old.errand job pages (talk_of old past) new m statuses.IoError whys.Malformed words.Malformed refl a.running outcome r);
@@ -170,6 +171,7 @@ closes place job pages old new past n sent m (Some status) e t count a r serves 
     record {
       stands = record {
         serves = serves;
+        given_is = ended_gives_by old.errand.task old.notes.file past (status_at n);
         reads = subst (λ (y : Talk). Reads place old.errand job pages y (finish_in m.stage job.task m (status_of status))) (sym talk) h;
       };
       spells =
@@ -179,7 +181,7 @@ closes place job pages old new past n sent m (Some status) e t count a r serves 
     }
 
 ended : (place : DeviceInfo → ℕ) (job : rules.Job) (pages : List (List Frame)) (old new : Talker) (past : Past) (piece : List ℕ) (m : rules.Mind) → job.task ≡ task_of old.errand.task → HasCount old.errand.task → At old past
-    → Reads place old.errand job pages (talk_of old past) m → Ends old past piece new → Received place job pages m old piece new
+    → Reads place old.errand job pages (talk_of old past) m → Ends old past piece new → Received place job pages m old past piece new
 ended place job pages old new past piece m t count a r g =
     let given = g.reads.reads.given in
     let most = took_short past g.frame given g.join a.calm g.reads.reads.stands in
@@ -194,14 +196,6 @@ ended place job pages old new past piece m t count a r g =
 
 -- ---- want of memory behind so many bytes, and too many bytes
 
-starved : (place : DeviceInfo → ℕ) (job : rules.Job) (pages : List (List Frame)) (old new : Talker) (past : Past) (piece : List ℕ) (f : Frame) (given more : List ℕ) (phase : Phase) (m : rules.Mind) → At old past → past.under ≡ Some f
-    → length f.payload + length given ≤ most_bytes f.params → Reads place old.errand job pages (talk_of old past) m → Brings old.phase phase piece (given ++ more) → new.out ≡ old.out → new.outcome ≡ Ended statuses.NoMem whys.Memory
-    → Received place job pages m old piece new
-starved place job pages old new past piece f given more phase m a u most r b o n =
-    let read = takes place job pages old past f given m a u most r in
-    pieces.Starves given more phase (took past f given) b o n
-    (ends_so place old.errand job pages (talk_of old (took past f given)) new (read_in m.stage m given) statuses.NoMem whys.Memory words.Memory refl a.running n read)
-
 -- of a job that has ended another history of the same frames is read alike
 other_past : (place : DeviceInfo → ℕ) (errand : Errand) (job : rules.Job) (pages : List (List Frame)) (new : Talker) (past other : Past) (m : rules.Mind) (status : Status) (why : Why) → new.outcome ≡ Ended status why → other.ended ≡ past.ended
     → Reads place errand job pages (talk_of new past) m → Reads place errand job pages (talk_of new other) m
@@ -214,6 +208,20 @@ other_past place errand job pages new past other m status why n e r = record {
       subst (λ (y : Outcome). StandsAs place errand job pages y new.progress new.notes other m) (sym n)
       (subst (λ (y : Outcome). StandsAs place errand job pages y new.progress new.notes past m) n r.stands);
 }
+
+starved : (place : DeviceInfo → ℕ) (job : rules.Job) (pages : List (List Frame)) (old new : Talker) (past now : Past) (piece : List ℕ) (f : Frame) (given more : List ℕ) (phase : Phase) (m : rules.Mind) → At old past → past.under ≡ Some f
+    → length f.payload + length given ≤ most_bytes f.params → Reads place old.errand job pages (talk_of old past) m → Brings old.phase phase piece (given ++ more) → new.out ≡ old.out → new.outcome ≡ Ended statuses.NoMem whys.Memory
+    → now ≡ failed faults.NoMem (took past f given) → Serves now new → Received place job pages m old past piece new
+starved place job pages old new past now piece f given more phase m a u most r b o n is serves =
+    let read = takes place job pages old past f given m a u most r in
+    pieces.Starves given more phase now b o n
+    (record {
+      serves = serves;
+      given_is = ap (λ (y : Past). y.given) is;
+      reads =
+          other_past place old.errand job pages new (took past f given) now (stopped words.NoMem words.Memory (read_in m.stage m given)) statuses.NoMem whys.Memory n (ap (λ (y : Past). y.ended) is)
+          (ends_so place old.errand job pages (talk_of old (took past f given)) new (read_in m.stage m given) statuses.NoMem whys.Memory words.Memory refl a.running n read);
+    })
 
 long_reads : (place : DeviceInfo → ℕ) (job : rules.Job) (pages : List (List Frame)) (old new : Talker) (past : Past) (f : Frame) (bytes : List ℕ) (fault : JoinFault) (m : rules.Mind) → At old past → past.under ≡ Some f
     → nat_lt (most_bytes f.params) (length f.payload + length bytes) ≡ true → fault ≡ faults.Long → Reads place old.errand job pages (talk_of old past) m
@@ -230,7 +238,7 @@ fails_by : (place : DeviceInfo → ℕ) (job : rules.Job) (pages : List (List Fr
     → Reads place old.errand job pages (talk_of old past) m → nat_lt (most_bytes g.frame.params) (length (g.frame.payload ++ g.reads.before) + length g.reads.last) ≡ b
     → after_feed g.reads.last g.reads.starved (took past g.frame g.reads.before)
     ≡ (if b then failed faults.Long (took past g.frame g.reads.before) else (if s then failed faults.NoMem (took past g.frame g.reads.before) else took (took past g.frame g.reads.before) (record g.frame { payload = g.frame.payload ++ g.reads.before }) g.reads.last))
-    → Received place job pages m old piece new
+    → Received place job pages m old past piece new
 fails_by place job pages old new past piece m g true s a r e w =
     let before = g.reads.before in
     let last = g.reads.last in
@@ -244,6 +252,7 @@ fails_by place job pages old new past piece m g true s a r e w =
     pieces.Overflows (before ++ last) (after_feed last g.reads.starved (took past g.frame before)) (record { used = g.reads.used; rest = g.reads.rest; whole = g.reads.whole; carries = g.reads.carries }) (ap (λ (v : Talker). v.out) g.rest) o
     (record {
       serves = g.serves;
+      given_is = ap (λ (y : Past). y.given) w;
       reads = other_past place old.errand job pages new (failed faults.Long past) (after_feed last g.reads.starved (took past g.frame before)) (read_in m.stage m (before ++ last)) statuses.IoError whys.Long o (ap (λ (y : Past). y.ended) w) read;
     })
 fails_by place job pages old new past piece m g false true a r e w =
@@ -252,12 +261,12 @@ fails_by place job pages old new past piece m g false true a r e w =
     let within = ltb-false (most_bytes g.frame.params) (length (g.frame.payload ++ before) + length last) e in
     let n : length (g.frame.payload ++ before) ≡ length g.frame.payload + length before = length-append g.frame.payload before in
     let l : g.fault ≡ faults.NoMem = (let full : Some faults.NoMem ≡ Some g.fault = sym (ap (λ (y : Past). y.fault) w) ∙ g.reads.fails in cc) in
-    starved place job pages old new past piece g.frame before last new.phase m a g.under (omega arith) r (record { used = g.reads.used; rest = g.reads.rest; whole = g.reads.whole; carries = g.reads.carries })
-    (ap (λ (v : Talker). v.out) g.rest) (ap (λ (v : Talker). v.outcome) g.rest ∙ ap (λ (x : JoinFault). next_outcome old.errand.task old.notes (unjoined x)) l)
+    starved place job pages old new past (after_feed last g.reads.starved (took past g.frame before)) piece g.frame before last new.phase m a g.under (omega arith) r (record { used = g.reads.used; rest = g.reads.rest; whole = g.reads.whole; carries = g.reads.carries })
+    (ap (λ (v : Talker). v.out) g.rest) (ap (λ (v : Talker). v.outcome) g.rest ∙ ap (λ (x : JoinFault). next_outcome old.errand.task old.notes (unjoined x)) l) w g.serves
 fails_by place job pages old new past piece m g false false a r e w = absurd (let clash : None ≡ Some g.fault = sym a.calm ∙ sym (ap (λ (y : Past). y.fault) w) ∙ g.reads.fails in cc)
 
 fails : (place : DeviceInfo → ℕ) (job : rules.Job) (pages : List (List Frame)) (old new : Talker) (past : Past) (piece : List ℕ) (m : rules.Mind) → At old past
-    → Reads place old.errand job pages (talk_of old past) m → Fails old past piece new → Received place job pages m old piece new
+    → Reads place old.errand job pages (talk_of old past) m → Fails old past piece new → Received place job pages m old past piece new
 fails place job pages old new past piece m a r g =
     let b = nat_lt (most_bytes g.frame.params) (length (g.frame.payload ++ g.reads.before) + length g.reads.last) in
     fails_by place job pages old new past piece m g b g.reads.starved a r refl
@@ -266,13 +275,7 @@ fails place job pages old new past piece m a r g =
 pub all_received : PiecesAreReceivedAlike
 all_received place job pages old new past piece m t count e s r (inl g) = went place job pages old new past piece m (at old past e s) r g
 all_received place job pages old new past piece m t count e s r (inr (inl g)) = ended place job pages old new past piece m t count (at old past e s) r g
-all_received place job pages old new past piece m t count e s r (inr (inr (inl g))) =
-    let a = at old past e s in
-    let given = g.reads.reads.given in
-    starved place job pages old new past piece g.frame given [] (phases.Ended g.status) m a g.under (took_short past g.frame given g.join a.calm g.reads.reads.stands) r
-    (record { used = g.reads.used; rest = g.reads.rest; whole = g.reads.whole; carries = subst (λ (l : List ℕ). Carries old.phase (phases.Ended g.status) g.reads.used l) (sym (append-nil given)) g.reads.reads.carries })
-    g.starved.out g.starved.outcome
-all_received place job pages old new past piece m t count e s r (inr (inr (inr g))) = fails place job pages old new past piece m (at old past e s) r g
+all_received place job pages old new past piece m t count e s r (inr (inr g)) = fails place job pages old new past piece m (at old past e s) r g
 
 -- ---- the file of a page
 

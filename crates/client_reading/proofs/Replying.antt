@@ -214,6 +214,6 @@ all_heard place job pages old new past piece m t o s r (Garbled was h runs g) =
     (λ n f. (f, ends_so place old.errand job pages (talk_of was h.past_then) new n.mind statuses.IoError whys.Malformed words.Malformed refl (runs_is was.outcome runs) (ap (λ (v : Talker). v.outcome) g.ends) f.reads))
 all_heard place job pages old new past piece m t o s r (Starved was h runs x) =
     hears_all place job pages old was past piece m _ h t o s r
-    (λ n f. (f, ends_so place old.errand job pages (talk_of was h.past_then) new n.mind statuses.NoMem whys.Memory words.Memory refl (runs_is was.outcome runs) x.outcome f.reads))
+    (λ n f. (f, ends_so place old.errand job pages (talk_of was h.past_then) new n.mind statuses.NoMem whys.Memory words.Memory refl (runs_is was.outcome runs) x.starved.outcome f.reads))
 all_heard place job pages old new past piece m t o s r (Choked x) =
-    ends_so place old.errand job pages (talk_of old past) new m statuses.NoMem whys.Memory words.Memory refl (runs_is old.outcome o) x.outcome r
+    ends_so place old.errand job pages (talk_of old past) new m statuses.NoMem whys.Memory words.Memory refl (runs_is old.outcome o) x.starved.outcome r

@@ -19,7 +19,7 @@ use Rattle.client_rules.specs.Talks.{Talk, after_reply, is_running, is_receiving
 use Rattle.net_client.specs.Sending.{requests_text}
 use Rattle.data_records.specs.declared.records.Phase.{Phase}
 use Rattle.data_records.specs.declared.records.Phase.TheVariants as phases
-use Rattle.data_records.specs.Records.{Carries}
+use Rattle.data_records.specs.Records.{Carries, HasEnded}
 use Rattle.net_client.specs.Talker.{Talker, talk_of, Serves, TakesPage, Stays, Turns}
 use Rattle.net_client.specs.Hearing.{Heeds, Whole, Garbled, Starved, Choked}
 use Rattle.net_client.specs.Imaging.{Receives}
@@ -107,38 +107,39 @@ pub record Brings (old new : Phase) (piece given : List ℕ) : Type 0 where
   pub whole : piece ≡ used ++ rest
   pub carries : Carries old new used given
 
--- the client stands for that history, and reads so
-pub record StandsSo (place : DeviceInfo → ℕ) (errand : Errand) (job : rules.Job) (pages : List (List Frame)) (past : Past) (new : Talker) (m : rules.Mind) : Type 0 where
+-- the client stands for that history, of which so much was given, and reads so
+pub record StandsSo (place : DeviceInfo → ℕ) (errand : Errand) (job : rules.Job) (pages : List (List Frame)) (given : List ℕ) (past : Past) (new : Talker) (m : rules.Mind) : Type 0 where
   pub serves : Serves past new
+  pub given_is : past.given ≡ given
   pub reads : Reads place errand job pages (talk_of new past) m
 
 -- an end record came: how the client reads then, and what it sends
-pub record Closes (place : DeviceInfo → ℕ) (errand : Errand) (job : rules.Job) (pages : List (List Frame)) (past : Past) (new : Talker) (m : rules.Mind) (sent : List ℕ) : Type 0 where
-  pub stands : StandsSo place errand job pages past new m
+pub record Closes (place : DeviceInfo → ℕ) (errand : Errand) (job : rules.Job) (pages : List (List Frame)) (given : List ℕ) (past : Past) (new : Talker) (m : rules.Mind) (sent : List ℕ) : Type 0 where
+  pub stands : StandsSo place errand job pages given past new m
   pub spells : SpellAt errand new.notes.word new.progress sent job m
 
 -- a byte that is no status ends the job as malformed
-abbrev pub EndsAs : (DeviceInfo → ℕ) → Errand → rules.Job → List (List Frame) → Past → Talker → rules.Mind → List ℕ → Option Status → Type 0
-EndsAs place errand job pages past new m sent None = StandsSo place errand job pages past new (stopped words.IoError words.Malformed m) × (sent ≡ [])
-EndsAs place errand job pages past new m sent (Some status) = Closes place errand job pages past new (finish_in m.stage job.task m (status_of status)) sent
+abbrev pub EndsAs : (DeviceInfo → ℕ) → Errand → rules.Job → List (List Frame) → List ℕ → Past → Talker → rules.Mind → List ℕ → Option Status → Type 0
+EndsAs place errand job pages given past new m sent None = StandsSo place errand job pages given past new (stopped words.IoError words.Malformed m) × (sent ≡ [])
+EndsAs place errand job pages given past new m sent (Some status) = Closes place errand job pages given past new (finish_in m.stage job.task m (status_of status)) sent
 
 -- What comes of a piece: bytes of the frame, and of these more than it may have, behind which no more is read; an end behind them; or
--- want of memory behind a front of them.
-pub data Received (place : DeviceInfo → ℕ) (job : rules.Job) (pages : List (List Frame)) (m : rules.Mind) (old : Talker) (piece : List ℕ) (new : Talker) : Type 0 where
-  Goes : (given : List ℕ) (past : Past) → Carries old.phase new.phase piece given → new.out ≡ old.out
-      → StandsSo place old.errand job pages past new (read_in m.stage m given) → Received place job pages m old piece new
+-- want of memory behind a front of them. Of the file nothing more is given.
+pub data Received (place : DeviceInfo → ℕ) (job : rules.Job) (pages : List (List Frame)) (m : rules.Mind) (old : Talker) (was : Past) (piece : List ℕ) (new : Talker) : Type 0 where
+  Goes : (given : List ℕ) (past : Past) → Carries old.phase new.phase piece given → new ≡ record old { phase = new.phase; join = new.join } → (HasEnded new.phase → ⊥)
+      → StandsSo place old.errand job pages was.given past new (read_in m.stage m given) → Received place job pages m old was piece new
   Overflows : (given : List ℕ) (past : Past) → Brings old.phase new.phase piece given → new.out ≡ old.out → new.outcome ≡ Ended statuses.IoError whys.Long
-      → StandsSo place old.errand job pages past new (read_in m.stage m given) → Received place job pages m old piece new
+      → StandsSo place old.errand job pages was.given past new (read_in m.stage m given) → Received place job pages m old was piece new
   Ends : (given : List ℕ) (n : ℕ) (past : Past) (sent : List ℕ) → Brings old.phase (phases.Ended n) piece given → new.out ≡ old.out ++ sent
-      → EndsAs place old.errand job pages past new (read_in m.stage m given) sent (status_at n) → Received place job pages m old piece new
+      → EndsAs place old.errand job pages was.given past new (read_in m.stage m given) sent (status_at n) → Received place job pages m old was piece new
   Starves : (given more : List ℕ) (phase : Phase) (past : Past) → Brings old.phase phase piece (given ++ more) → new.out ≡ old.out → new.outcome ≡ Ended statuses.NoMem whys.Memory
-      → Reads place old.errand job pages (talk_of new past) (stopped words.NoMem words.Memory (read_in m.stage m given)) → Received place job pages m old piece new
+      → StandsSo place old.errand job pages was.given past new (stopped words.NoMem words.Memory (read_in m.stage m given)) → Received place job pages m old was piece new
 
 abbrev pub PiecesAreReceivedAlike : Type 0
 PiecesAreReceivedAlike =
     (place : DeviceInfo → ℕ) (job : rules.Job) (pages : List (List Frame)) (old new : Talker) (past : Past) (piece : List ℕ) (m : rules.Mind)
     → job.task ≡ task_of old.errand.task → HasCount old.errand.task → is_receiving old.outcome old.progress ≡ true → Serves past old → Reads place old.errand job pages (talk_of old past) m
-    → Receives old past piece new → Received place job pages m old piece new
+    → Receives old past piece new → Received place job pages m old past piece new
 
 -- ---- the file of a page of a batch
 

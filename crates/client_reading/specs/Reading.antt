@@ -8,7 +8,7 @@ use Rattle.option_desc.specs.Reads.{read}
 use Rattle.option_desc.specs.declared.value.Value.{Value}
 use Rattle.device_api.specs.declared.device_info.DeviceInfo.{DeviceInfo}
 use Rattle.page_picture.specs.Shows.{Frame}
-use Rattle.md5_auth.specs.ChallengeReading.{challenge_of, answer_of}
+use Rattle.md5_auth.specs.ChallengeReading.{answer_of}
 use Rattle.frame_join.specs.FrameHistory.{Past, is_joined, is_accepted}
 use Rattle.scan_job.specs.declared.job.Task.{Task}
 use Rattle.scan_job.specs.declared.job.Task.TheVariants as tasks
@@ -133,7 +133,7 @@ WaitsAs job stages.Greeting notes past m = (m.stage ≡ rules.Running rules.Gree
 WaitsAs job stages.Listing notes past m = (m.stage ≡ rules.Running rules.Listing) × IsOpen job notes m
 WaitsAs job stages.Opening notes past m = (m.stage ≡ rules.Running rules.Opening) × IsOpen job notes m
 WaitsAs job (stages.Allowing resource answer) notes past m =
-    ((challenge : words.Challenge) × ((m.stage ≡ rules.Running (rules.Allowing challenge)) × (challenge_of resource ≡ Some challenge))) × IsOpen job notes m
+    ((challenge : words.Challenge) × ((m.stage ≡ rules.Running (rules.Allowing challenge)) × (resource ≡ challenge))) × IsOpen job notes m
 WaitsAs job stages.Reopening notes past m = ((challenge : words.Challenge) × (m.stage ≡ rules.Running (rules.Allowing challenge))) × IsOpen job notes m
 WaitsAs job stages.Describing notes past m = (m.stage ≡ rules.Running (rules.Describing (map wish_of notes.left))) × Early notes m
 WaitsAs job (stages.Putting n kind name asked) notes past m =

@@ -4,7 +4,7 @@ use Rattle.frame_join.specs.FrameHistory.{Past}
 use Rattle.wire_message.specs.declared.message.Request.{Request}
 use Rattle.wire_message.specs.declared.message.Request.TheVariants as requests
 use Rattle.wire_message.specs.declared.message.Action.TheVariants as actions
-use Rattle.md5_auth.specs.ChallengeReading.{challenge_of, answer_of}
+use Rattle.md5_auth.specs.ChallengeReading.{answer_of}
 use Rattle.client_rules.specs.Asking.{asked, goodbye, farewell}
 use Rattle.client_rules.specs.WireValues.{wire_of, blank}
 use Rattle.client_rules.specs.declared.progress.Errand.{Errand}
@@ -45,7 +45,7 @@ IsRequest errand word known (requests.Init version user) words.Init = (version �
 IsRequest errand word known requests.GetDevices words.GetDevices = Unit {0}
 IsRequest errand word known (requests.Open name) words.Open = name ≡ errand.device
 IsRequest errand word known (requests.Authorize resource user answer) (words.Authorize challenge) =
-    (challenge_of resource ≡ Some challenge) × (user ≡ errand.user) × (answer_of resource errand.password ≡ Some answer)
+    (resource ≡ challenge) × (user ≡ errand.user) × (answer_of resource errand.password ≡ Some answer)
 IsRequest errand word known (requests.GetOptionDescriptors device) words.Describe = device ≡ word
 IsRequest errand word known (requests.ControlOption device option actions.GetValue kind value) (words.Get n) = IsGet word known n device option kind value
 IsRequest errand word known (requests.ControlOption device option actions.SetValue kind value) (words.Set n asked) = IsSet word known n asked device option kind value

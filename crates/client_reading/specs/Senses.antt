@@ -31,14 +31,14 @@ abbrev pub good : Status → words.Reply → Sense
 good statuses.Good answer = Says answer
 good status answer = Says (words.Refused (status_of status))
 
--- a resource with no challenge asks for the password
-abbrev pub asks : Option (List ℕ) → Sense
-asks None = Demands
-asks (Some challenge) = Says (words.Challenged challenge)
+-- a resource with a challenge in it is what the rules call a challenge; one with none asks for the password
+abbrev pub asks : List ℕ → Option (List ℕ) → Sense
+asks resource None = Demands
+asks resource (Some challenge) = Says (words.Challenged resource)
 
 abbrev pub opens : Status → List ℕ → Sense
 opens status [] = good status words.Opened
-opens status (b ∷ bytes) = asks (challenge_of (b ∷ bytes))
+opens status (b ∷ bytes) = asks (b ∷ bytes) (challenge_of (b ∷ bytes))
 
 -- where no resource may be
 abbrev pub plain : List ℕ → Sense → Sense
