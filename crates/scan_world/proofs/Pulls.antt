@@ -53,7 +53,7 @@ kept_file : (b : Bool) (bytes given : List ℕ) (old new : Post) → IsKept b by
 kept_file true bytes given old new e k = subst (λ (p : Post). Keeps p.is_starved (given ++ bytes) p.file) (sym e) (file_grown old.is_starved bytes given old.file k)
 kept_file false bytes given old new e k = subst (λ (p : Post). Keeps p.is_starved (given ++ bytes) p.file) (sym e) refl
 
-kept_starved : (b : Bool) (bytes : List ℕ) (old new : Post) → IsKept b bytes old new → old.is_starved ≡ true → new.is_starved ≡ true
+pub kept_starved : (b : Bool) (bytes : List ℕ) (old new : Post) → IsKept b bytes old new → old.is_starved ≡ true → new.is_starved ≡ true
 kept_starved true bytes old new e s = ap (λ (p : Post). p.is_starved) e ∙ s
 kept_starved false bytes old new e s = ap (λ (p : Post). p.is_starved) e
 
@@ -267,6 +267,13 @@ laid_either false p = refl
 
 pub laid_always : (p : Post) → IsLaid p (laid_by p)
 laid_always p = laid_either (nat_lt p.finished 16) p
+
+starved_either : (b : Bool) (p : Post) → (if b then with_page p else record p { file = Some [] }).is_starved ≡ p.is_starved
+starved_either true p = refl
+starved_either false p = refl
+
+pub laid_starved : (p : Post) → (laid_by p).is_starved ≡ p.is_starved
+laid_starved p = starved_either (nat_lt p.finished 16) p
 
 pub laid_then : (a b c : Post) → IsLaid a b → IsLaid b c → IsLaid a c
 laid_then a b c x y = y ∙ ap (λ (p : Post). record p { client = c.client; file = c.file; pages = c.pages; finished = c.finished; is_starved = c.is_starved }) x

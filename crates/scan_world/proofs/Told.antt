@@ -5,11 +5,9 @@ use Rattle.frame_join.specs.declared.join_stage.JoinFault.TheVariants as faults
 use Rattle.frame_join.specs.declared.join_stage.JoinFault.TheVariants.{Long, NoMem}
 use Rattle.frame_join.specs.AloneFrame.{most_bytes}
 use Rattle.frame_join.specs.FrameHistory.{Past, IsJoined, after_feed, failed, fed}
-use Rattle.sane_fixed.specs.declared.status.Status.TheVariants as statuses
 use Rattle.scan_job.specs.declared.job.Task.{Task}
 use Rattle.scan_job.specs.declared.outcome.Outcome.{Outcome}
 use Rattle.scan_job.specs.declared.outcome.Outcome.TheVariants.{Running, Done, Ended}
-use Rattle.scan_job.specs.declared.outcome.Why.TheVariants as whys
 use Rattle.frame_join.specs.declared.join_stage.JoinFault.{JoinFault}
 use Rattle.client_rules.specs.declared.progress.Notes.{Notes}
 use Rattle.client_rules.specs.declared.progress.Next.{Next}
@@ -21,7 +19,7 @@ use Rattle.client_rules.proofs.Fitting.{may_end}
 use Rattle.data_records.specs.declared.records.Phase.TheVariants as phases
 use Rattle.net_client.specs.Talker.{Talker, Serves, talk_of}
 use Rattle.net_client.specs.Hearing.{HasHeard, Heeds, Whole, Garbled, Starved, Choked, IsStarved}
-use Rattle.net_client.specs.Imaging.{EndsFrame, Ends, Fails, Goes, Receives, Starves, end_of}
+use Rattle.net_client.specs.Imaging.{EndsFrame, Ends, Fails, Goes, Receives, end_of}
 use Rattle.net_client.proofs.Ending.{ended_gives_by, is_running_then}
 use Rattle.net_client.proofs.Hearings.{fits_at, hears_gives}
 use Rattle.scan_world.specs.Deeds.{is_done}
@@ -64,19 +62,19 @@ heeded old past piece new running (Garbled was h was_running g) =
       errand = ap (λ (v : Talker). v.errand) g.ends ∙ h.errand;
       number = λ pages n. ended_number old.errand.task new.outcome new.progress new.notes.file pages (ap (λ (v : Talker). is_running v.outcome) g.ends);
     }
-heeded old past piece new running (Starved was h was_running s) = record {
-  now = s.past_then;
-  given = s.given ∙ heard_given old past piece was h;
-  serves = s.serves;
-  errand = s.errand ∙ h.errand;
-  number = λ pages n. ended_number old.errand.task new.outcome new.progress new.notes.file pages (starved_over was h.past_then new s);
+heeded old past piece new running (Starved was h was_running choked) = record {
+  now = choked.starved.past_then;
+  given = choked.starved.given ∙ heard_given old past piece was h;
+  serves = choked.starved.serves;
+  errand = choked.starved.errand ∙ h.errand;
+  number = λ pages n. ended_number old.errand.task new.outcome new.progress new.notes.file pages (starved_over was h.past_then new choked.starved);
 }
-heeded old past piece new running (Choked s) = record {
-  now = s.past_then;
-  given = s.given;
-  serves = s.serves;
-  errand = s.errand;
-  number = λ pages n. ended_number old.errand.task new.outcome new.progress new.notes.file pages (starved_over old past new s);
+heeded old past piece new running (Choked choked) = record {
+  now = choked.starved.past_then;
+  given = choked.starved.given;
+  serves = choked.starved.serves;
+  errand = choked.starved.errand;
+  number = λ pages n. ended_number old.errand.task new.outcome new.progress new.notes.file pages (starved_over old past new choked.starved);
 }
 
 -- ---- records
@@ -159,20 +157,6 @@ ended_told old past piece new running e =
       done = s.done;
     }
 
-starved_told : (old : Talker) (past : Past) (piece : List ℕ) (new : Talker) → Starves old past piece new → IsSeen old past new
-starved_told old past piece new e =
-    let s = e.starved in
-    record {
-      told = record {
-        now = s.past_then;
-        given = s.given;
-        serves = s.serves;
-        errand = s.errand;
-        number = λ pages n. ended_number old.errand.task new.outcome new.progress new.notes.file pages (starved_over old past new s);
-      };
-      done = λ d. absurd (is_ended_so new.outcome (Ended statuses.NoMem whys.Memory) s.outcome refl d);
-    }
-
 unjoined_over : (task : Task) (notes : Notes) (fault : JoinFault) → is_running (next_outcome task notes (unjoined fault)) ≡ false
 unjoined_over task notes faults.Shape = refl
 unjoined_over task notes faults.Long = refl
@@ -200,5 +184,4 @@ failed_told old past piece new f = record {
 pub received : (old : Talker) (past : Past) (piece : List ℕ) (new : Talker) → is_receiving old.outcome old.progress ≡ true → Receives old past piece new → IsSeen old past new
 received old past piece new on (inl g) = went old past piece new (is_running_then old.outcome old.progress on) g
 received old past piece new on (inr (inl e)) = ended_told old past piece new (is_running_then old.outcome old.progress on) e
-received old past piece new on (inr (inr (inl s))) = starved_told old past piece new s
-received old past piece new on (inr (inr (inr f))) = failed_told old past piece new f
+received old past piece new on (inr (inr f)) = failed_told old past piece new f

@@ -38,6 +38,10 @@ pub record IsGiven (old new : Post) : Type 0 where
 abbrev pub IsLaid : Post → Post → Type 0
 IsLaid old new = new ≡ record old { client = new.client; file = new.file; pages = new.pages; finished = new.finished; is_starved = new.is_starved }
 
+-- that a growth was refused is not forgotten
+abbrev pub StaysStarved : Post → Post → Type 0
+StaysStarved old new = old.is_starved ≡ true → new.is_starved ≡ true
+
 -- the file of a page is whole, that of the picture that the page's frames show, and laid by, and the client turns to the next
 pub record TurnsTo (past : Past) (pages : List Past) (old new : Post) : Type 0 where
   pub turned : turns old.client.outcome old.client.progress ≡ true
@@ -76,4 +80,5 @@ pub record Drains (old new : Post) : Type 0 where
   -- a job of another task has no file
   pub none : scans old.task ≡ false → new ≡ old
   pub rest : IsLaid old new
+  pub starved : StaysStarved old new
   pub drains : (past : Past) (pages : List Past) → scans old.task ≡ true → HasPlace old pages → Holds past pages old → Drained (turns old.client.outcome old.client.progress) past pages old new

@@ -4,7 +4,7 @@ ghost use Rattle.std.specs.Prelude.{◌≡◌, ◌<◌, List, true, length};
 ghost use Rattle.frame_join.specs.FrameHistory.{Past};
 ghost use Rattle.client_rules.specs.Talks.{scans, turns};
 ghost use Rattle.scan_world.specs.Posts.{IsKept, laid_by};
-ghost use Rattle.scan_world.specs.Draining.{Drains, HasPlace, Holds, IsLaid, Pulls};
+ghost use Rattle.scan_world.specs.Draining.{Drains, HasPlace, Holds, IsLaid, Pulls, StaysStarved};
 
 use crate::deeds::PIECE;
 use crate::file::File;
@@ -66,6 +66,7 @@ impl Post {
     fn pull(&mut self, alloc: Global) -> Pull
         ensures pulls { (past : Past) (pages : List Past) → scans self.old.task ≡ true → HasPlace self.old pages → Holds past pages self.old → Pulls past pages self.old result self.new }
         ensures rest { IsLaid self.old self.new }
+        ensures starved { StaysStarved self.old self.new }
     {
         if self.client.is_turning() {
             return self.pull_page(alloc);
@@ -81,6 +82,7 @@ impl Post {
         requires { turns self.old.client.outcome self.old.client.progress ≡ true }
         ensures pulls { (past : Past) (pages : List Past) → scans self.old.task ≡ true → length pages < 16 → Holds past pages self.old → Pulls past pages self.old result self.new }
         ensures rest { IsLaid self.old self.new }
+        ensures starved { StaysStarved self.old self.new }
     {
         whole_shows();
         let mut room = [0u8; PIECE];

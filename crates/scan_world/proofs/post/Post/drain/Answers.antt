@@ -5,11 +5,12 @@ use Rattle.scan_world.proofs.Pulls.{laid_then}
 use Rattle.scan_world.proofs.post.Post.drain.Goals as goal
 
 pub loop-i-init : goal.loop-i-init
-loop-i-init c = record { rest = refl; under = λ past pages scan less h. begun past pages _ h }
+loop-i-init c = record { rest = refl; starved = λ e. e; under = λ past pages scan less h. begun past pages _ h }
 
 pub loop-i-preserved : goal.loop-i-preserved
 loop-i-preserved c = record {
   rest = laid_then c.args.self.now c.loop-i.self c.pull.new.self c.loop-i.invariant.rest c.in-More.ensures.rest;
+  starved = λ e. c.in-More.ensures.starved (c.loop-i.invariant.starved e);
   under = λ past pages scan less h.
       let old = c.args.self.now in
       let mid = c.loop-i.self in
@@ -22,6 +23,7 @@ pub returns-in-Dry : goal.returns-in-Dry
 returns-in-Dry c = record {
   none = λ off. absurd (let clash : true ≡ false = sym c.if-not-has_files.false ∙ c.has_files.ensures ∙ off in cc);
   rest = laid_then c.args.self.now c.loop-i.self c.pull.new.self c.loop-i.invariant.rest c.in-Dry.ensures.rest;
+  starved = λ e. c.in-Dry.ensures.starved (c.loop-i.invariant.starved e);
   drains = λ past pages scan less h.
       let old = c.args.self.now in
       let mid = c.loop-i.self in
@@ -34,6 +36,7 @@ pub returns-in-Turned : goal.returns-in-Turned
 returns-in-Turned c = record {
   none = λ off. absurd (let clash : true ≡ false = sym c.if-not-has_files.false ∙ c.has_files.ensures ∙ off in cc);
   rest = laid_then c.args.self.now c.loop-i.self c.pull.new.self c.loop-i.invariant.rest c.in-Turned.ensures.rest;
+  starved = λ e. c.in-Turned.ensures.starved (c.loop-i.invariant.starved e);
   drains = λ past pages scan less h.
       let old = c.args.self.now in
       let mid = c.loop-i.self in
@@ -46,6 +49,7 @@ pub returns : goal.returns
 returns c = record {
   none = λ off. absurd (let clash : true ≡ false = sym c.if-not-has_files.false ∙ c.has_files.ensures ∙ off in cc);
   rest = c.loop-i.invariant.rest;
+  starved = c.loop-i.invariant.starved;
   drains = λ past pages scan less h.
       absurd (never past pages c.loop-i._i c.args.self.now c.loop-i.self scan (omega (arith, c.loop-i-test.false)) c.no_file_is_endless.ensures (c.loop-i.invariant.under past pages scan less h));
 }

@@ -1,7 +1,7 @@
 use Rattle.std.proofs.Common.{◌≡◌, ◌∙◌, ℕ, List, true, false, rules, take, length, sym, ap, arith}
 use Rattle.std.proofs.lemmas.List.{length-take}
 use Rattle.client_rules.specs.Talks.{is_ended, turns}
-use Rattle.scan_world.proofs.Pulls.{dry, errand_kept, given_more, holds_more, laid_kept, not_ended, unmoved}
+use Rattle.scan_world.proofs.Pulls.{dry, errand_kept, given_more, holds_more, kept_starved, laid_kept, not_ended, unmoved}
 use Rattle.scan_world.proofs.post.Post.pull.Goals as goal
 
 pub returns-then-count-eq0-clause-pulls : goal.returns-then-count-eq0-clause-pulls
@@ -40,3 +40,9 @@ returns-then-count-eq0-clause-rest c = laid_kept c.keep.result (take c.take_file
 
 pub returns-else-count-eq0-clause-rest : goal.returns-else-count-eq0-clause-rest
 returns-else-count-eq0-clause-rest c = laid_kept c.keep.result (take c.take_file-count.result c.take_file-count.new.buf) c.args.self.now c.keep.new.self c.take_file-count.new.self c.keep.ensures
+
+pub returns-then-count-eq0-clause-starved : goal.returns-then-count-eq0-clause-starved
+returns-then-count-eq0-clause-starved c = λ e. kept_starved c.keep.result (take c.take_file-count.result c.take_file-count.new.buf) _ c.keep.new.self c.keep.ensures e
+
+pub returns-else-count-eq0-clause-starved : goal.returns-else-count-eq0-clause-starved
+returns-else-count-eq0-clause-starved c = λ e. kept_starved c.keep.result (take c.take_file-count.result c.take_file-count.new.buf) _ c.keep.new.self c.keep.ensures e

@@ -1,7 +1,7 @@
 use Rattle.std.proofs.Common.{◌≡◌, ◌∙◌, ℕ, List, true, false, rules, take, length, sym, ap, arith}
 use Rattle.std.proofs.lemmas.List.{length-take}
 use Rattle.client_rules.specs.Talks.{turns}
-use Rattle.scan_world.proofs.Pulls.{laid_always, laid_kept, laid_then, page_dry, page_more, page_turns, still_alive}
+use Rattle.scan_world.proofs.Pulls.{kept_starved, laid_always, laid_kept, laid_starved, laid_then, page_dry, page_more, page_turns, still_alive}
 use Rattle.scan_world.proofs.post.Post.pull_page.Goals as goal
 
 pub returns-then-not-is_turning-clause-pulls : goal.returns-then-not-is_turning-clause-pulls
@@ -38,3 +38,14 @@ returns-then-count-eq0-clause-rest c = laid_kept c.keep.result (take c.take_file
 
 pub returns-else-count-eq0-clause-rest : goal.returns-else-count-eq0-clause-rest
 returns-else-count-eq0-clause-rest c = laid_kept c.keep.result (take c.take_file-count.result c.take_file-count.new.buf) c.args.self.now c.keep.new.self c.take_file-count.new.self c.keep.ensures
+
+pub returns-then-not-is_turning-clause-starved : goal.returns-then-not-is_turning-clause-starved
+returns-then-not-is_turning-clause-starved c = λ e.
+    let kept = c.keep.new.self in
+    rw c.lay_by.ensures (laid_starved kept ∙ kept_starved c.keep.result (take c.take_file-count.result c.take_file-count.new.buf) _ kept c.keep.ensures e)
+
+pub returns-then-count-eq0-clause-starved : goal.returns-then-count-eq0-clause-starved
+returns-then-count-eq0-clause-starved c = λ e. kept_starved c.keep.result (take c.take_file-count.result c.take_file-count.new.buf) _ c.keep.new.self c.keep.ensures e
+
+pub returns-else-count-eq0-clause-starved : goal.returns-else-count-eq0-clause-starved
+returns-else-count-eq0-clause-starved c = λ e. kept_starved c.keep.result (take c.take_file-count.result c.take_file-count.new.buf) _ c.keep.new.self c.keep.ensures e
