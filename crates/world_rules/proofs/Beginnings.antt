@@ -193,7 +193,7 @@ new_talks users names job c h =
     record {
       task = refl;
       errand = ap (λ (v : Talker). v.errand) h.value;
-      word = ap (λ (v : Talker). v.notes.word) h.value;
+      word = λ _. ap (λ (v : Talker). v.notes.word) h.value;
       over = λ e. absurd (let clash : true ≡ false = sym (ap (λ (v : Talker). is_running v.outcome) h.value) ∙ e in cc);
       serves = h.serves;
       reads = made.0;
@@ -219,7 +219,7 @@ new_means users names job c h =
       first = λ _. made.1;
       up = λ e. absurd (let clash : false ≡ true = e in cc);
       down = λ _. refl;
-      flow = refl;
+      flow = record { image_is = refl; flight_is = refl; ending_is = refl };
       starved = λ e. absurd e;
     }
 
@@ -244,24 +244,27 @@ new_sits jobs other devices w i p d n at =
       carries = record { up = refl; asking = refl; down = refl; telling = ap (λ (v : Talker). v.input.rest) n.new.client.value; image = refl };
       means = new_means users names n.job p.client n.new.client;
       served = (refl, subst (λ (t : Table). ShowsTable i make [] t device) (sym d.registry) (new_table i devices));
+      speaks = tt;
     })))
 
 unlinked : (jobs : List Job) (i : ℕ) (p : Post) (id : SessionId) → IsNewAt jobs i p → p.link ≡ Some id → ⊥
 unlinked jobs i p id n e = let clash : None ≡ Some id = sym (ap (λ (x : Post). x.link) n.new.rest) ∙ e in absurd (cc)
 
 pub new_worlds_stand : NewWorldsStand
-new_worlds_stand jobs other devices w new d names steady =
+new_worlds_stand jobs other devices w new d names steady fit =
     let t = nothing_told jobs other devices w.daemon.users w.posts in
     let all = all_each IsSteady devices steady in
     record {
       sound = beginning_sound t.rules.make t.rules.device (λ i. rules_job w.daemon.users t.names (slice_index_or jobs i other)) t.rules.places (λ k. free_at (slice_get devices k))
           (λ k. fit_at (slice_get devices k) (λ s e. (all_there IsSteady devices k s all e).limits));
+      asks = λ i. tt;
       is_of = record {
         count = as_many jobs w.posts new;
         users = refl;
         names = table_names devices ∙ ap (map are_named) (sym d.registry);
         apart = apart devices names;
         places = refl;
+        counts = λ i low. (fit i other low).1;
       };
       posts = λ i p at. new_sits jobs other devices w i p d (new_at jobs w.posts i p new at) at;
       beyond = λ i high. record {

@@ -50,16 +50,16 @@ slot_names [] k slot = refl
 slot_names (p ∷ t) zero slot = refl
 slot_names (p ∷ t) (suc k) slot = ap (λ (x : List (List ℕ)). p.info.name ∷ x) (slot_names t k slot)
 
-give_names : (t : Table) (l : Lease DeviceState) (b : Bool) → map are_named (if b then with_slot t l.place (In (after_cancel l.device)) else t) ≡ map are_named t
+pub give_names : (t : Table) (l : Lease DeviceState) (b : Bool) → map are_named (if b then with_slot t l.place (In (after_cancel l.device)) else t) ≡ map are_named t
 give_names t l true = slot_names t l.place (In (after_cancel l.device))
 give_names t l false = refl
 
-back_names : (t : Table) (lease : Option (Lease DeviceState)) → map are_named (back t lease) ≡ map are_named t
+pub back_names : (t : Table) (lease : Option (Lease DeviceState)) → map are_named (back t lease) ≡ map are_named t
 unfolding after_give_back
 back_names t None = refl
 back_names t (Some l) = give_names t l (awaits l.device.info.name l.place t)
 
-given_names : (t : Table) (held : Held) → map are_named (given_back t held) ≡ map are_named t
+pub given_names : (t : Table) (held : Held) → map are_named (given_back t held) ≡ map are_named t
 given_names t [] = refl
 given_names t (lease ∷ held) = given_names (back t lease) held ∙ back_names t lease
 
@@ -80,11 +80,11 @@ slot_left i make held k dev name (In s) n h = left_by i dev None (ap (λ (x : De
 slot_left i make held k dev name Out n (listed, inl holds) = absurd (n holds)
 slot_left i make held k dev name Out n (listed, inr away) = left_by i dev (Some away.other) away.holder (λ e. away.no_own (unsome away.other i e))
 
-place_left : (i : ℕ) (make : Make) (held : Held) (k : ℕ) (dev : Device) (at : Option (Place DeviceState)) → (Holds held k → ⊥) → ShowsPlace i make held k dev at → let_go i dev ≡ dev
+pub place_left : (i : ℕ) (make : Make) (held : Held) (k : ℕ) (dev : Device) (at : Option (Place DeviceState)) → (Holds held k → ⊥) → ShowsPlace i make held k dev at → let_go i dev ≡ dev
 place_left i make held k dev None n h = left_by i dev None h.1 (λ e. absurd (cc))
 place_left i make held k dev (Some p) n h = slot_left i make held k dev p.info.name p.slot n h
 
-holds_wanted : (i : ℕ) (make : ℕ → Make) (core : Core) (n : ℕ) (table : ℕ → Device) (p : Party) (k : ℕ) → (h : ShowsSession i make core n table (session_by i table p)) → Holds h.session.held k → k ≡ p.base.job.wants
+pub holds_wanted : (i : ℕ) (make : ℕ → Make) (core : Core) (n : ℕ) (table : ℕ → Device) (p : Party) (k : ℕ) → (h : ShowsSession i make core n table (session_by i table p)) → Holds h.session.held k → k ≡ p.base.job.wants
 holds_wanted i make core n table p k h holds =
     let at : only_word (is_held_by i (table p.base.job.wants).holder) p.base.job.wants holds.word ≡ Some k =
     h.shows.words holds.word ∙ (ap (option_map (λ (l : Lease DeviceState). l.place)) holds.stands ∙ ap (λ (x : ℕ). Some x) holds.place) in
@@ -156,7 +156,7 @@ is_ended i make d id false table p h =
       only = λ k n. same k;
     }
 
-put_let_go : (i wants : ℕ) (table : ℕ → Device) → ((k : ℕ) → k ≢ wants → let_go i (table k) ≡ table k) → (k : ℕ) → put table wants (let_go i (table wants)) k ≡ let_go i (table k)
+pub put_let_go : (i wants : ℕ) (table : ℕ → Device) → ((k : ℕ) → k ≢ wants → let_go i (table k) ≡ table k) → (k : ℕ) → put table wants (let_go i (table wants)) k ≡ let_go i (table k)
 put_let_go i wants table only k = by_test i wants table only k (is_same k wants)
   where
     by_test : (i wants : ℕ) (table : ℕ → Device) → ((k : ℕ) → k ≢ wants → let_go i (table k) ≡ table k) → (k : ℕ) → (k ≡ wants) ⊎ (k ≢ wants) → put table wants (let_go i (table wants)) k ≡ let_go i (table k)
@@ -215,7 +215,7 @@ on_true g n seats keeps h = on_seat_all IsFaithfulSeat (on_session g) n seats tt
 abbrev pub on_core : (DeskSession DeviceState → DeskSession DeviceState) → Core → ℕ → Core
 on_core g d n = record d { seats = on_seat (on_session g) n d.seats }
 
-leaves_on : (g : DeskSession DeviceState → DeskSession DeviceState) (i : ℕ) (make : ℕ → Make) (d : Core) (id : SessionId) (table device : ℕ → Device) → ((session : DeskSession DeviceState) → AllByRecursion IsFaithfulLease session.held → AllByRecursion IsFaithfulLease (g session).held) →
+pub leaves_on : (g : DeskSession DeviceState → DeskSession DeviceState) (i : ℕ) (make : ℕ → Make) (d : Core) (id : SessionId) (table device : ℕ → Device) → ((session : DeskSession DeviceState) → AllByRecursion IsFaithfulLease session.held → AllByRecursion IsFaithfulLease (g session).held) →
     AllByRecursion (IsBelow d.opened) d.seats → AreFaithful d → (held : Held) → ShowsTable i make held d.registry device → LeavesOthers i d.registry d.registry table device → Leaves i make (Some id) d (on_core g d id.number) table device
 leaves_on g i make d id table device keeps below faithful held shows others =
     record {

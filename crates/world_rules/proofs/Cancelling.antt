@@ -7,7 +7,7 @@ use Rattle.device_api.specs.declared.device_info.DeviceInfo.{DeviceInfo}
 use Rattle.page_picture.specs.Shows.{Frame}
 use Rattle.frame_join.specs.FrameHistory.{Past, is_joined}
 use Rattle.sane_fixed.specs.declared.status.Status.TheVariants as statuses
-use Rattle.saned_core.specs.State.{Core}
+use Rattle.saned_core.specs.State.{Core, session_in}
 use Rattle.scan_job.specs.declared.job.Job.{Job}
 use Rattle.scan_job.specs.declared.job.Task.{Task}
 use Rattle.scan_job.specs.declared.outcome.Outcome.{Outcome}
@@ -45,9 +45,11 @@ use Rattle.scan_world.specs.Deeds.{is_done}
 use Rattle.scan_world.specs.Worlds.{Scene}
 use Rattle.world_rules.specs.Told.{Told, Wires, place_in, wired_then}
 use Rattle.world_rules.specs.Spelled.{Flows, SpellsAsked}
-use Rattle.world_rules.specs.Stands.{KeepsFiles, Means, Stands, Talks, is_laid, woken}
+use Rattle.world_rules.specs.Stands.{KeepsFiles, Means, Stands, Talks, is_laid, seat_by, woken}
 use Rattle.world_rules.specs.Happens.{GivesUp, Leads}
 use Rattle.world_rules.proofs.Changing.{stands_change}
+use Rattle.world_rules.proofs.Held.{held_after_all}
+use Rattle.world_rules.proofs.Spoken.{same_as, speaks_more}
 use Rattle.world_rules.proofs.Minds.{runs_under, stopped_woken, stops_idle, stops_over, under_runs, woken_known}
 use Rattle.world_rules.proofs.Seated.{reseats_same}
 use Rattle.world_rules.proofs.Spelling.{spell_behind}
@@ -65,7 +67,7 @@ stops_by p = record p { mind = stopped GivenUp Cancelled p.mind; todo = p.todo +
 pub laid_not : (task : Task) (o : Outcome) (past : Past) → is_done o ≡ false → is_laid task o past ≡ false
 laid_not task o past e = ap (λ (b : Bool). cond b (cond (is_batch task) (is_joined past.ended) false) false) e
 
-not_done : (o : Outcome) → is_running o ≡ true → is_done o ≡ false
+pub not_done : (o : Outcome) → is_running o ≡ true → is_done o ≡ false
 not_done outcomes.Running e = refl
 not_done (outcomes.Done reports) e = absurd (let clash : false ≡ true = e in cc)
 not_done (outcomes.Ended status why) e = refl
@@ -111,7 +113,7 @@ talks_stopped place job past pages p old out h runs c s =
     record {
       task = h.task;
       errand = h.errand;
-      word = h.word;
+      word = λ _. h.word runs;
       over = λ _. refl;
       serves = c.serves past h.serves;
       reads = s.reads;
@@ -176,7 +178,7 @@ given_up_stands : (t : Told) (w : Scene) (i : ℕ) (p : Post) (out : List ℕ) �
 given_up_stands t w i p out h at low runs c text =
     let s = h.posts i p at in
     let me = t.rules.party i in
-    let talk = said (place_in t.names) (errand_of (t.jobs i)) me.base.job (map (λ (q : Past). q.ended) (t.pages i)) p.client (t.past i) me.mind out s.talks.errand s.talks.word runs text s.talks.reads in
+    let talk = said (place_in t.names) (errand_of (t.jobs i)) me.base.job (map (λ (q : Past). q.ended) (t.pages i)) p.client (t.past i) me.mind out s.talks.errand (s.talks.word runs) runs text s.talks.reads in
     let under : IsUnderWay me.mind.stage = runs_under (place_in t.names) (errand_of (t.jobs i)) me.base.job (map (λ (q : Past). q.ended) (t.pages i)) (talk_of p.client (t.past i)) me.mind s.talks.reads runs in
     let bytes : Wires = record (t.wires i) { up = (t.wires i).up ++ talk.text } in
     let steps = By i deeds.Stops ∷ [] in
@@ -188,12 +190,14 @@ given_up_stands t w i p out h at low runs c text =
       told = one_change t i deeds.Stops bytes (t.past i) (t.pages i);
       leaves = leaves_core t w i p u.rules.device h at same;
       sound = sound;
+      asks = held_after_all t.rules steps h.sound h.asks (under, tt);
       sits = sits_there u w.daemon i (given_up out p) (stops_by me) bytes (t.past i) (t.pages i) (one_party t i deeds.Stops bytes (t.past i) (t.pages i)) (put_there t.wires i bytes) (put_there t.past i (t.past i)) (put_there t.pages i (t.pages i)) (record {
         job_is = s.job_is;
         talks = talks_stopped (place_in t.names) (t.jobs i) (t.past i) (t.pages i) me p out s.talks runs c talk;
         carries = record { up = talk.out_is ∙ ap (λ (x : List ℕ). x ++ talk.text) s.carries.up; asking = s.carries.asking; down = s.carries.down; telling = s.carries.telling; image = s.carries.image };
         means = means_stopped (place_in t.names) (t.jobs i) (t.wires i) me p out talk.text s.means (λ served e. idle_unserved i _ me (wanted t.rules i) me.mind.stage (h.sound.talks i) e served) talk.spells;
         served = same_served i t.rules.make w.daemon p.link me.served t.rules.device u.rules.device (stops_by me) same s.served;
+        speaks = let session = session_in (seat_by w.daemon p.link) in speaks_more (t.jobs i).device me (stops_by me) (farewell me.mind.stage) session session refl refl (same_as session) s.speaks;
       });
       link = λ id e. inl e;
       reseats = reseats_same p.link w.daemon;

@@ -8,6 +8,7 @@ use Rattle.md5_auth.specs.declared.users.Entry.{Entry}
 use Rattle.saned_core.specs.declared.seat.Seat.{Seat}
 use Rattle.saned_core.specs.declared.seat.SessionId.{SessionId}
 use Rattle.saned_core.specs.State.{Core}
+use Rattle.scan_job.specs.JobSize.{HasCount}
 use Rattle.scan_job.specs.declared.job.Job.{Job}
 use Rattle.scan_rules.specs.Devices.{Make}
 use Rattle.scan_rules.specs.Scanners.{Begin}
@@ -15,6 +16,8 @@ use Rattle.scan_rules.specs.Standing.{Party}
 use Rattle.scan_rules.specs.Sound.{Sound}
 use Rattle.scan_world.specs.declared.post.Post.{Post}
 use Rattle.scan_world.specs.Worlds.{Scene}
+use Rattle.saned_core.specs.State.{session_in}
+use Rattle.world_rules.specs.Speaks.{AsksAsHeld, Speaks}
 use Rattle.world_rules.specs.Told.{Told, Wires}
 use Rattle.desk_rules.specs.Reading.{ShowsTable}
 use Rattle.world_rules.specs.Stands.{AreApart, Carries, HaveOwn, IsNobody, IsServed, Sits, SitsAt, Stands, numbered, seat_by, session_by}
@@ -40,6 +43,7 @@ pub record Change (i : ℕ) (t u : Told) (w : Scene) (p q : Post) (e : Core) : T
   pub told : IsChange i t u
   pub leaves : Leaves i t.rules.make p.link w.daemon e t.rules.device u.rules.device
   pub sound : Sound u.rules
+  pub asks : (j : ℕ) → AsksAsHeld u.rules j
   pub sits : SitsAt u e i q
   -- its session is the one that it had, or was not opened before
   pub link : (id : SessionId) → q.link ≡ Some id → (p.link ≡ Some id) ⊎ ((w.daemon.opened ≤ id.number) × (id.number < e.opened))
@@ -77,6 +81,7 @@ sits_same t u d e i j post n c seat served h =
       carries = subst (λ (x : Option (Seat DeviceState)). Carries (t.wires j) x post) (sym seat) h.carries;
       means = h.means;
       served = served;
+      speaks = subst (λ (x : Option (Seat DeviceState)). Speaks (t.jobs j).device (t.rules.party j) (session_in x)) (sym seat) h.speaks;
     }))))))))
 
 other_sits : (t u : Told) (w : Scene) (i j : ℕ) (p q post : Post) (e : Core) → Stands t w → slice_get w.posts i ≡ Some p → Change i t u w p q e → j ≢ i → slice_get w.posts j ≡ Some post → SitsAt u e j post
@@ -150,12 +155,14 @@ pub stands_change : (t u : Told) (w : Scene) (i : ℕ) (p q : Post) (e : Core) �
 stands_change t u w i p q e h at low c =
     record {
       sound = c.sound;
+      asks = c.asks;
       is_of = record {
         count = c.told.count ∙ (h.is_of.count ∙ sym (set_length w.posts i q));
         users = c.told.users ∙ (h.is_of.users ∙ sym c.leaves.users);
         names = c.told.names ∙ (h.is_of.names ∙ sym c.leaves.names);
         apart = subst AreApart (sym c.told.names) h.is_of.apart;
         places = c.told.places ∙ (h.is_of.places ∙ ap (numbered 0) (sym c.told.names));
+        counts = λ j low. subst (λ (jobs : ℕ → Job). HasCount (jobs j).task) (sym c.told.jobs) (h.is_of.counts j (subst (λ (n : ℕ). j < n) c.told.count low));
       };
       posts = λ j post there. each_sits t u w i j p q post e h at c (is_same j i) there;
       beyond = λ j high. let far : length w.posts ≤ j = subst (λ (n : ℕ). n ≤ j) (set_length w.posts i q) high in each_nobody t u w i j p q e h c (beyond_other i j (length w.posts) low far) far;

@@ -3,10 +3,12 @@ use Rattle.std.specs.List.{AllByRecursion}
 use Rattle.std.proofs.Common.{◌≡◌, ◌≢◌, ◌⊎◌, inl, inr, ◌∙◌, ℕ, ◌<◌, List, [], ◌∷◌, ◌++◌, Option, Some, None, Bool, true, false, refl, sym, ap, subst, map, slice_get, slice_set, arith}
 use Rattle.page_picture.specs.Page.{IsSheet}
 use Rattle.device_api.specs.declared.device_info.DeviceInfo.{DeviceInfo}
+use Rattle.device_api.specs.State.{DeviceState}
 use Rattle.data_records.specs.declared.records.Phase.{Phase}
 use Rattle.frame_join.specs.FrameHistory.{Past}
+use Rattle.saned_core.specs.declared.seat.Seat.{Seat}
 use Rattle.saned_core.specs.declared.seat.SessionId.{SessionId}
-use Rattle.saned_core.specs.State.{Core, fresh_seat, is_closed, opened, replies_in, seat_of}
+use Rattle.saned_core.specs.State.{Core, fresh_seat, is_closed, opened, replies_in, seat_of, session_in}
 use Rattle.saned_core.specs.Feeding.{input_in}
 use Rattle.scan_job.specs.declared.job.Job.{Job}
 use Rattle.client_rules.specs.declared.progress.Link.TheVariants as links
@@ -35,13 +37,15 @@ use Rattle.scan_world.specs.Posts.{linked, shut_out, spent}
 use Rattle.scan_world.specs.Deeds as world
 use Rattle.scan_world.specs.Worlds.{Scene}
 use Rattle.world_rules.specs.Told.{Told, Wires, place_in, wired_then}
-use Rattle.world_rules.specs.Spelled.{Flows, SpellsAsked}
+use Rattle.world_rules.specs.Spelled.{Flows, NothingFlows, SpellsAsked}
 use Rattle.world_rules.specs.Stands.{Carries, IsServed, KeepsFiles, Means, Stands, Talks, is_laid, seat_by, session_by, woken}
 use Rattle.world_rules.specs.Happens.{Connects, Leads, cut}
 use Rattle.world_rules.proofs.Changing.{IsChange, stands_change}
 use Rattle.world_rules.proofs.Fresh.{fresh_served, fresh_there, leaves_opened}
 use Rattle.world_rules.proofs.Losing.{carries_cut, loses_by, means_cut}
 use Rattle.world_rules.proofs.Lost.{IsLost, talks_lost}
+use Rattle.world_rules.specs.Speaks.{Speaks}
+use Rattle.world_rules.proofs.Held.{held_after_all}
 use Rattle.world_rules.proofs.Minds.{runs_under, under_runs}
 use Rattle.world_rules.proofs.Seated.{Reseats, reseats_opened, reseats_same}
 use Rattle.world_rules.proofs.Sees.{Leaves}
@@ -105,7 +109,7 @@ carries_linked x d id old none fresh h =
       image = h.image;
     }
 
-flows_idle : (st : Stage) (c : Carriage) (progress : Progress) (phase : Phase) (image : Option (List ℕ)) (flight : List ℕ) (ending : Option Status) → st ≡ Idle → Flows st c progress phase image flight ending → image ≡ None
+flows_idle : (st : Stage) (c : Carriage) (progress : Progress) (phase : Phase) (image : Option (List ℕ)) (flight : List ℕ) (ending : Option Status) → st ≡ Idle → Flows st c progress phase image flight ending → NothingFlows image flight ending
 flows_idle st c progress phase image flight ending e h = subst (λ (x : Stage). Flows x c progress phase image flight ending) e h
 
 means_linked : (place : DeviceInfo → ℕ) (job : Job) (x : Wires) (p : Party) (old : Post) (id : SessionId) → p.mind.stage ≡ Idle → x.asking ≡ [] → old.is_over ≡ false → Means place job x p old → Means place job x (connected p) (linked id (spent old))
@@ -149,12 +153,16 @@ linked_stands t w i p id h at low idle closed number =
       told = one_change t i deeds.Connects bytes (t.past i) (t.pages i);
       leaves = subst (λ (x : Option SessionId). Leaves i t.rules.make x w.daemon e t.rules.device u.rules.device) (sym idle.link) (leaves_opened i t.rules.make w.daemon t.rules.device u.rules.device h.seats h.faithful same table);
       sound = sound_after_all t.rules steps h.sound (idle.stage, tt);
+      asks = held_after_all t.rules steps h.sound h.asks (idle.stage, tt);
       sits = sits_there u e i q (connected me) bytes (t.past i) (t.pages i) party (put_there t.wires i bytes) (put_there t.past i (t.past i)) (put_there t.pages i (t.pages i)) (record {
         job_is = s.job_is;
         talks = talks_linked place (t.jobs i) (t.past i) (t.pages i) me p id idle.stage s.talks;
         carries = carries_linked bytes w.daemon id p idle.link (fresh_there w.daemon id.number closed h.seats number) s.carries;
         means = means_linked place (t.jobs i) bytes me p id idle.stage asking idle.over s.means;
         served = fresh_served i t.rules.make w.daemon id t.rules.device u.rules.device (connected me) closed h.seats number same idle.free idle.quiet idle.awaits table;
+        speaks =
+            subst (λ (x : Option (Seat DeviceState)). Speaks (t.jobs i).device (connected me) (session_in x)) (sym (fresh_there w.daemon id.number closed h.seats number))
+            (record { greeted = ([], refl); awaits = idle.awaits });
       });
       link = λ x is. let same_id : Some id ≡ Some x = is in let number_is : x.number ≡ w.daemon.opened = sym (ap number_of same_id) ∙ number in inr (omega (arith, number_is), omega (arith, number_is));
       reseats = subst (λ (x : Option SessionId). Reseats x (Some id) w.daemon e) (sym idle.link) (reseats_opened w.daemon id number);
@@ -226,12 +234,14 @@ shut_stands t w i p h at low idle =
       told = two_change t i bytes;
       leaves = leaves_core t w i p u.rules.device h at same;
       sound = sound_after_all t.rules steps h.sound legal;
+      asks = held_after_all t.rules steps h.sound h.asks legal;
       sits = sits_there u w.daemon i q now bytes (t.past i) (t.pages i) (two_party t i bytes) (put_there t.wires i bytes) (put_there t.past i (t.past i)) (put_there t.pages i (t.pages i)) (record {
         job_is = s.job_is;
         talks = talks_lost place (t.jobs i) (t.past i) (t.pages i) me (bare me.base WasStarved) p q links.Control (is_running p.client.outcome) refl never refl (shut_lost p) s.talks now (shut_mind me.mind idle.stage) refl;
         carries = carries_cut (t.wires i) (seat_by w.daemon p.link) (is_running p.client.outcome) p q (shut_lost p) refl s.carries;
         means = means_cut place (t.jobs i) (t.wires i) (connected me) WasStarved q (λ _. refl) (λ _. idle.over) refl refl;
         served = (refl, same_tables i t.rules.make [] w.daemon.registry t.rules.device u.rules.device same table);
+        speaks = tt;
       });
       link = λ x none. absurd (let clash : None ≡ Some x = none in cc);
       reseats = subst (λ (x : Option SessionId). Reseats x None w.daemon w.daemon) (sym idle.link) (reseats_same None w.daemon);

@@ -4,7 +4,7 @@ use Rattle.std.specs.List.{AllByRecursion}
 use Rattle.std.proofs.Common.{◌≡◌, inl, inr, ◌∙◌, ℕ, zero, suc, ◌<◌, List, [], ◌∷◌, Option, Some, None, Bool, true, false, cond, eqb, refl, sym, ap, subst, map, slice_get, slice_set}
 use Rattle.frame_join.specs.FrameHistory.{Past}
 use Rattle.saned_core.specs.declared.seat.SessionId.{SessionId}
-use Rattle.saned_core.specs.State.{after_lost}
+use Rattle.saned_core.specs.State.{after_lost, session_in}
 use Rattle.client_rules.specs.declared.progress.Link.TheVariants as links
 use Rattle.client_rules.specs.Talks.{is_lost_by}
 use Rattle.scan_rules.specs.Causes.{WasStarved}
@@ -27,6 +27,9 @@ use Rattle.world_rules.proofs.Calling.{is_lost, on_core}
 use Rattle.world_rules.proofs.Changing.{stands_change}
 use Rattle.world_rules.proofs.Lost.{IsLost, talks_lost}
 use Rattle.world_rules.proofs.Sees.{Leaves}
+use Rattle.world_rules.specs.Speaks.{Speaks}
+use Rattle.world_rules.proofs.Held.{held_after_all}
+use Rattle.world_rules.proofs.Spoken.{same_lost, same_on, speaks_still}
 use Rattle.world_rules.proofs.Taking.{one_change, one_party, sits_there}
 use Rattle.world_rules.proofs.Unimaged.{carries_dropped, drops_by, image_counts, means_dropped}
 
@@ -59,12 +62,17 @@ cut_stands t w i p id h at low link some =
       told = one_change t i (deeds.LosesImage true) bytes (t.past i) (t.pages i);
       leaves = subst (λ (x : Option SessionId). Leaves i t.rules.make x w.daemon e t.rules.device u.rules.device) (sym link) both.0;
       sound = sound_after_all t.rules steps h.sound (may, tt);
+      asks = held_after_all t.rules steps h.sound h.asks (may, tt);
       sits = sits_there u e i q after bytes (t.past i) (t.pages i) party (put_there t.wires i bytes) (put_there t.past i (t.past i)) (put_there t.pages i (t.pages i)) (record {
         job_is = s.job_is;
         talks = talks_lost place (t.jobs i) (t.past i) (t.pages i) me (without_image me.base WasStarved) p q links.Image b refl idle refl (cut_lost p) s.talks after refl refl;
         carries = subst (λ (x : Option SessionId). Carries bytes (seat_by e x) q) (sym link) (carries_dropped (t.wires i) w.daemon id b p q (cut_lost p) refl (subst (λ (x : Option SessionId). Carries (t.wires i) (seat_by w.daemon x) p) link s.carries));
         means = means_dropped place (t.jobs i) (t.wires i) me WasStarved p q (λ _. refl) refl refl refl refl s.means;
         served = subst (λ (x : Option SessionId). IsServed i t.rules.make e x me.served u.rules.device (session_by i u.rules.device after)) (sym link) both.1;
+        speaks =
+            subst (λ (x : Option SessionId). Speaks (t.jobs i).device after (session_in (seat_by e x))) (sym link)
+            (speaks_still (t.jobs i).device me after (session_in (seat_by w.daemon (Some id))) (session_in (seat_by e (Some id))) refl refl (same_on after_lost same_lost id.number w.daemon.seats)
+            (subst (λ (x : Option SessionId). Speaks (t.jobs i).device me (session_in (seat_by w.daemon x))) link s.speaks));
       });
       link = λ x is. inl is;
       reseats = reseats_on after_lost p.link w.daemon id.number;
@@ -91,7 +99,8 @@ pub stands_retold : (t : Told) (w : Scene) (x : ℕ → Wires) (y : ℕ → Past
 stands_retold t w x y z e f g h =
     record {
       sound = h.sound;
-      is_of = record { count = h.is_of.count; users = h.is_of.users; names = h.is_of.names; apart = h.is_of.apart; places = h.is_of.places };
+      asks = h.asks;
+      is_of = record { count = h.is_of.count; users = h.is_of.users; names = h.is_of.names; apart = h.is_of.apart; places = h.is_of.places; counts = h.is_of.counts };
       posts = λ j post there. sits_retold t w j post (x j) (y j) (z j) (e j) (f j) (g j) (h.posts j post there);
       beyond = λ j far. nobody_retold t w x y z j (e j) (h.beyond j far);
       own = h.own;

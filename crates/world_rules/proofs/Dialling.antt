@@ -14,7 +14,7 @@ use Rattle.saned_desk.specs.declared.session.Carriage.TheVariants as word
 use Rattle.saned_core.specs.declared.seat.FrameState.{FrameState}
 use Rattle.saned_core.specs.declared.seat.FrameState.TheVariants as frames
 use Rattle.saned_core.specs.declared.seat.SessionId.{SessionId}
-use Rattle.saned_core.specs.State.{Core, after_connected, frame_in, frame_of, on_seat, on_session}
+use Rattle.saned_core.specs.State.{Core, after_connected, frame_in, frame_of, on_seat, on_session, session_in}
 use Rattle.scan_job.specs.declared.job.Job.{Job}
 use Rattle.scan_job.specs.declared.job.Task.{Task}
 use Rattle.scan_job.specs.declared.outcome.Outcome.{Outcome}
@@ -59,6 +59,9 @@ use Rattle.world_rules.proofs.Calling.{input_on, is_connected, on_core, replies_
 use Rattle.world_rules.proofs.Changing.{stands_change}
 use Rattle.world_rules.proofs.Seated.{reseats_on}
 use Rattle.world_rules.proofs.Sees.{Leaves}
+use Rattle.world_rules.specs.Speaks.{Speaks}
+use Rattle.world_rules.proofs.Held.{held_after_all}
+use Rattle.world_rules.proofs.Spoken.{same_connected, same_on, speaks_still}
 use Rattle.world_rules.proofs.Taking.{DecidesAt, done, one_change, one_party, put_self, sits_there}
 use Rattle.world_rules.proofs.Unimaged.{both_or, waits_as}
 
@@ -180,7 +183,7 @@ pub record IsStill (p : Party) : Type 0 where
   pub served : p.served ≡ true
   pub due : p.due ≡ []
 
-imaging_still : (i : ℕ) (k : Make) (p : Party) (dev : Device) (st : Stage) → sound.Talks i k p dev st → IsImaging st → IsStill p
+pub imaging_still : (i : ℕ) (k : Make) (p : Party) (dev : Device) (st : Stage) → sound.Talks i k p dev st → IsImaging st → IsStill p
 imaging_still i k p dev Idle h is = absurd (let clash : Idle ≡ rules.Running (rules.Imaging is.0 is.1) = is.2 in cc)
 imaging_still i k p dev (rules.Running g) (inl asks) is = record { served = asks.served; due = asks.due }
 imaging_still i k p dev (rules.Running g) (inr (inl told)) is = absurd (told.waits (asks_nothing g is))
@@ -202,7 +205,7 @@ flows_dialled : (st : Stage) (progress : Progress) (phase : Phase) (flight : Lis
 flows_dialled st progress phase flight ending is none head c =
     subst (λ (x : Stage). Flows x Streaming progress phase (Some []) flight ending) (sym is.2) (record { wants = none; text = []; image_is = refl; carried = subst (λ (x : Phase). Carried x [] flight ending) (sym head) c })
 
-told_nothing : (place : DeviceInfo → ℕ) (progress other : Progress) (due : List Reply) (text : List ℕ) → due ≡ [] → SpellsTold place progress due text → SpellsTold place other due text
+pub told_nothing : (place : DeviceInfo → ℕ) (progress other : Progress) (due : List Reply) (text : List ℕ) → due ≡ [] → SpellsTold place progress due text → SpellsTold place other due text
 told_nothing place progress other due text e h = subst (λ (x : List Reply). SpellsTold place other x text) (sym e) (subst (λ (x : List Reply). SpellsTold place progress x text) e h)
 
 -- ---- what stands then
@@ -287,6 +290,7 @@ dialled_stands t w i p id h at low link some frame =
       told = one_change t i deeds.Dials bytes (t.past i) (t.pages i);
       leaves = subst (λ (x : Option SessionId). Leaves i t.rules.make x w.daemon e t.rules.device u.rules.device) (sym link) both.0;
       sound = sound_after_all t.rules steps h.sound ((is, waits.carriage), tt);
+      asks = held_after_all t.rules steps h.sound h.asks ((is, waits.carriage), tt);
       sits = sits_there u e i q after bytes (t.past i) (t.pages i) party (put_there t.wires i bytes) (put_there t.past i (t.past i)) (put_there t.pages i (t.pages i)) (record {
         job_is = s.job_is;
         talks = talks_dialled place (t.jobs i) (t.past i) (t.pages i) me p s.talks;
@@ -295,6 +299,10 @@ dialled_stands t w i p id h at low link some frame =
         served =
             subst (λ (x : Option SessionId). IsServed i t.rules.make e x me.served u.rules.device (session_by i u.rules.device after)) (sym link)
             (subst (λ (x : Bool). IsServed i t.rules.make e (Some id) x u.rules.device (session_by i u.rules.device after)) (sym waits.served) both.1);
+        speaks =
+            subst (λ (x : Option SessionId). Speaks (t.jobs i).device after (session_in (seat_by e x))) (sym link)
+            (speaks_still (t.jobs i).device me after (session_in (seat_by w.daemon (Some id))) (session_in (seat_by e (Some id))) refl refl (same_on after_connected same_connected id.number w.daemon.seats)
+            (subst (λ (x : Option SessionId). Speaks (t.jobs i).device me (session_in (seat_by w.daemon x))) link s.speaks));
       });
       link = λ x is. inl is;
       reseats = reseats_on after_connected p.link w.daemon id.number;

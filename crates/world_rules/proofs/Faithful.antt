@@ -42,7 +42,7 @@ give_by : (t : Table) (l : Lease DeviceState) (b : Bool) → IsFaithful l.device
 give_by t l true s h = slot_true t l.place (In (after_cancel l.device)) (cancel_true l.device s) h
 give_by t l false s h = h
 
-back_true : (t : Table) (lease : Option (Lease DeviceState)) → IsFaithfulLease lease → AllByRecursion IsFaithfulPlace t → AllByRecursion IsFaithfulPlace (back t lease)
+pub back_true : (t : Table) (lease : Option (Lease DeviceState)) → IsFaithfulLease lease → AllByRecursion IsFaithfulPlace t → AllByRecursion IsFaithfulPlace (back t lease)
 unfolding after_give_back
 back_true t None s h = h
 back_true t (Some l) s h = give_by t l (awaits l.device.info.name l.place t) s h

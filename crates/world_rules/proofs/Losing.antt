@@ -37,6 +37,7 @@ use Rattle.world_rules.proofs.Calling.{leaves_ended, shows_ended}
 use Rattle.world_rules.proofs.Cancelling.{flows_over, other_cause}
 use Rattle.world_rules.proofs.Changing.{stands_change}
 use Rattle.world_rules.proofs.Lost.{IsLost, if_input, if_out, talks_lost}
+use Rattle.world_rules.proofs.Held.{held_after_all}
 use Rattle.world_rules.proofs.Minds.{stops_idle, stops_over, under_runs}
 use Rattle.world_rules.proofs.Seated.{Reseats, reseats_ended}
 use Rattle.world_rules.proofs.Sees.{Leaves}
@@ -107,12 +108,14 @@ unlinked_stands t w i p id h at low link =
       told = one_change t i (deeds.Loses false) bytes (t.past i) (t.pages i);
       leaves = subst (λ (x : Option SessionId). Leaves i t.rules.make x w.daemon e t.rules.device u.rules.device) (sym link) leaves;
       sound = sound_after_all t.rules steps h.sound (linked, tt);
+      asks = held_after_all t.rules steps h.sound h.asks (linked, tt);
       sits = sits_there u e i q after bytes (t.past i) (t.pages i) party (put_there t.wires i bytes) (put_there t.past i (t.past i)) (put_there t.pages i (t.pages i)) (record {
         job_is = s.job_is;
         talks = talks_lost (place_in t.names) (t.jobs i) (t.past i) (t.pages i) me (bare me.base LinkLost) p q links.Control (is_running p.client.outcome) refl idle refl (control_lost p) s.talks after refl refl;
         carries = carries_cut (t.wires i) (seat_by w.daemon p.link) (is_running p.client.outcome) p q (control_lost p) refl s.carries;
         means = means_cut (place_in t.names) (t.jobs i) (t.wires i) me LinkLost q (λ met. s.means.starved (not_linked LinkLost starved_else me.base.met met)) (λ e. (s.means.before e).1) refl refl;
         served = (refl, shows_ended i t.rules.make w.daemon id me.served t.rules.device me served);
+        speaks = tt;
       });
       link = λ x none. absurd (let clash : None ≡ Some x = none in cc);
       reseats = subst (λ (x : Option SessionId). Reseats x None w.daemon e) (sym link) (reseats_ended w.daemon id h.seated.apart);

@@ -52,6 +52,10 @@ if_word : (b : Bool) (c : Talker) → (ends_if b c).notes.word ≡ c.notes.word
 if_word true c = refl
 if_word false c = refl
 
+if_runs : (b : Bool) (c : Talker) → is_running (ends_if b c).outcome ≡ true → is_running c.outcome ≡ true
+if_runs true c e = absurd (let clash : false ≡ true = e in cc)
+if_runs false c e = e
+
 pub if_out : (b : Bool) (c : Talker) → (ends_if b c).out ≡ c.out
 if_out true c = refl
 if_out false c = refl
@@ -105,7 +109,7 @@ keeps_starved : (b : Bool) (given : List ℕ) (file : Option (List ℕ)) → Kee
 keeps_starved b given None h = refl
 keeps_starved b given (Some file) h = h
 
-keeps_lost : (old new : Bool) (given : List ℕ) (file : Option (List ℕ)) → (new ≡ old) ⊎ (new ≡ true) → Keeps old given file → Keeps new given file
+pub keeps_lost : (old new : Bool) (given : List ℕ) (file : Option (List ℕ)) → (new ≡ old) ⊎ (new ≡ true) → Keeps old given file → Keeps new given file
 keeps_lost old new given file (inl e) h = subst (λ (b : Bool). Keeps b given file) (sym e) h
 keeps_lost old new given file (inr e) h = subst (λ (b : Bool). Keeps b given file) (sym e) (keeps_starved old given file h)
 
@@ -131,7 +135,7 @@ talks_lost place job past pages p base old new link b e n same l h q mind base_i
     record {
       task = l.task ∙ h.task;
       errand = ap (λ (c : Talker). c.errand) l.client ∙ (if_errand b old.client ∙ h.errand);
-      word = ap (λ (c : Talker). c.notes.word) l.client ∙ (if_word b old.client ∙ h.word);
+      word = λ e. ap (λ (c : Talker). c.notes.word) l.client ∙ (if_word b old.client ∙ h.word (if_runs b old.client (sym (ap (λ (c : Talker). is_running c.outcome) l.client) ∙ e)));
       over = subst (λ (c : Talker). is_running c.outcome ≡ false → c.progress ≡ stages.Over) (sym l.client) (if_over b old.client h.over);
       serves = subst (λ (c : Talker). Serves past c) (sym l.client) (if_serves b old.client past runs h.serves);
       reads =

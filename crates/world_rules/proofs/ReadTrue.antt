@@ -25,7 +25,7 @@ use Rattle.world_rules.proofs.Faithful.{left_true, word_true}
 
 -- ---- a read
 
-same_true : (s t : DeviceState) → t ≡ s → IsFaithful s → IsFaithful t
+pub same_true : (s t : DeviceState) → t ≡ s → IsFaithful s → IsFaithful t
 same_true s t e h = subst IsFaithful (sym e) h
 
 goes_true : (phase : Phase) (s : DeviceState) → IsFaithful s → IsFaithful (goes_to s phase)
@@ -37,12 +37,12 @@ counted_true : (n : ℕ) (pages : List Held) → AllByRecursion IsTrueTo pages �
 counted_true n [] h = h
 counted_true n (held ∷ pages) h = h
 
-stopped_true : (phase : Phase) (s : DeviceState) → IsFaithful s → IsFaithful (stopped_in phase s)
+pub stopped_true : (phase : Phase) (s : DeviceState) → IsFaithful s → IsFaithful (stopped_in phase s)
 stopped_true (AtRest c) s h = h
 stopped_true (Between n) s h = left_true (feeds s) s.pages h
 stopped_true (Reading pass given) s h = left_true (feeds s) s.pages h
 
-failed_true : (s t : DeviceState) → HasStopped s t → IsFaithful s → IsFaithful t
+pub failed_true : (s t : DeviceState) → HasStopped s t → IsFaithful s → IsFaithful t
 failed_true s t f h = same_true (stopped_in s.phase (with_failures s f.failures)) t f.after (stopped_true s.phase (with_failures s f.failures) (counted_true f.failures s.pages h))
 
 on_true : (s t : DeviceState) (pass given : ℕ) (r : Result ℕ Code) (buf : List ℕ) → ReadsOn s pass given r t buf → IsFaithful s → IsFaithful t
@@ -74,7 +74,7 @@ read_true s t r buf f h = in_true s.phase s t r buf f h
 
 -- ---- a session that is read from
 
-lease_at : (held : List (Option (Lease DeviceState))) (w : ℕ) → AllByRecursion IsFaithfulLease held → IsFaithfulLease (held_by held w)
+pub lease_at : (held : List (Option (Lease DeviceState))) (w : ℕ) → AllByRecursion IsFaithfulLease held → IsFaithfulLease (held_by held w)
 unfolding held_by
 lease_at [] w h = tt
 lease_at (o ∷ held) zero h = h.0

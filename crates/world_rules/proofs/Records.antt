@@ -34,7 +34,7 @@ not_end n short e =
     let is : n ≡ 4294967295 = sym (told_length n short) ∙ ap (from_be_bytes w32) e in
     omega (arith, short, is)
 
-same_body : (body text other rest : List ℕ) → length body ≡ length other → body ++ text ≡ other ++ rest → (other ≡ body) × (rest ≡ text)
+pub same_body : (body text other rest : List ℕ) → length body ≡ length other → body ++ text ≡ other ++ rest → (other ≡ body) × (rest ≡ text)
 same_body body text other rest long e =
     let front : take (length body) (other ++ rest) ≡ other = take_at other rest (length body) (sym long) in
     let back : drop (length body) (other ++ rest) ≡ rest = drop_at other rest (length body) (sym long) in (

@@ -50,7 +50,7 @@ was_by f n x seats true (suc k) s keeps more e = record { seat = s; at = e; numb
 was_by f n x seats false zero s keeps more e = record { seat = s; at = e; number = refl }
 was_by f n x seats false (suc k) s keeps more e = let w = more k s e in record { seat = w.seat; at = w.at; number = w.number }
 
-was_on : (f : Seat DeviceState → Option (Seat DeviceState)) (n : ℕ) (seats : Seats) → KeepsNumber f → (k : ℕ) (s : Seat DeviceState) → slice_get (on_seat f n seats) k ≡ Some (Some s) → WasSeat seats k s.number
+pub was_on : (f : Seat DeviceState → Option (Seat DeviceState)) (n : ℕ) (seats : Seats) → KeepsNumber f → (k : ℕ) (s : Seat DeviceState) → slice_get (on_seat f n seats) k ≡ Some (Some s) → WasSeat seats k s.number
 unfolding on_seat
 was_on f n [] keeps k s e = absurd (let clash : None ≡ Some (Some s) = e in cc)
 was_on f n (x ∷ seats) keeps k s e = was_by f n x seats (is_number n x) k s keeps (was_on f n seats keeps) e
@@ -84,8 +84,12 @@ on_number g seat new e = ap (λ (x : Seat DeviceState). x.number) (sym (unsome (
 none_number : KeepsNumber no_more
 none_number seat new e = absurd (let clash : None ≡ Some new = e in cc)
 
+-- a seat that keeps its number, or goes
+pub reseats_kept : (f : Seat DeviceState → Option (Seat DeviceState)) (link : Option SessionId) (d : Core) (n : ℕ) → ((seat new : Seat DeviceState) → f seat ≡ Some new → new.number ≡ seat.number) → Reseats link link d (record d { seats = on_seat f n d.seats })
+reseats_kept f link d n keeps = record { place = 0; each = λ k s e. inl (was_on f n d.seats keeps k s e); still = λ id e. inl e }
+
 pub reseats_on : (g : DeskSession DeviceState → DeskSession DeviceState) (link : Option SessionId) (d : Core) (n : ℕ) → Reseats link link d (record d { seats = on_seat (on_session g) n d.seats })
-reseats_on g link d n = record { place = 0; each = λ k s e. inl (was_on (on_session g) n d.seats (on_number g) k s e); still = λ id e. inl e }
+reseats_on g link d n = reseats_kept (on_session g) link d n (on_number g)
 
 pub with_number : (now : DeskSession DeviceState) → KeepsNumber (with_session now)
 with_number now seat new e = ap (λ (x : Seat DeviceState). x.number) (sym (unsome (record seat { session = Some now }) new e))

@@ -39,6 +39,7 @@ use Rattle.world_rules.proofs.Calling.{word_wanted}
 use Rattle.world_rules.proofs.Faithful.{on_seat_all, seat_all, session_true}
 use Rattle.world_rules.proofs.ReadTrue.{steady_read, stream_true}
 use Rattle.world_rules.proofs.Sees.{Leaves}
+use Rattle.world_rules.proofs.Spoken.{AreSame, same_streamed}
 use Rattle.world_rules.proofs.Turned.{IsShortRecord, Turn, Failed, Gives, Named, Off, Short, Whole, carriage_after, deed_of, dev_after, device_is, is_end, is_turn, job_after, party_is, short_turn, text_of}
 
 -- the devices behind it
@@ -55,6 +56,7 @@ pub record Streamed (i : ℕ) (make : ℕ → Make) (d e : Core) (id : SessionId
   pub input : input_in (seat_of e.seats id.number) ≡ input_in (seat_of d.seats id.number)
   pub replies : replies_in (seat_of e.seats id.number) ≡ replies_in (seat_of d.seats id.number)
   pub reseats : (link : Option SessionId) → Reseats link link d e
+  pub same : AreSame (session_in (seat_of d.seats id.number)) (session_in (seat_of e.seats id.number))
 
 -- ---- its seat
 
@@ -150,6 +152,9 @@ streamed_by i make listed d e id table p step buf below faithful h g c =
       input = ap input_in seat ∙ sym (ap input_in seated.old);
       replies = ap replies_in seat ∙ sym (ap replies_in seated.old);
       reseats = λ link. reseats_with now link d e n run.2;
+      same =
+          subst (λ (o : Option (DeskSession DeviceState)). AreSame o (session_in (seat_of e.seats n))) (sym h.stands)
+          (subst (λ (o : Option (Seat DeviceState)). AreSame (Some h.session) (session_in o)) (sym seat) (same_streamed h.session.carriage h.session now step buf run.1));
     }
 
 -- ---- the frame streams, or is to be ended

@@ -177,7 +177,7 @@ is_turn (deeds.Reads bytes) step buf s = absurd s
 is_turn (deeds.Finishes status) step buf s = absurd s
 is_turn (deeds.Loses memory) step buf s = absurd s
 is_turn (deeds.LosesImage memory) step buf s = absurd s
-is_turn deeds.Starves step buf s = absurd s
+is_turn (deeds.Breaks memory) step buf s = absurd s
 is_turn deeds.Chokes step buf s = absurd s
 is_turn deeds.Stops step buf s = absurd s
 

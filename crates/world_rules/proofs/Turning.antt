@@ -15,7 +15,7 @@ use Rattle.saned_core.specs.declared.seat.DataStep.TheVariants as did
 use Rattle.saned_core.specs.declared.seat.FrameState.{FrameState}
 use Rattle.saned_core.specs.declared.seat.FrameState.TheVariants as frames
 use Rattle.saned_core.specs.declared.seat.SessionId.{SessionId}
-use Rattle.saned_core.specs.State.{Core, after_lost, frame_in, frame_of, replies_in, seat_of}
+use Rattle.saned_core.specs.State.{Core, after_lost, frame_in, frame_of, replies_in, seat_of, session_in}
 use Rattle.saned_core.specs.Feeding.{input_in}
 use Rattle.scan_job.specs.declared.job.Job.{Job}
 use Rattle.client_rules.specs.declared.progress.Progress.{Progress}
@@ -52,6 +52,9 @@ use Rattle.world_rules.proofs.Lists.{set_there}
 use Rattle.world_rules.proofs.Records.{carries_end, carries_more}
 use Rattle.world_rules.proofs.Sees.{Leaves}
 use Rattle.world_rules.proofs.Streamed.{Streamed, devices_after, streamed}
+use Rattle.world_rules.specs.Speaks.{Speaks}
+use Rattle.world_rules.proofs.Held.{held_after_all}
+use Rattle.world_rules.proofs.Spoken.{speaks_still}
 use Rattle.world_rules.proofs.Taking.{DecidesAt, done, one_change, one_party, put_self, sits_there}
 use Rattle.world_rules.proofs.Turned.{IsShortRecord, Turn, Failed, Gives, Named, Off, Short, Whole, carriage_after, deed_of, device_is, ending_after, flight_after, is_end, job_after, met_after, party_is, record_of, text_of}
 use Rattle.world_rules.proofs.Unimaged.{both_or, by_imaging, bytes_some, none_some, some_bytes, some_or}
@@ -100,7 +103,7 @@ dialled_turned turn progress phase image flight ending short none h =
 
 flows_turned : (st : Stage) (turn : Turn) (c : Carriage) (progress : Progress) (phase : Phase) (image : Option (List ℕ)) (flight : List ℕ) (ending : Option Status) → IsShortRecord turn → Started c → ending ≡ None → IsSome image → Flows st c progress phase image flight ending →
     Flows st (carriage_after turn c) progress phase (option_map (λ (bytes : List ℕ). bytes ++ text_of turn) image) (flight_after turn flight) (ending_after turn ending)
-flows_turned Idle turn c progress phase image flight ending short started none some h = absurd (none_some image h some)
+flows_turned Idle turn c progress phase image flight ending short started none some h = absurd (none_some image h.image_is some)
 flows_turned (rules.Running g) turn c progress phase image flight ending short started none some h =
     let is = by_imaging g c progress phase image flight ending h some in
     let at : FlowsAt c progress phase image flight ending = subst (λ (x : Stage). Flows x c progress phase image flight ending) is.2 h in
@@ -229,6 +232,7 @@ turned_stands t w i p id im mid step buf h at low link image served started some
       told = one_change t i (deed_of turn) bytes (t.past i) (t.pages i);
       leaves = subst (λ (x : Option SessionId). Leaves i t.rules.make x w.daemon mid t.rules.device u.rules.device) (sym link) leaves;
       sound = sound_after_all t.rules (turn_steps i turn) h.sound (turned.may, tt);
+      asks = held_after_all t.rules (turn_steps i turn) h.sound h.asks (turned.may, tt);
       sits = sits_there u mid i q after bytes (t.past i) (t.pages i) party (put_there t.wires i bytes) (put_there t.past i (t.past i)) (put_there t.pages i (t.pages i)) (record {
         job_is = s.job_is;
         talks = talks_turned turn im place (t.jobs i) (t.past i) (t.pages i) me p s.talks;
@@ -239,6 +243,10 @@ turned_stands t w i p id im mid step buf h at low link image served started some
         served =
             subst (λ (x : Option SessionId). IsServed i t.rules.make mid x me.served u.rules.device (session_by i u.rules.device after)) (sym link)
             (subst (λ (x : Bool). IsServed i t.rules.make mid (Some id) x u.rules.device (session_by i u.rules.device after)) (sym served) shows);
+        speaks =
+            subst (λ (x : Option SessionId). Speaks (t.jobs i).device after (session_in (seat_by mid x))) (sym link)
+            (speaks_still (t.jobs i).device me after (session_in (seat_by w.daemon (Some id))) (session_in (seat_by mid (Some id))) refl refl turned.same
+            (subst (λ (x : Option SessionId). Speaks (t.jobs i).device me (session_in (seat_by w.daemon x))) link s.speaks));
       });
       link = λ x is. inl is;
       reseats = turned.reseats p.link;

@@ -8,7 +8,7 @@ use Rattle.device_api.specs.declared.device_info.DeviceInfo.{DeviceInfo}
 use Rattle.data_records.specs.declared.records.Phase.{Phase}
 use Rattle.frame_join.specs.FrameHistory.{Past}
 use Rattle.saned_core.specs.declared.seat.SessionId.{SessionId}
-use Rattle.saned_core.specs.State.{Core, after_lost}
+use Rattle.saned_core.specs.State.{Core, after_lost, session_in}
 use Rattle.scan_job.specs.declared.job.Job.{Job}
 use Rattle.scan_job.specs.declared.outcome.Outcome.{Outcome}
 use Rattle.scan_job.specs.declared.outcome.Outcome.TheVariants as outcomes
@@ -50,6 +50,9 @@ use Rattle.world_rules.proofs.Lost.{IsLost, if_input, if_out, talks_lost}
 use Rattle.world_rules.proofs.Minds.{run_is, stops_idle, stops_over, under_runs}
 use Rattle.world_rules.proofs.Seated.{reseats_on}
 use Rattle.world_rules.proofs.Sees.{Leaves}
+use Rattle.world_rules.specs.Speaks.{Speaks}
+use Rattle.world_rules.proofs.Held.{held_after_all}
+use Rattle.world_rules.proofs.Spoken.{same_lost, same_on, speaks_still}
 use Rattle.world_rules.proofs.Taking.{DecidesAt, done, one_change, one_party, sits_there}
 
 -- ---- a job that is under way has a data connection for the data of a frame alone
@@ -59,18 +62,18 @@ none_some o e h = let clash : false ≡ true = subst IsSome e h in absurd (cc)
 
 pub by_imaging : (g : rules.Progress) (c : Carriage) (progress : Progress) (phase : Phase) (image : Option (List ℕ)) (flight : List ℕ) (ending : Option Status) → FlowsBy g c progress phase image flight ending → IsSome image → IsImaging (rules.Running g)
 by_imaging (rules.Imaging params heard) c progress phase image flight ending h some = (params, heard, refl)
-by_imaging rules.Greeting c progress phase image flight ending h some = absurd (none_some image h some)
-by_imaging rules.Listing c progress phase image flight ending h some = absurd (none_some image h some)
-by_imaging rules.Opening c progress phase image flight ending h some = absurd (none_some image h some)
-by_imaging (rules.Allowing challenge) c progress phase image flight ending h some = absurd (none_some image h some)
-by_imaging (rules.Describing left) c progress phase image flight ending h some = absurd (none_some image h some)
-by_imaging (rules.Putting n value wish left) c progress phase image flight ending h some = absurd (none_some image h some)
-by_imaging (rules.Getting n left) c progress phase image flight ending h some = absurd (none_some image h some)
-by_imaging rules.Starting c progress phase image flight ending h some = absurd (none_some image h some)
-by_imaging rules.Shaping c progress phase image flight ending h some = absurd (none_some image h some)
+by_imaging rules.Greeting c progress phase image flight ending h some = absurd (none_some image h.image_is some)
+by_imaging rules.Listing c progress phase image flight ending h some = absurd (none_some image h.image_is some)
+by_imaging rules.Opening c progress phase image flight ending h some = absurd (none_some image h.image_is some)
+by_imaging (rules.Allowing challenge) c progress phase image flight ending h some = absurd (none_some image h.image_is some)
+by_imaging (rules.Describing left) c progress phase image flight ending h some = absurd (none_some image h.image_is some)
+by_imaging (rules.Putting n value wish left) c progress phase image flight ending h some = absurd (none_some image h.image_is some)
+by_imaging (rules.Getting n left) c progress phase image flight ending h some = absurd (none_some image h.image_is some)
+by_imaging rules.Starting c progress phase image flight ending h some = absurd (none_some image h.image_is some)
+by_imaging rules.Shaping c progress phase image flight ending h some = absurd (none_some image h.image_is some)
 
-flows_imaging : (st : Stage) (c : Carriage) (progress : Progress) (phase : Phase) (image : Option (List ℕ)) (flight : List ℕ) (ending : Option Status) → Flows st c progress phase image flight ending → IsSome image → IsUnderWay st → IsImaging st
-flows_imaging Idle c progress phase image flight ending h some u = absurd (none_some image h some)
+pub flows_imaging : (st : Stage) (c : Carriage) (progress : Progress) (phase : Phase) (image : Option (List ℕ)) (flight : List ℕ) (ending : Option Status) → Flows st c progress phase image flight ending → IsSome image → IsUnderWay st → IsImaging st
+flows_imaging Idle c progress phase image flight ending h some u = absurd (none_some image h.image_is some)
 flows_imaging (rules.Running g) c progress phase image flight ending h some u = by_imaging g c progress phase image flight ending h some
 flows_imaging rules.Done c progress phase image flight ending h some u = absurd u
 flows_imaging (rules.Ended status why) c progress phase image flight ending h some u = absurd u
@@ -78,7 +81,7 @@ flows_imaging (rules.Ended status why) c progress phase image flight ending h so
 other_stage : (st : Stage) (g : rules.Progress) → st ≡ rules.Running g → IsImaging st → IsImaging (rules.Running g)
 other_stage st g e h = subst IsImaging e h
 
-waits_imaging : (job : rules.Job) (progress : Progress) (notes : Notes) (past : Past) (m : Mind) → WaitsAs job progress notes past m → IsImaging m.stage → is_imaging progress ≡ true
+pub waits_imaging : (job : rules.Job) (progress : Progress) (notes : Notes) (past : Past) (m : Mind) → WaitsAs job progress notes past m → IsImaging m.stage → is_imaging progress ≡ true
 waits_imaging job (stages.Imaging port made) notes past m w h = refl
 waits_imaging job stages.Greeting notes past m w h = let x = other_stage m.stage _ w.0 h in absurd (let clash : rules.Running rules.Greeting ≡ rules.Running (rules.Imaging x.0 x.1) = x.2 in cc)
 waits_imaging job stages.Listing notes past m w h = let x = other_stage m.stage _ w.0 h in absurd (let clash : rules.Running rules.Listing ≡ rules.Running (rules.Imaging x.0 x.1) = x.2 in cc)
@@ -132,7 +135,7 @@ carries_dropped x core id b old new l image h =
     }
 
 -- where there is no end
-no_end : (c : Carriage) → HasNoEnd c None
+pub no_end : (c : Carriage) → HasNoEnd c None
 no_end Quiet = tt
 no_end Waiting = tt
 no_end Streaming = refl
@@ -187,12 +190,17 @@ unimaged_stands t w i p id h at low link some =
       told = one_change t i (deeds.LosesImage false) bytes (t.past i) (t.pages i);
       leaves = subst (λ (x : Option SessionId). Leaves i t.rules.make x w.daemon e t.rules.device u.rules.device) (sym link) both.0;
       sound = sound_after_all t.rules steps h.sound (may, tt);
+      asks = held_after_all t.rules steps h.sound h.asks (may, tt);
       sits = sits_there u e i q after bytes (t.past i) (t.pages i) party (put_there t.wires i bytes) (put_there t.past i (t.past i)) (put_there t.pages i (t.pages i)) (record {
         job_is = s.job_is;
         talks = talks_lost place (t.jobs i) (t.past i) (t.pages i) me (without_image me.base LinkLost) p q links.Image b refl idle refl (image_lost p) s.talks after refl refl;
         carries = subst (λ (x : Option SessionId). Carries bytes (seat_by e x) q) (sym link) (carries_dropped (t.wires i) w.daemon id b p q (image_lost p) refl (subst (λ (x : Option SessionId). Carries (t.wires i) (seat_by w.daemon x) p) link s.carries));
         means = means_dropped place (t.jobs i) (t.wires i) me LinkLost p q (λ met. s.means.starved (other_cause WasStarved LinkLost me.base.met starved_else met)) refl refl refl refl s.means;
         served = subst (λ (x : Option SessionId). IsServed i t.rules.make e x me.served u.rules.device (session_by i u.rules.device after)) (sym link) both.1;
+        speaks =
+            subst (λ (x : Option SessionId). Speaks (t.jobs i).device after (session_in (seat_by e x))) (sym link)
+            (speaks_still (t.jobs i).device me after (session_in (seat_by w.daemon (Some id))) (session_in (seat_by e (Some id))) refl refl (same_on after_lost same_lost id.number w.daemon.seats)
+            (subst (λ (x : Option SessionId). Speaks (t.jobs i).device me (session_in (seat_by w.daemon x))) link s.speaks));
       });
       link = λ x is. inl is;
       reseats = reseats_on after_lost p.link w.daemon id.number;

@@ -30,6 +30,7 @@ use Rattle.scan_world.specs.Worlds.{Scene}
 use Rattle.world_rules.specs.Told.{Told}
 use Rattle.world_rules.specs.Stands.{AreApart, IsServed, Stands, are_named, session_by}
 use Rattle.world_rules.specs.Happens.{CanUnplug, LeadsTo, TakesOut, UnplugsFollow}
+use Rattle.world_rules.proofs.Held.{held_after_all}
 use Rattle.world_rules.proofs.Calling.{slot_names}
 use Rattle.world_rules.proofs.Faithful.{slot_true}
 use Rattle.world_rules.proofs.Finding.{find_there, found_place, names_at, names_out}
@@ -127,12 +128,14 @@ out_stands t w name h d =
       };
       stands = record {
         sound = sound_after_all t.rules steps h.sound legal;
+        asks = held_after_all t.rules steps h.sound h.asks legal;
         is_of = record {
           count = h.is_of.count;
           users = h.is_of.users;
           names = h.is_of.names ∙ sym (slot_names w.daemon.registry d.place Gone);
           apart = h.is_of.apart;
           places = h.is_of.places;
+          counts = h.is_of.counts;
         };
         posts = λ j post at.
             let s = h.posts j post at in
@@ -142,6 +145,7 @@ out_stands t w name h d =
               carries = s.carries;
               means = s.means;
               served = served_out j t.rules.make w.daemon post.link (t.rules.party j).served t.rules.device (t.rules.party j) name d apart s.served;
+              speaks = s.speaks;
             };
         beyond = λ j high. let b = h.beyond j high in record { stage = b.stage; linked = b.linked; carriage = b.carriage; image = b.image; table = table_out j t.rules.make [] w.daemon.registry t.rules.device name d b.table };
         own = h.own;

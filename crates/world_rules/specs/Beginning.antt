@@ -14,7 +14,7 @@ use Rattle.scan_rules.specs.Devices.{Make}
 use Rattle.scan_rules.specs.Promises.{beginning}
 use Rattle.desk_rules.specs.Cores.{fresh_devices}
 use Rattle.scan_world.specs.declared.post.Post.{Post}
-use Rattle.scan_world.specs.Worlds.{AreNew, Scene}
+use Rattle.scan_world.specs.Worlds.{AreNew, IsFit, Scene}
 use Rattle.world_rules.specs.Told.{Told, Wires, rules_job}
 use Rattle.world_rules.specs.Stands.{Stands, numbered}
 
@@ -60,4 +60,4 @@ nothing_told jobs other devices users posts =
 -- a new world stands for that
 abbrev pub NewWorldsStand : Type 0
 NewWorldsStand =
-    (jobs : List Job) (other : Job) (devices : List DeviceState) (w : Scene) → AreNew jobs w.posts → IsNewDaemon devices w.daemon → HaveOwnNames devices → All IsSteady devices → Stands (nothing_told jobs other devices w.daemon.users w.posts) w
+    (jobs : List Job) (other : Job) (devices : List DeviceState) (w : Scene) → AreNew jobs w.posts → IsNewDaemon devices w.daemon → HaveOwnNames devices → All IsSteady devices → All IsFit jobs → Stands (nothing_told jobs other devices w.daemon.users w.posts) w

@@ -8,7 +8,12 @@ use Rattle.scan_rules.specs.Devices.{status_of}
 use Rattle.scan_rules.specs.Client.{Idle, farewell}
 use Rattle.scan_rules.specs.Daemon.{Waiting, Streaming, Ending}
 use Rattle.scan_rules.specs.Deeds as deeds
-use Rattle.scan_rules.specs.Steps.{Step, By, Unplugs, IsHistory, IsImaging, IsUnderWay, after_all}
+use Rattle.page_picture.specs.Page.{IsSheet}
+use Rattle.page_picture.specs.Source.{SourceState}
+use Rattle.scan_rules.specs.Devices.{Page}
+use Rattle.scan_rules.specs.Scanners.{Resting, has_room}
+use Rattle.scan_rules.specs.Steps.{Step, By, Loads, Unplugs, IsHistory, IsImaging, IsUnderWay, after_all}
+use Rattle.saned_core.specs.Loading.{loaded}
 use Rattle.dispatch.specs.Table.{after_unplug}
 use Rattle.scan_world.specs.declared.event.Deed.{Deed}
 use Rattle.scan_world.specs.declared.event.Deed.TheVariants.{Connect, ToDaemon, ToClient, DataConnect, DataTurn, DataToClient, LoseControl, LoseImage, Cancel}
@@ -135,3 +140,25 @@ pub record TakesOut (t : Told) (name : List ℕ) (steps : List Step) (u : Told) 
 abbrev pub UnplugsFollow : Type 0
 UnplugsFollow =
     (t : Told) (w : Scene) (name : List ℕ) → Stands t w → LeadsTo (CanUnplug t name) (TakesOut t name) t (record w { daemon = record w.daemon { registry = after_unplug w.daemon.registry name } })
+
+-- the place of that name has a device that is listed, at rest, and has room for a page
+pub record CanLoad (t : Told) (name : List ℕ) : Type 0 where
+  pub place : ℕ
+  pub named : slice_get t.names place ≡ Some name
+  pub listed : (t.rules.device place).listed ≡ true
+  pub at_rest : (t.rules.device place).phase ≡ Resting
+  pub room : has_room (t.rules.make place).model (t.rules.device place).tray ≡ true
+
+-- it has the page
+pub record LaysIn (t : Told) (name : List ℕ) (page : Page) (steps : List Step) (u : Told) : Type 0 where
+  pub place : ℕ
+  pub named : slice_get t.names place ≡ Some name
+  pub steps_are : steps ≡ Loads place page ∷ []
+  pub legal : IsHistory t.rules steps
+  pub then_is : u ≡ record t { rules = after_all t.rules steps }
+
+-- of a page whose source gives its rows at each pass
+abbrev pub LoadsFollow : Type 0
+LoadsFollow =
+    (t : Told) (w : Scene) (name : List ℕ) (source : SourceState) → source.steady ≡ true → IsSheet source.page → Stands t w →
+    LeadsTo (CanLoad t name) (LaysIn t name source.page) t (record w { daemon = loaded w.daemon name source })

@@ -1,6 +1,10 @@
 pub mod Told
 pub mod Spelled
+pub mod Speaks
 pub mod Stands
 pub mod Happens
+pub mod Answering
+pub mod Delivered
+pub mod Seen
 pub mod Beginning
 pub mod Promises

@@ -66,6 +66,12 @@ abbrev pub Carried : Phase → List ℕ → List ℕ → Option Status → Type 
 Carried phase text flight None = Carries phase phases.Head text flight
 Carried phase text flight (Some status) = (code : Code) × (status_of code ≡ status) × Continues phase text flight (status_code code)
 
+-- no byte of a frame is on the way, and no end of one
+pub record NothingFlows (image : Option (List ℕ)) (flight : List ℕ) (ending : Option Status) : Type 0 where
+  pub image_is : image ≡ None
+  pub flight_is : flight ≡ []
+  pub ending_is : ending ≡ None
+
 -- a frame that waits for its connection, which the client wants
 pub record Undialled (progress : Progress) (image : Option (List ℕ)) (flight : List ℕ) (ending : Option Status) : Type 0 where
   pub wants : IsSome (wanted progress)
@@ -88,11 +94,11 @@ FlowsAt Ending progress phase image flight ending = Dialled progress phase image
 
 abbrev pub FlowsBy : rules.Progress → Carriage → Progress → Phase → Option (List ℕ) → List ℕ → Option Status → Type 0
 FlowsBy (rules.Imaging params heard) c progress phase image flight ending = FlowsAt c progress phase image flight ending
-FlowsBy g c progress phase image flight ending = image ≡ None
+FlowsBy g c progress phase image flight ending = NothingFlows image flight ending
 
 -- a client that is under way has a data connection for the data of a frame alone
 abbrev pub Flows : rules.Stage → Carriage → Progress → Phase → Option (List ℕ) → List ℕ → Option Status → Type 0
-Flows rules.Idle c progress phase image flight ending = image ≡ None
+Flows rules.Idle c progress phase image flight ending = NothingFlows image flight ending
 Flows (rules.Running g) c progress phase image flight ending = FlowsBy g c progress phase image flight ending
 Flows rules.Done c progress phase image flight ending = Unit {0}
 Flows (rules.Ended status why) c progress phase image flight ending = Unit {0}

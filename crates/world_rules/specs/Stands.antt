@@ -18,6 +18,7 @@ use Rattle.saned_core.specs.declared.seat.Seat.{Seat}
 use Rattle.saned_core.specs.declared.seat.SessionId.{SessionId}
 use Rattle.saned_core.specs.State.{Core, replies_in, seat_of, session_in}
 use Rattle.saned_core.specs.Feeding.{input_in}
+use Rattle.scan_job.specs.JobSize.{HasCount}
 use Rattle.scan_job.specs.declared.job.Job.{Job}
 use Rattle.scan_job.specs.declared.job.Task.{Task}
 use Rattle.scan_job.specs.declared.outcome.Outcome.{Outcome}
@@ -44,6 +45,7 @@ use Rattle.scan_world.specs.Deeds.{is_done}
 use Rattle.scan_world.specs.Worlds.{Scene}
 use Rattle.world_rules.specs.Told.{Told, Wires, place_in, rules_job}
 use Rattle.world_rules.specs.Spelled.{Flows, SpellsAsked, SpellsTold}
+use Rattle.world_rules.specs.Speaks.{AsksAsHeld, Speaks}
 
 -- ---- the client and its files
 
@@ -71,7 +73,8 @@ pub record IsFinished (past : Past) : Type 0 where
 pub record Talks (place : DeviceInfo → ℕ) (job : Job) (past : Past) (pages : List Past) (p : Party) (post : Post) : Type 0 where
   pub task : post.task ≡ job.task
   pub errand : post.client.errand ≡ errand_of job
-  pub word : post.client.notes.word ≡ 0
+  -- while it runs it knows its device by the first word
+  pub word : is_running post.client.outcome ≡ true → post.client.notes.word ≡ 0
   pub over : is_running post.client.outcome ≡ false → post.client.progress ≡ stages.Over
   pub serves : Serves past post.client
   pub reads : Reads place (errand_of job) p.base.job (map (λ (q : Past). q.ended) pages) (talk_of post.client past) (woken p.mind.stage p.mind)
@@ -197,6 +200,7 @@ pub record Sits (users : List Entry) (names : List (List ℕ)) (job : Job) (make
   pub carries : Carries wires (seat_by core post.link) post
   pub means : Means (place_in names) job wires p post
   pub served : IsServed i make core post.link p.served device (session_by i device p)
+  pub speaks : Speaks job.device p (session_in (seat_by core post.link))
 
 abbrev pub SitsAt : Told → Core → ℕ → Post → Type 0
 SitsAt t core i post = Sits t.users t.names (t.jobs i) t.rules.make t.rules.device i (t.rules.party i) (t.wires i) (t.past i) (t.pages i) core post
@@ -216,6 +220,8 @@ pub record IsOf (t : Told) (w : Scene) : Type 0 where
   pub names : t.names ≡ map are_named w.daemon.registry
   pub apart : AreApart t.names
   pub places : t.rules.places ≡ numbered 0 t.names
+  -- no job asks for more pages than a batch may have
+  pub counts : (i : ℕ) → i < t.count → HasCount (t.jobs i).task
 
 -- no two posts have one session
 abbrev pub HaveOwn : Scene → Type 0
@@ -237,6 +243,7 @@ pub record AreSeated (seats : List (Option (Seat DeviceState))) (posts : List Po
 
 pub record Stands (t : Told) (w : Scene) : Type 0 where
   pub sound : Sound t.rules
+  pub asks : (i : ℕ) → AsksAsHeld t.rules i
   pub is_of : IsOf t w
   pub posts : (i : ℕ) (post : Post) → slice_get w.posts i ≡ Some post → SitsAt t w.daemon i post
   pub beyond : (i : ℕ) → length w.posts ≤ i → IsNobody t w i

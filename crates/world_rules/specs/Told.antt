@@ -1,8 +1,9 @@
 -- What stands of a world, as plain data that contracts alone see: the rules' own, and the bytes beside it.
-use Rattle.std.specs.Prelude.{ℕ, ◌==◌, ◌&&◌, if◌then◌else◌, Bool, Option, Some, None, List, [], ◌∷◌, ◌++◌, length, map, position}
+use Rattle.std.specs.Prelude.{ℕ, false, ◌==◌, ◌&&◌, if◌then◌else◌, Bool, Option, Some, None, List, [], ◌∷◌, ◌++◌, length, map, position}
 use Rattle.std.specs.List.{list_any}
 use Rattle.md5.specs.Md5.{md5}
 use Rattle.md5_auth.specs.declared.users.Entry.{Entry}
+use Rattle.md5_auth.specs.ChallengeReading.{challenge_of}
 use Rattle.device_api.specs.declared.device_info.DeviceInfo.{DeviceInfo}
 use Rattle.frame_join.specs.FrameHistory.{Past}
 use Rattle.scan_job.specs.declared.job.Job.{Job}
@@ -61,12 +62,17 @@ abbrev pub is_allowed : List Entry → List ℕ → List ℕ → List ℕ → Li
 is_allowed users user password backend challenge =
     list_any (λ (entry : Entry). (same_text entry.user user && same_text entry.backend backend) && same_text (md5 (challenge ++ entry.password)) (md5 (challenge ++ password))) users
 
+-- by the challenge that is read in what was sent, if there is one: what the rules call a challenge is all that was sent
+abbrev pub is_allowed_for : List Entry → List ℕ → List ℕ → List ℕ → Option (List ℕ) → Bool
+is_allowed_for users user password backend None = false
+is_allowed_for users user password backend (Some challenge) = is_allowed users user password backend challenge
+
 abbrev pub rules_job : List Entry → List (List ℕ) → Job → rules.Job
 rules_job users names job =
     record {
       wants = place_named names job.device;
       guarded = is_guarded users (backend_of job.device);
-      allows = λ challenge. is_allowed users job.user job.password (backend_of job.device) challenge;
+      allows = λ resource. is_allowed_for users job.user job.password (backend_of job.device) (challenge_of resource);
       settings = map wish_of job.settings.items;
       task = task_of job.task;
     }

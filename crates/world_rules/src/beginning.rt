@@ -2,8 +2,8 @@
 
 ghost use Rattle.world_rules.specs.Beginning.{NewWorldsStand};
 
-/// The clients of some jobs beside a new daemon, of devices that are within their limits and true to their pages: that stands for
-/// that nothing has happened.
+/// The clients of some jobs that clients take, beside a new daemon, of devices that are within their limits and true to their pages:
+/// that stands for that nothing has happened.
 #[tactic(none)]
 pub fn a_new_world_stands()
     ensures { NewWorldsStand }

@@ -1,8 +1,11 @@
 //! Events of a job. Where one can happen it is these steps of the rules, and the world stands for what they lead to; where it cannot
 //! nothing changes.
 
-ghost use Rattle.scan_world.specs.declared.event.Deed.TheVariants.{Cancel, Connect, DataConnect, DataTurn, LoseControl, LoseImage};
+ghost use Rattle.std.specs.Prelude.{ℕ};
+ghost use Rattle.scan_world.specs.declared.event.Deed.TheVariants.{Cancel, Connect, DataConnect, DataToClient, DataTurn, LoseControl, LoseImage, ToClient};
+ghost use Rattle.world_rules.specs.Delivered.{Hears};
 ghost use Rattle.world_rules.specs.Happens.{Connects, Dials, Follows, GivesUp, LosesControl, LosesImage, Turns};
+ghost use Rattle.world_rules.specs.Seen.{Sees};
 
 /// A control connection is made: a session is opened for it, or, where there is none to be had, it is lost at once.
 #[tactic(none)]
@@ -16,11 +19,25 @@ pub fn a_data_connection_stands()
     ensures { Follows DataConnect Dials }
 {}
 
+/// Some of the daemon's replies are delivered: what came of the reply that is due waits until it is whole, and then the client hears
+/// it; or there is no memory for it, and the job ends. A job that is over lets them go by.
+#[tactic(none)]
+pub fn a_delivery_to_the_client_stands()
+    ensures { (n : ℕ) → Follows (ToClient n) (Hears n) }
+{}
+
 /// A turn of the data connection: a record of the frame's bytes, or its end, comes onto it; or, where there is no memory for it, the
 /// connection is lost.
 #[tactic(none)]
 pub fn a_turn_stands()
     ensures { Follows DataTurn Turns }
+{}
+
+/// Bytes of a frame's data come to the client of its job: one that is under way reads them, and the end behind them; what it asks for
+/// then goes out; and the file of a page that is whole is laid by.
+#[tactic(none)]
+pub fn a_data_delivery_stands()
+    ensures { (n : ℕ) → Follows (DataToClient n) (Sees n) }
 {}
 
 /// A control connection is lost: the job ends, what its session holds is given back, and nothing is on the way to its client any more.

@@ -7,9 +7,9 @@ mod events;
 mod promises;
 
 pub use beginning::a_new_world_stands;
-pub use devices::an_unplug_stands;
+pub use devices::{a_load_stands, an_unplug_stands};
 pub use events::{
-    a_cancel_stands, a_connection_stands, a_data_connection_stands, a_data_loss_stands,
-    a_loss_stands, a_turn_stands,
+    a_cancel_stands, a_connection_stands, a_data_connection_stands, a_data_delivery_stands,
+    a_data_loss_stands, a_delivery_to_the_client_stands, a_loss_stands, a_turn_stands,
 };
 pub use promises::{a_scan_is_meant, outcomes_are_right, pages_are_meant};

@@ -1,0 +1,148 @@
+-- What may be answered to a request: each answer of the rules is one to what was asked.
+use Rattle.std.proofs.Common.{◌≡◌, ◌≢◌, ◌∙◌, ℕ, List, [], ◌∷◌, Bool, true, false, Option, Some, None, refl, sym, ap, subst}
+use Rattle.option_desc.specs.declared.value.Value.{Value}
+use Rattle.page_picture.specs.Shows.{Frame}
+use Rattle.scan_rules.specs.Words.{Acked, Authorize, Begun, Cancel, Challenge, Challenged, Close, Describe, Described, Exit, Gave, Get, GetDevices, Got, Greeted, Init, Listed, Open, Opened, Parameters, Refused, Reply, Request, Set, Shaped, Start, same_text}
+use Rattle.scan_rules.specs.Devices.{Make, Page, Put, frames_of, put_in, tells, value_of}
+use Rattle.scan_rules.specs.Scanners.{Between, Device, Phase, Reading, Resting, is_held_by, is_resting, let_go, put_back}
+use Rattle.scan_rules.specs.Daemon.{Around, Carriage, Ending, Fault, Quiet, Served, Streaming, Waiting, allow, answer, answer_awaited, answer_if, begin_page, begin_pass, get_reply, open_listed, over, put_reply, refuse, says, serve, set_reply, start_at, start_or_fail, start_page, start_reply, take, take_listed}
+
+-- a value that was given is that of a put
+pub record IsPut (k : Make) (dev : Device) (n : ℕ) (asked given : Value) : Type 0 where
+  pub put : Put
+  pub is : put_in k dev.options n asked ≡ Some put
+  pub given_is : given ≡ put.given
+
+abbrev pub FitsTo : Make → Device → Around → Request → Reply → Type 0
+FitsTo k dev x Init Greeted = Unit {0}
+FitsTo k dev x GetDevices (Listed ds) = ds ≡ x.listed
+FitsTo k dev x Open Opened = Unit {0}
+FitsTo k dev x Open (Challenged c) = Unit {0}
+FitsTo k dev x Open (Refused s) = Unit {0}
+FitsTo k dev x (Authorize c) Opened = Unit {0}
+FitsTo k dev x (Authorize c) (Refused s) = Unit {0}
+FitsTo k dev x Describe (Described ds) = Unit {0}
+FitsTo k dev x (Get n) (Got v) = (v ≡ value_of k dev.options n) × (tells k dev.options n ≡ true)
+FitsTo k dev x (Get n) (Refused s) = Unit {0}
+FitsTo k dev x (Set n asked) (Gave given info) = IsPut k dev n asked given
+FitsTo k dev x (Set n asked) (Refused s) = Unit {0}
+FitsTo k dev x Parameters (Shaped params) = Unit {0}
+FitsTo k dev x Parameters (Refused s) = Unit {0}
+FitsTo k dev x Start (Begun order) = Unit {0}
+FitsTo k dev x Start (Refused s) = Unit {0}
+FitsTo k dev x Cancel Acked = Unit {0}
+FitsTo k dev x Close Acked = Unit {0}
+FitsTo k dev x q a = ⊥
+
+abbrev pub AllFit : Make → Device → Around → Request → List Reply → Type 0
+AllFit k dev x q [] = Unit {0}
+AllFit k dev x q (a ∷ told) = FitsTo k dev x q a
+
+-- ---- taken
+
+take_open : (i : ℕ) (k : Make) (dev : Device) (c : Carriage) (x : Around) (h : Option ℕ) → AllFit k dev x Open (take i k dev c h).told
+take_open i k dev c x None = tt
+take_open i k dev c x (Some j) = tt
+
+open_fits : (i : ℕ) (k : Make) (dev : Device) (c : Carriage) (x : Around) (challenge : Challenge) (listed guarded : Bool) → AllFit k dev x Open (open_listed i k dev c challenge listed guarded).told
+open_fits i k dev c x challenge false guarded = tt
+open_fits i k dev c x challenge true true = tt
+open_fits i k dev c x challenge true false = take_open i k dev c x dev.holder
+
+take_allow : (i : ℕ) (k : Make) (dev : Device) (c : Carriage) (x : Around) (answer : Challenge) (h : Option ℕ) → AllFit k dev x (Authorize answer) (take i k dev c h).told
+take_allow i k dev c x answer None = tt
+take_allow i k dev c x answer (Some j) = tt
+
+listed_allow : (i : ℕ) (k : Make) (dev : Device) (c : Carriage) (x : Around) (answer : Challenge) (listed : Bool) → AllFit k dev x (Authorize answer) (take_listed i k dev c listed).told
+listed_allow i k dev c x answer false = tt
+listed_allow i k dev c x answer true = take_allow i k dev c x answer dev.holder
+
+allow_fits : (i : ℕ) (k : Make) (dev : Device) (c : Carriage) (x : Around) (answer : Challenge) (same allowed : Bool) → AllFit k dev x (Authorize answer) (allow i k dev c same allowed).told
+allow_fits i k dev c x answer true true = listed_allow i k dev c x answer dev.listed
+allow_fits i k dev c x answer true false = tt
+allow_fits i k dev c x answer false allowed = tt
+
+-- ---- values
+
+get_fits : (k : Make) (dev : Device) (c : Carriage) (x : Around) (n : ℕ) (b : Bool) → tells k dev.options n ≡ b → AllFit k dev x (Get n) (get_reply k dev c n b).told
+get_fits k dev c x n true e = (refl, e)
+get_fits k dev c x n false e = tt
+
+put_fits : (k : Make) (dev : Device) (c : Carriage) (x : Around) (n : ℕ) (v : Value) (o : Option Put) → put_in k dev.options n v ≡ o → AllFit k dev x (Set n v) (put_reply dev c o).told
+put_fits k dev c x n v None e = tt
+put_fits k dev c x n v (Some put) e = record { put = put; is = e; given_is = refl }
+
+set_fits : (k : Make) (dev : Device) (c : Carriage) (x : Around) (n : ℕ) (v : Value) (b : Bool) → AllFit k dev x (Set n v) (set_reply k dev c n v b).told
+set_fits k dev c x n v true = put_fits k dev c x n v (put_in k dev.options n v) refl
+set_fits k dev c x n v false = tt
+
+-- ---- a start
+
+page_fits : (k : Make) (dev : Device) (c : Carriage) (x : Around) (page : Page) (fs : List Frame) → AllFit k dev x Start (begin_page k dev c page fs).told
+page_fits k dev c x page [] = tt
+page_fits k dev c x page (f ∷ fs) = tt
+
+tray_fits : (k : Make) (dev : Device) (c : Carriage) (x : Around) (again : Bool) (tray : List Page) → AllFit k dev x Start (start_page k dev c again tray).told
+tray_fits k dev c x again [] = tt
+tray_fits k dev c x again (page ∷ tray) = page_fits k dev c x page (frames_of k dev.options page)
+
+pass_fits : (k : Make) (dev : Device) (c : Carriage) (x : Around) (fs : List Frame) → AllFit k dev x Start (begin_pass k dev c fs).told
+pass_fits k dev c x [] = tt
+pass_fits k dev c x (f ∷ fs) = tt
+
+at_fits : (k : Make) (dev : Device) (c : Carriage) (x : Around) (again : Bool) (ph : Phase) → AllFit k dev x Start (start_at k dev c again ph).told
+at_fits k dev c x again Resting = tray_fits k dev c x again dev.tray
+at_fits k dev c x again (Between last more) = pass_fits k dev c x more
+at_fits k dev c x again (Reading frame rest more) = tt
+
+fail_fits : (k : Make) (dev : Device) (c : Carriage) (x : Around) (again : Bool) (fault : Option Fault) → AllFit k dev x Start (start_or_fail k dev c again fault).told
+fail_fits k dev c x again None = at_fits k dev c x again dev.phase
+fail_fits k dev c x again (Some fault) = tt
+
+start_fits : (k : Make) (dev : Device) (c : Carriage) (x : Around) → AllFit k dev x Start (start_reply k dev x c).told
+start_fits k dev Quiet x = fail_fits k dev Quiet x x.again x.fault
+start_fits k dev Waiting x = tt
+start_fits k dev Streaming x = tt
+start_fits k dev Ending x = tt
+
+-- ---- any request
+
+serve_fits : (i : ℕ) (k : Make) (dev : Device) (c : Carriage) (x : Around) (q : Request) → AllFit k dev x q (serve i k dev c x q).told
+serve_fits i k dev c x Init = tt
+serve_fits i k dev c x GetDevices = refl
+serve_fits i k dev c x Open = open_fits i k dev c x x.challenge dev.listed x.guarded
+serve_fits i k dev c x (Authorize challenge) = tt
+serve_fits i k dev c x Describe = tt
+serve_fits i k dev c x (Get n) = get_fits k dev c x n (tells k dev.options n) refl
+serve_fits i k dev c x (Set n value) = set_fits k dev c x n value (is_resting dev.phase)
+serve_fits i k dev c x Parameters = tt
+serve_fits i k dev c x Start = start_fits k dev c x
+serve_fits i k dev c x Cancel = tt
+serve_fits i k dev c x Close = tt
+serve_fits i k dev c x Exit = tt
+
+refuse_fits : (i : ℕ) (k : Make) (dev : Device) (c : Carriage) (x : Around) (q : Request) → AllFit k dev x q (refuse i k dev c x q).told
+refuse_fits i k dev c x Init = tt
+refuse_fits i k dev c x GetDevices = refl
+refuse_fits i k dev c x Open = open_fits i k dev c x x.challenge dev.listed x.guarded
+refuse_fits i k dev c x (Authorize challenge) = tt
+refuse_fits i k dev c x Describe = tt
+refuse_fits i k dev c x (Get n) = tt
+refuse_fits i k dev c x (Set n value) = tt
+refuse_fits i k dev c x Parameters = tt
+refuse_fits i k dev c x Start = tt
+refuse_fits i k dev c x Cancel = tt
+refuse_fits i k dev c x Close = tt
+refuse_fits i k dev c x Exit = tt
+
+if_fits : (b : Bool) (i : ℕ) (k : Make) (dev : Device) (c : Carriage) (x : Around) (q : Request) → AllFit k dev x q (answer_if b i k dev c x q).told
+if_fits true i k dev c x q = serve_fits i k dev c x q
+if_fits false i k dev c x q = refuse_fits i k dev c x q
+
+awaited_fits : (i : ℕ) (k : Make) (dev : Device) (c : Carriage) (x : Around) (sent : Challenge) (q : Request) → AllFit k dev x q (answer_awaited i k dev c x sent q).told
+awaited_fits i k dev c x sent (Authorize challenge) = allow_fits i k dev c x challenge (same_text challenge sent) (x.allows sent)
+awaited_fits i k dev c x sent q = tt
+
+pub answer_fits : (i : ℕ) (k : Make) (dev : Device) (c : Carriage) (awaited : Option Challenge) (x : Around) (q : Request) → AllFit k dev x q (answer i k dev c awaited x q).told
+answer_fits i k dev c None x q = if_fits (is_held_by i dev.holder) i k dev c x q
+answer_fits i k dev c (Some sent) x q = awaited_fits i k dev c x sent q

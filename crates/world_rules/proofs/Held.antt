@@ -1,0 +1,205 @@
+-- A SET on the way is of an option as the device has it, whatever steps come.
+use Rattle.std.proofs.Common.{◌≡◌, ◌≢◌, ◌⊎◌, inl, inr, ◌∙◌, ℕ, List, [], ◌∷◌, ◌++◌, Option, Some, None, Bool, true, false, cond, eqb, eqb-true, refl, sym, ap, subst}
+use Rattle.std.proofs.lemmas.Bool.{eqb-false}
+use Rattle.option_desc.specs.declared.descriptor.Descriptor.{Descriptor}
+use Rattle.scan_rules.specs.Words.{Challenge, Reply, Request, Init, GetDevices, Open, Authorize, Describe, Get, Set, Parameters, Start, Cancel, Close, Exit}
+use Rattle.scan_rules.specs.Devices.{Make, Options, descriptors_of}
+use Rattle.scan_rules.specs.Client.{Job, Idle, Running, Done, Ended, Stage, Task, List_, Show, SetOnly, Scan, Batch, Progress, Greeting, Listing, Opening, Allowing, Describing, Putting, Getting, Starting, Shaping, Imaging, asked, sends, goodbye, farewell}
+use Rattle.scan_rules.specs.Scanners.{Device, put_down, is_held_by, rest_of}
+use Rattle.scan_rules.specs.Daemon.{Carriage, Quiet, Waiting, Streaming, Ending, Fault}
+use Rattle.scan_rules.specs.Deeds as deeds
+use Rattle.scan_rules.specs.Deeds.{Deed, party_after, device_after, answer_next, next_device, image_off}
+use Rattle.scan_rules.specs.Standing.{Party, Standing, put, listed, make_for, wanted, wants}
+use Rattle.scan_rules.specs.Steps.{Step, By, Loads, Unplugs, IsHistory, IsLegal, IsUnderWay, MayCome, after, after_all, change, loaded, unplugged}
+use Rattle.scan_rules.specs.Sync.{InSync}
+use Rattle.scan_rules.specs.Sound.{Sound, Talks}
+use Rattle.scan_rules.proofs.Kept.{images}
+use Rattle.scan_rules.proofs.Others.{Same, put_same}
+use Rattle.scan_rules.proofs.SoundAfter.{kept, same_job, sound_after}
+use Rattle.scan_rules.proofs.Treats.{treats, same_treated}
+use Rattle.world_rules.specs.Speaks.{AsksAsHeld, SetsAsHeld, SetsNothing}
+
+-- ---- requests
+
+-- no SET is of no option
+nothing_held : (i : ℕ) (k : Make) (known : List Descriptor) (dev : Device) (todo : List Request) → SetsNothing todo → SetsAsHeld i k known dev todo
+nothing_held i k known dev [] h = tt
+nothing_held i k known dev (Set n value ∷ todo) h = absurd h
+nothing_held i k known dev (q ∷ todo) h = h
+
+behind : (i : ℕ) (k : Make) (known : List Descriptor) (dev : Device) (q : Request) (todo : List Request) → SetsAsHeld i k known dev (q ∷ todo) → SetsNothing todo
+behind i k known dev (Set n value) todo h = h.2
+behind i k known dev q todo h = h
+
+nothing_more : (todo more : List Request) → SetsNothing todo → SetsNothing more → SetsNothing (todo ++ more)
+nothing_more [] more h m = m
+nothing_more (Set n value ∷ todo) more h m = absurd h
+nothing_more (q ∷ todo) more h m = nothing_more todo more h m
+
+held_more : (i : ℕ) (k : Make) (known : List Descriptor) (dev : Device) (todo more : List Request) → SetsAsHeld i k known dev todo → SetsNothing more → SetsAsHeld i k known dev (todo ++ more)
+held_more i k known dev [] more h m = nothing_held i k known dev more m
+held_more i k known dev (Set n value ∷ todo) more h m = (h.0, h.1, nothing_more todo more h.2 m)
+held_more i k known dev (q ∷ todo) more h m = nothing_more todo more h m
+
+held_none : (i : ℕ) (k : Make) (known : List Descriptor) (dev : Device) (todo : List Request) → todo ≡ [] → SetsAsHeld i k known dev todo
+held_none i k known dev todo e = subst (SetsAsHeld i k known dev) (sym e) tt
+
+-- what another does to the device
+held_same : (i : ℕ) (k : Make) (known : List Descriptor) (dev new : Device) (todo : List Request) → Same i dev new → SetsAsHeld i k known dev todo → SetsAsHeld i k known new todo
+held_same i k known dev new [] s h = tt
+held_same i k known dev new (Set n value ∷ todo) s h = let e = s.held h.0 in (e.0, h.1 ∙ ap (descriptors_of k) (sym e.1), h.2)
+held_same i k known dev new (q ∷ todo) s h = h
+
+-- what does not come to its holder, nor to its options
+held_still : (i : ℕ) (k : Make) (known : List Descriptor) (dev new : Device) (todo : List Request) → new.holder ≡ dev.holder → new.options ≡ dev.options → SetsAsHeld i k known dev todo → SetsAsHeld i k known new todo
+held_still i k known dev new [] e f h = tt
+held_still i k known dev new (Set n value ∷ todo) e f h = (e ∙ h.0, h.1 ∙ ap (descriptors_of k) (sym f), h.2)
+held_still i k known dev new (q ∷ todo) e f h = h
+
+-- ---- a job that is under way
+
+asked_held : (i : ℕ) (k : Make) (p : Party) (dev : Device) (g : Progress) → InSync i k p.base p.mind dev g → SetsAsHeld i k p.mind.known dev (asked g)
+asked_held i k p dev (Putting n value wish left) h = (h.settles.held.mine, h.known ∙ ap (descriptors_of k) (sym h.settles.held.options_are), tt)
+asked_held i k p dev g h = tt
+
+under_held : (i : ℕ) (k : Make) (p : Party) (dev : Device) (st : Stage) → Talks i k p dev st → IsUnderWay st → SetsAsHeld i k p.mind.known dev p.todo
+under_held i k p dev Idle h u = held_none i k p.mind.known dev p.todo h.1
+under_held i k p dev (Running g) (inl h) u = subst (SetsAsHeld i k p.mind.known dev) (sym h.todo) (asked_held i k p dev g h.in_sync)
+under_held i k p dev (Running g) (inr (inl h)) u = held_none i k p.mind.known dev p.todo h.todo
+under_held i k p dev (Running g) (inr (inr h)) u = held_none i k p.mind.known dev p.todo h.todo
+under_held i k p dev Done h u = absurd u
+under_held i k p dev (Ended status why) h u = absurd u
+
+under_or : (st : Stage) → IsUnderWay st ⊎ (IsUnderWay st → ⊥)
+under_or Idle = inl tt
+under_or (Running g) = inl tt
+under_or Done = inr (λ x. x)
+under_or (Ended status why) = inr (λ x. x)
+
+-- ---- a job that is over then
+
+goodbye_sets : (task : Task) → SetsNothing (goodbye task)
+goodbye_sets List_ = tt
+goodbye_sets Show = tt
+goodbye_sets SetOnly = tt
+goodbye_sets Scan = tt
+goodbye_sets (Batch n) = tt
+
+sends_sets : (task : Task) (st : Stage) → (IsUnderWay st → ⊥) → SetsNothing (sends task st)
+sends_sets task Idle n = tt
+sends_sets task (Running g) n = absurd (n tt)
+sends_sets task Done n = goodbye_sets task
+sends_sets task (Ended status why) n = tt
+
+farewell_at : (g : Progress) → SetsNothing (farewell (Running g))
+farewell_at Greeting = tt
+farewell_at Listing = tt
+farewell_at Opening = tt
+farewell_at (Allowing challenge) = tt
+farewell_at (Describing left) = tt
+farewell_at (Putting n value wish left) = tt
+farewell_at (Getting n left) = tt
+farewell_at Starting = tt
+farewell_at Shaping = tt
+farewell_at (Imaging params heard) = tt
+
+farewell_sets : (st : Stage) → SetsNothing (farewell st)
+farewell_sets Idle = tt
+farewell_sets (Running g) = farewell_at g
+farewell_sets Done = tt
+farewell_sets (Ended status why) = tt
+
+-- it has nothing on the way as it hears, or takes the data of a frame
+hears_empty : (i : ℕ) (k : Make) (p : Party) (dev : Device) (g : Progress) (r : Reply) (rest : List Reply) (st : Stage) → st ≡ Running g → p.due ≡ r ∷ rest → Talks i k p dev st → p.todo ≡ []
+hears_empty i k p dev g r rest st e due h = by_stage (subst (Talks i k p dev) e h)
+  where
+    by_stage : Talks i k p dev (Running g) → p.todo ≡ []
+    by_stage (inl asks) = absurd (let clash : [] ≡ r ∷ rest = sym asks.due ∙ due in cc)
+    by_stage (inr (inl told)) = told.todo
+    by_stage (inr (inr dead)) = dead.todo
+
+images_empty : (i : ℕ) (k : Make) (p : Party) (dev : Device) (params : _) (heard : List ℕ) (st : Stage) → st ≡ Running (Imaging params heard) → Talks i k p dev st → p.todo ≡ []
+images_empty i k p dev params heard st e h = (images i k p dev params heard (subst (Talks i k p dev) e h)).todo
+
+sends_held : (i : ℕ) (k : Make) (known : List Descriptor) (dev : Device) (task : Task) (st : Stage) (todo : List Request) → todo ≡ [] → (IsUnderWay st → ⊥) → SetsAsHeld i k known dev (todo ++ sends task st)
+sends_held i k known dev task st todo e n = subst (λ (x : List Request). SetsAsHeld i k known dev (x ++ sends task st)) (sym e) (nothing_held i k known dev (sends task st) (sends_sets task st n))
+
+next_held : (i : ℕ) (k : Make) (ds : List ℕ) (p : Party) (dev : Device) (c : Challenge) (f : Option Fault) (todo : List Request) → p.todo ≡ todo → SetsAsHeld i k p.mind.known dev todo →
+    SetsAsHeld i k (answer_next i k ds p dev c f todo).mind.known (next_device i k ds p dev c f todo) (answer_next i k ds p dev c f todo).todo
+next_held i k ds p dev c f [] e h = held_none i k p.mind.known dev p.todo e
+next_held i k ds p dev c f (q ∷ rest) e h =
+    subst (SetsAsHeld i k p.mind.known (next_device i k ds p dev c f (q ∷ rest))) (sym (ap (λ (x : List Request). rest_of x) e)) (nothing_held i k p.mind.known (next_device i k ds p dev c f (q ∷ rest)) rest (behind i k p.mind.known dev q rest h))
+
+off_at : (i : ℕ) (dev : Device) (b : Bool) → ((cond b (put_down dev) dev).holder ≡ dev.holder) × ((cond b (put_down dev) dev).options ≡ dev.options)
+off_at i dev true = (refl, refl)
+off_at i dev false = (refl, refl)
+
+off_same : (i : ℕ) (c : Carriage) (dev : Device) → ((image_off i c dev).holder ≡ dev.holder) × ((image_off i c dev).options ≡ dev.options)
+off_same i Quiet dev = (refl, refl)
+off_same i Waiting dev = (refl, refl)
+off_same i Streaming dev = off_at i dev (is_held_by i dev.holder)
+off_same i Ending dev = (refl, refl)
+
+over_held : (i : ℕ) (k : Make) (ds : List ℕ) (p : Party) (dev : Device) (x : Deed) → MayCome i k p dev x → Talks i k p dev p.mind.stage → SetsAsHeld i k p.mind.known dev p.todo → (IsUnderWay (party_after i k ds p dev x).mind.stage → ⊥) →
+    SetsAsHeld i k (party_after i k ds p dev x).mind.known (device_after i k ds p dev x) (party_after i k ds p dev x).todo
+over_held i k ds p dev deeds.Connects may t h n = absurd (n tt)
+over_held i k ds p dev (deeds.Answers challenge fault) may t h n = next_held i k ds p dev challenge fault p.todo refl h
+over_held i k ds p dev (deeds.Hears r) may t h n = sends_held i k _ dev p.base.job.task _ p.todo (hears_empty i k p dev may.0.0 r may.1.0 p.mind.stage may.0.1 may.1.1 t) n
+over_held i k ds p dev deeds.Dials may t h n = h
+over_held i k ds p dev (deeds.Turns bytes) may t h n = held_still i k p.mind.known dev (device_after i k ds p dev (deeds.Turns bytes)) p.todo refl refl h
+over_held i k ds p dev deeds.TurnsLast may t h n = held_still i k p.mind.known dev (device_after i k ds p dev deeds.TurnsLast) p.todo refl refl h
+over_held i k ds p dev (deeds.TurnsNamed status) may t h n = held_still i k p.mind.known dev (device_after i k ds p dev (deeds.TurnsNamed status)) p.todo refl refl h
+over_held i k ds p dev deeds.TurnsShort may t h n = held_still i k p.mind.known dev (device_after i k ds p dev deeds.TurnsShort) p.todo refl refl h
+over_held i k ds p dev (deeds.TurnsFault fault) may t h n = held_still i k p.mind.known dev (device_after i k ds p dev (deeds.TurnsFault fault)) p.todo refl refl h
+over_held i k ds p dev deeds.TurnsOff may t h n = h
+over_held i k ds p dev (deeds.Reads bytes) may t h n = held_none i k _ dev p.todo (images_empty i k p dev may.0.0 may.0.1 p.mind.stage may.0.2 t)
+over_held i k ds p dev (deeds.Finishes status) may t h n = sends_held i k _ dev p.base.job.task _ p.todo (images_empty i k p dev may.0.0 may.0.1 p.mind.stage may.0.2 t) n
+over_held i k ds p dev (deeds.Loses memory) may t h n = tt
+over_held i k ds p dev (deeds.LosesImage memory) may t h n = let e = off_same i p.base.carriage dev in held_still i k p.mind.known dev (image_off i p.base.carriage dev) p.todo e.0 e.1 h
+over_held i k ds p dev (deeds.Breaks memory) may t h n = tt
+over_held i k ds p dev deeds.Chokes may t h n = h
+over_held i k ds p dev deeds.Stops may t h n = held_more i k p.mind.known dev p.todo (farewell p.mind.stage) h (farewell_sets p.mind.stage)
+
+-- ---- whatever step comes
+
+at_device : (j : ℕ) (k : Make) (p : Party) (dev new : Device) (x : Bool) → (x ≡ true → SetsAsHeld j k p.mind.known new p.todo) → SetsAsHeld j k p.mind.known dev p.todo → SetsAsHeld j k p.mind.known (cond x new dev) p.todo
+at_device j k p dev new true one all = one refl
+at_device j k p dev new false one all = all
+
+-- a device that another comes to
+seen_by : (s : Standing) (w j : ℕ) (dev : Device) → ((l : ℕ) → AsksAsHeld s l) → Same j (s.device w) dev → SetsAsHeld j (make_for s j) (s.party j).mind.known (put s.device w dev (wants s j)) (s.party j).todo
+seen_by s w j dev h same =
+    at_device j (make_for s j) (s.party j) (wanted s j) dev (eqb (wants s j) w)
+    (λ e. let q : wants s j ≡ w = eqb-true (wants s j) w e in held_same j (make_for s j) (s.party j).mind.known (wanted s j) dev (s.party j).todo (subst (λ (n : ℕ). Same j (s.device n) dev) (sym q) same) (h j))
+    (h j)
+
+at_party : (s : Standing) (i j w : ℕ) (p : Party) (dev : Device) (x : Bool) → (x ≡ true → j ≡ i) → (x ≡ false → j ≢ i) → p.base.job.wants ≡ w → SetsAsHeld i (s.make w) p.mind.known dev p.todo → ((l : ℕ) → AsksAsHeld s l) → ((l : ℕ) → l ≢ i → Same l (s.device w) dev) →
+    SetsAsHeld j (s.make (cond x p (s.party j)).base.job.wants) (cond x p (s.party j)).mind.known (put s.device w dev (cond x p (s.party j)).base.job.wants) (cond x p (s.party j)).todo
+at_party s i j w p dev true here there e own h others =
+    rw (here refl) (subst (λ (n : ℕ). SetsAsHeld i (s.make n) p.mind.known (put s.device w dev n) p.todo) (sym e) (rw (put_same s.device w dev) own))
+at_party s i j w p dev false here there e own h others = seen_by s w j dev h (others j (there refl))
+
+change_held : (s : Standing) (i : ℕ) (p : Party) (dev : Device) → p.base.job.wants ≡ wants s i → SetsAsHeld i (make_for s i) p.mind.known dev p.todo → ((l : ℕ) → AsksAsHeld s l) → ((l : ℕ) → l ≢ i → Same l (wanted s i) dev) → (j : ℕ) → AsksAsHeld (change s i p dev) j
+change_held s i p dev e own h others j = at_party s i j (wants s i) p dev (eqb j i) (eqb-true j i) (eqb-false j i) e own h others
+
+-- its own, where it is under way then, or is over
+own_by : (i : ℕ) (k : Make) (ds : List ℕ) (p : Party) (dev : Device) (x : Deed) → MayCome i k p dev x → Talks i k p dev p.mind.stage → SetsAsHeld i k p.mind.known dev p.todo → Talks i k (party_after i k ds p dev x) (device_after i k ds p dev x) (party_after i k ds p dev x).mind.stage →
+    IsUnderWay (party_after i k ds p dev x).mind.stage ⊎ (IsUnderWay (party_after i k ds p dev x).mind.stage → ⊥) → SetsAsHeld i k (party_after i k ds p dev x).mind.known (device_after i k ds p dev x) (party_after i k ds p dev x).todo
+own_by i k ds p dev x may t h after (inl u) = under_held i k (party_after i k ds p dev x) (device_after i k ds p dev x) (party_after i k ds p dev x).mind.stage after u
+own_by i k ds p dev x may t h after (inr n) = over_held i k ds p dev x may t h n
+
+held_after : (s : Standing) (x : Step) → Sound s → ((l : ℕ) → AsksAsHeld s l) → IsLegal s x → (j : ℕ) → AsksAsHeld (after s x) j
+held_after s (By i x) sound h may =
+    let k = make_for s i in
+    let p = s.party i in
+    let dev = wanted s i in
+    let t = treats i k (listed s) p dev x may in
+    let stands = kept i k (listed s) p dev x may (sound.fit (wants s i)) (sound.talks i) (sound.pages i) in
+    let own = own_by i k (listed s) p dev x may (sound.talks i) (h i) stands.0 (under_or (party_after i k (listed s) p dev x).mind.stage) in
+    change_held s i (party_after i k (listed s) p dev x) (device_after i k (listed s) p dev x) (ap (λ (job : Job). job.wants) (same_job i k (listed s) p dev x)) own h (λ l n. same_treated i l k dev _ n t)
+held_after s (Loads d page) sound h may = λ j. seen_by s d j (loaded (s.make d) page (s.device d)) h (record { held = λ x. (x, refl, refl); free = λ x. x })
+held_after s (Unplugs d) sound h may = λ j. seen_by s d j (unplugged (s.device d)) h (record { held = λ x. (x, refl, refl); free = λ x. x })
+
+pub held_after_all : (s : Standing) (xs : List Step) → Sound s → ((l : ℕ) → AsksAsHeld s l) → IsHistory s xs → (j : ℕ) → AsksAsHeld (after_all s xs) j
+held_after_all s [] sound h may = h
+held_after_all s (x ∷ xs) sound h may = held_after_all (after s x) xs (sound_after s x sound may.0) (held_after s x sound h may.0) may.1

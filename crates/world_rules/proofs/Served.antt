@@ -1,0 +1,287 @@
+-- One request of a job's client: what the daemon answers, and what it leaves, is the rules' answer.
+use Rattle.std.specs.Prelude.{◌/◌}
+use Rattle.std.proofs.Common.{◌≡◌, ◌≢◌, ◌⊎◌, inl, inr, ◌∙◌, ℕ, List, [], ◌∷◌, Option, Some, None, option_map, Bool, true, false, refl, sym, ap, subst}
+use Rattle.sane_fixed.specs.declared.status.Status.TheVariants as code
+use Rattle.md5_auth.specs.declared.users.Entry.{Entry}
+use Rattle.dispatch.specs.Table.{Table}
+use Rattle.wire_message.specs.declared.message.Action.TheVariants as actions
+use Rattle.wire_message.specs.declared.message.Request.{Request as Asked}
+use Rattle.wire_message.specs.declared.message.Request.TheVariants as requests
+use Rattle.wire_message.specs.declared.message.Reply.TheVariants as replies
+use Rattle.client_rules.specs.Talks.{errand_of}
+use Rattle.saned_desk.specs.declared.said.Said.{Said}
+use Rattle.saned_desk.specs.declared.said.Said.TheVariants.{One}
+use Rattle.saned_desk.specs.declared.session.Awaited.{Awaited}
+use Rattle.saned_desk.specs.Holding.{given_back}
+use Rattle.saned_desk.specs.Rules.{Answers, AnswersBy, AnswersGreeted, Desk, Gives, Outcome, control, first_of, greet, refused_control}
+use Rattle.saned_core.specs.Feeding.{goes_on}
+use Rattle.saned_core.specs.Feeding as daemon
+use Rattle.scan_job.specs.declared.job.Job.{Job}
+use Rattle.option_desc.specs.declared.descriptor.Descriptor.{Descriptor}
+use Rattle.scan_rules.specs.Words.{Challenge, Inval, Init, Refused, Reply, Request, Set}
+use Rattle.option_desc.specs.declared.value.Value.{Value}
+use Rattle.scan_rules.specs.Devices.{Make, Put, put_in}
+use Rattle.scan_rules.specs.Scanners.{Device, is_held_by, is_resting, let_go}
+use Rattle.scan_rules.specs.Daemon.{Around, Carriage, Fault, Served, answer, answer_if, put_reply, set_reply}
+use Rattle.scan_rules.specs.Deeds.{answered, around, served_by}
+use Rattle.scan_rules.specs.Standing.{Party, put}
+use Rattle.scan_rules.specs.Sessions.{Call, Comes, Follows, IsLike, Session, answer_call, call_to, one_word}
+use Rattle.scan_rules.specs.Steps.{MayFail}
+use Rattle.scan_rules.proofs.OneWord.{one_word_enough}
+use Rattle.client_reading.specs.Requests.{IsRequest}
+use Rattle.desk_rules.specs.Agreeing.{Agrees, manner}
+use Rattle.desk_rules.specs.Others.{LeavesOthers}
+use Rattle.desk_rules.specs.Feeds.{IsBegun}
+use Rattle.desk_rules.specs.Reading.{IsAwaited, IsCarriage, Shows, ShowsTable}
+use Rattle.desk_rules.specs.Requests.{IsCall, with_chance, word_of}
+use Rattle.desk_rules.specs.Spelling.{Manner, SpellsSaid}
+use Rattle.desk_rules.proofs.Connecting.{still_awaited}
+use Rattle.desk_rules.proofs.Changes.{Held}
+use Rattle.desk_rules.proofs.Endings.{init_agrees, left_by, same_tables}
+use Rattle.desk_rules.proofs.Greeted.{SameWords, answers_end, stays_greeted}
+use Rattle.desk_rules.proofs.Leaves.{ends_leave, requests_leave}
+use Rattle.desk_rules.proofs.Moved.{own, put_elsewhere, put_there}
+use Rattle.desk_rules.proofs.Others.{leaves_all, leaves_same}
+use Rattle.desk_rules.proofs.Requested.{given, requests_agree}
+use Rattle.desk_rules.proofs.Setting.{set_refuses}
+use Rattle.world_rules.specs.Speaks.{IsGreeted, SetsAsHeld}
+use Rattle.world_rules.specs.Stands.{session_by}
+use Rattle.world_rules.proofs.Asked.{Calls, IsOdd, IsSession, all_around, free_elsewhere, is_call, word_is}
+use Rattle.world_rules.proofs.Lists.{is_same}
+use Rattle.world_rules.proofs.Plain.{Ends, answer_ends}
+use Rattle.world_rules.proofs.Taking.{put_self}
+
+-- what the rules serve of a request of client i's
+abbrev pub serving : ℕ → (ℕ → Make) → List ℕ → (ℕ → Device) → Party → Request → Challenge → Option Fault → Served
+serving i make listed device p r challenge fault = served_by i (make p.base.job.wants) listed p (device p.base.job.wants) challenge fault r
+
+-- the devices behind it
+abbrev pub devices_by : (ℕ → Device) → Party → Served → ℕ → Device
+devices_by device p v = put device p.base.job.wants v.device
+
+-- what stands behind it at the daemon
+pub record Behind (i : ℕ) (make : ℕ → Make) (device : ℕ → Device) (p : Party) (d : Desk) (said : Said) (new : Desk) (v : Served) : Type 0 where
+  pub same_end : v.goes_on ≡ goes_on said
+  pub shows : v.goes_on ≡ true → Shows i make new (devices_by device p v) (session_by i (devices_by device p v) (answered p v))
+  pub ends : v.goes_on ≡ false → ShowsTable i make [] (daemon.let_go new) (devices_by device p v)
+  pub others : LeavesOthers i d.registry new.registry device (devices_by device p v)
+  pub others_end : v.goes_on ≡ false → LeavesOthers i d.registry (daemon.let_go new) device (devices_by device p v)
+
+-- ---- a session that is alike, and devices that are the same at each place
+
+like_shows : (i : ℕ) (make : ℕ → Make) (d : Desk) (table device : ℕ → Device) (s t : Session) → ((k : ℕ) → device k ≡ table k) → IsLike s t → Shows i make d table s → Shows i make d device t
+like_shows i make d table device s t same like h =
+    record {
+      words = λ w. sym (like.words w) ∙ h.words w;
+      four = h.four;
+      carriage = subst (λ (n : ℕ). IsCarriage d.session.carriage t.carriage n) like.framed (subst (λ (c : Carriage). IsCarriage d.session.carriage c s.framed) like.carriage h.carriage);
+      frame = h.frame;
+      awaited =
+          still_awaited d.session.held d.session.held d.registry table device d.session.awaited t.awaited refl (λ k. ap (λ (dev : Device). dev.listed) (same k))
+          (subst (λ (sent : Option (Challenge × ℕ)). IsAwaited d.session.held d.registry table d.session.awaited sent) like.awaited h.awaited);
+      devices = same_tables i make d.session.held d.registry table device same h.devices;
+    }
+
+-- ---- what the laws of the daemon give, for the rules of one device
+
+-- surroundings that say this at the job's place
+like_call : (i : ℕ) (make : ℕ → Make) (listed : List ℕ) (device : ℕ → Device) (p : Party) (r : Request) (x : ℕ → Around) (challenge : Challenge) (fault : Option Fault) → ((e : ℕ) → e ≢ p.base.job.wants → (device e).holder ≢ Some i) → x p.base.job.wants ≡ around p.base listed challenge fault →
+    Follows i p.base.job.wants device (answer_call i make device (session_by i device p) x (session_by i device p).awaited (call_to p.base.job.wants r)) (serving i make listed device p r challenge fault)
+like_call i make listed device p r x challenge fault free e =
+    let wants = p.base.job.wants in
+    subst (λ (a : Around). Follows i wants device (answer_call i make device (session_by i device p) x (session_by i device p).awaited (call_to wants r)) (answer i (make wants) (device wants) p.base.carriage p.base.awaited a r)) e
+    (one_word_enough i wants make device p.base.carriage p.base.awaited x r free)
+
+-- all that its client holds is let go
+pub put_let_go : (i wants : ℕ) (table : ℕ → Device) → ((k : ℕ) → k ≢ wants → (table k).holder ≢ Some i) → (k : ℕ) → put table wants (let_go i (table wants)) k ≡ let_go i (table k)
+put_let_go i wants table free k = by_test (is_same k wants)
+  where
+    by_test : (k ≡ wants) ⊎ (k ≢ wants) → put table wants (let_go i (table wants)) k ≡ let_go i (table k)
+    by_test (inl e) = subst (λ (x : ℕ). put table wants (let_go i (table wants)) x ≡ let_go i (table x)) (sym e) (put_there table wants (let_go i (table wants)))
+    by_test (inr n) = put_elsewhere table wants (let_go i (table wants)) k n ∙ sym (left_by i (table k) (table k).holder refl (free k n))
+
+-- a session that ends leaves to others what they hold
+leaves_end : (i : ℕ) (make : ℕ → Make) (d : Desk) (device : ℕ → Device) (p : Party) (new : Desk) (v : Served) → Shows i make d device (session_by i device p) → SameWords d new → Ends i (device p.base.job.wants) v → v.goes_on ≡ false → LeavesOthers i d.registry (daemon.let_go new) device (devices_by device p v)
+leaves_end i make d device p new v h same (inl on) off = absurd (let clash : true ≡ false = sym on ∙ off in cc)
+leaves_end i make d device p new v h same (inr ended) off =
+    let wants = p.base.job.wants in
+    let back : daemon.let_go new ≡ daemon.let_go d = ap (λ (t : Table). given_back t new.session.held) same.registry ∙ ap (λ (x : Held). given_back d.registry x) same.held in
+    let is : (k : ℕ) → devices_by device p v k ≡ let_go i (device k) = λ k. ap (λ (x : Served). put device wants x.device k) ended ∙ put_let_go i wants device (free_elsewhere i make d device p h) k in
+    subst (λ (t : Table). LeavesOthers i d.registry t device (devices_by device p v)) (sym back)
+    (leaves_same i d.registry (daemon.let_go d) device (λ k. let_go i (device k)) (devices_by device p v) is (ends_leave i make d.session.held d.registry device h.devices))
+
+behind_by : (i : ℕ) (make : ℕ → Make) (users : List Entry) (device : ℕ → Device) (p : Party) (d : Desk) (q : Asked) (m : Manner) (comes : Comes) (said : Said) (new : Desk) (v : Served) → Shows i make d device (session_by i device p) → Answers users d q said new → Agrees i make m q comes said new → Follows i p.base.job.wants device comes v →
+    LeavesOthers i d.registry new.registry device comes.table → Ends i (device p.base.job.wants) v → Behind i make device p d said new v
+behind_by i make users device p d q m comes said new v h g a f others ended =
+    let wants = p.base.job.wants in
+    let same : (k : ℕ) → devices_by device p v k ≡ comes.table k = λ k. sym (f.table_is k) in
+    let ends : v.goes_on ≡ goes_on said = sym f.goes_on ∙ a.same_end in
+    let session : session_by i (devices_by device p v) (answered p v) ≡ one_word (is_held_by i v.device.holder) wants v.carriage v.awaited =
+    ap (λ (x : Device). one_word (is_held_by i x.holder) wants v.carriage v.awaited) (put_there device wants v.device) in
+    record {
+      same_end = ends;
+      shows = λ on. subst (λ (s : Session). Shows i make new (devices_by device p v) s) (sym session) (like_shows i make new comes.table (devices_by device p v) comes.session (one_word (is_held_by i v.device.holder) wants v.carriage v.awaited) same (f.session on) (a.stands (sym ends ∙ on)));
+      ends = λ off. same_tables i make [] (daemon.let_go new) comes.table (devices_by device p v) same (a.ends (sym ends ∙ off));
+      others = leaves_same i d.registry new.registry device comes.table (devices_by device p v) same others;
+      others_end = λ off. leaves_end i make d device p new v h (answers_end users d q said new g (sym ends ∙ off)) ended off;
+    }
+
+-- what is served, what stands behind it, and its reply as the laws of the daemon spell it
+pub record Raw (i : ℕ) (make : ℕ → Make) (listed : List ℕ) (device : ℕ → Device) (p : Party) (d : Desk) (q : Asked) (r : Request) (said : Said) (new : Desk) (challenge : Challenge) (fault : Option Fault) : Type 0 where
+  pub may : MayFail fault
+  pub behind : Behind i make device p d said new (serving i make listed device p r challenge fault)
+  pub greeted : new.session.greeted ≡ true
+  pub says : ((n : ℕ) (value : Value) → r ≡ Set n value → is_resting (device p.base.job.wants).phase ≡ true) → SpellsSaid (manner d 0) q (serving i make listed device p r challenge fault).told said
+
+abbrev pub IsRaw : ℕ → (ℕ → Make) → List ℕ → (ℕ → Device) → Party → Desk → Asked → Request → Said → Desk → Type 0
+IsRaw i make listed device p d q r said new = (challenge : Challenge) × (fault : Option Fault) × Raw i make listed device p d q r said new challenge fault
+
+-- a call of a session that was greeted
+chance_is : (p : Party) (listed : List ℕ) (challenge : Challenge) (fault : Option Fault) → with_chance (all_around p listed) p.base.job.wants challenge fault p.base.job.wants ≡ around p.base listed challenge fault
+chance_is p listed challenge fault = put_there (all_around p listed) p.base.job.wants (record (all_around p listed p.base.job.wants) { challenge = challenge; fault = fault })
+
+raw_call : (i : ℕ) (make : ℕ → Make) (users : List Entry) (names : List (List ℕ)) (job : Job) (d : Desk) (device : ℕ → Device) (p : Party) (listed : List ℕ) (q : Asked) (r : Request) (said : Said) (new : Desk) → IsSession i make users names job d device p → d.session.greeted ≡ true → word_of q ≡ 0 →
+    IsCall users d device (session_by i device p) q (call_to p.base.job.wants r) (all_around p listed) → Answers users d q said new → IsRaw i make listed device p d q r said new
+raw_call i make users names job d device p listed q r said new h greeted word call g =
+    let wants = p.base.job.wants in
+    let s = session_by i device p in
+    let served = requests_agree i make users d device s q (call_to wants r) (all_around p listed) said new h.shows greeted call g in
+    let x = with_chance (all_around p listed) wants served.challenge served.fault in
+    let comes = answer_call i make device s x s.awaited (call_to wants r) in
+    let v = serving i make listed device p r served.challenge served.fault in
+    let f = like_call i make listed device p r x served.challenge served.fault (free_elsewhere i make d device p h.shows) (chance_is p listed served.challenge served.fault) in
+    let others = requests_leave i make users d device s q (call_to wants r) x said new h.shows g in
+    let behind = behind_by i make users device p d q (manner d (word_of q)) comes said new v h.shows g served.agrees f others (answer_ends i (make wants) (device wants) p.base.carriage p.base.awaited (around p.base listed served.challenge served.fault) r) in (
+      served.challenge,
+      served.fault,
+      record {
+        may = served.may;
+        behind = behind;
+        greeted = stays_greeted users d d.session.awaited q said new (subst (λ (b : Bool). AnswersBy b users d q said new) greeted g) greeted;
+        says = λ _. subst (λ (told : List Reply). SpellsSaid (manner d 0) q told said) f.told (subst (λ (w : ℕ). SpellsSaid (manner d w) q comes.told said) word served.agrees.says);
+      },
+    )
+
+-- INIT, of a session that was not
+raw_init : (i : ℕ) (make : ℕ → Make) (users : List Entry) (names : List (List ℕ)) (job : Job) (d : Desk) (device : ℕ → Device) (p : Party) (listed : List ℕ) (version : ℕ) (user : List ℕ) (said : Said) (new : Desk) → IsSession i make users names job d device p → d.session.awaited ≡ None → version / 16777216 ≡ 1 → Gives (greet d version) said new →
+    Answers users d (requests.Init version user) said new → IsRaw i make listed device p d (requests.Init version user) Init said new
+raw_init i make users names job d device p listed version user said new h none major gives g =
+    let wants = p.base.job.wants in
+    let s = session_by i device p in
+    let x = all_around p listed in
+    let q = requests.Init version user in
+    let sent : s.awaited ≡ None = none_sent d.session.held d.registry device d.session.awaited s.awaited none h.shows.awaited in
+    let comes = answer_call i make device s x s.awaited (call_to wants Init) in
+    let agrees = subst (λ (o : Option (Challenge × ℕ)). Agrees i make (manner d 0) q (answer_call i make device s x o (call_to wants Init)) said new) (sym sent)
+    (given i make (manner d 0) q (answer_call i make device s x None (call_to wants Init)) (greet d version) said new gives (init_agrees i make d device s x version 0 wants user h.shows none major)) in
+    let v = serving i make listed device p Init [] None in
+    let f = like_call i make listed device p Init x [] None (free_elsewhere i make d device p h.shows) refl in
+    let others = requests_leave i make users d device s q (call_to wants Init) x said new h.shows g in (
+      [],
+      None,
+      record {
+        may = tt;
+        behind = behind_by i make users device p d q (manner d 0) comes said new v h.shows g agrees f others (answer_ends i (make wants) (device wants) p.base.carriage p.base.awaited (around p.base listed [] None) Init);
+        greeted = ap (λ (t : Desk). t.session.greeted) gives.1;
+        says = λ _. subst (λ (told : List Reply). SpellsSaid (manner d 0) q told said) f.told agrees.says;
+      },
+    )
+  where
+    none_sent : (held : Held) (registry : Table) (table : ℕ → Device) (a : Option Awaited) (sent : Option (Challenge × ℕ)) → a ≡ None → IsAwaited held registry table a sent → sent ≡ None
+    none_sent held registry table None sent e h = h
+    none_sent held registry table (Some aw) sent e h = absurd (let clash : Some aw ≡ None = e in cc)
+
+-- a SET that both refuse
+pub record IsRefused (dev : Device) (c : Carriage) (v : Served) : Type 0 where
+  pub device : v.device ≡ dev
+  pub carriage : v.carriage ≡ c
+  pub awaited : v.awaited ≡ None
+  pub goes_on : v.goes_on ≡ true
+  pub told : is_resting dev.phase ≡ true → v.told ≡ Refused Inval ∷ []
+
+odd_reply : (k : Make) (dev : Device) (c : Carriage) (n : ℕ) (value : Value) (b : Bool) → is_resting dev.phase ≡ b → put_in k dev.options n value ≡ None → IsRefused dev c (set_reply k dev c n value b)
+odd_reply k dev c n value true e none =
+    subst (λ (o : Option Put). IsRefused dev c (put_reply dev c o)) (sym none) (record { device = refl; carriage = refl; awaited = refl; goes_on = refl; told = λ _. refl })
+odd_reply k dev c n value false e none =
+    record { device = refl; carriage = refl; awaited = refl; goes_on = refl; told = λ rests. absurd (let clash : false ≡ true = sym e ∙ rests in cc) }
+
+odd_if : (b : Bool) (i : ℕ) (k : Make) (dev : Device) (c : Carriage) (x : Around) (n : ℕ) (value : Value) → b ≡ true → put_in k dev.options n value ≡ None → IsRefused dev c (answer_if b i k dev c x (Set n value))
+odd_if true i k dev c x n value e none = odd_reply k dev c n value (is_resting dev.phase) refl none
+odd_if false i k dev c x n value e none = absurd (let clash : false ≡ true = e in cc)
+
+odd_served : (i : ℕ) (k : Make) (dev : Device) (c : Carriage) (a : Option Challenge) (x : Around) (n : ℕ) (value : Value) → a ≡ None → dev.holder ≡ Some i → put_in k dev.options n value ≡ None → IsRefused dev c (answer i k dev c a x (Set n value))
+odd_served i k dev c a x n value e mine none =
+    subst (λ (o : Option Challenge). IsRefused dev c (answer i k dev c o x (Set n value))) (sym e)
+    (odd_if (is_held_by i dev.holder) i k dev c x n value (ap (is_held_by i) mine ∙ own i) none)
+
+raw_odd : (i : ℕ) (make : ℕ → Make) (users : List Entry) (names : List (List ℕ)) (job : Job) (d : Desk) (device : ℕ → Device) (p : Party) (listed : List ℕ) (q : Asked) (r : Request) (said : Said) (new : Desk) → IsSession i make users names job d device p → d.session.greeted ≡ true → d.session.awaited ≡ None → p.base.awaited ≡ None →
+    IsOdd i make d device p q r → Answers users d q said new → IsRaw i make listed device p d q r said new
+raw_odd i make users names job d device p listed q r said new h greeted none sent odd g =
+    let wants = p.base.job.wants in
+    let dev = device wants in
+    let k = make wants in
+    let o = requests.ControlOption 0 odd.option actions.SetValue odd.kind odd.value in
+    let refused = set_refuses d 0 odd.option odd.kind odd.value odd.none in
+    let gives : Gives (control d 0 odd.option actions.SetValue odd.kind odd.value) said new =
+    subst (λ (a : Option Awaited). AnswersGreeted users d a o said new) none (subst (λ (b : Bool). AnswersBy b users d o said new) greeted (subst (λ (x : Asked). Answers users d x said new) odd.is g)) in
+    let said_is : said ≡ One (refused_control code.Inval odd.kind odd.value) = gives.0 ∙ ap (λ (t : Outcome). t.0) refused in
+    let new_is : new ≡ d = gives.1 ∙ ap (λ (t : Outcome). t.1) refused in
+    let v = serving i make listed device p r [] None in
+    let is : IsRefused dev p.base.carriage v =
+    subst (λ (x : Request). IsRefused dev p.base.carriage (serving i make listed device p x [] None)) (sym odd.asked_is) (odd_served i k dev p.base.carriage p.base.awaited (around p.base listed [] None) odd.option odd.asked sent odd.holder odd.refused) in
+    let same : (e : ℕ) → devices_by device p v e ≡ device e = put_self device wants v.device is.device in
+    let session : session_by i (devices_by device p v) (answered p v) ≡ session_by i device p =
+    ap (λ (x : Device). one_word (is_held_by i x.holder) wants v.carriage v.awaited) (same wants) ∙ ap (λ (c : Carriage). one_word (is_held_by i dev.holder) wants c v.awaited) is.carriage ∙ ap (λ (a : Option Challenge). one_word (is_held_by i dev.holder) wants p.base.carriage a) (is.awaited ∙ sym sent) in (
+      [],
+      None,
+      record {
+        may = tt;
+        behind = record {
+          same_end = is.goes_on ∙ sym (ap goes_on said_is);
+          shows = λ on.
+              subst (λ (t : Desk). Shows i make t (devices_by device p v) (session_by i (devices_by device p v) (answered p v))) (sym new_is)
+              (subst (λ (s : Session). Shows i make d (devices_by device p v) s) (sym session) (like_shows i make d device (devices_by device p v) (session_by i device p) (session_by i device p) same (record { words = λ w. refl; carriage = refl; framed = refl; awaited = refl }) h.shows));
+          ends = λ off. absurd (let clash : true ≡ false = sym is.goes_on ∙ off in cc);
+          others = subst (λ (t : Desk). LeavesOthers i d.registry t.registry device (devices_by device p v)) (sym new_is) (leaves_same i d.registry d.registry device device (devices_by device p v) same (leaves_all i d.registry device));
+          others_end = λ off. absurd (let clash : true ≡ false = sym is.goes_on ∙ off in cc);
+        };
+        greeted = ap (λ (t : Desk). t.session.greeted) new_is ∙ greeted;
+        says = λ rests.
+            subst (λ (s : Said). SpellsSaid (manner d 0) q v.told s) (sym said_is)
+            (subst (λ (x : Asked). SpellsSaid (manner d 0) x v.told (One (refused_control code.Inval odd.kind odd.value))) (sym odd.is) (Refused Inval, is.told (rests odd.option odd.asked odd.asked_is), (code.Inval, refl, refl)));
+      },
+    )
+
+-- ---- any request
+
+by_calls : (i : ℕ) (make : ℕ → Make) (users : List Entry) (names : List (List ℕ)) (job : Job) (d : Desk) (device : ℕ → Device) (p : Party) (listed : List ℕ) (q : Asked) (r : Request) (said : Said) (new : Desk) → IsSession i make users names job d device p → d.session.greeted ≡ true → word_of q ≡ 0 →
+    Calls i make users d device p listed q r → Answers users d q said new → IsRaw i make listed device p d q r said new
+by_calls i make users names job d device p listed q r said new h greeted word (inl call) g = raw_call i make users names job d device p listed q r said new h greeted word call g
+by_calls i make users names job d device p listed q r said new h greeted word (inr odd) g = raw_odd i make users names job d device p listed q r said new h greeted odd.0 odd.1 odd.2 g
+
+-- a session that was not greeted has INIT as its first request
+first_init : (i : ℕ) (make : ℕ → Make) (users : List Entry) (names : List (List ℕ)) (job : Job) (d : Desk) (device : ℕ → Device) (p : Party) (listed : List ℕ) (known : List Descriptor) (q : Asked) (said : Said) (new : Desk) → IsSession i make users names job d device p → d.session.awaited ≡ None →
+    IsRequest (errand_of job) 0 known q Init → Gives (first_of d q) said new → Answers users d q said new → IsRaw i make listed device p d q Init said new
+first_init i make users names job d device p listed known (requests.Init version user) said new h none is gives g = raw_init i make users names job d device p listed version user said new h none (subst (λ (v : ℕ). v / 16777216 ≡ 1) (sym is.0) refl) gives g
+first_init i make users names job d device p listed known (requests.ControlOption w o actions.GetValue kind value) said new h none is gives g = absurd is
+first_init i make users names job d device p listed known (requests.ControlOption w o actions.SetValue kind value) said new h none is gives g = absurd is
+first_init i make users names job d device p listed known q said new h none is gives g = absurd is
+
+by_greeted : (i : ℕ) (make : ℕ → Make) (users : List Entry) (names : List (List ℕ)) (job : Job) (d : Desk) (device : ℕ → Device) (p : Party) (listed : List ℕ) (known : List Descriptor) (q : Asked) (r : Request) (rest : List Request) (said : Said) (new : Desk) (b : Bool) → d.session.greeted ≡ b → IsSession i make users names job d device p → IsBegun d → p.todo ≡ r ∷ rest →
+    SetsAsHeld i (make p.base.job.wants) known (device p.base.job.wants) (r ∷ rest) → IsRequest (errand_of job) 0 known q r → Answers users d q said new → IsRaw i make listed device p d q r said new
+by_greeted i make users names job d device p listed known q r rest said new true e h begun todo as_held is g =
+    by_calls i make users names job d device p listed q r said new h e (word_is (errand_of job) known q r is) (is_call i make users names job d device p listed known q r rest h as_held is) g
+by_greeted i make users names job d device p listed known q r rest said new false e h (inl greeted) todo as_held is g = absurd (let clash : true ≡ false = sym greeted ∙ e in cc)
+by_greeted i make users names job d device p listed known q r rest said new false e h (inr none) todo as_held is g =
+    let first = subst (λ (b : Bool). IsGreeted b p.todo) e h.speaks.greeted in
+    let same : r ≡ Init = ap (λ (x : List Request). first_or r x) (sym todo ∙ first.1) in
+    subst (λ (x : Request). IsRaw i make listed device p d q x said new) (sym same)
+    (first_init i make users names job d device p listed known q said new h none (subst (IsRequest (errand_of job) 0 known q) same is) (subst (λ (b : Bool). AnswersBy b users d q said new) e g) g)
+  where
+    first_or : Request → List Request → Request
+    first_or r [] = r
+    first_or r (x ∷ xs) = x
+
+pub raw : (i : ℕ) (make : ℕ → Make) (users : List Entry) (names : List (List ℕ)) (job : Job) (d : Desk) (device : ℕ → Device) (p : Party) (listed : List ℕ) (known : List Descriptor) (q : Asked) (r : Request) (rest : List Request) (said : Said) (new : Desk) → IsSession i make users names job d device p → IsBegun d → p.todo ≡ r ∷ rest →
+    SetsAsHeld i (make p.base.job.wants) known (device p.base.job.wants) (r ∷ rest) → IsRequest (errand_of job) 0 known q r → Answers users d q said new → IsRaw i make listed device p d q r said new
+raw i make users names job d device p listed known q r rest said new h begun todo as_held is g = by_greeted i make users names job d device p listed known q r rest said new d.session.greeted refl h begun todo as_held is g
