@@ -1,9 +1,9 @@
 use page_picture::PageFault;
-use std::error::Error;
-use std::fmt;
+use thiserror::Error;
 
 /// Why a page that a config names is not there.
-#[derive(Clone, Copy, Debug, PartialEq, Eq)]
+#[derive(Clone, Copy, Debug, PartialEq, Eq, Error)]
+#[error("{text}", text = self.text())]
 pub enum NoPage {
     /// Its file cannot be opened or read.
     CannotRead,
@@ -31,16 +31,3 @@ impl NoPage {
         }
     }
 }
-
-impl fmt::Display for NoPage {
-    ghost use Rattle.std.specs.Prelude.{Some};
-    ghost use Rattle.config_pages.specs.Texts.{no_page_text};
-
-    ghost output = { λ why. Some (no_page_text why) };
-
-    fn fmt<W: fmt::Write>(&self, f: &mut fmt::Formatter<W>) -> fmt::Result {
-        f.write_str(self.text())
-    }
-}
-
-impl Error for NoPage {}
