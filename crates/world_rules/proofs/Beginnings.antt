@@ -38,6 +38,7 @@ use Rattle.world_rules.specs.Stands.{AreApart, AreSeated, IsBelow, IsFaithful, I
 use Rattle.world_rules.proofs.Seated.{none_seated}
 use Rattle.world_rules.specs.Beginning.{IsNewDaemon, IsSteady, NewWorldsStand, make_of, name_of, nothing_told, wires_of}
 use Rattle.world_rules.proofs.Faithful.{cancel_true}
+use Rattle.world_rules.proofs.Waiting.{waits_first}
 
 -- ---- lists
 
@@ -245,6 +246,7 @@ new_sits jobs other devices w i p d n at =
       means = new_means users names n.job p.client n.new.client;
       served = (refl, subst (λ (t : Table). ShowsTable i make [] t device) (sym d.registry) (new_table i devices));
       speaks = tt;
+      waits = waits_first p.client.progress [] (ap (λ (v : Talker). v.progress) n.new.client.value);
     })))
 
 unlinked : (jobs : List Job) (i : ℕ) (p : Post) (id : SessionId) → IsNewAt jobs i p → p.link ≡ Some id → ⊥

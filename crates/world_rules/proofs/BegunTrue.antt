@@ -126,7 +126,7 @@ coming_true (Read pass given) s h = left_true (feeds s) s.pages h
 tray_true : (s : DeviceState) → IsFaithful s → AllByRecursion IsSheet (tray_of s)
 tray_true s h = all_sheets (pages_to_come s.phase s) (coming_true s.phase s h)
 
-lease_there : (wants : ℕ) (o : Option (Lease DeviceState)) → Some wants ≡ option_map (λ (l : Lease DeviceState). l.place) o → (l : Lease DeviceState) × (o ≡ Some l) × (l.place ≡ wants)
+pub lease_there : (wants : ℕ) (o : Option (Lease DeviceState)) → Some wants ≡ option_map (λ (l : Lease DeviceState). l.place) o → (l : Lease DeviceState) × (o ≡ Some l) × (l.place ≡ wants)
 lease_there wants None e = absurd (let clash : Some wants ≡ None = e in cc)
 lease_there wants (Some l) e = (l, refl, sym (unsome wants l.place e))
 

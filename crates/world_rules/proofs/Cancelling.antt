@@ -54,6 +54,8 @@ use Rattle.world_rules.proofs.Minds.{runs_under, stopped_woken, stops_idle, stop
 use Rattle.world_rules.proofs.Seated.{reseats_same}
 use Rattle.world_rules.proofs.Spelling.{spell_behind}
 use Rattle.world_rules.proofs.Taking.{DecidesAt, done, leaves_core, one_change, one_party, put_self, same_served, sits_there}
+use Rattle.world_rules.proofs.Waiting.{waits_over}
+use Rattle.client_rules.specs.declared.progress.Progress.TheVariants as stages
 
 -- the post, which says farewell by these bytes
 abbrev given_up : List ℕ → Post → Post
@@ -198,6 +200,7 @@ given_up_stands t w i p out h at low runs c text =
         means = means_stopped (place_in t.names) (t.jobs i) (t.wires i) me p out talk.text s.means (λ served e. idle_unserved i _ me (wanted t.rules i) me.mind.stage (h.sound.talks i) e served) talk.spells;
         served = same_served i t.rules.make w.daemon p.link me.served t.rules.device u.rules.device (stops_by me) same s.served;
         speaks = let session = session_in (seat_by w.daemon p.link) in speaks_more (t.jobs i).device me (stops_by me) (farewell me.mind.stage) session session refl refl (same_as session) s.speaks;
+        waits = waits_over stages.Over (stops_by me).todo refl;
       });
       link = λ id e. inl e;
       reseats = reseats_same p.link w.daemon;

@@ -51,6 +51,9 @@ use Rattle.world_rules.proofs.Seated.{Reseats, reseats_opened, reseats_same}
 use Rattle.world_rules.proofs.Sees.{Leaves}
 use Rattle.world_rules.proofs.Taking.{DecidesAt, done, leaves_core, one_change, one_party, put_self, sits_there}
 use Rattle.world_rules.proofs.Unimaged.{both_or}
+use Rattle.world_rules.proofs.Unimaged.{waits_as}
+use Rattle.world_rules.proofs.Waiting.{waits_greeting, waits_lost}
+use Rattle.page_picture.specs.Shows.{Frame}
 
 -- ---- a job that is not connected yet
 
@@ -148,6 +151,9 @@ linked_stands t w i p id h at low idle closed number =
     let table = nothing_held t w i p h at idle in
     let asking : bytes.asking ≡ [] = sym s.carries.asking ∙ ap (λ (l : Option SessionId). input_in (seat_by w.daemon l)) idle.link in
     let party = one_party t i deeds.Connects bytes (t.past i) (t.pages i) in
+    let shown : List (List Frame) = map (λ (x : Past). x.ended) (t.pages i) in
+    let runs = under_runs place (errand_of (t.jobs i)) me.base.job shown (talk_of p.client (t.past i)) me.mind s.talks.reads (subst IsUnderWay (sym idle.stage) tt) in
+    let waiting = waits_as place (errand_of (t.jobs i)) me.base.job shown (talk_of p.client (t.past i)) (woken me.mind.stage me.mind) s.talks.reads runs in
     done events.Connect Connects t i _ steps u (low, idle.stage) (inl (refl, record { legal = (idle.stage, tt); then_is = refl }))
     (stands_change t u w i p q e h at (subst (λ (n : ℕ). i < n) h.is_of.count low) (record {
       told = one_change t i deeds.Connects bytes (t.past i) (t.pages i);
@@ -163,6 +169,7 @@ linked_stands t w i p id h at low idle closed number =
         speaks =
             subst (λ (x : Option (Seat DeviceState)). Speaks (t.jobs i).device (connected me) (session_in x)) (sym (fresh_there w.daemon id.number closed h.seats number))
             (record { greeted = ([], refl); awaits = idle.awaits });
+        waits = waits_greeting me.base.job p.client.progress p.client.notes (t.past i) (woken me.mind.stage me.mind) (connected me).todo waiting (ap (λ (x : Mind). x.stage) (woken_idle me.mind.stage me.mind idle.stage));
       });
       link = λ x is. let same_id : Some id ≡ Some x = is in let number_is : x.number ≡ w.daemon.opened = sym (ap number_of same_id) ∙ number in inr (omega (arith, number_is), omega (arith, number_is));
       reseats = subst (λ (x : Option SessionId). Reseats x (Some id) w.daemon e) (sym idle.link) (reseats_opened w.daemon id number);
@@ -242,6 +249,7 @@ shut_stands t w i p h at low idle =
         means = means_cut place (t.jobs i) (t.wires i) (connected me) WasStarved q (λ _. refl) (λ _. idle.over) refl refl;
         served = (refl, same_tables i t.rules.make [] w.daemon.registry t.rules.device u.rules.device same table);
         speaks = tt;
+        waits = waits_lost p.client now.todo s.talks.over;
       });
       link = λ x none. absurd (let clash : None ≡ Some x = none in cc);
       reseats = subst (λ (x : Option SessionId). Reseats x None w.daemon w.daemon) (sym idle.link) (reseats_same None w.daemon);

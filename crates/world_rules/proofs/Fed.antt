@@ -27,7 +27,7 @@ use Rattle.scan_world.specs.declared.post.Post.{Post}
 use Rattle.scan_world.specs.Worlds.{Scene}
 use Rattle.net_client.specs.Talker.{Talker}
 use Rattle.world_rules.specs.Told.{Told, Wires, place_in, wired_then}
-use Rattle.world_rules.specs.Speaks.{Speaks}
+use Rattle.world_rules.specs.Speaks.{Speaks, Waits}
 use Rattle.world_rules.specs.Spelled.{Flows, SpellsAsked, SpellsTold}
 use Rattle.world_rules.specs.Stands.{Carries, HasNoEnd, IsServed, Means, Sits, Stands, seat_by, session_by}
 use Rattle.world_rules.proofs.Changing.{IsChange, stands_change}
@@ -114,6 +114,7 @@ pub record FedSo (t : Told) (w : Scene) (i : ℕ) (p q : Post) (id : SessionId) 
   pub reseats : Reseats (Some id) (Some id) w.daemon e
   pub begun : AllByRecursion (λ (b : Begin). IsSheet b.page) ((after_all t.rules steps).party i).base.started
   pub speaks : Speaks (t.jobs i).device ((after_all t.rules steps).party i) (session_in (seat_of e.seats id.number))
+  pub waits : Waits p.client.progress ((after_all t.rules steps).party i).todo
   pub means : MeansSo (place_in t.names) (t.jobs i) (fed_wires up asking down (t.wires i)) (t.rules.party i) ((after_all t.rules steps).party i) p q
 
 carries_fed : (x : Wires) (up asking down out : List ℕ) (seat now : Option (Seat DeviceState)) (old new : Post) (served : Bool) → IsFedPost out served old new → out ≡ up → input_in now ≡ asking → replies_in now ≡ down → Carries x seat old → Carries (fed_wires up asking down x) now new
@@ -149,6 +150,7 @@ fed_stands t w i p q id e steps up asking down out h at low link f =
         served = subst (λ (x : Option SessionId). IsServed i u.rules.make e x now.served u.rules.device (session_by i u.rules.device now)) (sym q_link)
             (subst (λ (m : ℕ → Make). IsServed i m e (Some id) now.served u.rules.device (session_by i u.rules.device now)) (sym f.keeps.make) f.served);
         speaks = subst (λ (x : Option SessionId). Speaks (t.jobs i).device now (session_in (seat_by e x))) (sym q_link) f.speaks;
+        waits = subst (λ (v : Talker). Waits v.progress now.todo) (sym f.post.sent.client) f.waits;
       });
       link = λ x is. inl (link ∙ (sym q_link ∙ is));
       reseats = subst (λ (x : Option SessionId). Reseats p.link x w.daemon e) (sym q_link) (subst (λ (x : Option SessionId). Reseats x (Some id) w.daemon e) (sym link) f.reseats);

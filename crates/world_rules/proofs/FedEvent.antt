@@ -25,7 +25,7 @@ use Rattle.saned_core.specs.Feeding as daemon
 use Rattle.saned_core.specs.Feeding.{Feeds, FeedsIn, input_in}
 use Rattle.scan_job.specs.declared.job.Job.{Job}
 use Rattle.client_rules.specs.declared.progress.Progress.{Progress}
-use Rattle.client_rules.specs.Talks.{Talk, errand_of}
+use Rattle.client_rules.specs.Talks.{Talk, errand_of, is_running}
 use Rattle.net_client.specs.Talker.{Talker, talk_of}
 use Rattle.scan_rules.specs.Words.{Request, Status}
 use Rattle.scan_rules.specs.Words as words
@@ -67,6 +67,11 @@ use Rattle.world_rules.proofs.Sent.{IsSent}
 use Rattle.world_rules.proofs.Seated.{reseats_same}
 use Rattle.world_rules.proofs.Sees.{Leaves}
 use Rattle.world_rules.proofs.Taking.{DecidesAt, done, leaves_core}
+use Rattle.world_rules.specs.Speaks.{Waits}
+use Rattle.world_rules.proofs.Waiting.{waits_behind, waits_ended, way_or}
+use Rattle.client_rules.specs.declared.progress.Progress.TheVariants as stages
+use Rattle.scan_rules.proofs.Promised.{sound_after_all}
+use Rattle.world_rules.proofs.Minds.{runs_under}
 
 -- ---- a client that has something to send
 
@@ -231,6 +236,7 @@ goes_on t w i n p id session e desk rest text r can f =
       reseats = reseats_fed Standing desk rest text (Some id) w.daemon e id.number f.seats;
       begun = ran.desked.started;
       speaks = subst (λ (o : Option (DeskSession DeviceState)). Speaks (t.jobs i).device now o) (sym session_there) ran.desked.speaks;
+      waits = subst (Waits p.client.progress) (sym ran.todo) (waits_behind p.client.progress c.first c.others (subst (Waits p.client.progress) c.are sits.waits));
       means = record {
         mind = stay.own.mind;
         linked = stay.own.linked;
@@ -244,7 +250,7 @@ goes_on t w i n p id session e desk rest text r can f =
         down = λ under.
             let first : IsUnderWay me.mind.stage = subst (λ (m : Mind). IsUnderWay m.stage) stay.own.mind under in
             subst (SpellsTold (place_in t.names) p.client.progress now.due) (append_assoc x.telling x.down text)
-            (ran.told_are first (map (λ (y : Past). y.ended) (t.pages i)) (talk_of p.client (t.past i)) r.reads (x.telling ++ x.down) text (due_is t w i p id session r first) so.says);
+            (ran.told_are first (map (λ (y : Past). y.ended) (t.pages i)) (talk_of p.client (t.past i)) r.reads sits.waits (x.telling ++ x.down) text (due_is t w i p id session r first) so.says);
         flow = flow_kept me now p.client.progress p.client.phase x.image stay.own.mind stay.own.flight stay.own.ending r.may sits.means.flow;
         starved = λ met. sits.means.starved (stay.own.starved met);
       };
@@ -280,6 +286,8 @@ off_so t w i n p q id session e fed desk rest text down steps memory r f post c 
     let over = seat_over fed desk rest text id.number w.daemon.seats r.seat f.off h.seated.apart r.seat_is in
     let there : seat_of e.seats id.number ≡ seat_of (on_seat (daemon.seat_after fed desk rest text) id.number w.daemon.seats) id.number = ap (λ (ss : Seats). seat_of ss id.number) f.seats in
     let none : session_in (seat_of e.seats id.number) ≡ None = ap session_in there ∙ over.session in
+    let way : (p.client.progress ≡ stages.Over) ⊎ IsUnderWay now.mind.stage = way_or p.client.outcome p.client.progress now.mind.stage (is_running p.client.outcome) refl sits.talks.over
+    (λ runs. subst (λ (m : Mind). IsUnderWay m.stage) (sym c.keeps.mind) (runs_under (place_in t.names) (errand_of (t.jobs i)) me.base.job (map (λ (y : Past). y.ended) (t.pages i)) (talk_of p.client (t.past i)) me.mind sits.talks.reads runs)) in
     record {
       legal = c.legal;
       keeps = c.keeps;
@@ -292,6 +300,7 @@ off_so t w i n p q id session e fed desk rest text down steps memory r f post c 
       reseats = reseats_fed fed desk rest text (Some id) w.daemon e id.number f.seats;
       begun = c.started;
       speaks = subst (λ (o : Option (DeskSession DeviceState)). Speaks (t.jobs i).device now o) (sym none) tt;
+      waits = waits_ended i (make_for s i) now (wanted s i) p.client.progress me.todo ((sound_after_all t.rules steps h.sound c.legal).talks i) c.served way sits.waits;
       means = record {
         mind = c.keeps.mind;
         linked = c.keeps.linked;
@@ -334,7 +343,7 @@ goes_off t w i n p id session e desk rest text r can f g =
     let post : IsOverPost n false p q = record { sent = record { client = refl; task = refl; file = refl; pages = refl; finished = refl; was_connected = refl; is_starved = inl refl }; link = refl; image = refl; over = refl; starved = λ nay. absurd (let clash : false ≡ true = nay in cc); still = λ _. refl } in
     let u = wired_then t i a.steps (fed_wires up [] down x) in
     let silent : IsUnderWay (t.rules.party i).mind.stage → x.telling ++ down ≡ [] =
-    λ under. assoc_down x.telling x.down text (o.silent under (map (λ (y : Past). y.ended) (t.pages i)) (talk_of p.client (t.past i)) r.reads (x.telling ++ x.down) (due_is t w i p id session r under)) in
+    λ under. assoc_down x.telling x.down text (o.silent under (map (λ (y : Past). y.ended) (t.pages i)) (talk_of p.client (t.past i)) r.reads (r.stands.posts i p r.at).waits (x.telling ++ x.down) (due_is t w i p id session r under)) in
     let completes : Completes t i n a.asked a.rest = record { text = a.text; whole = a.whole; spelled = a.spelled; later = a.later; first = a.are } in
     done (events.ToDaemon n) (AnswersSome n) t i _ a.steps u can (by_steps t i n a.asked a.rest a.steps a.chances text completes a.count a.closed.legal a.closed.served a.steps_are)
     (fed_stands t w i p q id e a.steps up [] down (left n p.client.out) r.stands r.at r.low r.link (off_so t w i n p q id session e Over desk rest text down a.steps false r f post a.closed refl silent))
@@ -405,6 +414,7 @@ was_over t w i n p id e h at low link can off same =
       reseats = reseats_same (Some id) w.daemon;
       begun = h.begun i;
       speaks = subst (λ (o : Option SessionId). Speaks (t.jobs i).device me (session_in (seat_by w.daemon o))) link s.speaks;
+      waits = s.waits;
       means = record {
         mind = refl;
         linked = refl;

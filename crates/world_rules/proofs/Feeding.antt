@@ -44,6 +44,7 @@ use Rattle.world_rules.specs.Stands.{session_by}
 use Rattle.world_rules.proofs.Folding.{AnswersOne, Desked, IsReadAs, OneRequest, Ran, due_none, run_all, spells_none}
 use Rattle.world_rules.proofs.Answered.{stays}
 use Rattle.world_rules.proofs.Spelling.{spell_behind}
+use Rattle.world_rules.specs.Speaks.{Waits}
 
 -- ---- the piece
 
@@ -254,7 +255,7 @@ one_more t i d mid todo came rest behind left_over told q f k =
 
 -- to a client that is under way nothing was said
 abbrev pub IsSilent : Told → ℕ → List ℕ → Type 0
-IsSilent t i text = IsUnderWay (t.rules.party i).mind.stage → (pages : List (List Frame)) (talk : Talk) → IsReadAs t i t.rules pages talk → (front : List ℕ) → SpellsTold (place_in t.names) talk.progress (t.rules.party i).due front → front ++ text ≡ []
+IsSilent t i text = IsUnderWay (t.rules.party i).mind.stage → (pages : List (List Frame)) (talk : Talk) → IsReadAs t i t.rules pages talk → Waits talk.progress (t.rules.party i).todo → (front : List ℕ) → SpellsTold (place_in t.names) talk.progress (t.rules.party i).due front → front ++ text ≡ []
 
 none_said : (told : List Reply) (text : List ℕ) → told ≡ [] → daemon.SaysAll told text → text ≡ []
 none_said told text e h = subst (λ (x : List Reply). daemon.SaysAll x text) e h
@@ -264,14 +265,14 @@ last_silent t i s d new said told back a u (ends.Done off is) says = none_said t
 last_silent t i s d new said told back a u (ends.Cut before behind reply e unsaid is) says = none_said told back (is ∙ a.cut u before behind reply e unsaid) says
 
 over_silent : (t : Told) (i : ℕ) (d mid new : Desk) (todo : List Request) (came front back : List ℕ) (q : Asked) (said : Said) (last : List Reply) → OneRequest t i → (o : OneMore t i d mid todo came q) → Answers t.users mid q said new → daemon.EndsWith said last → daemon.SaysAll o.told front → daemon.SaysAll last back → IsSilent t i (front ++ back)
-over_silent t i d mid new todo came front back q said last one o g ended says_front says_back = λ u pages talk reads f spells.
+over_silent t i d mid new todo came front back q said last one o g ended says_front says_back = λ u pages talk reads waits f spells.
     let r = o.ran in
     let far = after_all t.rules (answers i r.chances) in
     let known = known_far t i d mid o.qs (o.next ∷ o.later) o.told r in
     let a = one far mid new q o.next o.later said r.desked r.todo (subst (λ (k : List Descriptor). IsRequest (errand_of (t.jobs i)) 0 k q o.next) (sym known) o.is) g in
     let under : IsUnderWay (far.party i).mind.stage = subst (λ (m : Mind). IsUnderWay m.stage) (sym (stays i t.rules r.chances).own.mind) u in
     let none = due_none t i far mid o.next o.later r.desked under r.todo in
-    let empty : f ++ front ≡ [] = spells_none t talk.progress (far.party i).due (f ++ front) none (r.told_are u pages talk reads f front spells says_front) in
+    let empty : f ++ front ≡ [] = spells_none t talk.progress (far.party i).due (f ++ front) none (r.told_are u pages talk reads waits f front spells says_front) in
     let last_empty : back ≡ [] = last_silent t i far mid new said last back a under ended says_back in
     sym (append_assoc f front back) ∙ (ap (λ (x : List ℕ). x ++ back) empty ∙ last_empty)
 

@@ -32,10 +32,11 @@ use Rattle.desk_rules.specs.Others.{LeavesOthers}
 use Rattle.desk_rules.proofs.Moved.{put_there}
 use Rattle.desk_rules.proofs.Others.{leaves_all, leaves_then}
 use Rattle.world_rules.specs.Told.{Told, place_in, rules_job}
-use Rattle.world_rules.specs.Speaks.{AsksAsHeld, SpeaksAs}
+use Rattle.world_rules.specs.Speaks.{AsksAsHeld, SpeaksAs, Waits}
 use Rattle.world_rules.specs.Spelled.{Comes, SpellsTold}
 use Rattle.world_rules.specs.Stands.{AreApart, IsFaithfulLease, IsFaithfulPlace, are_named, numbered, session_by, woken}
 use Rattle.world_rules.proofs.Answered.{stays}
+use Rattle.world_rules.proofs.Waiting.{waits_less}
 
 -- the desk is the session of job i's client by these rules
 pub record Desked (t : Told) (i : ℕ) (s : Standing) (d : Desk) : Type 0 where
@@ -73,7 +74,7 @@ pub record AnswersOne (t : Told) (i : ℕ) (s : Standing) (d : Desk) (said : Sai
   pub may : MayFail fault
   pub on : goes_on said ≡ true → Desked t i (after s (answers_to i challenge fault)) new
   pub others : goes_on said ≡ true → LeavesOthers i d.registry new.registry s.device (after s (answers_to i challenge fault)).device
-  pub replied : goes_on said ≡ true → IsUnderWay (s.party i).mind.stage → (pages : List (List Frame)) (talk : Talk) → IsReadAs t i s pages talk → Replied t i s (after s (answers_to i challenge fault)) talk.progress said
+  pub replied : goes_on said ≡ true → IsUnderWay (s.party i).mind.stage → (pages : List (List Frame)) (talk : Talk) → IsReadAs t i s pages talk → Waits talk.progress (s.party i).todo → Replied t i s (after s (answers_to i challenge fault)) talk.progress said
   pub cut : IsUnderWay (s.party i).mind.stage → (before behind : List Reply) (reply : Reply) → replies_to said ≡ before ++ reply ∷ behind → IsUnsaid reply → before ≡ []
   -- where it ends the session all is given back, and nothing is said
   pub over : goes_on said ≡ false → ((after s (answers_to i challenge fault)).party i).served ≡ false
@@ -138,7 +139,7 @@ pub record Ran (t : Told) (i : ℕ) (s : Standing) (d : Desk) (qs : List Asked) 
   pub desked : Desked t i (after_all s (answers i chances)) new
   pub others : LeavesOthers i d.registry new.registry s.device (after_all s (answers i chances)).device
   pub todo : ((after_all s (answers i chances)).party i).todo ≡ later
-  pub told_are : IsUnderWay (s.party i).mind.stage → (pages : List (List Frame)) (talk : Talk) → IsReadAs t i s pages talk → (front text : List ℕ) → SpellsTold (place_in t.names) talk.progress (s.party i).due front → SaysAll told text →
+  pub told_are : IsUnderWay (s.party i).mind.stage → (pages : List (List Frame)) (talk : Talk) → IsReadAs t i s pages talk → Waits talk.progress (s.party i).todo → (front text : List ℕ) → SpellsTold (place_in t.names) talk.progress (s.party i).due front → SaysAll told text →
       SpellsTold (place_in t.names) talk.progress ((after_all s (answers i chances)).party i).due (front ++ text)
 
 ran_none : (t : Told) (i : ℕ) (s : Standing) (d new : Desk) (later : List Request) (told : List Reply) → Desked t i s d → (s.party i).todo ≡ later → (told ≡ []) × (new ≡ d) → Ran t i s d [] later told new
@@ -150,7 +151,7 @@ ran_none t i s d new later told h e g =
       desked = subst (Desked t i s) (sym g.1) h;
       others = subst (λ (x : Desk). LeavesOthers i d.registry x.registry s.device s.device) (sym g.1) (leaves_all i d.registry s.device);
       todo = e;
-      told_are = λ u pages talk reads front text spells says.
+      told_are = λ u pages talk reads waits front text spells says.
           let none : text ≡ [] = subst (λ (x : List Reply). SaysAll x text) g.0 says in
           subst (SpellsTold (place_in t.names) talk.progress (s.party i).due) (sym (ap (λ (x : List ℕ). front ++ x) none ∙ append-nil front)) spells;
     }
@@ -174,9 +175,9 @@ ran_more t i s d mid new q qs r rest later said more h e on one ran =
       desked = ran.desked;
       others = leaves_then i d.registry mid.registry new.registry s.device next.device (after_all next (answers i ran.chances)).device (one.others on) ran.others;
       todo = ran.todo;
-      told_are = λ u pages talk reads front text spells says.
+      told_are = λ u pages talk reads waits front text spells says.
           let both = says_both (replies_to said) more text says in
-          let reply = one.replied on u pages talk reads in
+          let reply = one.replied on u pages talk reads waits in
           let none = due_none t i s d r rest h u e in
           let empty : front ≡ [] = spells_none t talk.progress (s.party i).due front none spells in
           let due : (next.party i).due ≡ reply.reply ∷ [] = reply.due ∙ ap (λ (x : List words.Reply). x ++ reply.reply ∷ []) none in
@@ -184,8 +185,9 @@ ran_more t i s d mid new q qs r rest later said more h e on one ran =
           subst (λ (x : List words.Reply). SpellsTold (place_in t.names) talk.progress x (front ++ both.front)) (sym due)
           (subst (λ (x : List ℕ). SpellsTold (place_in t.names) talk.progress (reply.reply ∷ []) (x ++ both.front)) (sym empty) (reply.comes both.front both.first)) in
           let under : IsUnderWay (next.party i).mind.stage = subst (λ (m : Mind). IsUnderWay m.stage) (sym own.mind) u in
+          let later_waits = subst (Waits talk.progress) (sym (todo_after i s one.challenge one.fault r rest e)) (waits_less talk.progress r rest (subst (Waits talk.progress) e waits)) in
           subst (SpellsTold (place_in t.names) talk.progress ((after_all next (answers i ran.chances)).party i).due) (append_assoc front both.front both.back ∙ ap (λ (x : List ℕ). front ++ x) (sym both.text_is))
-          (ran.told_are under pages talk (read_after t i s chance pages talk reads) (front ++ both.front) both.back first both.second);
+          (ran.told_are under pages talk (read_after t i s chance pages talk reads) later_waits (front ++ both.front) both.back first both.second);
     }
 
 known_after : (i : ℕ) (s : Standing) (chance : Chance) → ((after s (answers_to i chance.0 chance.1)).party i).mind.known ≡ (s.party i).mind.known

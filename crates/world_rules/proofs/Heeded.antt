@@ -39,6 +39,9 @@ use Rattle.world_rules.specs.Spelled.{Comes, HasFirstWord, Tells, TellsBehind}
 use Rattle.world_rules.proofs.Fronts.{Spells, more_left, none_garbled, not_garbled, one_reply, reply_of, reply_some}
 use Rattle.world_rules.proofs.Minds.{run_is}
 use Rattle.world_rules.proofs.HeardReply.{reply_over, reply_wants, reply_word}
+use Rattle.world_rules.proofs.Elsewhere.{reply_elsewhere}
+use Rattle.world_rules.specs.Speaks.{Waits}
+use Rattle.scan_rules.specs.Words as words
 
 -- ---- what came so far of the reply that is due
 
@@ -63,6 +66,7 @@ pub record IsTaken (place : DeviceInfo → ℕ) (errand : Errand) (job : rules.J
   pub last : Talk
   pub answer : Answer
   pub then_is : u ≡ after_reply errand last answer
+  pub says : sense_at place last.progress answer ≡ Says r
   pub past : last.past ≡ t.past
   pub word : t.notes.word ≡ 0 → u.notes.word ≡ 0
   pub holds : (h : Hearer) → t.notes.word ≡ 0 → HearingAll place errand job t told Holds h → Holds (learned job 0 h (hear_in h.mind.stage job h.mind r))
@@ -99,6 +103,7 @@ taken_by Holds place errand job t u a [] text sent rest left r says first nil h 
       last = t;
       answer = a;
       then_is = h.2;
+      says = says;
       past = refl;
       word = λ word. ap (λ (x : Talk). x.notes.word) h.2 ∙ reply_word errand t a first word;
       holds = λ n word hearing.
@@ -138,7 +143,7 @@ behind_word Holds place errand job outcome resource answer notes past u [] text 
     })
 behind_word Holds place errand job outcome resource answer notes past u (b ∷ rs) text front back sent rest left all r is word e c h =
     let k = tells_taken Holds place errand job (reopening notes past) u b rs back sent rest left all r c (append_assoc back rest left ∙ e) h in
-    inr (record { rest_is = k.rest_is; left_is = k.left_is; last = k.last; answer = k.answer; then_is = k.then_is; past = k.past; word = k.word; holds = k.holds })
+    inr (record { rest_is = k.rest_is; left_is = k.left_is; last = k.last; answer = k.answer; then_is = k.then_is; says = k.says; past = k.past; word = k.word; holds = k.holds })
 
 by_word : (Holds : Hearer → Type 0) (place : DeviceInfo → ℕ) (errand : Errand) (job : rules.Job) (outcome : Outcome) (resource answer : List ℕ) (notes : Notes) (past : Past) (u : Talk) (a : Answer) (rs : List Answer) (text sent rest left all : List ℕ) (r : Reply) → a ≡ replies.Authorize →
     (h : Hears errand (allowing outcome resource answer notes past) (a ∷ rs) text sent u) → h.1 ++ (rest ++ left) ≡ all → Tells place stages.Reopening r all →
@@ -215,6 +220,7 @@ pub record HearsIt (place : DeviceInfo → ℕ) (job : rules.Job) (pages : List 
   pub text : List ℕ
   pub spells : Spell old.errand text (asks_of 0 (mind_then job m r).known (sends job.task (mind_then job m r).stage))
   pub wants : is_imaging new.progress ≡ true → IsSome (wanted new.progress)
+  pub elsewhere : (todo : List words.Request) → Waits new.progress todo
   pub reaches : Reaches place job pages old past (mind_then job m r) text new
 
 -- memory was wanting
@@ -332,6 +338,7 @@ hears_it place job pages m old past piece left r new b h alike k =
       text = h.sent;
       spells = follows.spells;
       wants = taken_wants old.errand k.last (talk_of new h.past_then) k.answer k.then_is (subst IsBetween (sym k.past) b.between) fits;
+      elsewhere = λ todo. subst (λ (x : Talk). Waits x.progress todo) (sym k.then_is) (reply_elsewhere place old.errand k.last k.answer r todo k.says);
       reaches = record {
         past_then = h.past_then;
         ended = heard_ended old past piece new h;

@@ -1,6 +1,10 @@
 pub mod Lists
 pub mod Faithful
 pub mod Minds
+pub mod Lost
+pub mod Drained
+pub mod Waiting
+pub mod Elsewhere
 pub mod Spelling
 pub mod Seated
 pub mod Sees
@@ -9,7 +13,6 @@ pub mod Spoken
 pub mod Changing
 pub mod Taking
 pub mod Cancelling
-pub mod Lost
 pub mod Calling
 pub mod Losing
 pub mod Unimaged
@@ -40,6 +43,9 @@ pub mod Stepped
 pub mod Values
 pub mod Kinded
 pub mod Listing
+pub mod OneReply
+pub mod Valued
+pub mod Telling
 pub mod Within
 pub mod Cut
 pub mod Answered
@@ -53,6 +59,8 @@ pub mod FedEvent
 pub mod Silent
 pub mod Fitting
 pub mod Requested
+pub mod Offered
+pub mod OneAnswer
 pub mod Laying
 pub mod Loading
 pub mod Fronts
@@ -63,8 +71,9 @@ pub mod Stepping
 pub mod Dried
 pub mod Delivering
 pub mod Hearing
-pub mod Drained
 pub mod ReadOn
 pub mod SeenSteps
 pub mod SeenPiece
 pub mod Seeing
+pub mod Counted
+pub mod Followed

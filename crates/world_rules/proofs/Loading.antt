@@ -157,6 +157,7 @@ lays_leased t w name source steady sheet h d takes =
       steps = xs;
       then_told = u;
       happens = record {
+        either = inl (record { place = k; named = named_there t w name h d; listed = listed; at_rest = rest; room = room });
         does = λ _. record { place = k; named = named_there t w name h d; steps_are = refl; legal = legal; then_is = refl };
         cannot = λ never. absurd (never (record { place = k; named = named_there t w name h d; listed = listed; at_rest = rest; room = room }));
       };
@@ -179,6 +180,7 @@ lays_leased t w name source steady sheet h d takes =
                   (subst (λ (x : ℕ → Device). ShowsSession i t.rules.make e d.id.number x (session_by i x (t.rules.party i))) (sym is_device) own));
               speaks = subst (λ (o : Option SessionId). Speaks (t.jobs i).device (t.rules.party i) (session_in (seat_by e o))) (sym d.link)
                   (speaks_still (t.jobs i).device (t.rules.party i) (t.rules.party i) (session_in (seat_of w.daemon.seats d.id.number)) (session_in (seat_of e.seats d.id.number)) refl refl same (subst (λ (o : Option SessionId). Speaks (t.jobs i).device (t.rules.party i) (session_in (seat_by w.daemon o))) d.link s.speaks));
+              waits = s.waits;
             };
             link = λ x is. inl is;
             reseats = reseats_on g p.link w.daemon d.id.number;
@@ -205,7 +207,7 @@ lays_leased t w name source steady sheet h d takes =
 refused : (t : Told) (w : Scene) (name : List ℕ) (source : SourceState) → Stands t w → loaded w.daemon name source ≡ w.daemon → (CanLoad t name → ⊥) → Loaded t w name source
 refused t w name source h same never =
     subst (λ (c : Core). LeadsTo (CanLoad t name) (LaysIn t name source.page) t (record w { daemon = c })) (sym same)
-    (record { steps = []; then_told = t; happens = record { does = λ can. absurd (never can); cannot = λ _. (refl, refl) }; stands = h })
+    (record { steps = []; then_told = t; happens = record { either = inr never; does = λ can. absurd (never can); cannot = λ _. (refl, refl) }; stands = h })
 
 -- a place of that name is this one
 place_is : (t : Told) (w : Scene) (name : List ℕ) (j k : ℕ) → Stands t w → slice_get t.names j ≡ Some name → slice_get t.names k ≡ Some name → j ≡ k
@@ -414,6 +416,7 @@ lays_in t w name source steady sheet h free d takes =
       steps = xs;
       then_told = told;
       happens = record {
+        either = inl (record { place = k; named = named; listed = listed; at_rest = rest; room = room });
         does = λ _. record { place = k; named = named; steps_are = refl; legal = legal; then_is = refl };
         cannot = λ never. absurd (never (record { place = k; named = named; listed = listed; at_rest = rest; room = room }));
       };
@@ -437,6 +440,7 @@ lays_in t w name source steady sheet h free d takes =
               means = s.means;
               served = served_in j t.rules.make w.daemon post.link (t.rules.party j).served t.rules.device (t.rules.party j) name source d takes s.served;
               speaks = s.speaks;
+              waits = s.waits;
             };
         beyond = λ j high. let b = h.beyond j high in record { stage = b.stage; linked = b.linked; carriage = b.carriage; image = b.image; table = table_in j t.rules.make [] w.daemon.registry t.rules.device name source d takes b.table };
         own = h.own;

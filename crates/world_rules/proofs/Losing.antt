@@ -42,6 +42,7 @@ use Rattle.world_rules.proofs.Minds.{stops_idle, stops_over, under_runs}
 use Rattle.world_rules.proofs.Seated.{Reseats, reseats_ended}
 use Rattle.world_rules.proofs.Sees.{Leaves}
 use Rattle.world_rules.proofs.Taking.{DecidesAt, done, one_change, one_party, sits_there}
+use Rattle.world_rules.proofs.Waiting.{waits_lost}
 
 -- the job by the rules, for this cause
 abbrev pub loses_by : Cause → Party → Party
@@ -116,6 +117,7 @@ unlinked_stands t w i p id h at low link =
         means = means_cut (place_in t.names) (t.jobs i) (t.wires i) me LinkLost q (λ met. s.means.starved (not_linked LinkLost starved_else me.base.met met)) (λ e. (s.means.before e).1) refl refl;
         served = (refl, shows_ended i t.rules.make w.daemon id me.served t.rules.device me served);
         speaks = tt;
+        waits = waits_lost p.client after.todo s.talks.over;
       });
       link = λ x none. absurd (let clash : None ≡ Some x = none in cc);
       reseats = subst (λ (x : Option SessionId). Reseats x None w.daemon e) (sym link) (reseats_ended w.daemon id h.seated.apart);

@@ -109,7 +109,7 @@ start_of k settings (b ∷ begins) [] n frames h e = absurd h
 start_of k settings (b ∷ begins) (p ∷ pages) zero frames h e = record { begin = b; at = refl; picture = subst (λ (x : List Frame). IsPicture k settings b x) (unsome p frames e) h.0 }
 start_of k settings (b ∷ begins) (p ∷ pages) (suc n) frames h e = let more = start_of k settings begins pages n frames h.1 e in record { begin = more.begin; at = more.at; picture = more.picture }
 
-woken_pages : (st : Stage) (m : Mind) → (woken st m).pages ≡ m.pages
+pub woken_pages : (st : Stage) (m : Mind) → (woken st m).pages ≡ m.pages
 woken_pages rules.Idle m = refl
 woken_pages (rules.Running g) m = refl
 woken_pages rules.Done m = refl

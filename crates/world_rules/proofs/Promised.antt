@@ -14,7 +14,9 @@ use Rattle.scan_job.specs.declared.outcome.Outcome.TheVariants as outcomes
 use Rattle.scan_job.specs.declared.outcome.Why.{Why}
 use Rattle.scan_job.specs.declared.report.Reports.{Reports}
 use Rattle.sane_fixed.specs.declared.status.Status.{Status as Code}
-use Rattle.client_rules.specs.Talks.{errand_of, is_batch}
+use Rattle.option_desc.specs.declared.descriptor.Descriptor.{Descriptor}
+use Rattle.option_desc.specs.declared.value.Value.{Value}
+use Rattle.client_rules.specs.Talks.{errand_of, is_batch, shows}
 use Rattle.net_client.specs.Talker.{talk_of}
 use Rattle.scan_rules.specs.Words as words
 use Rattle.scan_rules.specs.Devices.{status_of}
@@ -23,13 +25,14 @@ use Rattle.scan_rules.specs.Client.{Idle, Mind, Stage}
 use Rattle.scan_rules.specs.InForce as ruled
 use Rattle.scan_rules.specs.Scanners.{Begin}
 use Rattle.scan_rules.specs.Settings.{pair_of}
+use Rattle.scan_rules.specs.Sound.{Sound}
 use Rattle.scan_rules.specs.Standing.{make_for}
 use Rattle.scan_rules.specs.Sync.{IsPicture}
 use Rattle.scan_rules.proofs.Meaning.{pictures_meant}
-use Rattle.scan_rules.proofs.Promised.{done_allowed, ends_caused, lists_right, scans_right, settings_answered}
+use Rattle.scan_rules.proofs.Promised.{done_allowed, ends_caused, lists_right, scans_right, settings_answered, shows_right}
 use Rattle.scan_rules.proofs.SameSettings.{settings_same}
 use Rattle.client_reading.specs.Lives.{EndAlike}
-use Rattle.client_reading.specs.Reading.{put_by, task_of, wholes, wish_of}
+use Rattle.client_reading.specs.Reading.{ShowsAs, descs, put_by, shown, task_of, wholes, wish_of}
 use Rattle.client_reading.proofs.Outcomes.{outcomes_alike}
 use Rattle.scan_world.specs.declared.post.Post.{Post}
 use Rattle.scan_world.specs.Deeds.{is_done}
@@ -37,7 +40,7 @@ use Rattle.scan_world.specs.Draining.{Keeps}
 use Rattle.scan_world.specs.Worlds.{Scene}
 use Rattle.world_rules.specs.Told.{Told, place_in}
 use Rattle.world_rules.specs.Stands.{IsFinished, KeepsFiles, Stands, is_laid, woken}
-use Rattle.world_rules.specs.Promises.{HasCause, IsMeant, IsOutcome, KeepsPromise, OutcomesAreRight, ScansAreMeant}
+use Rattle.world_rules.specs.Promises.{AreShown, HasCause, IsMeant, IsOutcome, KeepsPromise, OutcomesAreRight, ScansAreMeant}
 use Rattle.world_rules.proofs.Minds.{under_by, woken_under}
 
 -- ---- a mind that is over is the rules' own
@@ -61,7 +64,7 @@ end_alike : (t : Told) (w : Scene) (i : ℕ) (post : Post) → Stands t w → sl
 end_alike t w i post h at =
     outcomes_alike (place_in t.names) (errand_of (t.jobs i)) (t.rules.party i).base.job (map (λ (q : Past). q.ended) (t.pages i)) (talk_of post.client (t.past i)) (woken (t.rules.party i).mind.stage (t.rules.party i).mind) (h.posts i post at).talks.reads
 
-task_is : (t : Told) (w : Scene) (i : ℕ) (post : Post) → Stands t w → slice_get w.posts i ≡ Some post → (t.rules.party i).base.job.task ≡ task_of (t.jobs i).task
+pub task_is : (t : Told) (w : Scene) (i : ℕ) (post : Post) → Stands t w → slice_get w.posts i ≡ Some post → (t.rules.party i).base.job.task ≡ task_of (t.jobs i).task
 task_is t w i post h at = ap (λ (x : rules.Job). x.task) (h.posts i post at).job_is
 
 no_list : (task : Task) → task ≢ tasks.List → task_of task ≢ rules.List_
@@ -71,7 +74,19 @@ no_list tasks.SetOnly n = λ e. let clash : rules.SetOnly ≡ rules.List_ = e in
 no_list tasks.Scan n = λ e. let clash : rules.Scan ≡ rules.List_ = e in absurd (cc)
 no_list (tasks.Batch count) n = λ e. let clash : rules.Batch _ ≡ rules.List_ = e in absurd (cc)
 
-kept_promise : (t : Told) (w : Scene) (i : ℕ) (post : Post) (reports : Reports) → Stands t w → slice_get w.posts i ≡ Some post → post.client.outcome ≡ outcomes.Done reports → KeepsPromise t i reports
+-- what is shown is what the rules tell
+shows_as : (task : Task) (options : List (Descriptor × Option Value)) (m : Mind) → task ≡ tasks.Show → ShowsAs (shows task) options m → (m.known ≡ descs options) × (m.values ≡ shown options)
+shows_as task options m e h = subst (λ (x : Task). ShowsAs (shows x) options m) e h
+
+options_shown : (t : Told) (i : ℕ) (reports : Reports) → Sound t.rules → (t.rules.party i).mind.stage ≡ rules.Done → (t.rules.party i).base.job.task ≡ rules.Show → (t.jobs i).task ≡ tasks.Show → woken (t.rules.party i).mind.stage (t.rules.party i).mind ≡ (t.rules.party i).mind →
+    ShowsAs (shows (t.jobs i).task) reports.options (woken (t.rules.party i).mind.stage (t.rules.party i).mind) → AreShown t i reports.options
+options_shown t i reports sound stage ruled task same h =
+    let m = (t.rules.party i).mind in
+    let told = shows_as (t.jobs i).task reports.options m task (subst (λ (x : Mind). ShowsAs (shows (t.jobs i).task) reports.options x) same h) in
+    let right = shows_right t.rules i sound stage ruled in
+    record { in_force = right.0; settled = right.1; descriptors = sym told.0 ∙ right.2; values = sym told.1 ∙ right.3 }
+
+pub kept_promise : (t : Told) (w : Scene) (i : ℕ) (post : Post) (reports : Reports) → Stands t w → slice_get w.posts i ≡ Some post → post.client.outcome ≡ outcomes.Done reports → KeepsPromise t i reports
 kept_promise t w i post reports h at e =
     let me = t.rules.party i in
     let d = (end_alike t w i post h at).done reports e in
@@ -82,6 +97,7 @@ kept_promise t w i post reports h at e =
       stage = stage;
       settings = λ n. record { reports = me.mind.reports; are = ap (λ (m : Mind). map put_by m.reports) (sym same) ∙ d.settings; answered = settings_answered t.rules i h.sound stage (λ l. no_list (t.jobs i).task n (sym task ∙ l)) };
       permitted = λ n. done_allowed t.rules i h.sound stage (λ l. no_list (t.jobs i).task n (sym task ∙ l));
+      options = λ l. options_shown t i reports h.sound stage (task ∙ ap task_of l) l same d.options;
       devices = λ l. lists_right t.rules i h.sound stage (task ∙ ap task_of l) ∙ ap (λ (x : List ℕ). Some x) (ap (λ (m : Mind). m.devices) (sym same) ∙ d.devices);
     }
 

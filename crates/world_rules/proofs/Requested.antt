@@ -30,7 +30,7 @@ use Rattle.desk_rules.specs.Reading.{Shows}
 use Rattle.desk_rules.specs.Others.{LeavesOthers}
 use Rattle.desk_rules.proofs.Moved.{put_there}
 use Rattle.world_rules.specs.Told.{Told, rules_job}
-use Rattle.world_rules.specs.Speaks.{SetsAsHeld, SpeaksAs}
+use Rattle.world_rules.specs.Speaks.{SetsAsHeld, SpeaksAs, Waits}
 use Rattle.world_rules.specs.Stands.{AreApart, IsFaithfulLease, IsFaithfulPlace, are_named, numbered, session_by}
 use Rattle.world_rules.proofs.Asked.{IsSession, free_elsewhere}
 use Rattle.world_rules.proofs.Folding.{AnswersOne, Desked, IsReadAs, OneRequest, Replied, answers_to, legal_answer}
@@ -51,14 +51,14 @@ pub record KeepsTrue (d new : Desk) (v : Served) : Type 0 where
 abbrev pub served_now : ℕ → Standing → Request → Challenge → Option Fault → Served
 served_now i s r challenge fault = serving i s.make (listed s) s.device (s.party i) r challenge fault
 
-party_is : (i : ℕ) (s : Standing) (r : Request) (rest : List Request) (challenge : Challenge) (fault : Option Fault) → (s.party i).todo ≡ r ∷ rest → (after s (answers_to i challenge fault)).party i ≡ answered (s.party i) (served_now i s r challenge fault)
+pub party_is : (i : ℕ) (s : Standing) (r : Request) (rest : List Request) (challenge : Challenge) (fault : Option Fault) → (s.party i).todo ≡ r ∷ rest → (after s (answers_to i challenge fault)).party i ≡ answered (s.party i) (served_now i s r challenge fault)
 party_is i s r rest challenge fault e =
     put_there s.party i (answer_next i (make_for s i) (listed s) (s.party i) (wanted s i) challenge fault (s.party i).todo) ∙ ap (λ (qs : List Request). answer_next i (make_for s i) (listed s) (s.party i) (wanted s i) challenge fault qs) e
 
 device_is : (i : ℕ) (s : Standing) (r : Request) (rest : List Request) (challenge : Challenge) (fault : Option Fault) → (s.party i).todo ≡ r ∷ rest → (after s (answers_to i challenge fault)).device ≡ devices_by s.device (s.party i) (served_now i s r challenge fault)
 device_is i s r rest challenge fault e = ap (λ (qs : List Request). put s.device (wants s i) (next_device i (make_for s i) (listed s) (s.party i) (wanted s i) challenge fault qs)) e
 
-own_init : (errand : Errand) (known : List Descriptor) (q : Asked) (r : Request) → IsRequest errand 0 known q r → IsOwnInit q
+pub own_init : (errand : Errand) (known : List Descriptor) (q : Asked) (r : Request) → IsRequest errand 0 known q r → IsOwnInit q
 own_init errand known (requests.Init version user) words.Init is = is.0
 own_init errand known (requests.Init version user) words.GetDevices is = absurd is
 own_init errand known (requests.Init version user) words.Open is = absurd is
@@ -88,7 +88,7 @@ sheets_more (x ∷ xs) ys a b = (a.0, sheets_more xs ys a.1 b)
 -- what is still to be shown of an answer: what it leaves true, and what is said to a client that is under way
 pub record Rest (t : Told) (i : ℕ) (s : Standing) (d : Desk) (q : Asked) (r : Request) (said : Said) (new : Desk) (challenge : Challenge) (fault : Option Fault) : Type 0 where
   pub keeps : KeepsTrue d new (served_now i s r challenge fault)
-  pub replied : goes_on said ≡ true → IsUnderWay (s.party i).mind.stage → (pages : List (List Frame)) (talk : Talk) → IsReadAs t i s pages talk → Replied t i s (after s (answers_to i challenge fault)) talk.progress said
+  pub replied : goes_on said ≡ true → IsUnderWay (s.party i).mind.stage → (pages : List (List Frame)) (talk : Talk) → IsReadAs t i s pages talk → Waits talk.progress (s.party i).todo → Replied t i s (after s (answers_to i challenge fault)) talk.progress said
   pub cut : IsUnderWay (s.party i).mind.stage → (before behind : List Wire) (reply : Wire) → replies_to said ≡ before ++ reply ∷ behind → IsUnsaid reply → before ≡ []
 
 pub one_by : (t : Told) (i : ℕ) (s : Standing) (d new : Desk) (q : Asked) (r : Request) (rest : List Request) (said : Said) (challenge : Challenge) (fault : Option Fault) → Desked t i s d → (s.party i).todo ≡ r ∷ rest → IsRequest (errand_of (t.jobs i)) 0 (s.party i).mind.known q r → Answers t.users d q said new →

@@ -35,7 +35,7 @@ use Rattle.scan_rules.specs.Sound as sound
 use Rattle.scan_rules.specs.Standing.{Party, make_for, wanted}
 use Rattle.scan_rules.specs.Steps.{IsImaging, IsUnderWay}
 use Rattle.scan_rules.proofs.Promised.{sound_after_all}
-use Rattle.world_rules.specs.Speaks.{Speaks}
+use Rattle.world_rules.specs.Speaks.{Speaks, Waits}
 use Rattle.world_rules.proofs.Held.{held_after_all}
 use Rattle.world_rules.proofs.Spoken.{same_as, speaks_more}
 use Rattle.client_reading.specs.Reading.{Reads, WaitsAs, task_of}
@@ -67,6 +67,8 @@ use Rattle.world_rules.proofs.SeenSteps.{MayAll, after_each, change_all, device_
 use Rattle.world_rules.proofs.Spelling.{spell_behind}
 use Rattle.world_rules.proofs.Taking.{DecidesAt, done, leaves_core, same_served, sits_there}
 use Rattle.world_rules.proofs.Unimaged.{both_or, flows_imaging, imaging_woken, none_some, waits_as, waits_imaging}
+use Rattle.world_rules.proofs.Elsewhere.{received_unopened}
+use Rattle.world_rules.proofs.Waiting.{waits_turned}
 
 -- ---- the post
 
@@ -158,6 +160,7 @@ pub record IsSeen (t : Told) (i : ℕ) (p : Post) (n : ℕ) (image : Image) (r :
   pub then_is : IsThen (t.rules.party i) now (open_still (t.rules.party i).base.ending (left n image.bytes)) asks
   pub flow : Flows now.mind.stage now.base.carriage r.client.progress r.client.phase (open_still (t.rules.party i).base.ending (left n image.bytes)) now.base.flight now.base.ending
   pub down : IsUnderWay now.mind.stage → SpellsTold (place_in t.names) r.client.progress (t.rules.party i).due ((t.wires i).telling ++ (t.wires i).down)
+  pub waits : Waits r.client.progress now.todo
   pub sees : (u : Told) → u.rules.party i ≡ now → u ≡ told_then t i (by_all i come) (seen n image.bytes sent (t.rules.party i).base.ending (t.wires i)) past pages → (t.wires i).image ≡ Some image.bytes → Sees n t i (by_all i come) u
 
 carries_seen : (t : Told) (i : ℕ) (p : Post) (n : ℕ) (image : Image) (r : Post) (core : Core) → p.image ≡ Some image → image.is_last ≡ is_some (t.rules.party i).base.ending → (s : IsSeen t i p n image r) → Carries (t.wires i) (seat_by core p.link) p → Carries (seen n image.bytes s.sent (t.rules.party i).base.ending (t.wires i)) (seat_by core r.link) (closed r)
@@ -274,6 +277,7 @@ over_seen t w i p n image h at has never =
       };
       flow = flows_over me.mind.stage me.base.carriage p.client.progress p.client.phase (open_still me.base.ending (left n image.bytes)) me.base.flight me.base.ending never;
       down = λ u. absurd (never u);
+      waits = s.waits;
       sees = λ u is then_is at_image. record {
         text = image.bytes;
         image_is = at_image;
@@ -366,9 +370,9 @@ last_place : (b : Bool) (pages then_ : List Past) → length pages < 16 → (b �
 last_place true pages then_ few same = inl (subst (λ (x : List Past). length x < 16) (sym (same refl)) few)
 last_place false pages then_ few same = inr refl
 
-under_seen : (t : Told) (w : Scene) (i : ℕ) (p : Post) (n : ℕ) (image : Image) (mid : Talker) (after : Post) → Stands t w → slice_get w.posts i ≡ Some p → i < t.count → p.image ≡ Some image → (h : IsReader t i p image.bytes) → (m : IsMid t i p (moved n image.bytes) (left n image.bytes) (handed n image p) mid) →
+under_seen : (t : Told) (w : Scene) (i : ℕ) (p : Post) (n : ℕ) (image : Image) (mid : Talker) (after : Post) → Stands t w → slice_get w.posts i ≡ Some p → i < t.count → p.image ≡ Some image → (h : IsReader t i p image.bytes) → (m : IsMid t i p (moved n image.bytes) (left n image.bytes) (handed n image p) mid) → (mid.progress ≡ stages.Reopening → ⊥) →
     Drains (record (handed n image p) { client = mid }) after → IsSeen t i p n image (finished after)
-under_seen t w i p n image mid after st at low has h m drains =
+under_seen t w i p n image mid after st at low has h m unopened drains =
     let s = st.posts i p at in
     let me = t.rules.party i in
     let place = place_in t.names in
@@ -429,6 +433,7 @@ under_seen t w i p n image mid after st at low has h m drains =
           (subst (λ (x : Phase). Flows m.now.mind.stage m.now.base.carriage after.client.progress x (open_still me.base.ending (left n image.bytes)) m.now.base.flight m.now.base.ending) (sym d.phase)
           (subst (λ (x : Progress). Flows m.now.mind.stage m.now.base.carriage x mid.phase (open_still me.base.ending (left n image.bytes)) m.now.base.flight m.now.base.ending) (sym d.progress) m.flow));
       down = λ u. told_nothing place p.client.progress r.client.progress me.due ((t.wires i).telling ++ (t.wires i).down) still.due (s.means.down (subst IsUnderWay (sym h.stage) tt));
+      waits = subst (λ (v : Talker). Waits v.progress m.now.todo) (sym same) (subst (λ (x : Progress). Waits x m.now.todo) (sym d.progress) (waits_turned mid.outcome mid.progress m.now.todo m.told.over unopened));
       sees = λ u is then_is at_image. record {
         text = image.bytes;
         image_is = at_image;
@@ -484,6 +489,7 @@ seen_stands t w i p n image r h at low has some positive s =
             (subst (λ (x : Option SessionId). IsServed i t.rules.make w.daemon x me.served u.rules.device (session_by i u.rules.device me)) (sym link) (same_served i t.rules.make w.daemon p.link me.served t.rules.device u.rules.device me same sits.served))));
         speaks = subst (λ (x : Option SessionId). Speaks (t.jobs i).device s.now (session_in (seat_by w.daemon x))) (sym link)
             (speaks_more (t.jobs i).device me s.now s.asks (session_in (seat_by w.daemon p.link)) (session_in (seat_by w.daemon p.link)) c.todo c.awaited (same_as (session_in (seat_by w.daemon p.link))) sits.speaks);
+        waits = s.waits;
       });
       link = λ id e. inl (sym link ∙ e);
       reseats = subst (λ (x : Option SessionId). Reseats p.link x w.daemon w.daemon) (sym link) (reseats_same p.link w.daemon);
@@ -502,8 +508,10 @@ seen_by t w i p n image r h at low has (inl runs) d =
     let s = h.posts i p at in
     let reader = is_reader t w i p image h at low has runs in
     let task : (t.rules.party i).base.job.task ≡ task_of (t.jobs i).task = ap (λ (x : rules.Job). x.task) s.job_is in
-    let mid = received_mid t i p n image d.mid (h.is_of.counts i low) task reader (d.receives reader.receiving (t.past i) s.talks.serves) in
-    subst (λ (x : Post). IsSeen t i p n image x) (sym (d.finishes runs)) (under_seen t w i p n image d.mid d.after h at low has reader mid (d.drains runs))
+    let came = d.receives reader.receiving (t.past i) s.talks.serves in
+    let mid = received_mid t i p n image d.mid (h.is_of.counts i low) task reader came in
+    let unopened = received_unopened p.client (t.past i) (moved n image.bytes) d.mid reader.receiving came in
+    subst (λ (x : Post). IsSeen t i p n image x) (sym (d.finishes runs)) (under_seen t w i p n image d.mid d.after h at low has reader mid unopened (d.drains runs))
 
 bytes_or : (xs : List ℕ) → (xs ≢ []) ⊎ ((xs ≢ []) → ⊥)
 bytes_or [] = inr (λ n. n refl)

@@ -73,7 +73,7 @@ fixed_fits : (text : List ℕ) (w : ℤ) → fixed_of text ≡ Some w → FitsSi
 unfolding fixed_of
 fixed_fits text w e = fixed_by (sign_at text).0 (whole_at (sign_at text).1) w e
 
-word_in_fits : (kind : Kind) (text : List ℕ) (w : ℤ) → word_in kind text ≡ Some w → FitsSigned w32 w
+pub word_in_fits : (kind : Kind) (text : List ℕ) (w : ℤ) → word_in kind text ≡ Some w → FitsSigned w32 w
 word_in_fits kinds.Int text w e = integer_fits text w e
 word_in_fits kinds.Fixed text w e = fixed_fits text w e
 word_in_fits kinds.Bool text w e = absurd (let clash : None ≡ Some w = e in cc)
@@ -235,7 +235,7 @@ set_none : (setup : Setup) (o : Option ScanOption) (asked : Value) → ((p : Sca
 set_none setup None asked h = refl
 set_none setup (Some o) asked h = ap (put_answer setup o asked) (h o refl)
 
-passing_is : (test : ScanOption → Bool) (o : Option ScanOption) (p : ScanOption) → passing test o ≡ Some p → o ≡ Some p
+pub passing_is : (test : ScanOption → Bool) (o : Option ScanOption) (p : ScanOption) → passing test o ≡ Some p → o ≡ Some p
 passing_is test None p e = absurd (let clash : None ≡ Some p = e in cc)
 passing_is test (Some q) p e = by_test (test q) e
   where
@@ -243,7 +243,7 @@ passing_is test (Some q) p e = by_test (test q) e
     by_test true h = h
     by_test false h = absurd (let clash : None ≡ Some p = h in cc)
 
-at_number : (setup : Setup) (n : ℕ) (o p : ScanOption) → slice_get (options_of setup.scene.kind) n ≡ Some o → option_at setup.scene.kind n ≡ Some p → p ≡ o
+pub at_number : (setup : Setup) (n : ℕ) (o p : ScanOption) → slice_get (options_of setup.scene.kind) n ≡ Some o → option_at setup.scene.kind n ≡ Some p → p ≡ o
 unfolding option_at
 at_number setup n o p e f = unsome p o (sym f ∙ e)
 

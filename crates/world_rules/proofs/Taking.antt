@@ -142,11 +142,11 @@ nobody_can t w i events.Cancel h high can = omega (arith, high, can.0)
 
 pub not_done : (deed : Event) (Does : Told → ℕ → List Step → Told → Type 0) (t : Told) (i : ℕ) (w v : Scene) → Stands t w → v ≡ w → (Can t i deed → ⊥) → Leads deed Does t i v
 not_done deed Does t i w v h same never =
-    record { steps = []; then_told = t; happens = record { does = λ can. absurd (never can); cannot = λ n. (refl, refl) }; stands = subst (λ (x : Scene). Stands t x) (sym same) h }
+    record { steps = []; then_told = t; happens = record { either = inr never; does = λ can. absurd (never can); cannot = λ n. (refl, refl) }; stands = subst (λ (x : Scene). Stands t x) (sym same) h }
 
 pub done : (deed : Event) (Does : Told → ℕ → List Step → Told → Type 0) (t : Told) (i : ℕ) (v : Scene) (steps : List Step) (u : Told) → Can t i deed → Does t i steps u → Stands u v → Leads deed Does t i v
 done deed Does t i v steps u can does stands =
-    record { steps = steps; then_told = u; happens = record { does = λ _. does; cannot = λ n. absurd (n can) }; stands = stands }
+    record { steps = steps; then_told = u; happens = record { either = inl can; does = λ _. does; cannot = λ n. absurd (n can) }; stands = stands }
 
 -- what there is to show of a job that is there: it is done, or it cannot be
 pub record Decides (deed : Event) (Does : Told → ℕ → List Step → Told → Type 0) (t : Told) (w : Scene) (i : ℕ) (p : Post) : Type 0 where

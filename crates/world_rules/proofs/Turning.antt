@@ -247,6 +247,7 @@ turned_stands t w i p id im mid step buf h at low link image served started some
             subst (λ (x : Option SessionId). Speaks (t.jobs i).device after (session_in (seat_by mid x))) (sym link)
             (speaks_still (t.jobs i).device me after (session_in (seat_by w.daemon (Some id))) (session_in (seat_by mid (Some id))) refl refl turned.same
             (subst (λ (x : Option SessionId). Speaks (t.jobs i).device me (session_in (seat_by w.daemon x))) link s.speaks));
+        waits = s.waits;
       });
       link = λ x is. inl is;
       reseats = turned.reseats p.link;

@@ -123,6 +123,7 @@ out_stands t w name h d =
       steps = steps;
       then_told = record t { rules = after_all t.rules steps };
       happens = record {
+        either = inl (record { place = d.place; named = named; listed = seen.0; free = seen.1 });
         does = λ _. record { place = d.place; named = named; steps_are = refl; legal = legal; then_is = refl };
         cannot = λ never. absurd (never (record { place = d.place; named = named; listed = seen.0; free = seen.1 }));
       };
@@ -146,6 +147,7 @@ out_stands t w name h d =
               means = s.means;
               served = served_out j t.rules.make w.daemon post.link (t.rules.party j).served t.rules.device (t.rules.party j) name d apart s.served;
               speaks = s.speaks;
+              waits = s.waits;
             };
         beyond = λ j high. let b = h.beyond j high in record { stage = b.stage; linked = b.linked; carriage = b.carriage; image = b.image; table = table_out j t.rules.make [] w.daemon.registry t.rules.device name d b.table };
         own = h.own;
@@ -190,7 +192,11 @@ refused t w name h same never =
     (record {
       steps = [];
       then_told = t;
-      happens = record { does = λ can. absurd (never (place_in t w name can (slice_get w.daemon.registry can.place) h refl ((h.beyond (length w.posts) (omega arith)).table.places can.place))); cannot = λ _. (refl, refl) };
+      happens = record {
+        either = inr (λ can. never (place_in t w name can (slice_get w.daemon.registry can.place) h refl ((h.beyond (length w.posts) (omega arith)).table.places can.place)));
+        does = λ can. absurd (never (place_in t w name can (slice_get w.daemon.registry can.place) h refl ((h.beyond (length w.posts) (omega arith)).table.places can.place)));
+        cannot = λ _. (refl, refl);
+      };
       stands = h;
     })
 

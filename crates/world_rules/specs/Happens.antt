@@ -104,6 +104,7 @@ pub record GivesUp (t : Told) (i : ℕ) (steps : List Step) (u : Told) : Type 0 
 
 -- it can happen and does that, or it changes nothing
 pub record Happens (May Done : Type 0) (t : Told) (steps : List Step) (u : Told) : Type 0 where
+  pub either : May ⊎ (May → ⊥)
   pub does : May → Done
   pub cannot : (May → ⊥) → (steps ≡ []) × (u ≡ t)
 

@@ -8,3 +8,4 @@ pub mod Delivered
 pub mod Seen
 pub mod Beginning
 pub mod Promises
+pub mod Histories

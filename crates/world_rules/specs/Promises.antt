@@ -1,9 +1,11 @@
 -- What is promised of a job's outcome and of its file, of whatever a world stands for.
-use Rattle.std.specs.Prelude.{◌<◌, ℕ, ◌≡◌, ◌≢◌, Some, option_map, List, ◌∷◌, map, slice_get}
+use Rattle.std.specs.Prelude.{◌<◌, ℕ, ◌≡◌, ◌≢◌, ◌⊎◌, Option, Some, option_map, List, ◌∷◌, map, slice_get}
 use Rattle.sane_fixed.specs.declared.status.Status.{Status as Code}
 use Rattle.netpbm.specs.Picture.{Picture}
 use Rattle.netpbm.specs.Pnm.{Denotes}
 use Rattle.page_picture.specs.Meaning.{meaning_of}
+use Rattle.option_desc.specs.declared.descriptor.Descriptor.{Descriptor}
+use Rattle.option_desc.specs.declared.value.Value.{Value}
 use Rattle.device_api.specs.InForce as devices
 use Rattle.device_api.specs.declared.device_info.DeviceInfo.{DeviceInfo}
 use Rattle.scan_job.specs.declared.job.Task.TheVariants as tasks
@@ -13,16 +15,17 @@ use Rattle.scan_job.specs.declared.outcome.Why.{Why}
 use Rattle.scan_job.specs.declared.report.Report.{Report}
 use Rattle.scan_job.specs.declared.report.Reports.{Reports}
 use Rattle.scan_rules.specs.Words as words
-use Rattle.scan_rules.specs.Devices.{Make, status_of}
+use Rattle.scan_rules.specs.Causes.{Met, TrayRanOut}
+use Rattle.scan_rules.specs.Devices.{Make, Options, descriptors_of, readable, status_of}
 use Rattle.scan_rules.specs.Client as rules
-use Rattle.scan_rules.specs.InForce.{AreAnswered}
+use Rattle.scan_rules.specs.InForce.{AreAnswered, values_of}
 use Rattle.scan_rules.specs.Scanners.{Begin}
 use Rattle.scan_rules.specs.Standing.{make_for}
 use Rattle.scan_rules.specs.Steps.{IsUnderWay}
 use Rattle.scan_rules.specs.Sound.{IsCaused}
-use Rattle.scan_rules.specs.Sync.{IsPermitted}
+use Rattle.scan_rules.specs.Sync.{IsPermitted, IsSettled}
 use Rattle.client_reading.specs.Senses.{why_of}
-use Rattle.client_reading.specs.Reading.{put_by, put_of}
+use Rattle.client_reading.specs.Reading.{descs, put_by, put_of, shown}
 use Rattle.scan_world.specs.declared.post.Post.{Post}
 use Rattle.scan_world.specs.Worlds.{Scene}
 use Rattle.world_rules.specs.Told.{Told, party, place_in}
@@ -40,11 +43,19 @@ pub record AreReported (t : Told) (i : ℕ) (settings : List Report) : Type 0 wh
 abbrev pub AreListed : Told → ℕ → List DeviceInfo → Type 0
 AreListed t i infos = (party t i).base.shown ≡ Some (map (place_in t.names) infos)
 
--- a job that is done kept its promise: on its settings and on permission, or on the list
+-- the descriptors and the values of the options in force, as the job's settings made them
+pub record AreShown (t : Told) (i : ℕ) (options : List (Descriptor × Option Value)) : Type 0 where
+  pub in_force : Options
+  pub settled : IsSettled (make_for t.rules i) (party t i).base.job (party t i).base.sent (party t i).mind.reports in_force
+  pub descriptors : descs options ≡ descriptors_of (make_for t.rules i) in_force
+  pub values : shown options ≡ values_of (make_for t.rules i) in_force (readable (descriptors_of (make_for t.rules i) in_force))
+
+-- a job that is done kept its promise: on its settings and on permission, on the options that it shows, or on the list
 pub record KeepsPromise (t : Told) (i : ℕ) (reports : Reports) : Type 0 where
   pub stage : (party t i).mind.stage ≡ rules.Done
   pub settings : (t.jobs i).task ≢ tasks.List → AreReported t i reports.settings
   pub permitted : (t.jobs i).task ≢ tasks.List → IsPermitted (party t i).base.job (party t i).base.sent
+  pub options : (t.jobs i).task ≡ tasks.Show → AreShown t i reports.options
   pub devices : (t.jobs i).task ≡ tasks.List → AreListed t i reports.devices
 
 -- another ending has its cause
@@ -88,3 +99,13 @@ pub record HasScannedPage (t : Told) (i k : ℕ) (file : List ℕ) : Type 0 wher
 abbrev pub PagesAreMeant : Type 0
 PagesAreMeant =
     (t : Told) (w : Scene) (i k : ℕ) (post : Post) (file : List ℕ) → Stands t w → slice_get w.posts i ≡ Some post → k < post.finished → slice_get post.pages k ≡ Some (Some file) → HasScannedPage t i k file
+
+-- ---- a batch
+
+-- it has finished as many pages as it wanted, or fewer and at least one, and the tray of its device ran out
+abbrev pub IsCounted : Told → ℕ → ℕ → Post → Type 0
+IsCounted t i count post = (post.finished ≡ count) ⊎ ((0 < post.finished) × (post.finished < count) × Met TrayRanOut (party t i).base.met)
+
+abbrev pub BatchesAreCounted : Type 0
+BatchesAreCounted =
+    (t : Told) (w : Scene) (i count : ℕ) (post : Post) (reports : Reports) → Stands t w → i < t.count → slice_get w.posts i ≡ Some post → (t.jobs i).task ≡ tasks.Batch count → post.client.outcome ≡ Done reports → IsCounted t i count post

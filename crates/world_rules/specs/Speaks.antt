@@ -4,6 +4,8 @@ use Rattle.option_desc.specs.declared.descriptor.Descriptor.{Descriptor}
 use Rattle.device_api.specs.State.{DeviceState}
 use Rattle.saned_desk.specs.declared.session.Awaited.{Awaited}
 use Rattle.saned_desk.specs.declared.session.Session.{Session}
+use Rattle.client_rules.specs.declared.progress.Progress.{Progress}
+use Rattle.client_rules.specs.declared.progress.Progress.TheVariants as stages
 use Rattle.scan_rules.specs.Words.{Challenge, Request, Init, Set}
 use Rattle.scan_rules.specs.Devices.{Make, descriptors_of}
 use Rattle.scan_rules.specs.Scanners.{Device}
@@ -29,6 +31,14 @@ pub record SpeaksAs (name : List ℕ) (p : Party) (session : Session DeviceState
 abbrev pub Speaks : List ℕ → Party → Option (Session DeviceState) → Type 0
 Speaks name p None = Unit {0}
 Speaks name p (Some session) = SpeaksAs name p session
+
+-- ---- a client
+
+pub record Waits (progress : Progress) (todo : List Request) : Type 0 where
+  -- no client is between two pages
+  pub unturned : progress ≡ stages.Turning → ⊥
+  -- behind AUTHORIZE's word nothing is on the way to the daemon
+  pub silent : progress ≡ stages.Reopening → todo ≡ []
 
 -- ---- a device
 

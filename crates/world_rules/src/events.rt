@@ -2,7 +2,8 @@
 //! nothing changes.
 
 ghost use Rattle.std.specs.Prelude.{ℕ};
-ghost use Rattle.scan_world.specs.declared.event.Deed.TheVariants.{Cancel, Connect, DataConnect, DataToClient, DataTurn, LoseControl, LoseImage, ToClient};
+ghost use Rattle.scan_world.specs.declared.event.Deed.TheVariants.{Cancel, Connect, DataConnect, DataToClient, DataTurn, LoseControl, LoseImage, ToClient, ToDaemon};
+ghost use Rattle.world_rules.specs.Answering.{AnswersSome};
 ghost use Rattle.world_rules.specs.Delivered.{Hears};
 ghost use Rattle.world_rules.specs.Happens.{Connects, Dials, Follows, GivesUp, LosesControl, LosesImage, Turns};
 ghost use Rattle.world_rules.specs.Seen.{Sees};
@@ -17,6 +18,13 @@ pub fn a_connection_stands()
 #[tactic(none)]
 pub fn a_data_connection_stands()
     ensures { Follows DataConnect Dials }
+{}
+
+/// Some of a job's requests are delivered to the daemon: each that is whole with them is answered, one after another, and the session
+/// goes on; or one of them ends it; or it breaks off, for want of memory or at a reply past the limits of the wire.
+#[tactic(none)]
+pub fn a_delivery_to_the_daemon_stands()
+    ensures { (n : ℕ) → Follows (ToDaemon n) (AnswersSome n) }
 {}
 
 /// Some of the daemon's replies are delivered: what came of the reply that is due waits until it is whole, and then the client hears

@@ -1,6 +1,6 @@
 //! What is promised of jobs, of whatever a world stands for.
 
-ghost use Rattle.world_rules.specs.Promises.{OutcomesAreRight, PagesAreMeant, ScansAreMeant};
+ghost use Rattle.world_rules.specs.Promises.{BatchesAreCounted, OutcomesAreRight, PagesAreMeant, ScansAreMeant};
 
 /// A job that runs is under way; one that is done kept its promise on its settings, on permission and on its list; one that ended
 /// otherwise has its cause.
@@ -20,4 +20,10 @@ pub fn a_scan_is_meant()
 #[tactic(none)]
 pub fn pages_are_meant()
     ensures { PagesAreMeant }
+{}
+
+/// A batch that is done has finished as many pages as it wanted, or fewer and at least one, and its scanner's tray ran out.
+#[tactic(none)]
+pub fn a_batch_is_counted()
+    ensures { BatchesAreCounted }
 {}

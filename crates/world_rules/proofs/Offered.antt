@@ -1,0 +1,298 @@
+-- ONE REPLY to a client that is under way: what the daemon says of the request that it waits for is the rules' reply.
+use Rattle.std.specs.List.{AllByRecursion}
+use Rattle.std.specs.Prelude.{option_map, ◌<◌, length}
+use Rattle.std.proofs.Common.{◌≡◌, ◌≢◌, ◌⊎◌, inl, inr, ◌∙◌, ℕ, List, [], ◌∷◌, ◌++◌, Option, Some, None, Bool, true, false, cond, eqb, eqb-true, refl, sym, ap, subst, map, slice_get, arith}
+use Rattle.sane_fixed.specs.declared.kind.Kind.{Kind}
+use Rattle.sane_fixed.specs.declared.status.Status.{Status as Code}
+use Rattle.sane_fixed.specs.declared.status.Status.TheVariants as code
+use Rattle.option_desc.specs.declared.descriptor.Descriptor.{Descriptor}
+use Rattle.option_desc.specs.declared.value.Value.{Value}
+use Rattle.device_api.specs.Options as table
+use Rattle.device_api.specs.State.{DeviceState}
+use Rattle.device_api.specs.declared.device_info.DeviceInfo.{DeviceInfo}
+use Rattle.page_picture.specs.Shows.{Frame}
+use Rattle.dispatch.specs.declared.table.place.Lease.{Lease}
+use Rattle.frame_join.specs.FrameHistory.{Past}
+use Rattle.wire_message.specs.declared.message.Action.TheVariants as actions
+use Rattle.wire_message.specs.declared.message.Request.{Request as Asked}
+use Rattle.wire_message.specs.declared.message.Request.TheVariants as requests
+use Rattle.wire_message.specs.declared.message.WireValue.{WireValue}
+use Rattle.client_rules.specs.declared.progress.Errand.{Errand}
+use Rattle.client_rules.specs.declared.progress.Notes.{Notes}
+use Rattle.client_rules.specs.declared.progress.Progress.{Progress}
+use Rattle.client_rules.specs.declared.progress.Progress.TheVariants as stages
+use Rattle.client_rules.specs.Talking.{of_kind}
+use Rattle.client_rules.specs.Talks.{Talk, errand_of}
+use Rattle.client_rules.specs.WireValues as client
+use Rattle.client_rules.specs.WireValues.{given_like, value_in}
+use Rattle.saned_desk.specs.declared.said.Said.{Said}
+use Rattle.scan_job.specs.Shown.{has_one_value}
+use Rattle.saned_desk.specs.Holding.{free_word, held_by}
+use Rattle.saned_desk.specs.Rules.{Desk, kind_of, options_of_lease}
+use Rattle.saned_desk.specs.WireValues.{wire_of}
+use Rattle.saned_core.specs.Feeding as daemon
+use Rattle.scan_rules.specs.Words.{Authorize, Challenge, Describe, Get, GetDevices, Init, Open, Parameters, Reply, Request, Set, Start}
+use Rattle.scan_rules.specs.Client as rules
+use Rattle.scan_rules.specs.Client.{Mind, Running, Stage, asked}
+use Rattle.scan_rules.specs.Devices.{Make, Options, Put, put_in, tells, value_of}
+use Rattle.scan_rules.specs.Devices as rules_devices
+use Rattle.scan_rules.specs.Scanners.{Device, is_held_by, is_resting, rest_of}
+use Rattle.scan_rules.specs.Sessions.{free_word as free_of, only_word}
+use Rattle.scan_rules.specs.Sound as sound
+use Rattle.scan_rules.specs.Sync.{InSync}
+use Rattle.scan_rules.specs.Standing.{Base, Party, Standing, listed, listed_of, make_for, wanted}
+use Rattle.scan_rules.specs.Steps.{IsUnderWay}
+use Rattle.client_reading.specs.Reading.{IsApt, WaitsAs, descs, wanted_from}
+use Rattle.client_reading.specs.Requests.{IsGet, IsRequest, IsSet}
+use Rattle.desk_rules.specs.Agreeing.{manner}
+use Rattle.desk_rules.specs.Reading.{Shows}
+use Rattle.desk_rules.proofs.Moved.{own}
+use Rattle.desk_rules.proofs.Opening.{free_same}
+use Rattle.world_rules.specs.Told.{Told, place_in}
+use Rattle.world_rules.specs.Speaks.{Waits}
+use Rattle.world_rules.specs.Spelled.{Comes}
+use Rattle.world_rules.specs.Stands.{session_by}
+use Rattle.world_rules.proofs.Asked.{is_word}
+use Rattle.world_rules.proofs.BegunTrue.{lease_there}
+use Rattle.world_rules.proofs.Folding.{Desked}
+use Rattle.world_rules.proofs.Kinded.{IsFor}
+use Rattle.world_rules.proofs.Listing.{listed_told}
+use Rattle.world_rules.proofs.OneReply.{HasShape}
+use Rattle.world_rules.proofs.Replied.{IsSaid}
+use Rattle.world_rules.proofs.Setting.{same_wire}
+use Rattle.world_rules.proofs.Telling.{authorize_comes, describing_comes, get_comes, greeting_comes, listing_comes, open_comes, set_comes, shaping_comes, start_comes}
+use Rattle.world_rules.proofs.Valued.{known_desc, value_given, value_got, wanted_single}
+
+-- ---- its request is on the way
+
+pub record IsAsking (i : ℕ) (s : Standing) (r : Request) (rest : List Request) : Type 0 where
+  pub progress : rules.Progress
+  pub stage : (s.party i).mind.stage ≡ Running progress
+  pub asks : sound.Asks i (make_for s i) (s.party i) (wanted s i) progress
+  pub only : asked progress ≡ r ∷ []
+  pub none : rest ≡ []
+
+tail_none : (g : rules.Progress) → rest_of (asked g) ≡ []
+tail_none rules.Greeting = refl
+tail_none rules.Listing = refl
+tail_none rules.Opening = refl
+tail_none (rules.Allowing challenge) = refl
+tail_none (rules.Describing left) = refl
+tail_none (rules.Putting n value wish left) = refl
+tail_none (rules.Getting n left) = refl
+tail_none rules.Starting = refl
+tail_none rules.Shaping = refl
+tail_none (rules.Imaging params heard) = refl
+
+asking_so : (i : ℕ) (s : Standing) (r : Request) (rest : List Request) (g : rules.Progress) → (s.party i).mind.stage ≡ Running g → sound.Asks i (make_for s i) (s.party i) (wanted s i) g → (s.party i).todo ≡ r ∷ rest → IsAsking i s r rest
+asking_so i s r rest g stage a e =
+    let all : asked g ≡ r ∷ rest = sym a.todo ∙ e in
+    let none : rest ≡ [] = sym (ap rest_of all) ∙ tail_none g in
+    record { progress = g; stage = stage; asks = a; only = all ∙ ap (λ (x : List Request). r ∷ x) none; none = none }
+
+asking_at : (i : ℕ) (s : Standing) (r : Request) (rest : List Request) (st : Stage) → (s.party i).mind.stage ≡ st → IsUnderWay st → (s.party i).served ≡ true → (s.party i).todo ≡ r ∷ rest → sound.Talks i (make_for s i) (s.party i) (wanted s i) st → IsAsking i s r rest
+asking_at i s r rest rules.Idle stage u served e h = absurd (let clash : false ≡ true = sym h.0 ∙ served in cc)
+asking_at i s r rest (Running g) stage u served e (inl a) = asking_so i s r rest g stage a e
+asking_at i s r rest (Running g) stage u served e (inr (inl t)) = absurd (let clash : [] ≡ r ∷ rest = sym t.todo ∙ e in cc)
+asking_at i s r rest (Running g) stage u served e (inr (inr dead)) = absurd (let clash : false ≡ true = sym dead.served ∙ served in cc)
+asking_at i s r rest rules.Done stage u served e h = absurd u
+asking_at i s r rest (rules.Ended status why) stage u served e h = absurd u
+
+pub is_asking : (i : ℕ) (s : Standing) (r : Request) (rest : List Request) → sound.Sound s → IsUnderWay (s.party i).mind.stage → (s.party i).served ≡ true → (s.party i).todo ≡ r ∷ rest → IsAsking i s r rest
+is_asking i s r rest h u served e = asking_at i s r rest (s.party i).mind.stage refl u served e (h.talks i)
+
+-- behind the answer its reply is
+told_at : (i : ℕ) (s : Standing) (r : Request) (g : rules.Progress) → asked g ≡ r ∷ [] → (s.party i).served ≡ true → (s.party i).todo ≡ [] → sound.Talks i (make_for s i) (s.party i) (wanted s i) (Running g) → (reply : Reply) × ((s.party i).due ≡ reply ∷ [])
+told_at i s r g only served none (inl a) = absurd (let clash : [] ≡ r ∷ [] = sym none ∙ (a.todo ∙ only) in cc)
+told_at i s r g only served none (inr (inl t)) = (t.reply, t.due)
+told_at i s r g only served none (inr (inr dead)) = absurd (let clash : false ≡ true = sym dead.served ∙ served in cc)
+
+pub told_one : (i : ℕ) (s : Standing) (r : Request) (g : rules.Progress) → sound.Sound s → (s.party i).mind.stage ≡ Running g → asked g ≡ r ∷ [] → (s.party i).served ≡ true → (s.party i).todo ≡ [] → (reply : Reply) × ((s.party i).due ≡ reply ∷ [])
+told_one i s r g h stage only served none = told_at i s r g only served none (subst (λ (st : Stage). sound.Talks i (make_for s i) (s.party i) (wanted s i) st) stage (h.talks i))
+
+-- ---- what it waits for is what it asked for
+
+same_progress : (g f : rules.Progress) → Running g ≡ Running f → g ≡ f
+same_progress g f e = cc
+
+same_request : (x y : Request) → x ∷ [] ≡ y ∷ [] → x ≡ y
+same_request x y e = cc
+
+-- a client that waits so has asked for that
+asked_for : (i : ℕ) (s : Standing) (r : Request) (rest : List Request) (a : IsAsking i s r rest) (f : rules.Progress) → (s.party i).mind.stage ≡ Running f → a.progress ≡ f
+asked_for i s r rest a f e = same_progress a.progress f (sym a.stage ∙ e)
+
+request_is : (i : ℕ) (s : Standing) (r x : Request) (rest : List Request) (a : IsAsking i s r rest) (f : rules.Progress) → (s.party i).mind.stage ≡ Running f → asked f ≡ x ∷ [] → r ≡ x
+request_is i s r x rest a f e is = same_request r x (sym a.only ∙ (ap asked (asked_for i s r rest a f e) ∙ is))
+
+sync_at : (i : ℕ) (s : Standing) (r : Request) (rest : List Request) (a : IsAsking i s r rest) (f : rules.Progress) → (s.party i).mind.stage ≡ Running f → InSync i (make_for s i) (s.party i).base (s.party i).mind (wanted s i) f
+sync_at i s r rest a f e = subst (λ (g : rules.Progress). InSync i (make_for s i) (s.party i).base (s.party i).mind (wanted s i) g) (asked_for i s r rest a f e) a.asks.in_sync
+
+-- ---- its device is at rest where a setting is put
+
+other_request : (x y : Request) (n : ℕ) (value : Value) → x ∷ [] ≡ y ∷ [] → y ≡ Set n value → x ≡ Set n value
+other_request x y n value e f = same_request x y e ∙ f
+
+rests_at : (i : ℕ) (k : Make) (b : Base) (m : Mind) (dev : Device) (g : rules.Progress) (r : Request) (n : ℕ) (value : Value) → asked g ≡ r ∷ [] → r ≡ Set n value → InSync i k b m dev g → is_resting dev.phase ≡ true
+rests_at i k b m dev (rules.Putting o asked wish left) r n value e f h = ap is_resting h.settles.held.phase_is
+rests_at i k b m dev rules.Greeting r n value e f h = absurd (let clash : Init ≡ Set n value = other_request Init r n value e f in cc)
+rests_at i k b m dev rules.Listing r n value e f h = absurd (let clash : GetDevices ≡ Set n value = other_request GetDevices r n value e f in cc)
+rests_at i k b m dev rules.Opening r n value e f h = absurd (let clash : Open ≡ Set n value = other_request Open r n value e f in cc)
+rests_at i k b m dev (rules.Allowing challenge) r n value e f h = absurd (let clash : Authorize challenge ≡ Set n value = other_request (Authorize challenge) r n value e f in cc)
+rests_at i k b m dev (rules.Describing left) r n value e f h = absurd (let clash : Describe ≡ Set n value = other_request Describe r n value e f in cc)
+rests_at i k b m dev (rules.Getting o left) r n value e f h = absurd (let clash : Get o ≡ Set n value = other_request (Get o) r n value e f in cc)
+rests_at i k b m dev rules.Starting r n value e f h = absurd (let clash : Start ≡ Set n value = other_request Start r n value e f in cc)
+rests_at i k b m dev rules.Shaping r n value e f h = absurd (let clash : Parameters ≡ Set n value = other_request Parameters r n value e f in cc)
+rests_at i k b m dev (rules.Imaging params heard) r n value e f h = absurd (let clash : [] ≡ r ∷ [] = e in cc)
+
+pub rests : (i : ℕ) (s : Standing) (r : Request) (rest : List Request) → IsAsking i s r rest → (n : ℕ) (value : Value) → r ≡ Set n value → is_resting (wanted s i).phase ≡ true
+rests i s r rest a n value e = rests_at i (make_for s i) (s.party i).base (s.party i).mind (wanted s i) a.progress r n value a.only e a.asks.in_sync
+
+-- ---- the first word is free before a device is opened
+
+not_mine : (i : ℕ) (h : Option ℕ) → h ≢ Some i → is_held_by i h ≡ false
+not_mine i None n = refl
+not_mine i (Some j) n = by_test (eqb j i) refl
+  where
+    by_test : (b : Bool) → eqb j i ≡ b → b ≡ false
+    by_test true e = absurd (n (ap (λ (x : ℕ). Some x) (eqb-true j i e)))
+    by_test false e = refl
+
+word_zero : (b : Bool) (d : ℕ) → b ≡ false → free_of (only_word b d) ≡ Some 0
+word_zero true d e = absurd (let clash : true ≡ false = e in cc)
+word_zero false d e = refl
+
+pub free_zero : (i : ℕ) (make : ℕ → Make) (d : Desk) (device : ℕ → Device) (p : Party) → Shows i make d device (session_by i device p) → (device p.base.job.wants).holder ≢ Some i → free_word d.session.held ≡ Some 0
+free_zero i make d device p h n =
+    let wants = p.base.job.wants in
+    sym (free_same d.session.held (session_by i device p).words h.four h.words) ∙ word_zero (is_held_by i (device wants).holder) wants (not_mine i (device wants).holder n)
+
+-- so it is of one that asks to be allowed
+pub authorize_free : (i : ℕ) (k : Make) (b : Base) (m : Mind) (dev : Device) (g : rules.Progress) (c : Challenge) → asked g ≡ Authorize c ∷ [] → InSync i k b m dev g → dev.holder ≢ Some i
+authorize_free i k b m dev (rules.Allowing challenge) c e h = h.0.free
+authorize_free i k b m dev rules.Greeting c e h = absurd (let clash : Init ≡ Authorize c = same_request Init (Authorize c) e in cc)
+authorize_free i k b m dev rules.Listing c e h = absurd (let clash : GetDevices ≡ Authorize c = same_request GetDevices (Authorize c) e in cc)
+authorize_free i k b m dev rules.Opening c e h = absurd (let clash : Open ≡ Authorize c = same_request Open (Authorize c) e in cc)
+authorize_free i k b m dev (rules.Describing left) c e h = absurd (let clash : Describe ≡ Authorize c = same_request Describe (Authorize c) e in cc)
+authorize_free i k b m dev (rules.Putting n value wish left) c e h = absurd (let clash : Set n value ≡ Authorize c = same_request (Set n value) (Authorize c) e in cc)
+authorize_free i k b m dev (rules.Getting n left) c e h = absurd (let clash : Get n ≡ Authorize c = same_request (Get n) (Authorize c) e in cc)
+authorize_free i k b m dev rules.Starting c e h = absurd (let clash : Start ≡ Authorize c = same_request Start (Authorize c) e in cc)
+authorize_free i k b m dev rules.Shaping c e h = absurd (let clash : Parameters ≡ Authorize c = same_request Parameters (Authorize c) e in cc)
+authorize_free i k b m dev (rules.Imaging params heard) c e h = absurd (let clash : [] ≡ Authorize c ∷ [] = e in cc)
+
+-- ---- what the client knows of its options is what the device has
+
+table_is : (k : Make) (known : List Descriptor) (options dev : Options) → known ≡ rules_devices.descriptors_of k options → dev ≡ options → known ≡ table.descriptors_of dev
+unfolding rules_devices.descriptors_of
+table_is k known options dev e is = e ∙ ap table.descriptors_of (sym is)
+
+mine_held : (i : ℕ) (h : Option ℕ) → h ≡ Some i → is_held_by i h ≡ true
+mine_held i h e = ap (is_held_by i) e ∙ own i
+
+word_descriptors : (i : ℕ) (make : ℕ → Make) (d : Desk) (device : ℕ → Device) (p : Party) → Shows i make d device (session_by i device p) → (device p.base.job.wants).holder ≡ Some i → options_of_lease (held_by d.session.held 0) ≡ table.descriptors_of (device p.base.job.wants).options
+word_descriptors i make d device p h mine =
+    let wants = p.base.job.wants in
+    let word : Some wants ≡ option_map (λ (l : Lease DeviceState). l.place) (held_by d.session.held 0) = sym (ap (λ (b : Bool). cond b (Some wants) None) (mine_held i (device wants).holder mine)) ∙ h.words 0 in
+    let l = lease_there wants (held_by d.session.held 0) word in
+    ap options_of_lease l.1 ∙ ap table.descriptors_of (sym (is_word i make d device p l.0 h l.1).options)
+
+-- a value that is given comes back
+set_back : (k : Make) (options : Options) (errand : Errand) (known : List Descriptor) (notes : Notes) (n : ℕ) (kind : Kind) (name : List ℕ) (asked_ : Value) → known ≡ table.descriptors_of options → known ≡ descs notes.known → IsApt errand (stages.Putting n kind name asked_) notes →
+    (w on : ℕ) (sent : Kind) (value : WireValue) → IsSet 0 known n asked_ w on sent value → (put : Put) → put_in k options n asked_ ≡ Some put → of_kind kind sent (given_like asked_ (wire_of put.given)) ≡ Some put.given
+set_back k options errand known notes n kind name asked_ is told apt w on sent value set put e =
+    let there : slice_get (descs notes.known) n ≡ Some set.desc = subst (λ (ds : List Descriptor). slice_get ds n ≡ Some set.desc) told set.stands in
+    let desc = known_desc notes.known n apt.option set.desc apt.stands there in
+    let kind_is : kind ≡ set.desc.kind = apt.kind_is ∙ ap (λ (x : Descriptor). x.kind) desc in
+    let back = value_given k options n set.desc set.text asked_ put (subst (λ (ds : List Descriptor). slice_get ds n ≡ Some set.desc) is set.stands) set.reads e in
+    subst (λ (v : WireValue). of_kind kind sent (given_like asked_ v) ≡ Some put.given) (same_wire put.given)
+    (subst (λ (x : Kind). of_kind kind x (given_like asked_ (client.wire_of put.given)) ≡ Some put.given) (sym set.kind_is)
+    (subst (λ (x : Kind). of_kind x set.desc.kind (given_like asked_ (client.wire_of put.given)) ≡ Some put.given) (sym kind_is) back))
+
+-- so does one that is told
+get_back : (k : Make) (options : Options) (errand : Errand) (known descriptors : List Descriptor) (notes : Notes) (n : ℕ) (kind : Kind) (size : ℕ) (left : List ℕ) → known ≡ table.descriptors_of options → descriptors ≡ table.descriptors_of options → rules_devices.IsAllowed k options → known ≡ descs notes.known →
+    wanted_from 0 notes.known ≡ n ∷ left → IsApt errand (stages.Getting n kind size) notes → (w on : ℕ) (sent : Kind) (value : WireValue) → IsGet 0 known n w on sent value → tells k options n ≡ true →
+    of_kind kind (kind_of (slice_get descriptors on) sent) (value_in kind (wire_of (value_of k options n))) ≡ Some (value_of k options n)
+get_back k options errand known descriptors notes n kind size left is own_is allowed told wants apt w on sent value get e =
+    let there : slice_get (descs notes.known) n ≡ Some get.desc = subst (λ (ds : List Descriptor). slice_get ds n ≡ Some get.desc) told get.stands in
+    let desc = known_desc notes.known n apt.option get.desc apt.stands there in
+    let kind_is : kind ≡ get.desc.kind = apt.kind_is ∙ ap (λ (x : Descriptor). x.kind) desc in
+    let at : slice_get (table.descriptors_of options) n ≡ Some get.desc = subst (λ (ds : List Descriptor). slice_get ds n ≡ Some get.desc) is get.stands in
+    let here : slice_get descriptors on ≡ Some get.desc = ap (λ (ds : List Descriptor). slice_get ds on) own_is ∙ (ap (slice_get (table.descriptors_of options)) get.number ∙ at) in
+    let one = wanted_single notes.known n left apt.option wants apt.stands in
+    let back = value_got k options n get.desc at allowed (subst (λ (x : Descriptor). has_one_value x.kind x.size ≡ true) desc one) e in
+    subst (λ (v : WireValue). of_kind kind (kind_of (slice_get descriptors on) sent) (value_in kind v) ≡ Some (value_of k options n)) (same_wire (value_of k options n))
+    (subst (λ (o : Option Descriptor). of_kind kind (kind_of o sent) (value_in kind (client.wire_of (value_of k options n))) ≡ Some (value_of k options n)) (sym here)
+    (subst (λ (x : Kind). of_kind x get.desc.kind (value_in x (client.wire_of (value_of k options n))) ≡ Some (value_of k options n)) (sym kind_is) back))
+
+-- ---- by what it waits for
+
+-- the answer to its request
+pub record IsOffered (t : Told) (i : ℕ) (s : Standing) (d : Desk) (q : Asked) (r : Request) (rest : List Request) (said : Said) (reply : Reply) (text : List ℕ) : Type 0 where
+  pub desked : Desked t i s d
+  pub asking : IsAsking i s r rest
+  pub is : IsRequest (errand_of (t.jobs i)) 0 (s.party i).mind.known q r
+  pub for_it : IsFor (make_for s i) (wanted s i).options (listed s) r reply
+  pub shape : HasShape q said
+  pub spelled : IsSaid (manner d 0) q (reply ∷ []) said
+  pub says : daemon.SaysAll (daemon.replies_to said) text
+
+offered_at : (t : Told) (i : ℕ) (s : Standing) (d : Desk) (q : Asked) (r x : Request) (rest : List Request) (said : Said) (reply : Reply) (text : List ℕ) (f : rules.Progress) → (s.party i).mind.stage ≡ Running f → asked f ≡ x ∷ [] → IsOffered t i s d q r rest said reply text → IsOffered t i s d q x rest said reply text
+offered_at t i s d q r x rest said reply text f stage only o = subst (λ (y : Request). IsOffered t i s d q y rest said reply text) (request_is i s r x rest o.asking f stage only) o
+
+free_at : (t : Told) (i : ℕ) (s : Standing) (d : Desk) → Desked t i s d → (wanted s i).holder ≢ Some i → (manner d 0).free ≡ Some 0
+free_at t i s d h n = free_zero i s.make d s.device (s.party i) h.shows n
+
+infos_at : (t : Told) (i : ℕ) (s : Standing) (d : Desk) → Desked t i s d → map (place_in t.names) (manner d 0).infos ≡ listed s
+infos_at t i s d h = listed_told i s.make d s.device (session_by i s.device (s.party i)) t.names h.names h.apart h.shows ∙ ap (listed_of s.device) (sym h.places)
+
+allowed_here : (t : Told) (i : ℕ) (s : Standing) (d : Desk) → Desked t i s d → rules_devices.IsAllowed (make_for s i) (wanted s i).options
+allowed_here t i s d h = (h.sound.fit (s.party i).base.job.wants).allowed
+
+pub comes_by : (t : Told) (i : ℕ) (s : Standing) (d : Desk) (q : Asked) (r : Request) (rest : List Request) (said : Said) (reply : Reply) (text : List ℕ) (progress : Progress) (notes : Notes) (past : Past) → IsOffered t i s d q r rest said reply text → WaitsAs (s.party i).base.job progress notes past (s.party i).mind → IsApt (errand_of (t.jobs i)) progress notes →
+    (s.party i).mind.known ≡ descs notes.known → Waits progress (r ∷ rest) → Comes (place_in t.names) progress reply text
+comes_by t i s d q r rest said reply text stages.Greeting notes past offer w apt known waits =
+    let o = offered_at t i s d q r Init rest said reply text rules.Greeting w.0 refl offer in
+    greeting_comes (place_in t.names) (make_for s i) (wanted s i).options (listed s) (errand_of (t.jobs i)) (s.party i).mind.known (manner d 0) q reply said text o.is o.for_it o.shape o.spelled o.says
+comes_by t i s d q r rest said reply text stages.Listing notes past offer w apt known waits =
+    let o = offered_at t i s d q r GetDevices rest said reply text rules.Listing w.0 refl offer in
+    listing_comes (place_in t.names) (make_for s i) (wanted s i).options (listed s) (errand_of (t.jobs i)) (s.party i).mind.known (manner d 0) q reply said text (infos_at t i s d o.desked) o.is o.for_it o.shape o.spelled o.says
+comes_by t i s d q r rest said reply text stages.Opening notes past offer w apt known waits =
+    let o = offered_at t i s d q r Open rest said reply text rules.Opening w.0 refl offer in
+    let sync = sync_at i s r rest offer.asking rules.Opening w.0 in
+    open_comes (place_in t.names) (make_for s i) (wanted s i).options (listed s) (errand_of (t.jobs i)) (s.party i).mind.known (manner d 0) q reply said text (free_at t i s d o.desked sync.0.free) o.is o.for_it o.shape o.spelled o.says
+comes_by t i s d q r rest said reply text (stages.Allowing resource answer) notes past offer w apt known waits =
+    let challenge = w.0.0 in
+    let o = offered_at t i s d q r (Authorize challenge) rest said reply text (rules.Allowing challenge) w.0.1.0 refl offer in
+    let sync = sync_at i s r rest offer.asking (rules.Allowing challenge) w.0.1.0 in
+    authorize_comes (place_in t.names) (make_for s i) (wanted s i).options (listed s) (errand_of (t.jobs i)) (s.party i).mind.known (manner d 0) challenge resource answer q reply said text (free_at t i s d o.desked sync.0.free) o.is o.for_it o.shape o.spelled o.says
+comes_by t i s d q r rest said reply text stages.Reopening notes past offer w apt known waits = absurd (let clash : r ∷ rest ≡ [] = waits.silent refl in cc)
+comes_by t i s d q r rest said reply text stages.Describing notes past offer w apt known waits =
+    let o = offered_at t i s d q r Describe rest said reply text (rules.Describing _) w.0 refl offer in
+    describing_comes (place_in t.names) (make_for s i) (wanted s i).options (listed s) (errand_of (t.jobs i)) (s.party i).mind.known (manner d 0) q reply said text o.is o.for_it o.shape o.spelled o.says
+comes_by t i s d q r rest said reply text (stages.Putting n kind name asked_) notes past offer w apt known waits =
+    let wish = w.0.0 in
+    let g = rules.Putting n asked_ wish _ in
+    let o = offered_at t i s d q r (Set n asked_) rest said reply text g w.0.1.0 refl offer in
+    let sync = sync_at i s r rest offer.asking g w.0.1.0 in
+    let is = table_is (make_for s i) (s.party i).mind.known sync.options (wanted s i).options sync.known sync.settles.held.options_are in
+    set_comes (place_in t.names) (make_for s i) (wanted s i).options (listed s) (errand_of (t.jobs i)) (s.party i).mind.known (manner d 0) q n kind name asked_ reply said text
+    (λ w on sent value set. set_back (make_for s i) (wanted s i).options (errand_of (t.jobs i)) (s.party i).mind.known notes n kind name asked_ is known apt w on sent value set) o.is o.for_it o.shape o.spelled o.says
+comes_by t i s d q r rest said reply text (stages.Getting n kind size) notes past offer w apt known waits =
+    let left = w.0.0 in
+    let g = rules.Getting n left in
+    let o = offered_at t i s d q r (Get n) rest said reply text g w.0.1.0 refl offer in
+    let sync = sync_at i s r rest offer.asking g w.0.1.0 in
+    let is = table_is (make_for s i) (s.party i).mind.known sync.options (wanted s i).options sync.known sync.held.options_are in
+    let own_is = word_descriptors i s.make d s.device (s.party i) o.desked.shows sync.held.mine in
+    get_comes (place_in t.names) (make_for s i) (wanted s i).options (listed s) (errand_of (t.jobs i)) (s.party i).mind.known (manner d 0) q n kind size reply said text
+    (λ w2 on sent value get. get_back (make_for s i) (wanted s i).options (errand_of (t.jobs i)) (s.party i).mind.known (manner d 0).descriptors notes n kind size left is own_is (allowed_here t i s d o.desked) known w.0.1.1 apt w2 on sent value get) o.is o.for_it o.shape o.spelled o.says
+comes_by t i s d q r rest said reply text (stages.Starting first) notes past offer w apt known waits =
+    let o = offered_at t i s d q r Start rest said reply text rules.Starting w.0 refl offer in
+    start_comes (place_in t.names) (make_for s i) (wanted s i).options (listed s) (errand_of (t.jobs i)) (s.party i).mind.known (manner d 0) q first reply said text o.is o.for_it o.shape o.spelled o.says
+comes_by t i s d q r rest said reply text (stages.Shaping port order) notes past offer w apt known waits =
+    let o = offered_at t i s d q r Parameters rest said reply text rules.Shaping w.0 refl offer in
+    shaping_comes (place_in t.names) (make_for s i) (wanted s i).options (listed s) (errand_of (t.jobs i)) (s.party i).mind.known (manner d 0) q port order reply said text o.is o.for_it o.shape o.spelled o.says
+comes_by t i s d q r rest said reply text (stages.Imaging port made) notes past offer w apt known waits =
+    absurd (let clash : [] ≡ r ∷ [] = sym (ap asked (asked_for i s r rest offer.asking (rules.Imaging w.params w.payload) w.stage)) ∙ offer.asking.only in cc)
+comes_by t i s d q r rest said reply text stages.Turning notes past offer w apt known waits = absurd (waits.unturned refl)
+comes_by t i s d q r rest said reply text stages.Over notes past offer w apt known waits = absurd w
