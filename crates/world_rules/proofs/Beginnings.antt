@@ -39,6 +39,7 @@ use Rattle.world_rules.proofs.Seated.{none_seated}
 use Rattle.world_rules.specs.Beginning.{IsNewDaemon, IsSteady, NewWorldsStand, make_of, name_of, nothing_told, wires_of}
 use Rattle.world_rules.proofs.Faithful.{cancel_true}
 use Rattle.world_rules.proofs.Waiting.{waits_first}
+use Rattle.world_rules.proofs.Pending.{no_reply_none, no_request_none, receives_greeting}
 
 -- ---- lists
 
@@ -247,6 +248,7 @@ new_sits jobs other devices w i p d n at =
       served = (refl, subst (λ (t : Table). ShowsTable i make [] t device) (sym d.registry) (new_table i devices));
       speaks = tt;
       waits = waits_first p.client.progress [] (ap (λ (v : Talker). v.progress) n.new.client.value);
+      pends = record { asking = no_request_none; telling = λ on. no_reply_none p.client.progress; reading = λ e. absurd (receives_greeting p.client.outcome p.client.progress (ap (λ (v : Talker). v.progress) n.new.client.value) e) };
     })))
 
 unlinked : (jobs : List Job) (i : ℕ) (p : Post) (id : SessionId) → IsNewAt jobs i p → p.link ≡ Some id → ⊥

@@ -56,6 +56,7 @@ use Rattle.world_rules.proofs.Spelling.{spell_behind}
 use Rattle.world_rules.proofs.Taking.{DecidesAt, done, leaves_core, one_change, one_party, put_self, same_served, sits_there}
 use Rattle.world_rules.proofs.Waiting.{waits_over}
 use Rattle.client_rules.specs.declared.progress.Progress.TheVariants as stages
+use Rattle.world_rules.proofs.Pending.{pends_off}
 
 -- the post, which says farewell by these bytes
 abbrev given_up : List ℕ → Post → Post
@@ -201,6 +202,7 @@ given_up_stands t w i p out h at low runs c text =
         served = same_served i t.rules.make w.daemon p.link me.served t.rules.device u.rules.device (stops_by me) same s.served;
         speaks = let session = session_in (seat_by w.daemon p.link) in speaks_more (t.jobs i).device me (stops_by me) (farewell me.mind.stage) session session refl refl (same_as session) s.speaks;
         waits = waits_over stages.Over (stops_by me).todo refl;
+        pends = pends_off _ _ _ bytes refl s.pends.asking;
       });
       link = λ id e. inl e;
       reseats = reseats_same p.link w.daemon;

@@ -83,6 +83,7 @@ sits_same t u d e i j post n c seat served h =
       served = served;
       speaks = subst (λ (x : Option (Seat DeviceState)). Speaks (t.jobs j).device (t.rules.party j) (session_in x)) (sym seat) h.speaks;
       waits = h.waits;
+      pends = h.pends;
     }))))))))
 
 other_sits : (t u : Told) (w : Scene) (i j : ℕ) (p q post : Post) (e : Core) → Stands t w → slice_get w.posts i ≡ Some p → Change i t u w p q e → j ≢ i → slice_get w.posts j ≡ Some post → SitsAt u e j post

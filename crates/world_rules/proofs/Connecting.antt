@@ -54,6 +54,7 @@ use Rattle.world_rules.proofs.Unimaged.{both_or}
 use Rattle.world_rules.proofs.Unimaged.{waits_as}
 use Rattle.world_rules.proofs.Waiting.{waits_greeting, waits_lost}
 use Rattle.page_picture.specs.Shows.{Frame}
+use Rattle.world_rules.proofs.Pending.{no_request_none, pends_if, pends_same}
 
 -- ---- a job that is not connected yet
 
@@ -170,6 +171,7 @@ linked_stands t w i p id h at low idle closed number =
             subst (λ (x : Option (Seat DeviceState)). Speaks (t.jobs i).device (connected me) (session_in x)) (sym (fresh_there w.daemon id.number closed h.seats number))
             (record { greeted = ([], refl); awaits = idle.awaits });
         waits = waits_greeting me.base.job p.client.progress p.client.notes (t.past i) (woken me.mind.stage me.mind) (connected me).todo waiting (ap (λ (x : Mind). x.stage) (woken_idle me.mind.stage me.mind idle.stage));
+        pends = pends_same p.client.outcome p.client.progress p.client.phase (t.wires i) bytes s.pends.asking refl s.pends;
       });
       link = λ x is. let same_id : Some id ≡ Some x = is in let number_is : x.number ≡ w.daemon.opened = sym (ap number_of same_id) ∙ number in inr (omega (arith, number_is), omega (arith, number_is));
       reseats = subst (λ (x : Option SessionId). Reseats x (Some id) w.daemon e) (sym idle.link) (reseats_opened w.daemon id number);
@@ -250,6 +252,7 @@ shut_stands t w i p h at low idle =
         served = (refl, same_tables i t.rules.make [] w.daemon.registry t.rules.device u.rules.device same table);
         speaks = tt;
         waits = waits_lost p.client now.todo s.talks.over;
+        pends = pends_if (is_running p.client.outcome) p.client (t.wires i) bytes no_request_none refl s.pends;
       });
       link = λ x none. absurd (let clash : None ≡ Some x = none in cc);
       reseats = subst (λ (x : Option SessionId). Reseats x None w.daemon w.daemon) (sym idle.link) (reseats_same None w.daemon);

@@ -22,14 +22,14 @@ use Rattle.world_rules.proofs.Within.{request_within}
 -- ---- one request
 
 -- what begins one text is one request
-same_take : (a b x y : List ℕ) (q r : Request) → request.spells a q → request.spells b r → a ++ x ≡ b ++ y → (q ≡ r) × (x ≡ y)
+pub same_take : (a b x y : List ℕ) (q r : Request) → request.spells a q → request.spells b r → a ++ x ≡ b ++ y → (q ≡ r) × (x ≡ y)
 same_take a b x y q r s t e =
     let reads = request_laws.reads in
     let same = sym (reads.complete a x q s) ∙ (ap request.read e ∙ reads.complete b y r t) in
     (ok_value q r x y same, ok_rest q r x y same)
 
 -- no request has an empty text
-some_text : (text : List ℕ) (q : Request) → request.spells text q → text ≢ []
+pub some_text : (text : List ℕ) (q : Request) → request.spells text q → text ≢ []
 unfolding request
 some_text text q s e =
     let four : length s.front ≡ 4 = ap length s.in_front.text_is in
@@ -37,7 +37,7 @@ some_text text q s e =
     let none : length text ≡ 0 = ap length e in
     omega (arith, four, whole, none)
 
-limited_is : (text : List ℕ) (q : Request) → (limited message_limit request).spells text q → request.spells text q
+pub limited_is : (text : List ℕ) (q : Request) → (limited message_limit request).spells text q → request.spells text q
 unfolding limited
 limited_is text q s = s.1
 
@@ -48,9 +48,9 @@ is_limited text q s = (request_within text q s, s)
 -- ---- what is written
 
 -- the first of them and the others
-record Sent (q : Request) (qs : List Request) (all : List ℕ) : Type 0 where
-  front : List ℕ
-  back : List ℕ
+pub record Sent (q : Request) (qs : List Request) (all : List ℕ) : Type 0 where
+  pub front : List ℕ
+  pub back : List ℕ
   whole : all ≡ front ++ back
   written : write_request.text q ≡ Some front
   spelled : request.spells front q

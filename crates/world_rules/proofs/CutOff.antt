@@ -33,6 +33,7 @@ use Rattle.world_rules.proofs.Spoken.{same_lost, same_on, speaks_still}
 use Rattle.world_rules.proofs.Taking.{one_change, one_party, sits_there}
 use Rattle.world_rules.proofs.Unimaged.{carries_dropped, drops_by, image_counts, means_dropped}
 use Rattle.world_rules.proofs.Waiting.{waits_if}
+use Rattle.world_rules.proofs.Pending.{pends_if}
 
 -- ---- there is no memory for what comes onto it
 
@@ -75,6 +76,7 @@ cut_stands t w i p id h at low link some =
             (speaks_still (t.jobs i).device me after (session_in (seat_by w.daemon (Some id))) (session_in (seat_by e (Some id))) refl refl (same_on after_lost same_lost id.number w.daemon.seats)
             (subst (λ (x : Option SessionId). Speaks (t.jobs i).device me (session_in (seat_by w.daemon x))) link s.speaks));
         waits = waits_if b p.client me.todo s.waits;
+        pends = pends_if b p.client (t.wires i) bytes s.pends.asking refl s.pends;
       });
       link = λ x is. inl is;
       reseats = reseats_on after_lost p.link w.daemon id.number;

@@ -46,6 +46,8 @@ use Rattle.world_rules.proofs.Stepping.{StepsTo}
 use Rattle.world_rules.proofs.Taking.{sits_there}
 use Rattle.world_rules.proofs.TakenOff.{leaves_taken, reseats_taken, served_some, served_taken, taken_input, taken_replies, taken_session}
 use Rattle.world_rules.specs.Speaks.{Waits}
+use Rattle.world_rules.specs.Pending.{Pends}
+use Rattle.world_rules.proofs.Lists.{nil_both}
 
 -- ---- all of the change
 
@@ -61,9 +63,9 @@ pub record Keeps (p q : Party) : Type 0 where
   pub awaited : q.base.awaited ≡ p.base.awaited
 
 pub delivered_stands : (t : Told) (w : Scene) (i n : ℕ) (p q : Post) (id : SessionId) (steps : List Step) (x : Wires) (past : Past) (after : Party) → Stands t w → slice_get w.posts i ≡ Some p → i < t.count → p.link ≡ Some id → q.link ≡ p.link →
-    StepsTo t i steps x past (t.pages i) after → Keeps (t.rules.party i) after → Talks (place_in t.names) (t.jobs i) past (t.pages i) after q → Carries x (seat_by (world.taken id.number n w.daemon) (Some id)) q → Means (place_in t.names) (t.jobs i) x after q → Waits q.client.progress after.todo →
+    StepsTo t i steps x past (t.pages i) after → Keeps (t.rules.party i) after → Talks (place_in t.names) (t.jobs i) past (t.pages i) after q → Carries x (seat_by (world.taken id.number n w.daemon) (Some id)) q → Means (place_in t.names) (t.jobs i) x after q → Waits q.client.progress after.todo → Pends q.client.outcome q.client.progress q.client.phase x →
     Stands (told_then t i steps x past (t.pages i)) (record { daemon = world.taken id.number n w.daemon; posts = slice_set w.posts i q })
-delivered_stands t w i n p q id steps x past after h at low link stays to keeps talks carries means waits =
+delivered_stands t w i n p q id steps x past after h at low link stays to keeps talks carries means waits pends =
     let s = h.posts i p at in
     let me = t.rules.party i in
     let u : Told = told_then t i steps x past (t.pages i) in
@@ -92,6 +94,7 @@ delivered_stands t w i n p q id steps x past after h at low link stays to keeps 
             speaks_more (t.jobs i).device me after keeps.more (session_in (seat_by w.daemon p.link)) (session_in (seat_by e q.link)) keeps.todo keeps.awaited
             (subst (λ (o : Option (DeskSession DeviceState)). AreSame (session_in (seat_by w.daemon p.link)) o) (sym session) (same_as (session_in (seat_by w.daemon p.link)))) s.speaks;
         waits = waits;
+        pends = pends;
       });
       link = λ y is. inl (sym stays ∙ is);
       reseats = subst (λ (l : Option SessionId). Reseats p.link l w.daemon e) (sym stays) (reseats_taken n p.link w.daemon id.number);
@@ -178,10 +181,6 @@ pub record IsDueTo (t : Told) (i : ℕ) (p : Post) : Type 0 where
   pub asking : (t.wires i).asking ≡ []
   pub up : (t.wires i).up ≡ []
   pub still : NothingFlows (t.wires i).image (t.rules.party i).base.flight (t.rules.party i).base.ending
-
-nil_both : (a b : List ℕ) → a ++ b ≡ [] → (a ≡ []) × (b ≡ [])
-nil_both [] b e = (refl, e)
-nil_both (x ∷ a) b e = absurd (cc)
 
 right_heard : (i : ℕ) (k : Make) (b : Base) (dev : Device) (st : Stage) (g : rules.Progress) (job : rules.Job) (m : Mind) (r s : Reply) → st ≡ Running g → r ≡ s → sound.IsRight i k b (hear_in (Running g) job m r) dev (hear_in (Running g) job m r).stage → sound.IsRight i k b (hear_in st job m s) dev (hear_in st job m s).stage
 right_heard i k b dev st g job m r s e f h =

@@ -65,6 +65,7 @@ use Rattle.world_rules.proofs.Spoken.{same_connected, same_on, speaks_still}
 use Rattle.world_rules.proofs.Taking.{DecidesAt, done, one_change, one_party, put_self, sits_there}
 use Rattle.world_rules.proofs.Unimaged.{both_or, waits_as}
 use Rattle.world_rules.proofs.Waiting.{waits_connected}
+use Rattle.world_rules.proofs.Pending.{pends_connected}
 
 -- ---- the client
 
@@ -305,6 +306,7 @@ dialled_stands t w i p id h at low link some frame =
             (speaks_still (t.jobs i).device me after (session_in (seat_by w.daemon (Some id))) (session_in (seat_by e (Some id))) refl refl (same_on after_connected same_connected id.number w.daemon.seats)
             (subst (λ (x : Option SessionId). Speaks (t.jobs i).device me (session_in (seat_by w.daemon x))) link s.speaks));
         waits = waits_connected p.client.progress me.todo s.waits;
+        pends = pends_connected p.client.outcome p.client.progress p.client.phase (t.wires i) bytes s.pends.asking refl s.pends;
       });
       link = λ x is. inl is;
       reseats = reseats_on after_connected p.link w.daemon id.number;

@@ -37,6 +37,7 @@ use Rattle.world_rules.proofs.Seated.{Reseats}
 use Rattle.world_rules.proofs.Sees.{Leaves}
 use Rattle.world_rules.proofs.Sent.{IsSent, talks_sent}
 use Rattle.world_rules.proofs.Taking.{sits_there}
+use Rattle.world_rules.specs.Pending.{HasNoRequest, Pends}
 
 -- ---- the bytes
 
@@ -115,6 +116,7 @@ pub record FedSo (t : Told) (w : Scene) (i : ℕ) (p q : Post) (id : SessionId) 
   pub begun : AllByRecursion (λ (b : Begin). IsSheet b.page) ((after_all t.rules steps).party i).base.started
   pub speaks : Speaks (t.jobs i).device ((after_all t.rules steps).party i) (session_in (seat_of e.seats id.number))
   pub waits : Waits p.client.progress ((after_all t.rules steps).party i).todo
+  pub pending : HasNoRequest asking
   pub means : MeansSo (place_in t.names) (t.jobs i) (fed_wires up asking down (t.wires i)) (t.rules.party i) ((after_all t.rules steps).party i) p q
 
 carries_fed : (x : Wires) (up asking down out : List ℕ) (seat now : Option (Seat DeviceState)) (old new : Post) (served : Bool) → IsFedPost out served old new → out ≡ up → input_in now ≡ asking → replies_in now ≡ down → Carries x seat old → Carries (fed_wires up asking down x) now new
@@ -151,6 +153,7 @@ fed_stands t w i p q id e steps up asking down out h at low link f =
             (subst (λ (m : ℕ → Make). IsServed i m e (Some id) now.served u.rules.device (session_by i u.rules.device now)) (sym f.keeps.make) f.served);
         speaks = subst (λ (x : Option SessionId). Speaks (t.jobs i).device now (session_in (seat_by e x))) (sym q_link) f.speaks;
         waits = subst (λ (v : Talker). Waits v.progress now.todo) (sym f.post.sent.client) f.waits;
+        pends = subst (λ (v : Talker). Pends v.outcome v.progress v.phase bytes) (sym f.post.sent.client) (record { asking = f.pending; telling = s.pends.telling; reading = s.pends.reading });
       });
       link = λ x is. inl (link ∙ (sym q_link ∙ is));
       reseats = subst (λ (x : Option SessionId). Reseats p.link x w.daemon e) (sym q_link) (subst (λ (x : Option SessionId). Reseats x (Some id) w.daemon e) (sym link) f.reseats);

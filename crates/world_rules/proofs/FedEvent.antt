@@ -72,6 +72,7 @@ use Rattle.world_rules.proofs.Waiting.{waits_behind, waits_ended, way_or}
 use Rattle.client_rules.specs.declared.progress.Progress.TheVariants as stages
 use Rattle.scan_rules.proofs.Promised.{sound_after_all}
 use Rattle.world_rules.proofs.Minds.{runs_under}
+use Rattle.world_rules.proofs.Pending.{no_request_none, no_request_wants}
 
 -- ---- a client that has something to send
 
@@ -237,6 +238,7 @@ goes_on t w i n p id session e desk rest text r can f =
       begun = ran.desked.started;
       speaks = subst (λ (o : Option (DeskSession DeviceState)). Speaks (t.jobs i).device now o) (sym session_there) ran.desked.speaks;
       waits = subst (Waits p.client.progress) (sym ran.todo) (waits_behind p.client.progress c.first c.others (subst (Waits p.client.progress) c.are sits.waits));
+      pending = no_request_wants rest g.wants;
       means = record {
         mind = stay.own.mind;
         linked = stay.own.linked;
@@ -301,6 +303,7 @@ off_so t w i n p q id session e fed desk rest text down steps memory r f post c 
       begun = c.started;
       speaks = subst (λ (o : Option (DeskSession DeviceState)). Speaks (t.jobs i).device now o) (sym none) tt;
       waits = waits_ended i (make_for s i) now (wanted s i) p.client.progress me.todo ((sound_after_all t.rules steps h.sound c.legal).talks i) c.served way sits.waits;
+      pending = no_request_none;
       means = record {
         mind = c.keeps.mind;
         linked = c.keeps.linked;
@@ -415,6 +418,7 @@ was_over t w i n p id e h at low link can off same =
       begun = h.begun i;
       speaks = subst (λ (o : Option SessionId). Speaks (t.jobs i).device me (session_in (seat_by w.daemon o))) link s.speaks;
       waits = s.waits;
+      pending = s.pends.asking;
       means = record {
         mind = refl;
         linked = refl;

@@ -63,6 +63,8 @@ use Rattle.world_rules.proofs.HeardReply.{between_at, unturned}
 use Rattle.world_rules.proofs.Stepping.{by_both, by_choking, by_hearing, by_none}
 use Rattle.world_rules.specs.Speaks.{Waits}
 use Rattle.world_rules.proofs.Waiting.{waits_awaited, waits_over}
+use Rattle.world_rules.specs.Pending.{Pends}
+use Rattle.world_rules.proofs.Pending.{no_reply_none, no_request_left, pends_off, pends_same, receives_none, receives_unwanted}
 
 -- the job by the rules, with another mind, and other requests and replies on the way
 abbrev pub moved_on : Party → Mind → List Request → List Reply → List Cause → Party
@@ -148,9 +150,9 @@ reached_stands : (t : Told) (w : Scene) (i n : ℕ) (p q : Post) (id : SessionId
     (r : Reaches (place_in t.names) (t.rules.party i).base.job (pages_shown t i) p.client (t.past i) m text c) → (d : Dried r.past_then (t.pages i) (with_client c p) q) → (m.stage ≡ Idle → ⊥) → c.input.rest ≡ telling →
     StepsTo t i steps (delivered (t.rules.party i).served n telling text (t.wires i)) (record r.past_then { given = r.past_then.given ++ d.more }) (t.pages i) (moved_on (t.rules.party i) m todo due met) →
     SpellsAsked (t.jobs i) m todo (asking_left (t.rules.party i).served (left n (t.wires i).down) (t.wires i).asking ++ ((t.wires i).up ++ text)) → (IsUnderWay m.stage → SpellsTold (place_in t.names) c.progress due (telling ++ left n (t.wires i).down)) →
-    ((phase : Phase) → Flows m.stage (t.rules.party i).base.carriage c.progress phase (t.wires i).image (t.rules.party i).base.flight (t.rules.party i).base.ending) → (Met WasStarved met → Met WasStarved (t.rules.party i).base.met) → Waits c.progress todo →
+    ((phase : Phase) → Flows m.stage (t.rules.party i).base.carriage c.progress phase (t.wires i).image (t.rules.party i).base.flight (t.rules.party i).base.ending) → (Met WasStarved met → Met WasStarved (t.rules.party i).base.met) → Waits c.progress todo → Pends c.outcome c.progress c.phase (delivered (t.rules.party i).served n telling text (t.wires i)) →
     Stands (told_then t i steps (delivered (t.rules.party i).served n telling text (t.wires i)) (record r.past_then { given = r.past_then.given ++ d.more }) (t.pages i)) (record { daemon = world.taken id.number n w.daemon; posts = slice_set w.posts i q })
-reached_stands t w i n p q id c steps m todo more due met telling text more_is g drains r d awake rest to up down flow starved waits =
+reached_stands t w i n p q id c steps m todo more due met telling text more_is g drains r d awake rest to up down flow starved waits pends =
     let s = g.stands.posts i p g.at in
     let me = t.rules.party i in
     let place = place_in t.names in
@@ -163,6 +165,7 @@ reached_stands t w i n p q id c steps m todo more due met telling text more_is g
     (λ under. subst (λ (y : Progress). SpellsTold place y due (telling ++ left n (t.wires i).down)) (sym progress) (down under))
     (subst (λ (y : Progress). Flows m.stage me.base.carriage y q.client.phase (t.wires i).image me.base.flight me.base.ending) (sym progress) (flow q.client.phase)) (λ e. d.starved (s.means.starved (starved e))))
     (subst (λ (y : Progress). Waits y todo) (sym progress) waits)
+    (subst (λ (v : Talker). Pends v.outcome v.progress v.phase (delivered me.served n telling text (t.wires i))) (sym d.client) pends)
 
 -- ---- it waits for the rest
 
@@ -216,7 +219,12 @@ waits_led t w i n p q id c g can waiting drains h =
     (reached_stands t w i n p q id c [] me.mind me.todo [] me.due me.base.met c.input.rest [] (sym (append-nil me.todo)) g drains r d awake refl (by_none t i bytes past (t.pages i)) (asked_same t w i n p id me.mind g refl)
     (λ _. subst (λ (due : List Reply). SpellsTold (place_in t.names) c.progress due (c.input.rest ++ left n x.down)) (sym g.due.due) h.comes)
     (λ phase. flows_still me.mind.stage me.base.carriage c.progress phase x.image me.base.flight me.base.ending g.due.still (λ imaging. absurd (not_imaging me.mind.stage g.due.progress g.due.stage g.due.waits imaging))) (λ e. e)
-    (let f = comes_front (place_in t.names) c.progress g.due.reply (c.input.rest ++ left n x.down) h.comes in waits_awaited c.progress f.procedure me.todo f.awaited_is g.due.todo))
+    (let f = comes_front (place_in t.names) c.progress g.due.reply (c.input.rest ++ left n x.down) h.comes in waits_awaited c.progress f.procedure me.todo f.awaited_is g.due.todo)
+    (record {
+      asking = no_request_left me.served (left n x.down) x.asking s.pends.asking;
+      telling = λ on. h.pending;
+      reading = λ e. absurd (let f = comes_front (place_in t.names) c.progress g.due.reply (c.input.rest ++ left n x.down) h.comes in receives_none c.outcome c.progress f.procedure f.awaited_is e);
+    }))
 
 -- ---- it hears the reply
 
@@ -268,7 +276,8 @@ hears_led t w i n p q id c g can drains h =
     (reached_stands t w i n p q id c steps m (me.todo ++ sends me.base.job.task m.stage) (sends me.base.job.task m.stage) (rest_of me.due) me.base.met [] h.text refl g drains r d awake h.rest (by_hearing t i reply bytes past (t.pages i) (g.due.progress, g.due.stage) g.due.due) (asked_then t w i n p id m (sends me.base.job.task m.stage) h.text g spells)
     (λ _. subst (λ (due : List Reply). SpellsTold place c.progress due (left n x.down)) (sym (due_none me.due reply g.due.due)) h.whole)
     (λ phase. flows_still m.stage me.base.carriage c.progress phase x.image me.base.flight me.base.ending still
-    (λ imaging. flows_begun m.stage me.base.carriage c.progress phase x.image me.base.flight me.base.ending imaging (waits_for i (make_for t.rules i) me.base m (wanted t.rules i) m.stage g.due.right imaging still.ending_is g.due.calm) (imaging_wants place p.client.errand me.base.job (pages_shown t i) c r.past_then m r.reads h.wants imaging) still)) (λ e. e) (h.elsewhere (me.todo ++ sends me.base.job.task m.stage)))
+    (λ imaging. flows_begun m.stage me.base.carriage c.progress phase x.image me.base.flight me.base.ending imaging (waits_for i (make_for t.rules i) me.base m (wanted t.rules i) m.stage g.due.right imaging still.ending_is g.due.calm) (imaging_wants place p.client.errand me.base.job (pages_shown t i) c r.past_then m r.reads h.wants imaging) still)) (λ e. e) (h.elsewhere (me.todo ++ sends me.base.job.task m.stage))
+    (record { asking = no_request_left me.served (left n x.down) x.asking s.pends.asking; telling = λ on. no_reply_none c.progress; reading = λ e. absurd (receives_unwanted c.outcome c.progress h.wants e) }))
 
 -- ---- there is no memory for it
 
@@ -296,7 +305,8 @@ chokes_led t w i n p q id c g can drains h =
       }))),
     ))
     (reached_stands t w i n p q id c steps m me.todo [] me.due (ClientStarved ∷ me.base.met) c.input.rest [] (sym (append-nil me.todo)) g drains r d (stops_idle NoMem Memory me.mind.stage) refl (by_choking t i bytes past (t.pages i) (g.due.progress, g.due.stage)) (asked_same t w i n p id m g refl)
-    (λ u. absurd (stops_over NoMem Memory me.mind.stage u)) (λ phase. flows_over m.stage me.base.carriage c.progress phase x.image me.base.flight me.base.ending (stops_over NoMem Memory me.mind.stage)) (other_cause WasStarved ClientStarved me.base.met starved_else) (waits_over c.progress me.todo (r.over h.over)))
+    (λ u. absurd (stops_over NoMem Memory me.mind.stage u)) (λ phase. flows_over m.stage me.base.carriage c.progress phase x.image me.base.flight me.base.ending (stops_over NoMem Memory me.mind.stage)) (other_cause WasStarved ClientStarved me.base.met starved_else) (waits_over c.progress me.todo (r.over h.over))
+    (pends_off c.outcome c.progress c.phase bytes h.over (no_request_left me.served (left n x.down) x.asking (g.stands.posts i p g.at).pends.asking)))
 
 both_led : (t : Told) (w : Scene) (i n : ℕ) (p q : Post) (id : SessionId) (c : Talker) → (g : Ready t w i n p id) → Can t i (events.ToClient n) → Drains (with_client c p) q →
     ChokesBehind (place_in t.names) (t.rules.party i).base.job (pages_shown t i) (t.rules.party i).mind p.client (t.past i) (moved n (t.wires i).down) (left n (t.wires i).down) g.due.reply c → Led t i n (then_scene w i n id q)
@@ -328,7 +338,8 @@ both_led t w i n p q id c g can drains h =
       }))),
     ))
     (reached_stands t w i n p q id c steps m (me.todo ++ sends me.base.job.task then_.stage) (sends me.base.job.task then_.stage) (rest_of me.due) (ClientStarved ∷ me.base.met) c.input.rest h.text refl g drains r d (stops_idle NoMem Memory then_.stage) refl to (asked_then t w i n p id m (sends me.base.job.task then_.stage) h.text g spells)
-    (λ u. absurd (stops_over NoMem Memory then_.stage u)) (λ phase. flows_over m.stage me.base.carriage c.progress phase x.image me.base.flight me.base.ending (stops_over NoMem Memory then_.stage)) (other_cause WasStarved ClientStarved me.base.met starved_else) (waits_over c.progress _ (r.over h.over)))
+    (λ u. absurd (stops_over NoMem Memory then_.stage u)) (λ phase. flows_over m.stage me.base.carriage c.progress phase x.image me.base.flight me.base.ending (stops_over NoMem Memory then_.stage)) (other_cause WasStarved ClientStarved me.base.met starved_else) (waits_over c.progress _ (r.over h.over))
+    (pends_off c.outcome c.progress c.phase bytes h.over (no_request_left me.served (left n x.down) x.asking s.pends.asking)))
 
 -- ---- a job that is over
 
@@ -362,7 +373,8 @@ ignored_led t w i n p id h at low link can over =
     done (events.ToClient n) (Hears n) t i _ [] (told_then t i [] bytes (t.past i) (t.pages i)) can (inl (record { over = over; steps_are = refl; takes = record { legal = tt; then_is = refl } }))
     (delivered_stands t w i n p (spent p) id [] bytes (t.past i) me h at low link refl (by_none t i bytes (t.past i) (t.pages i)) (record { served = refl; job = refl; started = refl; session = λ j device. refl; more = []; todo = sym (append-nil me.todo); awaited = refl }) (talks_spent (place_in t.names) (t.jobs i) (t.past i) (t.pages i) me p s.talks)
     (carries_taken t w i n p (spent p) id x.telling [] h at link (sym (append-nil p.client.out)) s.carries.telling refl)
-    (means_then (place_in t.names) (t.jobs i) x n x.telling [] me me.mind me.todo me.due me.base.met p (spent p) s.means refl refl refl refl (λ idle. over (subst IsUnderWay (sym idle) tt)) (λ served. asked_still (t.jobs i) x n me me.mind served (s.means.up served) refl) (λ u. absurd (over u)) s.means.flow s.means.starved) s.waits)
+    (means_then (place_in t.names) (t.jobs i) x n x.telling [] me me.mind me.todo me.due me.base.met p (spent p) s.means refl refl refl refl (λ idle. over (subst IsUnderWay (sym idle) tt)) (λ served. asked_still (t.jobs i) x n me me.mind served (s.means.up served) refl) (λ u. absurd (over u)) s.means.flow s.means.starved) s.waits
+    (pends_same p.client.outcome p.client.progress p.client.phase x bytes (no_request_left me.served (left n x.down) x.asking s.pends.asking) refl s.pends))
 
 -- ---- the event
 

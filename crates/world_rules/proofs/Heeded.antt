@@ -42,6 +42,9 @@ use Rattle.world_rules.proofs.HeardReply.{reply_over, reply_wants, reply_word}
 use Rattle.world_rules.proofs.Elsewhere.{reply_elsewhere}
 use Rattle.world_rules.specs.Speaks.{Waits}
 use Rattle.scan_rules.specs.Words as words
+use Rattle.world_rules.specs.Pending.{HasNoReply}
+use Rattle.world_rules.proofs.Pending.{no_reply_wants}
+use Rattle.world_rules.proofs.Lists.{nil_both}
 
 -- ---- what came so far of the reply that is due
 
@@ -70,10 +73,6 @@ pub record IsTaken (place : DeviceInfo → ℕ) (errand : Errand) (job : rules.J
   pub past : last.past ≡ t.past
   pub word : t.notes.word ≡ 0 → u.notes.word ≡ 0
   pub holds : (h : Hearer) → t.notes.word ≡ 0 → HearingAll place errand job t told Holds h → Holds (learned job 0 h (hear_in h.mind.stage job h.mind r))
-
-nil_both : (a b : List ℕ) → a ++ b ≡ [] → (a ≡ []) × (b ≡ [])
-nil_both [] b e = (refl, e)
-nil_both (x ∷ a) b e = absurd (cc)
 
 none_yet : (Holds : Hearer → Type 0) (place : DeviceInfo → ℕ) (errand : Errand) (job : rules.Job) (t u : Talk) (text sent rest left all : List ℕ) (r : Reply) → Comes place t.progress r all → (text ++ rest) ++ left ≡ all → Hears errand t [] text sent u → IsDue place errand job t u [] text rest left r Holds
 none_yet Holds place errand job t u text sent rest left all r c e h =
@@ -207,6 +206,7 @@ pub record WaitsOn (place : DeviceInfo → ℕ) (job : rules.Job) (pages : List 
   pub came : old.input.rest ++ piece ≡ front ++ new.input.rest
   pub before : (front ≡ []) ⊎ IsWordAt old.progress front
   pub comes : Comes place new.progress r (new.input.rest ++ left)
+  pub pending : HasNoReply new.progress new.input.rest
   pub runs : is_running new.outcome ≡ true
   pub reaches : Reaches place job pages old past m [] new
 
@@ -305,6 +305,7 @@ waits_on place job pages m old past piece left r new b h wants alike d =
       came = h.whole;
       before = d.before;
       comes = d.comes;
+      pending = no_reply_wants new.progress new.input.rest (wants runs);
       runs = runs;
       reaches = record {
         past_then = h.past_then;

@@ -5,6 +5,7 @@ pub mod Lost
 pub mod Drained
 pub mod Waiting
 pub mod Elsewhere
+pub mod Pending
 pub mod Spelling
 pub mod Seated
 pub mod Sees

@@ -1,5 +1,5 @@
 -- A list with something else in one place, and what a predicate says of it.
-use Rattle.std.proofs.Common.{◌≡◌, ◌≢◌, ◌⊎◌, inl, inr, ℕ, zero, suc, ◌<◌, ◌≤◌, List, [], ◌∷◌, Some, Bool, true, false, refl, ap, length, slice_get, slice_set, eqb, eqb-true, arith}
+use Rattle.std.proofs.Common.{◌≡◌, ◌≢◌, ◌⊎◌, inl, inr, ℕ, zero, suc, ◌<◌, ◌≤◌, List, [], ◌∷◌, ◌++◌, Some, Bool, true, false, refl, ap, length, slice_get, slice_set, eqb, eqb-true, arith}
 use Rattle.std.proofs.lemmas.Bool.{eqb-false}
 
 pub set_there : {X : Type 0} (xs : List X) (i : ℕ) (x y : X) → slice_get xs i ≡ Some y → slice_get (slice_set xs i x) i ≡ Some x
@@ -41,3 +41,7 @@ is_same i j = by_test i j (eqb i j) refl
     by_test : (i j : ℕ) (b : Bool) → eqb i j ≡ b → (i ≡ j) ⊎ (i ≢ j)
     by_test i j true e = inl (eqb-true i j e)
     by_test i j false e = inr (eqb-false i j e)
+
+pub nil_both : {X : Type 0} (a b : List X) → a ++ b ≡ [] → (a ≡ []) × (b ≡ [])
+nil_both [] b e = (refl, e)
+nil_both (x ∷ a) b e = absurd (cc)

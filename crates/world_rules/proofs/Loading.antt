@@ -181,6 +181,7 @@ lays_leased t w name source steady sheet h d takes =
               speaks = subst (λ (o : Option SessionId). Speaks (t.jobs i).device (t.rules.party i) (session_in (seat_by e o))) (sym d.link)
                   (speaks_still (t.jobs i).device (t.rules.party i) (t.rules.party i) (session_in (seat_of w.daemon.seats d.id.number)) (session_in (seat_of e.seats d.id.number)) refl refl same (subst (λ (o : Option SessionId). Speaks (t.jobs i).device (t.rules.party i) (session_in (seat_by w.daemon o))) d.link s.speaks));
               waits = s.waits;
+              pends = s.pends;
             };
             link = λ x is. inl is;
             reseats = reseats_on g p.link w.daemon d.id.number;
@@ -441,6 +442,7 @@ lays_in t w name source steady sheet h free d takes =
               served = served_in j t.rules.make w.daemon post.link (t.rules.party j).served t.rules.device (t.rules.party j) name source d takes s.served;
               speaks = s.speaks;
               waits = s.waits;
+              pends = s.pends;
             };
         beyond = λ j high. let b = h.beyond j high in record { stage = b.stage; linked = b.linked; carriage = b.carriage; image = b.image; table = table_in j t.rules.make [] w.daemon.registry t.rules.device name source d takes b.table };
         own = h.own;

@@ -43,6 +43,7 @@ use Rattle.world_rules.proofs.Seated.{Reseats, reseats_ended}
 use Rattle.world_rules.proofs.Sees.{Leaves}
 use Rattle.world_rules.proofs.Taking.{DecidesAt, done, one_change, one_party, sits_there}
 use Rattle.world_rules.proofs.Waiting.{waits_lost}
+use Rattle.world_rules.proofs.Pending.{no_request_none, pends_if}
 
 -- the job by the rules, for this cause
 abbrev pub loses_by : Cause → Party → Party
@@ -118,6 +119,7 @@ unlinked_stands t w i p id h at low link =
         served = (refl, shows_ended i t.rules.make w.daemon id me.served t.rules.device me served);
         speaks = tt;
         waits = waits_lost p.client after.todo s.talks.over;
+        pends = pends_if (is_running p.client.outcome) p.client (t.wires i) bytes no_request_none refl s.pends;
       });
       link = λ x none. absurd (let clash : None ≡ Some x = none in cc);
       reseats = subst (λ (x : Option SessionId). Reseats x None w.daemon e) (sym link) (reseats_ended w.daemon id h.seated.apart);

@@ -8,6 +8,7 @@ use Rattle.page_picture.specs.Page.{IsSheet}
 use Rattle.device_api.specs.declared.device_info.DeviceInfo.{DeviceInfo}
 use Rattle.page_picture.specs.Shows.{Frame}
 use Rattle.data_records.specs.declared.records.Phase.{Phase}
+use Rattle.data_records.specs.Records.{HasEnded}
 use Rattle.frame_join.specs.FrameHistory.{Past, is_joined}
 use Rattle.saned_core.specs.declared.seat.SessionId.{SessionId}
 use Rattle.saned_core.specs.State.{Core, replies_in, session_in}
@@ -59,7 +60,8 @@ use Rattle.world_rules.specs.Seen.{Sees, by_all, open_still, seen}
 use Rattle.world_rules.proofs.Cancelling.{flows_over}
 use Rattle.world_rules.proofs.Changing.{stands_change}
 use Rattle.world_rules.proofs.Dialling.{imaging_still, told_nothing}
-use Rattle.world_rules.proofs.Drained.{drained, few_further, place_few}
+use Rattle.world_rules.proofs.Drained.{awaits_next, drained, few_further, place_few}
+use Rattle.world_rules.proofs.Lists.{nil_both}
 use Rattle.world_rules.proofs.Minds.{runs_under, under_runs}
 use Rattle.world_rules.proofs.Seated.{Reseats, reseats_same}
 use Rattle.world_rules.proofs.SeenPiece.{IsMid, IsReader, IsThen, fewer_pages, handed, images, received_mid}
@@ -69,6 +71,8 @@ use Rattle.world_rules.proofs.Taking.{DecidesAt, done, leaves_core, same_served,
 use Rattle.world_rules.proofs.Unimaged.{both_or, flows_imaging, imaging_woken, none_some, waits_as, waits_imaging}
 use Rattle.world_rules.proofs.Elsewhere.{received_unopened}
 use Rattle.world_rules.proofs.Waiting.{waits_turned}
+use Rattle.world_rules.specs.Pending.{HasNoReply, Pends}
+use Rattle.world_rules.proofs.Pending.{no_reply_none, pends_same, received_reading}
 
 -- ---- the post
 
@@ -161,6 +165,7 @@ pub record IsSeen (t : Told) (i : ℕ) (p : Post) (n : ℕ) (image : Image) (r :
   pub flow : Flows now.mind.stage now.base.carriage r.client.progress r.client.phase (open_still (t.rules.party i).base.ending (left n image.bytes)) now.base.flight now.base.ending
   pub down : IsUnderWay now.mind.stage → SpellsTold (place_in t.names) r.client.progress (t.rules.party i).due ((t.wires i).telling ++ (t.wires i).down)
   pub waits : Waits r.client.progress now.todo
+  pub pends : Pends r.client.outcome r.client.progress r.client.phase (seen n image.bytes sent (t.rules.party i).base.ending (t.wires i))
   pub sees : (u : Told) → u.rules.party i ≡ now → u ≡ told_then t i (by_all i come) (seen n image.bytes sent (t.rules.party i).base.ending (t.wires i)) past pages → (t.wires i).image ≡ Some image.bytes → Sees n t i (by_all i come) u
 
 carries_seen : (t : Told) (i : ℕ) (p : Post) (n : ℕ) (image : Image) (r : Post) (core : Core) → p.image ≡ Some image → image.is_last ≡ is_some (t.rules.party i).base.ending → (s : IsSeen t i p n image r) → Carries (t.wires i) (seat_by core p.link) p → Carries (seen n image.bytes s.sent (t.rules.party i).base.ending (t.wires i)) (seat_by core r.link) (closed r)
@@ -278,6 +283,7 @@ over_seen t w i p n image h at has never =
       flow = flows_over me.mind.stage me.base.carriage p.client.progress p.client.phase (open_still me.base.ending (left n image.bytes)) me.base.flight me.base.ending never;
       down = λ u. absurd (never u);
       waits = s.waits;
+      pends = pends_same p.client.outcome p.client.progress p.client.phase (t.wires i) _ s.pends.asking refl s.pends;
       sees = λ u is then_is at_image. record {
         text = image.bytes;
         image_is = at_image;
@@ -316,7 +322,7 @@ imaging_part : (job : rules.Job) (progress : Progress) (notes : Notes) (past : P
 imaging_part job (stages.Imaging port made) notes past m w e = w.part
 imaging_part job progress notes past m w e = absurd (let clash : false ≡ true = e in cc)
 
-is_reader : (t : Told) (w : Scene) (i : ℕ) (p : Post) (image : Image) → Stands t w → slice_get w.posts i ≡ Some p → i < t.count → p.image ≡ Some image → is_running p.client.outcome ≡ true → IsReader t i p image.bytes
+pub is_reader : (t : Told) (w : Scene) (i : ℕ) (p : Post) (image : Image) → Stands t w → slice_get w.posts i ≡ Some p → i < t.count → p.image ≡ Some image → is_running p.client.outcome ≡ true → IsReader t i p image.bytes
 is_reader t w i p image h at low has runs =
     let s = h.posts i p at in
     let me = t.rules.party i in
@@ -370,9 +376,9 @@ last_place : (b : Bool) (pages then_ : List Past) → length pages < 16 → (b �
 last_place true pages then_ few same = inl (subst (λ (x : List Past). length x < 16) (sym (same refl)) few)
 last_place false pages then_ few same = inr refl
 
-under_seen : (t : Told) (w : Scene) (i : ℕ) (p : Post) (n : ℕ) (image : Image) (mid : Talker) (after : Post) → Stands t w → slice_get w.posts i ≡ Some p → i < t.count → p.image ≡ Some image → (h : IsReader t i p image.bytes) → (m : IsMid t i p (moved n image.bytes) (left n image.bytes) (handed n image p) mid) → (mid.progress ≡ stages.Reopening → ⊥) →
+under_seen : (t : Told) (w : Scene) (i : ℕ) (p : Post) (n : ℕ) (image : Image) (mid : Talker) (after : Post) → Stands t w → slice_get w.posts i ≡ Some p → i < t.count → p.image ≡ Some image → (h : IsReader t i p image.bytes) → (m : IsMid t i p (moved n image.bytes) (left n image.bytes) (handed n image p) mid) → (mid.progress ≡ stages.Reopening → ⊥) → (is_receiving mid.outcome (awaits_next (turns mid.outcome mid.progress) mid.progress) ≡ true → HasEnded mid.phase → ⊥) →
     Drains (record (handed n image p) { client = mid }) after → IsSeen t i p n image (finished after)
-under_seen t w i p n image mid after st at low has h m unopened drains =
+under_seen t w i p n image mid after st at low has h m unopened reading drains =
     let s = st.posts i p at in
     let me = t.rules.party i in
     let place = place_in t.names in
@@ -396,6 +402,9 @@ under_seen t w i p n image mid after st at low has h m unopened drains =
     let shown : List (List Frame) = map (λ (x : Past). x.ended) d.pages in
     let still = imaging_still i (make_for t.rules i) me (wanted t.rules i) me.mind.stage (st.sound.talks i) (h.params, h.heard, h.stage) in
     let connected : r.was_connected ≡ p.was_connected = ap (λ (x : Post). x.was_connected) rest in
+    let bytes = seen n image.bytes (m.sent ++ d.sent) me.base.ending (t.wires i) in
+    let nothing = subst (λ (due : List Reply). SpellsTold place p.client.progress due ((t.wires i).telling ++ (t.wires i).down)) still.due (s.means.down (subst IsUnderWay (sym h.stage) tt)) in
+    let silence = nil_both (t.wires i).telling (t.wires i).down nothing in
     record {
       come = m.come;
       may = m.may;
@@ -434,6 +443,12 @@ under_seen t w i p n image mid after st at low has h m unopened drains =
           (subst (λ (x : Progress). Flows m.now.mind.stage m.now.base.carriage x mid.phase (open_still me.base.ending (left n image.bytes)) m.now.base.flight m.now.base.ending) (sym d.progress) m.flow));
       down = λ u. told_nothing place p.client.progress r.client.progress me.due ((t.wires i).telling ++ (t.wires i).down) still.due (s.means.down (subst IsUnderWay (sym h.stage) tt));
       waits = subst (λ (v : Talker). Waits v.progress m.now.todo) (sym same) (subst (λ (x : Progress). Waits x m.now.todo) (sym d.progress) (waits_turned mid.outcome mid.progress m.now.todo m.told.over unopened));
+      pends = subst (λ (v : Talker). Pends v.outcome v.progress v.phase bytes) (sym same) (record {
+        asking = s.pends.asking;
+        telling = λ on. subst (HasNoReply after.client.progress) (sym silence.0) (no_reply_none after.client.progress);
+        reading = subst (λ (x : Phase). is_receiving after.client.outcome after.client.progress ≡ true → HasEnded x → ⊥) (sym d.phase)
+            (subst (λ (x : Progress). is_receiving after.client.outcome x ≡ true → HasEnded mid.phase → ⊥) (sym d.progress) (subst (λ (o : Outcome). is_receiving o (awaits_next (turns mid.outcome mid.progress) mid.progress) ≡ true → HasEnded mid.phase → ⊥) (sym d.outcome) reading));
+      });
       sees = λ u is then_is at_image. record {
         text = image.bytes;
         image_is = at_image;
@@ -490,6 +505,7 @@ seen_stands t w i p n image r h at low has some positive s =
         speaks = subst (λ (x : Option SessionId). Speaks (t.jobs i).device s.now (session_in (seat_by w.daemon x))) (sym link)
             (speaks_more (t.jobs i).device me s.now s.asks (session_in (seat_by w.daemon p.link)) (session_in (seat_by w.daemon p.link)) c.todo c.awaited (same_as (session_in (seat_by w.daemon p.link))) sits.speaks);
         waits = s.waits;
+        pends = s.pends;
       });
       link = λ id e. inl (sym link ∙ e);
       reseats = subst (λ (x : Option SessionId). Reseats p.link x w.daemon w.daemon) (sym link) (reseats_same p.link w.daemon);
@@ -510,8 +526,9 @@ seen_by t w i p n image r h at low has (inl runs) d =
     let task : (t.rules.party i).base.job.task ≡ task_of (t.jobs i).task = ap (λ (x : rules.Job). x.task) s.job_is in
     let came = d.receives reader.receiving (t.past i) s.talks.serves in
     let mid = received_mid t i p n image d.mid (h.is_of.counts i low) task reader came in
+    let reading = received_reading p.client (t.past i) (moved n image.bytes) d.mid (turns d.mid.outcome d.mid.progress) came in
     let unopened = received_unopened p.client (t.past i) (moved n image.bytes) d.mid reader.receiving came in
-    subst (λ (x : Post). IsSeen t i p n image x) (sym (d.finishes runs)) (under_seen t w i p n image d.mid d.after h at low has reader mid unopened (d.drains runs))
+    subst (λ (x : Post). IsSeen t i p n image x) (sym (d.finishes runs)) (under_seen t w i p n image d.mid d.after h at low has reader mid unopened reading (d.drains runs))
 
 bytes_or : (xs : List ℕ) → (xs ≢ []) ⊎ ((xs ≢ []) → ⊥)
 bytes_or [] = inr (λ n. n refl)

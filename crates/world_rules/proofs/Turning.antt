@@ -58,6 +58,7 @@ use Rattle.world_rules.proofs.Spoken.{speaks_still}
 use Rattle.world_rules.proofs.Taking.{DecidesAt, done, one_change, one_party, put_self, sits_there}
 use Rattle.world_rules.proofs.Turned.{IsShortRecord, Turn, Failed, Gives, Named, Off, Short, Whole, carriage_after, deed_of, device_is, ending_after, flight_after, is_end, job_after, met_after, party_is, record_of, text_of}
 use Rattle.world_rules.proofs.Unimaged.{both_or, by_imaging, bytes_some, none_some, some_bytes, some_or}
+use Rattle.world_rules.proofs.Pending.{pends_same}
 
 -- ---- what is on the way
 
@@ -248,6 +249,7 @@ turned_stands t w i p id im mid step buf h at low link image served started some
             (speaks_still (t.jobs i).device me after (session_in (seat_by w.daemon (Some id))) (session_in (seat_by mid (Some id))) refl refl turned.same
             (subst (λ (x : Option SessionId). Speaks (t.jobs i).device me (session_in (seat_by w.daemon x))) link s.speaks));
         waits = s.waits;
+        pends = pends_same p.client.outcome p.client.progress p.client.phase (t.wires i) bytes s.pends.asking refl s.pends;
       });
       link = λ x is. inl is;
       reseats = turned.reseats p.link;

@@ -55,6 +55,7 @@ use Rattle.world_rules.proofs.Held.{held_after_all}
 use Rattle.world_rules.proofs.Spoken.{same_lost, same_on, speaks_still}
 use Rattle.world_rules.proofs.Taking.{DecidesAt, done, one_change, one_party, sits_there}
 use Rattle.world_rules.proofs.Waiting.{waits_if}
+use Rattle.world_rules.proofs.Pending.{pends_if}
 
 -- ---- a job that is under way has a data connection for the data of a frame alone
 
@@ -203,6 +204,7 @@ unimaged_stands t w i p id h at low link some =
             (speaks_still (t.jobs i).device me after (session_in (seat_by w.daemon (Some id))) (session_in (seat_by e (Some id))) refl refl (same_on after_lost same_lost id.number w.daemon.seats)
             (subst (λ (x : Option SessionId). Speaks (t.jobs i).device me (session_in (seat_by w.daemon x))) link s.speaks));
         waits = waits_if b p.client me.todo s.waits;
+        pends = pends_if b p.client (t.wires i) bytes s.pends.asking refl s.pends;
       });
       link = λ x is. inl is;
       reseats = reseats_on after_lost p.link w.daemon id.number;

@@ -148,6 +148,7 @@ out_stands t w name h d =
               served = served_out j t.rules.make w.daemon post.link (t.rules.party j).served t.rules.device (t.rules.party j) name d apart s.served;
               speaks = s.speaks;
               waits = s.waits;
+              pends = s.pends;
             };
         beyond = λ j high. let b = h.beyond j high in record { stage = b.stage; linked = b.linked; carriage = b.carriage; image = b.image; table = table_out j t.rules.make [] w.daemon.registry t.rules.device name d b.table };
         own = h.own;

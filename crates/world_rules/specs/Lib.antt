@@ -1,6 +1,7 @@
 pub mod Told
 pub mod Spelled
 pub mod Speaks
+pub mod Pending
 pub mod Stands
 pub mod Happens
 pub mod Answering

@@ -45,6 +45,7 @@ use Rattle.scan_world.specs.Deeds.{is_done}
 use Rattle.scan_world.specs.Worlds.{Scene}
 use Rattle.world_rules.specs.Told.{Told, Wires, place_in, rules_job}
 use Rattle.world_rules.specs.Spelled.{Flows, SpellsAsked, SpellsTold}
+use Rattle.world_rules.specs.Pending.{Pends}
 use Rattle.world_rules.specs.Speaks.{AsksAsHeld, Speaks, Waits}
 
 -- ---- the client and its files
@@ -202,6 +203,7 @@ pub record Sits (users : List Entry) (names : List (List ℕ)) (job : Job) (make
   pub served : IsServed i make core post.link p.served device (session_by i device p)
   pub speaks : Speaks job.device p (session_in (seat_by core post.link))
   pub waits : Waits post.client.progress p.todo
+  pub pends : Pends post.client.outcome post.client.progress post.client.phase wires
 
 abbrev pub SitsAt : Told → Core → ℕ → Post → Type 0
 SitsAt t core i post = Sits t.users t.names (t.jobs i) t.rules.make t.rules.device i (t.rules.party i) (t.wires i) (t.past i) (t.pages i) core post
