@@ -41,7 +41,7 @@ pub limited_is : (text : List ℕ) (q : Request) → (limited message_limit requ
 unfolding limited
 limited_is text q s = s.1
 
-is_limited : (text : List ℕ) (q : Request) → request.spells text q → (limited message_limit request).spells text q
+pub is_limited : (text : List ℕ) (q : Request) → request.spells text q → (limited message_limit request).spells text q
 unfolding limited
 is_limited text q s = (request_within text q s, s)
 
@@ -51,9 +51,9 @@ is_limited text q s = (request_within text q s, s)
 pub record Sent (q : Request) (qs : List Request) (all : List ℕ) : Type 0 where
   pub front : List ℕ
   pub back : List ℕ
-  whole : all ≡ front ++ back
+  pub whole : all ≡ front ++ back
   written : write_request.text q ≡ Some front
-  spelled : request.spells front q
+  pub spelled : request.spells front q
   others : requests_text qs ≡ Some back
 
 sent_by : (q : Request) (qs : List Request) (all : List ℕ) (a b : Option (List ℕ)) → write_request.text q ≡ a → requests_text qs ≡ b → joined a b ≡ Some all → Sent q qs all
@@ -63,7 +63,7 @@ sent_by q qs all (Some a) (Some b) is_a is_b e =
     let is : a ++ b ≡ all = cc in
     record { front = a; back = b; whole = sym is; written = is_a; spelled = (request-writes q).spelled a is_a; others = is_b }
 
-sent : (q : Request) (qs : List Request) (all : List ℕ) → requests_text (q ∷ qs) ≡ Some all → Sent q qs all
+pub sent : (q : Request) (qs : List Request) (all : List ℕ) → requests_text (q ∷ qs) ≡ Some all → Sent q qs all
 sent q qs all e = sent_by q qs all (write_request.text q) (requests_text qs) refl refl e
 
 joined_so : (q : Request) (qs : List Request) (a b : List ℕ) → write_request.text q ≡ Some a → requests_text qs ≡ Some b → requests_text (q ∷ qs) ≡ Some (a ++ b)

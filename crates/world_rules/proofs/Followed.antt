@@ -33,6 +33,7 @@ use Rattle.world_rules.proofs.OneAnswer.{all_requests}
 use Rattle.world_rules.proofs.Paged.{pages_are_meant}
 use Rattle.world_rules.proofs.Promised.{outcomes_are_right, scans_are_meant}
 use Rattle.world_rules.proofs.Seeing.{data_decides}
+use Rattle.world_rules.proofs.Stuck.{nobody_is_stuck}
 use Rattle.world_rules.proofs.Taking.{follows_by}
 use Rattle.world_rules.proofs.Turning.{turn_decides}
 use Rattle.world_rules.proofs.Unimaged.{image_decides}
@@ -168,6 +169,7 @@ all_kept source events jobs other devices w v new daemon names steady fit sheets
         outcomes = λ i post at. outcomes_are_right u v i post stood.stands at;
         scans = λ i post reports file at task done file_is. scans_are_meant u v i post reports file stood.stands at task done file_is;
         batches = λ i count post reports at task done. batches_are_counted u v i count post reports stood.stands (subst (λ (n : ℕ). i < n) (sym stood.stands.is_of.count) (within v.posts i post at)) at task done;
+        moves = λ i post event at next. nobody_is_stuck u v i post event stood.stands at next;
         pages = λ i k post file at low file_is. pages_are_meant u v i k post file stood.stands at low file_is;
       };
     }

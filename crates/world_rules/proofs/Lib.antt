@@ -77,4 +77,5 @@ pub mod SeenSteps
 pub mod SeenPiece
 pub mod Seeing
 pub mod Counted
+pub mod Stuck
 pub mod Followed

@@ -1,5 +1,5 @@
 -- What a list of events does to what stands, in whatever order they come, and what is promised behind it.
-use Rattle.std.specs.Prelude.{ℕ, ◌≡◌, ◌<◌, ◌++◌, true, Some, List, [], ◌∷◌, All, slice_get}
+use Rattle.std.specs.Prelude.{ℕ, ◌≡◌, ◌<◌, ◌++◌, true, false, Option, Some, None, IsSome, List, [], ◌∷◌, All, slice_get}
 use Rattle.page_picture.specs.Page.{IsSheet}
 use Rattle.page_picture.specs.Source.{SourceState}
 use Rattle.page_picture.specs.declared.sources.kinds.Source.{Source}
@@ -15,7 +15,9 @@ use Rattle.scan_rules.specs.Steps.{IsHistory, Step, after_all}
 use Rattle.scan_world.specs.declared.event.Event.{Event}
 use Rattle.scan_world.specs.declared.event.Event.TheVariants.{Connect, ToDaemon, ToClient, DataConnect, DataTurn, DataToClient, LoseControl, LoseImage, Cancel, Load, Unplug}
 use Rattle.scan_world.specs.declared.event.Deed.TheVariants as deeds
+use Rattle.client_rules.specs.Talks.{is_running}
 use Rattle.scan_world.specs.declared.post.Post.{Post}
+use Rattle.scan_world.specs.Moves.{IsNextMove}
 use Rattle.scan_world.specs.Worlds.{AreNew, IsFit, Runs, Scene}
 use Rattle.world_rules.specs.Told.{Told}
 use Rattle.world_rules.specs.Stands.{Stands}
@@ -71,11 +73,12 @@ EventsFollow = (source : Source → SourceState) (events : List Event) (t : Told
 -- ---- the headline
 
 -- of each job: its outcome is the rules', the file of a scan that is done and those of a batch's finished pages denote what the job's
--- settings mean on the pages of its starts
+-- settings mean on the pages of its starts, a batch has its pages, and a job that runs has a next move
 pub record Promises (u : Told) (v : Scene) : Type 0 where
   pub outcomes : (i : ℕ) (post : Post) → slice_get v.posts i ≡ Some post → IsOutcome u i post.client.outcome
   pub scans : (i : ℕ) (post : Post) (reports : Reports) (file : List ℕ) → slice_get v.posts i ≡ Some post → (u.jobs i).task ≡ tasks.Scan → post.client.outcome ≡ Done reports → post.file ≡ Some file → HasScanned u i file
   pub batches : (i count : ℕ) (post : Post) (reports : Reports) → slice_get v.posts i ≡ Some post → (u.jobs i).task ≡ tasks.Batch count → post.client.outcome ≡ Done reports → IsCounted u i count post
+  pub moves : (i : ℕ) (post : Post) (event : Option Event) → slice_get v.posts i ≡ Some post → IsNextMove v.daemon i post event → (is_running post.client.outcome ≡ true → IsSome event) × (is_running post.client.outcome ≡ false → event ≡ None)
   pub pages : (i k : ℕ) (post : Post) (file : List ℕ) → slice_get v.posts i ≡ Some post → k < post.finished → slice_get post.pages k ≡ Some (Some file) → HasScannedPage u i k file
 
 -- From a new world on it is so behind any events, in whatever order they come and in whatever pieces bytes are delivered: what they

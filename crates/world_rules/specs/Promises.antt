@@ -1,5 +1,5 @@
 -- What is promised of a job's outcome and of its file, of whatever a world stands for.
-use Rattle.std.specs.Prelude.{◌<◌, ℕ, ◌≡◌, ◌≢◌, ◌⊎◌, Option, Some, option_map, List, ◌∷◌, map, slice_get}
+use Rattle.std.specs.Prelude.{◌<◌, ℕ, ◌≡◌, ◌≢◌, ◌⊎◌, true, false, Option, Some, None, IsSome, option_map, List, ◌∷◌, map, slice_get}
 use Rattle.sane_fixed.specs.declared.status.Status.{Status as Code}
 use Rattle.netpbm.specs.Picture.{Picture}
 use Rattle.netpbm.specs.Pnm.{Denotes}
@@ -26,7 +26,10 @@ use Rattle.scan_rules.specs.Sound.{IsCaused}
 use Rattle.scan_rules.specs.Sync.{IsPermitted, IsSettled}
 use Rattle.client_reading.specs.Senses.{why_of}
 use Rattle.client_reading.specs.Reading.{descs, put_by, put_of, shown}
+use Rattle.client_rules.specs.Talks.{is_running}
+use Rattle.scan_world.specs.declared.event.Event.{Event}
 use Rattle.scan_world.specs.declared.post.Post.{Post}
+use Rattle.scan_world.specs.Moves.{IsNextMove}
 use Rattle.scan_world.specs.Worlds.{Scene}
 use Rattle.world_rules.specs.Told.{Told, party, place_in}
 use Rattle.world_rules.specs.Stands.{Stands}
@@ -109,3 +112,10 @@ IsCounted t i count post = (post.finished ≡ count) ⊎ ((0 < post.finished) ×
 abbrev pub BatchesAreCounted : Type 0
 BatchesAreCounted =
     (t : Told) (w : Scene) (i count : ℕ) (post : Post) (reports : Reports) → Stands t w → i < t.count → slice_get w.posts i ≡ Some post → (t.jobs i).task ≡ tasks.Batch count → post.client.outcome ≡ Done reports → IsCounted t i count post
+
+-- ---- moves
+
+-- a job has a next move just where it runs
+abbrev pub NobodyIsStuck : Type 0
+NobodyIsStuck =
+    (t : Told) (w : Scene) (i : ℕ) (post : Post) (event : Option Event) → Stands t w → slice_get w.posts i ≡ Some post → IsNextMove w.daemon i post event → (is_running post.client.outcome ≡ true → IsSome event) × (is_running post.client.outcome ≡ false → event ≡ None)

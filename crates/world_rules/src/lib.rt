@@ -15,4 +15,6 @@ pub use events::{
     a_loss_stands, a_turn_stands,
 };
 pub use histories::{a_list_of_events_stands, all_is_kept};
-pub use promises::{a_batch_is_counted, a_scan_is_meant, outcomes_are_right, pages_are_meant};
+pub use promises::{
+    a_batch_is_counted, a_scan_is_meant, nobody_is_stuck, outcomes_are_right, pages_are_meant,
+};

@@ -1,6 +1,6 @@
 //! What is promised of jobs, of whatever a world stands for.
 
-ghost use Rattle.world_rules.specs.Promises.{BatchesAreCounted, OutcomesAreRight, PagesAreMeant, ScansAreMeant};
+ghost use Rattle.world_rules.specs.Promises.{BatchesAreCounted, NobodyIsStuck, OutcomesAreRight, PagesAreMeant, ScansAreMeant};
 
 /// A job that runs is under way; one that is done kept its promise on its settings, on permission and on its list; one that ended
 /// otherwise has its cause.
@@ -26,4 +26,10 @@ pub fn pages_are_meant()
 #[tactic(none)]
 pub fn a_batch_is_counted()
     ensures { BatchesAreCounted }
+{}
+
+/// A job has a next move just where it runs: `World::next_move` gives one as long as it does, in every state that events reach.
+#[tactic(none)]
+pub fn nobody_is_stuck()
+    ensures { NobodyIsStuck }
 {}

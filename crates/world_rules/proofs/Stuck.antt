@@ -1,0 +1,206 @@
+-- NOBODY IS STUCK: a job that runs has a next move.
+use Rattle.std.specs.Prelude.{IsNone, IsSome, ◌<◌, ◌≤◌, is_some, not}
+use Rattle.std.specs.Int.{to_be_bytes, w32}
+use Rattle.std.proofs.Common.{◌≡◌, ◌≢◌, ◌⊎◌, inl, inr, ◌∙◌, ℕ, zero, suc, ◌+◌, List, [], ◌∷◌, ◌++◌, Bool, true, false, Option, Some, None, option_map, refl, sym, ap, subst, map, length, slice_get, arith, append-nil}
+use Rattle.std.proofs.lemmas.List.{length-append}
+use Rattle.page_picture.specs.Shows.{Frame}
+use Rattle.data_records.specs.Records.{Continues, HasEnded, IsInBody, IsRecords, all_counted, ending}
+use Rattle.data_records.specs.declared.records.Phase.{Phase}
+use Rattle.data_records.specs.declared.records.Phase.TheVariants as phases
+use Rattle.sane_fixed.specs.Status.{status_code}
+use Rattle.frame_join.specs.FrameHistory.{Past}
+use Rattle.wire_message.specs.declared.message.Request.{Request as Asked}
+use Rattle.net_client.specs.Sending.{requests_text}
+use Rattle.net_client.specs.Talker.{talk_of}
+use Rattle.client_rules.specs.Talks.{errand_of, is_running}
+use Rattle.client_reading.specs.Pieces.{Spell}
+use Rattle.client_reading.specs.Requests.{AreRequests, asks_of}
+use Rattle.scan_job.specs.declared.job.Job.{Job}
+use Rattle.saned_core.specs.State.{Core}
+use Rattle.scan_rules.specs.Words.{Authorize, Describe, Get, GetDevices, Init, Open, Parameters, Reply, Request, Set, Start, Status}
+use Rattle.scan_rules.specs.Client as rules
+use Rattle.scan_rules.specs.Client.{Done, Ended, Idle, Mind, Running, Stage, asked}
+use Rattle.scan_rules.specs.Daemon.{Carriage, Quiet, Streaming, Waiting}
+use Rattle.scan_rules.specs.Sound as sound
+use Rattle.scan_rules.specs.Sync as sync
+use Rattle.scan_rules.specs.Standing.{Party, make_for, wanted}
+use Rattle.scan_rules.specs.Steps.{IsUnderWay}
+use Rattle.scan_world.specs.declared.event.Event.{Event as AnyEvent}
+use Rattle.scan_world.specs.declared.event.Deed.{Deed}
+use Rattle.scan_world.specs.declared.event.Deed.TheVariants as events
+use Rattle.scan_world.specs.declared.post.Image.{Image}
+use Rattle.scan_world.specs.declared.post.Post.{Post}
+use Rattle.scan_world.specs.Deeds as world
+use Rattle.scan_world.specs.Moves.{HasNone, IsFirst, IsNext, IsNextMove, in_order}
+use Rattle.scan_world.specs.Worlds.{Scene}
+use Rattle.world_rules.specs.Told.{Told, place_in}
+use Rattle.world_rules.specs.Spelled.{Carried, Dialled, Flows, FlowsAt, SpellsAsked, SpellsTold}
+use Rattle.world_rules.specs.Pending.{HasNoRequest}
+use Rattle.world_rules.specs.Stands.{Stands, bytes_of}
+use Rattle.world_rules.specs.Happens.{Can, HasBytes}
+use Rattle.world_rules.specs.Promises.{NobodyIsStuck}
+use Rattle.world_rules.proofs.Connecting.{connect_decides}
+use Rattle.world_rules.proofs.Cut.{is_limited, sent}
+use Rattle.world_rules.proofs.Dialling.{dial_decides}
+use Rattle.world_rules.proofs.FedEvent.{delivery_decides}
+use Rattle.world_rules.proofs.Hearing.{deliver_decides}
+use Rattle.world_rules.proofs.Heeded.{comes_front}
+use Rattle.world_rules.proofs.Lists.{within}
+use Rattle.world_rules.proofs.Losing.{control_decides}
+use Rattle.world_rules.proofs.Minds.{runs_under}
+use Rattle.world_rules.proofs.OneAnswer.{all_requests}
+use Rattle.world_rules.proofs.Seeing.{data_decides, is_reader}
+use Rattle.world_rules.proofs.Turning.{turn_decides}
+
+-- ---- a reader that has not ended wants more
+
+ending_long : (status : ℕ) → length (ending status) ≡ 5
+ending_long status = refl
+
+records_long : (text payload : List ℕ) (status : ℕ) → IsRecords text payload status → 5 ≤ length text
+records_long text payload status r =
+    let all : length text ≡ length (all_counted r.bodies) + length (ending status) = ap length r.text_is ∙ length-append (all_counted r.bodies) (ending status) in
+    let five : length (ending status) ≡ 5 = ending_long status in
+    omega (arith, all, five)
+
+body_long : (left : ℕ) (payload : List ℕ) (status : ℕ) → IsInBody left [] payload status → ⊥
+body_long left payload status b =
+    let long : 5 ≤ length b.rest = records_long b.rest b.other status b.behind in
+    let all : 0 ≡ length b.body + length b.rest = ap (λ (l : List ℕ). length l) b.text_is ∙ length-append b.body b.rest in
+    omega (arith, long, all)
+
+short : (text payload : List ℕ) (status : ℕ) → length text ≤ 3 → IsRecords text payload status → ⊥
+short text payload status few r = let long : 5 ≤ length text = records_long text payload status r in omega (arith, few, long)
+
+continues_some : (phase : Phase) (payload : List ℕ) (status : ℕ) → (HasEnded phase → ⊥) → Continues phase [] payload status → ⊥
+continues_some phases.Head payload status n c = short [] payload status (omega arith) c
+continues_some (phases.Head1 a) payload status n c = short (a ∷ []) payload status (omega arith) c
+continues_some (phases.Head2 a b) payload status n c = short (a ∷ b ∷ []) payload status (omega arith) c
+continues_some (phases.Head3 a b d) payload status n c = short (a ∷ b ∷ d ∷ []) payload status (omega arith) c
+continues_some (phases.Body left) payload status n c = body_long left payload status c
+continues_some phases.Status payload status n c = let clash : [] ≡ status ∷ [] = c.0 in absurd (cc)
+continues_some (phases.Ended found) payload status n c = n tt
+
+carried_some : (phase : Phase) (text flight : List ℕ) (closing : Option Status) (status : Status) → closing ≡ Some status → (HasEnded phase → ⊥) → Carried phase text flight closing → text ≢ []
+carried_some phase text flight closing status e n c none =
+    let d : Carried phase [] flight (Some status) = subst (λ (x : List ℕ). Carried phase x flight (Some status)) none (subst (λ (o : Option Status). Carried phase text flight o) e c) in
+    continues_some phase flight (status_code d.0) n d.2
+
+-- ---- by the rules
+
+-- some move of the job can come, or its session is over
+abbrev pub CanMove : Told → ℕ → Type 0
+CanMove t i =
+    Can t i events.Connect ⊎ (Can t i (events.ToDaemon 4096) ⊎ (Can t i (events.ToClient 4096) ⊎ (Can t i events.DataConnect ⊎ (Can t i (events.DataToClient 4096) ⊎ (Can t i events.DataTurn ⊎ (((t.rules.party i).linked ≡ true) × ((t.rules.party i).served ≡ false)))))))
+
+-- its request is on the way, and not all of it has come to its session
+request_left : (job : Job) (m : Mind) (todo : List Request) (asking up : List ℕ) (r : Request) → todo ≡ r ∷ [] → HasNoRequest asking → SpellsAsked job m todo (asking ++ up) → up ≢ []
+request_left job m todo asking up r e n s none =
+    let all : asking ++ up ≡ asking = ap (λ (l : List ℕ). asking ++ l) none ∙ append-nil asking in
+    let spelled : SpellsAsked job m (r ∷ []) asking = subst (λ (rs : List Request). SpellsAsked job m rs asking) e (subst (λ (l : List ℕ). SpellsAsked job m todo l) all s) in
+    by_requests spelled.requests spelled.text spelled.same
+  where
+    by_requests : (qs : List Asked) → requests_text qs ≡ Some asking → AreRequests (errand_of job) qs (asks_of 0 m.known (r ∷ [])) → ⊥
+    by_requests [] text same = same
+    by_requests (q ∷ qs) text same = let first = sent q qs asking text in n first.front first.back q first.whole (is_limited first.front q first.spelled)
+
+asks_move : (t : Told) (w : Scene) (i : ℕ) (p : Post) (g : rules.Progress) (r : Request) → Stands t w → slice_get w.posts i ≡ Some p → asked g ≡ r ∷ [] → sound.Asks i (make_for t.rules i) (t.rules.party i) (wanted t.rules i) g → CanMove t i
+asks_move t w i p g r h at only a =
+    let s = h.posts i p at in
+    inr (inl (a.linked, request_left (t.jobs i) (t.rules.party i).mind (t.rules.party i).todo (t.wires i).asking (t.wires i).up r (a.todo ∙ only) s.pends.asking (s.means.up a.served), omega arith))
+
+-- the data of its frame come
+has_image : (o : Option Image) (text : List ℕ) → option_map bytes_of o ≡ Some text → (image : Image) × (o ≡ Some image) × (image.bytes ≡ text)
+has_image None text e = absurd (let clash : None ≡ Some text = e in cc)
+has_image (Some image) text e = (image, refl, let same : Some image.bytes ≡ Some text = e in cc)
+
+abbrev flow_at : Told → ℕ → Post → Carriage → Type 0
+flow_at t i p c = FlowsAt c p.client.progress p.client.phase (t.wires i).image (t.rules.party i).base.flight (t.rules.party i).base.ending
+
+ended_move : (t : Told) (w : Scene) (i : ℕ) (p : Post) (status : Status) → Stands t w → slice_get w.posts i ≡ Some p → i < t.count → is_running p.client.outcome ≡ true → (t.rules.party i).base.carriage ≡ Quiet → (t.rules.party i).base.ending ≡ Some status → flow_at t i p (t.rules.party i).base.carriage → CanMove t i
+ended_move t w i p status h at low runs quiet over flow =
+    let s = h.posts i p at in
+    let d : Dialled p.client.progress p.client.phase (t.wires i).image (t.rules.party i).base.flight (t.rules.party i).base.ending = subst (λ (c : Carriage). flow_at t i p c) quiet flow in
+    let image = has_image p.image d.text (s.carries.image ∙ d.image_is) in
+    let reader = is_reader t w i p image.0 h at low image.1 runs in
+    let some = carried_some p.client.phase d.text (t.rules.party i).base.flight (t.rules.party i).base.ending status over (s.pends.reading reader.receiving) d.carried in
+    inr (inr (inr (inr (inl (subst (λ (o : Option (List ℕ)). HasBytes o) (sym d.image_is) some, omega arith)))))
+
+flows_move : (t : Told) (w : Scene) (i : ℕ) (p : Post) (params : _) (heard : List ℕ) → (t.rules.party i).mind.stage ≡ Running (rules.Imaging params heard) → flow_at t i p (t.rules.party i).base.carriage → ((t.rules.party i).base.carriage ≡ Waiting) ⊎ ((t.rules.party i).base.carriage ≡ Streaming) → CanMove t i
+flows_move t w i p params heard stage flow (inl waiting) = inr (inr (inr (inl (waiting, (params, heard, stage)))))
+flows_move t w i p params heard stage flow (inr streaming) =
+    let d : Dialled p.client.progress p.client.phase (t.wires i).image (t.rules.party i).base.flight (t.rules.party i).base.ending = subst (λ (c : Carriage). flow_at t i p c) streaming flow in
+    inr (inr (inr (inr (inr (inl (subst IsSome (sym d.image_is) refl, inl streaming))))))
+
+imaging_move : (t : Told) (w : Scene) (i : ℕ) (p : Post) (params : _) (heard : List ℕ) → Stands t w → slice_get w.posts i ≡ Some p → i < t.count → is_running p.client.outcome ≡ true → (t.rules.party i).mind.stage ≡ Running (rules.Imaging params heard) →
+    sync.Images i (make_for t.rules i) (t.rules.party i).base (t.rules.party i).mind (wanted t.rules i) params heard → CanMove t i
+imaging_move t w i p params heard h at low runs stage images = by_carried images.carries
+  where
+    flow : flow_at t i p (t.rules.party i).base.carriage
+    flow = subst (λ (st : Stage). Flows st (t.rules.party i).base.carriage p.client.progress p.client.phase (t.wires i).image (t.rules.party i).base.flight (t.rules.party i).base.ending) stage (h.posts i p at).means.flow
+
+    by_carried : sync.Carries i (make_for t.rules i) (t.rules.party i).base (wanted t.rules i) images.continues.begin.options images.frame images.more heard images.rest → CanMove t i
+    by_carried (inl flows) = flows_move t w i p params heard stage flow flows.carriage
+    by_carried (inr (inl out)) = ended_move t w i p _ h at low runs out.carriage out.ending flow
+    by_carried (inr (inr (inl cut))) = ended_move t w i p _ h at low runs cut.carriage cut.ending flow
+    by_carried (inr (inr (inr fails))) = ended_move t w i p fails.status h at low runs fails.carriage fails.ending flow
+
+-- a reply is on the way, and not all of it has come to its client
+told_move : (t : Told) (w : Scene) (i : ℕ) (p : Post) (g : rules.Progress) → Stands t w → slice_get w.posts i ≡ Some p → is_running p.client.outcome ≡ true → IsUnderWay (t.rules.party i).mind.stage → sound.Told i (make_for t.rules i) (t.rules.party i) (wanted t.rules i) g → CanMove t i
+told_move t w i p g h at runs under told =
+    let s = h.posts i p at in
+    let x = t.wires i in
+    let spelled = subst (λ (due : List Reply). SpellsTold (place_in t.names) p.client.progress due (x.telling ++ x.down)) told.due (s.means.down under) in
+    let f = comes_front (place_in t.names) p.client.progress told.reply (x.telling ++ x.down) spelled in
+    let some : x.down ≢ [] = λ none. s.pends.telling runs f.front f.back f.answer (sym (ap (λ (l : List ℕ). x.telling ++ l) none ∙ append-nil x.telling) ∙ f.text_is) (record { procedure = f.procedure; awaited_is = f.awaited_is; spelled = f.spelled }) in
+    inr (inr (inl (told.linked, some, omega arith)))
+
+asking_move : (t : Told) (w : Scene) (i : ℕ) (p : Post) (g : rules.Progress) → Stands t w → slice_get w.posts i ≡ Some p → i < t.count → is_running p.client.outcome ≡ true → (t.rules.party i).mind.stage ≡ Running g → sound.Asks i (make_for t.rules i) (t.rules.party i) (wanted t.rules i) g → CanMove t i
+asking_move t w i p rules.Greeting h at low runs stage a = asks_move t w i p rules.Greeting Init h at refl a
+asking_move t w i p rules.Listing h at low runs stage a = asks_move t w i p rules.Listing GetDevices h at refl a
+asking_move t w i p rules.Opening h at low runs stage a = asks_move t w i p rules.Opening Open h at refl a
+asking_move t w i p (rules.Allowing challenge) h at low runs stage a = asks_move t w i p (rules.Allowing challenge) (Authorize challenge) h at refl a
+asking_move t w i p (rules.Describing left) h at low runs stage a = asks_move t w i p (rules.Describing left) Describe h at refl a
+asking_move t w i p (rules.Putting n value wish left) h at low runs stage a = asks_move t w i p (rules.Putting n value wish left) (Set n value) h at refl a
+asking_move t w i p (rules.Getting n left) h at low runs stage a = asks_move t w i p (rules.Getting n left) (Get n) h at refl a
+asking_move t w i p rules.Starting h at low runs stage a = asks_move t w i p rules.Starting Start h at refl a
+asking_move t w i p rules.Shaping h at low runs stage a = asks_move t w i p rules.Shaping Parameters h at refl a
+asking_move t w i p (rules.Imaging params heard) h at low runs stage a = imaging_move t w i p params heard h at low runs stage a.in_sync
+
+by_stage : (t : Told) (w : Scene) (i : ℕ) (p : Post) (st : Stage) → Stands t w → slice_get w.posts i ≡ Some p → i < t.count → is_running p.client.outcome ≡ true → (t.rules.party i).mind.stage ≡ st → IsUnderWay st → sound.Talks i (make_for t.rules i) (t.rules.party i) (wanted t.rules i) st → CanMove t i
+by_stage t w i p Idle h at low runs stage u k = inl (low, stage)
+by_stage t w i p (Running g) h at low runs stage u (inl a) = asking_move t w i p g h at low runs stage a
+by_stage t w i p (Running g) h at low runs stage u (inr (inl told)) = told_move t w i p g h at runs (subst IsUnderWay (sym stage) tt) told
+by_stage t w i p (Running g) h at low runs stage u (inr (inr dead)) = inr (inr (inr (inr (inr (inr (dead.linked, dead.served))))))
+by_stage t w i p Done h at low runs stage u k = absurd u
+by_stage t w i p (Ended status why) h at low runs stage u k = absurd u
+
+can_move : (t : Told) (w : Scene) (i : ℕ) (p : Post) → Stands t w → slice_get w.posts i ≡ Some p → i < t.count → is_running p.client.outcome ≡ true → CanMove t i
+can_move t w i p h at low runs =
+    let s = h.posts i p at in
+    let me = t.rules.party i in
+    let under = runs_under (place_in t.names) (errand_of (t.jobs i)) me.base.job (map (λ (x : Past). x.ended) (t.pages i)) (talk_of p.client (t.past i)) me.mind s.talks.reads runs in
+    by_stage t w i p me.mind.stage h at low runs refl under (h.sound.talks i)
+
+-- ---- in a world
+
+-- none of the moves can come, and yet one does
+none_comes : (t : Told) (w : Scene) (i : ℕ) (p : Post) → Stands t w → slice_get w.posts i ≡ Some p → i < t.count → HasNone w.daemon p in_order → CanMove t i → ⊥
+none_comes t w i p h at low none (inl can) = none.0 ((connect_decides t w i p h at low).can can)
+none_comes t w i p h at low none (inr (inl can)) = none.1.0 ((delivery_decides (λ t w i h low. all_requests t i) 4096 t w i p h at low).can can)
+none_comes t w i p h at low none (inr (inr (inl can))) = none.1.1.0 ((deliver_decides 4096 t w i p h at low).can can)
+none_comes t w i p h at low none (inr (inr (inr (inl can)))) = none.1.1.1.0 ((dial_decides t w i p h at low).can can)
+none_comes t w i p h at low none (inr (inr (inr (inr (inl can))))) = none.1.1.1.1.0 ((data_decides 4096 t w i p h at low).can can)
+none_comes t w i p h at low none (inr (inr (inr (inr (inr (inl can)))))) = none.1.1.1.1.1.0 ((turn_decides t w i p h at low).can can)
+none_comes t w i p h at low none (inr (inr (inr (inr (inr (inr dead)))))) =
+    let s = h.posts i p at in none.1.1.1.1.1.1 (s.means.over dead.0 ∙ ap not dead.1) ((control_decides t w i p h at low).can dead.0)
+
+by_deed : (t : Told) (w : Scene) (i : ℕ) (p : Post) (deed : Option Deed) (event : Option AnyEvent) → Stands t w → slice_get w.posts i ≡ Some p → i < t.count → is_running p.client.outcome ≡ true → event ≡ option_map (world.event_of i) deed → IsNext w.daemon p in_order deed → IsSome event
+by_deed t w i p None event h at low runs is none = absurd (none_comes t w i p h at low none (can_move t w i p h at low runs))
+by_deed t w i p (Some deed) event h at low runs is first = subst IsSome (sym is) refl
+
+pub nobody_is_stuck : NobodyIsStuck
+nobody_is_stuck t w i p event h at next = (
+  λ runs. by_deed t w i p next.deed event h at (subst (λ (n : ℕ). i < n) (sym h.is_of.count) (within w.posts i p at)) runs next.event_is (next.runs runs),
+  λ over. next.event_is ∙ ap (option_map (world.event_of i)) (next.over over),
+)
