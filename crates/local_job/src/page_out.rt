@@ -41,7 +41,8 @@ impl<S: Shelf> Outlet for PageOut<'_, S> {
 
 /// Has the shelf take an output back, if there is one. Says whether it did not refuse.
 pub fn give_back<S: Shelf>(shelf: &mut S, out: Option<S::Out>) -> bool
-    ensures { GivesBack (S.stock shelf.old) (option_map S.Out.contents out) (S.stock shelf.new) }
+    ensures none { out ≡ None → result ≡ true }
+    ensures back { GivesBack (S.stock shelf.old) (option_map S.Out.contents out) (S.stock shelf.new) }
 {
     match out {
         Some(out) => shelf.close(out).is_ok(),
