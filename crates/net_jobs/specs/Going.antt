@@ -98,6 +98,13 @@ pub record Stage {R : Type 0} (left_of : R → Option (List ℕ)) (job : Job) (r
   pub did : Did job course read_ wrote rest left
   pub stands : Follows left_of coming0 coming course rest stream c past ⊎ Falls coming0 coming course rest c
 
+-- Whatever stage a job was at, it goes on from there by what came of its data connection; nothing passes over the control
+-- connection.
+abbrev pub StageGoesOn : {R : Type 0} → (R → Option (List ℕ)) → Option (List (List ℕ)) → Option (List (List ℕ)) → Option R → Option R → Talker → Talker → Type 0
+StageGoesOn left_of coming now stream after_ old new =
+    (job : Job) (read_ wrote : List ℕ) (coming0 : Option (List (List ℕ))) (given : Given)
+    → Stage left_of job read_ wrote old.out coming0 coming given stream old → Stage left_of job read_ wrote new.out coming0 now given after_ new
+
 -- and its control connection
 pub record Going {C R : Type 0} (remaining contents : C → Option (List ℕ)) (left_of : R → Option (List ℕ)) (job : Job) (first : C) (coming0 : Option (List (List ℕ))) (given : Given) (failed : Bool) (control : C) (coming : Option (List (List ℕ))) (stream : Option R) (c : Talker) : Type 0 where
   pub read_ : List ℕ
