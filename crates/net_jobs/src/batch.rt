@@ -1,4 +1,4 @@
-ghost use Rattle.std.specs.Prelude.{◌≡◌, ◌<◌, ◌⊎◌, ◌+◌, ◌++◌, ℕ, None, List, Option, true, false, length, take, option_map, [], IfOk};
+ghost use Rattle.std.specs.Prelude.{◌≡◌, ◌<◌, ◌⊎◌, ◌+◌, ℕ, None, List, Option, true, false, length, option_map, [], IfOk};
 ghost use Rattle.scan_job.specs.declared.job.Job.{Job as JobValue};
 ghost use Rattle.scan_job.specs.JobSize.{HasCount};
 ghost use Rattle.scan_job.specs.Outcomes.{IsOver};
@@ -6,7 +6,7 @@ ghost use Rattle.scan_job.specs.Shelves.{Stock, Taken};
 ghost use Rattle.frame_join.specs.FrameHistory.{Past};
 ghost use Rattle.client_rules.specs.Talks.{scans};
 ghost use Rattle.net_client.specs.Talker.{IsFresh};
-ghost use Rattle.net_jobs.specs.Outputs.{HasTaken, GivesBack};
+ghost use Rattle.net_jobs.specs.Outputs.{TakesMore, TakesFront, GivesBack};
 ghost use Rattle.net_jobs.specs.Paging.{IsFiling, HasFiled, HasFiledShort, HasCome};
 ghost use Rattle.net_jobs.specs.Batches.{HasBatchRun, RefusesBatch, closed_as};
 
@@ -42,10 +42,8 @@ fn shelve<S: Shelf>(
     reads: &mut u64,
 ) -> bool
     requires { 0 < length bytes.now }
-    ensures whole { result ≡ true → (before : Option Stock) (outputs : List Taken) (had : List ℕ) → HasTaken before outputs (S.stock shelf.old) (option_map S.Out.contents under.old) number had
-        → HasTaken before outputs (S.stock shelf.new) (option_map S.Out.contents under.new) number (had ++ bytes.now) }
-    ensures front { result ≡ false → (before : Option Stock) (outputs : List Taken) (had : List ℕ) → HasTaken before outputs (S.stock shelf.old) (option_map S.Out.contents under.old) number had
-        → (n : ℕ) × (n < length bytes.now) × HasTaken before outputs (S.stock shelf.new) (option_map S.Out.contents under.new) number (had ++ take n bytes.now) }
+    ensures whole { result ≡ true → TakesMore (S.stock shelf.old) (option_map S.Out.contents under.old) (S.stock shelf.new) (option_map S.Out.contents under.new) number bytes.now }
+    ensures front { result ≡ false → TakesFront (S.stock shelf.old) (option_map S.Out.contents under.old) (S.stock shelf.new) (option_map S.Out.contents under.new) number bytes.now }
 {
     match under {
         Some(out) => put(out, bytes, reads),

@@ -7,7 +7,7 @@ ghost use Rattle.frame_join.specs.FrameHistory.{Past};
 ghost use Rattle.client_rules.specs.Talks.{is_running, is_receiving, is_batch, wanted};
 ghost use Rattle.net_client.specs.Talker.{Serves, IsFresh};
 ghost use Rattle.net_jobs.specs.Draining.{HoldsGiven, IsDrainedTo, StopsShort};
-ghost use Rattle.net_jobs.specs.Going.{Given, StageGoesOn, Going, HeardOrLost};
+ghost use Rattle.net_jobs.specs.Going.{StageGoesOn, TurnGoesOn, HeardOrLost};
 ghost use Rattle.net_jobs.specs.Promised.{HasRun, Refuses, refused_as};
 
 use crate::dial::Dial;
@@ -168,9 +168,7 @@ pub(crate) fn go_on<C: Read + Write, D: Dial>(
     requires running { is_running client.old.outcome ≡ true }
     ensures piece { length piece.new ≡ length piece.old }
     ensures room { length room.new ≡ length room.old }
-    ensures going { (job : JobValue) (first : C) (coming0 : Option (List (List ℕ))) (given : Given)
-        → Going C.remaining C.contents D.Conn.remaining job first coming0 given false control.old (D.coming dial.old) stream.old client.old
-        → Going C.remaining C.contents D.Conn.remaining job first coming0 given (not result) control.new (D.coming dial.new) stream.new client.new }
+    ensures going { TurnGoesOn C.remaining C.contents D.Conn.remaining (not result) control.old control.new (D.coming dial.old) (D.coming dial.new) stream.old stream.new client.old client.new }
 {
     if client.is_receiving() {
         see(client, stream, piece, reads);
