@@ -13,8 +13,8 @@ pub record GivesPicture (past : Past) (room count : ℕ) (bytes : List ℕ) : Ty
   pub denotes : IsJoined past → count ≡ 0 → 0 < room → (p : Picture) → ShowsFrames past.ended p → Denotes past.given p
   pub whole : (IsJoined past → ⊥) → IsWhole (past.given ++ bytes) → ⊥
 
--- The same of a client, where its job has not ended: one that waits for its page's file to be taken gave bytes of that, any
--- other serves on.
+-- What a client gave so: one that waits for its page's file to be taken gave bytes of that, and any other serves on with them.
+-- It gives the picture as above; only a job that has ended otherwise need not have given all of it.
 pub record TakesFile (old : Talker) (past : Past) (room count : ℕ) (bytes : List ℕ) (new : Talker) : Type 0 where
   pub carried : turns old.outcome old.progress ≡ false → Serves (after_pull bytes past) new
   pub page : turns old.outcome old.progress ≡ true → TakesPage old past bytes new
