@@ -1,4 +1,5 @@
 pub mod WireValues
+pub mod Standing
 pub mod Talking
 pub mod Asking
 pub mod Talks

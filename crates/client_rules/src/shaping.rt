@@ -1,7 +1,8 @@
-ghost use Rattle.std.specs.Prelude.{◌≡◌, IfOk, OnOk, OnErr, None, false};
+ghost use Rattle.std.specs.Prelude.{◌≡◌, IfOk, OnOk, OnErr, false};
 ghost use Rattle.frame_join.specs.declared.join_stage.JoinFault.TheVariants.{NoMem as WantOfMemory};
 ghost use Rattle.frame_join.specs.FrameHistory.{Past, after_begin, failed};
 ghost use Rattle.frame_join.specs.Joining.{Stands};
+ghost use Rattle.client_rules.specs.Standing.{StandsClear};
 ghost use Rattle.client_rules.specs.Talking.{answered, begun_by};
 ghost use Rattle.client_rules.specs.Talks.{shaped, shaped_by};
 
@@ -21,9 +22,9 @@ fn begin(
     order: ByteOrder,
     params: &Params,
 ) -> Result<Next, NoMem>
-    ensures next { (past : Past) → Stands past join.old → past.fault ≡ None → IfOk result (λ next. next ≡ begun_by (after_begin params.now order false past).fault port) }
-    ensures begun { (past : Past) → Stands past join.old → past.fault ≡ None → OnOk result (Stands (after_begin params.now order false past) join.new) }
-    ensures starved { (past : Past) → Stands past join.old → past.fault ≡ None → OnErr result (Stands (failed WantOfMemory past) join.new) }
+    ensures next { (past : Past) → StandsClear past join.old → IfOk result (λ next. next ≡ begun_by (after_begin params.now order false past).fault port) }
+    ensures begun { (past : Past) → StandsClear past join.old → OnOk result (Stands (after_begin params.now order false past) join.new) }
+    ensures starved { (past : Past) → StandsClear past join.old → OnErr result (Stands (failed WantOfMemory past) join.new) }
 {
     join.begin(alloc, params, order);
     match join.fault() {
@@ -44,9 +45,9 @@ pub fn shaped(
     order: ByteOrder,
     reply: Reply,
 ) -> Result<Next, NoMem>
-    ensures next { (past : Past) → Stands past join.old → past.fault ≡ None → IfOk result (λ next. next ≡ (shaped port order past reply).next) }
-    ensures begun { (past : Past) → Stands past join.old → past.fault ≡ None → OnOk result (Stands (shaped port order past reply).past join.new) }
-    ensures starved { (past : Past) → Stands past join.old → past.fault ≡ None → OnErr result (Stands (failed WantOfMemory past) join.new) }
+    ensures next { (past : Past) → StandsClear past join.old → IfOk result (λ next. next ≡ (shaped port order past reply).next) }
+    ensures begun { (past : Past) → StandsClear past join.old → OnOk result (Stands (shaped port order past reply).past join.new) }
+    ensures starved { (past : Past) → StandsClear past join.old → OnErr result (Stands (failed WantOfMemory past) join.new) }
 {
     match reply {
         Reply::GetParameters { status, params } => match status {

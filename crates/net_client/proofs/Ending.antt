@@ -32,7 +32,7 @@ use Rattle.net_client.specs.Sending.{request_text}
 use Rattle.net_client.specs.Talker.{TurnsPage, TakesPage, Stays, Turns, Talker, Serves, Settles, ended}
 use Rattle.client_rules.specs.Talks.{is_batch, is_ended, is_turning, turns, is_running, scans, IsWithin, FitsAt, Fits, FitsDone, NextFits, next_outcome}
 use Rattle.client_rules.specs.Talks.{is_receiving, took}
-use Rattle.net_client.specs.Imaging.{EndsFrame, IsBehindFrame, ReadsTo, ReadsEnd, ReadsFault, Receives}
+use Rattle.net_client.specs.Imaging.{EndsFrame, IsBehindFrame, StandsWithin, ReadsTo, ReadsEnd, ReadsFault, Receives}
 use Rattle.client_rules.proofs.Fitting.{within_is_unjoined, faulty_is_unjoined, ended_unjoined, fault_ends}
 use Rattle.net_client.proofs.Hearings.{between, settles_well, differs, running_is}
 
@@ -187,10 +187,10 @@ took_within : (past : Past) (frame : Frame) (given : List ℕ) → past.fault �
 took_within past frame given calm = (calm, (_, refl))
 
 pub goes : (old : Talker) (past : Past) (piece : List ℕ) (phase : Phase) (join : Joining) → is_receiving old.outcome old.progress ≡ true → Serves past old → (HasEnded phase → ⊥)
-    → ((q : Past) (f : Frame) → Stands q old.join → q.fault ≡ None → q.under ≡ Some f → ReadsTo old.phase q f piece phase join) → Receives old past piece (record old { phase = phase; join = join })
+    → ((q : Past) (f : Frame) → StandsWithin q f old.join → ReadsTo old.phase q f piece phase join) → Receives old past piece (record old { phase = phase; join = join })
 goes old past piece phase join r serves going reads =
     let at = receives_at old past r serves in
-    let told = reads past at.1.1.0 serves.stands at.1.0 at.1.1.1 in
+    let told = reads past at.1.1.0 (record { stands = serves.stands; clear = at.1.0; under = at.1.1.1 }) in
     inl (record {
       frame = at.1.1.0;
       under = at.1.1.1;
@@ -201,12 +201,12 @@ goes old past piece phase join r serves going reads =
     })
 
 pub ends : (old : Talker) (new : Talker) (past : Past) (piece : List ℕ) (status : ℕ) (join : Joining) → is_receiving old.outcome old.progress ≡ true → Serves past old
-    → ((q : Past) (f : Frame) → Stands q old.join → q.fault ≡ None → q.under ≡ Some f → ReadsEnd old.phase q f piece status join)
+    → ((q : Past) (f : Frame) → StandsWithin q f old.join → ReadsEnd old.phase q f piece status join)
     → ((q : Past) → Stands q join → scans old.errand.task ≡ true → IsWithin q → EndsFrame (record old { phase = phases.Head; join = join }) q status new)
     → Receives old past piece new
 ends old new past piece status join r serves reads done =
     let at = receives_at old past r serves in
-    let told = reads past at.1.1.0 serves.stands at.1.0 at.1.1.1 in
+    let told = reads past at.1.1.0 (record { stands = serves.stands; clear = at.1.0; under = at.1.1.1 }) in
     inr (inl (record {
       frame = at.1.1.0;
       under = at.1.1.1;
@@ -223,11 +223,11 @@ fault_fits task notes faults.Short past e = ended_unjoined task past (faulty_is_
 fault_fits task notes faults.NoMem past e = ended_unjoined task past (faulty_is_unjoined past faults.NoMem e)
 
 pub fails : (old : Talker) (past : Past) (piece : List ℕ) (fault : JoinFault) (phase : Phase) (join : Joining) → is_receiving old.outcome old.progress ≡ true → Serves past old
-    → ((q : Past) (f : Frame) → Stands q old.join → q.fault ≡ None → q.under ≡ Some f → ReadsFault old.phase q f piece fault phase join)
+    → ((q : Past) (f : Frame) → StandsWithin q f old.join → ReadsFault old.phase q f piece fault phase join)
     → Receives old past piece (record old { outcome = next_outcome old.errand.task old.notes (unjoined fault); progress = stages.Over; phase = phase; join = join })
 fails old past piece fault phase join r serves reads =
     let at = receives_at old past r serves in
-    let told = reads past at.1.1.0 serves.stands at.1.0 at.1.1.1 in
+    let told = reads past at.1.1.0 (record { stands = serves.stands; clear = at.1.0; under = at.1.1.1 }) in
     inr (inr (record {
       frame = at.1.1.0;
       under = at.1.1.1;
@@ -288,3 +288,11 @@ page_stays old past bytes join t serves stands short = Stays short refl (record 
 pub page_turned : (old new : Talker) (past : Past) (bytes : List ℕ) → turns old.outcome old.progress ≡ true → Serves past old → IsWhole (past.given ++ bytes)
     → ((p : Picture) → ShowsFrames past.ended p → Denotes (past.given ++ bytes) p) → TurnsPage old new → TakesPage old past bytes new
 page_turned old new past bytes t serves whole denotes turn_ = Turns whole denotes turn_ (page_turns old new past t serves turn_)
+
+pub ended_turns_none : (outcome : Outcome) (progress : Progress) → is_ended outcome ≡ true → turns outcome progress ≡ true → ⊥
+ended_turns_none Running progress e t = let clash : false ≡ true = e in cc
+ended_turns_none (Done reports) progress e t = let clash : false ≡ true = e in cc
+ended_turns_none (Ended status why) progress e t = let clash : false ≡ true = t in cc
+
+pub pulled_none : (past : Past) → after_pull [] past ≡ past
+pulled_none past = ap (λ (l : List ℕ). record past { given = l }) (append-nil past.given)

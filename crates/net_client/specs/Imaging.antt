@@ -1,5 +1,5 @@
 -- What a piece of a data connection's bytes makes of a client.
-use Rattle.std.specs.Prelude.{ℕ, ◌≡◌, ◌⊎◌, Bool, true, false, Some, List, ◌++◌}
+use Rattle.std.specs.Prelude.{ℕ, ◌≡◌, ◌⊎◌, Bool, true, false, Some, None, List, ◌++◌}
 use Rattle.wire_format.specs.Writer.{behind}
 use Rattle.page_picture.specs.Shows.{Frame}
 use Rattle.frame_join.specs.declared.join_stage.JoinFault.{JoinFault}
@@ -15,6 +15,12 @@ use Rattle.net_client.specs.declared.imaging.Came.TheVariants.{More, Fault, End}
 use Rattle.client_rules.specs.Talking.{turn, unjoined, FrameEnd, frame_ended}
 use Rattle.net_client.specs.Talker.{Talker, talk_of, sends, Serves}
 use Rattle.client_rules.specs.Talks.{took, next_outcome, settled}
+
+-- the join stands for what was told to it, no fault does, and this frame is under way
+pub record StandsWithin (past : Past) (frame : Frame) (join : Joining) : Type 0 where
+  pub stands : Stands past join
+  pub clear : past.fault ≡ None
+  pub under : past.under ≡ Some frame
 
 -- a reader used the bytes, and the join took what they gave
 pub record ReadsTo (old : Phase) (past : Past) (frame : Frame) (used : List ℕ) (new : Phase) (join : Joining) : Type 0 where

@@ -49,22 +49,20 @@ impl Model for Client {
 }
 
 impl Client {
-    ghost use Rattle.std.specs.Prelude.{◌≡◌, ◌==◌, ◌≤◌, ◌++◌, true, false, Some, None, [], IfOk, IfErr, if◌then◌else◌, length, take, drop, min};
+    ghost use Rattle.std.specs.Prelude.{◌≡◌, ◌==◌, ◌≤◌, true, false, Some, [], IfOk, IfErr, if◌then◌else◌, length, take, drop, min};
     ghost use Rattle.std.specs.Prelude.{OnOk, OnErr};
     ghost use Rattle.frame_join.specs.FrameHistory.{Past};
     ghost use Rattle.frame_join.specs.Joining.{Stands};
     ghost use Rattle.net_client.specs.Hearing.{HearsReply, IsChoked, IsStarved, StandsStarved, StopsReading, Heeds};
     ghost use Rattle.client_rules.specs.declared.progress.Progress.TheVariants as stages;
+    ghost use Rattle.client_rules.specs.Standing.{StandsClear};
     ghost use Rattle.client_rules.specs.Talking.{unjoined};
     ghost use Rattle.client_rules.specs.Talks.{next_outcome, scans, IsWithin};
-    ghost use Rattle.std.specs.Prelude.{◌<◌, not};
+    ghost use Rattle.std.specs.Prelude.{not};
     ghost use Rattle.scan_job.specs.Outcomes.{IsOver};
-    ghost use Rattle.netpbm.specs.Picture.{Picture};
-    ghost use Rattle.netpbm.specs.Pnm.{Denotes, IsWhole};
-    ghost use Rattle.page_picture.specs.Shows.{ShowsFrames};
-    ghost use Rattle.frame_join.specs.FrameHistory.{IsJoined, after_pull};
     ghost use Rattle.client_rules.specs.Talks.{is_ended, turns};
     ghost use Rattle.net_client.specs.Talker.{TakesPage, TurnsPage};
+    ghost use Rattle.net_client.specs.Taking.{GivesPicture, TakesFile};
     ghost use Rattle.client_rules.specs.Talks.{is_receiving};
     ghost use Rattle.net_client.specs.Imaging.{EndsFrame, IsBehindFrame, Receives};
     ghost use Rattle.std.specs.Prelude.{IfSome, IsNone};
@@ -303,10 +301,10 @@ impl Client {
 
     /// What a reply makes of the job, which waits for nothing then.
     fn next_by(&mut self, reply: Reply) -> Result<Next, NoMem>
-        ensures next { (past : Past) → Stands past self.old.join → past.fault ≡ None → IfOk result (λ next. next ≡ (heard_at self.old.progress self.old.errand self.old.notes past reply).turn.next) }
-        ensures notes { (past : Past) → Stands past self.old.join → past.fault ≡ None → OnOk result (self.new.notes ≡ (heard_at self.old.progress self.old.errand self.old.notes past reply).turn.notes) }
-        ensures past { (past : Past) → Stands past self.old.join → past.fault ≡ None → OnOk result (Stands (heard_at self.old.progress self.old.errand self.old.notes past reply).past self.new.join) }
-        ensures starved { (past : Past) → Stands past self.old.join → past.fault ≡ None → OnErr result (StandsStarved past self.new.join) }
+        ensures next { (past : Past) → StandsClear past self.old.join → IfOk result (λ next. next ≡ (heard_at self.old.progress self.old.errand self.old.notes past reply).turn.next) }
+        ensures notes { (past : Past) → StandsClear past self.old.join → OnOk result (self.new.notes ≡ (heard_at self.old.progress self.old.errand self.old.notes past reply).turn.notes) }
+        ensures past { (past : Past) → StandsClear past self.old.join → OnOk result (Stands (heard_at self.old.progress self.old.errand self.old.notes past reply).past self.new.join) }
+        ensures starved { (past : Past) → StandsClear past self.old.join → OnErr result (StandsStarved past self.new.join) }
         ensures rest { self.new ≡ record self.old { progress = self.new.progress; notes = self.new.notes; join = self.new.join } }
     {
         let progress = std::mem::replace(&mut self.progress, Progress::Over);
@@ -440,12 +438,7 @@ impl Client {
         ensures rest { drop result buf.new ≡ drop result buf.old }
         ensures ended { is_ended self.old.outcome ≡ true → (result ≡ 0) × (self.new ≡ self.old) }
         ensures same { is_ended self.old.outcome ≡ false → turns self.old.outcome self.old.progress ≡ false → self.new ≡ record self.old { join = self.new.join } }
-        ensures carried { (past : Past) → Serves past self.old → turns self.old.outcome self.old.progress ≡ false → Serves (after_pull (take result buf.new) past) self.new }
-        ensures page { turns self.old.outcome self.old.progress ≡ true → (past : Past) → Serves past self.old → TakesPage self.old past (take result buf.new) self.new }
-        // Where nothing more comes of a whole picture, what was given in all denotes it.
-        ensures denotes { (past : Past) → Serves past self.old → is_ended self.old.outcome ≡ false → IsJoined past → result ≡ 0 → 0 < length buf.old → (p : Picture) → ShowsFrames past.ended p → Denotes past.given p }
-        // Before the picture is whole, what was given in all is not.
-        ensures whole { (past : Past) → Serves past self.old → (IsJoined past → ⊥) → IsWhole (past.given ++ take result buf.new) → ⊥ }
+        ensures taken { (past : Past) → Serves past self.old → TakesFile self.old past (length buf.old) result (take result buf.new) self.new }
     {
         not_whole_before();
         if self.is_ended() {
@@ -463,8 +456,7 @@ impl Client {
         ensures count { result ≤ length buf.old }
         ensures rest { drop result buf.new ≡ drop result buf.old }
         ensures page { (past : Past) → Serves past self.old → TakesPage self.old past (take result buf.new) self.new }
-        ensures denotes { (past : Past) → Stands past self.old.join → IsJoined past → result ≡ 0 → 0 < length buf.old → (p : Picture) → ShowsFrames past.ended p → Denotes past.given p }
-        ensures whole { (past : Past) → Stands past self.old.join → (IsJoined past → ⊥) → IsWhole (past.given ++ take result buf.new) → ⊥ }
+        ensures picture { (past : Past) → Stands past self.old.join → GivesPicture past (length buf.old) result (take result buf.new) }
     {
         let count = self.file.pull(&mut self.join, buf);
         if self.join.has_given_all() {

@@ -1,9 +1,8 @@
-ghost use Rattle.std.specs.Prelude.{◌≡◌, ◌≤◌, ◌<◌, None, Some, length};
+ghost use Rattle.std.specs.Prelude.{◌≡◌, ◌≤◌, ◌<◌, length};
 ghost use Rattle.page_picture.specs.Shows.{Frame};
 ghost use Rattle.frame_join.specs.FrameHistory.{Past};
-ghost use Rattle.frame_join.specs.Joining.{Stands};
 ghost use Rattle.data_records.specs.Records.{HasEnded};
-ghost use Rattle.net_client.specs.Imaging.{HasRead, HasNotEnded};
+ghost use Rattle.net_client.specs.Imaging.{HasRead, HasNotEnded, StandsWithin};
 
 use data_records::{RecordReader, Step};
 use frame_join::{FrameJoin, JoinFault};
@@ -22,7 +21,7 @@ pub enum Came {
 /// Reads on in the records of a frame, and the join takes what they give.
 pub(crate) fn read_on(reader: &mut RecordReader, join: &mut FrameJoin, piece: &[u8]) -> Came
     requires { HasEnded reader.old → ⊥ }
-    ensures read { (past : Past) (frame : Frame) → Stands past join.old → past.fault ≡ None → past.under ≡ Some frame → HasRead reader.old past frame piece.now result reader.new join.new }
+    ensures read { (past : Past) (frame : Frame) → StandsWithin past frame join.old → HasRead reader.old past frame piece.now result reader.new join.new }
     ensures open { HasNotEnded result reader.new }
 {
     let mut at = 0;

@@ -27,11 +27,11 @@ use Rattle.scan_job.specs.declared.outcome.Why.{Why}
 use Rattle.scan_job.specs.declared.outcome.Why.TheVariants as whys
 use Rattle.scan_job.specs.declared.report.Reports.{Reports}
 use Rattle.client_rules.specs.Talks.{Talk, errand_of, is_running, is_ended, scans, Fits, FitsDone, FitsEnded, IsBetween}
-use Rattle.net_client.specs.Talker.{Talker, Serves}
+use Rattle.net_client.specs.Talker.{Talker}
 use Rattle.net_jobs.specs.Going.{Given, Going}
 use Rattle.net_jobs.specs.Links.{HasBrought}
-use Rattle.net_jobs.specs.Outputs.{TakesBack, HasTaken, IsUnderWay, GivesBack, outputs_from}
-use Rattle.net_jobs.specs.Paging.{TurnsOn, FallsShort, CameDone, CameEnded, HasCome}
+use Rattle.net_jobs.specs.Outputs.{TakesBack, HasTaken, GivesBack, outputs_from}
+use Rattle.net_jobs.specs.Paging.{IsFiling, TurnsOn, FallsShort, HasFiledShort, CameDone, CameEnded, HasCome}
 use Rattle.net_jobs.specs.Batches.{IsPageFile, MayScan, last_of, pages_of, closed_as, BatchEnded, HasBatchRun}
 use Rattle.net_jobs.proofs.Counting.{IsFew, HasSome, counts}
 use Rattle.net_jobs.proofs.Leaving.{cause_of, followed, unopened, task_is, ran_by, ends_well}
@@ -240,12 +240,11 @@ sunk_at : {C R : Type 0} (remaining contents : C → Option (List ℕ)) (left_of
     → is_scanning ≡ b → is_scanning ≡ scans job.task → HasCount job.task → ((past : Past) (join : Joining) → Stands past join → IsJoined past → (p : Picture) × ShowsFrames past.ended p)
     → OnShelf job before was under given old past → (g : Going remaining contents left_of job first coming0 given failed control coming stream c)
     → result ≡ false → (is_scanning ≡ false → result ≡ true)
-    → ((before : Option Stock) (outputs : List Taken) (k : ℕ) (q : Past) → scans c.errand.task ≡ true → (is_ended c.outcome ≡ false → c.notes.file ≡ k) → Serves q c → IsUnderWay before outputs was under k q.given
-    → FallsShort k before outputs then_ out ⊎ TurnsOn q c k before outputs now then_ out)
+    → ((before : Option Stock) (outputs : List Taken) (k : ℕ) (q : Past) → IsFiling q c k before outputs was under → HasFiledShort q c k before outputs now then_ out)
     → CameEnded remaining contents job first coming0 control coming before then_ out (Ended statuses.IoError whys.Sink)
 sunk_at remaining contents left_of job first coming0 before was failed control coming stream c old now then_ under out given past is_scanning true result e scanning h shows shelf g fails none goes =
     sunk_by remaining contents left_of job first coming0 before failed control coming stream c now then_ out given shows (sym scanning ∙ e) shelf.files g
-    (from_here remaining contents left_of job first coming0 before was failed control coming stream c old under given past (λ b outputs k q. FallsShort k b outputs then_ out ⊎ TurnsOn q c k b outputs now then_ out) (sym scanning ∙ e) h shelf g goes)
+    (from_here remaining contents left_of job first coming0 before was failed control coming stream c old under given past (λ b outputs k q. HasFiledShort q c k b outputs now then_ out) (sym scanning ∙ e) h shelf g goes)
 sunk_at remaining contents left_of job first coming0 before was failed control coming stream c old now then_ under out given past is_scanning false result e scanning h shows shelf g fails none goes =
     absurd (let clash : true ≡ false = sym (none e) ∙ fails in cc)
 
@@ -253,8 +252,7 @@ pub came_sunk : {C R : Type 0} (remaining contents : C → Option (List ℕ)) (l
     → is_scanning ≡ scans job.task → HasCount job.task → ((past : Past) (join : Joining) → Stands past join → IsJoined past → (p : Picture) × ShowsFrames past.ended p)
     → OnShelf job before was under given old past → (g : Going remaining contents left_of job first coming0 given failed control coming stream c)
     → result ≡ false → (is_scanning ≡ false → result ≡ true)
-    → ((before : Option Stock) (outputs : List Taken) (k : ℕ) (q : Past) → scans c.errand.task ≡ true → (is_ended c.outcome ≡ false → c.notes.file ≡ k) → Serves q c → IsUnderWay before outputs was under k q.given
-    → FallsShort k before outputs then_ out ⊎ TurnsOn q c k before outputs now then_ out)
+    → ((before : Option Stock) (outputs : List Taken) (k : ℕ) (q : Past) → IsFiling q c k before outputs was under → HasFiledShort q c k before outputs now then_ out)
     → CameEnded remaining contents job first coming0 control coming before then_ out (Ended statuses.IoError whys.Sink)
 came_sunk remaining contents left_of job first coming0 before was failed control coming stream c old now then_ under out given past is_scanning result scanning h shows shelf g fails none goes =
     sunk_at remaining contents left_of job first coming0 before was failed control coming stream c old now then_ under out given past is_scanning is_scanning result refl scanning h shows shelf g fails none goes

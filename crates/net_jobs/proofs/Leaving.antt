@@ -34,7 +34,7 @@ use Rattle.net_jobs.specs.Courses.{Event, Replied, Opened, Came, Finished, Gave,
 use Rattle.net_jobs.specs.Links.{Calls, Wrote, Failed, HasBrought, BeginWith}
 use Rattle.net_jobs.specs.Going.{Linked, Follows, Falls, Given, nothing, Stage, Going, EndsBy, ByLoss, ByMemory, ByGarble, ByShape}
 use Rattle.net_jobs.specs.Promised.{Ran, RanDone, RanEnded, HasRun}
-use Rattle.net_jobs.specs.Draining.{IsDrainedTo, StopsShort}
+use Rattle.net_jobs.specs.Draining.{HoldsGiven, IsDrainedTo, StopsShort}
 use Rattle.net_jobs.proofs.Coursing.{did_quiet}
 use Rattle.net_jobs.proofs.Staging.{lets_go}
 use Rattle.net_jobs.proofs.Going.{stage_wrote, stage_cut, going_begun}
@@ -178,11 +178,11 @@ drained_at {C} {R} remaining contents left_of job first coming0 held failed cont
 -- a turn in which the output took what was given
 pub drained_more : {C R : Type 0} (remaining contents : C → Option (List ℕ)) (left_of : R → Option (List ℕ)) (job : Job) (first : C) (coming0 : Option (List (List ℕ))) (held : Option (List ℕ)) (failed : Bool) (control : C) (coming : Option (List (List ℕ))) (stream : Option R) (c now : Talker) (was holds : Option (List ℕ)) (given : Given)
     → job.task ≡ tasks.Scan → Appends held was given.bytes → (g : Going remaining contents left_of job first coming0 given failed control coming stream c)
-    → ((past : Past) → c.errand.task ≡ tasks.Scan → Serves past c → Appends held was past.given → IsDrainedTo past c held now holds)
+    → ((past : Past) → HoldsGiven past c held was → IsDrainedTo past c held now holds)
     → Drained remaining contents left_of job first coming0 held failed control coming stream now holds
 drained_more {C} {R} remaining contents left_of job first coming0 held failed control coming stream c now was holds given scan taken g drains =
     let s = g.stage in
-    let d = drains s.past (ap (λ (e : Errand). e.task) s.errand ∙ scan) s.serves (subst (λ (l : List ℕ). Appends held was l) (sym s.given_is) taken) in
+    let d = drains s.past (record { scan = ap (λ (e : Errand). e.task) s.errand ∙ scan; serves = s.serves; taken = subst (λ (l : List ℕ). Appends held was l) (sym s.given_is) taken }) in
     let serves = subst (λ (v : Talker). Serves (after_pull d.bytes s.past) v) d.rest d.serves in
     let gave = stage_gave_by left_of job g.read_ g.wrote g.left coming0 coming given d.bytes stream c now.join s.errand s.past s.given_is serves s.course s.rest s.pages_is s.did s.stands in
     drained_at remaining contents left_of job first coming0 held failed control coming stream c now was holds given scan g d gave.0 gave.1
@@ -467,12 +467,12 @@ has_run remaining contents left_of job first coming0 held control coming stream 
 -- the output did not take the file
 pub run_sunk : {C R : Type 0} (remaining contents : C → Option (List ℕ)) (left_of : R → Option (List ℕ)) (job : Job) (first : C) (coming0 : Option (List (List ℕ))) (held was : Option (List ℕ)) (failed : Bool) (control : C) (coming : Option (List (List ℕ))) (stream : Option R) (c : Talker) (holds : Option (List ℕ)) (given : Given)
     → job.task ≡ tasks.Scan → Appends held was given.bytes → (g : Going remaining contents left_of job first coming0 given failed control coming stream c)
-    → ((past : Past) → c.errand.task ≡ tasks.Scan → Serves past c → Appends held was past.given → StopsShort held holds)
+    → ((past : Past) → HoldsGiven past c held was → StopsShort held holds)
     → RanEnded remaining contents job first coming0 control coming held holds (Ended statuses.IoError whys.Sink)
 run_sunk remaining contents left_of job first coming0 held was failed control coming stream c holds given scan taken g stops =
     let s = g.stage in
     let r = ran_by remaining contents left_of job first coming0 control coming stream c given g.read_ g.wrote g.left failed g.calls s s.stands in
-    let short = stops s.past (task_is c job s.errand ∙ scan) s.serves (subst (λ (l : List ℕ). Appends held was l) (sym s.given_is) taken) in
+    let short = stops s.past (record { scan = task_is c job s.errand ∙ scan; serves = s.serves; taken = subst (λ (l : List ℕ). Appends held was l) (sym s.given_is) taken }) in
     record { ran = r.0; cause = inr (inr refl); text = short.text; taken = short.taken; not_whole = short.not_whole }
 
 -- ---- a turn's end: what a job gave of its file, if it is a scan
@@ -480,7 +480,7 @@ run_sunk remaining contents left_of job first coming0 held was failed control co
 given_by : {C R : Type 0} (remaining contents : C → Option (List ℕ)) (left_of : R → Option (List ℕ)) (job : Job) (first : C) (coming0 : Option (List (List ℕ))) (held : Option (List ℕ)) (failed : Bool) (control : C) (coming : Option (List (List ℕ))) (stream : Option R) (c now : Talker) (was holds : Option (List ℕ)) (given : Given) (is_scan : Bool) (scans : Bool)
     → is_scan ≡ scans → is_scan ≡ true ↔ job.task ≡ tasks.Scan → Appends held was given.bytes → ((job.task ≡ tasks.Scan → ⊥) → given.bytes ≡ []) → Going remaining contents left_of job first coming0 given failed control coming stream c
     → (is_scan ≡ false → (now ≡ c) × (holds ≡ was))
-    → (is_scan ≡ true → (past : Past) → c.errand.task ≡ tasks.Scan → Serves past c → Appends held was past.given → IsDrainedTo past c held now holds)
+    → (is_scan ≡ true → (past : Past) → HoldsGiven past c held was → IsDrainedTo past c held now holds)
     → Drained remaining contents left_of job first coming0 held failed control coming stream now holds
 given_by remaining contents left_of job first coming0 held failed control coming stream c now was holds given is_scan true e scan taken none g same drains =
     drained_more remaining contents left_of job first coming0 held failed control coming stream c now was holds given (scan.0 e) taken g (drains e)
@@ -493,7 +493,7 @@ given_by remaining contents left_of job first coming0 held failed control coming
 pub given_more : {C R : Type 0} (remaining contents : C → Option (List ℕ)) (left_of : R → Option (List ℕ)) (job : Job) (first : C) (coming0 : Option (List (List ℕ))) (held : Option (List ℕ)) (failed : Bool) (control : C) (coming : Option (List (List ℕ))) (stream : Option R) (c now : Talker) (was holds : Option (List ℕ)) (given : Given) (is_scan : Bool)
     → is_scan ≡ true ↔ job.task ≡ tasks.Scan → Appends held was given.bytes → ((job.task ≡ tasks.Scan → ⊥) → given.bytes ≡ []) → Going remaining contents left_of job first coming0 given failed control coming stream c
     → (is_scan ≡ false → (now ≡ c) × (holds ≡ was))
-    → (is_scan ≡ true → (past : Past) → c.errand.task ≡ tasks.Scan → Serves past c → Appends held was past.given → IsDrainedTo past c held now holds)
+    → (is_scan ≡ true → (past : Past) → HoldsGiven past c held was → IsDrainedTo past c held now holds)
     → Drained remaining contents left_of job first coming0 held failed control coming stream now holds
 given_more remaining contents left_of job first coming0 held failed control coming stream c now was holds given is_scan scan taken none g same drains =
     given_by remaining contents left_of job first coming0 held failed control coming stream c now was holds given is_scan is_scan refl scan taken none g same drains

@@ -30,7 +30,7 @@ use Rattle.net_jobs.specs.Courses.{Course, Lives, Turned, turned}
 use Rattle.net_jobs.specs.Going.{Linked, Follows, Falls, Given, nothing, Stage, Going, EndsBy, ByLoss, ByMemory, ByGarble, ByShape}
 use Rattle.net_jobs.specs.Links.{Calls, Wrote, Failed}
 use Rattle.net_jobs.specs.Outputs.{TakesBack, HasTaken, IsUnderWay, outputs_from}
-use Rattle.net_jobs.specs.Paging.{GoesOn, TurnsOn}
+use Rattle.net_jobs.specs.Paging.{IsFiling, GoesOn, TurnsOn, HasFiled}
 use Rattle.net_jobs.specs.Batches.{IsPageFile}
 use Rattle.net_jobs.proofs.Coursing.{did_say}
 use Rattle.net_jobs.proofs.Staging.{following}
@@ -325,22 +325,25 @@ under_way_at job before was under given old past then_ given_is s = subst (λ (l
 -- what a contract of this kind says of the file under way
 pub from_here : {C R : Type 0} (remaining contents : C → Option (List ℕ)) (left_of : R → Option (List ℕ)) (job : Job) (first : C) (coming0 : Option (List (List ℕ))) (before was : Option Stock) (failed : Bool) (control : C) (coming : Option (List (List ℕ))) (stream : Option R) (c old : Talker) (under : Option (Option (List ℕ))) (given : Given) (past : Past)
     (Then : Option Stock → List Taken → ℕ → Past → Type 0) → scans job.task ≡ true → HasCount job.task → OnShelf job before was under given old past → (g : Going remaining contents left_of job first coming0 given failed control coming stream c)
-    → ((before : Option Stock) (outputs : List Taken) (k : ℕ) (q : Past) → scans c.errand.task ≡ true → (is_ended c.outcome ≡ false → c.notes.file ≡ k) → Serves q c → IsUnderWay before outputs was under k q.given → Then before outputs k q)
+    → ((before : Option Stock) (outputs : List Taken) (k : ℕ) (q : Past) → IsFiling q c k before outputs was under → Then before outputs k q)
     → Then before (outputs_from 1 given.pages) (length given.pages + 1) g.stage.past
 from_here remaining contents left_of job first coming0 before was failed control coming stream c old under given past Then scanning h shelf g goes =
-    goes before (outputs_from 1 given.pages) (length given.pages + 1) g.stage.past (ap scans (task_is c job g.stage.errand) ∙ scanning)
-    (λ alive. number_at left_of job g.read_ g.wrote g.left coming0 coming given stream c h g.stage alive) g.stage.serves (under_way_at job before was under given old past g.stage.past g.stage.given_is shelf)
+    goes before (outputs_from 1 given.pages) (length given.pages + 1) g.stage.past (record {
+      scanning = ap scans (task_is c job g.stage.errand) ∙ scanning;
+      number = λ alive. number_at left_of job g.read_ g.wrote g.left coming0 coming given stream c h g.stage alive;
+      serves = g.stage.serves;
+      under_way = under_way_at job before was under given old past g.stage.past g.stage.given_is shelf;
+    })
 
 laid_by : {C R : Type 0} (remaining contents : C → Option (List ℕ)) (left_of : R → Option (List ℕ)) (job : Job) (first : C) (coming0 : Option (List (List ℕ))) (before was : Option Stock) (failed : Bool) (control : C) (coming : Option (List (List ℕ))) (stream : Option R) (c old now : Talker) (then_ : Option Stock) (under out : Option (Option (List ℕ))) (given : Given) (past : Past) (is_scanning b : Bool)
     → is_scanning ≡ b → is_scanning ≡ scans job.task → HasCount job.task → ((past : Past) (join : Joining) → Stands past join → IsJoined past → (p : Picture) × ShowsFrames past.ended p)
     → OnShelf job before was under given old past → (g : Going remaining contents left_of job first coming0 given failed control coming stream c)
     → (is_scanning ≡ false → (now ≡ c) × (then_ ≡ was) × (out ≡ under))
-    → (is_scanning ≡ true → (before : Option Stock) (outputs : List Taken) (k : ℕ) (q : Past) → scans c.errand.task ≡ true → (is_ended c.outcome ≡ false → c.notes.file ≡ k) → Serves q c → IsUnderWay before outputs was under k q.given
-    → GoesOn q c k before outputs now then_ out ⊎ TurnsOn q c k before outputs now then_ out)
+    → (is_scanning ≡ true → (before : Option Stock) (outputs : List Taken) (k : ℕ) (q : Past) → IsFiling q c k before outputs was under → HasFiled q c k before outputs now then_ out)
     → Laid remaining contents left_of job first coming0 before failed control coming stream now then_ out
 laid_by remaining contents left_of job first coming0 before was failed control coming stream c old now then_ under out given past is_scanning true e scanning h shows shelf g none goes =
     laid_more remaining contents left_of job first coming0 before failed control coming stream c now then_ out given shows (sym scanning ∙ e) shelf.files g
-    (from_here remaining contents left_of job first coming0 before was failed control coming stream c old under given past (λ b outputs k q. GoesOn q c k b outputs now then_ out ⊎ TurnsOn q c k b outputs now then_ out) (sym scanning ∙ e) h shelf g (goes e))
+    (from_here remaining contents left_of job first coming0 before was failed control coming stream c old under given past (λ b outputs k q. HasFiled q c k b outputs now then_ out) (sym scanning ∙ e) h shelf g (goes e))
 laid_by remaining contents left_of job first coming0 before was failed control coming stream c old now then_ under out given past is_scanning false e scanning h shows shelf g none goes =
     let same = none e in
     subst (λ (v : Talker). Laid remaining contents left_of job first coming0 before failed control coming stream v then_ out) (sym same.0)
@@ -352,8 +355,7 @@ pub laid_then : {C R : Type 0} (remaining contents : C → Option (List ℕ)) (l
     → is_scanning ≡ scans job.task → HasCount job.task → ((past : Past) (join : Joining) → Stands past join → IsJoined past → (p : Picture) × ShowsFrames past.ended p)
     → OnShelf job before was under given old past → (g : Going remaining contents left_of job first coming0 given failed control coming stream c)
     → (is_scanning ≡ false → (now ≡ c) × (then_ ≡ was) × (out ≡ under))
-    → (is_scanning ≡ true → (before : Option Stock) (outputs : List Taken) (k : ℕ) (q : Past) → scans c.errand.task ≡ true → (is_ended c.outcome ≡ false → c.notes.file ≡ k) → Serves q c → IsUnderWay before outputs was under k q.given
-    → GoesOn q c k before outputs now then_ out ⊎ TurnsOn q c k before outputs now then_ out)
+    → (is_scanning ≡ true → (before : Option Stock) (outputs : List Taken) (k : ℕ) (q : Past) → IsFiling q c k before outputs was under → HasFiled q c k before outputs now then_ out)
     → Laid remaining contents left_of job first coming0 before failed control coming stream now then_ out
 laid_then remaining contents left_of job first coming0 before was failed control coming stream c old now then_ under out given past is_scanning scanning h shows shelf g none goes =
     laid_by remaining contents left_of job first coming0 before was failed control coming stream c old now then_ under out given past is_scanning is_scanning refl scanning h shows shelf g none goes

@@ -5,8 +5,15 @@ use Rattle.netpbm.specs.Picture.{Picture}
 use Rattle.netpbm.specs.Pnm.{Denotes, IsWhole}
 use Rattle.page_picture.specs.Shows.{ShowsFrames}
 use Rattle.frame_join.specs.FrameHistory.{Past, IsJoined, after_pull}
+use Rattle.scan_job.specs.declared.job.Task.TheVariants as tasks
 use Rattle.client_rules.specs.Talks.{is_ended}
 use Rattle.net_client.specs.Talker.{Talker, Serves}
+
+-- a scan's client stands for what was told to it and given, and the output took what was given, behind what it held first
+pub record HoldsGiven (past : Past) (client : Talker) (first contents : Option (List ℕ)) : Type 0 where
+  pub scan : client.errand.task ≡ tasks.Scan
+  pub serves : Serves past client
+  pub taken : Appends first contents past.given
 
 -- more bytes were given, the output took all that were given so far, and once the picture is whole they denote it
 pub record IsDrainedTo (past : Past) (old : Talker) (first : Option (List ℕ)) (new : Talker) (contents : Option (List ℕ)) : Type 0 where

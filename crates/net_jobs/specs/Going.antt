@@ -107,6 +107,19 @@ pub record Going {C R : Type 0} (remaining contents : C → Option (List ℕ)) (
   pub stage : Stage left_of job read_ wrote left coming0 coming given stream c
   pub left_is : failed ≡ false → left ≡ c.out
 
+-- Whatever stage a job was at, it goes on from there by what came of its data connection; nothing passes over the control
+-- connection.
+abbrev pub StageGoesOn : {R : Type 0} → (R → Option (List ℕ)) → Option (List (List ℕ)) → Option (List (List ℕ)) → Option R → Option R → Talker → Talker → Type 0
+StageGoesOn left_of coming now stream after_ old new =
+    (job : Job) (read_ wrote : List ℕ) (coming0 : Option (List (List ℕ))) (given : Given)
+    → Stage left_of job read_ wrote old.out coming0 coming given stream old → Stage left_of job read_ wrote new.out coming0 now given after_ new
+
+-- Whatever a job's turn began at, with no write failed, it goes on from there; and whether a write failed meanwhile.
+abbrev pub TurnGoesOn : {C R : Type 0} → (C → Option (List ℕ)) → (C → Option (List ℕ)) → (R → Option (List ℕ)) → Bool → C → C → Option (List (List ℕ)) → Option (List (List ℕ)) → Option R → Option R → Talker → Talker → Type 0
+TurnGoesOn {C} {R} remaining contents left_of failed control then_ coming now stream after_ old new =
+    (job : Job) (first : C) (coming0 : Option (List (List ℕ))) (given : Given)
+    → Going remaining contents left_of job first coming0 given false control coming stream old → Going remaining contents left_of job first coming0 given failed then_ now after_ new
+
 -- a read of the control connection: the client heeds the bytes, or there are none and the connection is lost
 pub record HeardOrLost (was now : Option (List ℕ)) (old : Talker) (past : Past) (new : Talker) : Type 0 where
   pub bytes : List ℕ

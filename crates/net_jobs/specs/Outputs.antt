@@ -1,5 +1,5 @@
 -- The outputs of a job's files, as far as their shelf tells of them.
-use Rattle.std.specs.Prelude.{ℕ, suc, ◌≡◌, ⊤, Option, Some, None, List, [], ◌∷◌, ◌++◌}
+use Rattle.std.specs.Prelude.{ℕ, suc, ◌≡◌, ◌<◌, ⊤, Option, Some, None, List, [], ◌∷◌, ◌++◌, length, take}
 use Rattle.netpbm.specs.Pnm.{IsWhole}
 use Rattle.frame_join.specs.FrameHistory.{Past}
 use Rattle.scan_job.specs.Shelves.{Stock, Taken, Shelves}
@@ -42,6 +42,15 @@ HasTaken (Some old) outputs (Some now) out k bytes = (now.taken ≡ old.taken ++
 pub record IsUnderWay (before : Option Stock) (outputs : List Taken) (now : Option Stock) (out : Option (Option (List ℕ))) (k : ℕ) (bytes : List ℕ) : Type 0 where
   pub taken : HasTaken before outputs now out k bytes
   pub asked : bytes ≡ [] → out ≡ None
+
+-- whatever it took before, with what the shelf took back, it took these bytes more
+abbrev pub TakesMore : Option Stock → Option (Option (List ℕ)) → Option Stock → Option (Option (List ℕ)) → ℕ → List ℕ → Type 0
+TakesMore was out now new k bytes = (before : Option Stock) (outputs : List Taken) (had : List ℕ) → HasTaken before outputs was out k had → HasTaken before outputs now new k (had ++ bytes)
+
+-- or only a proper front of them
+abbrev pub TakesFront : Option Stock → Option (Option (List ℕ)) → Option Stock → Option (Option (List ℕ)) → ℕ → List ℕ → Type 0
+TakesFront was out now new k bytes =
+    (before : Option Stock) (outputs : List Taken) (had : List ℕ) → HasTaken before outputs was out k had → (n : ℕ) × (n < length bytes) × HasTaken before outputs now new k (had ++ take n bytes)
 
 -- one that stands is taken back, with what it holds
 abbrev pub GivesBack : Option Stock → Option (Option (List ℕ)) → Option Stock → Type 0

@@ -11,13 +11,21 @@ use Rattle.scan_job.specs.declared.outcome.Outcome.{Outcome}
 use Rattle.scan_job.specs.declared.outcome.Outcome.TheVariants.{Running, Done, Ended}
 use Rattle.scan_job.specs.declared.outcome.Why.TheVariants as whys
 use Rattle.scan_job.specs.Shelves.{Stock, Taken}
-use Rattle.client_rules.specs.Talks.{is_ended, turns}
+use Rattle.client_rules.specs.Talks.{is_ended, scans, turns}
 use Rattle.net_client.specs.Talker.{Talker, Serves, TurnsPage}
 use Rattle.net_jobs.specs.Courses.{EndWell}
 use Rattle.net_jobs.specs.Going.{EndsBy}
 use Rattle.net_jobs.specs.Outputs.{TakesBack, HasTaken, IsUnderWay, output_of, outputs_from}
 use Rattle.net_jobs.specs.Promised.{Ran}
 use Rattle.net_jobs.specs.Batches.{IsPageFile, MayScan, pages_of}
+
+-- a client that scans stands for what was told to it and given, and the output of the file under way, which is number k, took
+-- what was given of that
+pub record IsFiling (past : Past) (client : Talker) (k : ℕ) (before : Option Stock) (outputs : List Taken) (now : Option Stock) (out : Option (Option (List ℕ))) : Type 0 where
+  pub scanning : scans client.errand.task ≡ true
+  pub number : is_ended client.outcome ≡ false → client.notes.file ≡ k
+  pub serves : Serves past client
+  pub under_way : IsUnderWay before outputs now out k past.given
 
 -- the client gave bytes of its file, not the last ones of a page, and the output took them
 pub record GoesOn (past : Past) (old : Talker) (k : ℕ) (before : Option Stock) (outputs : List Taken) (new : Talker) (after : Option Stock) (out : Option (Option (List ℕ))) : Type 0 where
@@ -44,6 +52,14 @@ pub record FallsShort (k : ℕ) (before : Option Stock) (outputs : List Taken) (
   pub text : List ℕ
   pub taken : HasTaken before outputs after out k text
   pub not_whole : IsWhole text → ⊥
+
+-- all that was given was taken: the client goes on with its file, or it turned to the next page
+abbrev pub HasFiled : Past → Talker → ℕ → Option Stock → List Taken → Talker → Option Stock → Option (Option (List ℕ)) → Type 0
+HasFiled past old k before outputs new after out = GoesOn past old k before outputs new after out ⊎ TurnsOn past old k before outputs new after out
+
+-- not all was: an output fell short, or the shelf refused the one that was given back as the client turned to the next page
+abbrev pub HasFiledShort : Past → Talker → ℕ → Option Stock → List Taken → Talker → Option Stock → Option (Option (List ℕ)) → Type 0
+HasFiledShort past old k before outputs new after out = FallsShort k before outputs after out ⊎ TurnsOn past old k before outputs new after out
 
 -- ---- a job that is over, before the output under way is given back
 

@@ -1,13 +1,13 @@
-ghost use Rattle.std.specs.Prelude.{◌≡◌, ◌<◌, ◌⊎◌, ◌+◌, ◌++◌, ℕ, None, List, Option, true, false, length, take, option_map, [], IfOk};
+ghost use Rattle.std.specs.Prelude.{◌≡◌, ◌<◌, ◌⊎◌, ◌+◌, ℕ, None, List, Option, true, false, length, option_map, [], IfOk};
 ghost use Rattle.scan_job.specs.declared.job.Job.{Job as JobValue};
 ghost use Rattle.scan_job.specs.JobSize.{HasCount};
 ghost use Rattle.scan_job.specs.Outcomes.{IsOver};
 ghost use Rattle.scan_job.specs.Shelves.{Stock, Taken};
 ghost use Rattle.frame_join.specs.FrameHistory.{Past};
-ghost use Rattle.client_rules.specs.Talks.{scans, is_ended};
-ghost use Rattle.net_client.specs.Talker.{Serves, IsFresh};
-ghost use Rattle.net_jobs.specs.Outputs.{HasTaken, IsUnderWay, GivesBack};
-ghost use Rattle.net_jobs.specs.Paging.{GoesOn, TurnsOn, FallsShort, HasCome};
+ghost use Rattle.client_rules.specs.Talks.{scans};
+ghost use Rattle.net_client.specs.Talker.{IsFresh};
+ghost use Rattle.net_jobs.specs.Outputs.{TakesMore, TakesFront, GivesBack};
+ghost use Rattle.net_jobs.specs.Paging.{IsFiling, HasFiled, HasFiledShort, HasCome};
 ghost use Rattle.net_jobs.specs.Batches.{HasBatchRun, RefusesBatch, closed_as};
 
 use crate::dial::Dial;
@@ -42,10 +42,8 @@ fn shelve<S: Shelf>(
     reads: &mut u64,
 ) -> bool
     requires { 0 < length bytes.now }
-    ensures whole { result ≡ true → (before : Option Stock) (outputs : List Taken) (had : List ℕ) → HasTaken before outputs (S.stock shelf.old) (option_map S.Out.contents under.old) number had
-        → HasTaken before outputs (S.stock shelf.new) (option_map S.Out.contents under.new) number (had ++ bytes.now) }
-    ensures front { result ≡ false → (before : Option Stock) (outputs : List Taken) (had : List ℕ) → HasTaken before outputs (S.stock shelf.old) (option_map S.Out.contents under.old) number had
-        → (n : ℕ) × (n < length bytes.now) × HasTaken before outputs (S.stock shelf.new) (option_map S.Out.contents under.new) number (had ++ take n bytes.now) }
+    ensures whole { result ≡ true → TakesMore (S.stock shelf.old) (option_map S.Out.contents under.old) (S.stock shelf.new) (option_map S.Out.contents under.new) number bytes.now }
+    ensures front { result ≡ false → TakesFront (S.stock shelf.old) (option_map S.Out.contents under.old) (S.stock shelf.new) (option_map S.Out.contents under.new) number bytes.now }
 {
     match under {
         Some(out) => put(out, bytes, reads),
@@ -84,14 +82,12 @@ fn drain<S: Shelf>(
     requires { 0 < length room.old }
     ensures room { length room.new ≡ length room.old }
     // `k` is the number of the file under way, and `past` what the client was told and gave.
-    ensures drained { result ≡ true → (before : Option Stock) (outputs : List Taken) (k : ℕ) (past : Past) → scans client.old.errand.task ≡ true → (is_ended client.old.outcome ≡ false → client.old.notes.file ≡ k) → Serves past client.old
-        → IsUnderWay before outputs (S.stock shelf.old) (option_map S.Out.contents under.old) k past.given
-        → GoesOn past client.old k before outputs client.new (S.stock shelf.new) (option_map S.Out.contents under.new)
-        ⊎ TurnsOn past client.old k before outputs client.new (S.stock shelf.new) (option_map S.Out.contents under.new) }
-    ensures short { result ≡ false → (before : Option Stock) (outputs : List Taken) (k : ℕ) (past : Past) → scans client.old.errand.task ≡ true → (is_ended client.old.outcome ≡ false → client.old.notes.file ≡ k) → Serves past client.old
-        → IsUnderWay before outputs (S.stock shelf.old) (option_map S.Out.contents under.old) k past.given
-        → FallsShort k before outputs (S.stock shelf.new) (option_map S.Out.contents under.new)
-        ⊎ TurnsOn past client.old k before outputs client.new (S.stock shelf.new) (option_map S.Out.contents under.new) }
+    ensures drained { result ≡ true → (before : Option Stock) (outputs : List Taken) (k : ℕ) (past : Past)
+        → IsFiling past client.old k before outputs (S.stock shelf.old) (option_map S.Out.contents under.old)
+        → HasFiled past client.old k before outputs client.new (S.stock shelf.new) (option_map S.Out.contents under.new) }
+    ensures short { result ≡ false → (before : Option Stock) (outputs : List Taken) (k : ℕ) (past : Past)
+        → IsFiling past client.old k before outputs (S.stock shelf.old) (option_map S.Out.contents under.old)
+        → HasFiledShort past client.old k before outputs client.new (S.stock shelf.new) (option_map S.Out.contents under.new) }
 {
     no_file_is_endless();
     no_front_is_whole();
@@ -125,14 +121,12 @@ fn fill<S: Shelf>(
     requires { 0 < length room.old }
     ensures room { length room.new ≡ length room.old }
     ensures none { is_scanning ≡ false → (result ≡ true) × (client.new ≡ client.old) × (shelf.new ≡ shelf.old) × (under.new ≡ under.old) }
-    ensures drained { is_scanning ≡ true → result ≡ true → (before : Option Stock) (outputs : List Taken) (k : ℕ) (past : Past) → scans client.old.errand.task ≡ true → (is_ended client.old.outcome ≡ false → client.old.notes.file ≡ k) → Serves past client.old
-        → IsUnderWay before outputs (S.stock shelf.old) (option_map S.Out.contents under.old) k past.given
-        → GoesOn past client.old k before outputs client.new (S.stock shelf.new) (option_map S.Out.contents under.new)
-        ⊎ TurnsOn past client.old k before outputs client.new (S.stock shelf.new) (option_map S.Out.contents under.new) }
-    ensures short { result ≡ false → (before : Option Stock) (outputs : List Taken) (k : ℕ) (past : Past) → scans client.old.errand.task ≡ true → (is_ended client.old.outcome ≡ false → client.old.notes.file ≡ k) → Serves past client.old
-        → IsUnderWay before outputs (S.stock shelf.old) (option_map S.Out.contents under.old) k past.given
-        → FallsShort k before outputs (S.stock shelf.new) (option_map S.Out.contents under.new)
-        ⊎ TurnsOn past client.old k before outputs client.new (S.stock shelf.new) (option_map S.Out.contents under.new) }
+    ensures drained { is_scanning ≡ true → result ≡ true → (before : Option Stock) (outputs : List Taken) (k : ℕ) (past : Past)
+        → IsFiling past client.old k before outputs (S.stock shelf.old) (option_map S.Out.contents under.old)
+        → HasFiled past client.old k before outputs client.new (S.stock shelf.new) (option_map S.Out.contents under.new) }
+    ensures short { result ≡ false → (before : Option Stock) (outputs : List Taken) (k : ℕ) (past : Past)
+        → IsFiling past client.old k before outputs (S.stock shelf.old) (option_map S.Out.contents under.old)
+        → HasFiledShort past client.old k before outputs client.new (S.stock shelf.new) (option_map S.Out.contents under.new) }
 {
     if !is_scanning {
         return true;

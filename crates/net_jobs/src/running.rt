@@ -6,8 +6,8 @@ ghost use Rattle.scan_job.specs.Outcomes.{IsOver};
 ghost use Rattle.frame_join.specs.FrameHistory.{Past};
 ghost use Rattle.client_rules.specs.Talks.{is_running, is_receiving, is_batch, wanted};
 ghost use Rattle.net_client.specs.Talker.{Serves, IsFresh};
-ghost use Rattle.net_jobs.specs.Draining.{IsDrainedTo, StopsShort};
-ghost use Rattle.net_jobs.specs.Going.{Given, Stage, Going, HeardOrLost};
+ghost use Rattle.net_jobs.specs.Draining.{HoldsGiven, IsDrainedTo, StopsShort};
+ghost use Rattle.net_jobs.specs.Going.{StageGoesOn, TurnGoesOn, HeardOrLost};
 ghost use Rattle.net_jobs.specs.Promised.{HasRun, Refuses, refused_as};
 
 use crate::dial::Dial;
@@ -121,8 +121,7 @@ fn see<R: Read + Drop>(
 )
     requires { is_receiving client.old.outcome client.old.progress ≡ true }
     ensures room { length piece.new ≡ length piece.old }
-    ensures stage { (job : JobValue) (read_ wrote : List ℕ) (coming0 coming : Option (List (List ℕ))) (given : Given)
-        → Stage R.remaining job read_ wrote client.old.out coming0 coming given stream.old client.old → Stage R.remaining job read_ wrote client.new.out coming0 coming given stream.new client.new }
+    ensures stage { (coming : Option (List (List ℕ))) → StageGoesOn R.remaining coming coming stream.old stream.new client.old client.new }
 {
     let Some(mut conn) = stream.take() else {
         client.link_lost(Link::Image);
@@ -143,9 +142,7 @@ fn see<R: Read + Drop>(
 fn connect<D: Dial>(client: &mut Client, dial: &mut D, stream: &mut Option<D::Conn>, port: u16)
     requires running { is_running client.old.outcome ≡ true }
     requires wanted { wanted client.old.progress ≡ Some port }
-    ensures stage { (job : JobValue) (read_ wrote : List ℕ) (coming0 : Option (List (List ℕ))) (given : Given)
-        → Stage D.Conn.remaining job read_ wrote client.old.out coming0 (D.coming dial.old) given stream.old client.old
-        → Stage D.Conn.remaining job read_ wrote client.new.out coming0 (D.coming dial.new) given stream.new client.new }
+    ensures stage { StageGoesOn D.Conn.remaining (D.coming dial.old) (D.coming dial.new) stream.old stream.new client.old client.new }
 {
     match dial.dial(port) {
         Ok(conn) => {
@@ -171,9 +168,7 @@ pub(crate) fn go_on<C: Read + Write, D: Dial>(
     requires running { is_running client.old.outcome ≡ true }
     ensures piece { length piece.new ≡ length piece.old }
     ensures room { length room.new ≡ length room.old }
-    ensures going { (job : JobValue) (first : C) (coming0 : Option (List (List ℕ))) (given : Given)
-        → Going C.remaining C.contents D.Conn.remaining job first coming0 given false control.old (D.coming dial.old) stream.old client.old
-        → Going C.remaining C.contents D.Conn.remaining job first coming0 given (not result) control.new (D.coming dial.new) stream.new client.new }
+    ensures going { TurnGoesOn C.remaining C.contents D.Conn.remaining (not result) control.old control.new (D.coming dial.old) (D.coming dial.new) stream.old stream.new client.old client.new }
 {
     if client.is_receiving() {
         see(client, stream, piece, reads);
@@ -201,10 +196,8 @@ fn drain<W: Write>(client: &mut Client, room: &mut [u8], out: &mut W, reads: &mu
     requires { 0 < length room.old }
     ensures room { length room.new ≡ length room.old }
     // `first` is what the output held before the file, and `past` what the client was told and gave.
-    ensures drained { result ≡ true → (first : Option (List ℕ)) (past : Past) → client.old.errand.task ≡ tasks.Scan → Serves past client.old
-        → Appends first (W.contents out.old) past.given → IsDrainedTo past client.old first client.new (W.contents out.new) }
-    ensures short { result ≡ false → (first : Option (List ℕ)) (past : Past) → client.old.errand.task ≡ tasks.Scan → Serves past client.old
-        → Appends first (W.contents out.old) past.given → StopsShort first (W.contents out.new) }
+    ensures drained { result ≡ true → (first : Option (List ℕ)) (past : Past) → HoldsGiven past client.old first (W.contents out.old) → IsDrainedTo past client.old first client.new (W.contents out.new) }
+    ensures short { result ≡ false → (first : Option (List ℕ)) (past : Past) → HoldsGiven past client.old first (W.contents out.old) → StopsShort first (W.contents out.new) }
 {
     no_file_is_endless();
     no_front_is_whole();
@@ -231,10 +224,8 @@ fn give<W: Write>(
     requires { 0 < length room.old }
     ensures room { length room.new ≡ length room.old }
     ensures none { is_scan ≡ false → (result ≡ true) × (client.new ≡ client.old) × (W.contents out.new ≡ W.contents out.old) }
-    ensures drained { is_scan ≡ true → result ≡ true → (first : Option (List ℕ)) (past : Past) → client.old.errand.task ≡ tasks.Scan → Serves past client.old
-        → Appends first (W.contents out.old) past.given → IsDrainedTo past client.old first client.new (W.contents out.new) }
-    ensures short { result ≡ false → (first : Option (List ℕ)) (past : Past) → client.old.errand.task ≡ tasks.Scan → Serves past client.old
-        → Appends first (W.contents out.old) past.given → StopsShort first (W.contents out.new) }
+    ensures drained { is_scan ≡ true → result ≡ true → (first : Option (List ℕ)) (past : Past) → HoldsGiven past client.old first (W.contents out.old) → IsDrainedTo past client.old first client.new (W.contents out.new) }
+    ensures short { result ≡ false → (first : Option (List ℕ)) (past : Past) → HoldsGiven past client.old first (W.contents out.old) → StopsShort first (W.contents out.new) }
 {
     if !is_scan {
         return true;

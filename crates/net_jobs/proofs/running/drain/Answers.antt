@@ -5,7 +5,7 @@ use Rattle.net_jobs.proofs.Drains.{begun, one_more, at_end, stopped, never}
 use Rattle.net_jobs.proofs.running.drain.Goals as goal
 
 pub loop-i-init : goal.loop-i-init
-loop-i-init g c = record { room = refl; bytes = λ first past scan serves taken. begun past _ first _ serves taken }
+loop-i-init g c = record { room = refl; bytes = λ first past held. begun past _ first _ held.serves held.taken }
 
 pub loop-i-preserved : goal.loop-i-preserved
 loop-i-preserved g c =
@@ -14,22 +14,22 @@ loop-i-preserved g c =
     let size : length piece ≡ c.take_file-n.result = omega (arith, length-take c.take_file-n.result c.take_file-n.new.buf, c.take_file-n.ensures.count, c.take_file-n.auto.buf) in
     record {
       room = search rules;
-      bytes = λ first past scan serves taken. one_more past first _ _ c.loop-i._i c.take_file-n.result c.args.client.now c.loop-i.client c.take_file-n.new.self piece c.if-n-eq0.false size
-          c.take_file-n.ensures.carried c.take_file-n.ensures.ended c.take_file-n.ensures.same scan took (c.loop-i.invariant.bytes first past scan serves taken);
+      bytes = λ first past held. one_more past first _ _ c.loop-i._i c.take_file-n.result c.args.client.now c.loop-i.client c.take_file-n.new.self piece c.if-n-eq0.false size
+          (λ q at. (c.take_file-n.ensures.taken q at).carried) c.take_file-n.ensures.ended c.take_file-n.ensures.same held.scan took (c.loop-i.invariant.bytes first past held);
     }
 
 pub returns-then-n-eq0-clause-drained : goal.returns-then-n-eq0-clause-drained
-returns-then-n-eq0-clause-drained g c = λ done first past scan serves taken.
+returns-then-n-eq0-clause-drained g c = λ done first past held.
     let none : take c.take_file-n.result c.take_file-n.new.buf ≡ [] = ap (λ (n : ℕ). take n c.take_file-n.new.buf) c.if-n-eq0.true in
-    at_end past first _ c.loop-i._i c.take_file-n.result c.args.client.now c.loop-i.client c.take_file-n.new.self _ c.if-n-eq0.true none c.take_file-n.ensures.carried c.take_file-n.ensures.ended c.take_file-n.ensures.same
-    (λ q at alive joined p shows. c.take_file-n.ensures.denotes q at alive joined c.if-n-eq0.true (omega (arith, c.loop-i.invariant.room, c.requires)) p shows) scan (c.loop-i.invariant.bytes first past scan serves taken)
+    at_end past first _ c.loop-i._i c.take_file-n.result c.args.client.now c.loop-i.client c.take_file-n.new.self _ c.if-n-eq0.true none (λ q at. (c.take_file-n.ensures.taken q at).carried) c.take_file-n.ensures.ended c.take_file-n.ensures.same
+    (λ q at alive joined p shows. (c.take_file-n.ensures.taken q at).denotes alive joined c.if-n-eq0.true (omega (arith, c.loop-i.invariant.room, c.requires)) p shows) held.scan (c.loop-i.invariant.bytes first past held)
 
 pub returns-then-not-put-clause-short : goal.returns-then-not-put-clause-short
-returns-then-not-put-clause-short g c = λ failed first past scan serves taken.
+returns-then-not-put-clause-short g c = λ failed first past held.
     let front = c.put.ensures.front c.if-not-put.true in
-    stopped past first _ _ c.loop-i._i c.take_file-n.result front.0 c.args.client.now c.loop-i.client c.take_file-n.new.self _ c.if-n-eq0.false front.1 c.take_file-n.ensures.carried c.take_file-n.ensures.ended c.no_front_is_whole.ensures scan front.2
-    (c.loop-i.invariant.bytes first past scan serves taken)
+    stopped past first _ _ c.loop-i._i c.take_file-n.result front.0 c.args.client.now c.loop-i.client c.take_file-n.new.self _ c.if-n-eq0.false front.1 (λ q at. (c.take_file-n.ensures.taken q at).carried) c.take_file-n.ensures.ended c.no_front_is_whole.ensures held.scan front.2
+    (c.loop-i.invariant.bytes first past held)
 
 pub returns-clause-short : goal.returns-clause-short
-returns-clause-short g c = λ failed first past scan serves taken.
-    absurd (never past first _ c.loop-i._i c.args.client.now c.loop-i.client scan (omega (arith, c.loop-i-test.false)) c.no_file_is_endless.ensures (c.loop-i.invariant.bytes first past scan serves taken))
+returns-clause-short g c = λ failed first past held.
+    absurd (never past first _ c.loop-i._i c.args.client.now c.loop-i.client held.scan (omega (arith, c.loop-i-test.false)) c.no_file_is_endless.ensures (c.loop-i.invariant.bytes first past held))

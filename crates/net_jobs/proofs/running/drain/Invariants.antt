@@ -1,14 +1,12 @@
 use Rattle.std.proofs.Common.{◌≡◌, ℕ, List, Option, length}
-use Rattle.std.specs.Io.KnownBytes.{Appends}
-use Rattle.scan_job.specs.declared.job.Task.TheVariants as tasks
 use Rattle.frame_join.specs.FrameHistory.{Past}
-use Rattle.net_client.specs.Talker.{Serves}
+use Rattle.net_jobs.specs.Draining.{HoldsGiven}
 use Rattle.net_jobs.proofs.Drains.{IsUnderway}
 use Rattle.net_jobs.proofs.running.drain.Given as goal
 
 abbrev pub invariant-loop-i : goal.invariant-loop-i
 invariant-loop-i g l = record {
   room : length l.room ≡ length l.initial.room;
-  bytes : (first : Option (List ℕ)) (past : Past) → l.initial.client.errand.task ≡ tasks.Scan → Serves past l.initial.client → Appends first (g.W.Write.contents l.initial.out) past.given
+  bytes : (first : Option (List ℕ)) (past : Past) → HoldsGiven past l.initial.client first (g.W.Write.contents l.initial.out)
       → IsUnderway past l.initial.client first l._i l.client (g.W.Write.contents l.out);
 }

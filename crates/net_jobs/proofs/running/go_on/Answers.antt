@@ -4,7 +4,7 @@ use Rattle.net_jobs.proofs.running.go_on.Goals as goal
 
 pub returns-then-is_receiving-clause-going : goal.returns-then-is_receiving-clause-going
 returns-then-is_receiving-clause-going g c = λ job first coming0 given go.
-    going_staged _ _ _ job first coming0 given _ _ _ _ _ c.args.client.now c.see.new.client (λ read_ wrote s. c.see.ensures.stage job read_ wrote coming0 (g.D.Dial.coming c.args.dial.now) given s) go
+    going_staged _ _ _ job first coming0 given _ _ _ _ _ c.args.client.now c.see.new.client (λ read_ wrote s. c.see.ensures.stage (g.D.Dial.coming c.args.dial.now) job read_ wrote coming0 given s) go
 
 pub returns-then-not-write_out-clause-going : goal.returns-then-not-write_out-clause-going
 returns-then-not-write_out-clause-going g c = λ job first coming0 given go.

@@ -14,7 +14,7 @@ pub returns-then-not-give-clause-ran : goal.returns-then-not-give-clause-ran
 returns-then-not-give-clause-ran g c = λ job fresh single scan.
     let d = c.loop.invariant.drained job fresh single scan in
     run_sunk _ _ g.D.Conn.Read.remaining job _ _ _ _ _ _ _ c.go_on-is_up.new.stream c.go_on-is_up.new.client _ d.given (scan.0 (search rules)) d.taken (c.go_on-is_up.ensures.going job _ _ d.given d.going)
-    (λ past is_scan serves taken. c.give.ensures.short c.if-not-give.true _ past is_scan serves taken)
+    (λ past held. c.give.ensures.short c.if-not-give.true _ past held)
 
 pub into_outcome-requires : goal.into_outcome-requires
 into_outcome-requires g c = cut_over c.give.new.client c.link_lost.new.self c.link_lost.ensures.lost
@@ -23,7 +23,7 @@ pub returns-then-not-is_up-clause-ran : goal.returns-then-not-is_up-clause-ran
 returns-then-not-is_up-clause-ran g c = λ job fresh single scan.
     let d = c.loop.invariant.drained job fresh single scan in
     let more = given_more _ _ g.D.Conn.Read.remaining job _ _ _ _ _ _ c.go_on-is_up.new.stream c.go_on-is_up.new.client c.give.new.client _ _ d.given c.args.is_scan scan d.taken d.none (c.go_on-is_up.ensures.going job _ _ d.given d.going)
-    (λ e. ((c.give.ensures.none e).1, (c.give.ensures.none e).2)) (λ is_scan past task serves taken. c.give.ensures.drained is_scan c.if-not-give.false _ past task serves taken) in
+    (λ e. ((c.give.ensures.none e).1, (c.give.ensures.none e).2)) (λ is_scan past held. c.give.ensures.drained is_scan c.if-not-give.false _ past held) in
     has_run _ _ g.D.Conn.Read.remaining job _ _ _ _ _ c.go_on-is_up.new.stream c.link_lost.new.self _ c.into_outcome.result single c.not_whole_before.ensures c.whole_shows.ensures
     (cut_over c.give.new.client c.link_lost.new.self c.link_lost.ensures.lost) c.into_outcome.ensures.outcome
     (closed_cut _ _ g.D.Conn.Read.remaining job _ _ _ _ _ c.go_on-is_up.new.stream c.link_lost.new.self _
@@ -36,7 +36,7 @@ loop-preserved g c = record {
   drained = λ job fresh single scan.
       let d = c.loop.invariant.drained job fresh single scan in
       let more = given_more _ _ g.D.Conn.Read.remaining job _ _ _ _ _ _ c.go_on-is_up.new.stream c.go_on-is_up.new.client c.give.new.client _ _ d.given c.args.is_scan scan d.taken d.none (c.go_on-is_up.ensures.going job _ _ d.given d.going)
-      (λ e. ((c.give.ensures.none e).1, (c.give.ensures.none e).2)) (λ is_scan past task serves taken. c.give.ensures.drained is_scan c.if-not-give.false _ past task serves taken) in
+      (λ e. ((c.give.ensures.none e).1, (c.give.ensures.none e).2)) (λ is_scan past held. c.give.ensures.drained is_scan c.if-not-give.false _ past held) in
       drained_as _ _ g.D.Conn.Read.remaining job _ _ _ _ false _ _ c.go_on-is_up.new.stream c.give.new.client _ (ap not c.if-not-is_up.false) more;
 }
 

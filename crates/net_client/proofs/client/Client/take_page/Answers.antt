@@ -16,3 +16,9 @@ returns-else-has_given_all-clause-page c = rw (← c.self.view_is) (λ past serv
     let stands = c.pull-count.ensures.carried past serves.stands in
     page_stays _ past (take c.pull-count.result c.pull-count.new.buf) c.pull-count.new.join (ap (λ (v : Talker). turns v.outcome v.progress) c.self.view_is ∙ c.requires) serves stands
     (λ whole. let clash : true ≡ false = sym ((c.has_given_all.ensures.whole _ stands).1 whole) ∙ c.if-has_given_all.false in cc))
+
+pub returns-then-has_given_all-clause-picture : goal.returns-then-has_given_all-clause-picture
+returns-then-has_given_all-clause-picture c = rw (← c.self.view_is) (λ past stands. record { denotes = c.pull-count.ensures.denotes past stands; whole = c.pull-count.ensures.whole past stands })
+
+pub returns-else-has_given_all-clause-picture : goal.returns-else-has_given_all-clause-picture
+returns-else-has_given_all-clause-picture c = rw (← c.self.view_is) (λ past stands. record { denotes = c.pull-count.ensures.denotes past stands; whole = c.pull-count.ensures.whole past stands })
