@@ -11,8 +11,8 @@ returns-then-count-eq0-clause-pulls c = λ past pages scan less h.
     let buf = c.take_file-count.new.buf in
     let still : turns old.client.outcome old.client.progress ≡ false = sym c.is_turning.ensures ∙ c.if-is_turning.false in
     let same = unmoved (is_ended old.client.outcome) old.client mid (λ e. (c.take_file-count.ensures.ended e).1) (λ e. c.take_file-count.ensures.same e still) in
-    dry c.keep.result past pages (take c.take_file-count.result buf) old c.keep.new.self mid (ap (λ (n : ℕ). take n buf) c.if-count-eq0.true) c.keep.ensures same (c.take_file-count.ensures.carried past h.serves still) still
-    (λ alive joined p shows. c.take_file-count.ensures.denotes past h.serves alive joined c.if-count-eq0.true (search rules) p shows) h
+    dry c.keep.result past pages (take c.take_file-count.result buf) old c.keep.new.self mid (ap (λ (n : ℕ). take n buf) c.if-count-eq0.true) c.keep.ensures same ((c.take_file-count.ensures.taken past h.serves).carried still) still
+    (λ alive joined p shows. (c.take_file-count.ensures.taken past h.serves).denotes alive joined c.if-count-eq0.true (search rules) p shows) h
 
 pub returns-else-count-eq0-clause-pulls : goal.returns-else-count-eq0-clause-pulls
 returns-else-count-eq0-clause-pulls c = λ past pages scan less h.
@@ -25,7 +25,7 @@ returns-else-count-eq0-clause-pulls c = λ past pages scan less h.
     let size : length (take n buf) ≡ n = omega (arith, length-take n buf, c.take_file-count.ensures.count, c.take_file-count.auto.buf) in (
       take n buf,
       λ e. c.if-count-eq0.false (sym size ∙ ap (λ (l : List ℕ). length l) e),
-      holds_more c.keep.result past pages (take n buf) old c.keep.new.self mid c.keep.ensures (errand_kept old.client mid same) (c.take_file-count.ensures.carried past h.serves still) h,
+      holds_more c.keep.result past pages (take n buf) old c.keep.new.self mid c.keep.ensures (errand_kept old.client mid same) ((c.take_file-count.ensures.taken past h.serves).carried still) h,
       given_more c.keep.result (take n buf) old c.keep.new.self mid c.keep.ensures same,
       not_ended (is_ended old.client.outcome) n c.if-count-eq0.false (λ e. (c.take_file-count.ensures.ended e).0),
     )

@@ -8,14 +8,14 @@ pub returns-then-not-is_turning-clause-pulls : goal.returns-then-not-is_turning-
 returns-then-not-is_turning-clause-pulls c = λ past pages scan less h.
     let old = c.args.self.now in
     let off : turns c.keep.new.self.client.outcome c.keep.new.self.client.progress ≡ false = sym c.is_turning.ensures ∙ c.if-not-is_turning.true in
-    rw c.lay_by.ensures (page_turns c.keep.result past pages (take c.take_file-count.result c.take_file-count.new.buf) old c.keep.new.self c.take_file-count.new.self (c.take_file-count.ensures.page c.requires past h.serves) c.keep.ensures off c.requires less h)
+    rw c.lay_by.ensures (page_turns c.keep.result past pages (take c.take_file-count.result c.take_file-count.new.buf) old c.keep.new.self c.take_file-count.new.self ((c.take_file-count.ensures.taken past h.serves).page c.requires) c.keep.ensures off c.requires less h)
 
 pub returns-then-count-eq0-clause-pulls : goal.returns-then-count-eq0-clause-pulls
 returns-then-count-eq0-clause-pulls c = λ past pages scan less h.
     let old = c.args.self.now in
     let on : turns c.keep.new.self.client.outcome c.keep.new.self.client.progress ≡ true = sym c.is_turning.ensures ∙ c.if-not-is_turning.false in
-    absurd (page_dry c.keep.result past (take c.take_file-count.result c.take_file-count.new.buf) old c.keep.new.self c.take_file-count.new.self (c.take_file-count.ensures.page c.requires past h.serves) c.keep.ensures on c.requires
-    (ap (λ (n : ℕ). take n c.take_file-count.new.buf) c.if-count-eq0.true) c.whole_shows.ensures (λ p joined alive shows. c.take_file-count.ensures.denotes past h.serves alive joined c.if-count-eq0.true (search rules) p shows) h.serves)
+    absurd (page_dry c.keep.result past (take c.take_file-count.result c.take_file-count.new.buf) old c.keep.new.self c.take_file-count.new.self ((c.take_file-count.ensures.taken past h.serves).page c.requires) c.keep.ensures on c.requires
+    (ap (λ (n : ℕ). take n c.take_file-count.new.buf) c.if-count-eq0.true) c.whole_shows.ensures (λ p joined alive shows. (c.take_file-count.ensures.taken past h.serves).denotes alive joined c.if-count-eq0.true (search rules) p shows) h.serves)
 
 pub returns-else-count-eq0-clause-pulls : goal.returns-else-count-eq0-clause-pulls
 returns-else-count-eq0-clause-pulls c = λ past pages scan less h.
@@ -24,7 +24,7 @@ returns-else-count-eq0-clause-pulls c = λ past pages scan less h.
     let n = c.take_file-count.result in
     let on : turns c.keep.new.self.client.outcome c.keep.new.self.client.progress ≡ true = sym c.is_turning.ensures ∙ c.if-not-is_turning.false in
     let size : length (take n buf) ≡ n = omega (arith, length-take n buf, c.take_file-count.ensures.count, c.take_file-count.auto.buf) in
-    let went = page_more c.keep.result past pages (take n buf) old c.keep.new.self c.take_file-count.new.self (c.take_file-count.ensures.page c.requires past h.serves) c.keep.ensures on c.requires h in
+    let went = page_more c.keep.result past pages (take n buf) old c.keep.new.self c.take_file-count.new.self ((c.take_file-count.ensures.taken past h.serves).page c.requires) c.keep.ensures on c.requires h in
     (take n buf, λ e. c.if-count-eq0.false (sym size ∙ ap (λ (l : List ℕ). length l) e), went.0, went.1, still_alive old.client c.requires)
 
 pub returns-then-not-is_turning-clause-rest : goal.returns-then-not-is_turning-clause-rest
