@@ -1,4 +1,4 @@
-ghost use Rattle.std.specs.Prelude.{◌≡◌, None, option_map};
+ghost use Rattle.std.specs.Prelude.{◌≡◌, None, option_map, true};
 ghost use Rattle.local_job.specs.Asking.{GivesBack, IsAsked, bytes_held};
 
 use crate::outlet::Outlet;
