@@ -11,13 +11,13 @@ use Rattle.scan_rules.specs.Deeds
 use Rattle.scan_rules.specs.Deeds.{Deed}
 use Rattle.scan_rules.specs.Steps.{Step, By, Loads, Unplugs}
 
--- more bytes than any request or reply of a world's client or daemon has
+-- as many bytes as two of the wire's longest messages, each of at most 1,048,576: what one exchange puts on the way at most
 abbrev pub message : ℕ
-message = 131072
+message = 2097152
 
 -- at least as much as one page costs: six for each of 539,216,256 bytes, and the exchanges of three frames
 abbrev pub most : ℕ
-most = 3240000000
+most = 3270000000
 
 -- the bytes of these frames
 abbrev pub total : List Frame → ℕ
