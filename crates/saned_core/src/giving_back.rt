@@ -2,7 +2,7 @@
 
 ghost use Rattle.std.specs.Prelude.{◌≡◌, option_map};
 ghost use Rattle.dispatch.specs.Table.{table};
-ghost use Rattle.saned_core.specs.State.{seen_seat, session_in, session_let_go};
+ghost use Rattle.saned_core.specs.State.{held_in_again, seats_in_again, seen_seat, session_in, session_let_go};
 
 use crate::seat::Seat;
 use device_api::Device;
@@ -31,7 +31,9 @@ pub fn give_back_seat<D: Device>(registry: &mut Registry<D>, seat: Option<Seat<D
 }
 
 /// Puts back what a session holds, for a daemon that is dropped.
-fn put_back_seat<D: Drop>(registry: &mut Registry<D>, seat: Option<Seat<D>>) {
+fn put_back_seat<D: Drop>(registry: &mut Registry<D>, seat: Option<Seat<D>>)
+    ensures { registry.new ≡ held_in_again registry.old (session_in seat) }
+{
     match seat {
         None => {}
         Some(seat) => {
@@ -49,15 +51,20 @@ fn put_back_seat<D: Drop>(registry: &mut Registry<D>, seat: Option<Seat<D>>) {
     }
 }
 
-/// Puts back what all sessions hold.
-pub fn put_back_seats<D: Drop>(registry: &mut Registry<D>, seats: [Option<Seat<D>>; 8]) {
-    let [a, b, c, d, e, f, g, h] = seats;
+/// Puts back what four sessions hold.
+fn put_back_four<D: Drop>(registry: &mut Registry<D>, seats: [Option<Seat<D>>; 4])
+    ensures { registry.new ≡ seats_in_again registry.old seats }
+{
+    let [a, b, c, d] = seats;
     put_back_seat(registry, a);
     put_back_seat(registry, b);
     put_back_seat(registry, c);
     put_back_seat(registry, d);
-    put_back_seat(registry, e);
-    put_back_seat(registry, f);
-    put_back_seat(registry, g);
-    put_back_seat(registry, h);
+}
+
+/// Puts back what all sessions hold: the first four, and then the others.
+pub fn put_back_seats<D: Drop>(registry: &mut Registry<D>, seats: [Option<Seat<D>>; 8]) {
+    let [a, b, c, d, e, f, g, h] = seats;
+    put_back_four(registry, [a, b, c, d]);
+    put_back_four(registry, [e, f, g, h]);
 }

@@ -1,17 +1,16 @@
 -- What answers leave of what stands: all but the requests, the replies and the session of the client that is answered.
-use Rattle.std.proofs.Common.{◌≡◌, ◌≢◌, ◌⊎◌, inl, inr, ◌∙◌, ℕ, List, [], ◌∷◌, ◌++◌, Option, Some, None, Bool, true, false, refl, sym, ap, subst, length}
-use Rattle.scan_rules.specs.Words.{Challenge, Reply, Request, Status}
+use Rattle.std.proofs.Common.{◌≡◌, ◌≢◌, ◌⊎◌, inl, inr, ◌∙◌, ℕ, List, [], ◌∷◌, ◌++◌, Option, None, false, refl, sym, subst}
+use Rattle.scan_rules.specs.Words.{Challenge, Request, Status}
 use Rattle.scan_rules.specs.Devices.{Make}
 use Rattle.scan_rules.specs.Scanners.{Device}
 use Rattle.scan_rules.specs.Causes.{Cause, Met, WasStarved}
-use Rattle.scan_rules.specs.Client.{Mind}
 use Rattle.scan_rules.specs.Daemon.{Around, Carriage, Quiet, Waiting, Streaming, Ending, Fault, answer}
 use Rattle.scan_rules.specs.Deeds as deeds
 use Rattle.scan_rules.specs.Deeds.{answer_next, breaking, party_after}
 use Rattle.scan_rules.specs.Deliveries.{Chance, answers}
 use Rattle.scan_rules.specs.Grounds.{Grounded}
 use Rattle.scan_rules.specs.Sound.{IsCalm}
-use Rattle.scan_rules.specs.Standing.{Base, Party, Standing, listed, make_for, wanted}
+use Rattle.scan_rules.specs.Standing.{Party, Standing, listed, make_for, wanted}
 use Rattle.scan_rules.specs.Steps.{By, after, after_all}
 use Rattle.scan_rules.proofs.Calm.{calm_answer}
 use Rattle.scan_rules.proofs.Grounds.{causes_grounded}

@@ -1,6 +1,6 @@
 -- A request of a job's client, as a call by the rules.
 use Rattle.std.specs.Prelude.{option_map, position, ◌/◌}
-use Rattle.std.proofs.Common.{◌≡◌, ◌≢◌, ◌⊎◌, inl, inr, ◌∙◌, ℕ, zero, suc, ◌+◌, ◌<◌, ◌≤◌, List, [], ◌∷◌, Option, Some, None, Bool, true, false, cond, eqb, refl, sym, ap, subst, map, length, slice_get, get_or, arith}
+use Rattle.std.proofs.Common.{◌≡◌, ◌≢◌, ◌⊎◌, inl, inr, ◌∙◌, ℕ, zero, suc, ◌+◌, ◌<◌, List, [], ◌∷◌, Option, Some, None, Bool, true, false, cond, eqb, refl, sym, ap, subst, map, length, slice_get, get_or, arith}
 use Rattle.std.proofs.lemmas.List.{length-map}
 use Rattle.std.proofs.lemmas.List.Quantifiers.{position-Some}
 use Rattle.std.proofs.lemmas.Iterator.Adapters.{position_from-zero}
@@ -34,7 +34,7 @@ use Rattle.scan_rules.specs.Scanners.{Device, is_held_by}
 use Rattle.scan_rules.specs.Daemon.{Around}
 use Rattle.scan_rules.specs.Deeds.{around}
 use Rattle.scan_rules.specs.Standing.{Party}
-use Rattle.scan_rules.specs.Sessions.{Session, call_to, only_word}
+use Rattle.scan_rules.specs.Sessions.{call_to, only_word}
 use Rattle.client_reading.specs.Requests.{IsRequest, IsSet}
 use Rattle.client_rules.specs.WireValues.{wire_of}
 use Rattle.md5_auth.specs.ChallengeReading.{answer_of}
@@ -46,13 +46,13 @@ use Rattle.desk_rules.specs.WholeSessions.{IsGuarded, IsJudged}
 use Rattle.desk_rules.proofs.Changes.{Held}
 use Rattle.desk_rules.proofs.Moved.{unsome}
 use Rattle.desk_rules.proofs.Others.{IsThere}
-use Rattle.world_rules.specs.Told.{backend_of, found, is_guarded, place_named, rules_job}
+use Rattle.world_rules.specs.Told.{found, place_named, rules_job}
 use Rattle.world_rules.specs.Speaks.{Awaits, SetsAsHeld, SpeaksAs}
 use Rattle.world_rules.specs.Stands.{AreApart, are_named, session_by}
 use Rattle.world_rules.proofs.Calling.{word_wanted}
 use Rattle.world_rules.proofs.Finding.{find_there, found_place, names_at}
 use Rattle.world_rules.proofs.Judged.{guards, judged, same_is, same_of}
-use Rattle.world_rules.proofs.Setting.{IsAsked, asked_again, same_wire}
+use Rattle.world_rules.proofs.Setting.{asked_again}
 
 -- ---- the place of a name
 

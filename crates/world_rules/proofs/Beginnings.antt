@@ -52,7 +52,7 @@ all_there P [] k x h e = absurd (cc)
 all_there P (y ∷ xs) zero x h e = let same : y ≡ x = cc in subst P same h.0
 all_there P (y ∷ xs) (suc k) x h e = all_there P xs k x h.1 e
 
-at_index : {X : Type 0} (xs : List X) (k : ℕ) (x d : X) → slice_get xs k ≡ Some x → slice_index_or xs k d ≡ x
+pub at_index : {X : Type 0} (xs : List X) (k : ℕ) (x d : X) → slice_get xs k ≡ Some x → slice_index_or xs k d ≡ x
 at_index [] k x d e = absurd (cc)
 at_index (y ∷ xs) zero x d e = cc
 at_index (y ∷ xs) (suc k) x d e = at_index xs k x d e
@@ -160,7 +160,7 @@ pub record IsNewAt (jobs : List Job) (i : ℕ) (p : Post) : Type 0 where
   pub at : slice_get jobs i ≡ Some job
   pub new : IsNew job p
 
-new_at : (jobs : List Job) (posts : List Post) (i : ℕ) (p : Post) → AreNew jobs posts → slice_get posts i ≡ Some p → IsNewAt jobs i p
+pub new_at : (jobs : List Job) (posts : List Post) (i : ℕ) (p : Post) → AreNew jobs posts → slice_get posts i ≡ Some p → IsNewAt jobs i p
 new_at [] [] i p h e = absurd (cc)
 new_at [] (q ∷ posts) i p h e = absurd h
 new_at (job ∷ jobs) [] i p h e = absurd h

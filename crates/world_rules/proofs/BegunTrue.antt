@@ -1,11 +1,11 @@
 -- A page that is started is a sheet: it is one of the device that the session holds.
 use Rattle.std.specs.List.{AllByRecursion}
 use Rattle.std.specs.Prelude.{option_map}
-use Rattle.std.proofs.Common.{◌≡◌, ◌≢◌, ◌∙◌, ℕ, List, [], ◌∷◌, ◌++◌, Option, Some, None, Bool, true, false, cond, refl, sym, ap, subst}
+use Rattle.std.proofs.Common.{◌≡◌, ◌∙◌, ℕ, List, [], ◌∷◌, ◌++◌, Option, Some, None, Bool, true, false, cond, refl, sym, ap, subst}
 use Rattle.page_picture.specs.Page.{IsSheet}
 use Rattle.page_picture.specs.Shows.{Frame}
 use Rattle.option_desc.specs.declared.value.Value.{Value}
-use Rattle.device_api.specs.State.{DeviceState, Held, Phase as AnyPhase, feeds, left_behind}
+use Rattle.device_api.specs.State.{DeviceState, Held, Phase as AnyPhase, feeds}
 use Rattle.device_api.specs.State.Phase.{AtRest as Rest, Between as Amid, Reading as Read}
 use Rattle.dispatch.specs.declared.table.place.Lease.{Lease}
 use Rattle.saned_desk.specs.Holding.{held_by}

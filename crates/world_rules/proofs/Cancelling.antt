@@ -219,6 +219,7 @@ cancel_decides t w i p h at low =
     let me = t.rules.party i in
     record {
       can = λ can. under_runs (place_in t.names) (errand_of (t.jobs i)) me.base.job (map (λ (q : Past). q.ended) (t.pages i)) (talk_of p.client (t.past i)) me.mind s.talks.reads can.1;
+      back = λ runs. (low, runs_under (place_in t.names) (errand_of (t.jobs i)) me.base.job (map (λ (q : Past). q.ended) (t.pages i)) (talk_of p.client (t.past i)) me.mind s.talks.reads runs);
       either = runs_or (is_running p.client.outcome);
       does = λ runs e q d. by_parts t w i p h at low runs e q d.0 d.1;
     }

@@ -1,7 +1,7 @@
 -- A session that is over within a piece: by its last request, for want of memory, or at a reply past the limits of the wire.
 use Rattle.std.specs.Prelude.{map, option_map}
 use Rattle.std.specs.List.{AllByRecursion}
-use Rattle.std.proofs.Common.{◌≡◌, ◌≢◌, ◌⊎◌, inl, inr, ◌∙◌, ℕ, List, [], ◌∷◌, ◌++◌, Bool, true, false, eqb, Option, Some, None, refl, sym, ap, subst, append-nil, slice_get}
+use Rattle.std.proofs.Common.{◌≡◌, ◌≢◌, ◌⊎◌, inl, inr, ◌∙◌, ℕ, List, [], ◌∷◌, ◌++◌, Bool, true, false, eqb, Some, refl, sym, ap, subst, slice_get}
 use Rattle.page_picture.specs.Page.{IsSheet}
 use Rattle.dispatch.specs.declared.table.place.Lease.{Lease}
 use Rattle.device_api.specs.State.{DeviceState}
@@ -11,30 +11,29 @@ use Rattle.saned_desk.specs.Rules.{Answers, Desk}
 use Rattle.saned_core.specs.Feeding.{goes_on}
 use Rattle.saned_core.specs.Feeding as daemon
 use Rattle.wire_message.specs.declared.message.Request.{Request as Asked}
-use Rattle.scan_rules.specs.Words.{Challenge, Reply, Request}
+use Rattle.scan_rules.specs.Words.{Request}
 use Rattle.scan_rules.specs.Devices.{Make}
 use Rattle.scan_rules.specs.Causes.{Met, WasStarved}
 use Rattle.scan_rules.specs.Scanners.{Begin, Device, is_held_by, let_go}
-use Rattle.scan_rules.specs.Client.{Idle, Running, Done, Ended, Mind, Job, Stage, asked}
-use Rattle.scan_rules.specs.Daemon.{Fault, Quiet}
+use Rattle.scan_rules.specs.Client.{Mind}
+use Rattle.scan_rules.specs.Daemon.{Quiet}
 use Rattle.scan_rules.specs.Deeds as deeds
 use Rattle.scan_rules.specs.Deeds.{hushed}
 use Rattle.scan_rules.specs.Deliveries.{Chance, answers}
 use Rattle.scan_rules.specs.Sessions.{only_word}
-use Rattle.scan_rules.specs.Sound.{Talks}
-use Rattle.scan_rules.specs.Standing.{Base, Party, Standing, make_for, put, wanted, wants}
+use Rattle.scan_rules.specs.Standing.{Party, Standing, put}
 use Rattle.scan_rules.specs.Steps.{By, IsHistory, IsUnderWay, MayBreak, Step, after, after_all}
 use Rattle.desk_rules.specs.Reading.{Holds, Shows, ShowsTable}
 use Rattle.desk_rules.specs.Others.{LeavesOthers}
 use Rattle.desk_rules.proofs.Endings.{same_tables}
 use Rattle.desk_rules.proofs.Feeding.{Back, IsStopped, back_same}
-use Rattle.desk_rules.proofs.Greeted.{SameWords, answers_end}
+use Rattle.desk_rules.proofs.Greeted.{answers_end}
 use Rattle.desk_rules.proofs.Moved.{put_elsewhere, put_there}
 use Rattle.desk_rules.proofs.Others.{leaves_same, leaves_then}
 use Rattle.desk_rules.proofs.Starting.{starved_in}
 use Rattle.world_rules.specs.Told.{Told}
 use Rattle.world_rules.specs.Stands.{IsFaithful, IsFaithfulLease, IsFaithfulPlace, are_named, session_by}
-use Rattle.world_rules.proofs.Answered.{Stays, StaysSo, stays}
+use Rattle.world_rules.proofs.Answered.{Stays, stays}
 use Rattle.world_rules.proofs.Calling.{given_names, place_left, put_let_go, word_wanted}
 use Rattle.world_rules.proofs.Faithful.{given_true, word_true}
 use Rattle.world_rules.proofs.ReadTrue.{held_true, stopped_true}

@@ -295,6 +295,7 @@ connect_decides t w i p h at low =
         under_runs (place_in t.names) (errand_of (t.jobs i)) me.base.job (map (λ (x : Past). x.ended) (t.pages i)) (talk_of p.client (t.past i)) me.mind s.talks.reads (subst IsUnderWay (sym can.1) tt),
         s.talks.idle can.1,
       );
+      back = λ can. (low, not_connected t w i p h at can);
       either = both_or (is_or (is_running p.client.outcome) true) (is_or p.was_connected false);
       does = λ can e q d. by_closed t w i p (is_closed w.daemon) h at low (is_idle t w i p h at (not_connected t w i p h at can)) refl e q d;
     }

@@ -1,5 +1,5 @@
 -- How many pages a batch that is done has finished.
-use Rattle.std.specs.Prelude.{◌<◌, ◌-◌, nat_lt}
+use Rattle.std.specs.Prelude.{◌<◌, ◌-◌}
 use Rattle.std.proofs.Common.{◌≡◌, ◌≢◌, ◌⊎◌, inl, inr, ◌∙◌, ℕ, suc, ◌≤◌, ◌+◌, List, [], ◌∷◌, ◌++◌, Some, Bool, true, false, cond, refl, sym, ap, subst, map, length, slice_get, arith, append-nil}
 use Rattle.std.proofs.lemmas.List.{length-append, length-map}
 use Rattle.page_picture.specs.Shows.{Frame}
@@ -8,8 +8,6 @@ use Rattle.scan_job.specs.JobSize.{HasCount}
 use Rattle.scan_job.specs.declared.job.Task.{Task}
 use Rattle.scan_job.specs.declared.job.Task.TheVariants as tasks
 use Rattle.scan_job.specs.declared.outcome.Outcome.{Outcome}
-use Rattle.scan_job.specs.declared.outcome.Outcome.TheVariants as outcomes
-use Rattle.scan_job.specs.declared.report.Reports.{Reports}
 use Rattle.client_rules.specs.Talks.{is_batch}
 use Rattle.scan_rules.specs.Causes.{Met, TrayRanOut}
 use Rattle.scan_rules.proofs.Promised.{batches_counted}

@@ -15,7 +15,7 @@ use Rattle.option_desc.specs.declared.descriptor.Descriptor.{Descriptor}
 use Rattle.net_client.specs.Sending.{requests_text}
 use Rattle.client_rules.specs.declared.progress.Errand.{Errand}
 use Rattle.scan_rules.specs.Words as words
-use Rattle.client_reading.specs.Requests.{AreRequests, Ask, IsRequest, asks_of}
+use Rattle.client_reading.specs.Requests.{AreRequests, asks_of}
 use Rattle.world_rules.proofs.Records.{same_body}
 use Rattle.world_rules.proofs.Within.{request_within}
 
@@ -54,7 +54,7 @@ pub record Sent (q : Request) (qs : List Request) (all : List ℕ) : Type 0 wher
   pub whole : all ≡ front ++ back
   written : write_request.text q ≡ Some front
   pub spelled : request.spells front q
-  others : requests_text qs ≡ Some back
+  pub others : requests_text qs ≡ Some back
 
 sent_by : (q : Request) (qs : List Request) (all : List ℕ) (a b : Option (List ℕ)) → write_request.text q ≡ a → requests_text qs ≡ b → joined a b ≡ Some all → Sent q qs all
 sent_by q qs all None b is_a is_b e = absurd (let clash : None ≡ Some all = e in cc)

@@ -341,10 +341,18 @@ pub dial_decides : DecidesAt events.DataConnect Dials
 dial_decides t w i p h at low =
     record {
       can = λ can. may_dial t w i p h at can;
+      back = λ can. (waits_back p.link refl can.1, wants_imaging (place_in t.names) (t.jobs i) (t.past i) (t.pages i) (t.rules.party i) p (h.posts i p at).talks can.0);
       either = both_or (some_or (client.wanted p.client.progress)) (frame_or w.daemon p.link);
       does = λ can e q d. by_link t w i p p.link h at low refl can.0 can.1 e q d;
     }
   where
+    waits_back : (link : Option SessionId) → p.link ≡ link → world.number_in link (λ k. world.frame_at w.daemon k ≡ frames.Waiting) → (t.rules.party i).base.carriage ≡ Waiting
+    waits_back None link frame = absurd frame
+    waits_back (Some id) link frame =
+        let me = t.rules.party i in
+        let served = subst (λ (x : Option SessionId). IsServed i t.rules.make w.daemon x me.served t.rules.device (session_by i t.rules.device me)) link (h.posts i p at).served in
+        (waits_by i t.rules.make w.daemon id me.served t.rules.device me refl served frame).carriage
+
     by_link : (t : Told) (w : Scene) (i : ℕ) (p : Post) (link : Option SessionId) → Stands t w → slice_get w.posts i ≡ Some p → i < t.count → p.link ≡ link → IsSome (client.wanted p.client.progress) → world.number_in p.link (λ k. world.frame_at w.daemon k ≡ frames.Waiting) →
         (e : Core) (q : Post) → world.number_in p.link (λ k. (e ≡ record w.daemon { seats = on_seat (on_session after_connected) k w.daemon.seats }) × (q ≡ posts.dialled (spent p))) → Leads events.DataConnect Dials t i (record { daemon = e; posts = slice_set w.posts i q })
     by_link t w i p None h at low link some frame e q d = absurd (subst (λ (x : Option SessionId). world.number_in x (λ k. world.frame_at w.daemon k ≡ frames.Waiting)) link frame)

@@ -1,6 +1,6 @@
 -- Behind the reply that was due no client waits for the reply that follows AUTHORIZE's word, or for the file of a page to be taken.
 use Rattle.std.specs.Prelude.{Err, Ok, Result, if◌then◌else◌, nat_lt, position, slice_get}
-use Rattle.std.proofs.Common.{◌≡◌, ◌⊎◌, inl, inr, ◌∙◌, ℕ, List, [], ◌∷◌, ◌++◌, Option, Some, None, Bool, true, false, refl, sym, ap, subst}
+use Rattle.std.proofs.Common.{◌≡◌, inl, inr, ◌∙◌, ℕ, List, [], ◌∷◌, Option, Some, None, Bool, true, false, sym, ap}
 use Rattle.sane_fixed.specs.declared.byte_order.ByteOrder.{ByteOrder}
 use Rattle.sane_fixed.specs.declared.info.Info.{Info}
 use Rattle.sane_fixed.specs.declared.kind.Kind.{Kind}
@@ -29,12 +29,12 @@ use Rattle.client_rules.specs.declared.progress.Next.TheVariants.{Finish, Stop, 
 use Rattle.client_rules.specs.declared.progress.Notes.{Notes}
 use Rattle.client_rules.specs.declared.progress.Progress.{Progress}
 use Rattle.client_rules.specs.declared.progress.Progress.TheVariants as stages
-use Rattle.client_rules.specs.Talking.{admitted, after_greeting, after_put, after_settings, answered, begun_by, challenged, described, few, frame_ended, frame_ended_by, frame_joined, given_to, gets, gets_at, got, got_good, got_told, greeted, if_good, is_all, listed, named, next_of, next_setting, next_shown, of_kind, opened, opened_with, page_whole, put_good, put_told, puts, puts_at, puts_named, started, started_by, started_with, status_of, told_of, unjoined, wants_value, was_got, was_put}
+use Rattle.client_rules.specs.Talking.{admitted, after_greeting, after_put, after_settings, answered, begun_by, challenged, described, few, frame_ended_by, frame_joined, given_to, gets, gets_at, got, got_good, got_told, greeted, if_good, is_all, listed, named, next_of, next_setting, of_kind, opened, opened_with, page_whole, put_good, put_told, puts, puts_at, puts_named, started, started_by, started_with, status_of, unjoined, wants_value, was_got, was_put}
 use Rattle.client_rules.specs.Talks.{Talk, after_reply, heard_at, is_receiving, next_progress, shaped, shaped_by}
 use Rattle.net_client.specs.Imaging.{Receives}
 use Rattle.net_client.specs.Talker.{Talker}
 use Rattle.scan_rules.specs.Words as words
-use Rattle.client_reading.specs.Senses.{Before, Says, Sense, sense_at}
+use Rattle.client_reading.specs.Senses.{Before, Says, sense_at}
 use Rattle.world_rules.specs.Speaks.{Waits}
 
 abbrev Elsewhere : Next → Type 0

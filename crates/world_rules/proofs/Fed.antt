@@ -1,24 +1,21 @@
 -- A delivery to a session: what stands behind it, of what became of the session and of its seat.
-use Rattle.std.specs.Prelude.{is_some, not, option_map, IsSome}
+use Rattle.std.specs.Prelude.{is_some, not, option_map}
 use Rattle.std.specs.List.{AllByRecursion}
-use Rattle.std.proofs.Common.{◌≡◌, ◌≢◌, ◌⊎◌, inl, inr, ◌∙◌, ℕ, ◌<◌, List, [], ◌∷◌, ◌++◌, Option, Some, None, Bool, true, false, refl, sym, ap, subst, slice_get, slice_set}
+use Rattle.std.proofs.Common.{◌≡◌, inl, ◌∙◌, ℕ, ◌<◌, List, ◌++◌, Option, Some, Bool, true, false, refl, sym, ap, subst, slice_get, slice_set}
 use Rattle.page_picture.specs.Page.{IsSheet}
 use Rattle.device_api.specs.State.{DeviceState}
 use Rattle.device_api.specs.declared.device_info.DeviceInfo.{DeviceInfo}
-use Rattle.frame_join.specs.FrameHistory.{Past}
 use Rattle.saned_core.specs.declared.seat.Seat.{Seat}
 use Rattle.saned_core.specs.declared.seat.SessionId.{SessionId}
 use Rattle.saned_core.specs.State.{Core, replies_in, seat_of, session_in}
 use Rattle.saned_core.specs.Feeding.{input_in}
 use Rattle.scan_job.specs.declared.job.Job.{Job}
-use Rattle.scan_rules.specs.Words.{Request}
 use Rattle.scan_rules.specs.Devices.{Make}
 use Rattle.scan_rules.specs.Causes.{Met, WasStarved}
-use Rattle.scan_rules.specs.Scanners.{Begin, Device}
-use Rattle.scan_rules.specs.Client as rules
-use Rattle.scan_rules.specs.Client.{Idle, Mind, Running, Done, Ended, Stage, asked}
-use Rattle.scan_rules.specs.Daemon.{Carriage, Quiet}
-use Rattle.scan_rules.specs.Standing.{Party, Standing}
+use Rattle.scan_rules.specs.Scanners.{Begin}
+use Rattle.scan_rules.specs.Client.{Idle, Mind}
+use Rattle.scan_rules.specs.Daemon.{Quiet}
+use Rattle.scan_rules.specs.Standing.{Party}
 use Rattle.scan_rules.specs.Steps.{IsHistory, IsUnderWay, Step, after_all}
 use Rattle.scan_rules.proofs.Promised.{sound_after_all}
 use Rattle.desk_rules.proofs.Moved.{put_elsewhere, put_there}
@@ -29,7 +26,7 @@ use Rattle.net_client.specs.Talker.{Talker}
 use Rattle.world_rules.specs.Told.{Told, Wires, place_in, wired_then}
 use Rattle.world_rules.specs.Speaks.{Speaks, Waits}
 use Rattle.world_rules.specs.Spelled.{Flows, SpellsAsked, SpellsTold}
-use Rattle.world_rules.specs.Stands.{Carries, HasNoEnd, IsServed, Means, Sits, Stands, seat_by, session_by}
+use Rattle.world_rules.specs.Stands.{Carries, HasNoEnd, IsServed, Means, Stands, seat_by, session_by}
 use Rattle.world_rules.proofs.Changing.{IsChange, stands_change}
 use Rattle.world_rules.proofs.Closing.{Keeps}
 use Rattle.world_rules.proofs.Held.{held_after_all}

@@ -1,12 +1,9 @@
 -- The event of a delivery to the daemon.
-use Rattle.std.specs.Prelude.{is_some, length, map, not, option_map, IsSome}
+use Rattle.std.specs.Prelude.{is_some, length, map, not, IsSome}
 use Rattle.std.specs.List.{AllByRecursion}
 use Rattle.std.proofs.Common.{◌≡◌, ◌≢◌, ◌⊎◌, inl, inr, ◌∙◌, ℕ, zero, suc, ◌<◌, List, [], ◌∷◌, ◌++◌, Option, Some, None, Bool, true, false, refl, sym, ap, subst, slice_get, slice_set, append_assoc, append-nil, arith}
-use Rattle.page_picture.specs.Page.{IsSheet}
-use Rattle.page_picture.specs.Shows.{Frame}
 use Rattle.frame_join.specs.FrameHistory.{Past}
 use Rattle.device_api.specs.State.{DeviceState}
-use Rattle.device_api.specs.declared.device_info.DeviceInfo.{DeviceInfo}
 use Rattle.saned_desk.specs.declared.session.Session.{Session as DeskSession}
 use Rattle.md5_auth.specs.declared.users.Entry.{Entry}
 use Rattle.saned_desk.specs.Rules.{Desk}
@@ -25,7 +22,7 @@ use Rattle.saned_core.specs.Feeding as daemon
 use Rattle.saned_core.specs.Feeding.{Feeds, FeedsIn, input_in}
 use Rattle.scan_job.specs.declared.job.Job.{Job}
 use Rattle.client_rules.specs.declared.progress.Progress.{Progress}
-use Rattle.client_rules.specs.Talks.{Talk, errand_of, is_running}
+use Rattle.client_rules.specs.Talks.{errand_of, is_running}
 use Rattle.net_client.specs.Talker.{Talker, talk_of}
 use Rattle.scan_rules.specs.Words.{Request, Status}
 use Rattle.scan_rules.specs.Words as words
@@ -33,8 +30,8 @@ use Rattle.scan_rules.specs.Devices.{Make}
 use Rattle.scan_rules.specs.Causes.{Met, WasStarved}
 use Rattle.scan_rules.specs.Client as rules
 use Rattle.scan_rules.specs.Client.{Idle, Mind, Running, Done, Ended, Stage, asked}
-use Rattle.scan_rules.specs.Daemon.{Carriage, Quiet}
-use Rattle.scan_rules.specs.Scanners.{Begin, Device}
+use Rattle.scan_rules.specs.Daemon.{Carriage}
+use Rattle.scan_rules.specs.Scanners.{Device}
 use Rattle.scan_rules.specs.Deliveries.{Chance, answers}
 use Rattle.scan_rules.specs.Sound.{Talks as SoundTalks}
 use Rattle.scan_rules.specs.Standing.{Party, make_for, wanted}
@@ -48,20 +45,19 @@ use Rattle.scan_world.specs.declared.post.Post.{Post}
 use Rattle.scan_world.specs.Deeds as world
 use Rattle.scan_world.specs.Deeds.{after_fed, left, moved}
 use Rattle.scan_world.specs.Worlds.{Scene}
-use Rattle.world_rules.specs.Told.{Told, Wires, place_in, wired_then}
+use Rattle.world_rules.specs.Told.{Told, place_in, wired_then}
 use Rattle.world_rules.specs.Spelled.{Flows, FlowsBy, SpellsAsked, SpellsTold}
 use Rattle.world_rules.specs.Stands.{HasNoEnd, IsFaithfulLease, IsFaithfulSeat, IsFaithfulSession, IsServed, Stands, seat_by, session_by}
 use Rattle.world_rules.specs.Speaks.{Speaks}
 use Rattle.world_rules.specs.Happens.{Can, Leads}
-use Rattle.world_rules.specs.Answering.{AnswersEach, AnswersSome, Completes}
+use Rattle.world_rules.specs.Answering.{AnswersSome, Completes}
 use Rattle.world_rules.specs.Answering.AnswersSome.{BreaksOff, GoesOn, IsOver, WasOver}
 use Rattle.world_rules.proofs.Answered.{stays}
-use Rattle.world_rules.proofs.Cancelling.{flows_over}
 use Rattle.world_rules.proofs.Closing.{Closed, broken, keeps_stayed}
 use Rattle.world_rules.proofs.FedSeat.{HeldTrue, IsNotOn, leaves_fed, left_down, reseats_fed, seat_on, seat_over}
 use Rattle.world_rules.proofs.Faithful.{Seats, seat_all}
-use Rattle.world_rules.proofs.Fed.{FedSo, IsFedPost, MeansSo, fed_stands, fed_wires}
-use Rattle.world_rules.proofs.Feeding.{IsOverSo, Parts, cut_piece, is_over, is_starved, same_count}
+use Rattle.world_rules.proofs.Fed.{FedSo, fed_stands, fed_wires}
+use Rattle.world_rules.proofs.Feeding.{cut_piece, is_over, is_starved, same_count}
 use Rattle.world_rules.proofs.Folding.{Desked, IsReadAs, OneRequest, due_none, run_all, spells_none}
 use Rattle.world_rules.proofs.Sent.{IsSent}
 use Rattle.world_rules.proofs.Seated.{reseats_same}
@@ -85,7 +81,7 @@ none_spelled job asking up some [] e a = some (behind_empty asking up (let is : 
 none_spelled job asking up some (q ∷ qs) e a = a
 
 -- what is asked for on the way
-asks_some : (job : Job) (m : Mind) (todo : List Request) (asking up : List ℕ) → up ≢ [] → SpellsAsked job m todo (asking ++ up) → (r : Request) × (rest : List Request) × (todo ≡ r ∷ rest)
+pub asks_some : (job : Job) (m : Mind) (todo : List Request) (asking up : List ℕ) → up ≢ [] → SpellsAsked job m todo (asking ++ up) → (r : Request) × (rest : List Request) × (todo ≡ r ∷ rest)
 asks_some job m [] asking up some s = absurd (none_spelled job asking up some s.requests s.text s.same)
 asks_some job m (r ∷ rest) asking up some s = (r, rest, refl)
 
@@ -348,13 +344,13 @@ goes_off t w i n p id session e desk rest text r can f g =
     let silent : IsUnderWay (t.rules.party i).mind.stage → x.telling ++ down ≡ [] =
     λ under. assoc_down x.telling x.down text (o.silent under (map (λ (y : Past). y.ended) (t.pages i)) (talk_of p.client (t.past i)) r.reads (r.stands.posts i p r.at).waits (x.telling ++ x.down) (due_is t w i p id session r under)) in
     let completes : Completes t i n a.asked a.rest = record { text = a.text; whole = a.whole; spelled = a.spelled; later = a.later; first = a.are } in
-    done (events.ToDaemon n) (AnswersSome n) t i _ a.steps u can (by_steps t i n a.asked a.rest a.steps a.chances text completes a.count a.closed.legal a.closed.served a.steps_are)
+    done (events.ToDaemon n) (AnswersSome n) t i _ a.steps u can (by_steps t i n a.asked a.rest a.steps a.chances text completes a.count a.closed.legal r.desked.served a.closed.served a.steps_are)
     (fed_stands t w i p q id e a.steps up [] down (left n p.client.out) r.stands r.at r.low r.link (off_so t w i n p q id session e Over desk rest text down a.steps false r f post a.closed refl silent))
   where
-    by_steps : (t : Told) (i n : ℕ) (asked : List Request) (rest : List ℕ) (steps : List Step) (chances : List Chance) (text : List ℕ) → Completes t i n asked rest → length chances ≡ length asked → IsHistory t.rules steps → ((after_all t.rules steps).party i).served ≡ false →
+    by_steps : (t : Told) (i n : ℕ) (asked : List Request) (rest : List ℕ) (steps : List Step) (chances : List Chance) (text : List ℕ) → Completes t i n asked rest → length chances ≡ length asked → IsHistory t.rules steps → (t.rules.party i).served ≡ true → ((after_all t.rules steps).party i).served ≡ false →
         ((false ≡ false) × (steps ≡ answers i chances)) ⊎ (steps ≡ answers i chances ++ broken i false ∷ []) → AnswersSome n t i steps (wired_then t i steps (fed_wires (left n (t.wires i).up) [] ((t.wires i).down ++ text) (t.wires i)))
-    by_steps t i n asked rest steps chances text completes count legal off (inl is) = IsOver asked rest text completes (record { chances = chances; count = count; steps_are = is.1 }) (record { legal = legal; then_is = refl }) off
-    by_steps t i n asked rest steps chances text completes count legal off (inr is) = BreaksOff false asked rest text (answers i chances) completes (record { chances = chances; count = count; steps_are = refl }) is (record { legal = legal; then_is = refl })
+    by_steps t i n asked rest steps chances text completes count legal on off (inl is) = IsOver asked rest text completes (record { chances = chances; count = count; steps_are = is.1 }) (record { legal = legal; then_is = refl }) on off
+    by_steps t i n asked rest steps chances text completes count legal on off (inr is) = BreaksOff false asked rest text (answers i chances) completes (record { chances = chances; count = count; steps_are = refl }) is (record { legal = legal; then_is = refl })
 
 goes_without : (t : Told) (w : Scene) (i n : ℕ) (p : Post) (id : SessionId) (session : DeskSession DeviceState) (e : Core) (desk : Desk) (rest text : List ℕ) → Ready t w i p id session → Can t i (events.ToDaemon n) → IsFedOff t w id e Starved desk rest text →
     daemon.RunsOut t.users (desk_of w.daemon session) (t.wires i).asking (moved n (t.wires i).up) desk → Leads (events.ToDaemon n) (AnswersSome n) t i (record { daemon = e; posts = slice_set w.posts i (after_fed Starved (world.sent n p)) })
@@ -554,6 +550,7 @@ delivery_decides all n t w i p h at low =
     let s = h.posts i p at in
     record {
       can = λ can. (some_link p.link (sym s.means.linked ∙ can.0), (λ e. can.1 (sym s.carries.up ∙ e)), can.2);
+      back = λ can. (s.means.linked ∙ linked_by p.link can.0, (λ e. can.1 (s.carries.up ∙ e)), can.2);
       either = or_all (IsSome p.link) (p.client.out ≢ []) (0 < n) (or_link p.link) (or_empty p.client.out) (or_zero n);
       does = λ can e q d. by_link t w i n p p.link h at low (all t w i h low) refl (s.means.linked ∙ linked_by p.link can.0, (λ e. can.1 (s.carries.up ∙ e)), can.2) e q d;
     }

@@ -1,27 +1,19 @@
 -- The event of a delivery to the daemon: by what becomes of the session.
-use Rattle.std.specs.Prelude.{cond, is_some, length, not, option_map, IsSome}
 use Rattle.std.specs.List.{AllByRecursion}
-use Rattle.std.proofs.Common.{◌≡◌, ◌≢◌, ◌⊎◌, inl, inr, ◌∙◌, ℕ, ◌<◌, ◌≤◌, List, [], ◌∷◌, ◌++◌, Option, Some, None, Bool, true, false, refl, sym, ap, subst, map, slice_get, slice_set, append-nil, arith}
-use Rattle.page_picture.specs.Page.{IsSheet}
-use Rattle.page_picture.specs.Shows.{Frame}
-use Rattle.frame_join.specs.FrameHistory.{Past}
+use Rattle.std.proofs.Common.{◌≡◌, inl, ◌∙◌, ℕ, ◌<◌, List, [], ◌∷◌, ◌++◌, Option, Some, None, refl, sym, ap, subst, map, slice_get, arith}
 use Rattle.device_api.specs.State.{DeviceState}
 use Rattle.dispatch.specs.Table.{Table}
-use Rattle.wire_format.specs.Limit.{WantsMore}
-use Rattle.wire_message.specs.Message.{message_limit, request as request_format}
 use Rattle.saned_desk.specs.declared.session.Session.{Session as DeskSession}
 use Rattle.saned_desk.specs.Rules.{Desk}
 use Rattle.saned_core.specs.declared.seat.Fed.{Fed}
 use Rattle.saned_core.specs.declared.seat.Fed.TheVariants.{Standing, Over, Starved}
 use Rattle.saned_core.specs.declared.seat.Seat.{Seat}
 use Rattle.saned_core.specs.declared.seat.SessionId.{SessionId}
-use Rattle.saned_core.specs.State.{Core, if_standing, on_seat, replies_in, seat_of, session_in, standing}
-use Rattle.saned_core.specs.Feeding as daemon
+use Rattle.saned_core.specs.State.{Core, on_seat, replies_in, seat_of, session_in, standing}
 use Rattle.saned_core.specs.Feeding.{fed_seat, input_in, seat_after}
 use Rattle.scan_rules.specs.Devices.{Make}
 use Rattle.scan_rules.specs.Scanners.{Device}
 use Rattle.desk_rules.specs.Reading.{ShowsTable}
-use Rattle.desk_rules.specs.Cores.{desk_of}
 use Rattle.desk_rules.specs.Others.{LeavesOthers}
 use Rattle.desk_rules.proofs.Changes.{Held}
 use Rattle.desk_rules.proofs.Cores.{own_seat}

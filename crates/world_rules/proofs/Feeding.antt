@@ -1,13 +1,9 @@
 -- A delivery of requests to the daemon.
-use Rattle.std.specs.Prelude.{drop, is_some, length, map, min, not, option_map, take, IsSome}
-use Rattle.std.specs.List.{AllByRecursion}
-use Rattle.std.proofs.Common.{◌≡◌, ◌≢◌, ◌⊎◌, inl, inr, ◌∙◌, ℕ, zero, suc, ◌+◌, ◌<◌, ◌≤◌, List, [], ◌∷◌, ◌++◌, Option, Some, None, Bool, true, false, refl, sym, ap, subst, append_assoc, append-nil, length-append, slice_get, slice_set, arith}
+use Rattle.std.specs.Prelude.{length, map, min}
+use Rattle.std.proofs.Common.{◌≡◌, ◌⊎◌, inl, inr, ◌∙◌, ℕ, suc, List, [], ◌∷◌, ◌++◌, Some, Bool, true, false, refl, sym, ap, subst, append_assoc, length-append, arith}
 use Rattle.std.proofs.lemmas.List.{take-append-drop}
-use Rattle.page_picture.specs.Page.{IsSheet}
 use Rattle.page_picture.specs.Shows.{Frame}
-use Rattle.frame_join.specs.FrameHistory.{Past}
-use Rattle.device_api.specs.State.{DeviceState}
-use Rattle.wire_format.specs.Limit.{IsNoStart, WantsMore, limited}
+use Rattle.wire_format.specs.Limit.{limited}
 use Rattle.wire_format.specs.Lawful.{Takes}
 use Rattle.wire_message.specs.Message.{message_limit, request as request_format}
 use Rattle.wire_message.specs.declared.message.Request.{Request as Asked}
@@ -17,8 +13,6 @@ use Rattle.wire_codec.specs.Waiting.{Taken as taken}
 use Rattle.option_desc.specs.declared.descriptor.Descriptor.{Descriptor}
 use Rattle.saned_desk.specs.declared.said.Said.{Said}
 use Rattle.saned_desk.specs.Rules.{Answers, Desk}
-use Rattle.saned_core.specs.declared.seat.Fed.{Fed}
-use Rattle.saned_core.specs.declared.seat.Fed.TheVariants.{Standing, Over, Starved}
 use Rattle.saned_core.specs.Feeding as daemon
 use Rattle.saned_core.specs.Feeding.Closes.{Garbled, Ended}
 use Rattle.saned_core.specs.Feeding.{EndsWith as ends}
@@ -26,20 +20,18 @@ use Rattle.scan_job.specs.declared.job.Job.{Job}
 use Rattle.net_client.specs.Sending.{requests_text}
 use Rattle.client_rules.specs.Talks.{Talk, errand_of}
 use Rattle.scan_rules.specs.Words.{Request}
-use Rattle.scan_rules.specs.Words as words
 use Rattle.scan_rules.specs.Client.{Mind}
-use Rattle.scan_rules.specs.Deeds as deeds
 use Rattle.scan_rules.specs.Deliveries.{Chance, answers}
-use Rattle.scan_rules.specs.Standing.{Party, Standing as Rules}
+use Rattle.scan_rules.specs.Standing.{Standing as Rules}
 use Rattle.scan_rules.specs.Steps.{IsUnderWay, MayBreak, Step, after_all}
-use Rattle.client_reading.specs.Requests.{AreRequests, Ask, IsRequest, asks_of}
+use Rattle.client_reading.specs.Requests.{AreRequests, IsRequest, asks_of}
 use Rattle.desk_rules.proofs.Feeding.{Back, back_same, faltered}
 use Rattle.desk_rules.proofs.Greeted.{answers_end, same_words}
 use Rattle.scan_world.specs.Deeds.{left, moved}
 use Rattle.world_rules.specs.Told.{Told, place_in}
 use Rattle.world_rules.specs.Spelled.{SpellsAsked, SpellsTold}
 use Rattle.world_rules.proofs.Closing.{Closed, answers_then, breaks, breaks_behind_one, broken, closed_behind, ends_by_request}
-use Rattle.world_rules.proofs.Cut.{TakenNext, asked_first, cut_at, not_garbled, taken_next}
+use Rattle.world_rules.proofs.Cut.{asked_first, cut_at, not_garbled, taken_next}
 use Rattle.world_rules.specs.Stands.{session_by}
 use Rattle.world_rules.proofs.Folding.{AnswersOne, Desked, IsReadAs, OneRequest, Ran, due_none, run_all, spells_none}
 use Rattle.world_rules.proofs.Answered.{stays}
@@ -57,7 +49,7 @@ pub record CutPiece (job : Job) (m : Mind) (todo : List Request) (requests : Lis
   pub spelled : SpellsAsked job m first text
   pub still : SpellsAsked job m others (rest ++ behind)
 
-moved_left : (n : ℕ) (up : List ℕ) → up ≡ moved n up ++ left n up
+pub moved_left : (n : ℕ) (up : List ℕ) → up ≡ moved n up ++ left n up
 moved_left n up = sym (take-append-drop (min n 4096) up)
 
 pub cut_piece : (job : Job) (m : Mind) (todo : List Request) (asking up : List ℕ) (n : ℕ) (requests : List Asked) (text rest : List ℕ) → SpellsAsked job m todo (asking ++ up) → asking ++ moved n up ≡ text ++ rest → AreSpelled (map (λ q. taken.Asked q) requests) text →

@@ -1,11 +1,11 @@
 -- What may be answered to a request: each answer of the rules is one to what was asked.
-use Rattle.std.proofs.Common.{◌≡◌, ◌≢◌, ◌∙◌, ℕ, List, [], ◌∷◌, Bool, true, false, Option, Some, None, refl, sym, ap, subst}
+use Rattle.std.proofs.Common.{◌≡◌, ℕ, List, [], ◌∷◌, Bool, true, false, Option, Some, None, refl}
 use Rattle.option_desc.specs.declared.value.Value.{Value}
 use Rattle.page_picture.specs.Shows.{Frame}
 use Rattle.scan_rules.specs.Words.{Acked, Authorize, Begun, Cancel, Challenge, Challenged, Close, Describe, Described, Exit, Gave, Get, GetDevices, Got, Greeted, Init, Listed, Open, Opened, Parameters, Refused, Reply, Request, Set, Shaped, Start, same_text}
 use Rattle.scan_rules.specs.Devices.{Make, Page, Put, frames_of, put_in, tells, value_of}
-use Rattle.scan_rules.specs.Scanners.{Between, Device, Phase, Reading, Resting, is_held_by, is_resting, let_go, put_back}
-use Rattle.scan_rules.specs.Daemon.{Around, Carriage, Ending, Fault, Quiet, Served, Streaming, Waiting, allow, answer, answer_awaited, answer_if, begin_page, begin_pass, get_reply, open_listed, over, put_reply, refuse, says, serve, set_reply, start_at, start_or_fail, start_page, start_reply, take, take_listed}
+use Rattle.scan_rules.specs.Scanners.{Between, Device, Phase, Reading, Resting, is_held_by, is_resting}
+use Rattle.scan_rules.specs.Daemon.{Around, Carriage, Ending, Fault, Quiet, Streaming, Waiting, allow, answer, answer_awaited, answer_if, begin_page, begin_pass, get_reply, open_listed, put_reply, refuse, serve, set_reply, start_at, start_or_fail, start_page, start_reply, take, take_listed}
 
 -- a value that was given is that of a put
 pub record IsPut (k : Make) (dev : Device) (n : ℕ) (asked given : Value) : Type 0 where

@@ -1,7 +1,7 @@
 -- The requests of a piece, one after another: each is answered as the rules say, on what those before it left.
 use Rattle.std.specs.Prelude.{map, length}
 use Rattle.std.specs.List.{AllByRecursion}
-use Rattle.std.proofs.Common.{◌≡◌, ◌≢◌, ◌⊎◌, inl, inr, ◌∙◌, ℕ, suc, List, [], ◌∷◌, ◌++◌, Bool, true, false, Option, Some, None, refl, sym, ap, subst, append_assoc, append-nil}
+use Rattle.std.proofs.Common.{◌≡◌, inl, inr, ◌∙◌, ℕ, suc, List, [], ◌∷◌, ◌++◌, true, false, Option, refl, sym, ap, subst, append_assoc, append-nil}
 use Rattle.page_picture.specs.Page.{IsSheet}
 use Rattle.page_picture.specs.Shows.{Frame}
 use Rattle.saned_desk.specs.declared.said.Said.{Said}
@@ -104,7 +104,7 @@ says_both (r ∷ a) b text h =
 
 -- ---- a client that is under way and whose request is on the way waits for it alone
 
-no_reply : (i : ℕ) (k : Make) (p : Party) (dev : Device) (st : Stage) (r : Request) (rest : List Request) → IsUnderWay st → p.todo ≡ r ∷ rest → Talks i k p dev st → p.due ≡ []
+pub no_reply : (i : ℕ) (k : Make) (p : Party) (dev : Device) (st : Stage) (r : Request) (rest : List Request) → IsUnderWay st → p.todo ≡ r ∷ rest → Talks i k p dev st → p.due ≡ []
 no_reply i k p dev Idle r rest u e h = h.2
 no_reply i k p dev (Running g) r rest u e (inl h) = h.due
 no_reply i k p dev (Running g) r rest u e (inr (inl h)) = absurd (let clash : [] ≡ r ∷ rest = sym h.todo ∙ e in cc)

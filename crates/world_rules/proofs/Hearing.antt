@@ -450,10 +450,19 @@ deliver_decides n t w i p h at low =
     let s = h.posts i p at in
     record {
       can = λ can. (may_deliver w.daemon p.link (t.wires i).down (sym s.means.linked ∙ can.0) s.carries.down can.1, can.2);
+      back = λ can. (s.means.linked ∙ linked_back p.link can.0, down_back p.link refl can.0, can.1);
       either = both_or (waits_or w.daemon p.link) (more_or n);
       does = λ can e q d. by_link n t w i p p.link h at low refl can.0 can.1 e q d;
     }
   where
+    linked_back : (link : Option SessionId) → world.number_in link (λ k. replies_of w.daemon k ≢ []) → is_some link ≡ true
+    linked_back None some = absurd some
+    linked_back (Some id) some = refl
+
+    down_back : (link : Option SessionId) → p.link ≡ link → world.number_in link (λ k. replies_of w.daemon k ≢ []) → (t.wires i).down ≢ []
+    down_back None link some = absurd some
+    down_back (Some id) link some = λ none. some (ap (λ (x : Option SessionId). replies_in (seat_by w.daemon x)) (sym link) ∙ ((h.posts i p at).carries.down ∙ none))
+
     by_link : (n : ℕ) (t : Told) (w : Scene) (i : ℕ) (p : Post) (link : Option SessionId) → Stands t w → slice_get w.posts i ≡ Some p → i < t.count → p.link ≡ link → world.number_in p.link (λ k. replies_of w.daemon k ≢ []) → 0 < n → (e : Core) (q : Post) →
         world.number_in p.link (λ k. (e ≡ world.taken k n w.daemon) × world.Hears (moved n (replies_of w.daemon k)) (spent p) q) → Led t i n (record { daemon = e; posts = slice_set w.posts i q })
     by_link n t w i p None h at low link some more e q d = absurd (subst (λ (x : Option SessionId). world.number_in x (λ k. replies_of w.daemon k ≢ [])) link some)

@@ -1,9 +1,9 @@
 -- A SET on the way is of an option as the device has it, whatever steps come.
-use Rattle.std.proofs.Common.{◌≡◌, ◌≢◌, ◌⊎◌, inl, inr, ◌∙◌, ℕ, List, [], ◌∷◌, ◌++◌, Option, Some, None, Bool, true, false, cond, eqb, eqb-true, refl, sym, ap, subst}
+use Rattle.std.proofs.Common.{◌≡◌, ◌≢◌, ◌⊎◌, inl, inr, ◌∙◌, ℕ, List, [], ◌∷◌, ◌++◌, Option, Bool, true, false, cond, eqb, eqb-true, refl, sym, ap, subst}
 use Rattle.std.proofs.lemmas.Bool.{eqb-false}
 use Rattle.option_desc.specs.declared.descriptor.Descriptor.{Descriptor}
-use Rattle.scan_rules.specs.Words.{Challenge, Reply, Request, Init, GetDevices, Open, Authorize, Describe, Get, Set, Parameters, Start, Cancel, Close, Exit}
-use Rattle.scan_rules.specs.Devices.{Make, Options, descriptors_of}
+use Rattle.scan_rules.specs.Words.{Challenge, Reply, Request, Set}
+use Rattle.scan_rules.specs.Devices.{Make, descriptors_of}
 use Rattle.scan_rules.specs.Client.{Job, Idle, Running, Done, Ended, Stage, Task, List_, Show, SetOnly, Scan, Batch, Progress, Greeting, Listing, Opening, Allowing, Describing, Putting, Getting, Starting, Shaping, Imaging, asked, sends, goodbye, farewell}
 use Rattle.scan_rules.specs.Scanners.{Device, put_down, is_held_by, rest_of}
 use Rattle.scan_rules.specs.Daemon.{Carriage, Quiet, Waiting, Streaming, Ending, Fault}

@@ -1,16 +1,14 @@
 -- Who may open a device: by the daemon's users, and by the rules of a job.
-use Rattle.std.specs.Prelude.{Any, Contains, ◌==◌, ◌&&◌, if◌then◌else◌}
-use Rattle.std.specs.List.{list_any}
+use Rattle.std.specs.Prelude.{Contains, ◌==◌, ◌&&◌, if◌then◌else◌}
 use Rattle.std.proofs.Common.{◌≡◌, ◌≢◌, ◌⊎◌, inl, inr, ◌∙◌, ℕ, zero, suc, ◌<◌, List, [], ◌∷◌, ◌++◌, Option, Some, None, option_map, Bool, true, false, cond, eqb, eqb-true, refl, sym, ap, subst, length, slice_index_or, arith}
 use Rattle.std.proofs.lemmas.Bool.{eqb-false}
 use Rattle.std.proofs.lemmas.List.Folds.{Any-from_list_any, list_any-from_Any}
 use Rattle.md5.specs.Md5.{md5}
 use Rattle.md5_auth.specs.declared.users.Entry.{Entry}
-use Rattle.md5_auth.specs.Allowed.{HasDigest, IsAnswer, IsChallenge, LineAllows, NamesBackend, SentAllows, answer_text}
+use Rattle.md5_auth.specs.Allowed.{HasDigest, IsAnswer, LineAllows, SentAllows, answer_text}
 use Rattle.md5_auth.specs.ChallengeReading.{answer_of, challenge_of}
 use Rattle.md5_auth.proofs.AllowedLemmas.{line_from_sent, sent_from_line}
-use Rattle.md5_auth.proofs.MarkLemmas.{challenge_of-is, is_challenge_found, same_challenge}
-use Rattle.text_lines.specs.Lines.{SplitsAtFirst}
+use Rattle.md5_auth.proofs.MarkLemmas.{challenge_of-is, is_challenge_found}
 use Rattle.dispatch.specs.Backend.{IsBackendOf}
 use Rattle.saned_desk.specs.declared.session.Awaited.{Awaited}
 use Rattle.saned_desk.specs.Rules.{MayOpen}

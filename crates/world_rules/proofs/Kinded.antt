@@ -1,11 +1,11 @@
 -- What the rules tell of each request, where the session goes on.
-use Rattle.std.proofs.Common.{◌≡◌, ◌≢◌, ℕ, List, [], ◌∷◌, Bool, true, false, Option, Some, None, refl, sym, ap, subst}
+use Rattle.std.proofs.Common.{◌≡◌, ℕ, List, [], ◌∷◌, Bool, true, false, Option, Some, None, refl}
 use Rattle.option_desc.specs.declared.value.Value.{Value}
 use Rattle.page_picture.specs.Shows.{Frame}
 use Rattle.scan_rules.specs.Words.{Acked, Authorize, Begun, Cancel, Challenge, Challenged, Close, Describe, Described, Exit, Gave, Get, GetDevices, Got, Greeted, Init, Listed, Open, Opened, Parameters, Refused, Reply, Request, Set, Shaped, Start, same_text}
 use Rattle.scan_rules.specs.Devices.{Make, Options, Page, Put, frames_of, put_in, tells, value_of}
 use Rattle.scan_rules.specs.Scanners.{Between, Device, Phase, Reading, Resting, is_held_by, is_resting}
-use Rattle.scan_rules.specs.Daemon.{Around, Carriage, Ending, Fault, Quiet, Served, Streaming, Waiting, allow, answer, answer_awaited, answer_if, begin_page, begin_pass, get_reply, open_listed, put_reply, set_reply, start_at, start_or_fail, start_page, start_reply, take, take_listed}
+use Rattle.scan_rules.specs.Daemon.{Around, Carriage, Ending, Fault, Quiet, Streaming, Waiting, allow, answer, answer_awaited, answer_if, begin_page, begin_pass, get_reply, open_listed, put_reply, set_reply, start_at, start_or_fail, start_page, start_reply, take, take_listed}
 
 -- this is told of the request, by these options and these devices that are listed
 abbrev pub IsFor : Make → Options → List ℕ → Request → Reply → Type 0

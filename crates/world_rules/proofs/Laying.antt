@@ -1,15 +1,11 @@
 -- A page for a device that a session holds.
-use Rattle.std.specs.Prelude.{◌&&◌, if◌then◌else◌, option_map}
-use Rattle.std.specs.Option.{option_and_then}
-use Rattle.std.specs.List.{AllByRecursion}
-use Rattle.std.proofs.Common.{◌≡◌, ◌≢◌, ◌⊎◌, inl, inr, ◌∙◌, ℕ, zero, suc, ◌<◌, List, [], ◌∷◌, Option, Some, None, Bool, true, false, eqb, eqb-true, refl, sym, ap, subst, length, slice_get, slice_set}
-use Rattle.page_picture.specs.Page.{IsSheet}
+use Rattle.std.specs.Prelude.{◌&&◌, if◌then◌else◌}
+use Rattle.std.proofs.Common.{◌≡◌, ◌≢◌, ◌⊎◌, inl, inr, ◌∙◌, ℕ, zero, suc, [], ◌∷◌, Option, Some, Bool, true, false, eqb, refl, sym, ap, length}
 use Rattle.page_picture.specs.Source.{SourceState}
 use Rattle.device_api.specs.State.{DeviceState, after_load as page_loaded, takes_page}
-use Rattle.device_api.specs.State.Phase.{AtRest, Between, Reading}
+use Rattle.device_api.specs.State.Phase.{Reading}
 use Rattle.device_api.specs.State.{Phase as AnyPhase, is_at_rest}
 use Rattle.dispatch.specs.declared.table.place.Lease.{Lease}
-use Rattle.dispatch.specs.Table.{loaded_device}
 use Rattle.saned_desk.specs.declared.session.Carriage.{Carriage as WordCarriage}
 use Rattle.saned_desk.specs.declared.session.Carriage.TheVariants as word
 use Rattle.saned_desk.specs.declared.session.Session.{Session as DeskSession}

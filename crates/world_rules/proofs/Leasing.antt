@@ -2,20 +2,19 @@
 use Rattle.std.specs.Prelude.{if◌then◌else◌, ◌||◌}
 use Rattle.std.specs.Option.{option_and_then}
 use Rattle.std.specs.List.{AllByRecursion, list_any}
-use Rattle.std.proofs.Common.{◌≡◌, ◌≢◌, ◌∙◌, ℕ, zero, suc, List, [], ◌∷◌, ◌++◌, Option, Some, None, option_map, Bool, true, false, eqb, refl, sym, ap, subst, slice_get, arith}
+use Rattle.std.proofs.Common.{◌≡◌, ◌∙◌, ℕ, zero, suc, List, [], ◌∷◌, Option, Some, None, option_map, Bool, true, false, refl, sym, ap, slice_get, arith}
 use Rattle.std.proofs.lemmas.Bool.{ne_eqb}
 use Rattle.page_picture.specs.Page.{IsSheet}
 use Rattle.page_picture.specs.Source.{SourceState}
 use Rattle.device_api.specs.State.{DeviceState, Held as Page, after_load as page_loaded, feeds, held_from, pages_with, takes_page}
 use Rattle.dispatch.specs.declared.table.place.Lease.{Lease}
-use Rattle.dispatch.specs.Table.{loaded_device}
 use Rattle.saned_desk.specs.declared.session.Session.{Session as DeskSession}
 use Rattle.saned_desk.specs.Holding.{held_by, on_word}
 use Rattle.saned_core.specs.declared.seat.Seat.{Seat}
 use Rattle.saned_core.specs.Loading.{held_with, holds, holds_in, is_of, lease_with, on_first, seat_with, session_with}
 use Rattle.saned_core.specs.State.{is_number, on_seat, on_session, seat_of}
 use Rattle.desk_rules.proofs.Changes.{Held}
-use Rattle.desk_rules.proofs.Moved.{own, unsome}
+use Rattle.desk_rules.proofs.Moved.{own}
 use Rattle.world_rules.specs.Stands.{IsFaithful, IsFaithfulLease, IsTrueTo}
 use Rattle.world_rules.proofs.Faithful.{Seats, word_true}
 use Rattle.world_rules.proofs.Finding.{same_texts}

@@ -78,4 +78,8 @@ pub mod SeenPiece
 pub mod Seeing
 pub mod Counted
 pub mod Stuck
+pub mod Lengths
+pub mod Paying
+pub mod Spending
+pub mod Budgets
 pub mod Followed

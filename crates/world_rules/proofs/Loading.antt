@@ -3,7 +3,7 @@ use Rattle.std.specs.Prelude.{if◌then◌else◌, option_map, Err, Ok}
 use Rattle.sane_fixed.specs.declared.status.Status.TheVariants.{DeviceBusy}
 use Rattle.std.specs.Option.{option_and_then}
 use Rattle.std.specs.List.{AllByRecursion, list_any}
-use Rattle.std.proofs.Common.{◌≡◌, ◌≢◌, ◌⊎◌, inl, inr, ◌∙◌, ℕ, zero, suc, ◌<◌, ◌≤◌, List, [], ◌∷◌, Option, Some, None, Bool, true, false, cond, eqb, refl, sym, ap, subst, map, length, slice_get, slice_set, arith}
+use Rattle.std.proofs.Common.{◌≡◌, ◌≢◌, ◌⊎◌, inl, inr, ◌∙◌, ℕ, zero, suc, ◌≤◌, List, [], ◌∷◌, Option, Some, None, Bool, true, false, eqb, refl, sym, ap, subst, length, slice_get, slice_set, arith}
 use Rattle.page_picture.specs.Page.{IsSheet}
 use Rattle.page_picture.specs.Source.{SourceState}
 use Rattle.device_api.specs.State.{DeviceState, after_load as page_loaded, takes_page}
@@ -11,7 +11,7 @@ use Rattle.dispatch.specs.declared.table.place.Lease.{Lease}
 use Rattle.dispatch.specs.declared.table.place.Place.{Place}
 use Rattle.dispatch.specs.declared.table.place.Slot.{Slot}
 use Rattle.dispatch.specs.declared.table.place.Slot.TheVariants.{In, Out, Gone}
-use Rattle.dispatch.specs.Table.{IsLeaseOf, Table, after_load, find_name, load_answer, load_at, load_of, loaded_at, loaded_device, loaded_slot, slot_load, with_loaded, with_slot}
+use Rattle.dispatch.specs.Table.{Table, after_load, find_name, load_answer, load_at, load_of, loaded_at, loaded_slot, slot_load, with_loaded, with_slot}
 use Rattle.saned_desk.specs.declared.session.Awaited.{Awaited}
 use Rattle.saned_desk.specs.declared.session.Session.{Session as DeskSession}
 use Rattle.saned_desk.specs.Holding.{held_by}
@@ -28,7 +28,7 @@ use Rattle.scan_rules.specs.Sessions.{Session, one_word}
 use Rattle.scan_rules.specs.Steps.{IsHistory, Loads, after_all}
 use Rattle.scan_rules.specs.Steps as steps
 use Rattle.scan_rules.proofs.Promised.{sound_after_all}
-use Rattle.desk_rules.specs.Reading.{Holds, IsAwaited, IsMade, NamesPlace, Shows, ShowsPlace, ShowsSlot, ShowsTable, seen}
+use Rattle.desk_rules.specs.Reading.{Holds, IsAwaited, NamesPlace, Shows, ShowsPlace, ShowsSlot, ShowsTable, seen}
 use Rattle.desk_rules.specs.Cores.{ShowsSession, desk_of}
 use Rattle.desk_rules.proofs.Changes.{Held}
 use Rattle.desk_rules.proofs.Connecting.{listed_by}
@@ -41,7 +41,7 @@ use Rattle.scan_world.specs.declared.post.Post.{Post}
 use Rattle.scan_world.specs.Worlds.{Scene}
 use Rattle.world_rules.specs.Told.{Told, Wires}
 use Rattle.world_rules.specs.Speaks.{Speaks}
-use Rattle.world_rules.specs.Stands.{AreApart, Carries, IsFaithful, IsFaithfulLease, IsFaithfulPlace, IsFaithfulSlot, IsNobody, IsServed, SitsAt, Stands, are_named, seat_by, session_by}
+use Rattle.world_rules.specs.Stands.{AreApart, Carries, IsFaithful, IsFaithfulLease, IsFaithfulPlace, IsFaithfulSlot, IsServed, Stands, seat_by, session_by}
 use Rattle.world_rules.specs.Happens.{CanLoad, LaysIn, LeadsTo, LoadsFollow}
 use Rattle.world_rules.proofs.Calling.{found_on, input_on, leaves_on, replies_on, slot_names}
 use Rattle.world_rules.proofs.Sees.{Leaves}

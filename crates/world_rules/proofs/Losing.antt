@@ -131,6 +131,7 @@ control_decides t w i p h at low =
     let s = h.posts i p at in
     record {
       can = λ can. some_link p.link (sym s.means.linked ∙ can);
+      back = λ can. s.means.linked ∙ linked_by p.link can;
       either = link_or p.link;
       does = λ can e q d. by_link t w i p p.link h at low refl e q d;
     }
@@ -138,6 +139,10 @@ control_decides t w i p h at low =
     some_link : (link : Option SessionId) → is_some link ≡ true → IsSome link
     some_link None e = absurd (let clash : false ≡ true = e in cc)
     some_link (Some id) e = refl
+
+    linked_by : (link : Option SessionId) → IsSome link → is_some link ≡ true
+    linked_by None e = absurd (let clash : false ≡ true = e in cc)
+    linked_by (Some id) e = refl
 
     link_or : (link : Option SessionId) → IsSome link ⊎ (IsSome link → ⊥)
     link_or None = inr (λ x. let clash : false ≡ true = x in absurd (cc))

@@ -1,28 +1,21 @@
 -- ONE REPLY to a client that is under way: what the daemon says of the request that it waits for is the rules' reply.
-use Rattle.std.specs.List.{AllByRecursion}
-use Rattle.std.specs.Prelude.{option_map, ◌<◌, length}
-use Rattle.std.proofs.Common.{◌≡◌, ◌≢◌, ◌⊎◌, inl, inr, ◌∙◌, ℕ, List, [], ◌∷◌, ◌++◌, Option, Some, None, Bool, true, false, cond, eqb, eqb-true, refl, sym, ap, subst, map, slice_get, arith}
+use Rattle.std.specs.Prelude.{option_map}
+use Rattle.std.proofs.Common.{◌≡◌, ◌≢◌, inl, inr, ◌∙◌, ℕ, List, [], ◌∷◌, Option, Some, None, Bool, true, false, cond, eqb, eqb-true, refl, sym, ap, subst, map, slice_get}
 use Rattle.sane_fixed.specs.declared.kind.Kind.{Kind}
-use Rattle.sane_fixed.specs.declared.status.Status.{Status as Code}
-use Rattle.sane_fixed.specs.declared.status.Status.TheVariants as code
 use Rattle.option_desc.specs.declared.descriptor.Descriptor.{Descriptor}
 use Rattle.option_desc.specs.declared.value.Value.{Value}
 use Rattle.device_api.specs.Options as table
 use Rattle.device_api.specs.State.{DeviceState}
-use Rattle.device_api.specs.declared.device_info.DeviceInfo.{DeviceInfo}
-use Rattle.page_picture.specs.Shows.{Frame}
 use Rattle.dispatch.specs.declared.table.place.Lease.{Lease}
 use Rattle.frame_join.specs.FrameHistory.{Past}
-use Rattle.wire_message.specs.declared.message.Action.TheVariants as actions
 use Rattle.wire_message.specs.declared.message.Request.{Request as Asked}
-use Rattle.wire_message.specs.declared.message.Request.TheVariants as requests
 use Rattle.wire_message.specs.declared.message.WireValue.{WireValue}
 use Rattle.client_rules.specs.declared.progress.Errand.{Errand}
 use Rattle.client_rules.specs.declared.progress.Notes.{Notes}
 use Rattle.client_rules.specs.declared.progress.Progress.{Progress}
 use Rattle.client_rules.specs.declared.progress.Progress.TheVariants as stages
 use Rattle.client_rules.specs.Talking.{of_kind}
-use Rattle.client_rules.specs.Talks.{Talk, errand_of}
+use Rattle.client_rules.specs.Talks.{errand_of}
 use Rattle.client_rules.specs.WireValues as client
 use Rattle.client_rules.specs.WireValues.{given_like, value_in}
 use Rattle.saned_desk.specs.declared.said.Said.{Said}

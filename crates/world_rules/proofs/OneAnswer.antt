@@ -1,12 +1,9 @@
 -- ONE REQUEST of a job's client that the daemon answers, whole: what it leaves, and what is said of it to a client that is under way.
-use Rattle.std.specs.List.{AllByRecursion}
-use Rattle.std.specs.Prelude.{◌<◌, length, option_map}
-use Rattle.std.specs.Int.{to_be_bytes, w32}
-use Rattle.std.proofs.Common.{◌≡◌, ◌≢◌, ◌⊎◌, inl, inr, ◌∙◌, ℕ, List, [], ◌∷◌, ◌++◌, Option, Some, None, Bool, true, false, refl, sym, ap, subst, arith}
+use Rattle.std.specs.Prelude.{length, option_map}
+use Rattle.std.proofs.Common.{◌≡◌, ◌⊎◌, inl, inr, ◌∙◌, ℕ, List, [], ◌∷◌, ◌++◌, Option, Some, None, Bool, true, false, refl, sym, ap, subst, arith}
 use Rattle.sane_fixed.specs.declared.status.Status.{Status as Code}
 use Rattle.sane_fixed.specs.declared.status.Status.TheVariants as code
 use Rattle.page_picture.specs.Shows.{Frame}
-use Rattle.md5_auth.specs.declared.users.Entry.{Entry}
 use Rattle.wire_message.specs.declared.message.Request.{Request as Asked}
 use Rattle.wire_message.specs.declared.message.Request.TheVariants as requests
 use Rattle.wire_message.specs.declared.message.Reply.{Reply as Wire}
@@ -21,7 +18,6 @@ use Rattle.saned_desk.specs.declared.said.Said.TheVariants.{One, Two}
 use Rattle.saned_desk.specs.Holding.{free_word}
 use Rattle.saned_desk.specs.Rules.{Answers, Desk}
 use Rattle.saned_core.specs.Feeding.{IsUnsaid, goes_on, replies_to}
-use Rattle.saned_core.specs.Feeding as daemon
 use Rattle.scan_rules.specs.Words.{Authorize, Challenge, Reply, Request}
 use Rattle.scan_rules.specs.Client.{Mind, Running}
 use Rattle.scan_rules.specs.Daemon.{Fault}
@@ -41,10 +37,10 @@ use Rattle.world_rules.proofs.BegunTrue.{begun_sheets}
 use Rattle.world_rules.proofs.Folding.{Desked, IsReadAs, OneRequest, Replied, answers_to, legal_answer, todo_after}
 use Rattle.world_rules.proofs.Kinded.{AreFor, answer_for}
 use Rattle.world_rules.proofs.Minds.{run_is, under_runs}
-use Rattle.world_rules.proofs.Offered.{IsAsking, IsOffered, authorize_free, comes_by, free_zero, is_asking, rests, told_one}
+use Rattle.world_rules.proofs.Offered.{IsAsking, authorize_free, comes_by, free_zero, is_asking, rests, told_one}
 use Rattle.world_rules.proofs.OneReply.{either_shape, open_reply, said_shape}
-use Rattle.world_rules.proofs.Replied.{Answering, IsAnswered, IsSaid}
-use Rattle.world_rules.proofs.Requested.{KeepsTrue, Rest, one_request, own_init, party_is, served_now}
+use Rattle.world_rules.proofs.Replied.{IsAnswered, IsSaid}
+use Rattle.world_rules.proofs.Requested.{KeepsTrue, one_request, own_init, party_is, served_now}
 use Rattle.world_rules.proofs.Silent.{ends_silent}
 use Rattle.world_rules.proofs.StaysTrue.{IsTrueDesk, answers_keep}
 

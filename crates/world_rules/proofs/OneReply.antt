@@ -1,6 +1,6 @@
 -- The shape of what the daemon says: one reply to a request, and to AUTHORIZE its word and then the reply of OPEN.
 use Rattle.std.specs.Prelude.{Err, Ok, Result, if◌then◌else◌, ◌==◌}
-use Rattle.std.proofs.Common.{◌≡◌, ◌⊎◌, inl, inr, ◌∙◌, ℕ, ◌/◌, List, [], ◌∷◌, Bool, true, false, Option, Some, None, refl, sym, ap, subst}
+use Rattle.std.proofs.Common.{◌≡◌, ◌⊎◌, inl, inr, ◌∙◌, ℕ, ◌/◌, List, [], Bool, true, false, Option, Some, None, refl, sym, ap}
 use Rattle.md5_auth.specs.declared.users.Entry.{Entry}
 use Rattle.wire_message.specs.declared.message.Request.{Request as Asked}
 use Rattle.wire_message.specs.declared.message.Request.TheVariants as requests

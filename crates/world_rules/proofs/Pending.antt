@@ -1,19 +1,16 @@
 -- What has come of messages that are not whole yet.
 use Rattle.std.specs.Prelude.{IsSome, ◌&&◌, ◌<◌}
-use Rattle.std.proofs.Common.{◌≡◌, ◌≢◌, ◌⊎◌, inl, inr, ◌∙◌, ℕ, List, [], ◌∷◌, ◌++◌, Bool, true, false, Option, Some, None, refl, sym, ap, subst, length, append_assoc, append-nil, arith}
+use Rattle.std.proofs.Common.{◌≡◌, inl, inr, ◌∙◌, ℕ, List, [], ◌∷◌, ◌++◌, Bool, true, false, Some, None, refl, sym, ap, subst, length, append_assoc, append-nil, arith}
 use Rattle.wire_format.specs.Limit.{WantsMore}
 use Rattle.wire_message.specs.Message.{message_limit, request as request_format}
 use Rattle.wire_message.specs.declared.message.Procedure.{Procedure}
-use Rattle.wire_message.specs.declared.message.Request.{Request}
-use Rattle.wire_message.specs.declared.message.Reply.{Reply}
 use Rattle.data_records.specs.declared.records.Phase.{Phase}
-use Rattle.data_records.specs.declared.records.Phase.TheVariants as phases
 use Rattle.data_records.specs.Records.{HasEnded}
 use Rattle.scan_job.specs.declared.outcome.Outcome.{Outcome}
 use Rattle.client_rules.specs.declared.progress.Progress.{Progress}
 use Rattle.client_rules.specs.declared.progress.Progress.TheVariants as stages
 use Rattle.client_rules.specs.Talks.{connected, is_imaging, is_receiving, is_running, wanted}
-use Rattle.net_client.specs.Hearing.{IsReply, WantsReply, awaited}
+use Rattle.net_client.specs.Hearing.{WantsReply, awaited}
 use Rattle.net_client.specs.Imaging.{Receives}
 use Rattle.net_client.specs.Talker.{Talker, phase_connected}
 use Rattle.frame_join.specs.FrameHistory.{Past}

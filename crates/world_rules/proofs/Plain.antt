@@ -1,8 +1,8 @@
 -- Answers that ask for no AUTHORIZE: all but those to an OPEN of a listed device that is guarded. No refusal has the status GOOD.
-use Rattle.std.proofs.Common.{◌≡◌, ◌≢◌, ◌⊎◌, inl, inr, ◌∙◌, ℕ, List, [], ◌∷◌, Bool, true, false, cond, Option, Some, None, refl, sym, ap, subst}
+use Rattle.std.proofs.Common.{◌≡◌, ◌≢◌, ◌⊎◌, inl, inr, ◌∙◌, ℕ, List, [], ◌∷◌, Bool, true, false, cond, Option, Some, None, refl, sym, ap}
 use Rattle.option_desc.specs.declared.value.Value.{Value}
 use Rattle.page_picture.specs.Shows.{Frame}
-use Rattle.scan_rules.specs.Words.{AccessDenied, Acked, Authorize, Begun, Busy, Cancel, Challenge, Challenged, Close, Describe, Described, Exit, Gave, Get, GetDevices, Good, Got, Greeted, Inval, Init, IoError, Listed, NoDocs, Open, Opened, Parameters, Refused, Reply, Request, Set, Shaped, Start, Status, same_text}
+use Rattle.scan_rules.specs.Words.{AccessDenied, Authorize, Busy, Cancel, Challenge, Challenged, Close, Describe, Exit, Get, GetDevices, Good, Inval, Init, IoError, NoDocs, Open, Parameters, Refused, Reply, Request, Set, Start, same_text}
 use Rattle.scan_rules.specs.Devices.{Make, Page, Put, frames_of, put_in, tells}
 use Rattle.scan_rules.specs.Scanners.{Between, Device, Phase, Reading, Resting, is_held_by, is_resting, let_go, put_back}
 use Rattle.scan_rules.specs.Daemon.{Around, Carriage, Ending, Fault, Quiet, Served, Streaming, Waiting, allow, answer, answer_awaited, answer_if, begin_page, begin_pass, get_reply, open_listed, over, put_reply, says, set_reply, start_at, start_or_fail, start_page, start_reply, take, take_listed}

@@ -1,7 +1,7 @@
 -- A device that is read stays true to its pages; and its first page is one of these.
 use Rattle.std.specs.Prelude.{Result, Ok, Err}
 use Rattle.std.specs.List.{AllByRecursion}
-use Rattle.std.proofs.Common.{◌≡◌, ◌≢◌, ◌∙◌, ℕ, zero, suc, List, [], ◌∷◌, Option, Some, None, Bool, true, false, refl, sym, ap, subst}
+use Rattle.std.proofs.Common.{◌≡◌, ◌≢◌, ◌∙◌, ℕ, zero, suc, List, [], ◌∷◌, Option, Some, None, true, refl, sym, ap, subst}
 use Rattle.sane_fixed.specs.declared.status.Status.{Status as Code}
 use Rattle.sane_fixed.specs.declared.status.Status.TheVariants as code
 use Rattle.device_api.specs.State.{DeviceState, FrameReads, HasStopped, Held, Phase, Reads, ReadsIn, ReadsOn, after_pass, after_told, counted, feeds, first_of, goes_to, is_at_rest, steady_of, stopped_in, told_at, with_failures}
@@ -13,8 +13,8 @@ use Rattle.saned_desk.specs.declared.session.Session.{Session as DeskSession}
 use Rattle.saned_desk.specs.Holding.{held_by, with_device}
 use Rattle.saned_core.specs.declared.seat.DataStep.{DataStep}
 use Rattle.saned_core.specs.Turns.{StreamsFrom, StreamsIn}
-use Rattle.desk_rules.specs.Reading.{HasFrame, IsReadBy, Shows}
-use Rattle.desk_rules.specs.Cores.{ShowsSession, desk_of}
+use Rattle.desk_rules.specs.Reading.{HasFrame, IsReadBy}
+use Rattle.desk_rules.specs.Cores.{ShowsSession}
 use Rattle.desk_rules.proofs.Moved.{unsome}
 use Rattle.scan_rules.specs.Devices.{Make}
 use Rattle.scan_rules.specs.Scanners.{Device}

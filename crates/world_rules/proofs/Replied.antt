@@ -1,5 +1,5 @@
 -- One request of a job's client, with the challenge by the rules: the resource that was sent.
-use Rattle.std.proofs.Common.{◌≡◌, ◌≢◌, ◌⊎◌, inl, inr, ◌∙◌, ℕ, List, [], ◌∷◌, ◌++◌, Option, Some, None, option_map, Bool, true, false, refl, sym, ap, subst, take}
+use Rattle.std.proofs.Common.{◌≡◌, ◌⊎◌, inl, inr, ◌∙◌, ℕ, List, [], ◌∷◌, ◌++◌, Option, Some, None, option_map, Bool, true, false, refl, sym, ap, subst, take}
 use Rattle.sane_fixed.specs.declared.status.Status.TheVariants as code
 use Rattle.md5_auth.specs.declared.users.Entry.{Entry}
 use Rattle.md5_auth.specs.Allowed.{NamesBackend, mark}
@@ -20,10 +20,8 @@ use Rattle.saned_desk.specs.declared.session.Awaited.{Awaited}
 use Rattle.saned_desk.specs.Holding.{free_word}
 use Rattle.saned_desk.specs.Rules.{Answers, AnswersBy, AnswersGreeted, Asks, Desk, Opens, OpensAt, resource_of}
 use Rattle.saned_core.specs.Feeding.{goes_on}
-use Rattle.saned_core.specs.Feeding as daemon
 use Rattle.scan_job.specs.declared.job.Job.{Job}
 use Rattle.scan_rules.specs.Words.{Authorize, Cancel, Challenge, Challenged, Close, Describe, Exit, Get, GetDevices, Init, Open, Parameters, Reply, Request, Set, Start}
-use Rattle.scan_rules.specs.Client as rules
 use Rattle.scan_rules.specs.Devices.{Make}
 use Rattle.scan_rules.specs.Scanners.{Device, is_held_by, is_resting}
 use Rattle.scan_rules.specs.Daemon.{Carriage, Fault, Served, says}
@@ -31,13 +29,12 @@ use Rattle.scan_rules.specs.Deeds.{answered, around}
 use Rattle.scan_rules.specs.Standing.{Party, put}
 use Rattle.saned_desk.specs.declared.session.Session.{Session as DeskSession}
 use Rattle.device_api.specs.State.{DeviceState}
-use Rattle.scan_rules.specs.Sessions.{Session, free_word as free_of, one_word, only_word}
+use Rattle.scan_rules.specs.Sessions.{free_word as free_of, one_word, only_word}
 use Rattle.scan_rules.specs.Steps.{MayFail}
 use Rattle.client_reading.specs.Requests.{IsRequest}
 use Rattle.desk_rules.specs.Agreeing.{manner}
 use Rattle.desk_rules.specs.Feeds.{IsBegun}
-use Rattle.desk_rules.specs.Others.{LeavesOthers}
-use Rattle.desk_rules.specs.Reading.{IsAwaited, NamesPlace, Shows, ShowsTable}
+use Rattle.desk_rules.specs.Reading.{IsAwaited, NamesPlace, Shows}
 use Rattle.desk_rules.specs.Spelling.{Manner, SpellsSaid}
 use Rattle.desk_rules.specs.WholeSessions.{IsGuarded}
 use Rattle.desk_rules.proofs.Changes.{Held}

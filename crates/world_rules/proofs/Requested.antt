@@ -1,37 +1,33 @@
 -- One request of a job's client, by the rules, as the fold over a piece's requests takes it.
 use Rattle.std.specs.Prelude.{map}
 use Rattle.std.specs.List.{AllByRecursion}
-use Rattle.std.proofs.Common.{◌≡◌, ◌≢◌, ◌⊎◌, inl, inr, ◌∙◌, ℕ, List, [], ◌∷◌, ◌++◌, Bool, true, false, Option, Some, None, refl, sym, ap, subst, append-nil}
+use Rattle.std.proofs.Common.{◌≡◌, ◌⊎◌, inl, inr, ◌∙◌, ℕ, List, [], ◌∷◌, ◌++◌, true, false, Option, sym, ap, subst, append-nil}
 use Rattle.page_picture.specs.Page.{IsSheet}
 use Rattle.page_picture.specs.Shows.{Frame}
-use Rattle.md5_auth.specs.declared.users.Entry.{Entry}
 use Rattle.wire_message.specs.declared.message.Request.{Request as Asked}
 use Rattle.wire_message.specs.declared.message.Request.TheVariants as requests
 use Rattle.wire_message.specs.declared.message.Reply.{Reply as Wire}
 use Rattle.saned_desk.specs.declared.said.Said.{Said}
 use Rattle.saned_desk.specs.Rules.{Answers, Desk}
-use Rattle.saned_core.specs.Feeding.{IsUnsaid, SaysAll, goes_on, replies_to}
-use Rattle.saned_core.specs.Feeding as daemon
+use Rattle.saned_core.specs.Feeding.{IsUnsaid, goes_on, replies_to}
 use Rattle.client_rules.specs.declared.progress.Errand.{Errand}
 use Rattle.client_rules.specs.Talks.{Talk, errand_of}
 use Rattle.option_desc.specs.declared.descriptor.Descriptor.{Descriptor}
 use Rattle.scan_rules.specs.Words.{Challenge, Reply, Request}
 use Rattle.scan_rules.specs.Words as words
-use Rattle.scan_rules.specs.Devices.{Make}
 use Rattle.scan_rules.specs.Scanners.{Begin, Device, let_go}
-use Rattle.scan_rules.specs.Client.{Job as RuledJob}
-use Rattle.scan_rules.specs.Daemon.{Fault, Quiet, Served, over}
-use Rattle.scan_rules.specs.Deeds.{answer_next, answered, grounded, next_device}
+use Rattle.scan_rules.specs.Daemon.{Fault, Served, over}
+use Rattle.scan_rules.specs.Deeds.{answer_next, answered, next_device}
 use Rattle.scan_rules.specs.Standing.{Party, Standing, listed, make_for, put, wanted, wants}
-use Rattle.scan_rules.specs.Steps.{IsUnderWay, after, after_all}
+use Rattle.scan_rules.specs.Steps.{IsUnderWay, after}
 use Rattle.scan_rules.proofs.Promised.{sound_after_all}
 use Rattle.client_reading.specs.Requests.{IsRequest}
 use Rattle.desk_rules.specs.Reading.{Shows}
 use Rattle.desk_rules.specs.Others.{LeavesOthers}
 use Rattle.desk_rules.proofs.Moved.{put_there}
-use Rattle.world_rules.specs.Told.{Told, rules_job}
+use Rattle.world_rules.specs.Told.{Told}
 use Rattle.world_rules.specs.Speaks.{SetsAsHeld, SpeaksAs, Waits}
-use Rattle.world_rules.specs.Stands.{AreApart, IsFaithfulLease, IsFaithfulPlace, are_named, numbered, session_by}
+use Rattle.world_rules.specs.Stands.{IsFaithfulLease, IsFaithfulPlace, are_named, session_by}
 use Rattle.world_rules.proofs.Asked.{IsSession, free_elsewhere}
 use Rattle.world_rules.proofs.Folding.{AnswersOne, Desked, IsReadAs, OneRequest, Replied, answers_to, legal_answer}
 use Rattle.world_rules.proofs.Held.{held_after_all}

@@ -551,10 +551,15 @@ data_decides n t w i p h at low =
     let s = h.posts i p at in
     record {
       can = λ can. (has_image p.image (subst HasBytes (sym s.carries.image) can.0), can.1);
+      back = λ can. (subst HasBytes s.carries.image (bytes_back p.image can.0), can.1);
       either = both_or (image_or p.image) (some_or n);
       does = λ can e q d. by_parts t w i p n h at low can e q d.0 d.1;
     }
   where
+    bytes_back : (o : Option Image) → world.HasImage o (λ bytes. bytes ≢ []) → HasBytes (option_map bytes_of o)
+    bytes_back None has = absurd has
+    bytes_back (Some image) has = has
+
     by_parts : (t : Told) (w : Scene) (i : ℕ) (p : Post) (n : ℕ) → Stands t w → slice_get w.posts i ≡ Some p → i < t.count → world.HasImage p.image (λ bytes. bytes ≢ []) × (0 < n) → (e : Core) (q : Post) → e ≡ w.daemon → world.SeesPiece n p q →
         Leads (events.DataToClient n) (Sees n) t i (record { daemon = e; posts = slice_set w.posts i q })
     by_parts t w i p n h at low can e q same d =

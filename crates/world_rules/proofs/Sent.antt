@@ -1,14 +1,13 @@
 -- A client whose requests are taken, and the seat of its session behind them.
 use Rattle.std.specs.Prelude.{if◌then◌else◌, map, slice_get}
 use Rattle.std.specs.Option.{option_and_then}
-use Rattle.std.proofs.Common.{◌≡◌, ◌≢◌, ◌⊎◌, inl, inr, ◌∙◌, ℕ, zero, suc, List, [], ◌∷◌, ◌++◌, Option, Some, None, option_map, Bool, true, false, refl, sym, ap, subst, length, eqb-true, arith}
-use Rattle.std.proofs.lemmas.Bool.{ne_eqb}
+use Rattle.std.proofs.Common.{◌≡◌, ◌≢◌, ◌⊎◌, ◌∙◌, ℕ, zero, suc, List, [], ◌∷◌, Option, Some, None, Bool, true, false, refl, sym, ap, subst, length, eqb-true, arith}
 use Rattle.device_api.specs.State.{DeviceState}
 use Rattle.device_api.specs.declared.device_info.DeviceInfo.{DeviceInfo}
 use Rattle.page_picture.specs.Shows.{Frame}
 use Rattle.frame_join.specs.FrameHistory.{Past}
 use Rattle.saned_core.specs.declared.seat.Seat.{Seat}
-use Rattle.saned_core.specs.State.{is_number, on_seat, seat_of, standing}
+use Rattle.saned_core.specs.State.{is_number, on_seat, seat_of}
 use Rattle.scan_job.specs.declared.job.Job.{Job}
 use Rattle.client_rules.specs.declared.progress.Progress.TheVariants as stages
 use Rattle.client_rules.specs.Talks.{errand_of, is_running}
@@ -18,7 +17,6 @@ use Rattle.scan_rules.specs.Client.{Idle, Mind}
 use Rattle.scan_rules.specs.Standing.{Party}
 use Rattle.scan_rules.specs.Steps.{IsUnderWay}
 use Rattle.client_reading.specs.Reading.{Reads}
-use Rattle.desk_rules.proofs.Moved.{unsome}
 use Rattle.scan_world.specs.declared.post.Post.{Post}
 use Rattle.scan_world.specs.Draining.{HasFiles, Keeps}
 use Rattle.scan_world.specs.Deeds.{is_done}

@@ -1,13 +1,12 @@
 -- One request of a job's client: what the daemon answers, and what it leaves, is the rules' answer.
 use Rattle.std.specs.Prelude.{◌/◌}
-use Rattle.std.proofs.Common.{◌≡◌, ◌≢◌, ◌⊎◌, inl, inr, ◌∙◌, ℕ, List, [], ◌∷◌, Option, Some, None, option_map, Bool, true, false, refl, sym, ap, subst}
+use Rattle.std.proofs.Common.{◌≡◌, ◌≢◌, ◌⊎◌, inl, inr, ◌∙◌, ℕ, List, [], ◌∷◌, Option, Some, None, Bool, true, false, refl, sym, ap, subst}
 use Rattle.sane_fixed.specs.declared.status.Status.TheVariants as code
 use Rattle.md5_auth.specs.declared.users.Entry.{Entry}
 use Rattle.dispatch.specs.Table.{Table}
 use Rattle.wire_message.specs.declared.message.Action.TheVariants as actions
 use Rattle.wire_message.specs.declared.message.Request.{Request as Asked}
 use Rattle.wire_message.specs.declared.message.Request.TheVariants as requests
-use Rattle.wire_message.specs.declared.message.Reply.TheVariants as replies
 use Rattle.client_rules.specs.Talks.{errand_of}
 use Rattle.saned_desk.specs.declared.said.Said.{Said}
 use Rattle.saned_desk.specs.declared.said.Said.TheVariants.{One}
@@ -25,7 +24,7 @@ use Rattle.scan_rules.specs.Scanners.{Device, is_held_by, is_resting, let_go}
 use Rattle.scan_rules.specs.Daemon.{Around, Carriage, Fault, Served, answer, answer_if, put_reply, set_reply}
 use Rattle.scan_rules.specs.Deeds.{answered, around, served_by}
 use Rattle.scan_rules.specs.Standing.{Party, put}
-use Rattle.scan_rules.specs.Sessions.{Call, Comes, Follows, IsLike, Session, answer_call, call_to, one_word}
+use Rattle.scan_rules.specs.Sessions.{Comes, Follows, IsLike, Session, answer_call, call_to, one_word}
 use Rattle.scan_rules.specs.Steps.{MayFail}
 use Rattle.scan_rules.proofs.OneWord.{one_word_enough}
 use Rattle.client_reading.specs.Requests.{IsRequest}

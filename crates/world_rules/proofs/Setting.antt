@@ -1,5 +1,5 @@
 -- The value of a SET that a client sends: it is read again as what was asked for, or it fits no option of that kind and size.
-use Rattle.std.specs.Prelude.{FitsSigned, neg_ℤ, option_and_then, ◌==◌, ◌&&◌, ◌/◌, ◌*◌, ◌^◌, if◌then◌else◌, nat_le, nat_lt, position, take, codes, not, Err, ◌||◌}
+use Rattle.std.specs.Prelude.{FitsSigned, neg_ℤ, option_and_then, ◌==◌, ◌&&◌, ◌*◌, ◌^◌, if◌then◌else◌, nat_le, nat_lt, position, take, codes, not, Err, ◌||◌}
 use Rattle.std.specs.Int.{w32, cast_signed, cast_unsigned}
 use Rattle.std.specs.List.{list_any, position_or_len}
 use Rattle.std.specs.Str.{bytes_eq}

@@ -1,20 +1,15 @@
 -- What the daemon says as a session ends, and what of an answer is never too long.
-use Rattle.std.proofs.Common.{◌≡◌, ◌∙◌, ℕ, ◌≤◌, ◌/◌, List, [], ◌∷◌, ◌++◌, Bool, true, false, Option, Some, None, refl, sym, ap, subst, length, arith}
+use Rattle.std.proofs.Common.{◌≡◌, ◌∙◌, ℕ, List, [], Bool, true, false, Option, Some, None, refl, ap}
 use Rattle.md5_auth.specs.declared.users.Entry.{Entry}
-use Rattle.sane_fixed.specs.declared.status.Status.{Status as Code}
 use Rattle.wire_message.specs.declared.message.Request.{Request as Asked}
 use Rattle.wire_message.specs.declared.message.Request.TheVariants as requests
-use Rattle.wire_message.specs.declared.message.Reply.{Reply as Wire}
-use Rattle.wire_message.specs.declared.message.Reply.TheVariants as replies
-use Rattle.wire_writing.specs.WrittenReplies.{write_reply}
-use Rattle.wire_writing.proofs.Replies.{reply-writes}
 use Rattle.saned_desk.specs.declared.session.Awaited.{Awaited}
 use Rattle.saned_desk.specs.declared.said.Said.{Said}
-use Rattle.saned_desk.specs.declared.said.Said.TheVariants.{One, Two, Last}
+use Rattle.saned_desk.specs.declared.said.Said.TheVariants.{Last}
 use Rattle.saned_desk.specs.Holding.{free_word}
-use Rattle.saned_desk.specs.Rules.{Answers, AnswersAwaiting, AnswersBy, AnswersFree, AnswersGreeted, Desk, Gives, first_of, greet, greeting}
+use Rattle.saned_desk.specs.Rules.{Answers, AnswersAwaiting, AnswersBy, AnswersFree, AnswersGreeted, Desk, Gives, first_of, greeting}
 use Rattle.dispatch.specs.Table.{find_name}
-use Rattle.saned_core.specs.Feeding.{IsUnsaid, goes_on, replies_to}
+use Rattle.saned_core.specs.Feeding.{goes_on, replies_to}
 use Rattle.desk_rules.proofs.Greeted.{goes, open_ends}
 
 -- ---- nothing is said as it ends

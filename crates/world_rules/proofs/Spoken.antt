@@ -12,7 +12,7 @@ use Rattle.saned_core.specs.Turns.{StreamsFrom, StreamsIn}
 use Rattle.saned_desk.specs.Holding.{held_by}
 use Rattle.dispatch.specs.declared.table.place.Lease.{Lease}
 use Rattle.std.specs.Option.{option_and_then}
-use Rattle.scan_rules.specs.Words.{Challenge, Init, Request}
+use Rattle.scan_rules.specs.Words.{Challenge, Request}
 use Rattle.scan_rules.specs.Standing.{Party}
 use Rattle.world_rules.specs.Speaks.{Awaits, IsGreeted, Speaks, SpeaksAs}
 use Rattle.world_rules.proofs.Calling.{found_on}

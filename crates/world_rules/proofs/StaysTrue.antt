@@ -1,21 +1,18 @@
 -- What the daemon answers, or makes of a request that it has no memory for, leaves its devices true to their pages, and its places named as they were.
 use Rattle.std.specs.Prelude.{Result, Ok, Err}
 use Rattle.std.specs.List.{AllByRecursion}
-use Rattle.std.proofs.Common.{◌≡◌, ◌≢◌, ◌⊎◌, inl, inr, ◌∙◌, ℕ, zero, suc, List, [], ◌∷◌, Option, Some, None, Bool, true, false, refl, sym, ap, subst, map, slice_get}
-use Rattle.sane_fixed.specs.declared.byte_order.ByteOrder.{ByteOrder}
+use Rattle.std.proofs.Common.{◌≡◌, inl, inr, ℕ, zero, suc, List, [], ◌∷◌, Option, Some, None, Bool, true, false, refl, sym, ap, subst, map, slice_get}
 use Rattle.sane_fixed.specs.declared.info.Info.{Info}
 use Rattle.sane_fixed.specs.declared.kind.Kind.{Kind}
 use Rattle.sane_fixed.specs.declared.no_mem.NoMem.{NoMem}
 use Rattle.sane_fixed.specs.declared.status.Status.{Status as Code}
 use Rattle.sane_fixed.specs.declared.status.Status.TheVariants as code
-use Rattle.option_desc.specs.declared.descriptor.Descriptor.{Descriptor}
 use Rattle.option_desc.specs.declared.value.Value.{Value}
 use Rattle.md5_auth.specs.declared.users.Entry.{Entry}
 use Rattle.device_api.specs.Options.{descriptors_of}
-use Rattle.device_api.specs.State.{DeviceState, Held, Phase, Starts, StartsFrame, StartsIn, StartsOn, after_reset, after_set, set_answer, with_failures}
+use Rattle.device_api.specs.State.{DeviceState, Held, Phase, Starts, StartsFrame, StartsIn, StartsOn, after_reset, set_answer}
 use Rattle.device_api.specs.State.Phase.{AtRest, Between, Reading}
 use Rattle.dispatch.specs.declared.table.place.Lease.{Lease}
-use Rattle.dispatch.specs.declared.table.place.Place.{Place}
 use Rattle.dispatch.specs.declared.table.place.Slot.{Slot}
 use Rattle.dispatch.specs.declared.table.place.Slot.TheVariants.{In, Out, Gone}
 use Rattle.dispatch.specs.Table.{Table, after_give_back, find_name, held_at, leased, take_answer, take_at, take_of, with_slot}
@@ -29,10 +26,9 @@ use Rattle.saned_desk.specs.declared.said.Said.{Said}
 use Rattle.saned_desk.specs.declared.session.Awaited.{Awaited}
 use Rattle.saned_desk.specs.declared.session.Carriage.{Carriage}
 use Rattle.saned_desk.specs.declared.session.Carriage.TheVariants as word
-use Rattle.saned_desk.specs.Holding.{back, cancelled_lease, free_word, held_by, on_word, with_device}
+use Rattle.saned_desk.specs.Holding.{free_word, held_by, on_word, with_device}
 use Rattle.saned_desk.specs.Rules.{Answers, AnswersAwaiting, AnswersBy, AnswersFree, AnswersGreeted, Desk, Falters, FaltersBy, FaltersFree, FaltersGreeted, OpensAt, StartsIn as StartsHeldIn, StartsLease, StartsWord, answered, asked_at, cancel_held, close_lease, control_device, control_lease, did_set, first_of, not_awaited, set_asked, take, take_into, took}
 use Rattle.saned_desk.specs.Rules.Falters.{Under, All}
-use Rattle.desk_rules.proofs.Changes.{Held as Leases}
 use Rattle.desk_rules.proofs.Moved.{unsome}
 use Rattle.world_rules.specs.Stands.{IsFaithful, IsFaithfulLease, IsFaithfulPlace, IsFaithfulSlot, are_named}
 use Rattle.world_rules.proofs.Calling.{back_names, slot_names}

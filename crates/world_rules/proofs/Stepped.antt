@@ -1,5 +1,5 @@
 -- A request that is answered is a step of the rules, and the session goes on with the next.
-use Rattle.std.proofs.Common.{◌≡◌, ◌≢◌, ◌∙◌, ℕ, List, [], ◌∷◌, Option, Some, None, Bool, true, false, refl, sym, ap, subst, map}
+use Rattle.std.proofs.Common.{◌≡◌, ◌≢◌, ◌∙◌, ℕ, List, [], ◌∷◌, Option, true, sym, ap}
 use Rattle.md5_auth.specs.declared.users.Entry.{Entry}
 use Rattle.wire_message.specs.declared.message.Request.{Request as Asked}
 use Rattle.saned_desk.specs.declared.said.Said.{Said}
@@ -9,12 +9,11 @@ use Rattle.scan_job.specs.declared.job.Job.{Job}
 use Rattle.scan_rules.specs.Words.{Challenge, Request}
 use Rattle.scan_rules.specs.Devices.{Make}
 use Rattle.scan_rules.specs.Scanners.{Device}
-use Rattle.scan_rules.specs.Daemon.{Fault, Served}
+use Rattle.scan_rules.specs.Daemon.{Fault}
 use Rattle.scan_rules.specs.Deeds as deeds
 use Rattle.scan_rules.specs.Deeds.{answer_next, answered, next_device}
 use Rattle.scan_rules.specs.Standing.{Party, Standing, listed, make_for, wanted}
 use Rattle.scan_rules.specs.Steps.{By, IsLegal, MayFail, after, change}
-use Rattle.world_rules.specs.Stands.{are_named}
 use Rattle.world_rules.proofs.Asked.{IsSession}
 use Rattle.world_rules.proofs.Replied.{IsAnswered}
 use Rattle.world_rules.proofs.Served.{devices_by, serving}

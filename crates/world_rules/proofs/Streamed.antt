@@ -1,8 +1,7 @@
 -- What a turn of a session's data connection leaves of the daemon.
 use Rattle.std.specs.List.{AllByRecursion}
-use Rattle.std.proofs.Common.{◌≡◌, ◌∙◌, ℕ, ◌≤◌, List, [], ◌∷◌, Option, Some, None, Bool, refl, sym, ap, subst, map, eqb, arith}
+use Rattle.std.proofs.Common.{◌≡◌, ◌∙◌, ℕ, List, Option, Some, None, refl, sym, ap, subst, map, eqb, arith}
 use Rattle.device_api.specs.State.{DeviceState}
-use Rattle.dispatch.specs.declared.table.place.Place.{Place}
 use Rattle.dispatch.specs.Table.{Table}
 use Rattle.saned_desk.specs.declared.session.Carriage.{Carriage as WordCarriage}
 use Rattle.saned_desk.specs.declared.session.Carriage.TheVariants as word
@@ -24,12 +23,12 @@ use Rattle.scan_rules.specs.Sessions.{Session, one_word}
 use Rattle.scan_rules.specs.Steps.{MayCome}
 use Rattle.desk_rules.specs.Cores.{ShowsSession}
 use Rattle.desk_rules.specs.CoreCalls.{CoreTurned}
-use Rattle.desk_rules.specs.Others.{IsOwn, LeavesOthers}
+use Rattle.desk_rules.specs.Others.{LeavesOthers}
 use Rattle.desk_rules.specs.Streams.{SendsAs}
 use Rattle.desk_rules.proofs.CoreCalls.{core_turns, core_turns_off}
 use Rattle.desk_rules.proofs.Cores.{own_seat}
 use Rattle.desk_rules.proofs.Leaves.{IsKept, changed, kept, leaves_kept, put_one}
-use Rattle.desk_rules.proofs.Moved.{put_there, unsome}
+use Rattle.desk_rules.proofs.Moved.{put_there}
 use Rattle.desk_rules.proofs.Others.{own_of}
 use Rattle.scan_world.specs.declared.post.Post.{Post}
 use Rattle.scan_world.specs.Deeds as world

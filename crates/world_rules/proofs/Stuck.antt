@@ -1,9 +1,7 @@
 -- NOBODY IS STUCK: a job that runs has a next move.
-use Rattle.std.specs.Prelude.{IsNone, IsSome, ◌<◌, ◌≤◌, is_some, not}
-use Rattle.std.specs.Int.{to_be_bytes, w32}
-use Rattle.std.proofs.Common.{◌≡◌, ◌≢◌, ◌⊎◌, inl, inr, ◌∙◌, ℕ, zero, suc, ◌+◌, List, [], ◌∷◌, ◌++◌, Bool, true, false, Option, Some, None, option_map, refl, sym, ap, subst, map, length, slice_get, arith, append-nil}
+use Rattle.std.specs.Prelude.{IsSome, ◌<◌, ◌≤◌, not}
+use Rattle.std.proofs.Common.{◌≡◌, ◌≢◌, ◌⊎◌, inl, inr, ◌∙◌, ℕ, ◌+◌, List, [], ◌∷◌, ◌++◌, true, false, Option, Some, None, option_map, refl, sym, ap, subst, map, length, slice_get, arith, append-nil}
 use Rattle.std.proofs.lemmas.List.{length-append}
-use Rattle.page_picture.specs.Shows.{Frame}
 use Rattle.data_records.specs.Records.{Continues, HasEnded, IsInBody, IsRecords, all_counted, ending}
 use Rattle.data_records.specs.declared.records.Phase.{Phase}
 use Rattle.data_records.specs.declared.records.Phase.TheVariants as phases
@@ -13,17 +11,15 @@ use Rattle.wire_message.specs.declared.message.Request.{Request as Asked}
 use Rattle.net_client.specs.Sending.{requests_text}
 use Rattle.net_client.specs.Talker.{talk_of}
 use Rattle.client_rules.specs.Talks.{errand_of, is_running}
-use Rattle.client_reading.specs.Pieces.{Spell}
 use Rattle.client_reading.specs.Requests.{AreRequests, asks_of}
 use Rattle.scan_job.specs.declared.job.Job.{Job}
-use Rattle.saned_core.specs.State.{Core}
 use Rattle.scan_rules.specs.Words.{Authorize, Describe, Get, GetDevices, Init, Open, Parameters, Reply, Request, Set, Start, Status}
 use Rattle.scan_rules.specs.Client as rules
 use Rattle.scan_rules.specs.Client.{Done, Ended, Idle, Mind, Running, Stage, asked}
 use Rattle.scan_rules.specs.Daemon.{Carriage, Quiet, Streaming, Waiting}
 use Rattle.scan_rules.specs.Sound as sound
 use Rattle.scan_rules.specs.Sync as sync
-use Rattle.scan_rules.specs.Standing.{Party, make_for, wanted}
+use Rattle.scan_rules.specs.Standing.{make_for, wanted}
 use Rattle.scan_rules.specs.Steps.{IsUnderWay}
 use Rattle.scan_world.specs.declared.event.Event.{Event as AnyEvent}
 use Rattle.scan_world.specs.declared.event.Deed.{Deed}
@@ -31,7 +27,7 @@ use Rattle.scan_world.specs.declared.event.Deed.TheVariants as events
 use Rattle.scan_world.specs.declared.post.Image.{Image}
 use Rattle.scan_world.specs.declared.post.Post.{Post}
 use Rattle.scan_world.specs.Deeds as world
-use Rattle.scan_world.specs.Moves.{HasNone, IsFirst, IsNext, IsNextMove, in_order}
+use Rattle.scan_world.specs.Moves.{HasNone, IsNext, in_order}
 use Rattle.scan_world.specs.Worlds.{Scene}
 use Rattle.world_rules.specs.Told.{Told, place_in}
 use Rattle.world_rules.specs.Spelled.{Carried, Dialled, Flows, FlowsAt, SpellsAsked, SpellsTold}

@@ -124,12 +124,12 @@ leaves_core t w i p device h at same =
 
 -- ---- an event of a job, or of none
 
-set_same : {X : Type 0} (xs : List X) (i : ℕ) (x : X) → slice_get xs i ≡ Some x → slice_set xs i x ≡ xs
+pub set_same : {X : Type 0} (xs : List X) (i : ℕ) (x : X) → slice_get xs i ≡ Some x → slice_set xs i x ≡ xs
 set_same [] i x e = refl
 set_same (z ∷ xs) zero x e = let is : z ≡ x = cc in ap (λ (y : _). y ∷ xs) (sym is)
 set_same (z ∷ xs) (suc i) x e = ap (λ (ys : _). z ∷ ys) (set_same xs i x e)
 
-nobody_can : (t : Told) (w : Scene) (i : ℕ) (deed : Event) → IsNobody t w i → t.count ≤ i → Can t i deed → ⊥
+pub nobody_can : (t : Told) (w : Scene) (i : ℕ) (deed : Event) → IsNobody t w i → t.count ≤ i → Can t i deed → ⊥
 nobody_can t w i events.Connect h high can = omega (arith, high, can.0)
 nobody_can t w i (events.ToDaemon n) h high can = let clash : false ≡ true = sym h.linked ∙ can.0 in absurd (cc)
 nobody_can t w i (events.ToClient n) h high can = let clash : false ≡ true = sym h.linked ∙ can.0 in absurd (cc)
@@ -151,6 +151,7 @@ done deed Does t i v steps u can does stands =
 -- what there is to show of a job that is there: it is done, or it cannot be
 pub record Decides (deed : Event) (Does : Told → ℕ → List Step → Told → Type 0) (t : Told) (w : Scene) (i : ℕ) (p : Post) : Type 0 where
   pub can : Can t i deed → world.Can w.daemon p deed
+  pub back : world.Can w.daemon p deed → Can t i deed
   pub either : world.Can w.daemon p deed ⊎ (world.Can w.daemon p deed → ⊥)
   pub does : world.Can w.daemon p deed → (e : Core) (q : Post) → world.Does w.daemon p deed e q → Leads deed Does t i (record { daemon = e; posts = slice_set w.posts i q })
 

@@ -1,6 +1,5 @@
 -- What is told to a client that waits for it, as a reply of the wire.
-use Rattle.std.specs.Prelude.{option_map}
-use Rattle.std.proofs.Common.{◌≡◌, ◌≢◌, ◌⊎◌, inl, inr, ◌∙◌, ℕ, List, [], ◌∷◌, ◌++◌, Option, Some, None, Bool, true, false, refl, sym, ap, subst, map, slice_get, append-nil}
+use Rattle.std.proofs.Common.{◌≡◌, ◌≢◌, ◌⊎◌, inl, inr, ◌∙◌, ℕ, List, [], ◌∷◌, ◌++◌, Option, Some, None, Bool, true, refl, sym, ap, subst, map, slice_get, append-nil}
 use Rattle.sane_fixed.specs.declared.byte_order.ByteOrder.{ByteOrder}
 use Rattle.sane_fixed.specs.declared.kind.Kind.{Kind}
 use Rattle.sane_fixed.specs.declared.status.Status.{Status as Code}
@@ -8,7 +7,7 @@ use Rattle.sane_fixed.specs.declared.status.Status.TheVariants as code
 use Rattle.option_desc.specs.declared.descriptor.Descriptor.{Descriptor}
 use Rattle.option_desc.specs.declared.value.Value.{Value}
 use Rattle.device_api.specs.declared.device_info.DeviceInfo.{DeviceInfo}
-use Rattle.md5_auth.specs.ChallengeReading.{after_mark, challenge_of}
+use Rattle.md5_auth.specs.ChallengeReading.{challenge_of}
 use Rattle.wire_format.specs.Limit.{limited}
 use Rattle.wire_message.specs.declared.message.Action.TheVariants as actions
 use Rattle.wire_message.specs.declared.message.Procedure.{Procedure}
@@ -32,18 +31,18 @@ use Rattle.saned_desk.specs.Rules.{kind_of, no_info, no_params, own_version, ref
 use Rattle.saned_desk.specs.WireValues.{wire_of}
 use Rattle.saned_core.specs.Feeding as daemon
 use Rattle.scan_rules.specs.Words.{Authorize, Begun, Challenge, Challenged, Describe, Described, Gave, Get, GetDevices, Good, Got, Greeted, Init, Listed, Open, Opened, Parameters, Refused, Reply, Set, Shaped, Start, Status}
-use Rattle.scan_rules.specs.Devices.{Make, Options, Put, info_of, put_in, status_of, tells, value_of}
+use Rattle.scan_rules.specs.Devices.{Make, Options, Put, put_in, status_of, tells, value_of}
 use Rattle.client_reading.specs.Senses.{Says, gave, good, got, opens, sense_at}
 use Rattle.client_reading.specs.Senses as senses
 use Rattle.client_reading.specs.Requests.{IsRequest}
 use Rattle.desk_rules.specs.Spelling.{Manner, SpellsSaid, refused_to}
 use Rattle.desk_rules.specs.Spelling as wire
-use Rattle.world_rules.specs.Spelled.{Comes, HasFirstWord, Tells, TellsBehind}
+use Rattle.world_rules.specs.Spelled.{HasFirstWord, Tells, TellsBehind}
 use Rattle.world_rules.proofs.Fronts.{Spells}
 use Rattle.world_rules.proofs.Kinded.{IsFor}
 use Rattle.world_rules.proofs.OneReply.{HasShape}
 use Rattle.world_rules.proofs.Plain.{IsPlain}
-use Rattle.world_rules.proofs.Replied.{Demands, IsSaid}
+use Rattle.world_rules.proofs.Replied.{IsSaid}
 
 -- ---- a reply that is said is one to what is waited for
 

@@ -1,7 +1,7 @@
 -- A turn of a job's data connection.
 use Rattle.std.specs.Prelude.{is_some, option_map, IsSome}
 use Rattle.std.specs.List.{AllByRecursion}
-use Rattle.std.proofs.Common.{◌≡◌, ◌⊎◌, inl, inr, ◌∙◌, ℕ, ◌<◌, List, [], ◌∷◌, ◌++◌, Option, Some, None, Bool, true, false, refl, sym, ap, subst, map, slice_get, slice_set}
+use Rattle.std.proofs.Common.{◌≡◌, ◌⊎◌, inl, inr, ◌∙◌, ℕ, ◌<◌, List, [], ◌∷◌, ◌++◌, Option, Some, None, Bool, true, false, refl, sym, ap, subst, slice_get, slice_set}
 use Rattle.page_picture.specs.Page.{IsSheet}
 use Rattle.sane_fixed.specs.declared.status.Status.TheVariants as codes
 use Rattle.sane_fixed.specs.Status.{status_code}
@@ -11,7 +11,6 @@ use Rattle.frame_join.specs.FrameHistory.{Past}
 use Rattle.saned_desk.specs.declared.session.Carriage.{Carriage as WordCarriage}
 use Rattle.saned_desk.specs.declared.session.Carriage.TheVariants as word
 use Rattle.saned_core.specs.declared.seat.DataStep.{DataStep}
-use Rattle.saned_core.specs.declared.seat.DataStep.TheVariants as did
 use Rattle.saned_core.specs.declared.seat.FrameState.{FrameState}
 use Rattle.saned_core.specs.declared.seat.FrameState.TheVariants as frames
 use Rattle.saned_core.specs.declared.seat.SessionId.{SessionId}
@@ -28,7 +27,7 @@ use Rattle.scan_rules.specs.Deeds as deeds
 use Rattle.scan_rules.specs.Deeds.{device_after, party_after}
 use Rattle.scan_rules.specs.Devices.{Make}
 use Rattle.scan_rules.specs.Scanners.{Begin, Device}
-use Rattle.scan_rules.specs.Standing.{Party, listed, make_for, put, wanted, wants}
+use Rattle.scan_rules.specs.Standing.{Party, listed, make_for, put, wanted}
 use Rattle.scan_rules.specs.Steps.{By, MayCome, Step}
 use Rattle.scan_rules.proofs.Promised.{sound_after_all}
 use Rattle.desk_rules.specs.Cores.{ShowsSession}
@@ -51,11 +50,11 @@ use Rattle.world_rules.proofs.CutOff.{cut_stands, put_again, set_again, stands_r
 use Rattle.world_rules.proofs.Lists.{set_there}
 use Rattle.world_rules.proofs.Records.{carries_end, carries_more}
 use Rattle.world_rules.proofs.Sees.{Leaves}
-use Rattle.world_rules.proofs.Streamed.{Streamed, devices_after, streamed}
+use Rattle.world_rules.proofs.Streamed.{Streamed, streamed}
 use Rattle.world_rules.specs.Speaks.{Speaks}
 use Rattle.world_rules.proofs.Held.{held_after_all}
 use Rattle.world_rules.proofs.Spoken.{speaks_still}
-use Rattle.world_rules.proofs.Taking.{DecidesAt, done, one_change, one_party, put_self, sits_there}
+use Rattle.world_rules.proofs.Taking.{DecidesAt, done, one_change, one_party, sits_there}
 use Rattle.world_rules.proofs.Turned.{IsShortRecord, Turn, Failed, Gives, Named, Off, Short, Whole, carriage_after, deed_of, device_is, ending_after, flight_after, is_end, job_after, met_after, party_is, record_of, text_of}
 use Rattle.world_rules.proofs.Unimaged.{both_or, by_imaging, bytes_some, none_some, some_bytes, some_or}
 use Rattle.world_rules.proofs.Pending.{pends_same}
@@ -381,10 +380,18 @@ pub turn_decides : DecidesAt events.DataTurn Turns
 turn_decides t w i p h at low =
     record {
       can = λ can. may_turn t w i p h at can;
+      back = λ can. (subst IsSome (h.posts i p at).carries.image (some_bytes p.image can.0), started_back p.link refl can.1);
       either = both_or (some_or p.image) (flows_or w.daemon p.link);
       does = λ can e q d. by_link t w i p p.link h at low refl can.0 can.1 e q d;
     }
   where
+    started_back : (link : Option SessionId) → p.link ≡ link → world.number_in link (λ k. world.Flows (world.frame_at w.daemon k)) → Started (t.rules.party i).base.carriage
+    started_back None link flows = absurd flows
+    started_back (Some id) link flows =
+        let me = t.rules.party i in
+        let served = subst (λ (x : Option SessionId). IsServed i t.rules.make w.daemon x me.served t.rules.device (session_by i t.rules.device me)) link (h.posts i p at).served in
+        (started_by i t.rules.make w.daemon id me.served t.rules.device me refl served flows).started
+
     by_link : (t : Told) (w : Scene) (i : ℕ) (p : Post) (link : Option SessionId) → Stands t w → slice_get w.posts i ≡ Some p → i < t.count → p.link ≡ link → IsSome p.image → world.number_in p.link (λ k. world.Flows (world.frame_at w.daemon k)) →
         (e : Core) (q : Post) → world.number_in p.link (λ k. world.TakesTurn k w.daemon p e q) → Leads events.DataTurn Turns t i (record { daemon = e; posts = slice_set w.posts i q })
     by_link t w i p None h at low link some flows e q d = absurd (subst (λ (x : Option SessionId). world.number_in x (λ k. world.Flows (world.frame_at w.daemon k))) link flows)

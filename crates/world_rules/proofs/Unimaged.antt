@@ -235,6 +235,7 @@ image_decides t w i p h at low =
     let s = h.posts i p at in
     record {
       can = λ can. (bytes_some p.image (subst IsSome (sym s.carries.image) can.0), some_link p.link (sym s.means.linked ∙ can.1));
+      back = λ can. (subst IsSome s.carries.image (some_bytes p.image can.0), s.means.linked ∙ linked_by p.link can.1);
       either = both_or (some_or p.image) (some_or p.link);
       does = λ can e q d. by_link t w i p p.link h at low refl (subst IsSome s.carries.image (some_bytes p.image can.0)) e q d;
     }
@@ -242,6 +243,10 @@ image_decides t w i p h at low =
     some_link : (link : Option SessionId) → is_some link ≡ true → IsSome link
     some_link None e = e
     some_link (Some id) e = e
+
+    linked_by : (link : Option SessionId) → IsSome link → is_some link ≡ true
+    linked_by None e = e
+    linked_by (Some id) e = e
 
     by_link : (t : Told) (w : Scene) (i : ℕ) (p : Post) (link : Option SessionId) → Stands t w → slice_get w.posts i ≡ Some p → i < t.count → p.link ≡ link → IsSome (t.wires i).image → (e : Core) (q : Post) → world.number_in p.link (λ k. (e ≡ world.image_lost k w.daemon) × (q ≡ unimaged (spent p))) →
         Leads events.LoseImage LosesImage t i (record { daemon = e; posts = slice_set w.posts i q })

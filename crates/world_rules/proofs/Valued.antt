@@ -1,8 +1,8 @@
 -- The value that is given to a setting, or told of an option, comes back from the wire as it is.
-use Rattle.std.specs.Prelude.{FitsSigned, bytes_eq, if◌then◌else◌, ◌==◌, ◌&&◌, ◌||◌, not, is_none, option_and_then, option_map, codes}
+use Rattle.std.specs.Prelude.{FitsSigned, bytes_eq, if◌then◌else◌, ◌==◌, ◌&&◌, not, is_none, option_and_then, option_map, codes}
 use Rattle.std.specs.Int.{w32}
 use Rattle.std.specs.List.{AllByRecursion, list_any}
-use Rattle.std.proofs.Common.{◌≡◌, ◌≢◌, ◌⊎◌, inl, inr, ◌∙◌, ℕ, zero, suc, ℤ, ◌+◌, List, [], ◌∷◌, Option, Some, None, Bool, true, false, refl, sym, ap, subst, map, slice_get, arith}
+use Rattle.std.proofs.Common.{◌≡◌, ◌∙◌, ℕ, suc, ℤ, ◌+◌, List, [], ◌∷◌, Option, Some, None, Bool, true, false, refl, sym, ap, subst, slice_get, arith}
 use Rattle.std.proofs.lemmas.Option.{slice_get-map}
 use Rattle.sane_fixed.specs.declared.kind.Kind.{Kind}
 use Rattle.sane_fixed.specs.declared.kind.Kind.TheVariants as kinds
@@ -11,14 +11,13 @@ use Rattle.option_desc.specs.declared.value.Value.{Value}
 use Rattle.option_desc.specs.declared.value.Value.TheVariants.{Flag, Int, Fixed, Words, Text}
 use Rattle.option_desc.specs.Put.{NearestValue}
 use Rattle.option_desc.specs.Reads.{pieces_of, read, read_as, word_in, words_in}
-use Rattle.page_picture.specs.declared.scene.DeviceKind.{DeviceKind}
 use Rattle.scan_frames.specs.declared.setup.Setup.{Setup}
 use Rattle.device_api.specs.Allowed.{IsAllowed}
 use Rattle.device_api.specs.declared.scan_option.ScanOption.{ScanOption}
 use Rattle.device_api.specs.declared.scan_option.ScanOption.TheVariants.{NumOptions, Mode, Depth, Resolution, TlX, TlY, BrX, BrY, GammaTable, RedGammaTable, GreenGammaTable, BlueGammaTable, ThreePassOrder, PplLoss, ReadLimitSize, ReadReturnValue, HandScanner}
-use Rattle.device_api.specs.Options.{descriptor_of, descriptors_of, has_cap, is_active, option_at, option_caps, option_constraint, option_kind, option_size, options_of}
+use Rattle.device_api.specs.Options.{descriptor_of, descriptors_of, has_cap, is_active, option_at, option_caps, option_kind, option_size, options_of}
 use Rattle.device_api.specs.Values.{got, option_got, option_value, passing}
-use Rattle.scan_job.specs.Shown.{has_one_value, tells_value}
+use Rattle.scan_job.specs.Shown.{has_one_value}
 use Rattle.client_rules.specs.Talking.{of_kind, wants_value}
 use Rattle.client_rules.specs.WireValues.{given_like, value_in, wire_of}
 use Rattle.scan_rules.specs.Devices as rules
@@ -27,7 +26,7 @@ use Rattle.scan_rules.proofs.Laws.{is_nearest}
 use Rattle.scan_laws.specs.Nearest.{GivesNearest}
 use Rattle.client_reading.specs.Reading.{descs, wanted_from}
 use Rattle.desk_rules.proofs.Moved.{unsome}
-use Rattle.world_rules.proofs.Setting.{IsOption, at_number, is_option, passing_is, word_in_fits}
+use Rattle.world_rules.proofs.Setting.{at_number, is_option, passing_is, word_in_fits}
 use Rattle.world_rules.proofs.Values.{IsSent, given_again, told_again}
 
 -- ---- what a text reads as can be sent

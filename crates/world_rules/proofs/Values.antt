@@ -1,21 +1,19 @@
 -- The values that a device gives and tells come back from the wire as they are.
-use Rattle.std.specs.Prelude.{FitsSigned, ◌==◌, ◌&&◌, ◌^◌, ◌*◌, ◌+ℤ◌, ◌*ℤ◌, ◌≤ℤ◌, if◌then◌else◌}
+use Rattle.std.specs.Prelude.{FitsSigned, ◌==◌, ◌^◌, ◌*◌, ◌+ℤ◌, ◌*ℤ◌, ◌≤ℤ◌, if◌then◌else◌}
 use Rattle.std.specs.Int.{w32, cast_signed, cast_unsigned}
 use Rattle.std.specs.List.{AllByRecursion, list_any}
-use Rattle.std.proofs.Common.{◌≡◌, ◌≢◌, ◌⊎◌, inl, inr, ◌∙◌, ℕ, zero, suc, ℤ, pos, negsuc, ◌<◌, ◌≤◌, ◌+◌, List, [], ◌∷◌, ◌++◌, Option, Some, None, option_map, Bool, true, false, cond, eqb, refl, sym, ap, subst, map, length, slice_get, arith}
+use Rattle.std.proofs.Common.{◌≡◌, ◌⊎◌, inl, inr, ◌∙◌, ℕ, zero, suc, ℤ, pos, negsuc, ◌<◌, ◌≤◌, List, [], ◌∷◌, ◌++◌, Option, Some, None, option_map, Bool, true, false, refl, sym, ap, subst, map, length, slice_get, arith}
 use Rattle.std.proofs.lemmas.Bool.{eq-eqb}
 use Rattle.std.proofs.lemmas.Int.{ints}
 use Rattle.std.proofs.lemmas.List.{length-map}
 use Rattle.sane_fixed.specs.declared.fixed.Fixed.{Fixed as Length}
-use Rattle.sane_fixed.specs.declared.kind.Kind.{Kind}
 use Rattle.sane_fixed.specs.declared.kind.Kind.TheVariants as kinds
 use Rattle.sane_fixed.specs.declared.status.Status.{Status as Code}
 use Rattle.sane_fixed.specs.declared.status.Status.TheVariants as statuses
-use Rattle.constraint.specs.Admitted.{AdmittedByRange, Bounds}
-use Rattle.constraint.specs.Nearest.{NearestEntry, NearestInList, NearestInRange, PlaceByPlace}
+use Rattle.constraint.specs.Admitted.{AdmittedByRange}
+use Rattle.constraint.specs.Nearest.{PlaceByPlace}
 use Rattle.option_desc.specs.declared.descriptor.Constraint.{Constraint}
 use Rattle.option_desc.specs.declared.descriptor.Constraint.TheVariants.{Free, Span, Strings, Words as WordsOf}
-use Rattle.option_desc.specs.declared.descriptor.Descriptor.{Descriptor}
 use Rattle.option_desc.specs.declared.value.Value.{Value}
 use Rattle.option_desc.specs.declared.value.Value.TheVariants.{Flag, Int, Fixed, Words, Text}
 use Rattle.option_desc.specs.Put.{NearestText, NearestValue, NearestWord}
@@ -25,14 +23,12 @@ use Rattle.page_picture.specs.declared.scene.Mode.TheVariants.{Gray, Color}
 use Rattle.scan_frames.specs.declared.setup.PassOrder.TheVariants.{Rgb, Rbg, Gbr, Grb, Brg, Bgr}
 use Rattle.scan_frames.specs.declared.setup.Setup.{Setup}
 use Rattle.device_api.specs.Allowed.{IsAllowed, IsBetween}
-use Rattle.device_api.specs.declared.choice.Choice.{Choice}
 use Rattle.device_api.specs.declared.choice.Choice.TheVariants as choice
 use Rattle.device_api.specs.declared.scan_option.ScanOption.{ScanOption}
 use Rattle.device_api.specs.declared.scan_option.ScanOption.TheVariants.{NumOptions, Mode, Depth, Resolution, TlX, TlY, BrX, BrY, GammaTable, RedGammaTable, GreenGammaTable, BlueGammaTable, ThreePassOrder, PplLoss, ReadLimitSize, ReadReturnValue, HandScanner}
-use Rattle.device_api.specs.Options.{choice_text, choices_of, depths_of, descriptor_of, descriptors_of, lengths, option_constraint, option_kind, option_size, options_of, resolutions_of, tones}
+use Rattle.device_api.specs.Options.{choice_text, choices_of, depths_of, lengths, option_constraint, option_kind, option_size, options_of, resolutions_of, tones}
 use Rattle.device_api.specs.Values.{option_value}
-use Rattle.wire_message.specs.declared.message.WireValue.{WireValue}
-use Rattle.client_rules.specs.WireValues.{given_like, text_in, value_in, wire_of}
+use Rattle.client_rules.specs.WireValues.{given_like, value_in, wire_of}
 use Rattle.scan_job.specs.Shown.{has_one_value}
 use Rattle.desk_rules.proofs.Moved.{unsome}
 use Rattle.world_rules.proofs.Setting.{again, text_again}

@@ -1,6 +1,5 @@
 -- What a client waits for, with its requests on the way.
-use Rattle.std.specs.Prelude.{if◌then◌else◌}
-use Rattle.std.proofs.Common.{◌≡◌, ◌⊎◌, inl, inr, ◌∙◌, ℕ, List, [], ◌∷◌, ◌++◌, Bool, true, false, Option, Some, None, refl, sym, ap, subst}
+use Rattle.std.proofs.Common.{◌≡◌, ◌⊎◌, inl, inr, ◌∙◌, ℕ, List, [], ◌∷◌, ◌++◌, Bool, true, false, Some, None, refl, sym, ap, subst}
 use Rattle.wire_message.specs.declared.message.Procedure.{Procedure}
 use Rattle.frame_join.specs.FrameHistory.{Past}
 use Rattle.client_rules.specs.declared.progress.Notes.{Notes}

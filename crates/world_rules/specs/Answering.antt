@@ -7,7 +7,7 @@ use Rattle.scan_rules.specs.Deeds as deeds
 use Rattle.scan_rules.specs.Deliveries.{Chance, answers}
 use Rattle.scan_rules.specs.Steps.{By, Step}
 use Rattle.scan_world.specs.Deeds.{left, moved}
-use Rattle.world_rules.specs.Told.{Told, Wires, party, wires}
+use Rattle.world_rules.specs.Told.{Told, party, wires}
 use Rattle.world_rules.specs.Spelled.{SpellsAsked}
 use Rattle.world_rules.specs.Happens.{Takes}
 
@@ -35,7 +35,7 @@ pub data AnswersSome (n : ℕ) (t : Told) (i : ℕ) (steps : List Step) (u : Tol
   GoesOn : (asked : List Request) (rest told : List ℕ) → Completes t i n asked rest → WantsMore message_limit request_format rest → AnswersEach i asked steps →
       Takes t i steps (record (wires t i) { up = left n (wires t i).up; asking = rest; down = (wires t i).down ++ told }) u → (party u i).served ≡ true → AnswersSome n t i steps u
   IsOver : (asked : List Request) (rest told : List ℕ) → Completes t i n asked rest → AnswersEach i asked steps →
-      Takes t i steps (record (wires t i) { up = left n (wires t i).up; asking = []; down = (wires t i).down ++ told }) u → (party u i).served ≡ false → AnswersSome n t i steps u
+      Takes t i steps (record (wires t i) { up = left n (wires t i).up; asking = []; down = (wires t i).down ++ told }) u → (party t i).served ≡ true → (party u i).served ≡ false → AnswersSome n t i steps u
   BreaksOff : (memory : Bool) (asked : List Request) (rest told : List ℕ) (before : List Step) → Completes t i n asked rest → AnswersEach i asked before → steps ≡ before ++ By i (deeds.Breaks memory) ∷ [] →
       Takes t i steps (record (wires t i) { up = left n (wires t i).up; asking = []; down = kept memory ((wires t i).down ++ told) }) u → AnswersSome n t i steps u
   WasOver : (party t i).served ≡ false → steps ≡ [] → Takes t i [] (record (wires t i) { up = left n (wires t i).up }) u → AnswersSome n t i steps u

@@ -17,6 +17,7 @@ use Rattle.scan_world.specs.declared.post.Post.{Post}
 use Rattle.scan_world.specs.Worlds.{AreNew, IsFit, Scene}
 use Rattle.world_rules.specs.Told.{Told, Wires, rules_job}
 use Rattle.world_rules.specs.Stands.{Stands, numbered}
+use Rattle.world_rules.specs.Costs.{Pays}
 
 -- a daemon of these devices, with whatever users; no session was opened yet
 pub record IsNewDaemon (devices : List DeviceState) (core : Core) : Type 0 where
@@ -61,3 +62,7 @@ nothing_told jobs other devices users posts =
 abbrev pub NewWorldsStand : Type 0
 NewWorldsStand =
     (jobs : List Job) (other : Job) (devices : List DeviceState) (w : Scene) → AreNew jobs w.posts → IsNewDaemon devices w.daemon → HaveOwnNames devices → All IsSteady devices → All IsFit jobs → Stands (nothing_told jobs other devices w.daemon.users w.posts) w
+
+-- its jobs have moves enough for all that is to come
+abbrev pub NewWorldsPay : Type 0
+NewWorldsPay = (jobs : List Job) (other : Job) (devices : List DeviceState) (w : Scene) → AreNew jobs w.posts → All IsFit jobs → Pays (nothing_told jobs other devices w.daemon.users w.posts) w

@@ -17,10 +17,12 @@ use Rattle.scan_world.specs.declared.event.Event.TheVariants.{Connect, ToDaemon,
 use Rattle.scan_world.specs.declared.event.Deed.TheVariants as deeds
 use Rattle.client_rules.specs.Talks.{is_running}
 use Rattle.scan_world.specs.declared.post.Post.{Post}
-use Rattle.scan_world.specs.Moves.{IsNextMove}
+use Rattle.scan_world.specs.Moves.{IsNextMove, left_of}
+use Rattle.scan_world.specs.Rounds.{RestsAt}
 use Rattle.scan_world.specs.Worlds.{AreNew, IsFit, Runs, Scene}
 use Rattle.world_rules.specs.Told.{Told}
 use Rattle.world_rules.specs.Stands.{Stands}
+use Rattle.world_rules.specs.Costs.{Pays}
 use Rattle.world_rules.specs.Happens.{Can, CanLoad, CanUnplug, Connects, Dials, GivesUp, Happens, LaysIn, LosesControl, LosesImage, TakesOut, Turns}
 use Rattle.world_rules.specs.Answering.{AnswersSome}
 use Rattle.world_rules.specs.Delivered.{Hears}
@@ -58,7 +60,7 @@ AreTrueLoads source (e ∷ es) = IsTrueLoad source e × AreTrueLoads source es
 
 -- Whatever a world stands for, what events make of it stands for what they do to that. Their steps are legal, and so are their marks
 -- at each device: two clients never hold one, a start takes the page that is next, and no page is laid in within a scan.
-pub record StoodFor (source : Source → SourceState) (events : List Event) (t : Told) (v : Scene) : Type 0 where
+pub record StoodFor (source : Source → SourceState) (events : List Event) (t : Told) (w v : Scene) : Type 0 where
   pub then_told : Told
   pub steps : List Step
   pub comes : ComesAll source events t steps then_told
@@ -66,9 +68,11 @@ pub record StoodFor (source : Source → SourceState) (events : List Event) (t :
   pub rules_are : then_told.rules ≡ after_all t.rules steps
   pub marks : (d : ℕ) → Goes (slot_of (t.rules.make d) (t.rules.device d)) (all_marks d t.rules steps) (slot_of (t.rules.make d) ((after_all t.rules steps).device d))
   pub stands : Stands then_told v
+  -- moves that sufficed suffice
+  pub pays : Pays t w → Pays then_told v
 
 abbrev pub EventsFollow : Type 0
-EventsFollow = (source : Source → SourceState) (events : List Event) (t : Told) (w v : Scene) → Stands t w → AreTrueLoads source events → Runs source events w v → StoodFor source events t v
+EventsFollow = (source : Source → SourceState) (events : List Event) (t : Told) (w v : Scene) → Stands t w → AreTrueLoads source events → Runs source events w v → StoodFor source events t w v
 
 -- ---- the headline
 
@@ -79,15 +83,18 @@ pub record Promises (u : Told) (v : Scene) : Type 0 where
   pub scans : (i : ℕ) (post : Post) (reports : Reports) (file : List ℕ) → slice_get v.posts i ≡ Some post → (u.jobs i).task ≡ tasks.Scan → post.client.outcome ≡ Done reports → post.file ≡ Some file → HasScanned u i file
   pub batches : (i count : ℕ) (post : Post) (reports : Reports) → slice_get v.posts i ≡ Some post → (u.jobs i).task ≡ tasks.Batch count → post.client.outcome ≡ Done reports → IsCounted u i count post
   pub moves : (i : ℕ) (post : Post) (event : Option Event) → slice_get v.posts i ≡ Some post → IsNextMove v.daemon i post event → (is_running post.client.outcome ≡ true → IsSome event) × (is_running post.client.outcome ≡ false → event ≡ None)
+  -- none runs out of moves: one that has none left is over, and one that rests behind rounds of next moves is
+  pub left : (i : ℕ) (post : Post) → slice_get v.posts i ≡ Some post → left_of post ≡ 0 → is_running post.client.outcome ≡ false
+  pub rests : (i : ℕ) (post : Post) → slice_get v.posts i ≡ Some post → RestsAt v i → is_running post.client.outcome ≡ false
   pub pages : (i k : ℕ) (post : Post) (file : List ℕ) → slice_get v.posts i ≡ Some post → k < post.finished → slice_get post.pages k ≡ Some (Some file) → HasScannedPage u i k file
 
 -- From a new world on it is so behind any events, in whatever order they come and in whatever pieces bytes are delivered: what they
 -- did to nothing told is such that all is kept.
-pub record Kept (source : Source → SourceState) (events : List Event) (t : Told) (v : Scene) : Type 0 where
-  pub stood : StoodFor source events t v
+pub record Kept (source : Source → SourceState) (events : List Event) (t : Told) (w v : Scene) : Type 0 where
+  pub stood : StoodFor source events t w v
   pub promises : Promises stood.then_told v
 
 abbrev pub AllIsKept : Type 0
 AllIsKept =
     (source : Source → SourceState) (events : List Event) (jobs : List Job) (other : Job) (devices : List DeviceState) (w v : Scene) → AreNew jobs w.posts → IsNewDaemon devices w.daemon → HaveOwnNames devices → All IsSteady devices → All IsFit jobs → AreTrueLoads source events →
-    Runs source events w v → Kept source events (nothing_told jobs other devices w.daemon.users w.posts) v
+    Runs source events w v → Kept source events (nothing_told jobs other devices w.daemon.users w.posts) w v

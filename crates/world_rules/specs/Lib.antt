@@ -3,6 +3,7 @@ pub mod Spelled
 pub mod Speaks
 pub mod Pending
 pub mod Stands
+pub mod Costs
 pub mod Happens
 pub mod Answering
 pub mod Delivered

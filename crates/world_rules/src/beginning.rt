@@ -1,10 +1,11 @@
 //! A new world.
 
-ghost use Rattle.world_rules.specs.Beginning.{NewWorldsStand};
+ghost use Rattle.world_rules.specs.Beginning.{NewWorldsPay, NewWorldsStand};
 
 /// The clients of some jobs that clients take, beside a new daemon, of devices that are within their limits and true to their pages:
-/// that stands for that nothing has happened.
+/// that stands for that nothing has happened, and each job has moves enough for all that is to come.
 #[tactic(none)]
 pub fn a_new_world_stands()
-    ensures { NewWorldsStand }
+    ensures stands { NewWorldsStand }
+    ensures pays { NewWorldsPay }
 {}
