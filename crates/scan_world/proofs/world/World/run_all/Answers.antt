@@ -1,10 +1,11 @@
+use Rattle.std.proofs.Common.{rules}
 use Rattle.page_picture.specs.Shown.{shown}
 use Rattle.scan_world.specs.Worlds.{seen}
 use Rattle.scan_world.proofs.Falling.{less_by, out_by, rounds_begun, rounds_by}
 use Rattle.scan_world.proofs.world.World.run_all.Goals as goal
 
 pub loop-goes_on-init : goal.loop-goes_on-init
-loop-goes_on-init g c = rounds_begun shown (seen g.D.Device.state c.args.self.now)
+loop-goes_on-init g c = search (rules, rounds_begun shown (seen g.D.Device.state c.args.self.now))
 
 pub loop-goes_on-smaller : goal.loop-goes_on-smaller
 loop-goes_on-smaller g c =
