@@ -1,4 +1,4 @@
-use Rattle.std.proofs.Common.{◌∙◌, sym, ap, option_map}
+use Rattle.std.proofs.Common.{◌∙◌, sym, ap, option_map, rules}
 use Rattle.dispatch.specs.Table.{Table, table, load_answer}
 use Rattle.saned_core.specs.State.{Core, core, seen_seat}
 use Rattle.saned_core.specs.Loading.{holds, seat_load}
@@ -21,4 +21,4 @@ returns-in-None-clause-after g c =
     let d : Core = core f (record { seats = c.self.inside.hall.seats; registry = c.self.inside.hall.registry; users = c.self.inside.users; stream = c.self.inside.challenger; opened = c.self.inside.opened }) in
     rw (← c.self.view_is)
     (rw (none_any (option_map (seen_seat f)) (holds c.args.name.now) c.self.inside.hall.seats c.in-None.ensures.none)
-    (ap (λ (r : Table). record d { registry = r }) c.load.ensures.after))
+    (ap (λ (r : Table). record d { registry = r }) (search rules)))
