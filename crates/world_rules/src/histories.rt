@@ -11,8 +11,8 @@ pub fn a_list_of_events_stands()
 
 /// THE HEADLINE. From a new world on, whatever happens, in whatever order the events of all jobs come and in whatever pieces bytes
 /// are delivered: a scan that is done has a file that denotes exactly the picture that its settings mean on the page of its first
-/// start; each finished page of a batch likewise; settings were reported as the definitions have them; and a job that ends otherwise
-/// has its cause.
+/// start; each finished page of a batch likewise; settings were reported as the definitions have them; a job that ends otherwise has
+/// its cause; and no job runs out of moves before it is over.
 #[tactic(none)]
 pub fn all_is_kept()
     ensures { AllIsKept }
