@@ -7,6 +7,14 @@
 static long wanted = -1;
 static long seen = 0;
 
+/* Whether the file of that path is one of the two programs. */
+static int is_program(const char *path)
+{
+    const char *name = strrchr(path, '/');
+    name = name ? name + 1 : path;
+    return strstr(name, "scanimage") || !strcmp(name, "saned");
+}
+
 static int is_refused(void *caller)
 {
     Dl_info from;
@@ -14,7 +22,7 @@ static int is_refused(void *caller)
         const char *told = getenv("FAIL_ALLOC");
         wanted = told ? atol(told) : 0;
     }
-    if (!dladdr(caller, &from) || !from.dli_fname || (!strstr(from.dli_fname, "scanimage") && !strstr(from.dli_fname, "out/saned")))
+    if (!dladdr(caller, &from) || !from.dli_fname || !is_program(from.dli_fname))
         return 0;
     return ++seen == wanted;
 }
