@@ -8,3 +8,4 @@ pub mod Saying
 pub mod Seated
 pub mod Firsts
 pub mod Limits
+pub mod EightSeats

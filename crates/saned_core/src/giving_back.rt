@@ -51,20 +51,18 @@ fn put_back_seat<D: Drop>(registry: &mut Registry<D>, seat: Option<Seat<D>>)
     }
 }
 
-/// Puts back what four sessions hold.
-fn put_back_four<D: Drop>(registry: &mut Registry<D>, seats: [Option<Seat<D>>; 4])
+/// Puts back what all sessions hold.
+#[tactic(auto, using(crate::proofs::EightSeats::eight_in))]
+pub fn put_back_seats<D: Drop>(registry: &mut Registry<D>, seats: [Option<Seat<D>>; 8])
     ensures { registry.new ≡ seats_in_again registry.old seats }
 {
-    let [a, b, c, d] = seats;
+    let [a, b, c, d, e, f, g, h] = seats;
     put_back_seat(registry, a);
     put_back_seat(registry, b);
     put_back_seat(registry, c);
     put_back_seat(registry, d);
-}
-
-/// Puts back what all sessions hold: the first four, and then the others.
-pub fn put_back_seats<D: Drop>(registry: &mut Registry<D>, seats: [Option<Seat<D>>; 8]) {
-    let [a, b, c, d, e, f, g, h] = seats;
-    put_back_four(registry, [a, b, c, d]);
-    put_back_four(registry, [e, f, g, h]);
+    put_back_seat(registry, e);
+    put_back_seat(registry, f);
+    put_back_seat(registry, g);
+    put_back_seat(registry, h);
 }
