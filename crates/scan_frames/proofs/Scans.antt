@@ -177,6 +177,42 @@ next_frame s t setup f g n some is more after further within white sees has behi
       left = gf;
     }
 
+-- a line that shows the same row of the page is the same
+line_again : (setup : Setup) (page : Sheet) (pass y z : ℕ) → row_of setup page y ≡ row_of setup page z → line_bytes setup page pass y ≡ line_bytes setup page pass z
+unfolding sample_of
+line_again setup page pass y z same =
+    let format = format_at setup pass in
+    let scene = setup.scene in
+    ap (λ (r : ℕ). line_of (packing_of scene.depth) setup.order (channels_within format) (width_of setup) (λ x k. in_channel scene.mode scene.depth scene.channel_gamma (channel_in format k) (tone scene.depth scene.gamma (brightness scene.mode (dot_at page (column_seen scene page.dpi x) r) (channel_in format k)))) (bytes_per_line setup pass)) same
+
+pub frame_again : (s : SourceState) (setup : Setup) (f : FrameState) → 1 ≤ setup.scene.resolution → IsFrame s setup f → f.made < f.height → 0 < f.made → row_of setup s.page (f.made - 1) ≡ row_of setup s.page f.made → MakesLine s setup f s (record f { made = f.made + 1; left = length f.line })
+frame_again s setup f some is more begun same =
+    let grows = rows_grow setup s.page f.made some in
+    let last : f.made ≡ f.made + 1 - 1 = omega arith in
+    record {
+      source = record { further = omega arith; after = refl };
+      frame = record {
+        picture = is.picture;
+        columns = is.columns;
+        tables = is.tables;
+        height = is.height;
+        row = is.row;
+        taken = is.taken;
+        within = is.within;
+        behind = (let behind : f.taken ≤ row_of setup s.page f.made + 1 = is.behind in omega arith);
+        known = λ steady on first. is.known steady (omega arith) first;
+        line = is.line;
+        zeros = is.zeros;
+        made = omega arith;
+        left = omega arith;
+        bytes = λ steady first. is.bytes steady begun ∙ (line_again setup s.page f.pass (f.made - 1) f.made same ∙ ap (line_bytes setup s.page f.pass) last);
+      };
+      pass_is = refl;
+      line = refl;
+      made = refl;
+      left = refl;
+    }
+
 -- ---- what is given
 
 -- a part of one of many lists of one size

@@ -1,6 +1,6 @@
 //! The buffers of a frame, and how lines are made and given.
 
-ghost use Rattle.std.specs.Prelude.{◌≡◌, ◌==◌, ◌≤◌, ◌<◌, length, OnOk, OnErr, IfOk};
+ghost use Rattle.std.specs.Prelude.{◌≡◌, ◌==◌, ◌≤◌, ◌<◌, ◌-◌, length, OnOk, OnErr, IfOk};
 ghost use Rattle.scan_frames.specs.Rows.{IsWhiteBehind, StopsFailing};
 ghost use Rattle.scan_frames.specs.Samples.{IsZeroFrom};
 ghost use Rattle.scan_frames.specs.Frames.{IsSetup};
@@ -91,8 +91,8 @@ fn row_of<S: PageSource>(source: &S, setup: &Setup, y: u32) -> u64
     dots * u64::from(source.dpi()) / u64::from(setup.scene.resolution)
 }
 
-/// Makes the next line.
-fn next_line<S: PageSource>(
+/// Makes the next line of the row that it shows.
+fn line_of_row<S: PageSource>(
     buffers: &mut Buffers,
     source: &mut S,
     setup: &Setup,
@@ -117,6 +117,40 @@ fn next_line<S: PageSource>(
     buffers.made += 1;
     buffers.left = buffers.line.len();
     Ok(())
+}
+
+/// Takes the last line for the next one, which shows the same row.
+fn line_again<S: PageSource>(buffers: &mut Buffers, source: &S, setup: &Setup)
+    requires setup { IsSetup setup.now }
+    requires frame { IsFrame (S.source source.now) setup.now (state_of buffers.old) }
+    requires more { buffers.old.made < buffers.old.height }
+    requires begun { 0 < buffers.old.made }
+    requires same { row_of setup.now (S.source source.now).page (buffers.old.made - 1) ≡ row_of setup.now (S.source source.now).page buffers.old.made }
+    ensures { MakesLine (S.source source.now) setup.now (state_of buffers.old) (S.source source.now) (state_of buffers.new) }
+{
+    buffers.made += 1;
+    buffers.left = buffers.line.len();
+}
+
+/// Makes the next line. Where the page has fewer dots per inch than the picture, a row shows in several lines.
+fn next_line<S: PageSource>(
+    buffers: &mut Buffers,
+    source: &mut S,
+    setup: &Setup,
+) -> Result<(), SourceFault>
+    requires setup { IsSetup setup.now }
+    requires frame { IsFrame (S.source source.old) setup.now (state_of buffers.old) }
+    requires more { buffers.old.made < buffers.old.height }
+    ensures ok { OnOk result (MakesLine (S.source source.old) setup.now (state_of buffers.old) (S.source source.new) (state_of buffers.new)) }
+    ensures err { OnErr result (StopsFailing (S.source source.old) (S.source source.new)) }
+    ensures count { OnErr result (KeepsCount (state_of buffers.old) (state_of buffers.new)) }
+{
+    let made = buffers.made;
+    if made > 0 && row_of(source, setup, made - 1) == row_of(source, setup, made) {
+        line_again(buffers, source, setup);
+        return Ok(());
+    }
+    line_of_row(buffers, source, setup)
 }
 
 /// Makes the next line where no byte of the last is left.

@@ -229,7 +229,38 @@ fn packed(scene: &Scene, row: &[u16], places: &[u32], channel: u32, b: usize) ->
     byte
 }
 
-/// Puts the bits of all places, and zeros behind them.
+/// The bit of a column in gray.
+#[tactic(auto, unfolding(crate::specs::Samples::bit_in))]
+fn gray_bit(scene: &Scene, row: &[u16], places: &[u32], channel: u32, x: usize) -> u8
+    requires depth { packing_of scene.now.depth ≡ Packing.Bits }
+    requires gray { scene.now.mode ≡ Mode.Gray }
+    requires places { (x : ℕ) → x < length places.now → 3 * slice_index places.now x + 2 < length row.now }
+    requires inside { x < length places.now }
+    ensures value { result ≡ bit_in scene.now row.now places.now channel x }
+    ensures limit { result ≤ 1 }
+{
+    let entry = scene.gamma[gray(row, places[x]) as usize / 256];
+    if entry < 128 { 1 } else { 0 }
+}
+
+/// The byte of eight columns in gray, the leftmost as its most significant bit.
+#[tactic(auto, unfolding(crate::specs::Samples::bits_in))]
+fn packed_grays(scene: &Scene, row: &[u16], places: &[u32], channel: u32, b: usize) -> u8
+    requires depth { packing_of scene.now.depth ≡ Packing.Bits }
+    requires gray { scene.now.mode ≡ Mode.Gray }
+    requires places { (x : ℕ) → x < length places.now → 3 * slice_index places.now x + 2 < length row.now }
+    requires few { b ≤ 65536 }
+    requires inside { 8 * b + 8 ≤ length places.now }
+    ensures { result ≡ bits_in scene.now row.now places.now channel b }
+{
+    let mut byte = 0u8;
+    for j in 0..8 {
+        byte = 2 * byte + gray_bit(scene, row, places, channel, 8 * b + j);
+    }
+    byte
+}
+
+/// Puts the bits of all places, and zeros behind them. Whole bytes in gray have no test for each bit.
 fn put_bits(scene: &Scene, row: &[u16], places: &[u32], channel: u32, line: &mut [u8])
     requires depth { packing_of scene.now.depth ≡ Packing.Bits }
     requires channel { channel < 3 }
@@ -237,8 +268,16 @@ fn put_bits(scene: &Scene, row: &[u16], places: &[u32], channel: u32, line: &mut
     requires few { length line.old ≤ 65536 }
     ensures { (b : ℕ) → b < length line.old → slice_index line.new b ≡ bits_in scene.now row.now places.now channel b }
 {
+    let whole = match scene.mode {
+        Mode::Gray => places.len() / 8,
+        Mode::Color => 0,
+    };
     for b in 0..line.len() {
-        line[b] = packed(scene, row, places, channel, b);
+        line[b] = if b < whole {
+            packed_grays(scene, row, places, channel, b)
+        } else {
+            packed(scene, row, places, channel, b)
+        };
     }
 }
 

@@ -8,7 +8,7 @@ use Rattle.scan_frames.specs.Reading.{FrameState}
 use Rattle.scan_frames.specs.Buffers.{MakesLine, state_of}
 use Rattle.scan_frames.proofs.Scans.{next_frame, put_back}
 use Rattle.scan_frames.proofs.Frames.{short_line}
-use Rattle.scan_frames.proofs.buffers.next_line.Goals as goal
+use Rattle.scan_frames.proofs.buffers.line_of_row.Goals as goal
 
 pub make_line-requires-clause-short : goal.make_line-requires-clause-short
 make_line-requires-clause-short g c =
