@@ -1,11 +1,12 @@
 -- How the bytes of a file go out of a join.
-use Rattle.std.proofs.Common.{◌≡◌, ℕ, zero, suc, ◌<◌, ◌≤◌, ◌+◌, ◌-◌, ◌*◌, ◌/◌, ◌⊎◌, inl, inr, Bool, true, false, List, [], ◌∷◌, ◌++◌, length, take, drop, set, arith, refl, sym, ap, ◌∙◌, subst, append_assoc}
+use Rattle.std.proofs.Common.{◌≡◌, ℕ, zero, suc, ◌<◌, ◌≤◌, ◌+◌, ◌-◌, ◌*◌, ◌/◌, ◌⊎◌, inl, inr, Bool, true, false, List, [], ◌∷◌, ◌++◌, length, get_or, take, drop, set, arith, refl, sym, ap, ◌∙◌, subst, append_assoc}
 use Rattle.std.specs.Prelude.{nat_lt, nat_le, ◌==◌, ◌&&◌, ◌||◌, if◌then◌else◌, Option, Some, None, slice_index}
 use Rattle.std.proofs.lemmas.Bool.{and_parts, cases_lt}
-use Rattle.std.proofs.lemmas.List.{append-nil, take_all, take_more_set, drop-drop, drop-set-lt}
+use Rattle.std.proofs.lemmas.List.{append-nil, take_all, take_more, take_more_set, drop-drop, drop-set-lt}
 use Rattle.std.proofs.Math.Nat.{lt-div-mul-add, div-mul-le_self, lt_of_mul-lt-mul_left, mul-le-mul_right}
 use Rattle.netpbm.specs.FileText.{header_text}
 use Rattle.sane_fixed.specs.declared.byte_order.ByteOrder.{ByteOrder}
+use Rattle.sane_fixed.specs.declared.byte_order.ByteOrder.TheVariants.{Little}
 use Rattle.sane_fixed.specs.declared.params.Params.{Params}
 use Rattle.frame_join.specs.declared.join_stage.Stage.{Stage}
 use Rattle.frame_join.specs.declared.join_stage.Stage.TheVariants.{Idle, Under, Keeping, Between, Whole, WholeColors, Failed}
@@ -22,6 +23,7 @@ use Rattle.frame_join.proofs.StreamLaws.{head_goes, column_goes, row_goes, goes_
 use Rattle.frame_join.proofs.KeptLaws.{ready_row, pass_parts}
 use Rattle.frame_join.proofs.SideLaws.{side_raster}
 use Rattle.frame_join.proofs.AcceptLaws.{alone_is}
+use Rattle.frame_join.proofs.FrameLaws.{place_eight}
 use Rattle.frame_join.proofs.JoinLaws.{at_stage, fault_at}
 
 -- ---- a byte goes out
@@ -420,6 +422,35 @@ row_step past v n before after byte moving done ready more b a stands =
     let on : v.column + (n + 1) ≡ v.column + n + 1 = omega arith in
     let next : after_samples (n + 1) v ≡ after_next w = ap (λ (c : ℕ). if c == row_bytes v.params then after_row v else record v { column = c }) on ∙ sym (after_raster w done) in
     pull_step past w (after_samples (n + 1) v) before after byte (row_may w moving ready) (b ∙ sym (byte_raster w done)) next a here
+
+-- the byte at a column of three colors of a byte each
+pub woven : (v : Joining) (column : ℕ) → is_colors v.stage ≡ true → v.params.depth ≡ 8 → side_byte v.planes 8 v.row column ≡ sample_at v column
+woven v column colors eight =
+    let other : ℕ = trimmed v.params.pixels_per_line v.params.depth column (slice_index v.held (place_in v.order v.params.depth column)) in
+    sym (ap (λ (t : Bool). if t then side_byte v.planes v.params.depth v.row (place_in v.order v.params.depth column) else other) colors
+    ∙ (ap (λ (d : ℕ). side_byte v.planes d v.row (place_in v.order d column)) eight ∙ ap (side_byte v.planes 8 v.row) (place_eight v.order column)))
+
+-- the byte at a column of samples of two bytes, the less significant first
+pub turned : (v : Joining) (column : ℕ) → is_colors v.stage ≡ false → v.params.depth ≡ 16 → v.order ≡ Little → slice_index v.held (place_in Little 16 column) ≡ sample_at v column
+turned v column plain deep little =
+    let side : ℕ = side_byte v.planes v.params.depth v.row (place_in v.order v.params.depth column) in
+    sym (ap (λ (t : Bool). if t then side else trimmed v.params.pixels_per_line v.params.depth column (slice_index v.held (place_in v.order v.params.depth column))) plain
+    ∙ (ap (λ (d : ℕ). trimmed v.params.pixels_per_line d column (slice_index v.held (place_in v.order d column))) deep
+    ∙ ap (λ (o : ByteOrder). slice_index v.held (place_in o 16 column)) little))
+
+-- n bytes of the row, each the one at its column
+pub row_steps : (past : Past) (v : Joining) (n : ℕ) (front bytes : List ℕ) → moves v.stage ≡ true → length v.head ≤ v.headed → is_ready v ≡ true → v.column < row_bytes v.params → v.column + n ≤ row_bytes v.params → n ≤ length bytes → ((j : ℕ) → j < n → get_or bytes j 0 ≡ sample_at v (v.column + j)) → Stands (after_pull front past) v → Stands (after_pull (front ++ take n bytes) past) (after_samples n v)
+row_steps past v zero front bytes moving done ready inside row room each stands =
+    subst (λ (u : Joining). Stands (after_pull (front ++ []) past) u) (sym (no_samples v 0 refl inside))
+    (subst (λ (xs : List ℕ). Stands (after_pull xs past) v) (sym (append-nil front)) stands)
+row_steps past v (suc n) front bytes moving done ready inside row room each stands =
+    let byte = get_or bytes n 0 in
+    let last : n + 1 ≡ suc n = omega arith in
+    let before = row_steps past v n front bytes moving done ready inside (omega arith) (omega arith) (λ j less. each j (omega arith)) stands in
+    let more : front ++ take (suc n) bytes ≡ (front ++ take n bytes) ++ byte ∷ [] =
+    ap (λ (k : ℕ). front ++ take k bytes) (sym last) ∙ (ap (λ (xs : List ℕ). front ++ xs) (take_more bytes n 0 (omega arith)) ∙ sym (append_assoc front (take n bytes) (byte ∷ []))) in
+    subst (λ (k : ℕ). Stands (after_pull (front ++ take (suc n) bytes) past) (after_samples k v)) last
+    (row_step past v n (front ++ take n bytes) (front ++ take (suc n) bytes) byte moving done ready (omega arith) (each n (omega arith)) more before)
 
 pub went_on : (i : ℕ) (first now : Joining) → (i ≡ 0 → now ≡ first) → (0 < i → may_go first ≡ true) → may_go now ≡ true → may_go first ≡ true
 went_on zero first now same went may = subst (λ (v : Joining). may_go v ≡ true) (same refl) may

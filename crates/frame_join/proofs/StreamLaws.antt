@@ -82,7 +82,7 @@ grown f bytes = record f { payload = f.payload ++ bytes }
 pair_even : (n j : ℕ) → j < n * 2 → j % 2 ≡ 0 → j + 1 < n * 2
 pair_even n j h e = omega arith
 
-place_below_at : (o : ByteOrder) (f : FrameFormat) (w d j : ℕ) → (d ≡ 1) ⊎ ((d ≡ 8) ⊎ (d ≡ 16)) → j < row_size f w d → place_in o d j < row_size f w d
+pub place_below_at : (o : ByteOrder) (f : FrameFormat) (w d j : ℕ) → (d ≡ 1) ⊎ ((d ≡ 8) ⊎ (d ≡ 16)) → j < row_size f w d → place_in o d j < row_size f w d
 place_below_at Big f w d j deep h = h
 place_below_at Little f w d j (inl e) h =
     let small : j < row_size f w 1 = rw e at h in

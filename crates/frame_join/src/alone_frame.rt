@@ -1,4 +1,4 @@
-ghost use Rattle.std.specs.Prelude.{◌≡◌, ◌≤◌, ◌<◌, ◌*◌, true};
+ghost use Rattle.std.specs.Prelude.{ℕ, ◌≡◌, ◌≤◌, ◌<◌, ◌+◌, ◌*◌, ◌%◌, true, length, slice_index};
 ghost use Rattle.frame_join.specs.AloneFrame.{is_shaped, is_depth, is_side, is_alone, is_alone_format, is_known, lines_in, most_lines, row_bytes, AloneParts};
 ghost use Rattle.frame_join.specs.FrameFile.{place_in, trimmed, header_alone};
 
@@ -33,6 +33,33 @@ pub(crate) fn place_in(order: ByteOrder, depth: u32, column: usize) -> usize
         ByteOrder::Little if depth != 16 => column,
         ByteOrder::Little if column % 2 == 0 => column + 1,
         ByteOrder::Little => column - 1,
+    }
+}
+
+/// Puts the bytes of a row of two bytes a sample, the less significant first, as they stand in the file from column
+/// `from` on.
+pub(crate) fn put_turned(row: &[u8], from: usize, buf: &mut [u8])
+    requires even { length row.now % 2 ≡ 0 }
+    requires few { length row.now ≤ 1048576 }
+    requires place { from + length buf.old ≤ length row.now }
+    ensures { (i : ℕ) → i < length buf.old → slice_index buf.new i ≡ slice_index row.now (place_in ByteOrder.Little 16 (from + i)) }
+{
+    if buf.is_empty() {
+        return;
+    }
+    let first = from % 2;
+    if first == 1 {
+        buf[0] = row[from - 1];
+    }
+    let pairs = (buf.len() - first) / 2;
+    for k in 0..pairs {
+        let i = first + 2 * k;
+        buf[i] = row[from + i + 1];
+        buf[i + 1] = row[from + i];
+    }
+    let last = first + 2 * pairs;
+    if last < buf.len() {
+        buf[last] = row[from + last + 1];
     }
 }
 

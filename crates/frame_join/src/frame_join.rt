@@ -12,7 +12,7 @@ ghost use Rattle.frame_join.specs.Joining.{Stands, is_starved, IsDrained};
 ghost use Rattle.frame_join.specs.JoinSteps.{moves, is_ready, sample_at, may_go, after_samples, value_fed, under_ended, kept_ended, color_ended, value_ended, first_begun, next_begun, value_begun, accepts_next, answer_at, fresh, keeping};
 
 use crate::alone_frame::{
-    header_alone, is_alone, lines_in, most_lines, place_in, row_size, trimmed,
+    header_alone, is_alone, lines_in, most_lines, place_in, put_turned, row_size, trimmed,
 };
 use crate::header::{HEADER_ROOM, put_header};
 use crate::join_stage::{JoinFault, Stage};
@@ -168,8 +168,13 @@ impl FrameJoin {
         ensures carried { (past : Past) → Stands (after_pull (take at buf.old) past) self.now → Stands (after_pull (take end buf.new) past) (after_samples (end - at) self.now) }
     {
         if self.is_straight() {
-            self.copy_row(buf, at, end);
-            return;
+            return self.copy_row(buf, at, end);
+        }
+        if self.has_colors() && self.params.depth == 8 {
+            return self.weave_row(buf, at, end);
+        }
+        if self.is_turned() {
+            return self.turn_row(buf, at, end);
         }
         for i in at..end {
             buf[i] = self.sample_at(self.column + (i - at));
@@ -201,6 +206,58 @@ impl FrameJoin {
         for i in at..end {
             buf[i] = lines[column + (i - at)];
         }
+    }
+
+    /// Writes bytes of the row of three colors of a byte each.
+    fn weave_row(&self, buf: &mut [u8], at: usize, end: usize)
+        requires moves { moves self.now.stage ≡ true }
+        requires head { length self.now.head ≤ self.now.headed }
+        requires ready { is_ready self.now ≡ true }
+        requires colors { is_colors self.now.stage ≡ true }
+        requires depth { self.now.params.depth ≡ 8 }
+        requires order { at ≤ end }
+        requires room { end ≤ length buf.old }
+        requires row { self.now.column + (end - at) ≤ row_bytes self.now.params }
+        ensures size { length buf.new ≡ length buf.old }
+        ensures rest { drop end buf.new ≡ drop end buf.old }
+        ensures carried { (past : Past) → Stands (after_pull (take at buf.old) past) self.now → Stands (after_pull (take end buf.new) past) (after_samples (end - at) self.now) }
+    {
+        self.planes
+            .put_side(self.row, self.column, &mut buf[at..end]);
+    }
+
+    /// Whether a row goes out with the two bytes of each sample turned round.
+    fn is_turned(&self) -> bool
+        ensures plain { result ≡ true → is_colors self.now.stage ≡ false }
+        ensures deep { result ≡ true → self.now.params.depth ≡ 16 }
+        ensures little { result ≡ true → self.now.order ≡ ByteOrder.Little }
+    {
+        if self.has_colors() || self.params.depth != 16 {
+            return false;
+        }
+        match self.order {
+            ByteOrder::Big => false,
+            ByteOrder::Little => true,
+        }
+    }
+
+    /// Writes bytes of the row, which stands in its line with the two bytes of each sample turned round.
+    fn turn_row(&self, buf: &mut [u8], at: usize, end: usize)
+        requires moves { moves self.now.stage ≡ true }
+        requires head { length self.now.head ≤ self.now.headed }
+        requires ready { is_ready self.now ≡ true }
+        requires plain { is_colors self.now.stage ≡ false }
+        requires deep { self.now.params.depth ≡ 16 }
+        requires little { self.now.order ≡ ByteOrder.Little }
+        requires order { at ≤ end }
+        requires room { end ≤ length buf.old }
+        requires row { self.now.column + (end - at) ≤ row_bytes self.now.params }
+        ensures size { length buf.new ≡ length buf.old }
+        ensures rest { drop end buf.new ≡ drop end buf.old }
+        ensures carried { (past : Past) → Stands (after_pull (take at buf.old) past) self.now → Stands (after_pull (take end buf.new) past) (after_samples (end - at) self.now) }
+    {
+        let row = &self.lines()[..row_size(&self.params)];
+        put_turned(row, self.column, &mut buf[at..end]);
     }
 
     /// So many bytes of the row have gone.

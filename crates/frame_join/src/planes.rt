@@ -1,4 +1,4 @@
-ghost use Rattle.std.specs.Prelude.{◌≡◌, ◌<◌, ◌+◌, ◌*◌, ◌⊎◌, slice_index};
+ghost use Rattle.std.specs.Prelude.{ℕ, ◌≡◌, ◌≤◌, ◌<◌, ◌+◌, ◌*◌, ◌/◌, ◌%◌, ◌⊎◌, length, slice_index};
 ghost use Rattle.frame_join.specs.KeptFrame.{color_number};
 ghost use Rattle.frame_join.specs.ColorPlanes.{no_plane, no_planes, nth_plane, side_byte};
 ghost use Rattle.frame_join.specs.JoinSteps.{is_there, has_two, put_plane};
@@ -50,6 +50,22 @@ impl Plane {
         match self.bytes.get(at) {
             Some(byte) => *byte,
             None => 0,
+        }
+    }
+
+    /// Puts the bytes of row `y` to each third place of `buf`: those that are color `color` where the places from `from` on
+    /// are those of three colors side by side, a byte each.
+    fn put_color(&self, y: u32, from: usize, color: usize, buf: &mut [u8])
+        requires color { color < 3 }
+        requires place { from + length buf.old ≤ 1048576 }
+        ensures here { (i : ℕ) → i < length buf.old → (from + i) % 3 ≡ color → slice_index buf.new i ≡ slice_index self.now.bytes (y * self.now.line + (from + i) / 3) }
+        ensures others { (i : ℕ) → ((from + i) % 3 ≡ color → ⊥) → slice_index buf.new i ≡ slice_index buf.old i }
+    {
+        let first = (color + 3 - from % 3) % 3;
+        let place = (from + first) / 3;
+        let count = (buf.len() + 2 - first) / 3;
+        for k in 0..count {
+            buf[first + 3 * k] = self.byte_at(y, place + k);
         }
     }
 
@@ -138,5 +154,15 @@ impl Planes {
             1 => self.green.byte_at(y, at),
             _ => self.blue.byte_at(y, at),
         }
+    }
+
+    /// Puts the bytes of row `y` from place `from` on, where the three colors of each pixel stand side by side, a byte each.
+    pub(crate) fn put_side(&self, y: u32, from: usize, buf: &mut [u8])
+        requires place { from + length buf.old ≤ 1048576 }
+        ensures { (i : ℕ) → i < length buf.old → slice_index buf.new i ≡ side_byte self.now 8 y (from + i) }
+    {
+        self.red.put_color(y, from, 0, buf);
+        self.green.put_color(y, from, 1, buf);
+        self.blue.put_color(y, from, 2, buf);
     }
 }
