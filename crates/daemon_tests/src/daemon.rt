@@ -13,24 +13,18 @@ mod passes;
 
 const NO_SEED: [u8; 32] = [0; 32];
 
-fn flatbed(rt: &impl Abort, alloc: Global, name: &[u8]) -> Flatbed {
-    let page = read_page(alloc, b"P5\n1 1\n255\n\x07", 26).expect(rt, "a page");
-    let name = Text::new(alloc, name).expect(rt, "a name");
-    match Flatbed::new(
-        alloc,
-        name,
-        Source::Memory(MemoryPage::new(page)),
-        ByteOrder::Little,
-    ) {
-        Ok(flatbed) => flatbed,
-        Err(_) => panic!(rt; "no flatbed"),
-    }
+fn flatbed(alloc: Global, name: &[u8]) -> Option<Flatbed> {
+    let page = read_page(alloc, b"P5\n1 1\n255\n\x07", 26).ok()?;
+    let name = Text::new(alloc, name).ok()?;
+    let source = Source::Memory(MemoryPage::new(page));
+    Flatbed::new(alloc, name, source, ByteOrder::Little).ok()
 }
 
 fn daemon(rt: &impl Abort, alloc: Global, users: &[u8]) -> Daemon<Flatbed> {
     let mut devices = Vec::new(alloc);
     for name in [b"flatbed:0".as_slice(), b"flatbed:1"] {
-        devices.push(flatbed(rt, alloc, name)).expect(rt, "memory");
+        let flatbed = flatbed(alloc, name).expect(rt, "a flatbed");
+        devices.push(flatbed).expect(rt, "memory");
     }
     let registry = match Registry::new(alloc, devices) {
         Ok(registry) => registry,
@@ -57,6 +51,32 @@ fn expect<D: Device>(
     assert!(rt; &buf[..count] == wanted);
 }
 
+/// One request after another, each with its replies.
+fn expect_each<D: Device>(
+    rt: &impl Abort,
+    alloc: Global,
+    daemon: &mut Daemon<D>,
+    id: SessionId,
+    exchanges: &[(&[u8], &[u8])],
+) {
+    for (sent, wanted) in exchanges {
+        expect(rt, alloc, daemon, id, sent, wanted);
+    }
+}
+
+/// A turn of the data connection gives this.
+fn turns<D: Device>(
+    rt: &impl Abort,
+    daemon: &mut Daemon<D>,
+    id: SessionId,
+    step: DataStep,
+    bytes: &[u8],
+) {
+    let mut buf = [0; 64];
+    assert!(rt; daemon.data_turn(id, &mut buf) == step);
+    assert!(rt; buf.get(..bytes.len()) == Some(bytes));
+}
+
 const INIT: &[u8] = b"\0\0\0\0\x01\0\0\x03\0\0\0\x05user\0";
 
 const OPEN: &[u8] = b"\0\0\0\x02\0\0\0\x0aflatbed:0\0";
@@ -72,92 +92,62 @@ fn one_byte_through_the_daemon(rt: HostRuntime) {
     let alloc = rt.alloc();
     let mut daemon = daemon(&rt, alloc, b"");
     let id = session(&rt, alloc, &mut daemon);
-    expect(
+    expect_each(
         &rt,
         alloc,
         &mut daemon,
         id,
-        OPEN,
-        b"\0\0\0\0\0\0\0\0\0\0\0\0",
-    );
-    // br-x 80.5 is put as 81
-    expect(
-        &rt,
-        alloc,
-        &mut daemon,
-        id,
-        b"\0\0\0\x05\0\0\0\0\0\0\0\x06\0\0\0\x01\0\0\0\x02\0\0\0\x04\0\0\0\x01\0\x50\x80\0",
-        b"\0\0\0\0\0\0\0\x05\0\0\0\x02\0\0\0\x04\0\0\0\x01\0\x51\0\0\0\0\0\0",
-    );
-    // resolution 26, br-x 1, br-y 1
-    expect(
-        &rt,
-        alloc,
-        &mut daemon,
-        id,
-        b"\0\0\0\x05\0\0\0\0\0\0\0\x03\0\0\0\x01\0\0\0\x01\0\0\0\x04\0\0\0\x01\0\0\0\x1a",
-        b"\0\0\0\0\0\0\0\x04\0\0\0\x01\0\0\0\x04\0\0\0\x01\0\0\0\x1a\0\0\0\0",
-    );
-    expect(
-        &rt,
-        alloc,
-        &mut daemon,
-        id,
-        b"\0\0\0\x05\0\0\0\0\0\0\0\x06\0\0\0\x01\0\0\0\x02\0\0\0\x04\0\0\0\x01\0\x01\0\0",
-        b"\0\0\0\0\0\0\0\x04\0\0\0\x02\0\0\0\x04\0\0\0\x01\0\x01\0\0\0\0\0\0",
-    );
-    expect(
-        &rt,
-        alloc,
-        &mut daemon,
-        id,
-        b"\0\0\0\x05\0\0\0\0\0\0\0\x07\0\0\0\x01\0\0\0\x02\0\0\0\x04\0\0\0\x01\0\x01\0\0",
-        b"\0\0\0\0\0\0\0\x04\0\0\0\x02\0\0\0\x04\0\0\0\x01\0\x01\0\0\0\0\0\0",
-    );
-    // mode set to `gr`
-    expect(
-        &rt,
-        alloc,
-        &mut daemon,
-        id,
-        b"\0\0\0\x05\0\0\0\0\0\0\0\x01\0\0\0\x01\0\0\0\x03\0\0\0\x03\0\0\0\x03gr\0",
-        b"\0\0\0\0\0\0\0\x05\0\0\0\x03\0\0\0\x05\0\0\0\x05Gray\0\0\0\0\0",
-    );
-    // START, and the parameters
-    expect(
-        &rt,
-        alloc,
-        &mut daemon,
-        id,
-        b"\0\0\0\x07\0\0\0\0",
-        b"\0\0\0\0\0\0\x9c\x41\0\0\x12\x34\0\0\0\0",
-    );
-    expect(
-        &rt,
-        alloc,
-        &mut daemon,
-        id,
-        b"\0\0\0\x06\0\0\0\0",
-        b"\0\0\0\0\0\0\0\0\0\0\0\x01\0\0\0\x01\0\0\0\x01\0\0\0\x01\0\0\0\x08",
-    );
-    // START again is busy
-    expect(
-        &rt,
-        alloc,
-        &mut daemon,
-        id,
-        b"\0\0\0\x07\0\0\0\0",
-        b"\0\0\0\x03\0\0\0\0\0\0\x12\x34\0\0\0\0",
+        &[
+            (OPEN, b"\0\0\0\0\0\0\0\0\0\0\0\0".as_slice()),
+            // br-x 80.5 is put as 81
+            (
+                b"\0\0\0\x05\0\0\0\0\0\0\0\x06\0\0\0\x01\0\0\0\x02\0\0\0\x04\0\0\0\x01\0\x50\x80\0",
+                b"\0\0\0\0\0\0\0\x05\0\0\0\x02\0\0\0\x04\0\0\0\x01\0\x51\0\0\0\0\0\0",
+            ),
+            // resolution 26, br-x 1, br-y 1
+            (
+                b"\0\0\0\x05\0\0\0\0\0\0\0\x03\0\0\0\x01\0\0\0\x01\0\0\0\x04\0\0\0\x01\0\0\0\x1a",
+                b"\0\0\0\0\0\0\0\x04\0\0\0\x01\0\0\0\x04\0\0\0\x01\0\0\0\x1a\0\0\0\0",
+            ),
+            (
+                b"\0\0\0\x05\0\0\0\0\0\0\0\x06\0\0\0\x01\0\0\0\x02\0\0\0\x04\0\0\0\x01\0\x01\0\0",
+                b"\0\0\0\0\0\0\0\x04\0\0\0\x02\0\0\0\x04\0\0\0\x01\0\x01\0\0\0\0\0\0",
+            ),
+            (
+                b"\0\0\0\x05\0\0\0\0\0\0\0\x07\0\0\0\x01\0\0\0\x02\0\0\0\x04\0\0\0\x01\0\x01\0\0",
+                b"\0\0\0\0\0\0\0\x04\0\0\0\x02\0\0\0\x04\0\0\0\x01\0\x01\0\0\0\0\0\0",
+            ),
+            // mode set to `gr`
+            (
+                b"\0\0\0\x05\0\0\0\0\0\0\0\x01\0\0\0\x01\0\0\0\x03\0\0\0\x03\0\0\0\x03gr\0",
+                b"\0\0\0\0\0\0\0\x05\0\0\0\x03\0\0\0\x05\0\0\0\x05Gray\0\0\0\0\0",
+            ),
+            // START, and the parameters
+            (
+                b"\0\0\0\x07\0\0\0\0",
+                b"\0\0\0\0\0\0\x9c\x41\0\0\x12\x34\0\0\0\0",
+            ),
+            (
+                b"\0\0\0\x06\0\0\0\0",
+                b"\0\0\0\0\0\0\0\0\0\0\0\x01\0\0\0\x01\0\0\0\x01\0\0\0\x01\0\0\0\x08",
+            ),
+            // START again is busy
+            (
+                b"\0\0\0\x07\0\0\0\0",
+                b"\0\0\0\x03\0\0\0\0\0\0\x12\x34\0\0\0\0",
+            ),
+        ],
     );
     assert!(rt; daemon.frame(id) == FrameState::Waiting);
     assert!(rt; daemon.data_connected(id));
     assert!(rt; !daemon.data_connected(id));
-    let mut buf = [0; 64];
-    assert!(rt; daemon.data_turn(id, &mut buf) == DataStep::Bytes(5));
-    assert!(rt; &buf[..5] == b"\0\0\0\x01\x07".as_slice());
-    assert!(rt; daemon.data_turn(id, &mut buf) == DataStep::Last(5));
-    assert!(rt; &buf[..5] == b"\xff\xff\xff\xff\x05".as_slice());
-    assert!(rt; daemon.data_turn(id, &mut buf) == DataStep::Idle);
+    for (step, bytes) in [
+        (DataStep::Bytes(5), b"\0\0\0\x01\x07".as_slice()),
+        (DataStep::Last(5), b"\xff\xff\xff\xff\x05"),
+        (DataStep::Idle, b""),
+    ] {
+        turns(&rt, &mut daemon, id, step, bytes);
+    }
     // EXIT
     assert!(rt; daemon.feed(alloc, id, b"\0\0\0\x0a") == Fed::Over);
     assert!(rt; daemon.feed(alloc, id, b"\0\0\0\x01") == Fed::Over);
@@ -169,45 +159,27 @@ fn words_that_stand_for_nothing(rt: HostRuntime) {
     let alloc = rt.alloc();
     let mut daemon = daemon(&rt, alloc, b"");
     let id = session(&rt, alloc, &mut daemon);
-    expect(
+    expect_each(
         &rt,
         alloc,
         &mut daemon,
         id,
-        b"\0\0\0\x07\0\0\0\x09",
-        b"\0\0\0\x04\0\0\0\0\0\0\x12\x34\0\0\0\0",
-    );
-    expect(
-        &rt,
-        alloc,
-        &mut daemon,
-        id,
-        b"\0\0\0\x05\0\0\0\x09\0\0\0\x06\0\0\0\x01\0\0\0\x02\0\0\0\x04\0\0\0\x01\0\x50\x80\0",
-        b"\0\0\0\x04\0\0\0\0\0\0\0\x02\0\0\0\x04\0\0\0\x01\0\x50\x80\0\0\0\0\0",
-    );
-    expect(
-        &rt,
-        alloc,
-        &mut daemon,
-        id,
-        b"\0\0\0\x06\0\0\0\x09",
-        b"\0\0\0\x04\0\0\0\0\0\0\0\0\0\0\0\0\0\0\0\0\0\0\0\0\0\0\0\0",
-    );
-    expect(
-        &rt,
-        alloc,
-        &mut daemon,
-        id,
-        b"\0\0\0\x04\0\0\0\x09",
-        b"\0\0\0\0",
-    );
-    expect(
-        &rt,
-        alloc,
-        &mut daemon,
-        id,
-        b"\0\0\0\x03\0\0\0\x09",
-        b"\0\0\0\0",
+        &[
+            (
+                b"\0\0\0\x07\0\0\0\x09".as_slice(),
+                b"\0\0\0\x04\0\0\0\0\0\0\x12\x34\0\0\0\0".as_slice(),
+            ),
+            (
+                b"\0\0\0\x05\0\0\0\x09\0\0\0\x06\0\0\0\x01\0\0\0\x02\0\0\0\x04\0\0\0\x01\0\x50\x80\0",
+                b"\0\0\0\x04\0\0\0\0\0\0\0\x02\0\0\0\x04\0\0\0\x01\0\x50\x80\0\0\0\0\0",
+            ),
+            (
+                b"\0\0\0\x06\0\0\0\x09",
+                b"\0\0\0\x04\0\0\0\0\0\0\0\0\0\0\0\0\0\0\0\0\0\0\0\0\0\0\0\0",
+            ),
+            (b"\0\0\0\x04\0\0\0\x09", b"\0\0\0\0"),
+            (b"\0\0\0\x03\0\0\0\x09", b"\0\0\0\0"),
+        ],
     );
     // AUTHORIZE where none is awaited
     assert!(rt; daemon.feed(alloc, id, b"\0\0\0\x09\0\0\0\0\0\0\0\0\0\0\0\0") == Fed::Over);
@@ -241,22 +213,19 @@ fn eight_sessions_and_one_holder(rt: HostRuntime) {
     assert!(rt; daemon.open_session(alloc, 1).err() == Some(OpenFault::Full));
     daemon.end_session(first);
     let _third = session(&rt, alloc, &mut daemon);
-    expect(
+    expect_each(
         &rt,
         alloc,
         &mut daemon,
         second,
-        OPEN,
-        b"\0\0\0\0\0\0\0\0\0\0\0\0",
-    );
-    // cancelled while it streams: the end record says so
-    expect(
-        &rt,
-        alloc,
-        &mut daemon,
-        second,
-        b"\0\0\0\x07\0\0\0\0",
-        b"\0\0\0\0\0\0\x9c\x41\0\0\x12\x34\0\0\0\0",
+        &[
+            (OPEN, b"\0\0\0\0\0\0\0\0\0\0\0\0".as_slice()),
+            // cancelled while it streams: the end record says so
+            (
+                b"\0\0\0\x07\0\0\0\0",
+                b"\0\0\0\0\0\0\x9c\x41\0\0\x12\x34\0\0\0\0",
+            ),
+        ],
     );
     assert!(rt; daemon.data_connected(second));
     expect(
@@ -280,22 +249,22 @@ fn an_open_that_asks_first(rt: HostRuntime) {
     let alloc = rt.alloc();
     let mut daemon = daemon(&rt, alloc, b"ann:bc:flatbed\n");
     let id = session(&rt, alloc, &mut daemon);
-    expect(
+    expect_each(
         &rt,
         alloc,
         &mut daemon,
         id,
-        OPEN,
-        b"\0\0\0\0\0\0\0\0\0\0\0\x2dflatbed$MD5$ade0b876903df1a0e56a5d4028bd8653\0",
-    );
-    // a wrong answer
-    expect(
-        &rt,
-        alloc,
-        &mut daemon,
-        id,
-        b"\0\0\0\x09\0\0\0\x2dflatbed$MD5$ade0b876903df1a0e56a5d4028bd8653\0\0\0\0\x04ann\0\0\0\0\x03no\0",
-        b"\0\0\0\0\0\0\0\x0b\0\0\0\0\0\0\0\0",
+        &[
+            (
+                OPEN,
+                b"\0\0\0\0\0\0\0\0\0\0\0\x2dflatbed$MD5$ade0b876903df1a0e56a5d4028bd8653\0".as_slice(),
+            ),
+            // a wrong answer
+            (
+                b"\0\0\0\x09\0\0\0\x2dflatbed$MD5$ade0b876903df1a0e56a5d4028bd8653\0\0\0\0\x04ann\0\0\0\0\x03no\0",
+                b"\0\0\0\0\0\0\0\x0b\0\0\0\0\0\0\0\0",
+            ),
+        ],
     );
 }
 
@@ -354,45 +323,24 @@ fn four_words_of_one_session(rt: HostRuntime) {
     let alloc = rt.alloc();
     let mut daemon = daemon(&rt, alloc, b"");
     let id = session(&rt, alloc, &mut daemon);
-    expect(
+    expect_each(
         &rt,
         alloc,
         &mut daemon,
         id,
-        OPEN,
-        b"\0\0\0\0\0\0\0\0\0\0\0\0",
-    );
-    expect(
-        &rt,
-        alloc,
-        &mut daemon,
-        id,
-        b"\0\0\0\x02\0\0\0\x0aflatbed:1\0",
-        b"\0\0\0\0\0\0\0\x01\0\0\0\0",
-    );
-    // closed and opened again: the least free word
-    expect(
-        &rt,
-        alloc,
-        &mut daemon,
-        id,
-        b"\0\0\0\x03\0\0\0\0",
-        b"\0\0\0\0",
-    );
-    expect(
-        &rt,
-        alloc,
-        &mut daemon,
-        id,
-        OPEN,
-        b"\0\0\0\0\0\0\0\0\0\0\0\0",
-    );
-    expect(
-        &rt,
-        alloc,
-        &mut daemon,
-        id,
-        b"\0\0\0\x02\0\0\0\x0aflatbed:2\0",
-        b"\0\0\0\x04\0\0\0\0\0\0\0\0",
+        &[
+            (OPEN, b"\0\0\0\0\0\0\0\0\0\0\0\0".as_slice()),
+            (
+                b"\0\0\0\x02\0\0\0\x0aflatbed:1\0",
+                b"\0\0\0\0\0\0\0\x01\0\0\0\0",
+            ),
+            // closed and opened again: the least free word
+            (b"\0\0\0\x03\0\0\0\0", b"\0\0\0\0"),
+            (OPEN, b"\0\0\0\0\0\0\0\0\0\0\0\0"),
+            (
+                b"\0\0\0\x02\0\0\0\x0aflatbed:2\0",
+                b"\0\0\0\x04\0\0\0\0\0\0\0\0",
+            ),
+        ],
     );
 }

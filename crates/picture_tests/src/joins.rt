@@ -93,60 +93,82 @@ fn frames_in_pieces(rt: HostRuntime) -> Result<(), Fail> {
     Ok(())
 }
 
+/// A call of a join.
+#[derive(Clone, Copy)]
+enum Call<'a> {
+    Begin(Params),
+    Feed(&'a [u8]),
+    /// It answers this.
+    End(Result<bool, JoinFault>),
+}
+
+/// Makes a call; whether it answers as it should.
+fn answers(alloc: Global, join: &mut FrameJoin, call: Call) -> bool {
+    match call {
+        Call::Begin(params) => join.begin(alloc, &params, ByteOrder::Big),
+        Call::Feed(bytes) => join.feed(bytes),
+        Call::End(answer) => return join.end() == answer,
+    }
+    true
+}
+
 #[test]
 fn last_row_waits_for_the_end(rt: HostRuntime) -> Result<(), Fail> {
     let mut join = FrameJoin::new(rt.alloc());
     let mut out = PnmOut::new();
     let mut file = Vec::new(rt.alloc());
-    pull_all(&mut out, &mut join, &mut file)?;
-    assert!(rt; file.len() == 0);
-    join.begin(
-        rt.alloc(),
-        &told(FrameFormat::Gray, 8, 1, 1, 2),
-        ByteOrder::Little,
-    );
-    join.feed(b"\x07");
-    pull_all(&mut out, &mut join, &mut file)?;
-    assert!(rt; file.len() == 32);
-    join.feed(b"\x09");
-    pull_all(&mut out, &mut join, &mut file)?;
-    assert!(rt; file.len() == 32);
-    assert!(rt; join.end() == Ok(true));
     // What comes after the whole picture changes nothing.
-    join.feed(b"\x0B");
-    assert!(rt; join.end() == Ok(true));
+    for (call, size) in [
+        (Call::Feed(b""), 0),
+        (Call::Begin(told(FrameFormat::Gray, 8, 1, 1, 2)), 31),
+        (Call::Feed(b"\x07"), 32),
+        (Call::Feed(b"\x09"), 32),
+        (Call::End(Ok(true)), 33),
+        (Call::Feed(b"\x0B"), 33),
+        (Call::End(Ok(true)), 33),
+    ] {
+        assert!(rt; answers(rt.alloc(), &mut join, call));
+        pull_all(&mut out, &mut join, &mut file)?;
+        assert!(rt; file.len() == size);
+    }
     assert!(rt; join.fault() == None);
-    pull_all(&mut out, &mut join, &mut file)?;
     assert!(rt; file.as_slice() == b"P5\n# SANE data follows\n1 2\n255\n\x07\x09".as_slice());
     Ok(())
 }
 
+/// What stands after these calls: whether each answered as it should, the fault, and how many bytes may go out at most.
+fn stands_after(alloc: Global, calls: &[Call]) -> (bool, Option<JoinFault>, usize) {
+    let mut join = FrameJoin::new(alloc);
+    let mut as_it_should = true;
+    for call in calls {
+        as_it_should &= answers(alloc, &mut join, *call);
+    }
+    let mut buf = [0u8; 64];
+    let size = PnmOut::new().pull(&mut join, &mut buf);
+    (as_it_should, join.fault(), size)
+}
+
 #[test]
 fn faults_of_frames(rt: HostRuntime) {
-    let mut buf = [0u8; 64];
-    let mut out = PnmOut::new();
-    let colors = told(FrameFormat::Rgb, 8, 3, 1, 2);
-    let mut long = FrameJoin::new(rt.alloc());
-    long.begin(rt.alloc(), &colors, ByteOrder::Big);
-    long.feed(b"\x01\x02\x03\x04\x05\x06\x07");
-    assert!(rt; long.fault() == Some(JoinFault::Long));
-    assert!(rt; out.pull(&mut long, &mut buf) == 0);
-    // The first fault stands for good.
-    long.begin(rt.alloc(), &colors, ByteOrder::Big);
-    assert!(rt; long.end() == Err(JoinFault::Long));
-    let mut short = FrameJoin::new(rt.alloc());
-    short.begin(rt.alloc(), &colors, ByteOrder::Big);
-    short.feed(b"\x01\x02\x03\x04\x05");
-    assert!(rt; short.end() == Err(JoinFault::Short));
-    assert!(rt; short.fault() == Some(JoinFault::Short));
-    let mut again = FrameJoin::new(rt.alloc());
-    again.begin(rt.alloc(), &colors, ByteOrder::Big);
-    again.begin(rt.alloc(), &colors, ByteOrder::Big);
-    assert!(rt; again.fault() == Some(JoinFault::Shape));
-    let mut idle = FrameJoin::new(rt.alloc());
-    idle.feed(b"\x01");
-    assert!(rt; idle.end() == Ok(false));
-    assert!(rt; idle.fault() == None);
+    let begin = Call::Begin(told(FrameFormat::Rgb, 8, 3, 1, 2));
+    let long = Call::Feed(b"\x01\x02\x03\x04\x05\x06\x07");
+    let short = Call::Feed(b"\x01\x02\x03\x04\x05");
+    for (calls, fault) in [
+        ([begin, long].as_slice(), Some(JoinFault::Long)),
+        // The first fault stands for good.
+        (
+            &[begin, long, begin, Call::End(Err(JoinFault::Long))],
+            Some(JoinFault::Long),
+        ),
+        (
+            &[begin, short, Call::End(Err(JoinFault::Short))],
+            Some(JoinFault::Short),
+        ),
+        (&[begin, begin], Some(JoinFault::Shape)),
+        (&[Call::Feed(b"\x01"), Call::End(Ok(false))], None),
+    ] {
+        assert!(rt; stands_after(rt.alloc(), calls) == (true, fault, 0));
+    }
 }
 
 #[test]

@@ -121,38 +121,45 @@ fn a_table_with_one_word_too_large(rt: HostRuntime) -> Result<(), Fail> {
     Ok(())
 }
 
+/// Whether a value fits an option of this kind and size that nothing binds.
+fn fits_free(alloc: Global, kind: Kind, size: u32, value: &Value) -> Result<bool, Fail> {
+    Ok(fits(&option(alloc, kind, size, Constraint::Free)?, value))
+}
+
 #[test]
 fn numbers_that_fit(rt: HostRuntime) -> Result<(), Fail> {
-    let flag = option(rt.alloc(), Kind::Bool, 4, Constraint::Free)?;
-    assert!(rt; fits(&flag, &Value::Flag(true)));
-    assert!(rt; !fits(&flag, &Value::Int(1)));
-    let number = option(rt.alloc(), Kind::Int, 4, Constraint::Free)?;
-    assert!(rt; fits(&number, &Value::Int(-7)));
-    assert!(rt; !fits(&number, &Value::Fixed(Fixed(0))));
-    assert!(rt;
-        !fits(
-            &number,
-            &Value::Words(Words::from_vec(vec![in rt.alloc(); 1; 1]?))
-        )
-    );
-    let button = option(rt.alloc(), Kind::Button, 0, Constraint::Free)?;
-    assert!(rt; !fits(&button, &Value::Flag(false)));
+    for (kind, size, value, does) in &[
+        (Kind::Bool, 4, Value::Flag(true), true),
+        (Kind::Bool, 4, Value::Int(1), false),
+        (Kind::Int, 4, Value::Int(-7), true),
+        (Kind::Int, 4, Value::Fixed(Fixed(0)), false),
+        (Kind::Button, 0, Value::Flag(false), false),
+    ] {
+        assert!(rt; fits_free(rt.alloc(), *kind, *size, value)? == *does);
+    }
+    let words = Value::Words(Words::from_vec(vec![in rt.alloc(); 1; 1]?));
+    assert!(rt; !fits_free(rt.alloc(), Kind::Int, 4, &words)?);
     Ok(())
+}
+
+fn text_fits(alloc: Global, desc: &Descriptor, text: &[u8]) -> Option<bool> {
+    let value = Value::Text(Text::new(alloc, text).ok()?);
+    Some(fits(desc, &value))
 }
 
 #[test]
 fn texts_that_fit(rt: HostRuntime) -> Result<(), Fail> {
     let note = option(rt.alloc(), Kind::String, 4, Constraint::Free)?;
-    // Three bytes and a NUL fit in four.
-    assert!(rt; fits(&note, &Value::Text(Text::new(rt.alloc(), b"abc")?)));
-    assert!(rt; !fits(&note, &Value::Text(Text::new(rt.alloc(), b"abcd")?)));
-    // A list of texts has room for any text.
-    assert!(rt;
-        fits(
-            &mode(rt.alloc())?,
-            &Value::Text(Text::new(rt.alloc(), b"abcdefgh")?)
-        )
-    );
+    let mode = mode(rt.alloc())?;
+    for (desc, text, does) in [
+        // Three bytes and a NUL fit in four.
+        (&note, b"abc".as_slice(), true),
+        (&note, b"abcd", false),
+        // A list of texts has room for any text.
+        (&mode, b"abcdefgh", true),
+    ] {
+        assert!(rt; text_fits(rt.alloc(), desc, text) == Some(does));
+    }
     Ok(())
 }
 
@@ -184,26 +191,32 @@ fn texts_of_flags(rt: HostRuntime) -> Result<(), Fail> {
     Ok(())
 }
 
-#[test]
-fn texts_of_integers(rt: HostRuntime) -> Result<(), Fail> {
-    let number = option(rt.alloc(), Kind::Int, 4, Constraint::Free)?;
-    for (text, value) in [
-        (b"-2147483648".as_slice(), Some(i32::MIN)),
-        (b"2147483647".as_slice(), Some(i32::MAX)),
-        (b"2147483648".as_slice(), None),
-        (b"0000000007".as_slice(), Some(7)),
-        (b"00000000007".as_slice(), None),
-        (b"-".as_slice(), None),
-        (b"".as_slice(), None),
-        (b"1,2".as_slice(), None),
-        (b"+1".as_slice(), None),
-    ] {
-        let read = read_text(rt.alloc(), &number, text);
-        assert!(rt; read.ok() == value.map(|word| Value::Int(word)));
+/// The integer, or the 65,536ths, that a text is read as.
+fn number_read(alloc: Global, desc: &Descriptor, text: &[u8]) -> Result<i32, Status> {
+    match read_text(alloc, desc, text)? {
+        Value::Int(word) | Value::Fixed(Fixed(word)) => Ok(word),
+        _ => Err(Status::Unsupported),
     }
+}
+
+#[test]
+fn texts_of_numbers(rt: HostRuntime) -> Result<(), Fail> {
+    let number = option(rt.alloc(), Kind::Int, 4, Constraint::Free)?;
     let fixed = option(rt.alloc(), Kind::Fixed, 4, Constraint::Free)?;
-    let length = read_text(rt.alloc(), &fixed, b"80.5");
-    assert!(rt; length.ok() == Some(Value::Fixed(Fixed(0x0050_8000))));
+    for (desc, text, value) in [
+        (&number, b"-2147483648".as_slice(), Ok(i32::MIN)),
+        (&number, b"2147483647", Ok(i32::MAX)),
+        (&number, b"2147483648", Err(Status::Inval)),
+        (&number, b"0000000007", Ok(7)),
+        (&number, b"00000000007", Err(Status::Inval)),
+        (&number, b"-", Err(Status::Inval)),
+        (&number, b"", Err(Status::Inval)),
+        (&number, b"1,2", Err(Status::Inval)),
+        (&number, b"+1", Err(Status::Inval)),
+        (&fixed, b"80.5", Ok(0x0050_8000)),
+    ] {
+        assert!(rt; number_read(rt.alloc(), desc, text) == value);
+    }
     Ok(())
 }
 

@@ -183,76 +183,78 @@ fn goes_round(alloc: Global, request: &Request, bytes: &[u8]) -> bool {
 }
 
 #[test]
-fn each_request_goes_round(rt: HostRuntime) -> Result<(), Fail> {
-    let alloc = rt.alloc();
-    let most = u32::MAX;
-    let user = Text::new(alloc, b"user").ok().ok_or("no NUL")?;
-    let init = Request::Init {
-        version: 0x1000003,
-        user,
+fn requests_of_words_go_round(rt: HostRuntime) {
+    let device = u32::MAX;
+    for (request, bytes) in &[
+        (Request::GetDevices, [0, 0, 0, 1].as_slice()),
+        (Request::Close { device }, &[0, 0, 0, 3, 255, 255, 255, 255]),
+        (
+            Request::GetOptionDescriptors { device: 0 },
+            &[0, 0, 0, 4, 0, 0, 0, 0],
+        ),
+        (
+            Request::GetParameters { device },
+            &[0, 0, 0, 6, 255, 255, 255, 255],
+        ),
+        (Request::Start { device: 3 }, &[0, 0, 0, 7, 0, 0, 0, 3]),
+        (Request::Cancel { device: 1 }, &[0, 0, 0, 8, 0, 0, 0, 1]),
+        (Request::Exit, &[0, 0, 0, 10]),
+    ] {
+        assert!(rt; goes_round(rt.alloc(), request, bytes));
+    }
+}
+
+/// Whether an INIT or an OPEN of this text goes round.
+fn named_goes_round(alloc: Global, text: &[u8], is_init: bool, bytes: &[u8]) -> bool {
+    let Ok(text) = Text::new(alloc, text) else {
+        return false;
     };
-    assert!(rt;
-        goes_round(
-            alloc,
-            &init,
-            &[
-                0, 0, 0, 0, 1, 0, 0, 3, 0, 0, 0, 5, 0x75, 0x73, 0x65, 0x72, 0
-            ]
-        )
-    );
-    assert!(rt; goes_round(alloc, &Request::GetDevices, &[0, 0, 0, 1]));
-    let name = Text::new(alloc, &[]).ok().ok_or("empty")?;
-    assert!(rt; goes_round(alloc, &Request::Open { name }, &[0, 0, 0, 2, 0, 0, 0, 1, 0]));
-    assert!(rt;
-        goes_round(
-            alloc,
-            &Request::Close { device: most },
-            &[0, 0, 0, 3, 255, 255, 255, 255]
-        )
-    );
-    let descriptors = Request::GetOptionDescriptors { device: 0 };
-    assert!(rt; goes_round(alloc, &descriptors, &[0, 0, 0, 4, 0, 0, 0, 0]));
-    assert!(rt;
-        goes_round(
-            alloc,
-            &Request::GetParameters { device: most },
-            &[0, 0, 0, 6, 255, 255, 255, 255]
-        )
-    );
-    assert!(rt;
-        goes_round(
-            alloc,
-            &Request::Start { device: 3 },
-            &[0, 0, 0, 7, 0, 0, 0, 3]
-        )
-    );
-    assert!(rt;
-        goes_round(
-            alloc,
-            &Request::Cancel { device: 1 },
-            &[0, 0, 0, 8, 0, 0, 0, 1]
-        )
-    );
-    let resource = Text::new(alloc, b"r").ok().ok_or("no NUL")?;
-    let user = Text::new(alloc, &[255]).ok().ok_or("no NUL")?;
-    let password = Text::new(alloc, &[1]).ok().ok_or("no NUL")?;
-    let authorize = Request::Authorize {
-        resource,
-        user,
-        password,
+    let request = if is_init {
+        Request::Init {
+            version: 0x1000003,
+            user: text,
+        }
+    } else {
+        Request::Open { name: text }
     };
-    let bytes = [
-        0, 0, 0, 9, 0, 0, 0, 2, 0x72, 0, 0, 0, 0, 2, 255, 0, 0, 0, 0, 2, 1, 0,
-    ];
-    assert!(rt; goes_round(alloc, &authorize, &bytes));
-    let empty = Request::Authorize {
-        resource: Text::new(alloc, &[]).ok().ok_or("empty")?,
-        user: Text::new(alloc, &[]).ok().ok_or("empty")?,
-        password: Text::new(alloc, &[]).ok().ok_or("empty")?,
-    };
-    let bytes = [0, 0, 0, 9, 0, 0, 0, 0, 0, 0, 0, 1, 0, 0, 0, 0, 1, 0];
-    assert!(rt; goes_round(alloc, &empty, &bytes));
-    assert!(rt; goes_round(alloc, &Request::Exit, &[0, 0, 0, 10]));
+    goes_round(alloc, &request, bytes)
+}
+
+/// An AUTHORIZE of these texts.
+fn authorize(alloc: Global, texts: [&[u8]; 3]) -> Result<Request, Fail> {
+    let [resource, user, password] = texts;
+    Ok(Request::Authorize {
+        resource: Text::new(alloc, resource)?,
+        user: Text::new(alloc, user)?,
+        password: Text::new(alloc, password)?,
+    })
+}
+
+#[test]
+fn requests_of_texts_go_round(rt: HostRuntime) -> Result<(), Fail> {
+    for (text, is_init, bytes) in [
+        (
+            b"user".as_slice(),
+            true,
+            b"\0\0\0\0\x01\0\0\x03\0\0\0\x05user\0".as_slice(),
+        ),
+        (b"", false, b"\0\0\0\x02\0\0\0\x01\0"),
+    ] {
+        assert!(rt; named_goes_round(rt.alloc(), text, is_init, bytes));
+    }
+    for (texts, bytes) in [
+        (
+            [b"r".as_slice(), b"\xff", b"\x01"],
+            b"\0\0\0\x09\0\0\0\x02r\0\0\0\0\x02\xff\0\0\0\0\x02\x01\0".as_slice(),
+        ),
+        (
+            [b"", b"", b""],
+            b"\0\0\0\x09\0\0\0\0\0\0\0\x01\0\0\0\0\x01\0",
+        ),
+    ] {
+        let request = authorize(rt.alloc(), texts)?;
+        assert!(rt; goes_round(rt.alloc(), &request, bytes));
+    }
     Ok(())
 }
 

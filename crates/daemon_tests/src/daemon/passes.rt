@@ -49,10 +49,6 @@ fn set<D: Device>(
     expect(rt, alloc, daemon, id, sent.as_slice(), wanted.as_slice());
 }
 
-fn is_record(rt: &impl Abort, found: &[u8], wanted: &[u8]) {
-    assert!(rt; found == wanted);
-}
-
 /// A frame: its START, its parameters behind the status, and its records.
 fn frame<D: Device>(
     rt: &impl Abort,
@@ -70,13 +66,9 @@ fn frame<D: Device>(
     let ask = b"\0\0\0\x06\0\0\0\0";
     expect(rt, alloc, daemon, id, ask, wanted.as_slice());
     assert!(rt; daemon.data_connected(id));
-    let mut buf = [0; 64];
-    let DataStep::Bytes(count) = daemon.data_turn(id, &mut buf) else {
-        panic!(rt; "no record")
-    };
-    is_record(rt, buf.get(..count).unwrap_or(&[]), payload);
-    assert!(rt; daemon.data_turn(id, &mut buf) == DataStep::Last(5));
-    is_record(rt, buf.get(..5).unwrap_or(&[]), b"\xff\xff\xff\xff\x05");
+    turns(rt, daemon, id, DataStep::Bytes(payload.len()), payload);
+    let end = b"\xff\xff\xff\xff\x05";
+    turns(rt, daemon, id, DataStep::Last(5), end);
     assert!(rt; daemon.frame(id) == FrameState::Quiet);
 }
 
@@ -176,14 +168,18 @@ fn a_feeder_between_pages(rt: HostRuntime) {
         }
     }
     let none = b"\0\0\0\x07\0\0\0\0\0\0\x12\x34\0\0\0\0";
-    expect(&rt, alloc, &mut daemon, id, b"\0\0\0\x07\0\0\0\0", none);
-    expect(
+    expect_each(
         &rt,
         alloc,
         &mut daemon,
         id,
-        b"\0\0\0\x06\0\0\0\0",
-        b"\0\0\0\0\0\0\0\0\0\0\0\x01\0\0\0\0\0\0\0\0\0\0\0\0\0\0\0\x08",
+        &[
+            (b"\0\0\0\x07\0\0\0\0".as_slice(), none),
+            (
+                b"\0\0\0\x06\0\0\0\0",
+                b"\0\0\0\0\0\0\0\0\0\0\0\x01\0\0\0\0\0\0\0\0\0\0\0\0\0\0\0\x08",
+            ),
+        ],
     );
 }
 
@@ -211,13 +207,17 @@ fn a_holder_lost_in_mid_frame(rt: HostRuntime) {
     assert!(&rt; daemon.data_turn(first, &mut buf) == DataStep::Bytes(64));
     daemon.end_session(first);
     let second = session(&rt, alloc, &mut daemon);
-    expect(&rt, alloc, &mut daemon, second, OPEN, opened);
-    expect(
+    expect_each(
         &rt,
         alloc,
         &mut daemon,
         second,
-        b"\0\0\0\x05\0\0\0\0\0\0\0\x03\0\0\0\0\0\0\0\x01\0\0\0\x04\0\0\0\x01\0\0\0\0",
-        b"\0\0\0\0\0\0\0\0\0\0\0\x01\0\0\0\x04\0\0\0\x01\0\0\0\x32\0\0\0\0",
+        &[
+            (OPEN, opened),
+            (
+                b"\0\0\0\x05\0\0\0\0\0\0\0\x03\0\0\0\0\0\0\0\x01\0\0\0\x04\0\0\0\x01\0\0\0\0",
+                b"\0\0\0\0\0\0\0\0\0\0\0\x01\0\0\0\x04\0\0\0\x01\0\0\0\x32\0\0\0\0",
+            ),
+        ],
     );
 }
