@@ -3,3 +3,4 @@ pub mod PageLemmas
 pub mod ScanLemmas
 pub mod RowLemmas
 pub mod ShownLemmas
+pub mod RunLemmas

@@ -1,5 +1,5 @@
 -- Which column of the page each column of a picture shows.
-use Rattle.std.specs.Prelude.{ℕ, ◌+◌, ◌*◌, ◌/◌, nat_lt, if◌then◌else◌, Option, Some, None}
+use Rattle.std.specs.Prelude.{ℕ, ◌+◌, ◌*◌, ◌/◌, ◌≤◌, ◌<◌, ◌≡◌, nat_lt, if◌then◌else◌, Option, Some, None}
 use Rattle.page_picture.specs.Extent.{left_of, across}
 use Rattle.page_picture.specs.declared.scene.Scene.{Scene}
 
@@ -32,3 +32,9 @@ column_at columns x = if nat_lt (column_shown columns x) columns.width then Some
 -- the same, with the place behind the last column for all that lie off the page
 abbrev pub place_at : Columns → ℕ → ℕ
 place_at columns x = if nat_lt (column_shown columns x) columns.width then column_shown columns x else columns.width
+
+-- the columns lie on the page one beside the other: the scene has the page's dots per inch, and its window ends on the page
+pub record IsRun (columns : Columns) : Type 0 where
+  pub same : columns.dpi ≡ columns.resolution
+  pub some : 1 ≤ columns.resolution
+  pub inside : columns.left + columns.count ≤ columns.width

@@ -1,5 +1,5 @@
-ghost use Rattle.std.specs.Prelude.{◌≡◌, ◌≤◌, ◌<◌, ℕ, length, slice_index, IfOk};
-ghost use Rattle.page_picture.specs.Columns.{columns_of, column_at, place_at};
+ghost use Rattle.std.specs.Prelude.{◌≡◌, ◌≤◌, ◌<◌, ◌+◌, ℕ, Option, None, length, slice_index, IfOk, IfSome};
+ghost use Rattle.page_picture.specs.Columns.{IsRun, columns_of, column_at, place_at};
 
 use crate::scene::Scene;
 use sane_fixed::NoMem;
@@ -91,6 +91,22 @@ impl ColumnMap {
         let place = self.places[x as usize];
         if place < self.width {
             Some(place)
+        } else {
+            None
+        }
+    }
+
+    /// The page's column that the first column of the picture shows, where all its columns lie on the page one beside the
+    /// other, at the page's own dots per inch.
+    pub fn run(&self) -> Option<u32>
+        ensures first { IfSome result (λ first. first ≡ self.now.left) }
+        ensures run { IfSome result (λ _. IsRun self.now) }
+        ensures none { result ≡ None → ¬ (IsRun self.now) }
+        ensures each { IfSome result (λ first. (x : ℕ) → x < self.now.count → place_at self.now x ≡ first + x) }
+    {
+        let end = u64::from(self.left) + self.places.len() as u64;
+        if self.dpi == self.resolution && self.resolution > 0 && end <= u64::from(self.width) {
+            Some(self.left)
         } else {
             None
         }

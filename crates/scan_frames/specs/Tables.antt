@@ -5,3 +5,7 @@ use Rattle.page_picture.specs.declared.scene.Scene.{Scene}
 -- each channel's table is the scene's table of that channel after its gamma table
 abbrev pub AreComposed : Scene → List (List ℕ) → Type 0
 AreComposed scene tables = (k v : ℕ) → k < 3 → v < 256 → slice_index (get_or tables k []) v ≡ slice_index (get_or scene.channel_gamma k []) (slice_index scene.gamma v)
+
+-- each of the three tables gives each byte as it is
+abbrev pub IsPlain : List (List ℕ) → Type 0
+IsPlain tables = (k v : ℕ) → k < 3 → v < 256 → slice_index (get_or tables k []) v ≡ v

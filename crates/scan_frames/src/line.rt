@@ -1,12 +1,12 @@
 //! The bytes of a line.
 
-ghost use Rattle.std.specs.Prelude.{◌≡◌, ◌≤◌, ◌<◌, ◌+◌, ◌*◌, ◌/◌, ◌^◌, ℕ, [], length, get_or, slice_index};
+ghost use Rattle.std.specs.Prelude.{◌≡◌, ◌≤◌, ◌<◌, ◌+◌, ◌*◌, ◌/◌, ◌^◌, ℕ, [], true, false, IfSome, length, get_or, slice_index};
 ghost use Rattle.page_picture.specs.Columns.{place_at};
 ghost use Rattle.page_picture.specs.Shows.{channels_within};
 ghost use Rattle.page_picture.specs.Tone.{brightness};
 ghost use Rattle.scan_frames.specs.Line.{packing_of, line_of};
 ghost use Rattle.scan_frames.specs.Frames.{channel_in, format_at};
-ghost use Rattle.scan_frames.specs.Tables.{AreComposed};
+ghost use Rattle.scan_frames.specs.Tables.{AreComposed, IsPlain};
 ghost use Rattle.scan_frames.specs.Samples.{HasSample, HasZeros, bit_in, bits_in, end_of, gray_in, value_at, value_in};
 
 use crate::pass::{channel_in, channels_within, format_at};
@@ -104,6 +104,57 @@ fn put_colors(tables: &[[u8; 256]; 3], row: &[u16], places: &[u32], line: &mut [
     }
 }
 
+/// Whether the tables leave each sample's upper byte as it is.
+fn is_plain(tables: &[[u8; 256]; 3]) -> bool
+    ensures plain { result ≡ true → IsPlain tables.now }
+    ensures other { result ≡ false → IsPlain tables.now → ⊥ }
+{
+    let [red, green, blue] = tables;
+    for v in 0..256 {
+        if usize::from(red[v]) != v || usize::from(green[v]) != v || usize::from(blue[v]) != v {
+            return false;
+        }
+    }
+    true
+}
+
+/// Puts the upper bytes of samples.
+fn put_upper(samples: &[u16], line: &mut [u8])
+    requires room { length samples.now ≤ length line.old }
+    ensures here { (j : ℕ) → j < length samples.now → slice_index line.new j ≡ slice_index samples.now j / 256 }
+    ensures behind { (j : ℕ) → length samples.now ≤ j → slice_index line.new j ≡ slice_index line.old j }
+{
+    for (j, sample) in samples.iter().enumerate() {
+        line[j] = (*sample / 256) as u8;
+    }
+}
+
+/// Puts the samples of all places in red, green and blue, a byte each; without a look-up where the tables change nothing
+/// and the places lie one beside the other from `first` on.
+fn put_rgb(
+    tables: &[[u8; 256]; 3],
+    first: Option<u32>,
+    row: &[u16],
+    places: &[u32],
+    line: &mut [u8],
+)
+    requires places { (x : ℕ) → x < length places.now → 3 * slice_index places.now x + 2 < length row.now }
+    requires run { IfSome first (λ f. (x : ℕ) → x < length places.now → slice_index places.now x ≡ f + x) }
+    requires few { length places.now ≤ 65536 }
+    requires room { 3 * length places.now ≤ length line.old }
+    ensures here { (x k : ℕ) → x < length places.now → k < 3 → slice_index line.new (3 * x + k) ≡ slice_index (get_or tables.now k []) (slice_index row.now (3 * slice_index places.now x + k) / 256) }
+    ensures behind { (j : ℕ) → 3 * length places.now ≤ j → slice_index line.new j ≡ slice_index line.old j }
+{
+    if let Some(first) = first {
+        let start = 3 * first as usize;
+        let end = start + 3 * places.len();
+        if end <= row.len() && is_plain(tables) {
+            return put_upper(&row[start..end], line);
+        }
+    }
+    put_colors(tables, row, places, line)
+}
+
 /// Puts the samples of all places in one channel, a byte each, by its table.
 fn put_color(table: &[u8; 256], k: u32, row: &[u16], places: &[u32], line: &mut [u8])
     requires channel { k < 3 }
@@ -140,11 +191,13 @@ fn put_bytes(
     scene: &Scene,
     tables: &[[u8; 256]; 3],
     layout: Layout,
+    first: Option<u32>,
     row: &[u16],
     places: &[u32],
     line: &mut [u8],
 )
     requires tables { AreComposed scene.now tables.now }
+    requires run { IfSome first (λ f. (x : ℕ) → x < length places.now → slice_index places.now x ≡ f + x) }
     requires packing { packing_of scene.now.depth ≡ Packing.Bytes }
     requires color { scene.now.mode ≡ Mode.Color }
     requires places { (x : ℕ) → x < length places.now → 3 * slice_index places.now x + 2 < length row.now }
@@ -154,7 +207,7 @@ fn put_bytes(
     ensures behind { (j : ℕ) → channels_within layout.format * length places.now ≤ j → slice_index line.new j ≡ slice_index line.old j }
 {
     match layout.format {
-        FrameFormat::Rgb => put_colors(tables, row, places, line),
+        FrameFormat::Rgb => put_rgb(tables, first, row, places, line),
         // A picture in color has no gray frame; the one channel of such a frame would be the first.
         FrameFormat::Gray | FrameFormat::Red => put_color(&tables[0], 0, row, places, line),
         FrameFormat::Green => put_color(&tables[1], 1, row, places, line),
@@ -312,7 +365,17 @@ pub fn make_line(
         Packing::Bytes => {
             match setup.scene.mode {
                 Mode::Gray => put_grays(&setup.scene.gamma, row, places, line),
-                Mode::Color => put_bytes(&setup.scene, tables, layout, row, places, line),
+                Mode::Color => {
+                    put_bytes(
+                        &setup.scene,
+                        tables,
+                        layout,
+                        columns.run(),
+                        row,
+                        places,
+                        line,
+                    )
+                }
             }
         }
         Packing::Words => put_all(&setup.scene, layout, row, places, line),
