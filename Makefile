@@ -5,7 +5,7 @@ PREFIX ?= /usr/local
 DEMO_INPUT := flatbed 0 26 hex:50350a3220310a3235350a0ac8
 DEMO_WORDS := --config - --resolution 26 --br-x 1 --br-y 1
 
-.PHONY: demo build test more-edits failing-allocations hostile peer-check bench install need-rt
+.PHONY: demo build layout test more-edits failing-allocations hostile peer-check bench install need-rt
 
 # One scan from source, before any proof.
 demo: need-rt
@@ -22,6 +22,10 @@ demo: need-rt
 build: need-rt
 	cd crates/scanimage && rt run -- $(DEMO_WORDS) < stdin > /dev/null
 	cd crates/saned && { rt run -- --config - < stdin > /dev/null; [ -x out/saned ]; }
+
+# Tests that every file is as rt fmt has it, which is where the gate begins.
+layout: need-rt
+	tests/gate --layout
 
 # The gate: rt ci (every proof from nothing, the must-fail edits, the tests, the stored runs) and the built program case by
 # case. It also says for which crates make more-edits is due.
