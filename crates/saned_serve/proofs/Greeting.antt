@@ -19,6 +19,7 @@ pub greets_none : {C : Type 0} (history : C → Option Talk) (d : Core) (n m : O
 greets_none history d n m link none net = record {
   greets = λ d0 n0 past leads. record {
     story = past;
+    more = ([], refl);
     leads = subst (λ o. Leads d0 n0 past d o) (sym net) leads;
     others = λ j off. refl;
     met = subst (λ p. IsMet history past past d.opened p) (sym none) refl;
@@ -33,6 +34,7 @@ greets_refuses history d n m conn link none fresh net = record {
       let deed = Refuses (history conn) in
       record {
         story = deed ∷ past;
+        more = (deed ∷ [], refl);
         leads = subst (λ o. Leads d0 n0 (deed ∷ past) d o) (sym net) (leads_deed deed d0 n0 past d n refl leads fresh);
         others = λ j off. life_off j deed past refl;
         met = subst (λ p. IsMet history past (deed ∷ past) d.opened p) (sym none) (life_off d.opened deed past refl);
@@ -75,6 +77,7 @@ greets_opens history d n e m port id conn p steps net fresh some sits = record {
       let none = leads.unused d.opened (omega arith) in
       record {
         story = story;
+        more = (Makes call ∷ [], refl);
         leads = record {
           legal = (leads.legal, subst (λ k. life_of k past ≡ no_life) (sym steps.numbered) none);
           run = (d, leads.run, steps);

@@ -5,12 +5,13 @@ use Rattle.std.proofs.lemmas.Bool.{eq-eqb, eqb-true}
 use Rattle.saned_core.specs.State.{Core}
 use Rattle.saned_serve.specs.Talk.{Talk}
 use Rattle.saned_serve.specs.Ledger.{Ledger}
-use Rattle.saned_serve.specs.Story.{Deed, Life, life_of, Leads, left_in, no_life}
+use Rattle.saned_serve.specs.Story.{Deed, Life, life_of, Extends, Leads, left_in, no_life}
 use Rattle.saned_serve.specs.Goes.{Tells, Goes, Parts}
-use Rattle.saned_serve.specs.Stands.{link_at, Stands, Keeps, Empties, Met, Greets, Served}
+use Rattle.saned_serve.specs.Stands.{link_at, Stands, WentOn, Keeps, Empties, Met, Greets, Closes, Served}
 use Rattle.saned_serve.specs.declared.link.Link.{Link}
 use Rattle.saned_serve.specs.declared.seats.Seat.{Seat}
-use Rattle.saned_serve.proofs.Steps.{eqb_off}
+use Rattle.saned_serve.specs.declared.serving.ServeEnd.TheVariants.{NoMem}
+use Rattle.saned_serve.proofs.Steps.{eqb_off, extends_then}
 use Rattle.saned_serve.proofs.Closed.{closed_by}
 
 decided : (a b : ℕ) (v : Bool) → eqb a b ≡ v → (a ≡ b) ⊎ (a ≢ b)
@@ -61,26 +62,23 @@ new_dark : {C : Type 0} (history : C → Option Talk) (place : ℕ → ℕ) (i i
 new_dark history place i id story None new gone = new.1
 new_dark history place i id story (Some k) new gone = absurd (let wrong : true ≡ false = sym (new.2.standing) ∙ gone in cc)
 
-pub stands_change : {C : Type 0} (history : C → Option Talk) (d0 : Core) (n0 : Option Ledger) (d : Core) (n : Option Ledger) (seats : List (Seat C)) (left : ℕ) (was : Stands history d0 n0 d n seats left)
-    (e : Core) (m : Option Ledger) (seats' : List (Seat C)) (left' : ℕ) (story : List Deed) (id i : ℕ) (p : Option (Link C)) (place : ℕ → ℕ)
+pub stands_change : {C : Type 0} (history : C → Option Talk) (d0 : Core) (n0 : Option Ledger) (past : List Deed) (d : Core) (n : Option Ledger) (seats : List (Seat C)) (was : Stands history d0 n0 past d n seats)
+    (e : Core) (m : Option Ledger) (seats' : List (Seat C)) (story : List Deed) (id i : ℕ) (p : Option (Link C)) (place : ℕ → ℕ)
     → Leads d0 n0 story e m
-    → ((j : ℕ) → j ≢ id → life_of j story ≡ life_of j was.story)
+    → ((j : ℕ) → j ≢ id → life_of j story ≡ life_of j past)
     → link_at seats' i ≡ p
     → ((j : ℕ) → j ≢ i → link_at seats' j ≡ link_at seats j)
     → ((j : ℕ) → j ≢ id → place j ≡ was.place j)
     → ((l : Link C) → link_at seats i ≡ Some l → l.id.number ≡ id)
     → ((j : ℕ) (l : Link C) → j ≢ i → link_at seats j ≡ Some l → l.id.number ≢ id)
     → New history place i id (life_of id story) p
-    → left' ≤ left_in story
-    → Stands history d0 n0 e m seats' left'
-stands_change {C} history d0 n0 d n seats left was e m seats' left' story id i p place leads others at off placed own only new count = record {
-  story = story;
+    → Stands history d0 n0 story e m seats'
+stands_change {C} history d0 n0 past d n seats was e m seats' story id i p place leads others at off placed own only new = record {
   leads = leads;
   place = place;
   each = λ j x h. each j x h (decide j i);
   all = λ j h. all j h (decide j id);
   dark = λ j h. dark j h (decide j id);
-  at_least = count;
 }
   where
     each : (j : ℕ) (x : Link C) → link_at seats' j ≡ Some x → (j ≡ i) ⊎ (j ≢ i) → (place x.id.number ≡ j) × Tells history (life_of x.id.number story) x
@@ -108,109 +106,115 @@ stands_change {C} history d0 n0 d n seats left was e m seats' left' story id i p
     dark j h (inr differ) =
         ap (λ v. v.imaging) (others j differ) ∙ was.dark j (sym (ap (λ v. v.standing) (others j differ)) ∙ h)
 
-pub stands_same : {C : Type 0} (history : C → Option Talk) (d0 : Core) (n0 : Option Ledger) (d : Core) (n : Option Ledger) (seats : List (Seat C)) (left : ℕ) → Stands history d0 n0 d n seats left
-    → (e : Core) (m : Option Ledger) (seats' : List (Seat C)) → e ≡ d → m ≡ n → ((j : ℕ) → link_at seats' j ≡ link_at seats j) → Stands history d0 n0 e m seats' left
-stands_same history d0 n0 d n seats left was e m seats' same net off = record {
-  story = was.story;
-  leads = subst (λ x. Leads d0 n0 was.story x m) (sym same) (subst (λ x. Leads d0 n0 was.story d x) (sym net) was.leads);
+pub stands_same : {C : Type 0} (history : C → Option Talk) (d0 : Core) (n0 : Option Ledger) (past : List Deed) (d : Core) (n : Option Ledger) (seats : List (Seat C)) → Stands history d0 n0 past d n seats
+    → (e : Core) (m : Option Ledger) (seats' : List (Seat C)) → e ≡ d → m ≡ n → ((j : ℕ) → link_at seats' j ≡ link_at seats j) → Stands history d0 n0 past e m seats'
+stands_same history d0 n0 past d n seats was e m seats' same net off = record {
+  leads = subst (λ x. Leads d0 n0 past x m) (sym same) (subst (λ x. Leads d0 n0 past d x) (sym net) was.leads);
   place = was.place;
   each = λ j x h. was.each j x (sym (off j) ∙ h);
   all = λ j h. let found = was.all j h in (found.0, off (was.place j) ∙ found.1, found.2);
   dark = was.dark;
-  at_least = was.at_least;
 }
+
+-- the story did not go on
+pub stays : {C : Type 0} (history : C → Option Talk) (d0 : Core) (n0 : Option Ledger) (past : List Deed) (e : Core) (m : Option Ledger) (seats : List (Seat C)) → Stands history d0 n0 past e m seats → WentOn history d0 n0 past 0 e m seats
+stays history d0 n0 past e m seats stands = record { story = past; more = ([], refl); stands = stands; count = omega arith }
+
+-- one after the other
+pub then_on : {C : Type 0} (history : C → Option Talk) (d0 : Core) (n0 : Option Ledger) (past : List Deed) (left more : ℕ) (e : Core) (m : Option Ledger) (seats : List (Seat C)) (f : Core) (o : Option Ledger) (seats' : List (Seat C))
+    → WentOn history d0 n0 past left e m seats → ((story : List Deed) → Stands history d0 n0 story e m seats → WentOn history d0 n0 story more f o seats') → WentOn history d0 n0 past (left + more) f o seats'
+then_on history d0 n0 past left more e m seats f o seats' first then =
+    let next = then first.story first.stands in
+    record {
+      story = next.story;
+      more = extends_then past first.story next.story first.more next.more;
+      stands = next.stands;
+      count = (let a = first.count in let b = next.count in omega (arith, a, b));
+    }
 
 nobody : (id : ℕ) → life_of id [] ≡ no_life
 unfolding life_of
 nobody id = refl
 
 -- a link that sits at a place is the only one with its number
-own_at : {C : Type 0} (history : C → Option Talk) (d0 : Core) (n0 : Option Ledger) (d : Core) (n : Option Ledger) (seats : List (Seat C)) (left : ℕ) → Stands history d0 n0 d n seats left → (i : ℕ) (l : Link C) → link_at seats i ≡ Some l
+own_at : {C : Type 0} (history : C → Option Talk) (d0 : Core) (n0 : Option Ledger) (past : List Deed) (d : Core) (n : Option Ledger) (seats : List (Seat C)) → Stands history d0 n0 past d n seats → (i : ℕ) (l : Link C) → link_at seats i ≡ Some l
     → (k : Link C) → link_at seats i ≡ Some k → k.id.number ≡ l.id.number
-own_at history d0 n0 d n seats left was i l at k h = ap (λ x. x.id.number) (same_some k l (sym h ∙ at))
+own_at history d0 n0 past d n seats was i l at k h = ap (λ x. x.id.number) (same_some k l (sym h ∙ at))
 
-only_at : {C : Type 0} (history : C → Option Talk) (d0 : Core) (n0 : Option Ledger) (d : Core) (n : Option Ledger) (seats : List (Seat C)) (left : ℕ) → Stands history d0 n0 d n seats left → (i : ℕ) (l : Link C) → link_at seats i ≡ Some l
+only_at : {C : Type 0} (history : C → Option Talk) (d0 : Core) (n0 : Option Ledger) (past : List Deed) (d : Core) (n : Option Ledger) (seats : List (Seat C)) → Stands history d0 n0 past d n seats → (i : ℕ) (l : Link C) → link_at seats i ≡ Some l
     → (j : ℕ) (k : Link C) → j ≢ i → link_at seats j ≡ Some k → k.id.number ≢ l.id.number
-only_at history d0 n0 d n seats left was i l at j k differ h same =
+only_at history d0 n0 past d n seats was i l at j k differ h same =
     differ (sym (was.each j k h).0 ∙ ap was.place same ∙ (was.each i l at).0)
 
-pub stands_goes : {C : Type 0} (history : C → Option Talk) (d0 : Core) (n0 : Option Ledger) (d : Core) (n : Option Ledger) (seats : List (Seat C)) (left : ℕ) → Stands history d0 n0 d n seats left
-    → (e : Core) (m : Option Ledger) (seats' : List (Seat C)) (i : ℕ) (l k : Link C) → link_at seats i ≡ Some l → Goes history d n l e m k → link_at seats' i ≡ Some k → ((j : ℕ) → j ≢ i → link_at seats' j ≡ link_at seats j) → Stands history d0 n0 e m seats' left
-stands_goes history d0 n0 d n seats left was e m seats' i l k at goes now off =
+pub stands_goes : {C : Type 0} (history : C → Option Talk) (d0 : Core) (n0 : Option Ledger) (past : List Deed) (d : Core) (n : Option Ledger) (seats : List (Seat C)) → Stands history d0 n0 past d n seats
+    → (e : Core) (m : Option Ledger) (seats' : List (Seat C)) (i : ℕ) (l k : Link C) → link_at seats i ≡ Some l → Goes history d n l e m k → link_at seats' i ≡ Some k → ((j : ℕ) → j ≢ i → link_at seats' j ≡ link_at seats j) → WentOn history d0 n0 past 0 e m seats'
+stands_goes history d0 n0 past d n seats was e m seats' i l k at goes now off =
     let had = was.each i l at in
-    let w = goes.goes d0 n0 was.story was.leads had.1 in
-    stands_change history d0 n0 d n seats left was e m seats' left w.story l.id.number i (Some k) was.place w.leads w.others now off (λ j differ. refl)
-    (own_at history d0 n0 d n seats left was i l at) (only_at history d0 n0 d n seats left was i l at)
-    (ap (λ x. x.number) goes.same, had.0, w.tells)
-    (subst (λ x. left ≤ x) (sym w.left) was.at_least)
+    let w = goes.goes d0 n0 past was.leads had.1 in
+    let stands = stands_change history d0 n0 past d n seats was e m seats' w.story l.id.number i (Some k) was.place w.leads w.others now off (λ j differ. refl)
+    (own_at history d0 n0 past d n seats was i l at) (only_at history d0 n0 past d n seats was i l at)
+    (ap (λ x. x.number) goes.same, had.0, w.tells) in
+    record { story = w.story; more = w.more; stands = stands; count = (let c = w.left in omega (arith, c)) }
 
-pub stands_keeps : {C : Type 0} (history : C → Option Talk) (d0 : Core) (n0 : Option Ledger) (d : Core) (n : Option Ledger) (seats : List (Seat C)) (left : ℕ) → Stands history d0 n0 d n seats left
-    → (e : Core) (m : Option Ledger) (seats' : List (Seat C)) (i : ℕ) (o p : Option (Link C)) → link_at seats i ≡ o → Keeps history d n o e m p → link_at seats' i ≡ p → ((j : ℕ) → j ≢ i → link_at seats' j ≡ link_at seats j) → Stands history d0 n0 e m seats' left
-stands_keeps history d0 n0 d n seats left was e m seats' i None None at keeps now off =
-    stands_same history d0 n0 d n seats left was e m seats' keeps.0 keeps.1 (λ j. each_off j (decide j i))
+pub stands_keeps : {C : Type 0} (history : C → Option Talk) (d0 : Core) (n0 : Option Ledger) (past : List Deed) (d : Core) (n : Option Ledger) (seats : List (Seat C)) → Stands history d0 n0 past d n seats
+    → (e : Core) (m : Option Ledger) (seats' : List (Seat C)) (i : ℕ) (o p : Option (Link C)) → link_at seats i ≡ o → Keeps history d n o e m p → link_at seats' i ≡ p → ((j : ℕ) → j ≢ i → link_at seats' j ≡ link_at seats j) → WentOn history d0 n0 past 0 e m seats'
+stands_keeps history d0 n0 past d n seats was e m seats' i None None at keeps now off =
+    stays history d0 n0 past e m seats' (stands_same history d0 n0 past d n seats was e m seats' keeps.0 keeps.1 (λ j. each_off j (decide j i)))
   where
     each_off : (j : ℕ) → (j ≡ i) ⊎ (j ≢ i) → link_at seats' j ≡ link_at seats j
     each_off j (inl same) = ap (link_at seats') same ∙ (now ∙ sym at) ∙ sym (ap (link_at seats) same)
     each_off j (inr differ) = off j differ
-stands_keeps history d0 n0 d n seats left was e m seats' i None (Some k) at keeps now off = absurd keeps
-stands_keeps history d0 n0 d n seats left was e m seats' i (Some l) None at keeps now off = absurd keeps
-stands_keeps history d0 n0 d n seats left was e m seats' i (Some l) (Some k) at keeps now off =
-    stands_goes history d0 n0 d n seats left was e m seats' i l k at keeps now off
+stands_keeps history d0 n0 past d n seats was e m seats' i None (Some k) at keeps now off = absurd keeps
+stands_keeps history d0 n0 past d n seats was e m seats' i (Some l) None at keeps now off = absurd keeps
+stands_keeps history d0 n0 past d n seats was e m seats' i (Some l) (Some k) at keeps now off =
+    stands_goes history d0 n0 past d n seats was e m seats' i l k at keeps now off
 
-pub stands_parts : {C : Type 0} (history : C → Option Talk) (d0 : Core) (n0 : Option Ledger) (d : Core) (n : Option Ledger) (seats : List (Seat C)) (left : ℕ) → Stands history d0 n0 d n seats left
-    → (e : Core) (m : Option Ledger) (seats' : List (Seat C)) (i : ℕ) (l : Link C) → link_at seats i ≡ Some l → Parts history d n l e m → link_at seats' i ≡ None → ((j : ℕ) → j ≢ i → link_at seats' j ≡ link_at seats j) → Stands history d0 n0 e m seats' (left + 1)
-stands_parts history d0 n0 d n seats left was e m seats' i l at parts now off =
+pub stands_parts : {C : Type 0} (history : C → Option Talk) (d0 : Core) (n0 : Option Ledger) (past : List Deed) (d : Core) (n : Option Ledger) (seats : List (Seat C)) → Stands history d0 n0 past d n seats
+    → (e : Core) (m : Option Ledger) (seats' : List (Seat C)) (i : ℕ) (l : Link C) → link_at seats i ≡ Some l → Parts history d n l e m → link_at seats' i ≡ None → ((j : ℕ) → j ≢ i → link_at seats' j ≡ link_at seats j) → WentOn history d0 n0 past 1 e m seats'
+stands_parts history d0 n0 past d n seats was e m seats' i l at parts now off =
     let had = was.each i l at in
-    let w = parts.goes d0 n0 was.story was.leads had.1 in
-    let count = was.at_least in
-    let more = w.left in
-    stands_change history d0 n0 d n seats left was e m seats' (left + 1) w.story l.id.number i None was.place w.leads w.others now off (λ j differ. refl)
-    (own_at history d0 n0 d n seats left was i l at) (only_at history d0 n0 d n seats left was i l at)
-    (w.gone, w.dark)
-    (omega (arith, count, more))
-
-pub stands_fewer : {C : Type 0} (history : C → Option Talk) (d0 : Core) (n0 : Option Ledger) (d : Core) (n : Option Ledger) (seats : List (Seat C)) (left less : ℕ) → less ≤ left → Stands history d0 n0 d n seats left → Stands history d0 n0 d n seats less
-stands_fewer history d0 n0 d n seats left less h was = record { story = was.story; leads = was.leads; place = was.place; each = was.each; all = was.all; dark = was.dark; at_least = (let count = was.at_least in omega (arith, count, h)) }
+    let w = parts.goes d0 n0 past was.leads had.1 in
+    let stands = stands_change history d0 n0 past d n seats was e m seats' w.story l.id.number i None was.place w.leads w.others now off (λ j differ. refl)
+    (own_at history d0 n0 past d n seats was i l at) (only_at history d0 n0 past d n seats was i l at)
+    (w.gone, w.dark) in
+    record { story = w.story; more = w.more; stands = stands; count = w.left }
 
 -- a seat with a link is emptied
-pub stands_empties : {C : Type 0} (history : C → Option Talk) (d0 : Core) (n0 : Option Ledger) (d : Core) (n : Option Ledger) (seats : List (Seat C)) (left : ℕ) → Stands history d0 n0 d n seats left
-    → (e : Core) (m : Option Ledger) (seats' : List (Seat C)) (i : ℕ) (o : Option (Link C)) → IsSome o → link_at seats i ≡ o → Empties history d n o e m → link_at seats' i ≡ None → ((j : ℕ) → j ≢ i → link_at seats' j ≡ link_at seats j) → Stands history d0 n0 e m seats' (left + 1)
-stands_empties history d0 n0 d n seats left was e m seats' i None some at empties now off = cc
-stands_empties history d0 n0 d n seats left was e m seats' i (Some l) some at empties now off =
-    stands_parts history d0 n0 d n seats left was e m seats' i l at empties now off
+pub stands_empties : {C : Type 0} (history : C → Option Talk) (d0 : Core) (n0 : Option Ledger) (past : List Deed) (d : Core) (n : Option Ledger) (seats : List (Seat C)) → Stands history d0 n0 past d n seats
+    → (e : Core) (m : Option Ledger) (seats' : List (Seat C)) (i : ℕ) (o : Option (Link C)) → IsSome o → link_at seats i ≡ o → Empties history d n o e m → link_at seats' i ≡ None → ((j : ℕ) → j ≢ i → link_at seats' j ≡ link_at seats j) → WentOn history d0 n0 past 1 e m seats'
+stands_empties history d0 n0 past d n seats was e m seats' i None some at empties now off = cc
+stands_empties history d0 n0 past d n seats was e m seats' i (Some l) some at empties now off =
+    stands_parts history d0 n0 past d n seats was e m seats' i l at empties now off
 
-pub stands_greets : {C : Type 0} (history : C → Option Talk) (d0 : Core) (n0 : Option Ledger) (d : Core) (n : Option Ledger) (seats : List (Seat C)) (left : ℕ) → Stands history d0 n0 d n seats left
-    → (e : Core) (m : Option Ledger) (seats' : List (Seat C)) (i : ℕ) (p : Option (Link C)) → link_at seats i ≡ None → Greets history d n e m p → link_at seats' i ≡ p → ((j : ℕ) → j ≢ i → link_at seats' j ≡ link_at seats j) → Stands history d0 n0 e m seats' left
-stands_greets {C} history d0 n0 d n seats left was e m seats' i p at greets now off =
-    let met = greets.greets d0 n0 was.story was.leads in
-    by_link p met now
+pub stands_greets : {C : Type 0} (history : C → Option Talk) (d0 : Core) (n0 : Option Ledger) (past : List Deed) (d : Core) (n : Option Ledger) (seats : List (Seat C)) → Stands history d0 n0 past d n seats
+    → (e : Core) (m : Option Ledger) (seats' : List (Seat C)) (i : ℕ) (p : Option (Link C)) → link_at seats i ≡ None → Greets history d n e m p → link_at seats' i ≡ p → ((j : ℕ) → j ≢ i → link_at seats' j ≡ link_at seats j) → WentOn history d0 n0 past 0 e m seats'
+stands_greets {C} history d0 n0 past d n seats was e m seats' i p at greets now off =
+    let met = greets.greets d0 n0 past was.leads in
+    record { story = met.story; more = met.more; stands = by_link p met now; count = (let c = met.left in omega (arith, c)) }
   where
-    number_new : (j : ℕ) (l : Link C) → link_at seats j ≡ Some l → life_of d.opened was.story ≡ no_life → l.id.number ≢ d.opened
+    number_new : (j : ℕ) (l : Link C) → link_at seats j ≡ Some l → life_of d.opened past ≡ no_life → l.id.number ≢ d.opened
     number_new j l h none same =
         let standing = (was.each j l h).1.standing in
-        let here = subst (λ k. (life_of k was.story).standing ≡ true) same standing in
+        let here = subst (λ k. (life_of k past).standing ≡ true) same standing in
         let wrong : true ≡ false = sym here ∙ ap (λ v. v.standing) none in cc
 
-    by_link : (p : Option (Link C)) → Met history d0 n0 was.story e m d.opened p → link_at seats' i ≡ p → Stands history d0 n0 e m seats' left
+    by_link : (p : Option (Link C)) (met : Met history d0 n0 past e m d.opened p) → link_at seats' i ≡ p → Stands history d0 n0 met.story e m seats'
     by_link None met now =
-        let lives : (j : ℕ) → life_of j met.story ≡ life_of j was.story = λ j. elim (decide j d.opened) [ inl same ↦ subst (λ k. life_of k met.story ≡ life_of k was.story) (sym same) met.met | inr differ ↦ met.others j differ ] in
+        let lives : (j : ℕ) → life_of j met.story ≡ life_of j past = λ j. elim (decide j d.opened) [ inl same ↦ subst (λ k. life_of k met.story ≡ life_of k past) (sym same) met.met | inr differ ↦ met.others j differ ] in
         let links : (j : ℕ) → link_at seats' j ≡ link_at seats j = λ j. elim (decide j i) [ inl same ↦ subst (λ k. link_at seats' k ≡ link_at seats k) (sym same) (now ∙ sym at) | inr differ ↦ off j differ ] in
         record {
-          story = met.story;
           leads = met.leads;
           place = was.place;
           each = λ j x h. let before = was.each j x (sym (links j) ∙ h) in (before.0, subst (λ v. Tells history v x) (sym (lives x.id.number)) before.1);
           all = λ j h. let found = was.all j (sym (ap (λ v. v.standing) (lives j)) ∙ h) in (found.0, links (was.place j) ∙ found.1, found.2);
           dark = λ j h. ap (λ v. v.imaging) (lives j) ∙ was.dark j (sym (ap (λ v. v.standing) (lives j)) ∙ h);
-          at_least = subst (λ x. left ≤ x) (sym met.left) was.at_least;
         }
     by_link (Some l) met now =
-        stands_change history d0 n0 d n seats left was e m seats' left met.story d.opened i (Some l) (λ j. cond (eqb j d.opened) i (was.place j)) met.leads met.others now off
+        stands_change history d0 n0 past d n seats was e m seats' met.story d.opened i (Some l) (λ j. cond (eqb j d.opened) i (was.place j)) met.leads met.others now off
         (λ j differ. ap (λ b. cond b i (was.place j)) (eqb_off j d.opened differ))
         (λ k h. absurd (let wrong : None ≡ Some k = sym at ∙ h in cc))
         (λ j k differ h. number_new j k h met.met.1)
         (met.met.0, ap (λ b. cond b i (was.place d.opened)) (eq-eqb d.opened d.opened refl), met.met.2)
-        (subst (λ x. left ≤ x) (sym met.left) was.at_least)
 
 -- one more seat at the end
 pub link_at_last : {C : Type 0} (seats : List (Seat C)) (seat : Seat C) → link_at (seats ++ seat ∷ []) (length seats) ≡ seat.link
@@ -232,51 +236,56 @@ pub link_at_empty : {C : Type 0} (seats : List (Seat C)) (seat : Seat C) → sea
 link_at_empty seats seat none all j = elim (decide j (length seats)) [ inl same ↦ ap (link_at (seats ++ seat ∷ [])) same ∙ link_at_last seats seat ∙ none | inr differ ↦ sym (link_at_before seats seat j differ) ∙ all j ]
 
 -- the last seat is emptied and taken away
-pub stands_pops : {C : Type 0} (history : C → Option Talk) (d0 : Core) (n0 : Option Ledger) (d : Core) (n : Option Ledger) (seats : List (Seat C)) (seat : Seat C) (left : ℕ) → Stands history d0 n0 d n (seats ++ seat ∷ []) left
-    → (e : Core) (m : Option Ledger) (o : Option (Link C)) → seat.link ≡ o → Empties history d n o e m → Stands history d0 n0 e m seats left
-stands_pops history d0 n0 d n seats seat left was e m None at empties =
-    stands_same history d0 n0 d n (seats ++ seat ∷ []) left was e m seats empties.0 empties.1
-    (λ j. elim (decide j (length seats)) [ inl same ↦ ap (link_at seats) same ∙ link_at_end seats ∙ sym (ap (link_at (seats ++ seat ∷ [])) same ∙ link_at_last seats seat ∙ at) | inr differ ↦ link_at_before seats seat j differ ])
-stands_pops history d0 n0 d n seats seat left was e m (Some l) at empties =
-    stands_fewer history d0 n0 e m seats (left + 1) left (omega arith)
-    (stands_parts history d0 n0 d n (seats ++ seat ∷ []) left was e m seats (length seats) l (link_at_last seats seat ∙ at) empties (link_at_end seats) (link_at_before seats seat))
+pub stands_pops : {C : Type 0} (history : C → Option Talk) (d0 : Core) (n0 : Option Ledger) (past : List Deed) (d : Core) (n : Option Ledger) (seats : List (Seat C)) (seat : Seat C) → Stands history d0 n0 past d n (seats ++ seat ∷ [])
+    → (e : Core) (m : Option Ledger) (o : Option (Link C)) → seat.link ≡ o → Empties history d n o e m → (left : ℕ) × WentOn history d0 n0 past left e m seats
+stands_pops history d0 n0 past d n seats seat was e m None at empties = (
+  0,
+  stays history d0 n0 past e m seats (stands_same history d0 n0 past d n (seats ++ seat ∷ []) was e m seats empties.0 empties.1
+      (λ j. elim (decide j (length seats)) [ inl same ↦ ap (link_at seats) same ∙ link_at_end seats ∙ sym (ap (link_at (seats ++ seat ∷ [])) same ∙ link_at_last seats seat ∙ at) | inr differ ↦ link_at_before seats seat j differ ])),
+)
+stands_pops history d0 n0 past d n seats seat was e m (Some l) at empties =
+    (1, stands_parts history d0 n0 past d n (seats ++ seat ∷ []) was e m seats (length seats) l (link_at_last seats seat ∙ at) empties (link_at_end seats) (link_at_before seats seat))
 
 -- all seats are empty
-pub stands_begins : {C : Type 0} (history : C → Option Talk) (d : Core) (n : Option Ledger) (seats : List (Seat C)) → ((j : ℕ) → link_at seats j ≡ None) → Stands history d n d n seats 0
+pub stands_begins : {C : Type 0} (history : C → Option Talk) (d : Core) (n : Option Ledger) (seats : List (Seat C)) → ((j : ℕ) → link_at seats j ≡ None) → Stands history d n [] d n seats
 stands_begins history d n seats none = record {
-  story = [];
   leads = record { legal = tt; run = refl; net = refl; unused = λ id h. nobody id };
   place = λ j. j;
   each = λ j l h. absurd (let wrong : None ≡ Some l = sym (none j) ∙ h in cc);
   all = λ j h. absurd (let wrong : true ≡ false = sym h ∙ ap (λ v. v.standing) (nobody j) in cc);
   dark = λ j h. ap (λ v. v.imaging) (nobody j);
-  at_least = omega arith;
 }
 
 -- no seat is left
-pub stands_ends : {C : Type 0} (history : C → Option Talk) (d0 : Core) (n0 : Option Ledger) (d : Core) (n : Option Ledger) (left : ℕ) → Stands {C = C} history d0 n0 d n [] left → Served d0 n0 d n left
-stands_ends {C} history d0 n0 d n left was = record {
-  story = was.story;
-  leads = was.leads;
-  gone = λ id. gone id (life_of id was.story).standing refl;
-  dark = λ id. was.dark id (gone id (life_of id was.story).standing refl);
-  each = λ id opened. closed_by id was.story was.leads.legal opened (gone id (life_of id was.story).standing refl);
-  at_least = was.at_least;
+pub stands_ends : {C : Type 0} (history : C → Option Talk) (d0 : Core) (n0 : Option Ledger) (past : List Deed) (left : ℕ) (d : Core) (n : Option Ledger) → WentOn {C = C} history d0 n0 past left d n [] → Closes d0 n0 past d n
+stands_ends {C} history d0 n0 past left d n turned = record {
+  story = turned.story;
+  more = turned.more;
+  leads = turned.stands.leads;
+  over = record {
+    gone = λ id. gone id (life_of id turned.story).standing refl;
+    dark = λ id. turned.stands.dark id (gone id (life_of id turned.story).standing refl);
+    each = λ id opened. closed_by id turned.story turned.stands.leads.legal opened (gone id (life_of id turned.story).standing refl);
+  };
 }
   where
-    gone : (id : ℕ) (v : Bool) → (life_of id was.story).standing ≡ v → (life_of id was.story).standing ≡ false
-    gone id true e = let found = was.all id e in absurd (let wrong : None ≡ Some found.0 = found.1 in cc)
+    gone : (id : ℕ) (v : Bool) → (life_of id turned.story).standing ≡ v → (life_of id turned.story).standing ≡ false
+    gone id true e = let found = turned.stands.all id e in absurd (let wrong : None ≡ Some found.0 = found.1 in cc)
     gone id false e = e
 
 -- nothing was done
-pub served_none : (d : Core) (n : Option Ledger) → Served d n d n 0
-served_none d n = record {
+pub served_none : (d : Core) (n : Option Ledger) (sessions : ℕ) → Served d n d n NoMem sessions
+served_none d n sessions = record {
+  turns = [];
   story = [];
+  more = ([], refl);
   leads = record { legal = tt; run = refl; net = refl; unused = λ id h. nobody id };
-  gone = λ id. ap (λ v. v.standing) (nobody id);
-  dark = λ id. ap (λ v. v.imaging) (nobody id);
-  each = λ id opened. absurd (let wrong : true ≡ false = sym opened ∙ ap (λ v. v.opened) (nobody id) in cc);
-  at_least = omega arith;
+  over = record {
+    gone = λ id. ap (λ v. v.standing) (nobody id);
+    dark = λ id. ap (λ v. v.imaging) (nobody id);
+    each = λ id opened. absurd (let wrong : true ≡ false = sym opened ∙ ap (λ v. v.opened) (nobody id) in cc);
+  };
+  ends = refl;
 }
 
 pub take_front : {A : Type 0} (xs ys : List A) → take (length xs) (xs ++ ys) ≡ xs

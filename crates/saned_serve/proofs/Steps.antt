@@ -10,12 +10,15 @@ use Rattle.saned_serve.specs.Calls.{Call, Steps, Runs, opened_after}
 use Rattle.saned_serve.specs.Calls.Call.{Open, Feed, Take, Connect, Turn, Lose, End}
 use Rattle.saned_serve.specs.Talk.{Talk, after_write, has_read, has_written, IsFresh, moved}
 use Rattle.saned_serve.specs.Ledger.{Ledger, counted, after_close}
-use Rattle.saned_serve.specs.Story.{Deed, Life, no_life, number_of, is_of, after_call, after_deed, life_of, MayCall, May, calls_of, noted, noted_call, Leads, left_in, Spoke, Showed}
+use Rattle.saned_serve.specs.Story.{Deed, Life, no_life, number_of, is_of, after_call, after_deed, life_of, MayCall, May, calls_of, noted, noted_call, Extends, Leads, left_in, Spoke, Showed}
 use Rattle.saned_serve.specs.Story.Deed.{Makes, Refuses, Leaves, HangsUp}
 use Rattle.saned_serve.specs.Goes.{Speaks, Shows, ShowsIn, Tells, Went, Goes, Ended, Parts}
 use Rattle.saned_serve.specs.declared.sockets.Got.{Got}
 use Rattle.saned_serve.specs.declared.sockets.Got.TheVariants.{Moved, Nothing, Lost}
 use Rattle.saned_serve.specs.declared.link.Link.{Link}
+
+pub extends_then : (past mid story : List Deed) → Extends past mid → Extends mid story → Extends past story
+extends_then past mid story first then = (then.0 ++ first.0, then.1 ∙ ap (λ xs. then.0 ++ xs) first.1 ∙ sym (append_assoc then.0 first.0 past))
 
 pub life_at : (id : ℕ) (deed : Deed) (past : List Deed) → is_of deed id ≡ true → life_of id (deed ∷ past) ≡ after_deed deed (life_of id past)
 unfolding life_of
@@ -98,6 +101,7 @@ flip j id h e = h (sym e)
 pub went_call : {C : Type 0} (history : C → Option Talk) (call : Call) (d0 : Core) (n0 : Option Ledger) (past : List Deed) (d : Core) (n : Option Ledger) (e : Core) (id : ℕ) (l : Link C) → plain call ≡ true → number_of call ≡ id → Leads d0 n0 past d n → Steps d call e → MayCall call (life_of id past) → Tells history (after_call call (life_of id past)) l → Went history d0 n0 past id e (noted_call call n) l
 went_call history call d0 n0 past d n e id l p same leads steps may tells = record {
   story = Makes call ∷ past;
+  more = (Makes call ∷ [], refl);
   leads = leads_call call d0 n0 past d n e p leads steps (subst (λ j. MayCall call (life_of j past)) (sym same) may);
   tells = subst (λ life. Tells history life l) (sym (life_at id (Makes call) past (eq-eqb (number_of call) id same))) tells;
   others = λ j off. life_off j (Makes call) past (eqb_off (number_of call) j (λ e. off (sym e ∙ same)));
@@ -137,6 +141,7 @@ goes_same history d n l k same replies image records told = record {
   same = same;
   goes = λ d0 n0 past leads tells. record {
     story = past;
+    more = ([], refl);
     leads = leads;
     tells = record {
       standing = tells.standing;
@@ -154,6 +159,7 @@ goes_writes history d n l k got same replies image records told = record {
   same = same;
   goes = λ d0 n0 past leads tells. record {
     story = past;
+    more = ([], refl);
     leads = leads;
     tells = record {
       standing = tells.standing;
@@ -202,12 +208,13 @@ goes_then {C} {history} {d} {n} {l} {e} {m} {k} {f} {o} {j} a b = record {
   goes = λ d0 n0 past leads tells.
       let w = a.goes d0 n0 past leads tells in
       let tells_k = subst (λ id. Tells history (life_of id.number w.story) k) (sym a.same) w.tells in
-      went_after history d0 n0 past l.id.number k.id.number f o j (ap (λ id. id.number) a.same) w.story w.others w.left (b.goes d0 n0 w.story w.leads tells_k);
+      went_after history d0 n0 past l.id.number k.id.number f o j (ap (λ id. id.number) a.same) w.story w.more w.others w.left (b.goes d0 n0 w.story w.leads tells_k);
 }
   where
-    went_after : {C : Type 0} (history : C → Option Talk) (d0 : Core) (n0 : Option Ledger) (past : List Deed) (id other : ℕ) (f : Core) (o : Option Ledger) (j : Link C) → other ≡ id → (mid : List Deed) → ((i : ℕ) → i ≢ id → life_of i mid ≡ life_of i past) → left_in mid ≡ left_in past → Went history d0 n0 mid other f o j → Went history d0 n0 past id f o j
-    went_after history d0 n0 past id other f o j same mid first count w = record {
+    went_after : {C : Type 0} (history : C → Option Talk) (d0 : Core) (n0 : Option Ledger) (past : List Deed) (id other : ℕ) (f : Core) (o : Option Ledger) (j : Link C) → other ≡ id → (mid : List Deed) → Extends past mid → ((i : ℕ) → i ≢ id → life_of i mid ≡ life_of i past) → left_in mid ≡ left_in past → Went history d0 n0 mid other f o j → Went history d0 n0 past id f o j
+    went_after history d0 n0 past id other f o j same mid more first count w = record {
       story = w.story;
+      more = extends_then past mid w.story more w.more;
       leads = w.leads;
       tells = subst (λ i. Tells history (life_of i w.story) j) same w.tells;
       others = λ i off. w.others i (λ e. off (e ∙ same)) ∙ first i off;
@@ -270,6 +277,7 @@ goes_hangs_up history d n l m k conn was none same replies told net = record {
       let at = life_at l.id.number deed past (eq-eqb l.id.number l.id.number refl) in
       record {
         story = deed ∷ past;
+        more = (deed ∷ [], refl);
         leads = subst (λ o. Leads d0 n0 (deed ∷ past) d o) (sym net)
             (leads_deed deed d0 n0 past d n refl leads (had.0, shows_front (history conn) l.records life had.1));
         tells = subst (λ v. Tells history v k) (sym at) (record {
@@ -296,6 +304,7 @@ goes_refuses history d n l m conn fresh net = record {
       let deed = Refuses (history conn) in
       record {
         story = deed ∷ past;
+        more = (deed ∷ [], refl);
         leads = subst (λ o. Leads d0 n0 (deed ∷ past) d o) (sym net) (leads_deed deed d0 n0 past d n refl leads fresh);
         tells = subst (λ v. Tells history v l) (sym (life_off l.id.number deed past refl)) tells;
         others = λ j off. life_off j deed past refl;
@@ -390,6 +399,7 @@ parts_here history d n l e m none steps net = record {
       (tells.standing, dark, refl, speaks_front (history l.conn) l.replies life tells.speaks) in
       record {
         story = deed ∷ mid;
+        more = (deed ∷ Makes call ∷ [], refl);
         leads = subst (λ o. Leads d0 n0 (deed ∷ mid) e o) (sym net) (leads_deed deed d0 n0 mid e n refl leads1 may);
         gone = ap (λ v. v.standing) at2;
         dark = ap (λ v. v.imaging) at2 ∙ ap (λ v. v.imaging) at ∙ dark;
@@ -403,12 +413,13 @@ parts_then {C} {history} {d} {n} {l} {e} {m} {k} {f} {o} a b = record {
   goes = λ d0 n0 past leads tells.
       let w = a.goes d0 n0 past leads tells in
       let tells_k = subst (λ id. Tells history (life_of id.number w.story) k) (sym a.same) w.tells in
-      ended_after d0 n0 past l.id.number k.id.number f o (ap (λ id. id.number) a.same) w.story w.others w.left (b.goes d0 n0 w.story w.leads tells_k);
+      ended_after d0 n0 past l.id.number k.id.number f o (ap (λ id. id.number) a.same) w.story w.more w.others w.left (b.goes d0 n0 w.story w.leads tells_k);
 }
   where
-    ended_after : (d0 : Core) (n0 : Option Ledger) (past : List Deed) (id other : ℕ) (f : Core) (o : Option Ledger) → other ≡ id → (mid : List Deed) → ((i : ℕ) → i ≢ id → life_of i mid ≡ life_of i past) → left_in mid ≡ left_in past → Ended d0 n0 mid other f o → Ended d0 n0 past id f o
-    ended_after d0 n0 past id other f o same mid first count w = record {
+    ended_after : (d0 : Core) (n0 : Option Ledger) (past : List Deed) (id other : ℕ) (f : Core) (o : Option Ledger) → other ≡ id → (mid : List Deed) → Extends past mid → ((i : ℕ) → i ≢ id → life_of i mid ≡ life_of i past) → left_in mid ≡ left_in past → Ended d0 n0 mid other f o → Ended d0 n0 past id f o
+    ended_after d0 n0 past id other f o same mid more first count w = record {
       story = w.story;
+      more = extends_then past mid w.story more w.more;
       leads = w.leads;
       gone = subst (λ i. (life_of i w.story).standing ≡ false) same w.gone;
       dark = subst (λ i. (life_of i w.story).imaging ≡ false) same w.dark;

@@ -3,7 +3,7 @@ use Rattle.std.specs.Prelude.{◌≡◌, ◌≢◌, ℕ, ◌+◌, true, false, O
 use Rattle.saned_core.specs.State.{Core}
 use Rattle.saned_serve.specs.Talk.{Talk}
 use Rattle.saned_serve.specs.Ledger.{Ledger}
-use Rattle.saned_serve.specs.Story.{Deed, Life, life_of, Leads, left_in}
+use Rattle.saned_serve.specs.Story.{Deed, Life, life_of, Extends, Leads, left_in}
 use Rattle.saned_serve.specs.declared.link.Link.{Link}
 
 -- it read what was fed, and what was written and what waits are the replies taken
@@ -28,6 +28,7 @@ pub record Tells {C : Type 0} (history : C → Option Talk) (life : Life) (l : L
 -- the story went on, by deeds of this session alone
 pub record Went {C : Type 0} (history : C → Option Talk) (d0 : Core) (n0 : Option Ledger) (past : List Deed) (id : ℕ) (e : Core) (m : Option Ledger) (l : Link C) : Type 0 where
   pub story : List Deed
+  pub more : Extends past story
   pub leads : Leads d0 n0 story e m
   pub tells : Tells history (life_of id story) l
   pub others : (j : ℕ) → j ≢ id → life_of j story ≡ life_of j past
@@ -41,6 +42,7 @@ pub record Goes {C : Type 0} (history : C → Option Talk) (d : Core) (n : Optio
 -- the story went on to the end of this session's connections
 pub record Ended (d0 : Core) (n0 : Option Ledger) (past : List Deed) (id : ℕ) (e : Core) (m : Option Ledger) : Type 0 where
   pub story : List Deed
+  pub more : Extends past story
   pub leads : Leads d0 n0 story e m
   pub gone : (life_of id story).standing ≡ false
   pub dark : (life_of id story).imaging ≡ false

@@ -1,9 +1,9 @@
 -- What stands while a server takes its turns.
-use Rattle.std.specs.Prelude.{◌≡◌, ◌≢◌, ℕ, ◌≤◌, zero, suc, Bool, true, false, Option, None, Some, List, [], ◌∷◌}
+use Rattle.std.specs.Prelude.{◌≡◌, ◌≢◌, ℕ, ◌+◌, ◌≤◌, ◌<◌, zero, suc, Bool, true, false, Option, None, Some, List, [], ◌∷◌, ◌++◌}
 use Rattle.saned_core.specs.State.{Core}
 use Rattle.saned_serve.specs.Talk.{Talk}
 use Rattle.saned_serve.specs.Ledger.{Ledger}
-use Rattle.saned_serve.specs.Story.{Deed, life_of, Leads, left_in, no_life, Closed}
+use Rattle.saned_serve.specs.Story.{Deed, life_of, Extends, Leads, left_in, no_life, Closed}
 use Rattle.saned_serve.specs.Goes.{Tells, Goes, Parts}
 use Rattle.saned_serve.specs.declared.link.Link.{Link}
 use Rattle.saned_serve.specs.declared.seats.Seat.{Seat}
@@ -19,22 +19,38 @@ abbrev pub one_if : Bool → ℕ
 one_if true = 1
 one_if false = 0
 
--- how many sessions an end tells
-abbrev pub counted_by : ServeEnd → ℕ → ℕ
-counted_by Sessions sessions = sessions
-counted_by Idle sessions = 0
-counted_by Turns sessions = 0
-counted_by NoMem sessions = 0
+-- as many as a daemon takes
+abbrev pub most_sessions : ℕ
+most_sessions = 8
+
+-- what the sessions that were counted in all turns have to do with the end, which comes with the first turn after which
+-- they are as many as were to be served (0: no such end), and one turn counts no more than there are seats
+abbrev pub EndsBy : ServeEnd → ℕ → ℕ → Type 0
+EndsBy Sessions sessions count = (0 < sessions) × (sessions ≤ count) × (count < sessions + most_sessions)
+EndsBy Idle sessions count = 0 < sessions → count < sessions
+EndsBy Turns sessions count = 0 < sessions → count < sessions
+EndsBy NoMem sessions count = count ≡ 0
 
 -- at most one session a seat, each session in one, and each one's connections tell its life
-pub record Stands {C : Type 0} (history : C → Option Talk) (d0 : Core) (n0 : Option Ledger) (d : Core) (n : Option Ledger) (seats : List (Seat C)) (left : ℕ) : Type 0 where
-  pub story : List Deed
+pub record Stands {C : Type 0} (history : C → Option Talk) (d0 : Core) (n0 : Option Ledger) (story : List Deed) (d : Core) (n : Option Ledger) (seats : List (Seat C)) : Type 0 where
   pub leads : Leads d0 n0 story d n
   pub place : ℕ → ℕ
   pub each : (i : ℕ) (l : Link C) → link_at seats i ≡ Some l → (place l.id.number ≡ i) × Tells history (life_of l.id.number story) l
   pub all : (id : ℕ) → (life_of id story).standing ≡ true → (l : Link C) × (link_at seats (place id) ≡ Some l) × (l.id.number ≡ id)
   pub dark : (id : ℕ) → (life_of id story).standing ≡ false → (life_of id story).imaging ≡ false
-  pub at_least : left ≤ left_in story
+
+-- the story went on, and so many sessions left
+pub record WentOn {C : Type 0} (history : C → Option Talk) (d0 : Core) (n0 : Option Ledger) (past : List Deed) (left : ℕ) (e : Core) (m : Option Ledger) (seats : List (Seat C)) : Type 0 where
+  pub story : List Deed
+  pub more : Extends past story
+  pub stands : Stands history d0 n0 story e m seats
+  pub count : left_in story ≡ left_in past + left
+
+-- all turns were taken
+pub record Ran {C : Type 0} (history : C → Option Talk) (d0 : Core) (n0 : Option Ledger) (end : ServeEnd) (sessions : ℕ) (e : Core) (m : Option Ledger) (seats : List (Seat C)) : Type 0 where
+  pub story : List Deed
+  pub stands : Stands history d0 n0 story e m seats
+  pub ends : EndsBy end sessions (left_in story)
 
 -- a seat's session goes on, or the seat is empty and nothing is done
 abbrev pub Keeps : {C : Type 0} → (C → Option Talk) → Core → Option Ledger → Option (Link C) → Core → Option Ledger → Option (Link C) → Type 0
@@ -55,6 +71,7 @@ IsMet history past story id (Some l) = (l.id.number ≡ id) × (life_of id past 
 -- a new session's link, or none: a connection may have been refused
 pub record Met {C : Type 0} (history : C → Option Talk) (d0 : Core) (n0 : Option Ledger) (past : List Deed) (e : Core) (m : Option Ledger) (id : ℕ) (link : Option (Link C)) : Type 0 where
   pub story : List Deed
+  pub more : Extends past story
   pub leads : Leads d0 n0 story e m
   pub others : (j : ℕ) → j ≢ id → life_of j story ≡ life_of j past
   pub met : IsMet history past story id link
@@ -63,14 +80,25 @@ pub record Met {C : Type 0} (history : C → Option Talk) (d0 : Core) (n0 : Opti
 pub record Greets {C : Type 0} (history : C → Option Talk) (d : Core) (n : Option Ledger) (e : Core) (m : Option Ledger) (link : Option (Link C)) : Type 0 where
   pub greets : (d0 : Core) (n0 : Option Ledger) (past : List Deed) → Leads d0 n0 past d n → Met history d0 n0 past e m d.opened link
 
--- what a server's whole run did
-pub record Served (d : Core) (before : Option Ledger) (e : Core) (after : Option Ledger) (left : ℕ) : Type 0 where
-  pub story : List Deed
-  pub leads : Leads d before story e after
-  -- at the end no session stands, and no connection is held
+-- nothing stands at the end of a story, and each session that was opened had one control connection, which read just what
+-- it was fed
+pub record IsOver (story : List Deed) : Type 0 where
   pub gone : (id : ℕ) → (life_of id story).standing ≡ false
   pub dark : (id : ℕ) → (life_of id story).imaging ≡ false
-  -- each session that was opened had one control connection, which read just what it was fed
   pub each : (id : ℕ) → (life_of id story).opened ≡ true → Closed id story
-  -- so many sessions were counted
-  pub at_least : left ≤ left_in story
+
+-- what still stood was ended
+pub record Closes (d0 : Core) (n0 : Option Ledger) (past : List Deed) (e : Core) (m : Option Ledger) : Type 0 where
+  pub story : List Deed
+  pub more : Extends past story
+  pub leads : Leads d0 n0 story e m
+  pub over : IsOver story
+
+-- what a server's whole run did: its turns, and then the end of all that still stood
+pub record Served (d : Core) (before : Option Ledger) (e : Core) (after : Option Ledger) (end : ServeEnd) (sessions : ℕ) : Type 0 where
+  pub turns : List Deed
+  pub story : List Deed
+  pub more : Extends turns story
+  pub leads : Leads d before story e after
+  pub over : IsOver story
+  pub ends : EndsBy end sessions (left_in turns)

@@ -129,6 +129,10 @@ abbrev pub ledger_after : List Deed → Option Ledger → Option Ledger
 ledger_after [] ledger = ledger
 ledger_after (deed ∷ past) ledger = noted deed (ledger_after past ledger)
 
+-- the story went on: what was done before it still tells
+abbrev pub Extends : List Deed → List Deed → Type 0
+Extends past story = (since : List Deed) × (story ≡ since ++ past)
+
 -- a deed is in the story
 abbrev pub Holds : Deed → List Deed → Type 0
 Holds deed [] = ⊥

@@ -1,9 +1,10 @@
 //! The seats of sessions: who comes, who goes, and one turn of each.
 
-ghost use Rattle.std.specs.Prelude.{◌≡◌, ◌≤◌, ◌<◌, ◌+◌, ℕ, Option, None, Some, length, IsSome, IsTrue, IfSome, IfOk, []};
+ghost use Rattle.std.specs.Prelude.{◌≡◌, ◌≤◌, ◌<◌, ℕ, List, Option, None, Some, length, IsSome, IsTrue, IfSome, IfOk, []};
 ghost use Rattle.saned_core.specs.State.{Core, core};
 ghost use Rattle.saned_serve.specs.Ledger.{Ledger};
-ghost use Rattle.saned_serve.specs.Stands.{Stands, Keeps, Empties, Greets, Served, one_if, link_at};
+ghost use Rattle.saned_serve.specs.Stands.{Stands, WentOn, Keeps, Empties, Greets, Closes, most_sessions, one_if, link_at};
+ghost use Rattle.saned_serve.specs.Story.{Deed};
 
 use crate::Listeners;
 use crate::link::{Link, Rooms, converse, leave, part};
@@ -50,7 +51,8 @@ fn rooms_for(alloc: Global, replies: usize, records: usize) -> Result<Vec<Rooms>
 
 /// Eight empty seats. All the memory that serving takes is taken here.
 pub fn seats_for<C>(alloc: Global) -> Result<Vec<Seat<C>>, AllocError>
-    ensures { IfOk result (λ seats. (i : ℕ) → link_at seats.items i ≡ None) }
+    ensures empty { IfOk result (λ seats. (i : ℕ) → link_at seats.items i ≡ None) }
+    ensures len { IfOk result (λ seats. length seats.items ≡ most_sessions) }
 {
     let mut rooms = rooms_for(alloc, MOST_REPLY, MOST_RECORD)?;
     let mut seats = Vec::with_capacity(alloc, MOST_SESSIONS)?;
@@ -106,8 +108,8 @@ pub fn turn_at<D: Device, L: Listeners>(
     i: usize,
 ) -> Visit
     requires { i < length seats.old }
-    ensures { (d0 : Core) (n0 : Option Ledger) (left : ℕ) → Stands L.Conn.history d0 n0 (core D.state daemon.old) (L.ledger net.old) seats.old left
-        → Stands L.Conn.history d0 n0 (core D.state daemon.new) (L.ledger net.new) seats.new (left + one_if result.has_left) }
+    ensures { (d0 : Core) (n0 : Option Ledger) (past : List Deed) → Stands L.Conn.history d0 n0 past (core D.state daemon.old) (L.ledger net.old) seats.old
+        → WentOn L.Conn.history d0 n0 past (one_if result.has_left) (core D.state daemon.new) (L.ledger net.new) seats.new }
 {
     let seat = &mut seats[i];
     let visit = talk_at(alloc, daemon, net, seat);
@@ -194,8 +196,8 @@ fn greet_at<D: Device, L: Listeners>(
 ) -> bool
     requires inside { i < length seats.old }
     requires none { link_at seats.old i ≡ None }
-    ensures { (d0 : Core) (n0 : Option Ledger) (left : ℕ) → Stands L.Conn.history d0 n0 (core D.state daemon.old) (L.ledger net.old) seats.old left
-        → Stands L.Conn.history d0 n0 (core D.state daemon.new) (L.ledger net.new) seats.new left }
+    ensures { (d0 : Core) (n0 : Option Ledger) (past : List Deed) → Stands L.Conn.history d0 n0 past (core D.state daemon.old) (L.ledger net.old) seats.old
+        → WentOn L.Conn.history d0 n0 past 0 (core D.state daemon.new) (L.ledger net.new) seats.new }
 {
     let seat = &mut seats[i];
     greet(alloc, daemon, net, seat)
@@ -208,8 +210,8 @@ pub fn welcome<D: Device, L: Listeners>(
     net: &mut L,
     seats: &mut [Seat<L::Conn>],
 ) -> bool
-    ensures { (d0 : Core) (n0 : Option Ledger) (left : ℕ) → Stands L.Conn.history d0 n0 (core D.state daemon.old) (L.ledger net.old) seats.old left
-        → Stands L.Conn.history d0 n0 (core D.state daemon.new) (L.ledger net.new) seats.new left }
+    ensures { (d0 : Core) (n0 : Option Ledger) (past : List Deed) → Stands L.Conn.history d0 n0 past (core D.state daemon.old) (L.ledger net.old) seats.old
+        → WentOn L.Conn.history d0 n0 past 0 (core D.state daemon.new) (L.ledger net.new) seats.new }
 {
     for i in 0..seats.len() {
         if seats[i].link.is_none() {
@@ -236,8 +238,8 @@ pub fn close_all<D: Device, L: Listeners>(
     net: &mut L,
     mut seats: Vec<Seat<L::Conn>>,
 )
-    ensures { (d0 : Core) (n0 : Option Ledger) (left : ℕ) → Stands L.Conn.history d0 n0 (core D.state daemon.old) (L.ledger net.old) seats.items left
-        → Served d0 n0 (core D.state daemon.new) (L.ledger net.new) left }
+    ensures { (d0 : Core) (n0 : Option Ledger) (past : List Deed) → Stands L.Conn.history d0 n0 past (core D.state daemon.old) (L.ledger net.old) seats.items
+        → Closes d0 n0 past (core D.state daemon.new) (L.ledger net.new) }
 {
     while let Some(mut seat) = seats.pop() {
         vacate(daemon, net, &mut seat);

@@ -1,9 +1,10 @@
 //! Turn after turn, until enough sessions left or nothing moves.
 
-ghost use Rattle.std.specs.Prelude.{◌≡◌, ◌≢◌, ◌<◌, ◌+◌, ℕ, Option};
+ghost use Rattle.std.specs.Prelude.{◌≡◌, ◌≢◌, ◌≤◌, List, [], Option, length};
 ghost use Rattle.saned_core.specs.State.{Core, core};
 ghost use Rattle.saned_serve.specs.Ledger.{Ledger};
-ghost use Rattle.saned_serve.specs.Stands.{Stands, Served, counted_by};
+ghost use Rattle.saned_serve.specs.Stands.{Stands, WentOn, Ran, Served, most_sessions};
+ghost use Rattle.saned_serve.specs.Story.{Deed};
 
 use crate::Listeners;
 use crate::seats::{Seat, close_all, seats_for, turn_at, welcome};
@@ -25,15 +26,16 @@ fn take_turn<D: Device, L: Listeners>(
     net: &mut L,
     seats: &mut [Seat<L::Conn>],
 ) -> Turned
-    ensures { (d0 : Core) (n0 : Option Ledger) (left : ℕ) → Stands L.Conn.history d0 n0 (core D.state daemon.old) (L.ledger net.old) seats.old left
-        → Stands L.Conn.history d0 n0 (core D.state daemon.new) (L.ledger net.new) seats.new (left + result.left) }
+    ensures turned { (d0 : Core) (n0 : Option Ledger) (past : List Deed) → Stands L.Conn.history d0 n0 past (core D.state daemon.old) (L.ledger net.old) seats.old
+        → WentOn L.Conn.history d0 n0 past result.left (core D.state daemon.new) (L.ledger net.new) seats.new }
+    ensures few { result.left ≤ length seats.old }
 {
     let mut has_moved = welcome(alloc, daemon, net, seats);
     let mut left = 0u64;
     for i in 0..seats.len() {
         let visit = turn_at(alloc, daemon, net, seats, i);
         has_moved |= visit.has_moved;
-        left = left.saturating_add(u64::from(visit.has_left));
+        left += u64::from(visit.has_left);
     }
     Turned { has_moved, left }
 }
@@ -61,16 +63,16 @@ fn take_turns<D: Device, L: Listeners>(
     sessions: u64,
     idle_turns: u64,
 ) -> ServeEnd
-    ensures stands { (d0 : Core) (n0 : Option Ledger) → Stands L.Conn.history d0 n0 (core D.state daemon.old) (L.ledger net.old) seats.old 0
-        → Stands L.Conn.history d0 n0 (core D.state daemon.new) (L.ledger net.new) seats.new (counted_by result sessions) }
-    ensures some { result ≡ ServeEnd.Sessions → 0 < sessions }
+    requires { length seats.old ≡ most_sessions }
+    ensures ran { (d0 : Core) (n0 : Option Ledger) → Stands L.Conn.history d0 n0 [] (core D.state daemon.old) (L.ledger net.old) seats.old
+        → Ran L.Conn.history d0 n0 result sessions (core D.state daemon.new) (L.ledger net.new) seats.new }
     ensures memory { result ≢ ServeEnd.NoMem }
 {
     let mut all_left = 0u64;
     let mut idle = 0u64;
     for _turn in 0..MOST_TURNS {
         let turned = take_turn(alloc, daemon, net, seats);
-        all_left = all_left.saturating_add(turned.left);
+        all_left += turned.left;
         if sessions > 0 && all_left >= sessions {
             return ServeEnd::Sessions;
         }
@@ -91,7 +93,7 @@ fn take_turns<D: Device, L: Listeners>(
 /// writes replies once, takes the data connection where a frame waits for one, and writes of one record; what a write did
 /// not take goes first in the next turn.
 /// A connection is closed once it is lost, or once its session is over and its replies are written, and its session counted
-/// then. It ends after so many sessions (0: no such end), after so many turns in a row in which nothing moved, or after 2^40
+/// then. It ends with the first turn after which so many sessions are counted (0: no such end), after so many turns in a row in which nothing moved, or after 2^40
 /// turns, and hands every connection back. All memory of its own is taken before the first accept; `NoMem` comes only there,
 /// and then nothing was done.
 pub fn serve<D: Device, L: Listeners>(
@@ -101,8 +103,7 @@ pub fn serve<D: Device, L: Listeners>(
     sessions: u64,
     idle_turns: u64,
 ) -> ServeEnd
-    ensures served { Served (core D.state daemon.old) (L.ledger net.old) (core D.state daemon.new) (L.ledger net.new) (counted_by result sessions) }
-    ensures some { result ≡ ServeEnd.Sessions → 0 < sessions }
+    ensures served { Served (core D.state daemon.old) (L.ledger net.old) (core D.state daemon.new) (L.ledger net.new) result sessions }
     ensures memory { result ≡ ServeEnd.NoMem → (daemon.new ≡ daemon.old) × (L.ledger net.new ≡ L.ledger net.old) }
 {
     let mut seats: Vec<Seat<L::Conn>> = match seats_for(alloc) {
