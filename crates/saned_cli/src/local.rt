@@ -15,7 +15,8 @@ use std::time::Clock;
 /// As many data ports as there are sessions.
 const MOST_PORTS: usize = 8;
 
-/// Connections on 127.0.0.1 that never wait for a peer. Where nothing moves for long an accept naps.
+/// Connections on 127.0.0.1 that never wait for a peer. Where nothing moves for long an accept naps; while bytes move the
+/// system is asked for a new connection in one accept of sixteen.
 #[derive(Drop)]
 pub struct LocalNet<R: Net + Clock + Drop> {
     control: TcpListener,
@@ -104,6 +105,9 @@ impl<R: Net + Clock + Drop> Listeners for LocalNet<R> {
     type Conn = LocalSocket<R>;
 
     fn accept(&mut self) -> Option<LocalSocket<R>> {
+        if self.pace.is_busy() {
+            return None;
+        }
         match self.control.accept() {
             Ok((stream, _)) => {
                 self.pace.quicken();

@@ -8,17 +8,28 @@ const PATIENCE: u32 = 200_000;
 
 const NAP_MICROS: u64 = 200;
 
+/// While bytes move, so many accepts in a row are left out: the system makes a socket before it finds that nobody waits.
+const LEFT_OUT: u32 = 15;
+
 /// How long nothing has moved. The listeners and all their connections share it.
 #[derive(Drop)]
 pub struct Pace<R: Drop> {
     rt: R,
     idle: Cell<u32>,
+    /// Whether something moved since the last accept.
+    has_moved: Cell<bool>,
+    left_out: Cell<u32>,
 }
 
 impl<R: Drop> Pace<R> {
     pub fn new(alloc: Global, rt: R) -> Result<Rc<Pace<R>>, AllocError> {
-        let idle = Cell::new(0);
-        Ok(Rc::new(alloc, Pace { rt, idle })?)
+        let pace = Pace {
+            rt,
+            idle: Cell::new(0),
+            has_moved: Cell::new(false),
+            left_out: Cell::new(0),
+        };
+        Ok(Rc::new(alloc, pace)?)
     }
 
     pub fn runtime(&self) -> &R {
@@ -28,6 +39,15 @@ impl<R: Drop> Pace<R> {
     /// Something moved.
     pub fn quicken(&self) {
         self.idle.set(0);
+        self.has_moved.set(true);
+    }
+
+    /// Whether an accept may be left out, since bytes move and not too many were.
+    pub fn is_busy(&self) -> bool {
+        let left_out = self.left_out.get();
+        let is_busy = self.has_moved.replace(false) && left_out < LEFT_OUT;
+        self.left_out.set(if is_busy { left_out + 1 } else { 0 });
+        is_busy
     }
 }
 
