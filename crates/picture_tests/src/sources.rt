@@ -373,20 +373,22 @@ fn window(resolution: u32, left: i32, right: i32) -> Scene
 #[test]
 fn columns_of_windows(rt: HostRuntime) -> Result<(), Fail> {
     // At 26 dots per inch 1 mm has one dot, 4 mm have four.
-    for (left, right, width, dpi, columns) in [
+    for (left, right, width, dpi, columns, run) in [
         // Each column of a page at 13 dots per inch is seen twice.
-        (0, 4, 1, 13, [Some(0), Some(0), None, None]),
-        (0, 4, 2, 13, [Some(0), Some(0), Some(1), Some(1)]),
+        (0, 4, 1, 13, [Some(0), Some(0), None, None], None),
+        (0, 4, 2, 13, [Some(0), Some(0), Some(1), Some(1)], None),
         // Every second column of a page at 52 dots per inch is seen.
-        (0, 4, 5, 52, [Some(0), Some(2), Some(4), None]),
+        (0, 4, 5, 52, [Some(0), Some(2), Some(4), None], None),
         // A window that begins two dots inside.
-        (2, 6, 4, 26, [Some(2), Some(3), None, None]),
+        (2, 6, 4, 26, [Some(2), Some(3), None, None], None),
+        (2, 6, 6, 26, [Some(2), Some(3), Some(4), Some(5)], Some(2)),
     ] {
         let scene = window(26, left * 65536, right * 65536);
         let map = ColumnMap::new(rt.alloc(), &scene, width, dpi)?;
         assert!(rt; map.places().len() == 4);
         let seen = [map.at(0), map.at(1), map.at(2), map.at(3)];
         assert!(rt; seen == columns);
+        assert!(rt; map.run() == run);
     }
     Ok(())
 }
