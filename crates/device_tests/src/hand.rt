@@ -1,75 +1,80 @@
+use crate::calls::{Call, DEPTH, Part, Plain, RESOLUTION, expect_each, page, reads, told};
 use device_api::Device;
 use hand_dev::HandScanner;
-use option_desc::Value;
-use page_picture::{MemoryPage, Source, read_page};
-use sane_fixed::{ByteOrder, Info, Status, Text};
-use std::alloc::Global;
+use sane_fixed::{ByteOrder, FrameFormat, Status, Text};
+use std::alloc::{AllocError, Global};
 use std::process::Abort;
-
-const DEPTH: u32 = 2;
-
-const RESOLUTION: u32 = 3;
 
 const HAND_SCANNER: u32 = 4;
 
-fn hand(rt: &impl Abort, alloc: Global, file: &[u8], dpi: u32) -> HandScanner {
-    let name = Text::new(alloc, b"hand:0").expect(rt, "a name");
-    let page = read_page(alloc, file, dpi).expect(rt, "a page");
-    match HandScanner::new(
-        alloc,
-        name,
-        Source::Memory(MemoryPage::new(page)),
-        ByteOrder::Big,
-    ) {
-        Ok(hand) => hand,
-        Err(_) => panic!(rt; "no scanner"),
-    }
+fn hand(alloc: Global, file: &[u8]) -> Option<HandScanner> {
+    let name = Text::new(alloc, b"hand:0").ok()?;
+    HandScanner::new(alloc, name, page(alloc, file, 75)?, ByteOrder::Big).ok()
 }
 
 #[test]
 fn what_it_is(rt: HostRuntime) {
     let alloc = rt.alloc();
-    let hand = hand(&rt, alloc, b"P5\n1 1\n255\n\x00", 75);
-    assert!(rt; hand.info().name.as_bytes() == b"hand:0".as_slice());
-    assert!(rt; hand.info().model.as_bytes() == b"Hand".as_slice());
-    assert!(rt; hand.info().class.as_bytes() == b"handheld scanner".as_slice());
-    assert!(rt; hand.descriptors(alloc).map(|all| all.len()).ok() == Some(5));
-    assert!(rt; hand.get(alloc, 0).ok() == Some(Value::Int(5)));
-    assert!(rt; hand.get(alloc, HAND_SCANNER).ok() == Some(Value::Flag(true)));
+    let mut hand = hand(alloc, b"P5\n1 1\n255\n\x00").expect(&rt, "a scanner");
+    expect_each(
+        &rt,
+        alloc,
+        &mut hand,
+        &[
+            Call::Is(Part::Name, b"hand:0"),
+            Call::Is(Part::Model, b"Hand"),
+            Call::Is(Part::Class, b"handheld scanner"),
+            Call::Options(5),
+            Call::Has(0, Plain::Int(5)),
+            Call::Has(HAND_SCANNER, Plain::Flag(true)),
+        ],
+    );
 }
 
 #[test]
 fn its_own_resolutions(rt: HostRuntime) {
     let alloc = rt.alloc();
-    let mut hand = hand(&rt, alloc, b"P5\n1 1\n255\n\x00", 75);
-    for (asked, given, info) in [
-        (125, 100, Info(5)),
-        (5000, 300, Info(5)),
-        (150, 150, Info(4)),
-    ] {
-        let got = hand.set(alloc, RESOLUTION, &Value::Int(asked));
-        assert!(rt; got.ok() == Some((Value::Int(given), info)));
-    }
-    let got = hand.set(alloc, HAND_SCANNER, &Value::Flag(false));
-    assert!(rt; got.err() == Some(Status::Inval));
+    let mut hand = hand(alloc, b"P5\n1 1\n255\n\x00").expect(&rt, "a scanner");
+    expect_each(
+        &rt,
+        alloc,
+        &mut hand,
+        &[
+            Call::Gives(RESOLUTION, Plain::Int(125), Plain::Int(100), 5),
+            Call::Gives(RESOLUTION, Plain::Int(5000), Plain::Int(300), 5),
+            Call::Gives(RESOLUTION, Plain::Int(150), Plain::Int(150), 4),
+            Call::Refuses(HAND_SCANNER, Plain::Flag(false), Status::Inval),
+        ],
+    );
 }
 
-/// Ten black rows: of 324 pixels a line the first is black.
+/// Ten black rows of one place each.
+pub const BLACK: &[u8] = b"P5\n1 10\n255\n\x00\x00\x00\x00\x00\x00\x00\x00\x00\x00";
+
+/// Ten lines of 41 bytes, of which the first is 80 and each other 0.
+fn column(alloc: Global) -> Result<Vec<u8>, AllocError> {
+    let mut bytes = Vec::new(alloc);
+    for i in 0..410u32 {
+        bytes.push(if i % 41 == 0 { 0x80 } else { 0 })?;
+    }
+    Ok(bytes)
+}
+
+/// At depth 1 the ten rows are 324 pixels a line, of which the first is black, by reads of at most so many bytes.
+pub fn expect_column<D: Device>(rt: &impl Abort, alloc: Global, device: &mut D, most: usize) {
+    let line = told(FrameFormat::Gray, true, 41, 324, None, 1);
+    let depth = Call::Set(DEPTH, Plain::Int(1));
+    let calls = [depth, Call::Told(line), Call::Start(Ok(()))];
+    expect_each(rt, alloc, device, &calls);
+    let want = column(alloc).expect(rt, "memory");
+    let is_column = reads(alloc, device, most, 10, &want, Status::Eof);
+    assert!(rt; is_column == Some(true));
+    expect_each(rt, alloc, device, &[Call::AtRest(true)]);
+}
+
 #[test]
 fn one_black_column(rt: HostRuntime) {
     let alloc = rt.alloc();
-    let file = b"P5\n1 10\n255\n\x00\x00\x00\x00\x00\x00\x00\x00\x00\x00";
-    let mut hand = hand(&rt, alloc, file, 75);
-    hand.set(alloc, DEPTH, &Value::Int(1)).expect(&rt, "a set");
-    assert!(rt; hand.params().lines == None);
-    assert!(rt; hand.params().pixels_per_line == 324);
-    hand.start(alloc).expect(&rt, "a start");
-    let mut line = [0u8; 41];
-    for _ in 0..10 {
-        assert!(rt; hand.read(&mut line) == Ok(41));
-        assert!(rt; line[0] == 0x80);
-        assert!(rt; line[1..].iter().all(|byte| *byte == 0));
-    }
-    assert!(rt; hand.read(&mut line) == Err(Status::Eof));
-    assert!(rt; hand.at_rest());
+    let mut hand = hand(alloc, BLACK).expect(&rt, "a scanner");
+    expect_column(&rt, alloc, &mut hand, 41);
 }

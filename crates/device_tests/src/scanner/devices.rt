@@ -1,224 +1,200 @@
 //! Virtual scanners by the calls of the trait, as boxes.
 
+use crate::calls::{Call, DEPTH, MODE, Part, Plain, RESOLUTION, expect_each, page, told};
 use crate::scanner::scan::{read_picture, reset_all, scan_with};
+use crate::threepass::{COLORS, expect_pass, prepare};
 use device_api::Device;
 use option_desc::Value;
-use page_picture::{DeviceKind, FailingPage, MemoryPage, Page, Source, read_page};
-use sane_fixed::{ByteOrder, Fixed, FrameFormat, Params, Status, Text};
+use page_picture::{DeviceKind, FailingPage, Source, read_page};
+use sane_fixed::{ByteOrder, FrameFormat, Status, Text};
 use std::alloc::Global;
 use std::process::Abort;
 use virtual_scanner::VirtualScanner;
 
-fn text(rt: &impl Abort, alloc: Global, bytes: &[u8]) -> Text {
-    Text::new(alloc, bytes).ok().expect(rt, "memory")
-}
+const DOT: &[u8] = b"P5\n1 1\n255\n\x0a";
 
-fn page(rt: &impl Abort, alloc: Global, bytes: &[u8]) -> Page {
-    read_page(alloc, bytes, 26).ok().expect(rt, "a page")
-}
+const PPL_LOSS: u32 = 9;
 
-fn memory(rt: &impl Abort, alloc: Global, bytes: &[u8]) -> Source {
-    Source::Memory(MemoryPage::new(page(rt, alloc, bytes)))
-}
+const READ_LIMIT_SIZE: u32 = 10;
 
-fn scanner(rt: &impl Abort, alloc: Global, kind: DeviceKind, source: Source) -> VirtualScanner {
-    assert!(rt; !matches!(kind, DeviceKind::Feeder));
-    let name = text(rt, alloc, b"test:0");
-    match VirtualScanner::new(alloc, kind, name, source, ByteOrder::Big) {
-        Ok(scanner) => scanner,
-        Err(_) => panic!(rt; "no scanner"),
+const READ_RETURN_VALUE: u32 = 11;
+
+fn scanner(alloc: Global, kind: DeviceKind, source: Source) -> Option<VirtualScanner> {
+    if let DeviceKind::Feeder = kind {
+        return None;
     }
+    let name = Text::new(alloc, b"test:0").ok()?;
+    VirtualScanner::new(alloc, kind, name, source, ByteOrder::Big).ok()
 }
 
-fn put(rt: &impl Abort, alloc: Global, device: &mut Box<dyn Device>, n: u32, value: Value) {
-    assert!(rt; device.set(alloc, n, &value).is_ok());
+fn on_file(alloc: Global, kind: DeviceKind, file: &[u8]) -> Option<VirtualScanner> {
+    scanner(alloc, kind, page(alloc, file, 26)?)
 }
 
-fn put_text(rt: &impl Abort, alloc: Global, device: &mut Box<dyn Device>, n: u32, bytes: &[u8]) {
-    let value = Value::Text(text(rt, alloc, bytes));
-    put(rt, alloc, device, n, value);
+/// The calls of a flatbed in a box.
+fn boxed<R: Abort + AllocGlobal>(rt: &R, file: &[u8], calls: &[Call]) {
+    let flatbed = on_file(rt.alloc(), DeviceKind::Flatbed, file).expect(rt, "a flatbed");
+    let mut device: Box<dyn Device> = Box::new(rt.alloc(), flatbed).expect(rt, "memory");
+    expect_each(rt, rt.alloc(), &mut device, calls);
 }
 
-/// A picture of so many mm, a dot each.
-fn window(rt: &impl Abort, alloc: Global, device: &mut Box<dyn Device>, x: i32, y: i32) {
-    put(rt, alloc, device, 3, Value::Int(26));
-    put(
-        rt,
-        alloc,
-        device,
-        6,
-        Value::Fixed(Fixed(x.saturating_mul(65536))),
-    );
-    put(
-        rt,
-        alloc,
-        device,
-        7,
-        Value::Fixed(Fixed(y.saturating_mul(65536))),
-    );
-}
+const START: Call = Call::Start(Ok(()));
 
-/// Starts, and the frame gives these bytes.
-fn frame(rt: &impl Abort, alloc: Global, device: &mut Box<dyn Device>, want: &[u8]) {
-    assert!(rt; device.start(alloc) == Ok(()));
-    let mut got = Vec::new(alloc);
-    let mut buf = [0u8; 7];
-    for _ in 0..1000 {
-        match device.read(&mut buf) {
-            Ok(n) => got.extend_from_slice(&buf[..n]).expect(rt, "memory"),
-            Err(status) => {
-                assert!(rt; status == Status::Eof);
-                assert!(rt; got.as_slice() == want);
-                return;
-            }
-        }
-    }
-    panic!(rt; "a frame without an end")
-}
+const SHOWS: Call = Call::Frame(1, &[10], Status::Eof);
 
 #[test]
 fn a_gray_frame(rt: HostRuntime) {
-    let alloc = rt.alloc();
-    let source = memory(&rt, alloc, b"P5\n1 1\n255\n\x0a");
-    let device = scanner(&rt, alloc, DeviceKind::Flatbed, source);
-    let mut device: Box<dyn Device> = Box::new(alloc, device).expect(&rt, "memory");
-    window(&rt, alloc, &mut device, 1, 1);
-    assert!(rt; device.order() == ByteOrder::Big);
-    assert!(rt; device.info().model.as_bytes() == b"Flatbed".as_slice());
-    frame(&rt, alloc, &mut device, &[10]);
-    assert!(rt; device.at_rest());
+    boxed(
+        &rt,
+        DOT,
+        &[
+            Call::Window(1, 1),
+            Call::Order(ByteOrder::Big),
+            Call::Is(Part::Model, b"Flatbed"),
+            START,
+            SHOWS,
+            Call::AtRest(true),
+        ],
+    );
 }
 
 #[test]
 fn a_loss_and_a_limit(rt: HostRuntime) {
-    let alloc = rt.alloc();
-    let source = memory(&rt, alloc, b"P6\n2 1\n255\n\x01\x02\x03\x04\x05\x06");
-    let device = scanner(&rt, alloc, DeviceKind::Flatbed, source);
-    let mut device: Box<dyn Device> = Box::new(alloc, device).expect(&rt, "memory");
-    put_text(&rt, alloc, &mut device, 1, b"Color");
-    window(&rt, alloc, &mut device, 2, 1);
-    put(&rt, alloc, &mut device, 9, Value::Int(3));
-    put(&rt, alloc, &mut device, 10, Value::Int(1));
-    frame(
+    boxed(
         &rt,
-        alloc,
-        &mut device,
-        &[1, 2, 3, 4, 5, 6, 0, 0, 0, 0, 0, 0, 0, 0, 0],
+        b"P6\n2 1\n255\n\x01\x02\x03\x04\x05\x06",
+        &[
+            Call::Set(MODE, Plain::Text(b"Color")),
+            Call::Window(2, 1),
+            Call::Set(PPL_LOSS, Plain::Int(3)),
+            Call::Set(READ_LIMIT_SIZE, Plain::Int(1)),
+            START,
+            Call::Frame(
+                15,
+                &[1, 2, 3, 4, 5, 6, 0, 0, 0, 0, 0, 0, 0, 0, 0],
+                Status::Eof,
+            ),
+        ],
     );
 }
 
 #[test]
 fn three_passes(rt: HostRuntime) {
     let alloc = rt.alloc();
-    let raster = b"P6\n2 1\n65535\n\x00\x01\x00\x02\x00\x03\x00\x04\x00\x05\x01\x00";
-    let device = scanner(
+    let three = on_file(alloc, DeviceKind::ThreePass, COLORS).expect(&rt, "a scanner");
+    let mut device: Box<dyn Device> = Box::new(alloc, three).expect(&rt, "memory");
+    prepare(&rt, alloc, &mut device, b"BGR");
+    expect_pass(&rt, alloc, &mut device, FrameFormat::Blue, false);
+    expect_each(
         &rt,
         alloc,
-        DeviceKind::ThreePass,
-        memory(&rt, alloc, raster),
+        &mut device,
+        &[
+            Call::Told(told(FrameFormat::Blue, false, 4, 2, Some(1), 16)),
+            // Between the passes nothing can be set, and no page put in.
+            Call::AtRest(false),
+            Call::Refuses(DEPTH, Plain::Int(8), Status::DeviceBusy),
+            Call::Load(DOT, false),
+            Call::Read(Err(Status::Inval)),
+        ],
     );
-    let mut device: Box<dyn Device> = Box::new(alloc, device).expect(&rt, "memory");
-    put_text(&rt, alloc, &mut device, 1, b"Color");
-    put(&rt, alloc, &mut device, 2, Value::Int(16));
-    put_text(&rt, alloc, &mut device, 8, b"BGR");
-    window(&rt, alloc, &mut device, 2, 1);
-    frame(&rt, alloc, &mut device, &[0, 3, 1, 0]);
-    assert!(rt; device.params().format == FrameFormat::Blue);
-    // Between the passes nothing can be set, and no page put in.
-    assert!(rt; !device.at_rest());
-    assert!(rt; device.set(alloc, 2, &Value::Int(8)).err() == Some(Status::DeviceBusy));
-    assert!(rt;
-        device
-            .load(memory(&rt, alloc, b"P5\n1 1\n255\n\x0a"))
-            .is_err()
-    );
-    let mut buf = [0u8; 7];
-    assert!(rt; device.read(&mut buf) == Err(Status::Inval));
-    frame(&rt, alloc, &mut device, &[0, 2, 0, 5]);
-    frame(&rt, alloc, &mut device, &[0, 1, 0, 4]);
+    expect_pass(&rt, alloc, &mut device, FrameFormat::Green, false);
+    expect_pass(&rt, alloc, &mut device, FrameFormat::Red, true);
     assert!(rt; device.at_rest());
     // The same by the contract alone, all passes one after another.
     let mut all = Vec::new(alloc);
     assert!(rt; read_picture(alloc, &mut *device, &mut all) == Ok(()));
     assert!(rt; all.as_slice() == [0u8, 3, 1, 0, 0, 2, 0, 5, 0, 1, 0, 4].as_slice());
-    assert!(rt;
-        device
-            .load(memory(&rt, alloc, b"P5\n1 1\n255\n\x0a"))
-            .is_ok()
-    );
+    expect_each(&rt, alloc, &mut device, &[Call::Load(DOT, true)]);
 }
 
 #[test]
 fn what_the_first_read_tells(rt: HostRuntime) {
-    let alloc = rt.alloc();
-    let source = memory(&rt, alloc, b"P5\n1 1\n255\n\x0a");
-    let device = scanner(&rt, alloc, DeviceKind::Flatbed, source);
-    let mut device: Box<dyn Device> = Box::new(alloc, device).expect(&rt, "memory");
-    window(&rt, alloc, &mut device, 1, 1);
-    put_text(&rt, alloc, &mut device, 11, b"SANE_STATUS_EOF");
-    frame(&rt, alloc, &mut device, &[]);
-    put_text(&rt, alloc, &mut device, 11, b"SANE_STATUS_JAMMED");
-    assert!(rt; device.start(alloc) == Ok(()));
-    let mut buf = [0u8; 7];
-    assert!(rt; device.read(&mut buf) == Err(Status::Jammed));
-    assert!(rt; device.at_rest());
-    assert!(rt; device.read(&mut buf) == Err(Status::Inval));
+    boxed(
+        &rt,
+        DOT,
+        &[
+            Call::Window(1, 1),
+            Call::Set(READ_RETURN_VALUE, Plain::Text(b"SANE_STATUS_EOF")),
+            START,
+            Call::Frame(0, &[], Status::Eof),
+            Call::Set(READ_RETURN_VALUE, Plain::Text(b"SANE_STATUS_JAMMED")),
+            START,
+            Call::Read(Err(Status::Jammed)),
+            Call::AtRest(true),
+            Call::Read(Err(Status::Inval)),
+        ],
+    );
 }
 
 #[test]
 fn a_cancelled_scan(rt: HostRuntime) {
-    let alloc = rt.alloc();
-    let source = memory(&rt, alloc, b"P5\n1 1\n255\n\x0a");
-    let device = scanner(&rt, alloc, DeviceKind::Flatbed, source);
-    let mut device: Box<dyn Device> = Box::new(alloc, device).expect(&rt, "memory");
-    window(&rt, alloc, &mut device, 1, 1);
-    let mut buf = [0u8; 7];
-    device.cancel();
-    assert!(rt; device.read(&mut buf) == Err(Status::Inval));
-    assert!(rt; device.start(alloc) == Ok(()));
-    assert!(rt; device.start(alloc) == Err(Status::DeviceBusy));
-    device.cancel();
-    assert!(rt; device.read(&mut buf) == Err(Status::Cancelled));
-    frame(&rt, alloc, &mut device, &[10]);
-    assert!(rt; device.read(&mut buf) == Err(Status::Inval));
+    boxed(
+        &rt,
+        DOT,
+        &[
+            Call::Window(1, 1),
+            Call::Cancel,
+            Call::Read(Err(Status::Inval)),
+            START,
+            Call::Start(Err(Status::DeviceBusy)),
+            Call::Cancel,
+            Call::Read(Err(Status::Cancelled)),
+            START,
+            SHOWS,
+            Call::Read(Err(Status::Inval)),
+        ],
+    );
+}
+
+/// A flatbed on a page whose second call fails.
+fn failing(alloc: Global) -> Option<VirtualScanner> {
+    let page = read_page(alloc, DOT, 26).ok()?;
+    let source = Source::Failing(FailingPage::new(page, 2));
+    scanner(alloc, DeviceKind::Flatbed, source)
 }
 
 #[test]
 fn no_picture_and_a_fault(rt: HostRuntime) {
     let alloc = rt.alloc();
-    let source = Source::Failing(FailingPage::new(page(&rt, alloc, b"P5\n1 1\n255\n\x0a"), 2));
-    let device = scanner(&rt, alloc, DeviceKind::Flatbed, source);
-    let mut device: Box<dyn Device> = Box::new(alloc, device).expect(&rt, "memory");
-    window(&rt, alloc, &mut device, 0, 1);
-    assert!(rt; device.start(alloc) == Err(Status::Inval));
-    let none = Params {
-        format: FrameFormat::Gray,
-        last_frame: true,
-        bytes_per_line: 0,
-        pixels_per_line: 0,
-        lines: Some(0),
-        depth: 8,
-    };
-    assert!(rt; device.params() == none);
-    window(&rt, alloc, &mut device, 1, 1);
-    assert!(rt; device.start(alloc) == Ok(()));
-    let mut buf = [0u8; 7];
-    assert!(rt; device.read(&mut buf) == Err(Status::IoError));
-    assert!(rt; device.at_rest());
-    frame(&rt, alloc, &mut device, &[10]);
+    let flatbed = failing(alloc).expect(&rt, "a flatbed");
+    let mut device: Box<dyn Device> = Box::new(alloc, flatbed).expect(&rt, "memory");
+    expect_each(
+        &rt,
+        alloc,
+        &mut device,
+        &[
+            Call::Window(0, 1),
+            Call::Start(Err(Status::Inval)),
+            Call::Told(told(FrameFormat::Gray, true, 0, 0, Some(0), 8)),
+            Call::Window(1, 1),
+            START,
+            Call::Read(Err(Status::IoError)),
+            Call::AtRest(true),
+            START,
+            SHOWS,
+        ],
+    );
 }
 
 #[test]
 fn scanned_by_the_contract_alone(rt: HostRuntime) {
     let alloc = rt.alloc();
-    let source = memory(&rt, alloc, b"P5\n1 1\n255\n\x0a");
-    let device = scanner(&rt, alloc, DeviceKind::Flatbed, source);
-    let mut device: Box<dyn Device> = Box::new(alloc, device).expect(&rt, "memory");
+    let flatbed = on_file(alloc, DeviceKind::Flatbed, DOT).expect(&rt, "a flatbed");
+    let mut device: Box<dyn Device> = Box::new(alloc, flatbed).expect(&rt, "memory");
     // 80 by 100 mm at one dot per inch are three dots across and three down, all but the first off the page.
-    let bytes = scan_with(alloc, &mut *device, 3, &Value::Int(1))
+    let bytes = scan_with(alloc, &mut *device, RESOLUTION, &Value::Int(1))
         .ok()
         .expect(&rt, "a frame");
     assert!(rt; bytes.as_slice() == [10u8, 255, 255, 255, 255, 255, 255, 255, 255].as_slice());
+}
+
+/// The devices have these resolutions.
+fn expect_resolutions<D: Device>(rt: &impl Abort, alloc: Global, devices: &[D], wanted: &[i32]) {
+    assert!(rt; devices.len() == wanted.len());
+    for (device, dpi) in devices.iter().zip(wanted) {
+        assert!(rt; device.get(alloc, RESOLUTION).ok() == Some(Value::Int(*dpi)));
+    }
 }
 
 #[test]
@@ -226,23 +202,12 @@ fn boxes_reset_one_after_another(rt: HostRuntime) {
     let alloc = rt.alloc();
     let mut devices = Vec::new(alloc);
     for kind in [DeviceKind::Flatbed, DeviceKind::Hand, DeviceKind::ThreePass] {
-        let source = memory(&rt, alloc, b"P5\n1 1\n255\n\x0a");
-        let device = scanner(&rt, alloc, kind, source);
+        let device = on_file(alloc, kind, DOT).expect(&rt, "a scanner");
         let mut device: Box<dyn Device> = Box::new(alloc, device).expect(&rt, "memory");
-        put(&rt, alloc, &mut device, 3, Value::Int(150));
+        let set = Call::Set(RESOLUTION, Plain::Int(150));
+        expect_each(&rt, alloc, &mut device, &[set]);
         devices.push(device).expect(&rt, "memory");
     }
     reset_all(devices.as_mut_slice());
-    let mut resolutions = Vec::new(alloc);
-    for device in &devices {
-        resolutions
-            .push(device.get(alloc, 3).ok())
-            .expect(&rt, "memory");
-    }
-    let want = [
-        Some(Value::Int(50)),
-        Some(Value::Int(75)),
-        Some(Value::Int(50)),
-    ];
-    assert!(rt; resolutions.as_slice() == want.as_slice());
+    expect_resolutions(&rt, alloc, devices.as_slice(), &[50, 75, 50]);
 }
