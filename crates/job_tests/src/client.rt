@@ -15,6 +15,14 @@ enum Comes<'a> {
     Data(&'a [u8]),
 }
 
+impl<'a> Comes<'a> {
+    fn bytes(&self) -> &'a [u8] {
+        match self {
+            Comes::Control(bytes) | Comes::Data(bytes) => bytes,
+        }
+    }
+}
+
 /// What a client made of it.
 #[derive(Drop)]
 struct Played {
@@ -54,68 +62,82 @@ fn text(rt: &impl Abort, alloc: Global, bytes: &[u8]) -> Text {
     Text::new(alloc, bytes).expect(rt, "a text")
 }
 
-fn job(rt: &impl Abort, alloc: Global, settings: &[(&[u8], &[u8])], task: Task) -> Job {
+/// Names and what they are set to.
+fn pairs(rt: &impl Abort, alloc: Global, settings: &[(&[u8], &[u8])]) -> Vec<(Text, Text)> {
     let mut list = Vec::new(alloc);
     for (name, value) in settings {
         let setting = (text(rt, alloc, name), text(rt, alloc, value));
         list.push(setting).expect(rt, "memory");
     }
+    list
+}
+
+fn job(rt: &impl Abort, alloc: Global, settings: &[(&[u8], &[u8])], task: Task) -> Job {
     Job {
+        settings: pairs(rt, alloc, settings),
         user: text(rt, alloc, b"user"),
         password: text(rt, alloc, b"bc"),
         device: text(rt, alloc, b"flatbed:0"),
-        settings: list,
         task,
     }
 }
 
 fn started(rt: &impl Abort, alloc: Global, job: Job) -> Played {
-    Played {
-        client: Client::new(alloc, job)
-            .map_err(|refused| refused.0)
-            .expect(rt, "a job that is taken"),
-        sent: Vec::new(alloc),
-        files: Vec::new(alloc),
+    match Client::new(alloc, job) {
+        Ok(client) => Played {
+            client,
+            sent: Vec::new(alloc),
+            files: Vec::new(alloc),
+        },
+        Err(_) => panic!(rt; "no job that is taken"),
     }
+}
+
+/// Adds the first bytes of a room.
+fn add(rt: &impl Abort, list: &mut Vec<u8>, room: &[u8], count: usize) {
+    let bytes = room.get(..count).expect(rt, "bytes of the room");
+    list.extend_from_slice(bytes).expect(rt, "memory");
 }
 
 /// Takes what is to go out, and the bytes of the file.
 fn drain(rt: &impl Abort, played: &mut Played) {
     let mut room = [0; 16];
     for _ in 0..1000 {
-        let n = played.client.take_out(&mut room);
-        played
-            .sent
-            .extend_from_slice(&room[..n])
-            .expect(rt, "memory");
+        let sent = played.client.take_out(&mut room);
+        add(rt, &mut played.sent, &room, sent);
         let given = played.client.take_file(&mut room);
-        played
-            .files
-            .extend_from_slice(&room[..given])
-            .expect(rt, "memory");
-        if n == 0 && given == 0 {
+        add(rt, &mut played.files, &room, given);
+        if sent == 0 && given == 0 {
             return;
         }
     }
 }
 
+/// Bytes come on the connection of that part.
+fn feed(client: &mut Client, comes: Comes<'_>, bytes: &[u8]) {
+    match comes {
+        Comes::Control(_) => client.feed_control(bytes),
+        Comes::Data(_) => client.feed_data(bytes),
+    }
+}
+
+/// The data connection is made, if the part is of one.
+fn connect(client: &mut Client, comes: Comes<'_>) {
+    if let Comes::Data(_) = comes {
+        client.data_opened();
+    }
+}
+
 /// Bytes come in pieces of that size, the first `most` of them at most. Says how many came.
 fn come(rt: &impl Abort, played: &mut Played, comes: Comes<'_>, size: usize, most: usize) -> usize {
-    let bytes = match comes {
-        Comes::Control(bytes) => bytes,
-        Comes::Data(bytes) => {
-            if most > 0 {
-                played.client.data_opened();
-            }
-            bytes
-        }
-    };
-    let bytes = &bytes[..bytes.len().min(most)];
+    if most == 0 {
+        return 0;
+    }
+    connect(&mut played.client, comes);
+    let bytes = comes.bytes();
+    let bytes = bytes.get(..most).unwrap_or(bytes);
     for piece in bytes.chunks(size.max(1)) {
-        match comes {
-            Comes::Control(_) => played.client.feed_control(piece),
-            Comes::Data(_) => played.client.feed_data(piece),
-        }
+        feed(&mut played.client, comes, piece);
         drain(rt, played);
     }
     bytes.len()
@@ -144,21 +166,26 @@ fn is_done(outcome: &Outcome) -> bool {
     matches!(outcome, Outcome::Done(_))
 }
 
-fn ends(rt: &impl Abort, outcome: &Outcome, status: Status, why: Why) {
+/// How a job ended, if it did.
+fn ended(outcome: &Outcome) -> Option<(Status, Why)> {
     match outcome {
-        Outcome::Ended(s, w) => {
-            assert!(rt; *s == status);
-            assert!(rt; *w == why);
-        }
-        _ => assert!(rt; false),
+        Outcome::Ended(status, why) => Some((*status, *why)),
+        _ => None,
     }
 }
 
 /// The fault of a job that is refused, and how many settings came back.
 fn refused(alloc: Global, job: Job) -> Option<(JobFault, usize)> {
     match Client::new(alloc, job) {
-        Ok(_) => None,
-        Err((fault, back)) => Some((fault, back.settings.len())),
+        Ok(client) => {
+            drop(client);
+            None
+        }
+        Err((fault, back)) => {
+            let settings = back.settings.len();
+            drop(back);
+            Some((fault, settings))
+        }
     }
 }
 
@@ -166,20 +193,26 @@ fn refused(alloc: Global, job: Job) -> Option<(JobFault, usize)> {
 #[test]
 fn jobs_that_are_refused(rt: HostRuntime) {
     let alloc = rt.alloc();
-    let long = [b'a'; 1024];
-    let mut longest = job(&rt, alloc, &[(b"mode", &long)], Task::Batch(0));
-    assert!(&rt; refused(alloc, longest) == Some((JobFault::TextTooLong, 1)));
-    longest = job(&rt, alloc, &[(b"mode", &long)], Task::Batch(0));
-    for _ in 0..64 {
-        let setting = (text(&rt, alloc, b"mode"), text(&rt, alloc, b"Gray"));
-        longest.settings.push(setting).expect(&rt, "memory");
-    }
-    assert!(&rt; refused(alloc, longest) == Some((JobFault::TooManySettings, 65)));
-    for count in [0, 17] {
-        let batch = job(&rt, alloc, &[], Task::Batch(count));
-        assert!(&rt; refused(alloc, batch) == Some((JobFault::BadCount, 0)));
-    }
-    for task in [Task::List, Task::Batch(1), Task::Batch(16)] {
-        assert!(&rt; refused(alloc, job(&rt, alloc, &[], task)) == None);
+    let long: &[(&[u8], &[u8])] = &[(b"mode", &[b'a'; 1024])];
+    for (settings, more, task, fault) in [
+        (long, 0, Task::Batch(0), Some((JobFault::TextTooLong, 1))),
+        (
+            long,
+            64,
+            Task::Batch(0),
+            Some((JobFault::TooManySettings, 65)),
+        ),
+        (&[], 0, Task::Batch(0), Some((JobFault::BadCount, 0))),
+        (&[], 0, Task::Batch(17), Some((JobFault::BadCount, 0))),
+        (&[], 0, Task::List, None),
+        (&[], 0, Task::Batch(1), None),
+        (&[], 0, Task::Batch(16), None),
+    ] {
+        let mut job = job(&rt, alloc, settings, task);
+        for _ in 0..more {
+            let setting = (text(&rt, alloc, b"mode"), text(&rt, alloc, b"Gray"));
+            job.settings.push(setting).expect(&rt, "memory");
+        }
+        assert!(&rt; refused(alloc, job) == fault);
     }
 }

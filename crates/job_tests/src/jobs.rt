@@ -3,60 +3,84 @@ use scan_job::{Job, JobFault, Listed, Task, Why};
 use std::alloc::Global;
 use std::process::Abort;
 
+const LONG: &[u8] = &[b'a'; 1024];
+
 fn text(rt: &impl Abort, alloc: Global, bytes: &[u8]) -> Text {
     Text::new(alloc, bytes).expect(rt, "a text")
 }
 
-/// A job of so many settings, each with a text of so many bytes.
-fn job(rt: &impl Abort, alloc: Global, count: usize, bytes: usize) -> Job {
-    let long = [b'a'; 1024];
-    let value = &long[..bytes.min(1024)];
+/// So many settings of that name, each with that value.
+fn settings(
+    rt: &impl Abort,
+    alloc: Global,
+    count: usize,
+    name: &[u8],
+    value: &[u8],
+) -> Vec<(Text, Text)> {
     let mut settings = Vec::new(alloc);
     for _ in 0..count {
-        let setting = (text(rt, alloc, b"mode"), text(rt, alloc, value));
+        let setting = (text(rt, alloc, name), text(rt, alloc, value));
         settings.push(setting).expect(rt, "memory");
     }
+    settings
+}
+
+/// A job of so many settings, each with a text of so many bytes.
+fn job(rt: &impl Abort, alloc: Global, count: usize, bytes: usize, task: Task) -> Job {
+    let value = LONG.get(..bytes).expect(rt, "a value");
     Job {
+        settings: settings(rt, alloc, count, b"mode", value),
         user: text(rt, alloc, b"user"),
         password: text(rt, alloc, b""),
         device: text(rt, alloc, b"flatbed:0"),
-        settings,
-        task: Task::Scan,
+        task,
     }
 }
 
 #[test]
 fn the_size_of_a_job(rt: HostRuntime) {
-    let alloc = rt.alloc();
-    assert!(&rt; job(&rt, alloc, 0, 0).has_size());
-    assert!(&rt; job(&rt, alloc, 64, 1023).has_size());
-    assert!(&rt; !job(&rt, alloc, 65, 1023).has_size());
-    assert!(&rt; !job(&rt, alloc, 1, 1024).has_size());
+    for (count, bytes, has_size) in [
+        (0, 0, true),
+        (64, 1023, true),
+        (65, 1023, false),
+        (1, 1024, false),
+    ] {
+        let given = job(&rt, rt.alloc(), count, bytes, Task::Scan);
+        assert!(&rt; given.has_size() == has_size);
+        drop(given);
+    }
+}
+
+/// A job of these texts and one setting of that name.
+fn named(rt: &impl Abort, alloc: Global, texts: [&[u8]; 4]) -> Job {
+    let [device, user, password, name] = texts;
+    Job {
+        settings: settings(rt, alloc, 1, name, b""),
+        user: text(rt, alloc, user),
+        password: text(rt, alloc, password),
+        device: text(rt, alloc, device),
+        task: Task::Scan,
+    }
 }
 
 #[test]
 fn each_text_of_a_job_is_short(rt: HostRuntime) {
-    let alloc = rt.alloc();
-    let long = [b'a'; 1024];
-    let mut named = job(&rt, alloc, 0, 0);
-    named.device = text(&rt, alloc, &long);
-    assert!(&rt; !named.has_size());
-    let mut used = job(&rt, alloc, 0, 0);
-    used.user = text(&rt, alloc, &long);
-    assert!(&rt; !used.has_size());
-    let mut known = job(&rt, alloc, 0, 0);
-    known.password = text(&rt, alloc, &long);
-    assert!(&rt; !known.has_size());
-    let mut set = job(&rt, alloc, 0, 0);
-    let setting = (text(&rt, alloc, &long), text(&rt, alloc, b""));
-    set.settings.push(setting).expect(&rt, "memory");
-    assert!(&rt; !set.has_size());
+    for (texts, has_size) in [
+        ([b"flatbed:0".as_slice(), b"user", b"", b"mode"], true),
+        ([LONG, b"user", b"", b"mode"], false),
+        ([b"flatbed:0", LONG, b"", b"mode"], false),
+        ([b"flatbed:0", b"user", LONG, b"mode"], false),
+        ([b"flatbed:0", b"user", b"", LONG], false),
+    ] {
+        let given = named(&rt, rt.alloc(), texts);
+        assert!(&rt; given.has_size() == has_size);
+        drop(given);
+    }
 }
 
 #[test]
 fn why_a_job_is_refused(rt: HostRuntime) {
-    let alloc = rt.alloc();
-    let cases = [
+    for (count, bytes, task, fault) in [
         (64, 1023, Task::Batch(16), None),
         (64, 1023, Task::Batch(1), None),
         (0, 0, Task::List, None),
@@ -64,11 +88,10 @@ fn why_a_job_is_refused(rt: HostRuntime) {
         (1, 1024, Task::Batch(0), Some(JobFault::TextTooLong)),
         (1, 1023, Task::Batch(0), Some(JobFault::BadCount)),
         (1, 1023, Task::Batch(17), Some(JobFault::BadCount)),
-    ];
-    for (count, bytes, task, fault) in cases {
-        let mut given = job(&rt, alloc, count, bytes);
-        given.task = task;
+    ] {
+        let given = job(&rt, rt.alloc(), count, bytes, task);
         assert!(&rt; given.fault() == fault);
+        drop(given);
     }
 }
 

@@ -1,4 +1,5 @@
-//! Tests of jobs, here and over the net, and of the frontend's library.
+//! Tests of jobs, here and over the net, and of the frontend's library. Large values are let go by `drop`, so that the
+//! proof takes them apart once, and not in each test.
 #![tactic(auto)]
 
 #[cfg(test)]

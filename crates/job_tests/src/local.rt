@@ -9,7 +9,7 @@ use option_desc::Value;
 use page_picture::{FailingPage, MemoryPage, Source, read_page};
 use pnm_writer::read_pnm;
 use sane_fixed::{ByteOrder, Fixed, Info, Status, Text};
-use scan_job::{Job, Outcome, Report, Reports, Task, Why};
+use scan_job::{Job, Outcome, Reports, Task, Why};
 use std::alloc::Global;
 use std::io::{ErrorKind, Write};
 use std::process::Abort;
@@ -42,18 +42,23 @@ fn flatbed_on(rt: &impl Abort, alloc: Global, file: &[u8], dpi: u32) -> Flatbed 
     flatbed(rt, alloc, Source::Memory(MemoryPage::new(page)))
 }
 
-/// A job of these settings, in their order.
-fn job(rt: &impl Abort, alloc: Global, settings: &[(&[u8], &[u8])], task: Task) -> Job {
+/// Names and what they are set to.
+fn pairs(rt: &impl Abort, alloc: Global, settings: &[(&[u8], &[u8])]) -> Vec<(Text, Text)> {
     let mut pairs = Vec::new(alloc);
     for (name, value) in settings {
         let pair = (text(rt, alloc, name), text(rt, alloc, value));
         pairs.push(pair).expect(rt, "memory");
     }
+    pairs
+}
+
+/// A job of these settings, in their order.
+fn job(rt: &impl Abort, alloc: Global, settings: &[(&[u8], &[u8])], task: Task) -> Job {
     Job {
+        settings: pairs(rt, alloc, settings),
         user: text(rt, alloc, b"user"),
         password: text(rt, alloc, b""),
         device: text(rt, alloc, b"flatbed:0"),
-        settings: pairs,
         task,
     }
 }
@@ -62,18 +67,43 @@ fn job(rt: &impl Abort, alloc: Global, settings: &[(&[u8], &[u8])], task: Task) 
 fn done(rt: &impl Abort, outcome: Outcome) -> Reports {
     match outcome {
         Outcome::Done(reports) => reports,
-        Outcome::Running => panic!(rt; "not over"),
-        Outcome::Ended(_, _) => panic!(rt; "not done"),
+        _ => panic!(rt; "not done"),
+    }
+}
+
+fn is_ended(outcome: &Outcome, status: Status, why: Why) -> bool {
+    match outcome {
+        Outcome::Ended(got, because) => *got == status && *because == why,
+        _ => false,
     }
 }
 
 /// The job ended with this status, for this reason.
 fn ends(rt: &impl Abort, outcome: &Outcome, status: Status, why: Why) {
-    match outcome {
-        Outcome::Ended(got, because) => assert!(rt; (*got, *because) == (status, why)),
-        Outcome::Running => panic!(rt; "not over"),
-        Outcome::Done(_) => panic!(rt; "done"),
-    }
+    assert!(rt; is_ended(outcome, status, why));
+}
+
+/// What a job of these settings comes to, and what it writes. Behind it the device is at rest.
+fn run(
+    rt: &impl Abort,
+    alloc: Global,
+    device: &mut dyn Device,
+    settings: &[(&[u8], &[u8])],
+    task: Task,
+) -> (Outcome, Vec<u8>) {
+    let mut file = Vec::new(alloc);
+    let given = job(rt, alloc, settings, task);
+    let outcome = run_local(alloc, device, &given, &mut file);
+    drop(given);
+    assert!(rt; device.at_rest());
+    (outcome, file)
+}
+
+/// Whether so many settings are reported, and no device and no option.
+fn is_of_settings(reports: &Reports, count: usize) -> bool {
+    reports.settings.as_slice().len() == count
+        && reports.devices.as_slice().is_empty()
+        && reports.options.as_slice().is_empty()
 }
 
 /// A scan with these settings is done, and this is the file that it writes.
@@ -84,20 +114,18 @@ fn scans(
     settings: &[(&[u8], &[u8])],
     want: &[u8],
 ) -> Reports {
-    let mut file = Vec::new(alloc);
-    let outcome = run_local(
-        alloc,
-        device,
-        &job(rt, alloc, settings, Task::Scan),
-        &mut file,
-    );
-    let reports = done(rt, outcome);
+    let (outcome, file) = run(rt, alloc, device, settings, Task::Scan);
     assert!(rt; file.as_slice() == want);
-    assert!(rt; device.at_rest());
-    assert!(rt; reports.settings.as_slice().len() == settings.len());
-    assert!(rt; reports.devices.as_slice().is_empty());
-    assert!(rt; reports.options.as_slice().is_empty());
+    let reports = done(rt, outcome);
+    assert!(rt; is_of_settings(&reports, settings.len()));
     reports
+}
+
+fn is_no_picture(alloc: Global, file: &[u8]) -> bool {
+    let read = read_pnm(alloc, file);
+    let is_none = read.is_err();
+    drop(read);
+    is_none
 }
 
 /// A scan with these settings ends so, and the output has no whole file.
@@ -109,16 +137,10 @@ fn scan_ends(
     status: Status,
     why: Why,
 ) {
-    let mut file = Vec::new(alloc);
-    let outcome = run_local(
-        alloc,
-        device,
-        &job(rt, alloc, settings, Task::Scan),
-        &mut file,
-    );
-    ends(rt, &outcome, status, why);
-    assert!(rt; read_pnm(alloc, &file).is_err());
-    assert!(rt; device.at_rest());
+    let (outcome, file) = run(rt, alloc, device, settings, Task::Scan);
+    assert!(rt; is_no_picture(alloc, &file));
+    assert!(rt; is_ended(&outcome, status, why));
+    drop(outcome);
 }
 
 /// What a job that puts its settings alone reports; it writes nothing.
@@ -128,24 +150,43 @@ fn sets(
     device: &mut Flatbed,
     settings: &[(&[u8], &[u8])],
 ) -> Reports {
-    let mut file = Vec::new(alloc);
-    let outcome = run_local(
-        alloc,
-        device,
-        &job(rt, alloc, settings, Task::SetOnly),
-        &mut file,
-    );
-    assert!(rt; file.len() == 0);
-    assert!(rt; device.at_rest());
+    let (outcome, file) = run(rt, alloc, device, settings, Task::SetOnly);
+    assert!(rt; file.is_empty());
     done(rt, outcome)
 }
 
-fn report_of<'a>(rt: &impl Abort, reports: &'a Reports, n: usize) -> &'a Report {
-    reports.settings.as_slice().get(n).expect(rt, "a report")
+fn is_named(reports: &Reports, n: usize, name: &[u8]) -> bool {
+    match reports.settings.as_slice().get(n) {
+        Some(report) => report.name.as_bytes() == name,
+        None => false,
+    }
+}
+
+/// What a setting was asked to be and was given as, if it is an integer, and what was said of it.
+fn put_int(reports: &Reports, n: usize) -> Option<(i32, i32, u32)> {
+    let report = reports.settings.as_slice().get(n)?;
+    match (&report.asked, &report.given) {
+        (Value::Int(asked), Value::Int(given)) => Some((*asked, *given, report.info.0)),
+        _ => None,
+    }
+}
+
+/// The same of a fixed number, in 65,536ths.
+fn put_fixed(reports: &Reports, n: usize) -> Option<(i32, i32, u32)> {
+    let report = reports.settings.as_slice().get(n)?;
+    match (&report.asked, &report.given) {
+        (Value::Fixed(asked), Value::Fixed(given)) => Some((asked.0, given.0, report.info.0)),
+        _ => None,
+    }
 }
 
 fn resolution(rt: &impl Abort, alloc: Global, device: &Flatbed) -> Value {
     device.get(alloc, RESOLUTION).expect(rt, "a resolution")
+}
+
+/// The device's resolution is that again.
+fn stands_at(rt: &impl Abort, alloc: Global, device: &Flatbed, dpi: i32) {
+    assert!(rt; resolution(rt, alloc, device) == Value::Int(dpi));
 }
 
 #[test]
@@ -154,21 +195,32 @@ fn two_rows(rt: HostRuntime) {
     let mut device = flatbed_on(&rt, alloc, TWO_ROWS, 26);
     assert!(&rt; TWO_ROWS_FILE.len() == 33);
     let reports = scans(&rt, alloc, &mut device, ONE_BY_TWO, TWO_ROWS_FILE);
-    let first = report_of(&rt, &reports, 0);
-    assert!(&rt; first.name.as_bytes() == b"resolution".as_slice());
-    assert!(&rt; first.asked == Value::Int(26));
-    assert!(&rt; first.given == Value::Int(26));
-    assert!(&rt; first.info == Info(Info::RELOAD_PARAMS));
-    assert!(&rt; report_of(&rt, &reports, 1).name.as_bytes() == b"br-x".as_slice());
-    assert!(&rt; report_of(&rt, &reports, 2).name.as_bytes() == b"br-y".as_slice());
-    assert!(&rt; report_of(&rt, &reports, 2).given == Value::Fixed(Fixed(131072)));
+    for (n, (name, _)) in ONE_BY_TWO.iter().enumerate() {
+        assert!(&rt; is_named(&reports, n, name));
+    }
+    assert!(&rt; put_int(&reports, 0) == Some((26, 26, Info::RELOAD_PARAMS)));
+    let last = put_fixed(&reports, 2).expect(&rt, "a length");
+    assert!(&rt; last.1 == 131072);
+    drop(reports);
+    drop(device);
+}
+
+/// Scans, each with the first so many settings, write these files.
+fn each_scans(
+    rt: &impl Abort,
+    alloc: Global,
+    device: &mut Flatbed,
+    settings: &[(&[u8], &[u8])],
+    files: &[(usize, &[u8])],
+) {
+    for (count, file) in files {
+        let first = settings.get(..*count).expect(rt, "settings");
+        drop(scans(rt, alloc, device, first, file));
+    }
 }
 
 #[test]
 fn lost_pixels(rt: HostRuntime) {
-    let alloc = rt.alloc();
-    let page = b"P6\n2 1\n255\n\x01\x02\x03\x04\x05\x06";
-    let mut device = flatbed_on(&rt, alloc, page, 26);
     let settings: &[(&[u8], &[u8])] = &[
         (b"mode", b"Color"),
         (b"resolution", b"26"),
@@ -177,67 +229,66 @@ fn lost_pixels(rt: HostRuntime) {
         (b"ppl-loss", b"3"),
         (b"read-limit-size", b"1"),
     ];
-    scans(
+    let page = b"P6\n2 1\n255\n\x01\x02\x03\x04\x05\x06";
+    let mut device = flatbed_on(&rt, rt.alloc(), page, 26);
+    each_scans(
         &rt,
-        alloc,
+        rt.alloc(),
         &mut device,
         settings,
-        b"P6\n# SANE data follows\n2 1\n255\n\x01\x02\x03\x04\x05\x06",
+        &[(
+            6,
+            b"P6\n# SANE data follows\n2 1\n255\n\x01\x02\x03\x04\x05\x06",
+        )],
     );
+    drop(device);
 }
 
 #[test]
 fn a_page_half_seen(rt: HostRuntime) {
-    let alloc = rt.alloc();
-    let mut device = flatbed_on(&rt, alloc, b"P5\n1 1\n255\n\x00", 26);
     let settings: &[(&[u8], &[u8])] = &[
         (b"resolution", b"26"),
         (b"br-x", b"2"),
         (b"br-y", b"1"),
         (b"depth", b"1"),
     ];
-    scans(
+    let mut device = flatbed_on(&rt, rt.alloc(), b"P5\n1 1\n255\n\x00", 26);
+    each_scans(
         &rt,
-        alloc,
-        &mut device,
-        &settings[..3],
-        b"P5\n# SANE data follows\n2 1\n255\n\x00\xFF",
-    );
-    scans(
-        &rt,
-        alloc,
+        rt.alloc(),
         &mut device,
         settings,
-        b"P4\n# SANE data follows\n2 1\n\x80",
+        &[
+            (3, b"P5\n# SANE data follows\n2 1\n255\n\x00\xFF"),
+            (4, b"P4\n# SANE data follows\n2 1\n\x80"),
+        ],
     );
+    drop(device);
 }
 
 #[test]
 fn one_red_place(rt: HostRuntime) {
     let alloc = rt.alloc();
-    let mut device = flatbed_on(&rt, alloc, b"P6\n1 1\n255\n\xFF\x00\x00", 26);
     let settings: &[(&[u8], &[u8])] = &[
         (b"resolution", b"26"),
         (b"br-x", b"1"),
         (b"br-y", b"1"),
         (b"depth", b"16"),
     ];
-    scans(
-        &rt,
-        alloc,
-        &mut device,
-        &settings[..3],
-        b"P5\n# SANE data follows\n1 1\n255\n\x4C",
-    );
-    scans(
+    let mut device = flatbed_on(&rt, alloc, b"P6\n1 1\n255\n\xFF\x00\x00", 26);
+    each_scans(
         &rt,
         alloc,
         &mut device,
         settings,
-        b"P5\n# SANE data follows\n1 1\n65535\n\x4C\x8A",
+        &[
+            (3, b"P5\n# SANE data follows\n1 1\n255\n\x4C"),
+            (4, b"P5\n# SANE data follows\n1 1\n65535\n\x4C\x8A"),
+        ],
     );
     let color: &[(&[u8], &[u8])] = &[(b"mode", b"Color"), (b"depth", b"1")];
     scan_ends(&rt, alloc, &mut device, color, Status::Inval, Why::Answer);
+    drop(device);
 }
 
 /// What the first read of a frame answers in the place of its bytes.
@@ -245,12 +296,15 @@ fn one_red_place(rt: HostRuntime) {
 fn what_the_first_read_answers(rt: HostRuntime) {
     let alloc = rt.alloc();
     let mut device = flatbed_on(&rt, alloc, TWO_ROWS, 26);
-    let eof: &[(&[u8], &[u8])] = &[(b"read-return-value", b"SANE_STATUS_EOF")];
-    scan_ends(&rt, alloc, &mut device, eof, Status::IoError, Why::Short);
-    let jammed: &[(&[u8], &[u8])] = &[(b"read-return-value", b"SANE_STATUS_JAMMED")];
-    scan_ends(&rt, alloc, &mut device, jammed, Status::Jammed, Why::Answer);
-    let no_mem: &[(&[u8], &[u8])] = &[(b"read-return-value", b"SANE_STATUS_NO_MEM")];
-    scan_ends(&rt, alloc, &mut device, no_mem, Status::NoMem, Why::Answer);
+    for (answer, status, why) in [
+        (b"SANE_STATUS_EOF".as_slice(), Status::IoError, Why::Short),
+        (b"SANE_STATUS_JAMMED", Status::Jammed, Why::Answer),
+        (b"SANE_STATUS_NO_MEM", Status::NoMem, Why::Answer),
+    ] {
+        let settings: &[(&[u8], &[u8])] = &[(b"read-return-value", answer)];
+        scan_ends(&rt, alloc, &mut device, settings, status, why);
+    }
+    drop(device);
 }
 
 #[test]
@@ -260,18 +314,25 @@ fn a_rounded_value(rt: HostRuntime) {
     let settings: &[(&[u8], &[u8])] = &[(b"br-x", b"80.5"), (b"br-x", b"80"), (b"br-x", b"250")];
     let reports = sets(&rt, alloc, &mut device, settings);
     assert!(&rt; reports.settings.as_slice().len() == 3);
-    let half = report_of(&rt, &reports, 0);
-    assert!(&rt; half.asked == Value::Fixed(Fixed(0x00508000)));
-    assert!(&rt; half.given == Value::Fixed(Fixed(0x00510000)));
-    assert!(&rt; half.info == Info(Info::INEXACT + Info::RELOAD_PARAMS));
-    let whole = report_of(&rt, &reports, 1);
-    assert!(&rt; whole.asked == Value::Fixed(Fixed(0x00500000)));
-    assert!(&rt; whole.given == Value::Fixed(Fixed(0x00500000)));
-    assert!(&rt; whole.info == Info(Info::RELOAD_PARAMS));
-    let far = report_of(&rt, &reports, 2);
-    assert!(&rt; far.asked == Value::Fixed(Fixed(0x00FA0000)));
-    assert!(&rt; far.given == Value::Fixed(Fixed(0x00C80000)));
-    assert!(&rt; far.info == Info(Info::INEXACT + Info::RELOAD_PARAMS));
+    let rounded = Info::INEXACT + Info::RELOAD_PARAMS;
+    for (n, asked, given, info) in [
+        (0, 0x00508000, 0x00510000, rounded),
+        (1, 0x00500000, 0x00500000, Info::RELOAD_PARAMS),
+        (2, 0x00FA0000, 0x00C80000, rounded),
+    ] {
+        assert!(&rt; put_fixed(&reports, n) == Some((asked, given, info)));
+    }
+    drop(reports);
+    drop(device);
+}
+
+/// Whether a file of 157 by 196 places is white but for the first, which is black.
+fn is_one_dot(file: &[u8]) -> bool {
+    let (head, raster) = file.split_at(file.len().min(35));
+    head == b"P5\n# SANE data follows\n157 196\n255\n".as_slice()
+        && raster.len() == 30_772
+        && raster.first() == Some(&0)
+        && raster.iter().filter(|b| **b == 255).count() == 30_771
 }
 
 #[test]
@@ -279,63 +340,44 @@ fn settings_are_kept_for_their_own_job(rt: HostRuntime) {
     let alloc = rt.alloc();
     let mut device = flatbed_on(&rt, alloc, b"P5\n1 1\n255\n\x00", 50);
     let settings: &[(&[u8], &[u8])] = &[(b"resolution", b"100")];
-    sets(&rt, alloc, &mut device, settings);
-    assert!(&rt; resolution(&rt, alloc, &device) == Value::Int(100));
+    drop(sets(&rt, alloc, &mut device, settings));
+    stands_at(&rt, alloc, &device, 100);
     // The second job sees 80 by 100 mm at 50 dots per inch.
-    let mut file = Vec::new(alloc);
-    let second = job(&rt, alloc, &[], Task::Scan);
-    done(&rt, run_local(alloc, &mut device, &second, &mut file));
-    assert!(&rt; resolution(&rt, alloc, &device) == Value::Int(50));
-    let (head, raster) = file.as_slice().split_at(file.len().min(35));
-    assert!(&rt; head == b"P5\n# SANE data follows\n157 196\n255\n".as_slice());
-    assert!(&rt; raster.len() == 30_772);
-    assert!(&rt; raster.first() == Some(&0));
-    assert!(&rt; raster.iter().filter(|b| **b == 255).count() == 30_771);
+    let (outcome, file) = run(&rt, alloc, &mut device, &[], Task::Scan);
+    drop(done(&rt, outcome));
+    stands_at(&rt, alloc, &device, 50);
+    assert!(&rt; is_one_dot(&file));
+    drop(device);
 }
 
 #[test]
 fn settings_that_end_the_job(rt: HostRuntime) {
     let alloc = rt.alloc();
     let mut device = flatbed_on(&rt, alloc, TWO_ROWS, 26);
-    let unknown: &[(&[u8], &[u8])] = &[(b"contrast", b"1")];
-    scan_ends(
-        &rt,
-        alloc,
-        &mut device,
-        unknown,
-        Status::Inval,
-        Why::Setting,
-    );
-    let unread: &[(&[u8], &[u8])] = &[(b"resolution", b"fine")];
-    scan_ends(&rt, alloc, &mut device, unread, Status::Inval, Why::Setting);
-    // A list of texts that has none that begins so.
-    let unlisted: &[(&[u8], &[u8])] = &[(b"mode", b"SANE")];
-    scan_ends(
-        &rt,
-        alloc,
-        &mut device,
-        unlisted,
-        Status::Inval,
-        Why::Answer,
-    );
-    // At depth 16 the option is inactive.
-    let inactive: &[(&[u8], &[u8])] = &[(b"depth", b"16"), (b"gamma-table", b"0")];
-    scan_ends(
-        &rt,
-        alloc,
-        &mut device,
-        inactive,
-        Status::Inval,
-        Why::Answer,
-    );
-    // What comes after the last setting that was put is not put.
-    let last: &[(&[u8], &[u8])] = &[
-        (b"resolution", b"100"),
-        (b"contrast", b"1"),
-        (b"resolution", b"200"),
-    ];
-    scan_ends(&rt, alloc, &mut device, last, Status::Inval, Why::Setting);
-    assert!(&rt; resolution(&rt, alloc, &device) == Value::Int(100));
+    for (settings, why) in [
+        (
+            [(b"contrast".as_slice(), b"1".as_slice())].as_slice(),
+            Why::Setting,
+        ),
+        (&[(b"resolution", b"fine")], Why::Setting),
+        // A list of texts that has none that begins so.
+        (&[(b"mode", b"SANE")], Why::Answer),
+        // At depth 16 the option is inactive.
+        (&[(b"depth", b"16"), (b"gamma-table", b"0")], Why::Answer),
+        // What comes after the last setting that was put is not put.
+        (
+            &[
+                (b"resolution", b"100"),
+                (b"contrast", b"1"),
+                (b"resolution", b"200"),
+            ],
+            Why::Setting,
+        ),
+    ] {
+        scan_ends(&rt, alloc, &mut device, settings, Status::Inval, why);
+    }
+    stands_at(&rt, alloc, &device, 100);
+    drop(device);
 }
 
 /// The text of a table of so many words, of which place i holds 255 - i.
@@ -353,21 +395,18 @@ fn inverted(rt: &impl Abort, alloc: Global, count: i32) -> Vec<u8> {
     out
 }
 
+/// A table of another number of words than the option has reads, and is refused.
+fn short_table_ends(rt: &impl Abort, alloc: Global, device: &mut Flatbed) {
+    let short = inverted(rt, alloc, 255);
+    let settings: &[(&[u8], &[u8])] = &[(b"gamma-table", &short)];
+    scan_ends(rt, alloc, device, settings, Status::Inval, Why::Answer);
+}
+
 #[test]
 fn gamma_tables(rt: HostRuntime) {
     let alloc = rt.alloc();
     let mut device = flatbed_on(&rt, alloc, b"P5\n1 1\n255\n\x0a", 26);
-    let short = inverted(&rt, alloc, 255);
-    let settings: &[(&[u8], &[u8])] = &[(b"gamma-table", &short)];
-    // It reads, and the option has another number of words.
-    scan_ends(
-        &rt,
-        alloc,
-        &mut device,
-        settings,
-        Status::Inval,
-        Why::Answer,
-    );
+    short_table_ends(&rt, alloc, &mut device);
     let table = inverted(&rt, alloc, 256);
     let settings: &[(&[u8], &[u8])] = &[
         (b"resolution", b"26"),
@@ -375,10 +414,17 @@ fn gamma_tables(rt: HostRuntime) {
         (b"br-y", b"1"),
         (b"gamma-table", &table),
     ];
-    let want = b"P5\n# SANE data follows\n1 1\n255\n\xF5";
-    scans(&rt, alloc, &mut device, settings, want);
-    let want = b"P5\n# SANE data follows\n1 1\n255\n\x0A";
-    scans(&rt, alloc, &mut device, &settings[..3], want);
+    each_scans(
+        &rt,
+        alloc,
+        &mut device,
+        settings,
+        &[
+            (4, b"P5\n# SANE data follows\n1 1\n255\n\xF5"),
+            (3, b"P5\n# SANE data follows\n1 1\n255\n\x0A"),
+        ],
+    );
+    drop(device);
 }
 
 /// At 25 dots per inch a mm is less than one dot.
@@ -387,82 +433,93 @@ fn no_picture(rt: HostRuntime) {
     let alloc = rt.alloc();
     let mut device = flatbed_on(&rt, alloc, b"P5\n1 1\n255\n\x0a", 26);
     let settings: &[(&[u8], &[u8])] = &[(b"resolution", b"25"), (b"br-x", b"1"), (b"br-y", b"1")];
-    let mut file = Vec::new(alloc);
-    let scan = job(&rt, alloc, settings, Task::Scan);
-    let outcome = run_local(alloc, &mut device, &scan, &mut file);
+    let (outcome, file) = run(&rt, alloc, &mut device, settings, Task::Scan);
     ends(&rt, &outcome, Status::Inval, Why::Answer);
-    assert!(&rt; file.len() == 0);
+    assert!(&rt; file.is_empty());
+    drop(outcome);
+    drop(device);
 }
 
-/// A job of so many settings of resolution 26.
-fn job_of(rt: &impl Abort, alloc: Global, count: usize) -> Job {
-    let mut many = job(rt, alloc, &[], Task::SetOnly);
+/// What so many settings of resolution 26 come to.
+fn sets_many(rt: &impl Abort, alloc: Global, device: &mut Flatbed, count: usize) -> Outcome {
+    let mut given = job(rt, alloc, &[], Task::SetOnly);
     for _ in 0..count {
         let pair = (text(rt, alloc, b"resolution"), text(rt, alloc, b"26"));
-        many.settings.push(pair).expect(rt, "memory");
+        given.settings.push(pair).expect(rt, "memory");
     }
-    many
+    let outcome = run_local(alloc, device, &given, &mut Vec::new(alloc));
+    drop(given);
+    outcome
 }
 
 #[test]
 fn a_job_of_too_many_settings(rt: HostRuntime) {
     let alloc = rt.alloc();
     let mut device = flatbed_on(&rt, alloc, TWO_ROWS, 26);
-    let mut file = Vec::new(alloc);
-    let most = run_local(alloc, &mut device, &job_of(&rt, alloc, 64), &mut file);
-    assert!(&rt; done(&rt, most).settings.as_slice().len() == 64);
-    let more = run_local(alloc, &mut device, &job_of(&rt, alloc, 65), &mut file);
+    let reports = done(&rt, sets_many(&rt, alloc, &mut device, 64));
+    assert!(&rt; reports.settings.as_slice().len() == 64);
+    let more = sets_many(&rt, alloc, &mut device, 65);
     ends(&rt, &more, Status::Inval, Why::Setting);
     // None of its settings was put.
-    assert!(&rt; resolution(&rt, alloc, &device) == Value::Int(50));
+    stands_at(&rt, alloc, &device, 50);
+    drop((reports, more));
+    drop(device);
 }
 
 #[test]
 fn a_batch_is_no_job_of_one_file(rt: HostRuntime) {
     let alloc = rt.alloc();
     let mut device = flatbed_on(&rt, alloc, TWO_ROWS, 26);
-    let mut file = Vec::new(alloc);
-    let batch = job(&rt, alloc, &[], Task::Batch(1));
-    let outcome = run_local(alloc, &mut device, &batch, &mut file);
+    let (outcome, file) = run(&rt, alloc, &mut device, &[], Task::Batch(1));
     ends(&rt, &outcome, Status::Inval, Why::Setting);
     assert!(&rt; file.is_empty());
+    drop(outcome);
+    drop(device);
+}
+
+const LONG: &[u8] = &[b'a'; 1024];
+
+/// What a job with a password of so many letters comes to.
+fn known_by(rt: &impl Abort, alloc: Global, device: &mut Flatbed, letters: usize) -> Outcome {
+    let password = LONG.get(..letters).expect(rt, "a password");
+    let mut given = job(rt, alloc, &[], Task::SetOnly);
+    given.password = text(rt, alloc, password);
+    let outcome = run_local(alloc, device, &given, &mut Vec::new(alloc));
+    drop(given);
+    outcome
 }
 
 #[test]
 fn a_job_with_a_long_text(rt: HostRuntime) {
     let alloc = rt.alloc();
     let mut device = flatbed_on(&rt, alloc, TWO_ROWS, 26);
-    let mut file = Vec::new(alloc);
-    let long = [b'a'; 1024];
-    let mut longest = job(&rt, alloc, &[], Task::SetOnly);
-    longest.password = text(&rt, alloc, &long[..1023]);
-    done(&rt, run_local(alloc, &mut device, &longest, &mut file));
-    let mut longer = job(&rt, alloc, &[], Task::SetOnly);
-    longer.password = text(&rt, alloc, &long);
-    let outcome = run_local(alloc, &mut device, &longer, &mut file);
+    drop(done(&rt, known_by(&rt, alloc, &mut device, 1023)));
+    let outcome = known_by(&rt, alloc, &mut device, 1024);
     ends(&rt, &outcome, Status::Inval, Why::Setting);
-    let named: &[(&[u8], &[u8])] = &[(b"resolution", b"26"), (&long, b"26")];
+    drop(outcome);
+    let named: &[(&[u8], &[u8])] = &[(b"resolution", b"26"), (LONG, b"26")];
     scan_ends(&rt, alloc, &mut device, named, Status::Inval, Why::Setting);
-    assert!(&rt; resolution(&rt, alloc, &device) == Value::Int(50));
+    stands_at(&rt, alloc, &device, 50);
+    drop(device);
+}
+
+/// A flatbed on the two-row page of which the call of that number fails.
+fn failing(rt: &impl Abort, alloc: Global, n: u64) -> Flatbed {
+    let page = read_page(alloc, TWO_ROWS, 26).expect(rt, "a page");
+    flatbed(rt, alloc, Source::Failing(FailingPage::new(page, n)))
 }
 
 /// Its first call is the rewind, and the next two give the rows: the third fails in mid-frame.
 #[test]
 fn a_page_that_fails(rt: HostRuntime) {
     let alloc = rt.alloc();
+    let bad = Status::IoError;
     for n in 1..4u64 {
-        let page = read_page(alloc, TWO_ROWS, 26).expect(&rt, "a page");
-        let mut device = flatbed(&rt, alloc, Source::Failing(FailingPage::new(page, n)));
-        scan_ends(
-            &rt,
-            alloc,
-            &mut device,
-            ONE_BY_TWO,
-            Status::IoError,
-            Why::Answer,
-        );
+        let mut device = failing(&rt, alloc, n);
+        scan_ends(&rt, alloc, &mut device, ONE_BY_TWO, bad, Why::Answer);
         // It failed once, and the next scan is whole.
-        scans(&rt, alloc, &mut device, ONE_BY_TWO, TWO_ROWS_FILE);
+        drop(scans(&rt, alloc, &mut device, ONE_BY_TWO, TWO_ROWS_FILE));
+        drop(device);
     }
 }
 
@@ -505,6 +562,20 @@ fn disk_with(alloc: Global, room: usize, interrupts: u32, fails: bool) -> Disk {
     }
 }
 
+/// What a job of the two-row page comes to that writes there.
+fn writes_to(
+    rt: &impl Abort,
+    alloc: Global,
+    device: &mut Flatbed,
+    out: &mut Disk,
+    task: Task,
+) -> Outcome {
+    let given = job(rt, alloc, ONE_BY_TWO, task);
+    let outcome = run_local(alloc, device, &given, out);
+    drop(given);
+    outcome
+}
+
 #[test]
 fn an_output_that_fails(rt: HostRuntime) {
     let alloc = rt.alloc();
@@ -512,41 +583,47 @@ fn an_output_that_fails(rt: HostRuntime) {
     for room in 0..33 {
         for fails in [false, true] {
             let mut out = disk_with(alloc, room, 0, fails);
-            let scan = job(&rt, alloc, ONE_BY_TWO, Task::Scan);
-            let outcome = run_local(alloc, &mut device, &scan, &mut out);
+            let outcome = writes_to(&rt, alloc, &mut device, &mut out, Task::Scan);
             ends(&rt, &outcome, Status::IoError, Why::Sink);
             assert!(&rt; out.taken.len() < 33);
             assert!(&rt; TWO_ROWS_FILE.starts_with(out.taken.as_slice()));
             assert!(&rt; device.at_rest());
+            drop(outcome);
         }
     }
+    drop(device);
 }
 
 #[test]
 fn an_output_that_is_interrupted(rt: HostRuntime) {
     let alloc = rt.alloc();
     let mut device = flatbed_on(&rt, alloc, TWO_ROWS, 26);
-    let mut out = disk_with(alloc, 33, 3, true);
-    let scan = job(&rt, alloc, ONE_BY_TWO, Task::Scan);
-    done(&rt, run_local(alloc, &mut device, &scan, &mut out));
-    assert!(&rt; out.taken.as_slice() == TWO_ROWS_FILE);
     // Settings alone write nothing, so that nothing fails.
-    let mut out = disk_with(alloc, 0, 0, true);
-    let job = job(&rt, alloc, ONE_BY_TWO, Task::SetOnly);
-    done(&rt, run_local(alloc, &mut device, &job, &mut out));
+    for (room, interrupts, task, file) in [
+        (33, 3, Task::Scan, TWO_ROWS_FILE),
+        (0, 0, Task::SetOnly, b""),
+    ] {
+        let mut out = disk_with(alloc, room, interrupts, true);
+        let outcome = writes_to(&rt, alloc, &mut device, &mut out, task);
+        drop(done(&rt, outcome));
+        assert!(&rt; out.taken.as_slice() == file);
+    }
+    drop(device);
 }
 
 #[test]
 fn bytes_put(rt: HostRuntime) {
-    let alloc = rt.alloc();
-    let mut out = disk_with(alloc, 12, 2, true);
+    let mut out = disk_with(rt.alloc(), 12, 2, true);
     let mut again = 2;
-    assert!(&rt; put(&mut out, b"twelve bytes", &mut again));
-    assert!(&rt; out.taken.as_slice() == b"twelve bytes".as_slice());
-    assert!(&rt; again == 0);
-    assert!(&rt; put(&mut out, b"", &mut again));
-    assert!(&rt; !put(&mut out, b"more", &mut again));
-    assert!(&rt; out.taken.len() == 12);
+    for (bytes, takes) in [
+        (b"twelve bytes".as_slice(), true),
+        (b"", true),
+        (b"more", false),
+    ] {
+        assert!(&rt; put(&mut out, bytes, &mut again) == takes);
+        assert!(&rt; out.taken.as_slice() == b"twelve bytes".as_slice());
+        assert!(&rt; again == 0);
+    }
 }
 
 /// Interrupted writes are counted over all that is put.
@@ -569,8 +646,8 @@ fn boxed(rt: HostRuntime) {
         Ok(device) => device,
         Err(_) => panic!(&rt; "no box"),
     };
-    let mut file = Vec::new(alloc);
-    let scan = job(&rt, alloc, ONE_BY_TWO, Task::Scan);
-    done(&rt, run_local(alloc, &mut *device, &scan, &mut file));
+    let (outcome, file) = run(&rt, alloc, &mut *device, ONE_BY_TWO, Task::Scan);
+    drop(done(&rt, outcome));
     assert!(&rt; file.as_slice() == TWO_ROWS_FILE);
+    drop(device);
 }

@@ -5,14 +5,16 @@ mod printed;
 use sane_fixed::Text;
 use std::alloc::Global;
 use std::process::Abort;
-use std::test::Fail;
 
-fn texts(rt: &impl Abort, alloc: Global, words: &[&[u8]]) -> Result<Vec<Text>, Fail> {
+fn text(rt: &impl Abort, alloc: Global, bytes: &[u8]) -> Text {
+    Text::new(alloc, bytes).expect(rt, "a text")
+}
+
+fn texts(rt: &impl Abort, alloc: Global, words: &[&[u8]]) -> Vec<Text> {
     let mut texts = Vec::new(alloc);
     for word in words {
-        let text = Text::new(alloc, word)?;
-        texts.push(text)?;
+        texts.push(text(rt, alloc, word)).expect(rt, "memory");
     }
     assert!(rt; texts.len() == words.len());
-    Ok(texts)
+    texts
 }

@@ -144,6 +144,7 @@ fn job(rt: &impl Abort, alloc: Global, task: Task) -> Job {
     }
 }
 
+/// A peer that says these parts, and takes so many bytes.
 fn peer(rt: &impl Abort, alloc: Global, parts: &[&[u8]], most: usize) -> Said {
     let mut input = Vec::new(alloc);
     for part in parts {
@@ -157,29 +158,37 @@ fn peer(rt: &impl Abort, alloc: Global, parts: &[&[u8]], most: usize) -> Said {
     }
 }
 
+/// A stream of these bytes.
+fn stream(rt: &impl Abort, alloc: Global, bytes: &[u8]) -> VecDeque<u8> {
+    VecDeque::from(Vec::from_slice(alloc, bytes).expect(rt, "memory"))
+}
+
 fn streams(rt: &impl Abort, alloc: Global, data: &[&[u8]]) -> Frames {
     let mut frames = VecDeque::new(alloc);
     for bytes in data {
-        let stream = Vec::from_slice(alloc, bytes).expect(rt, "memory");
-        frames
-            .push_back(VecDeque::from(stream))
-            .expect(rt, "memory");
+        let pushed = frames.push_back(stream(rt, alloc, bytes));
+        pushed.expect(rt, "memory");
     }
     Frames { frames }
 }
 
-fn ends(rt: &impl Abort, outcome: &Outcome, status: Status, why: Why) {
+fn is_done(outcome: &Outcome) -> bool {
+    matches!(outcome, Outcome::Done(_))
+}
+
+fn is_ended(outcome: &Outcome, status: Status, why: Why) -> bool {
     match outcome {
-        Outcome::Ended(s, w) => {
-            assert!(rt; *s == status);
-            assert!(rt; *w == why);
-        }
-        _ => assert!(rt; false),
+        Outcome::Ended(s, w) => *s == status && *w == why,
+        _ => false,
     }
 }
 
-fn done(rt: &impl Abort, outcome: &Outcome) {
-    assert!(rt; matches!(outcome, Outcome::Done(_)));
+/// What a scan came to.
+#[derive(Drop)]
+struct Ran {
+    outcome: Outcome,
+    asked: Vec<u8>,
+    file: Vec<u8>,
 }
 
 /// A scan whose replies end after `heard` bytes, whose control connection takes `asked` bytes and whose output `most`.
@@ -190,7 +199,7 @@ fn scan(
     heard: usize,
     asked: usize,
     most: usize,
-) -> (Outcome, Vec<u8>, Vec<u8>) {
+) -> Ran {
     let mut control = peer(rt, alloc, &[OPENED, ONE_GRAY], asked);
     control.input.truncate(heard);
     let mut dial = streams(rt, alloc, data);
@@ -198,32 +207,59 @@ fn scan(
         taken: Vec::new(alloc),
         most,
     };
-    let outcome = run_job(
-        alloc,
-        job(rt, alloc, Task::Scan),
-        &mut control,
-        &mut dial,
-        &mut out,
-    );
-    (outcome, control.output, out.taken)
+    let given = job(rt, alloc, Task::Scan);
+    let outcome = run_job(alloc, given, &mut control, &mut dial, &mut out);
+    drop(dial);
+    Ran {
+        outcome,
+        asked: control.output,
+        file: out.taken,
+    }
 }
 
 const DATA: &[u8] = b"\0\0\0\x01\x0a\xff\xff\xff\xff\x05";
 
+/// A batch is refused before anything is said.
+fn expect_refused(rt: &impl Abort, alloc: Global) {
+    let mut control = peer(rt, alloc, &[], 0);
+    let mut dial = streams(rt, alloc, &[]);
+    let mut out = Vec::new(alloc);
+    let batch = job(rt, alloc, Task::Batch(1));
+    let refused = run_job(alloc, batch, &mut control, &mut dial, &mut out);
+    assert!(rt; control.calls == 0 && is_ended(&refused, Status::Inval, Why::Setting));
+    drop(refused);
+    drop(dial);
+    drop(control);
+}
+
 #[test]
 fn a_scan_over_streams(rt: HostRuntime) {
-    let alloc = rt.alloc();
-    let (outcome, asked, file) = scan(&rt, alloc, &[DATA], usize::MAX, usize::MAX, usize::MAX);
-    done(&rt, &outcome);
-    assert!(&rt; asked.as_slice() == ASKED);
-    assert!(&rt; file.as_slice() == FILE);
-    let mut control = peer(&rt, alloc, &[], 0);
-    let mut dial = streams(&rt, alloc, &[]);
-    let mut out = Vec::new(alloc);
-    let batch = job(&rt, alloc, Task::Batch(1));
-    let refused = run_job(alloc, batch, &mut control, &mut dial, &mut out);
-    ends(&rt, &refused, Status::Inval, Why::Setting);
-    assert!(&rt; control.calls == 0u64);
+    let ran = scan(&rt, rt.alloc(), &[DATA], usize::MAX, usize::MAX, usize::MAX);
+    assert!(&rt; is_done(&ran.outcome));
+    assert!(&rt; ran.asked.as_slice() == ASKED);
+    assert!(&rt; ran.file.as_slice() == FILE);
+    drop(ran);
+    expect_refused(&rt, rt.alloc());
+}
+
+/// A scan of that data whose replies end after so many bytes is lost, and leaves no whole file.
+fn expect_lost(rt: &impl Abort, alloc: Global, data: &[&[u8]], heard: usize) {
+    let ran = scan(rt, alloc, data, heard, usize::MAX, usize::MAX);
+    assert!(rt; is_ended(&ran.outcome, Status::IoError, Why::Lost) && ran.file.len() < 32);
+    drop(ran);
+}
+
+/// A scan whose requests end after so many bytes is lost, if these are not all behind which the file is whole.
+fn expect_asked(rt: &impl Abort, alloc: Global, asked: usize) {
+    let ran = scan(rt, alloc, &[DATA], usize::MAX, asked, usize::MAX);
+    assert!(rt; ASKED.get(..asked) == Some(ran.asked.as_slice()));
+    let is_right = if asked < ASKED.len().saturating_sub(12) {
+        is_ended(&ran.outcome, Status::IoError, Why::Lost) && ran.file.len() < 32
+    } else {
+        is_done(&ran.outcome)
+    };
+    assert!(rt; is_right);
+    drop(ran);
 }
 
 /// Replies, requests and data that end after each byte, and no data connection at all.
@@ -231,38 +267,26 @@ fn a_scan_over_streams(rt: HostRuntime) {
 fn streams_that_end(rt: HostRuntime) {
     let alloc = rt.alloc();
     for heard in 0..68usize {
-        let (outcome, _, file) = scan(&rt, alloc, &[DATA], heard, usize::MAX, usize::MAX);
-        ends(&rt, &outcome, Status::IoError, Why::Lost);
-        assert!(&rt; file.len() < 32);
+        expect_lost(&rt, alloc, &[DATA], heard);
     }
     for asked in 0..ASKED.len() {
-        let (outcome, sent, file) = scan(&rt, alloc, &[DATA], usize::MAX, asked, usize::MAX);
-        assert!(&rt; sent.as_slice() == ASKED.get(..asked).unwrap_or(&[]));
-        if asked < ASKED.len().saturating_sub(12) {
-            ends(&rt, &outcome, Status::IoError, Why::Lost);
-            assert!(&rt; file.len() < 32);
-        } else {
-            done(&rt, &outcome);
-        }
+        expect_asked(&rt, alloc, asked);
     }
     for count in 0..DATA.len() {
         let data = DATA.get(..count).unwrap_or(&[]);
-        let (outcome, _, file) = scan(&rt, alloc, &[data], usize::MAX, usize::MAX, usize::MAX);
-        ends(&rt, &outcome, Status::IoError, Why::Lost);
-        assert!(&rt; file.len() < 32);
+        expect_lost(&rt, alloc, &[data], usize::MAX);
     }
-    let (outcome, _, _) = scan(&rt, alloc, &[], usize::MAX, usize::MAX, usize::MAX);
-    ends(&rt, &outcome, Status::IoError, Why::Lost);
+    expect_lost(&rt, alloc, &[], usize::MAX);
 }
 
 /// An output that takes so many bytes and then fails, for each number.
 #[test]
 fn outputs_that_fail(rt: HostRuntime) {
-    let alloc = rt.alloc();
     for most in 0..32usize {
-        let (outcome, _, file) = scan(&rt, alloc, &[DATA], usize::MAX, usize::MAX, most);
-        ends(&rt, &outcome, Status::IoError, Why::Sink);
-        assert!(&rt; file.as_slice() == FILE.get(..most).unwrap_or(&[]));
+        let ran = scan(&rt, rt.alloc(), &[DATA], usize::MAX, usize::MAX, most);
+        assert!(&rt; is_ended(&ran.outcome, Status::IoError, Why::Sink));
+        assert!(&rt; FILE.get(..most) == Some(ran.file.as_slice()));
+        drop(ran);
     }
 }
 
@@ -279,63 +303,56 @@ fn outputs(alloc: Global, most: usize, never_opens: u32, never_takes: usize) -> 
 /// Two pages of a feeder, and then none.
 fn feed(rt: &impl Abort, alloc: Global, rack: &mut Rack, count: u32) -> Outcome {
     let parts: [&[u8]; 4] = [OPENED, ONE_GRAY, ONE_GRAY, NO_PAGE];
+    let data: [&[u8]; 2] = [
+        b"\0\0\0\x01\x07\xff\xff\xff\xff\x05",
+        b"\0\0\0\x01\x09\xff\xff\xff\xff\x05",
+    ];
     let mut control = peer(rt, alloc, &parts, usize::MAX);
-    let mut dial = streams(
-        rt,
-        alloc,
-        &[
-            b"\0\0\0\x01\x07\xff\xff\xff\xff\x05",
-            b"\0\0\0\x01\x09\xff\xff\xff\xff\x05",
-        ],
-    );
-    run_batch(
-        alloc,
-        job(rt, alloc, Task::Batch(count)),
-        &mut control,
-        &mut dial,
-        rack,
-    )
+    let mut dial = streams(rt, alloc, &data);
+    let batch = job(rt, alloc, Task::Batch(count));
+    let outcome = run_batch(alloc, batch, &mut control, &mut dial, rack);
+    drop(dial);
+    drop(control);
+    outcome
+}
+
+/// A batch of so many pages is done, with so many files.
+fn expect_pages(rt: &impl Abort, alloc: Global, count: u32, files: usize) {
+    let pages: [&[u8]; 2] = [
+        b"P5\n# SANE data follows\n1 1\n255\n\x07",
+        b"P5\n# SANE data follows\n1 1\n255\n\x09",
+    ];
+    let mut rack = outputs(alloc, usize::MAX, 0, 0);
+    let outcome = feed(rt, alloc, &mut rack, count);
+    assert!(rt; is_done(&outcome) && rack.files.len() == files);
+    for (file, page) in rack.files.iter().zip(pages) {
+        assert!(rt; file.as_slice() == page);
+    }
+    drop(outcome);
+    drop(rack);
 }
 
 #[test]
 fn batches_over_streams(rt: HostRuntime) {
     let alloc = rt.alloc();
-    let pages: [&[u8]; 2] = [
-        b"P5\n# SANE data follows\n1 1\n255\n\x07",
-        b"P5\n# SANE data follows\n1 1\n255\n\x09",
-    ];
-    for (count, files) in [(16, 2usize), (2, 2), (1, 1)] {
-        let mut rack = outputs(alloc, usize::MAX, 0, 0);
-        done(&rt, &feed(&rt, alloc, &mut rack, count));
-        assert!(&rt; rack.files.len() == files);
-        for (file, page) in rack.files.iter().zip(pages) {
-            assert!(&rt; file.as_slice() == page);
-        }
+    for (count, files) in [(16, 2), (2, 2), (1, 1)] {
+        expect_pages(&rt, alloc, count, files);
     }
-    // An output that cannot be made, that fails, and that is not taken back.
-    let cases = [
-        (usize::MAX, 1, 0usize, 0usize),
-        (usize::MAX, 2, 0, 1),
-        (31, 0, 0, 1),
-        (usize::MAX, 0, 1, 1),
-        (usize::MAX, 0, 2, 2),
-    ];
-    for (most, never_opens, never_takes, files) in cases {
+    let bad = (Status::IoError, Why::Sink);
+    // An output that cannot be made, that fails, and that is not taken back; and a batch of too many pages.
+    for (count, most, never_opens, never_takes, files, (status, why)) in [
+        (2, usize::MAX, 1, 0, 0, bad),
+        (2, usize::MAX, 2, 0, 1, bad),
+        (2, 31, 0, 0, 1, bad),
+        (2, usize::MAX, 0, 1, 1, bad),
+        (2, usize::MAX, 0, 2, 2, bad),
+        (17, usize::MAX, 0, 0, 0, (Status::Inval, Why::Setting)),
+    ] {
         let mut rack = outputs(alloc, most, never_opens, never_takes);
-        ends(
-            &rt,
-            &feed(&rt, alloc, &mut rack, 2),
-            Status::IoError,
-            Why::Sink,
-        );
+        let outcome = feed(&rt, alloc, &mut rack, count);
+        assert!(&rt; is_ended(&outcome, status, why));
         assert!(&rt; rack.files.len() == files);
+        drop(outcome);
+        drop(rack);
     }
-    let mut rack = outputs(alloc, usize::MAX, 0, 0);
-    ends(
-        &rt,
-        &feed(&rt, alloc, &mut rack, 17),
-        Status::Inval,
-        Why::Setting,
-    );
-    assert!(&rt; rack.files.is_empty());
 }

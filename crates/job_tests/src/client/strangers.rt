@@ -1,13 +1,23 @@
 use super::*;
 
-/// Parameters of gray lines of unknown number.
-const OPEN_ENDED: &[u8] =
-    b"\0\0\0\0\0\0\0\0\0\0\0\x01\0\0\0\x01\0\0\0\x01\xff\xff\xff\xff\0\0\0\x08";
-
 /// Parameters of a red frame that is the last.
 const RED_ALONE: &[u8] = b"\0\0\0\0\0\0\0\x02\0\0\0\x01\0\0\0\x01\0\0\0\x01\0\0\0\x01\0\0\0\x08";
 
-/// How a scan ends of which so many parts come, and then these bytes.
+/// A scan of gray lines of unknown number, as far as its data.
+const OPEN_ENDED: &[Comes<'static>] = &[
+    Comes::Control(GREETED),
+    Comes::Control(OPENED),
+    Comes::Control(NO_OPTIONS),
+    Comes::Control(STARTED),
+    Comes::Control(b"\0\0\0\0\0\0\0\0\0\0\0\x01\0\0\0\x01\0\0\0\x01\xff\xff\xff\xff\0\0\0\x08"),
+];
+
+/// Whether a job ended so, and left no whole file.
+fn is_ended(played: &Played, status: Status, why: Why) -> bool {
+    played.files.len() < 32 && ended(played.client.outcome()) == Some((status, why))
+}
+
+/// How a scan ends of which these parts come, and then these bytes.
 fn expect_end(
     rt: &impl Abort,
     alloc: Global,
@@ -20,9 +30,22 @@ fn expect_end(
         let scan = job(rt, alloc, &[], Task::Scan);
         let mut played = play(rt, alloc, scan, before, size, usize::MAX);
         come(rt, &mut played, last, size, usize::MAX);
-        ends(rt, played.client.outcome(), status, why);
-        assert!(rt; played.files.len() < 32);
+        assert!(rt; is_ended(&played, status, why));
+        drop(played);
     }
+}
+
+/// The same of a reply behind so many parts of the scan of one pixel.
+fn expect_end_behind(
+    rt: &impl Abort,
+    alloc: Global,
+    before: usize,
+    reply: &[u8],
+    status: Status,
+    why: Why,
+) {
+    let parts = SCAN.get(..before).expect(rt, "parts of the scan");
+    expect_end(rt, alloc, parts, Comes::Control(reply), status, why);
 }
 
 /// Replies that no daemon of ours sends, before a frame is asked for, behind so many parts of a scan.
@@ -46,9 +69,7 @@ fn strangers(rt: HostRuntime) {
         (1, b"\0\0\0\0\0\0\0\0\0\0\0\x01b", bad, Why::Malformed),
         (2, b"\0\0\0\x01\0\0\0\x01", bad, Why::Malformed),
     ] {
-        let parts = SCAN.get(..before).expect(&rt, "parts of the scan");
-        let alloc = rt.alloc();
-        expect_end(&rt, alloc, parts, Comes::Control(bytes), status, why);
+        expect_end_behind(&rt, rt.alloc(), before, bytes, status, why);
     }
 }
 
@@ -77,9 +98,7 @@ fn strange_frames(rt: HostRuntime) {
         ),
         (4, RED_ALONE, bad, Why::Malformed),
     ] {
-        let parts = SCAN.get(..before).expect(&rt, "parts of the scan");
-        let alloc = rt.alloc();
-        expect_end(&rt, alloc, parts, Comes::Control(bytes), status, why);
+        expect_end_behind(&rt, rt.alloc(), before, bytes, status, why);
     }
 }
 
@@ -95,66 +114,74 @@ fn strange_data(rt: HostRuntime) {
         (b"\xff\xff\xff\xff\x05", bad, Why::Short),
         (b"\0\0\0\x02\x01\x02\xff\xff\xff\xff\x05", bad, Why::Long),
     ] {
-        let alloc = rt.alloc();
-        expect_end(&rt, alloc, parts, Comes::Data(bytes), status, why);
+        expect_end(&rt, rt.alloc(), parts, Comes::Data(bytes), status, why);
     }
 }
 
 /// No line at all of an unknown number of lines is short.
 #[test]
 fn no_line_at_all(rt: HostRuntime) {
-    let [greeted, opened, options, started, _, _] = SCAN else {
-        return;
-    };
-    let parts = [
-        *greeted,
-        *opened,
-        *options,
-        *started,
-        Comes::Control(OPEN_ENDED),
-    ];
     let end = Comes::Data(b"\xff\xff\xff\xff\x05");
     let alloc = rt.alloc();
-    expect_end(&rt, alloc, &parts, end, Status::IoError, Why::Short);
+    expect_end(&rt, alloc, OPEN_ENDED, end, Status::IoError, Why::Short);
+}
+
+/// What a client makes of the first bytes of a scan, one at a time.
+fn scanned(rt: &impl Abort, alloc: Global, most: usize) -> Played {
+    let scan = job(rt, alloc, &[], Task::Scan);
+    play(rt, alloc, scan, SCAN, 1, most)
+}
+
+/// Whether a scan that is cancelled behind so many bytes says so, takes leave, and leaves no whole file.
+fn is_cancelled(played: &Played, most: usize) -> bool {
+    let cancel: &[u8] = b"\0\0\0\x08\0\0\0\x02\0\0\0\x0a";
+    is_ended(played, Status::Cancelled, Why::Cancelled)
+        && played.sent.ends_with(cancel) == (most >= 40)
+        && played.sent.ends_with(b"\0\0\0\x0a")
+}
+
+/// Whether a scan is done, with its whole file.
+fn is_whole(played: &Played) -> bool {
+    is_done(played.client.outcome()) && played.files.len() == 32
+}
+
+/// A cancel behind so many bytes of a scan.
+fn cancelled(rt: &impl Abort, alloc: Global, most: usize) {
+    let mut played = scanned(rt, alloc, most);
+    played.client.cancel();
+    drain(rt, &mut played);
+    let is_right = if most < 78 {
+        is_cancelled(&played, most)
+    } else {
+        is_whole(&played)
+    };
+    assert!(rt; is_right);
+    drop(played);
+}
+
+/// The loss of a connection behind so many bytes of a scan: nothing more is sent.
+fn lost(rt: &impl Abort, alloc: Global, most: usize, link: Link) {
+    let mut played = scanned(rt, alloc, most);
+    let sent = played.sent.len();
+    played.client.link_lost(link);
+    drain(rt, &mut played);
+    let is_right = if most < 78 && (link == Link::Control || most >= 68) {
+        is_ended(&played, Status::IoError, Why::Lost) && played.sent.len() == sent
+    } else {
+        is_done(played.client.outcome()) == (played.files.len() == 32)
+    };
+    assert!(rt; is_right);
+    drop(played);
 }
 
 /// A cancel, and a loss of each connection, after each byte of a scan.
 #[test]
 fn cancels_and_losses(rt: HostRuntime) {
     let alloc = rt.alloc();
-    let cancel: &[u8] = b"\0\0\0\x08\0\0\0\x02\0\0\0\x0a";
     for most in 0..=82usize {
-        let mut played = play(&rt, alloc, job(&rt, alloc, &[], Task::Scan), SCAN, 1, most);
-        played.client.cancel();
-        drain(&rt, &mut played);
-        if most == 78 {
-            assert!(&rt; is_done(played.client.outcome()));
-            assert!(&rt; played.files.len() == 32usize);
-        } else if most < 78 {
-            ends(
-                &rt,
-                played.client.outcome(),
-                Status::Cancelled,
-                Why::Cancelled,
-            );
-            assert!(&rt; played.sent.ends_with(cancel) == (most >= 40));
-            assert!(&rt; played.sent.ends_with(b"\0\0\0\x0a"));
-            assert!(&rt; played.files.len() < 32);
-        }
-        for link in [Link::Control, Link::Image] {
-            let mut played = play(&rt, alloc, job(&rt, alloc, &[], Task::Scan), SCAN, 1, most);
-            let sent = played.sent.len();
-            played.client.link_lost(link);
-            drain(&rt, &mut played);
-            if most < 78 && (link == Link::Control || most >= 68) {
-                ends(&rt, played.client.outcome(), Status::IoError, Why::Lost);
-                assert!(&rt; played.files.len() < 32);
-                assert!(&rt; played.sent.len() == sent);
-            } else {
-                let is_whole = played.files.len() == 32;
-                assert!(&rt; is_done(played.client.outcome()) == is_whole);
-            }
-        }
+        cancelled(&rt, alloc, most);
+        lost(&rt, alloc, most, Link::Control);
+        lost(&rt, alloc, most, Link::Image);
     }
 }
 
@@ -164,40 +191,57 @@ fn next(seed: u64) -> u64 {
         .wrapping_add(1442695040888963407)
 }
 
-/// A peer that changes a byte of a scan at a time: a job that is done leaves a file of one pixel at depth 8 or 1, and no
-/// other job leaves the scan's.
+/// The bytes of a part come one at a time, the one at that place as another.
+fn come_changed(client: &mut Client, comes: Comes<'_>, place: u64, byte: u8) {
+    connect(client, comes);
+    let mut at = 0u64;
+    for b in comes.bytes() {
+        let sent = [if at == place { byte } else { *b }];
+        feed(client, comes, &sent);
+        at = at.saturating_add(1);
+    }
+}
+
+/// Whether a file is one pixel of depth 8 or 1.
+fn is_pixel(file: &[u8]) -> bool {
+    match file.len() {
+        32 => file.starts_with(b"P5\n# SANE data follows\n1 1\n255\n"),
+        28 => file.starts_with(b"P4\n# SANE data follows\n1 1\n"),
+        _ => false,
+    }
+}
+
+/// Whether a job that is done leaves a file of one pixel, and any other not the scan's.
+fn is_no_wrong_file(played: &Played) -> bool {
+    if is_done(played.client.outcome()) {
+        is_pixel(&played.files)
+    } else {
+        !played.files.ends_with(b"\n1 1\n255\n\x0a")
+    }
+}
+
+/// A scan of which the byte at that place comes as another.
+fn changed(rt: &impl Abort, alloc: Global, place: u64, byte: u8) {
+    let mut played = started(rt, alloc, job(rt, alloc, &[], Task::Scan));
+    let mut place = place;
+    for comes in SCAN {
+        come_changed(&mut played.client, *comes, place, byte);
+        drain(rt, &mut played);
+        place = place.wrapping_sub(comes.bytes().len() as u64);
+    }
+    assert!(rt; is_no_wrong_file(&played));
+    drop(played);
+}
+
+/// Ten thousand peers, each of which changes a byte of a scan.
 #[test]
 fn a_peer_that_answers_anything(rt: HostRuntime) {
-    let alloc = rt.alloc();
     let mut seed = 0x5eed_u64;
-    for _ in 0..300 {
-        let mut played = started(&rt, alloc, job(&rt, alloc, &[], Task::Scan));
+    for _ in 0..10_000 {
         seed = next(seed);
         let place = (seed >> 33) % 78;
         seed = next(seed);
         let byte = ((seed >> 33) % 256) as u8;
-        let mut at = 0u64;
-        for comes in SCAN {
-            let bytes = match comes {
-                Comes::Control(bytes) | Comes::Data(bytes) => *bytes,
-            };
-            if let Comes::Data(_) = comes {
-                played.client.data_opened();
-            }
-            for b in bytes {
-                let sent = [if at == place { byte } else { *b }];
-                match comes {
-                    Comes::Control(_) => played.client.feed_control(&sent),
-                    Comes::Data(_) => played.client.feed_data(&sent),
-                }
-                at = at.saturating_add(1);
-            }
-            drain(&rt, &mut played);
-        }
-        let size = played.files.len();
-        match played.client.outcome() {
-            Outcome::Done(_) => assert!(&rt; size == 32 || size == 28),
-            _ => assert!(&rt; !played.files.ends_with(b"\n1 1\n255\n\x0a")),
-        }
+        changed(&rt, rt.alloc(), place, byte);
     }
 }

@@ -1,9 +1,9 @@
 //! Batches: pages scanned one after another, each to an output of its own.
 
-use super::{TWO_ROWS, done, ends, flatbed_on, job, text};
+use super::{TWO_ROWS, done, ends, flatbed_on, is_ended, job, run, text};
 use device_api::Device;
 use flatbed_dev::Feeder;
-use local_job::{run_local, run_local_batch};
+use local_job::run_local_batch;
 use page_picture::{FailingPage, MemoryPage, Source, read_page};
 use sane_fixed::{ByteOrder, Status};
 use scan_job::{Outcome, Shelf, ShelfFault, Task, Why};
@@ -64,17 +64,20 @@ fn empty_drawer(alloc: Global, refused_open: u32, refused_close: u32) -> Drawer 
     }
 }
 
+/// Whether an output is the whole file of that gray, and has that number.
+fn is_page(output: &(u32, Vec<u8>), number: u32, gray: u8) -> bool {
+    let mut want = *DARK;
+    want[31] = gray;
+    output.0 == number && output.1.as_slice() == want.as_slice()
+}
+
 /// The outputs of the shelf are the whole files of these grays, numbered from 1.
 fn holds(rt: &impl Abort, shelf: &Drawer, grays: &[u8]) {
     assert!(rt; shelf.taken.len() == grays.len());
     let mut number = 0u32;
     for (output, gray) in shelf.taken.iter().zip(grays) {
-        let (given, file) = output;
         number = number.saturating_add(1);
-        let mut want = *DARK;
-        want[31] = *gray;
-        assert!(rt; *given == number);
-        assert!(rt; file.as_slice() == want.as_slice());
+        assert!(rt; is_page(output, number, *gray));
     }
 }
 
@@ -106,7 +109,7 @@ fn feeder(rt: &impl Abort, alloc: Global, grays: &[u8]) -> Feeder {
     feeder_of(rt, alloc, pages)
 }
 
-/// A job on the feeder that shows pages of one place.
+/// What a job on pages of one place comes to, with that shelf. Behind it the device is at rest.
 fn batch(
     rt: &impl Abort,
     alloc: Global,
@@ -114,37 +117,62 @@ fn batch(
     task: Task,
     shelf: &mut Drawer,
 ) -> Outcome {
-    let outcome = run_local_batch(alloc, device, &job(rt, alloc, ONE_PLACE, task), shelf);
+    let given = job(rt, alloc, ONE_PLACE, task);
+    let outcome = run_local_batch(alloc, device, &given, shelf);
+    drop(given);
     assert!(rt; device.at_rest());
     outcome
+}
+
+/// A job on pages of one place is done, with these files.
+fn gives(rt: &impl Abort, alloc: Global, device: &mut dyn Device, task: Task, grays: &[u8]) {
+    let mut shelf = empty_drawer(alloc, 0, 0);
+    let reports = done(rt, batch(rt, alloc, device, task, &mut shelf));
+    holds(rt, &shelf, grays);
+    // No page, no output; and a list puts no setting.
+    assert!(rt; !grays.is_empty() || shelf.opens == 0);
+    let settings = if task == Task::List { 0 } else { 3 };
+    assert!(rt; reports.settings.as_slice().len() == settings);
+    drop(reports);
+    drop(shelf);
+}
+
+/// A job on pages of one place ends so, before it asks for an output.
+fn gives_none(
+    rt: &impl Abort,
+    alloc: Global,
+    device: &mut dyn Device,
+    task: Task,
+    status: Status,
+    why: Why,
+) {
+    let mut shelf = empty_drawer(alloc, 0, 0);
+    let outcome = batch(rt, alloc, device, task, &mut shelf);
+    ends(rt, &outcome, status, why);
+    assert!(rt; shelf.opens == 0 && shelf.taken.is_empty());
+    drop(outcome);
+    drop(shelf);
 }
 
 #[test]
 fn pages_of_a_tray(rt: HostRuntime) {
     let alloc = rt.alloc();
+    let none = Status::NoDocs;
     for (count, first, rest) in [
         (16, [7u8, 9].as_slice(), [].as_slice()),
         (2, &[7, 9], &[]),
         (1, &[7], &[9u8]),
     ] {
+        let batch = Task::Batch(count);
         let mut device = feeder(&rt, alloc, &[7, 9]);
-        let mut shelf = empty_drawer(alloc, 0, 0);
-        let reports = done(
-            &rt,
-            batch(&rt, alloc, &mut device, Task::Batch(count), &mut shelf),
-        );
-        assert!(&rt; reports.settings.as_slice().len() == 3);
-        holds(&rt, &shelf, first);
+        gives(&rt, alloc, &mut device, batch, first);
         // What is left is a batch of its own, and where nothing is there is no page.
-        let mut shelf = empty_drawer(alloc, 0, 0);
-        let next = batch(&rt, alloc, &mut device, Task::Batch(count), &mut shelf);
-        holds(&rt, &shelf, rest);
         if rest.is_empty() {
-            ends(&rt, &next, Status::NoDocs, Why::Answer);
-            assert!(&rt; shelf.opens == 0);
+            gives_none(&rt, alloc, &mut device, batch, none, Why::Answer);
         } else {
-            done(&rt, next);
+            gives(&rt, alloc, &mut device, batch, rest);
         }
+        drop(device);
     }
 }
 
@@ -153,20 +181,20 @@ fn sixteen_pages(rt: HostRuntime) {
     let alloc = rt.alloc();
     let grays = [1u8, 2, 3, 4, 5, 6, 7, 8, 9, 10, 11, 12, 13, 14, 15, 16];
     let mut device = feeder(&rt, alloc, &grays);
-    let mut shelf = empty_drawer(alloc, 0, 0);
-    done(
-        &rt,
-        batch(&rt, alloc, &mut device, Task::Batch(16), &mut shelf),
-    );
-    holds(&rt, &shelf, &grays);
+    gives(&rt, alloc, &mut device, Task::Batch(16), &grays);
     // A page on glass is there for each.
     let mut flatbed = flatbed_on(&rt, alloc, b"P5\n1 1\n255\n\x05", 26);
-    let mut shelf = empty_drawer(alloc, 0, 0);
-    done(
-        &rt,
-        batch(&rt, alloc, &mut flatbed, Task::Batch(3), &mut shelf),
-    );
-    holds(&rt, &shelf, &[5, 5, 5]);
+    gives(&rt, alloc, &mut flatbed, Task::Batch(3), &[5, 5, 5]);
+    drop(flatbed);
+    drop(device);
+}
+
+/// A feeder of two pages, of which the second fails so.
+fn second_fails(rt: &impl Abort, alloc: Global, fails: u64) -> Feeder {
+    let mut pages = Vec::new(alloc);
+    pages.push(dot(rt, alloc, 7, 0)).expect(rt, "memory");
+    pages.push(dot(rt, alloc, 9, fails)).expect(rt, "memory");
+    feeder_of(rt, alloc, pages)
 }
 
 /// The second page fails: at its first start, at its row, or not at all.
@@ -174,50 +202,78 @@ fn sixteen_pages(rt: HostRuntime) {
 fn a_page_that_fails(rt: HostRuntime) {
     let alloc = rt.alloc();
     for fails in [1, 2] {
-        let mut pages = Vec::new(alloc);
-        pages.push(dot(&rt, alloc, 7, 0)).expect(&rt, "memory");
-        pages.push(dot(&rt, alloc, 9, fails)).expect(&rt, "memory");
-        let mut device = feeder_of(&rt, alloc, pages);
+        let mut device = second_fails(&rt, alloc, fails);
         let mut shelf = empty_drawer(alloc, 0, 0);
         let outcome = batch(&rt, alloc, &mut device, Task::Batch(16), &mut shelf);
         ends(&rt, &outcome, Status::IoError, Why::Answer);
         if let Some((number, file)) = shelf.taken.get(1) {
-            assert!(&rt; *number == 2);
-            assert!(&rt; file.len() < 32);
-            assert!(&rt; DARK.starts_with(file.as_slice()));
+            assert!(&rt; *number == 2 && file.len() < 32 && DARK.starts_with(file.as_slice()));
         }
         shelf.taken.truncate(1);
         holds(&rt, &shelf, &[7]);
+        drop(outcome);
+        drop(shelf);
+        drop(device);
     }
 }
 
-/// A page of two rows that fails at the second leaves the front that was written.
-#[test]
-fn a_page_that_fails_in_the_middle(rt: HostRuntime) {
-    let alloc = rt.alloc();
+/// A feeder of pages of two rows, each of which fails at that call.
+fn rows_that_fail(rt: &impl Abort, alloc: Global, calls: &[u64]) -> Feeder {
     let mut pages = Vec::new(alloc);
-    for fails in [0, 3] {
-        let page = read_page(alloc, TWO_ROWS, 26).expect(&rt, "a page");
-        let source = Source::Failing(FailingPage::new(page, fails));
-        pages.push(source).expect(&rt, "memory");
+    for fails in calls {
+        let page = read_page(alloc, TWO_ROWS, 26).expect(rt, "a page");
+        let source = Source::Failing(FailingPage::new(page, *fails));
+        pages.push(source).expect(rt, "memory");
     }
-    let mut device = feeder_of(&rt, alloc, pages);
-    let mut shelf = empty_drawer(alloc, 0, 0);
+    feeder_of(rt, alloc, pages)
+}
+
+/// Batches of so many pages of two rows, read a byte at a time, end by the fault of a page.
+fn fails_in_rows(rt: &impl Abort, alloc: Global, calls: &[u64], count: u32, shelf: &mut Drawer) {
+    let mut device = rows_that_fail(rt, alloc, calls);
     let settings: &[(&[u8], &[u8])] = &[
         (b"resolution", b"26"),
         (b"br-x", b"1"),
         (b"br-y", b"2"),
         (b"read-limit-size", b"1"),
     ];
-    let both = job(&rt, alloc, settings, Task::Batch(2));
-    let outcome = run_local_batch(alloc, &mut device, &both, &mut shelf);
-    ends(&rt, &outcome, Status::IoError, Why::Answer);
-    assert!(&rt; shelf.taken.len() == 2);
-    let whole = b"P5\n# SANE data follows\n1 2\n255\n\x07\x09".as_slice();
-    assert!(&rt; shelf.taken[0].1.as_slice() == whole);
-    let front = shelf.taken[1].1.as_slice();
-    assert!(&rt; !front.is_empty() && front.len() < whole.len());
-    assert!(&rt; whole.starts_with(front));
+    let given = job(rt, alloc, settings, Task::Batch(count));
+    let outcome = run_local_batch(alloc, &mut device, &given, shelf);
+    ends(rt, &outcome, Status::IoError, Why::Answer);
+    drop(outcome);
+    drop(given);
+    drop(device);
+}
+
+/// Whether the file is a front of a whole one, neither empty nor all of it.
+fn is_front(file: &[u8], whole: &[u8]) -> bool {
+    !file.is_empty() && file.len() < whole.len() && whole.starts_with(file)
+}
+
+/// A page of two rows that fails at the second leaves the front that was written.
+#[test]
+fn a_page_that_fails_in_the_middle(rt: HostRuntime) {
+    let alloc = rt.alloc();
+    let mut shelf = empty_drawer(alloc, 0, 0);
+    fails_in_rows(&rt, alloc, &[0, 3], 2, &mut shelf);
+    let whole: &[u8] = b"P5\n# SANE data follows\n1 2\n255\n\x07\x09";
+    let [(_, first), (_, second)] = shelf.taken.as_slice() else {
+        panic!(&rt; "not two pages");
+    };
+    assert!(&rt; first.as_slice() == whole);
+    assert!(&rt; is_front(second, whole));
+    drop(shelf);
+}
+
+/// A shelf that refuses one open or one close ends the batch.
+fn refuses(rt: &impl Abort, alloc: Global, open: u32, close: u32) -> Drawer {
+    let mut device = feeder(rt, alloc, &[7, 8, 9]);
+    let mut shelf = empty_drawer(alloc, open, close);
+    let outcome = batch(rt, alloc, &mut device, Task::Batch(16), &mut shelf);
+    ends(rt, &outcome, Status::IoError, Why::Sink);
+    drop(outcome);
+    drop(device);
+    shelf
 }
 
 /// The shelf refuses one open or one close: what was scanned before it stays, and so does the page whose output it
@@ -227,70 +283,52 @@ fn a_shelf_that_refuses(rt: HostRuntime) {
     let alloc = rt.alloc();
     let grays = [7u8, 8, 9];
     for k in 1..4u32 {
-        let mut device = feeder(&rt, alloc, &grays);
-        let mut shelf = empty_drawer(alloc, k, 0);
-        let outcome = batch(&rt, alloc, &mut device, Task::Batch(16), &mut shelf);
-        ends(&rt, &outcome, Status::IoError, Why::Sink);
+        let shelf = refuses(&rt, alloc, k, 0);
         assert!(&rt; (shelf.opens, shelf.number) == (k, k));
         holds(&rt, &shelf, &grays[..k as usize - 1]);
-        let mut device = feeder(&rt, alloc, &grays);
-        let mut shelf = empty_drawer(alloc, 0, k);
-        let outcome = batch(&rt, alloc, &mut device, Task::Batch(16), &mut shelf);
-        ends(&rt, &outcome, Status::IoError, Why::Sink);
+        drop(shelf);
+        let shelf = refuses(&rt, alloc, 0, k);
         assert!(&rt; shelf.opens == k);
         holds(&rt, &shelf, &grays[..k as usize]);
+        drop(shelf);
     }
     // A job that ended otherwise ends so.
-    let mut pages = Vec::new(alloc);
-    let page = read_page(alloc, TWO_ROWS, 26).expect(&rt, "a page");
-    let source = Source::Failing(FailingPage::new(page, 3));
-    pages.push(source).expect(&rt, "memory");
-    let mut device = feeder_of(&rt, alloc, pages);
     let mut shelf = empty_drawer(alloc, 0, 1);
-    let settings: &[(&[u8], &[u8])] = &[
-        (b"resolution", b"26"),
-        (b"br-x", b"1"),
-        (b"br-y", b"2"),
-        (b"read-limit-size", b"1"),
-    ];
-    let one = job(&rt, alloc, settings, Task::Batch(1));
-    let outcome = run_local_batch(alloc, &mut device, &one, &mut shelf);
-    ends(&rt, &outcome, Status::IoError, Why::Answer);
+    fails_in_rows(&rt, alloc, &[3], 1, &mut shelf);
     assert!(&rt; shelf.closes == 1);
+    drop(shelf);
+}
+
+/// A batch with an output for one file is refused.
+fn is_no_job_of_one_file(rt: &impl Abort, alloc: Global, device: &mut dyn Device) {
+    let (outcome, file) = run(rt, alloc, device, ONE_PLACE, Task::Batch(1));
+    assert!(rt; is_ended(&outcome, Status::Inval, Why::Setting) && file.is_empty());
+    drop(outcome);
 }
 
 #[test]
 fn jobs_that_are_no_batch(rt: HostRuntime) {
     let alloc = rt.alloc();
     let mut device = feeder(&rt, alloc, &[7, 9]);
-    let mut shelf = empty_drawer(alloc, 0, 0);
-    for task in [Task::List, Task::Show, Task::SetOnly] {
-        done(&rt, batch(&rt, alloc, &mut device, task, &mut shelf));
+    for (task, grays) in [
+        (Task::List, [].as_slice()),
+        (Task::Show, &[]),
+        (Task::SetOnly, &[]),
+        (Task::Scan, &[7]),
+    ] {
+        gives(&rt, alloc, &mut device, task, grays);
     }
-    assert!(&rt; shelf.opens == 0);
-    done(&rt, batch(&rt, alloc, &mut device, Task::Scan, &mut shelf));
-    holds(&rt, &shelf, &[7]);
     // A batch of no page, or of too many, is refused, and so is a batch with an output for one file.
     for count in [0, 17] {
-        let mut shelf = empty_drawer(alloc, 0, 0);
-        let outcome = batch(&rt, alloc, &mut device, Task::Batch(count), &mut shelf);
-        ends(&rt, &outcome, Status::Inval, Why::Setting);
-        assert!(&rt; shelf.opens == 0);
+        let batch = Task::Batch(count);
+        gives_none(&rt, alloc, &mut device, batch, Status::Inval, Why::Setting);
     }
-    let mut file = Vec::new(alloc);
-    let one = job(&rt, alloc, ONE_PLACE, Task::Batch(1));
-    let outcome = run_local(alloc, &mut device, &one, &mut file);
-    ends(&rt, &outcome, Status::Inval, Why::Setting);
-    assert!(&rt; file.len() == 0);
+    is_no_job_of_one_file(&rt, alloc, &mut device);
     // The second page is still there; and an empty tray is no page for a scan.
-    let mut shelf = empty_drawer(alloc, 0, 0);
-    done(
-        &rt,
-        batch(&rt, alloc, &mut device, Task::Batch(1), &mut shelf),
-    );
-    holds(&rt, &shelf, &[9]);
-    let outcome = batch(&rt, alloc, &mut device, Task::Scan, &mut shelf);
-    ends(&rt, &outcome, Status::NoDocs, Why::Answer);
+    gives(&rt, alloc, &mut device, Task::Batch(1), &[9]);
+    let none = Status::NoDocs;
+    gives_none(&rt, alloc, &mut device, Task::Scan, none, Why::Answer);
+    drop(device);
 }
 
 /// What the first read of a frame answers is no end of the pages.
@@ -304,4 +342,8 @@ fn no_page_told_by_a_read(rt: HostRuntime) {
     let outcome = run_local_batch(alloc, &mut device, &both, &mut shelf);
     ends(&rt, &outcome, Status::NoDocs, Why::Answer);
     assert!(&rt; shelf.opens == 0);
+    drop(outcome);
+    drop(both);
+    drop(shelf);
+    drop(device);
 }

@@ -1,7 +1,6 @@
-use super::{done, ends, flatbed, inverted, job, text};
+use super::{done, ends, flatbed, inverted, run, text};
 use device_api::Device;
 use hand_dev::HandScanner;
-use local_job::run_local;
 use option_desc::Value;
 use page_picture::{FailingPage, MemoryPage, Source, read_page};
 use sane_fixed::{ByteOrder, Fixed, Info, Status};
@@ -39,11 +38,35 @@ fn scanned(
     device: &mut dyn Device,
     settings: &[(&[u8], &[u8])],
 ) -> (Reports, Vec<u8>) {
-    let mut file = Vec::new(alloc);
-    let scan = job(rt, alloc, settings, Task::Scan);
-    let reports = done(rt, run_local(alloc, device, &scan, &mut file));
-    assert!(rt; device.at_rest());
-    (reports, file)
+    let (outcome, file) = run(rt, alloc, device, settings, Task::Scan);
+    (done(rt, outcome), file)
+}
+
+/// A scan with these settings writes this file.
+fn writes(
+    rt: &impl Abort,
+    alloc: Global,
+    device: &mut dyn Device,
+    settings: &[(&[u8], &[u8])],
+    want: &[u8],
+) {
+    let (reports, file) = scanned(rt, alloc, device, settings);
+    assert!(rt; file.as_slice() == want);
+    drop(reports);
+}
+
+/// A scan with these settings ends so, and writes nothing.
+fn ends_at_once(
+    rt: &impl Abort,
+    alloc: Global,
+    device: &mut dyn Device,
+    settings: &[(&[u8], &[u8])],
+    status: Status,
+) {
+    let (outcome, file) = run(rt, alloc, device, settings, Task::Scan);
+    ends(rt, &outcome, status, Why::Answer);
+    assert!(rt; file.is_empty());
+    drop(outcome);
 }
 
 /// A text and then so many copies of a row.
@@ -60,37 +83,43 @@ fn rows(rt: &impl Abort, alloc: Global, head: &[u8], row: &[u8], count: usize) -
 #[test]
 fn a_black_column_by_hand(rt: HostRuntime) {
     let alloc = rt.alloc();
-    let mut device = hand(
-        &rt,
-        alloc,
-        b"P5\n1 10\n255\n\x00\x00\x00\x00\x00\x00\x00\x00\x00\x00",
-        75,
-    );
+    let page = b"P5\n1 10\n255\n\x00\x00\x00\x00\x00\x00\x00\x00\x00\x00";
+    let mut device = hand(&rt, alloc, page, 75);
     assert!(&rt; device.params().lines == None);
-    let (_, file) = scanned(&rt, alloc, &mut device, &[(b"depth", b"1")]);
     let mut row = [0u8; 41];
     row[0] = 0x80;
     let wanted = rows(&rt, alloc, b"P4\n# SANE data follows\n324 10\n", &row, 10);
-    assert!(&rt; file.as_slice() == wanted.as_slice());
+    writes(&rt, alloc, &mut device, &[(b"depth", b"1")], &wanted);
     assert!(&rt; device.params().lines == None);
+    drop(device);
+}
+
+/// What the one setting was asked to be, and was given as, and whether it was said to be inexact.
+fn rounded(reports: &Reports) -> Option<(i32, i32, bool)> {
+    let [report] = reports.settings.as_slice() else {
+        return None;
+    };
+    let is_inexact = report.info.0 & Info::INEXACT != 0;
+    match (&report.asked, &report.given) {
+        (Value::Int(asked), Value::Int(given)) => Some((*asked, *given, is_inexact)),
+        _ => None,
+    }
 }
 
 #[test]
 fn resolutions_of_a_hand_scanner(rt: HostRuntime) {
     let alloc = rt.alloc();
     let mut device = hand(&rt, alloc, b"P5\n1 1\n255\n\x00", 75);
-    for (asked, word, given) in [
+    for (text, asked, given) in [
         (b"125".as_slice(), 125, 100),
         (b"5000", 5000, 300),
         (b"150", 150, 150),
     ] {
-        let (reports, _) = scanned(&rt, alloc, &mut device, &[(b"resolution", asked)]);
-        let settings = reports.settings.as_slice();
-        assert!(&rt; settings.len() == 1);
-        assert!(&rt; settings[0].asked == Value::Int(word));
-        assert!(&rt; settings[0].given == Value::Int(given));
-        assert!(&rt; (settings[0].info.0 & Info::INEXACT != 0) == (word != given));
+        let (reports, _) = scanned(&rt, alloc, &mut device, &[(b"resolution", text)]);
+        assert!(&rt; rounded(&reports) == Some((asked, given, asked != given)));
+        drop(reports);
     }
+    drop(device);
 }
 
 /// At each resolution of a hand scanner: 110 mm are so many dots, and line y shows the page's row
@@ -108,14 +137,12 @@ fn odd_pages_by_hand(rt: HostRuntime) {
         (b"300", b"P5\n# SANE data follows\n1299 19\n255\n"),
     ] {
         // Seven rows at 113 dots per inch: 7 * 75 / 113 is 4.6, 7 * 100 / 113 is 6.2, 9.3, and 18.6.
-        let mut device = hand(
-            &rt,
-            alloc,
-            b"P5\n1 7\n255\n\x00\x01\x02\x03\x04\x05\x06",
-            113,
-        );
-        let (_, file) = scanned(&rt, alloc, &mut device, &[(b"resolution", resolution)]);
+        let page = b"P5\n1 7\n255\n\x00\x01\x02\x03\x04\x05\x06";
+        let mut device = hand(&rt, alloc, page, 113);
+        let (reports, file) = scanned(&rt, alloc, &mut device, &[(b"resolution", resolution)]);
         assert!(&rt; file.get(..head.len()) == Some(head));
+        drop(reports);
+        drop(device);
     }
 }
 
@@ -144,8 +171,8 @@ fn passes_in_any_order_and_byte_order(rt: HostRuntime) {
         for order in [b"RGB".as_slice(), b"RBG", b"GBR", b"GRB", b"BRG", b"BGR"] {
             let page = source(&rt, alloc, TWO_PLACES, 26);
             let mut device = three_pass(&rt, alloc, page, bytes);
-            let (_, file) = scanned(&rt, alloc, &mut device, &in_order(order));
-            assert!(&rt; file.as_slice() == TWO_PLACES_FILE);
+            writes(&rt, alloc, &mut device, &in_order(order), TWO_PLACES_FILE);
+            drop(device);
         }
     }
 }
@@ -156,8 +183,16 @@ fn one_pass_of_grays(rt: HostRuntime) {
     let page = source(&rt, alloc, b"P5\n2 1\n255\n\x07\x09", 26);
     let mut device = three_pass(&rt, alloc, page, ByteOrder::Big);
     let settings: [(&[u8], &[u8]); 3] = [(b"resolution", b"26"), (b"br-x", b"2"), (b"br-y", b"1")];
-    let (_, file) = scanned(&rt, alloc, &mut device, &settings);
-    assert!(&rt; file.as_slice() == b"P5\n# SANE data follows\n2 1\n255\n\x07\x09".as_slice());
+    let want = b"P5\n# SANE data follows\n2 1\n255\n\x07\x09";
+    writes(&rt, alloc, &mut device, &settings, want);
+    drop(device);
+}
+
+/// A three-pass scanner on the two places, of which the call of that number fails.
+fn failing(rt: &impl Abort, alloc: Global, n: u64) -> ThreePass {
+    let page = read_page(alloc, TWO_PLACES, 26).expect(rt, "a page");
+    let source = Source::Failing(FailingPage::new(page, n));
+    three_pass(rt, alloc, source, ByteOrder::Big)
 }
 
 /// A source that fails at its n-th call leaves no file; one whose fault would come behind the last pass
@@ -165,22 +200,15 @@ fn one_pass_of_grays(rt: HostRuntime) {
 #[test]
 fn a_page_that_fails_in_a_pass(rt: HostRuntime) {
     let alloc = rt.alloc();
+    let settings = in_order(b"GBR");
     for n in 1..=6 {
-        let page = read_page(alloc, TWO_PLACES, 26).expect(&rt, "a page");
-        let failing = Source::Failing(FailingPage::new(page, n));
-        let mut device = three_pass(&rt, alloc, failing, ByteOrder::Big);
-        let mut file = Vec::new(alloc);
-        let scan = job(&rt, alloc, &in_order(b"GBR"), Task::Scan);
-        let outcome = run_local(alloc, &mut device, &scan, &mut file);
-        ends(&rt, &outcome, Status::IoError, Why::Answer);
-        assert!(&rt; file.is_empty());
-        assert!(&rt; device.at_rest());
+        let mut device = failing(&rt, alloc, n);
+        ends_at_once(&rt, alloc, &mut device, &settings, Status::IoError);
+        drop(device);
     }
-    let page = read_page(alloc, TWO_PLACES, 26).expect(&rt, "a page");
-    let failing = Source::Failing(FailingPage::new(page, 7));
-    let mut device = three_pass(&rt, alloc, failing, ByteOrder::Big);
-    let (_, file) = scanned(&rt, alloc, &mut device, &in_order(b"GBR"));
-    assert!(&rt; file.as_slice() == TWO_PLACES_FILE);
+    let mut device = failing(&rt, alloc, 7);
+    writes(&rt, alloc, &mut device, &settings, TWO_PLACES_FILE);
+    drop(device);
 }
 
 /// The text of the table of which place i holds the half of i, rounded down.
@@ -196,6 +224,18 @@ fn halves(rt: &impl Abort, alloc: Global) -> Vec<u8> {
     out
 }
 
+/// The settings that show one place by two gamma tables.
+fn with_tables<'a>(gamma: &'a [u8], red: &'a [u8]) -> [(&'a [u8], &'a [u8]); 6] {
+    [
+        (b"resolution", b"26"),
+        (b"br-x", b"1"),
+        (b"br-y", b"1"),
+        (b"mode", b"Color"),
+        (b"gamma-table", gamma),
+        (b"red-gamma-table", red),
+    ]
+}
+
 /// The gamma table has the entry first, and the color's own table behind it; in gray it is not set.
 #[test]
 fn a_table_per_channel(rt: HostRuntime) {
@@ -206,20 +246,11 @@ fn a_table_per_channel(rt: HostRuntime) {
     let mut passes = three_pass(&rt, alloc, page, ByteOrder::Big);
     let gamma = inverted(&rt, alloc, 256);
     let red = halves(&rt, alloc);
-    let settings: &[(&[u8], &[u8])] = &[
-        (b"resolution", b"26"),
-        (b"br-x", b"1"),
-        (b"br-y", b"1"),
-        (b"mode", b"Color"),
-        (b"gamma-table", &gamma),
-        (b"red-gamma-table", &red),
-    ];
-    let want = b"P6\n# SANE data follows\n1 1\n255\n\x7A\xF4\xF3".as_slice();
-    assert!(&rt; scanned(&rt, alloc, &mut bed, settings).1.as_slice() == want);
-    assert!(&rt; scanned(&rt, alloc, &mut passes, settings).1.as_slice() == want);
-    let mut none = Vec::new(alloc);
-    let gray = job(&rt, alloc, &settings[5..], Task::Scan);
-    let outcome = run_local(alloc, &mut bed, &gray, &mut none);
-    ends(&rt, &outcome, Status::Inval, Why::Answer);
-    assert!(&rt; none.len() == 0);
+    let settings = with_tables(&gamma, &red);
+    let want = b"P6\n# SANE data follows\n1 1\n255\n\x7A\xF4\xF3";
+    writes(&rt, alloc, &mut bed, &settings, want);
+    writes(&rt, alloc, &mut passes, &settings, want);
+    ends_at_once(&rt, alloc, &mut bed, &settings[5..], Status::Inval);
+    drop(bed);
+    drop(passes);
 }

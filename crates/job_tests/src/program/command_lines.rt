@@ -1,25 +1,45 @@
 use super::texts;
+use sane_fixed::Text;
 use scan_job::Task;
 use scanimage_cli::{
-    Options, SplitFault, asked_of_net, has_config, is_local, is_net_name, port_of, read_options,
-    split_words, task_of,
+    Options, Split, SplitFault, asked_of_net, has_config, is_local, is_net_name, port_of,
+    read_options, split_words, task_of,
 };
 use std::alloc::Global;
 use std::process::Abort;
 use std::test::Fail;
 
+/// A command line's words, parted.
+fn split(rt: &impl Abort, alloc: Global, words: &[&[u8]]) -> Result<Split, SplitFault> {
+    let words = texts(rt, alloc, words);
+    let split = split_words(alloc, words.as_slice());
+    drop(words);
+    split
+}
+
 /// The options of a command line.
-fn options(rt: &impl Abort, alloc: Global, words: &[&[u8]]) -> Result<Options, Fail> {
-    let words = texts(rt, alloc, words)?;
-    let split = split_words(alloc, words.as_slice())?;
-    match read_options(alloc, split.program.as_slice()) {
-        Ok(options) => Ok(options),
-        Err(_) => Err(Fail::from("refused")),
+fn options(rt: &impl Abort, alloc: Global, words: &[&[u8]]) -> Options {
+    let split = match split(rt, alloc, words) {
+        Ok(split) => split,
+        Err(_) => panic!(rt; "no command line"),
+    };
+    let options = match read_options(alloc, split.program.as_slice()) {
+        Ok(options) => options,
+        Err(_) => panic!(rt; "refused"),
+    };
+    drop(split);
+    options
+}
+
+fn is_text(text: &Option<Text>, bytes: &[u8]) -> bool {
+    match text {
+        Some(text) => text.as_bytes() == bytes,
+        None => false,
     }
 }
 
 #[test]
-fn words_of_the_program(rt: HostRuntime) -> Result<(), Fail> {
+fn words_of_the_program(rt: HostRuntime) {
     let words = [
         b"--config".as_slice(),
         b"-",
@@ -28,22 +48,18 @@ fn words_of_the_program(rt: HostRuntime) -> Result<(), Fail> {
         b"--output-file=a b.pgm",
         b"--port=65535",
     ];
-    let options = options(&rt, rt.alloc(), words.as_slice())?;
-    let config = options.config.ok_or("no config")?;
-    assert!(rt; config.as_bytes() == b"-".as_slice());
-    let device = options.device_name.ok_or("no device")?;
-    assert!(rt; device.as_bytes() == b"hand:0".as_slice());
-    let output = options.output_file.ok_or("no output")?;
-    assert!(rt; output.as_bytes() == b"a b.pgm".as_slice());
-    let port = options.port.ok_or("no port")?;
-    assert!(rt; port == 65535);
-    assert!(rt; !options.list_devices && options.user.is_none());
-    Ok(())
+    let options = options(&rt, rt.alloc(), words.as_slice());
+    assert!(&rt; is_text(&options.config, b"-"));
+    assert!(&rt; is_text(&options.device_name, b"hand:0"));
+    assert!(&rt; is_text(&options.output_file, b"a b.pgm"));
+    assert!(&rt; options.port == Some(65535));
+    assert!(&rt; !options.list_devices && options.user.is_none());
+    drop(options);
 }
 
 /// A list goes before a table, and that before the settings alone.
 #[test]
-fn what_is_asked_for(rt: HostRuntime) -> Result<(), Fail> {
+fn what_is_asked_for(rt: HostRuntime) {
     for (words, task) in [
         ([b"-n".as_slice(), b"-A", b"-L"].as_slice(), Task::List),
         ([b"--list-devices".as_slice()].as_slice(), Task::List),
@@ -53,13 +69,24 @@ fn what_is_asked_for(rt: HostRuntime) -> Result<(), Fail> {
         ([b"--dont-scan".as_slice()].as_slice(), Task::SetOnly),
         ([b"--config".as_slice(), b"-"].as_slice(), Task::Scan),
     ] {
-        assert_eq!(rt; task_of(&options(&rt, rt.alloc(), words)?), task);
+        let options = options(&rt, rt.alloc(), words);
+        assert!(&rt; task_of(&options) == task);
+        drop(options);
     }
-    Ok(())
+}
+
+/// A command line is of this machine, or not.
+fn expect_here(rt: &impl Abort, alloc: Global, words: &[&[u8]], is_here: bool) {
+    let options = options(rt, alloc, words);
+    assert!(rt; is_local(&options) == is_here);
+    let is_said = options.config.is_some();
+    assert!(rt; has_config(&options) == (is_said || !is_here));
+    assert!(rt; asked_of_net(&options).is_none() == is_here);
+    drop(options);
 }
 
 #[test]
-fn what_is_of_this_machine(rt: HostRuntime) -> Result<(), Fail> {
+fn what_is_of_this_machine(rt: HostRuntime) {
     for (name, is_net) in [
         (b"net:host:flatbed:0".as_slice(), true),
         (b"net::", true),
@@ -68,7 +95,7 @@ fn what_is_of_this_machine(rt: HostRuntime) -> Result<(), Fail> {
         (b"flatbed:0", false),
         (b"Net:host:x", false),
     ] {
-        assert!(rt; is_net_name(name) == is_net);
+        assert!(&rt; is_net_name(name) == is_net);
     }
     for (words, is_here) in [
         ([b"--config=-".as_slice()].as_slice(), true),
@@ -85,17 +112,12 @@ fn what_is_of_this_machine(rt: HostRuntime) -> Result<(), Fail> {
             true,
         ),
     ] {
-        let options = options(&rt, rt.alloc(), words)?;
-        assert!(rt; is_local(&options) == is_here);
-        let is_said = options.config.is_some();
-        assert!(rt; has_config(&options) == (is_said || !is_here));
-        assert!(rt; asked_of_net(&options).is_none() == is_here);
+        expect_here(&rt, rt.alloc(), words, is_here);
     }
-    Ok(())
 }
 
 #[test]
-fn what_is_asked_of_a_host(rt: HostRuntime) -> Result<(), Fail> {
+fn what_is_asked_of_a_host(rt: HostRuntime) {
     for (words, host, name, port) in [
         (
             [b"-L".as_slice(), b"--net=a"].as_slice(),
@@ -116,15 +138,19 @@ fn what_is_asked_of_a_host(rt: HostRuntime) -> Result<(), Fail> {
             1,
         ),
     ] {
-        let options = options(&rt, rt.alloc(), words)?;
-        assert!(rt; asked_of_net(&options) == Some((host, name)));
-        assert!(rt; port_of(&options) == port);
+        let options = options(&rt, rt.alloc(), words);
+        assert!(&rt; asked_of_net(&options) == Some((host, name)));
+        assert!(&rt; port_of(&options) == port);
+        drop(options);
     }
-    Ok(())
+}
+
+fn is_pair(pair: &(Text, Text), name: &[u8], value: &[u8]) -> bool {
+    pair.0.as_bytes() == name && pair.1.as_bytes() == value
 }
 
 #[test]
-fn geometry_is_measured_from_the_origin(rt: HostRuntime) -> Result<(), Fail> {
+fn geometry_is_measured_from_the_origin(rt: HostRuntime) {
     let words = [
         b"--resolution".as_slice(),
         b"26",
@@ -135,21 +161,25 @@ fn geometry_is_measured_from_the_origin(rt: HostRuntime) -> Result<(), Fail> {
         b"-y",
         b"1",
     ];
-    let words = texts(&rt, rt.alloc(), words.as_slice())?;
-    let split = split_words(rt.alloc(), words.as_slice())?;
-    assert!(rt; split.program.len() == 0);
+    let split = match split(&rt, rt.alloc(), words.as_slice()) {
+        Ok(split) => split,
+        Err(_) => panic!(&rt; "no command line"),
+    };
     let wanted = [
         (b"resolution".as_slice(), b"26".as_slice()),
         (b"tl-x", b"1"),
         (b"br-x", b"3"),
         (b"br-y", b"1"),
     ];
-    assert!(rt; split.settings.len() == wanted.len());
-    for ((name, value), (wanted_name, wanted_value)) in split.settings.iter().zip(wanted.iter()) {
-        assert!(rt; name.as_bytes() == *wanted_name);
-        assert!(rt; value.as_bytes() == *wanted_value);
+    assert!(&rt; split.program.is_empty() && split.settings.len() == wanted.len());
+    for (pair, (name, value)) in split.settings.iter().zip(wanted) {
+        assert!(&rt; is_pair(pair, name, value));
     }
-    Ok(())
+    drop(split);
+}
+
+fn given(rt: &impl Abort, alloc: Global, words: &[&[u8]]) -> Result<Vec<Text>, Fail> {
+    Ok(texts(rt, alloc, words))
 }
 
 #[test]
@@ -174,7 +204,7 @@ fn words_that_are_no_command_line(rt: HostRuntime) -> Result<(), Fail> {
         [b"-".as_slice()].as_slice(),
         [b"".as_slice()].as_slice(),
     ] {
-        let words = texts(&rt, rt.alloc(), words)?;
+        let words = given(&rt, rt.alloc(), words)?;
         assert_eq!(rt;
             split_words(rt.alloc(), words.as_slice()).err(),
             Some(SplitFault::Bad)
@@ -188,7 +218,7 @@ fn words_that_are_no_command_line(rt: HostRuntime) -> Result<(), Fail> {
         [b"--port=+80".as_slice()].as_slice(),
         [b"--config=\xFF".as_slice()].as_slice(),
     ] {
-        let words = texts(&rt, rt.alloc(), words)?;
+        let words = given(&rt, rt.alloc(), words)?;
         assert!(rt; read_options(rt.alloc(), words.as_slice()).is_err());
     }
     Ok(())

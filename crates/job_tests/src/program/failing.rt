@@ -1,13 +1,13 @@
+use super::text;
 use flatbed_dev::Flatbed;
 use page_picture::{MemoryPage, Source, read_page};
-use sane_fixed::{ByteOrder, Status, Text};
+use sane_fixed::{ByteOrder, Status};
 use scan_job::{Job, Task, Why};
-use scanimage_cli::{Ending, SplitFault, do_job, words_of};
+use scanimage_cli::{Ending, Printed, SplitFault, do_job, words_of};
 use std::alloc::Global;
 use std::env::{Env, FillError};
 use std::io::{self, ErrorKind, Write};
 use std::process::Abort;
-use std::test::Fail;
 
 /// An output of which one write fails, the one of that number.
 #[derive(Drop)]
@@ -32,55 +32,72 @@ impl Write for Once {
     }
 }
 
-/// A scan of one gray pixel, into an output whose write of that number fails.
-fn scan(rt: &impl Abort, alloc: Global, fails: u32) -> Result<(Result<(), u8>, Vec<u8>), Fail> {
+/// A flatbed with a page of one gray pixel.
+fn flatbed(rt: &impl Abort, alloc: Global) -> Flatbed {
     let page = read_page(alloc, b"P5\n1 1\n255\n\x0a", 26).expect(rt, "a page");
     let source = Source::Memory(MemoryPage::new(page));
-    let name = Text::new(alloc, b"flatbed:0")?;
-    let Ok(mut device) = Flatbed::new(alloc, name, source, ByteOrder::Big) else {
-        panic!(rt; "no flatbed");
-    };
+    let name = text(rt, alloc, b"flatbed:0");
+    match Flatbed::new(alloc, name, source, ByteOrder::Big) {
+        Ok(flatbed) => flatbed,
+        Err(_) => panic!(rt; "no flatbed"),
+    }
+}
+
+/// A scan of one place.
+fn job(rt: &impl Abort, alloc: Global) -> Job {
     let mut settings = Vec::new(alloc);
     for (name, value) in [
         (b"resolution".as_slice(), b"26".as_slice()),
         (b"br-x", b"1"),
         (b"br-y", b"1"),
     ] {
-        settings.push((Text::new(alloc, name)?, Text::new(alloc, value)?))?;
+        let setting = (text(rt, alloc, name), text(rt, alloc, value));
+        settings.push(setting).expect(rt, "memory");
     }
-    let job = Job {
-        user: Text::new(alloc, b"user")?,
-        password: Text::new(alloc, b"")?,
-        device: Text::new(alloc, b"flatbed:0")?,
+    Job {
+        user: text(rt, alloc, b"user"),
+        password: text(rt, alloc, b""),
+        device: text(rt, alloc, b"flatbed:0"),
         settings,
         task: Task::Scan,
+    }
+}
+
+/// The exit status by which a job ends, if it does, and whether it was its output that failed.
+fn exit_of(done: &Result<Printed, Ending>) -> Option<(u8, bool)> {
+    let Err(ending) = done else {
+        return None;
     };
-    let mut out = Once {
-        taken: Vec::new(alloc),
-        writes: 0,
-        fails,
-    };
-    let done = match do_job(alloc, &mut device, &job, &mut out) {
-        Ok(_) => Ok(()),
-        Err(ending) => {
-            assert!(rt; matches!(&ending, Ending::Ended(Status::IoError, Why::Sink)));
-            Err(ending.exit_status())
-        }
-    };
-    Ok((done, out.taken))
+    let is_sink = matches!(ending, Ending::Ended(Status::IoError, Why::Sink));
+    Some((ending.exit_status(), is_sink))
 }
 
 /// The one write fails, and nothing is written after it.
 #[test]
-fn an_output_that_fails_once(rt: HostRuntime) -> Result<(), Fail> {
+fn an_output_that_fails_once(rt: HostRuntime) {
     let alloc = rt.alloc();
-    let (done, file) = scan(&rt, alloc, 0)?;
-    assert!(&rt; done == Ok(()));
-    assert!(&rt; file.as_slice() == b"P5\n# SANE data follows\n1 1\n255\n\x0a".as_slice());
-    let (done, file) = scan(&rt, alloc, 1)?;
-    assert!(&rt; done == Err(9));
-    assert!(&rt; file.as_slice() == b"".as_slice());
-    Ok(())
+    for (fails, exit, file) in [
+        (
+            0,
+            None,
+            b"P5\n# SANE data follows\n1 1\n255\n\x0a".as_slice(),
+        ),
+        (1, Some((9, true)), b""),
+    ] {
+        let mut device = flatbed(&rt, alloc);
+        let mut out = Once {
+            taken: Vec::new(alloc),
+            writes: 0,
+            fails,
+        };
+        let scan = job(&rt, alloc);
+        let done = do_job(alloc, &mut device, &scan, &mut out);
+        assert!(&rt; exit_of(&done) == exit);
+        assert!(&rt; out.taken.as_slice() == file);
+        drop(done);
+        drop(scan);
+        drop(device);
+    }
 }
 
 /// A command line whose second word is too long.

@@ -1,69 +1,77 @@
+use super::{text, texts};
 use config_pages::NoPage;
 use constraint::{Range, StringList, WordList};
 use device_api::DeviceInfo;
 use dispatch::{ConfigFault, ConfigReason};
 use option_desc::{Constraint, Descriptor, Value};
 use page_picture::PageFault;
-use sane_fixed::{Cap, Fixed, Info, Kind, Status, Text, Unit};
+use sane_fixed::{Cap, Fixed, Info, Kind, Status, Unit};
 use scan_job::{Report, Why};
 use scanimage_cli::{Ending, device_list, is_any_rounded, options_table, rounded_lines};
 use std::alloc::Global;
 use std::process::Abort;
-use std::test::Fail;
 
-fn text(rt: &impl Abort, alloc: Global, bytes: &[u8]) -> Text {
-    Text::new(alloc, bytes).expect(rt, "a text")
+/// An ending tells this line and has this exit status.
+fn expect_told(rt: &impl Abort, alloc: Global, ending: &Ending, line: &[u8], status: u8) {
+    let mut told = Vec::new(alloc);
+    ending.tell(&mut told).expect(rt, "memory");
+    assert!(rt; told.as_slice() == line);
+    assert!(rt; ending.exit_status() == status);
 }
 
-#[test]
-fn endings(rt: HostRuntime) -> Result<(), Fail> {
-    let alloc = rt.alloc();
-    for (ending, line, status) in [
+/// Endings by what cannot be read, and the line that each tells.
+fn unread(rt: &impl Abort, alloc: Global) -> [(Ending, &'static [u8]); 4] {
+    let same_name = ConfigFault {
+        line: 2,
+        reason: ConfigReason::SameName,
+    };
+    let short = NoPage::Fault(PageFault::Short);
+    [
         (
-            Ending::BadCommandLine,
-            b"scanimage: bad command line\n".as_slice(),
-            64,
-        ),
-        (
-            Ending::CannotRead(Text::new(alloc, b"a.conf")?),
+            Ending::CannotRead(text(rt, alloc, b"a.conf")),
             b"scanimage: cannot read a.conf\n",
-            65,
         ),
         (
-            Ending::Config(ConfigFault {
-                line: 2,
-                reason: ConfigReason::SameName,
-            }),
+            Ending::Config(same_name),
             b"scanimage: config line 2: same name twice\n",
-            65,
         ),
         (
             Ending::Page(64, NoPage::CannotRead),
             b"scanimage: config line 64: cannot read page\n",
-            65,
         ),
         (
-            Ending::Page(1, NoPage::Fault(PageFault::Short)),
+            Ending::Page(1, short),
             b"scanimage: config line 1: page fault 4\n",
-            65,
         ),
+    ]
+}
+
+#[test]
+fn endings(rt: HostRuntime) {
+    let alloc = rt.alloc();
+    let bad = b"scanimage: bad command line\n";
+    expect_told(&rt, alloc, &Ending::BadCommandLine, bad, 64);
+    let unread = unread(&rt, alloc);
+    for (ending, line) in &unread {
+        expect_told(&rt, alloc, ending, line, 65);
+    }
+    drop(unread);
+    for (status, why, line, exit) in [
         (
-            Ending::Ended(Status::Inval, Why::Setting),
-            b"scanimage: SANE_STATUS_INVAL (setting)\n",
+            Status::Inval,
+            Why::Setting,
+            b"scanimage: SANE_STATUS_INVAL (setting)\n".as_slice(),
             4,
         ),
         (
-            Ending::Ended(Status::NoMem, Why::Memory),
+            Status::NoMem,
+            Why::Memory,
             b"scanimage: SANE_STATUS_NO_MEM (memory)\n",
             10,
         ),
     ] {
-        let mut told = Vec::new(alloc);
-        ending.tell(&mut told)?;
-        assert!(rt; told.as_slice() == line);
-        assert!(rt; ending.exit_status() == status);
+        expect_told(&rt, alloc, &Ending::Ended(status, why), line, exit);
     }
-    Ok(())
 }
 
 fn info(rt: &impl Abort, alloc: Global, name: &[u8], model: &[u8], class: &[u8]) -> DeviceInfo {
@@ -75,18 +83,24 @@ fn info(rt: &impl Abort, alloc: Global, name: &[u8], model: &[u8], class: &[u8])
     }
 }
 
+/// The list of these devices.
+fn expect_list(rt: &impl Abort, alloc: Global, devices: &[DeviceInfo], wanted: &[u8]) {
+    let list = device_list(alloc, b"", devices).expect(rt, "a list");
+    assert!(rt; list.as_slice() == wanted);
+}
+
 #[test]
-fn lists_of_devices(rt: HostRuntime) -> Result<(), Fail> {
+fn lists_of_devices(rt: HostRuntime) {
     let alloc = rt.alloc();
-    assert!(rt; device_list(alloc, b"", &[])?.as_slice() == b"".as_slice());
+    expect_list(&rt, alloc, &[], b"");
     let devices = [
         info(&rt, alloc, b"flatbed:0", b"Flatbed", b"flatbed scanner"),
         info(&rt, alloc, b"hand:7", b"Hand", b"handheld scanner"),
     ];
     let lines =
         b"device `flatbed:0' is a Virtual Flatbed flatbed scanner\ndevice `hand:7' is a Virtual Hand handheld scanner\n";
-    assert!(rt; device_list(alloc, b"", &devices)?.as_slice() == lines.as_slice());
-    Ok(())
+    expect_list(&rt, alloc, &devices, lines);
+    drop(devices);
 }
 
 /// An option that a program may set and read.
@@ -110,67 +124,45 @@ fn option(
     }
 }
 
-/// The table of one option behind the number of options.
-fn table(rt: &impl Abort, alloc: Global, desc: Descriptor, value: Option<Value>) -> Vec<u8> {
+/// The table of an option, behind the number of options, has this line.
+fn shows(rt: &impl Abort, alloc: Global, desc: Descriptor, value: Option<Value>, line: &[u8]) {
     let number = option(rt, alloc, Kind::Int, Unit::None, 4, Constraint::Free);
     let options = [(number, Some(Value::Int(2))), (desc, value)];
     let table = options_table(alloc, b"a:0", &options).expect(rt, "a table");
     let head = b"All options specific to device `a:0':\n";
-    assert!(rt; table.get(..head.len()) == Some(head.as_slice()));
-    let mut line = Vec::new(alloc);
-    line.extend_from_slice(table.get(head.len()..).unwrap_or(&[]))
-        .expect(rt, "memory");
-    line
+    assert!(rt; table.starts_with(head) && table.ends_with(line));
+    assert!(rt; table.len().checked_sub(head.len()) == Some(line.len()));
+    drop(options);
+}
+
+/// The list of the depths 1 and 8.
+fn depths(rt: &impl Abort, alloc: Global) -> Constraint {
+    let words = Vec::from_slice(alloc, &[1, 8]).expect(rt, "memory");
+    Constraint::Words(WordList::new(words).expect(rt, "a list"))
+}
+
+fn span(rt: &impl Abort, min: i32, max: i32, quant: i32) -> Constraint {
+    Constraint::Span(Range::new(min, max, quant).expect(rt, "a range"))
 }
 
 #[test]
 fn lines_of_options(rt: HostRuntime) {
     let alloc = rt.alloc();
-    let range = Range::new(0, 13_107_200, 65536).expect(&rt, "a range");
-    let lengths = option(
-        &rt,
-        alloc,
-        Kind::Fixed,
-        Unit::Mm,
-        4,
-        Constraint::Span(range),
-    );
-    let shown = table(&rt, alloc, lengths, Some(Value::Fixed(Fixed(98304))));
-    assert!(&rt; shown.as_slice() == b"    --name 0..200mm (in steps of 1) [1.5]\n".as_slice());
-    let any = Range::new(-5, 5, 0).expect(&rt, "a range");
-    let numbers = option(
-        &rt,
-        alloc,
-        Kind::Int,
-        Unit::Percent,
-        12,
-        Constraint::Span(any),
-    );
-    let shown = table(&rt, alloc, numbers, None);
-    assert!(&rt; shown.as_slice() == b"    --name -5..5%,... [3 values]\n".as_slice());
-    let mut words = Vec::new(alloc);
-    for word in [1, 8] {
-        words.push(word).expect(&rt, "memory");
-    }
-    let words = WordList::new(words).expect(&rt, "a list");
-    let depths = option(
-        &rt,
-        alloc,
-        Kind::Int,
-        Unit::Bit,
-        4,
-        Constraint::Words(words),
-    );
-    let shown = table(&rt, alloc, depths, Some(Value::Int(8)));
-    assert!(&rt; shown.as_slice() == b"    --name 1|8bit [8]\n".as_slice());
+    let lengths = span(&rt, 0, 13_107_200, 65536);
+    let length = option(&rt, alloc, Kind::Fixed, Unit::Mm, 4, lengths);
+    let line = b"    --name 0..200mm (in steps of 1) [1.5]\n";
+    shows(&rt, alloc, length, Some(Value::Fixed(Fixed(98304))), line);
+    let shares = span(&rt, -5, 5, 0);
+    let numbers = option(&rt, alloc, Kind::Int, Unit::Percent, 12, shares);
+    let line = b"    --name -5..5%,... [3 values]\n";
+    shows(&rt, alloc, numbers, None, line);
+    let depth = option(&rt, alloc, Kind::Int, Unit::Bit, 4, depths(&rt, alloc));
+    let line = b"    --name 1|8bit [8]\n";
+    shows(&rt, alloc, depth, Some(Value::Int(8)), line);
     let free = option(&rt, alloc, Kind::String, Unit::Pixel, 8, Constraint::Free);
-    let shown = table(
-        &rt,
-        alloc,
-        free,
-        Some(Value::Text(text(&rt, alloc, b"a b"))),
-    );
-    assert!(&rt; shown.as_slice() == b"    --name <string> [a b]\n".as_slice());
+    let value = Value::Text(text(&rt, alloc, b"a b"));
+    let line = b"    --name <string> [a b]\n";
+    shows(&rt, alloc, free, Some(value), line);
 }
 
 #[test]
@@ -193,72 +185,47 @@ fn options_without_a_value_to_tell(rt: HostRuntime) {
     ] {
         let mut desc = option(&rt, alloc, kind, Unit::None, 4, Constraint::Free);
         desc.caps = caps;
-        assert!(&rt; table(&rt, alloc, desc, None).as_slice() == line);
+        shows(&rt, alloc, desc, None, line);
     }
 }
 
 #[test]
-fn lines_of_lists_of_texts(rt: HostRuntime) -> Result<(), Fail> {
+fn lines_of_lists_of_texts(rt: HostRuntime) {
     let alloc = rt.alloc();
-    let texts: [&[u8]; 2] = [b"Gray", b"Color"];
-    let mut modes = Vec::new(alloc);
-    for mode in texts {
-        modes.push(text(&rt, alloc, mode))?;
-    }
+    let modes = texts(&rt, alloc, &[b"Gray", b"Color"]);
     let modes = StringList::new(modes).expect(&rt, "a list");
-    let mode = option(
-        &rt,
-        alloc,
-        Kind::String,
-        Unit::None,
-        6,
-        Constraint::Strings(modes),
-    );
-    let shown = table(
-        &rt,
-        alloc,
-        mode,
-        Some(Value::Text(text(&rt, alloc, b"Gray"))),
-    );
-    assert!(&rt; shown.as_slice() == b"    --name Gray|Color [Gray]\n".as_slice());
-    Ok(())
+    let listed = Constraint::Strings(modes);
+    let mode = option(&rt, alloc, Kind::String, Unit::None, 6, listed);
+    let value = Value::Text(text(&rt, alloc, b"Gray"));
+    let line = b"    --name Gray|Color [Gray]\n";
+    shows(&rt, alloc, mode, Some(value), line);
 }
 
-fn report(rt: &impl Abort, alloc: Global, asked: Value, given: Value, info: u32) -> Report {
+/// A report of a length, in 65,536ths.
+fn report(rt: &impl Abort, alloc: Global, asked: i32, given: i32, info: u32) -> Report {
     Report {
         name: text(rt, alloc, b"name"),
-        asked,
-        given,
+        asked: Value::Fixed(Fixed(asked)),
+        given: Value::Fixed(Fixed(given)),
         info: Info(info),
     }
 }
 
 #[test]
-fn rounded_values(rt: HostRuntime) -> Result<(), Fail> {
+fn rounded_values(rt: HostRuntime) {
     let alloc = rt.alloc();
     let options = [option(&rt, alloc, Kind::Fixed, Unit::Mm, 4, Constraint::Free)];
     let reports = [
-        report(
-            &rt,
-            alloc,
-            Value::Fixed(Fixed(39322)),
-            Value::Fixed(Fixed(65536)),
-            5,
-        ),
-        report(
-            &rt,
-            alloc,
-            Value::Fixed(Fixed(65536)),
-            Value::Fixed(Fixed(65536)),
-            4,
-        ),
+        report(&rt, alloc, 39322, 65536, 5),
+        report(&rt, alloc, 65536, 65536, 4),
     ];
-    assert!(rt; is_any_rounded(&reports));
-    assert!(rt; !is_any_rounded(&[]));
     let [_, exact] = &reports;
-    assert!(rt; !is_any_rounded(std::slice::from_ref(exact)));
-    let lines = rounded_lines(alloc, &reports, &options)?;
+    assert!(&rt; is_any_rounded(&reports));
+    assert!(&rt; !is_any_rounded(&[]));
+    assert!(&rt; !is_any_rounded(std::slice::from_ref(exact)));
+    let lines = rounded_lines(alloc, &reports, &options).expect(&rt, "lines");
     let wanted = b"scanimage: rounded value of name from 0.600006103515625 to 1\n";
-    assert!(rt; lines.as_slice() == wanted.as_slice());
-    Ok(())
+    assert!(&rt; lines.as_slice() == wanted.as_slice());
+    drop(reports);
+    drop(options);
 }
