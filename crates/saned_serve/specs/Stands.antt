@@ -23,8 +23,8 @@ one_if false = 0
 abbrev pub most_sessions : ℕ
 most_sessions = 8
 
--- what the sessions that were counted in all turns have to do with the end, which comes with the first turn after which
--- they are as many as were to be served (0: no such end), and one turn counts no more than there are seats
+-- what the sessions that were counted have to do with the end: as many as were to be served (0: no such end), and fewer
+-- than a turn's seats more, or not yet as many
 abbrev pub EndsBy : ServeEnd → ℕ → ℕ → Type 0
 EndsBy Sessions sessions count = (0 < sessions) × (sessions ≤ count) × (count < sessions + most_sessions)
 EndsBy Idle sessions count = 0 < sessions → count < sessions
@@ -94,7 +94,8 @@ pub record Closes (d0 : Core) (n0 : Option Ledger) (past : List Deed) (e : Core)
   pub leads : Leads d0 n0 story e m
   pub over : IsOver story
 
--- what a server's whole run did: its turns, and then the end of all that still stood
+-- what a server's whole run did: its turns, and then the end of all that still stood. Where the turns ended is not to be
+-- seen behind them: that they are this front of the story is what `Ran` says
 pub record Served (d : Core) (before : Option Ledger) (e : Core) (after : Option Ledger) (end : ServeEnd) (sessions : ℕ) : Type 0 where
   pub turns : List Deed
   pub story : List Deed
