@@ -5,3 +5,4 @@ pub mod Frames
 pub mod Shown
 pub mod Zeros
 pub mod Passes
+pub mod Grays

@@ -1,5 +1,5 @@
 -- Where the samples of a line stand among its bytes, and what each is.
-use Rattle.std.specs.Prelude.{ℕ, ◌+◌, ◌*◌, ◌/◌, ◌≤◌, ◌≡◌, nat_lt, if◌then◌else◌, List, length, slice_index}
+use Rattle.std.specs.Prelude.{ℕ, ◌+◌, ◌*◌, ◌/◌, ◌≤◌, ◌<◌, ◌≡◌, nat_lt, if◌then◌else◌, List, length, slice_index}
 use Rattle.netpbm.specs.FileText.{binary}
 use Rattle.sane_fixed.specs.declared.byte_order.ByteOrder.{ByteOrder}
 use Rattle.sane_fixed.specs.declared.frame_format.FrameFormat.{FrameFormat}
@@ -36,6 +36,14 @@ HasZeros Words i line = IsZeroFrom (2 * i) line
 -- the gray of a place in a row
 abbrev pub gray_in : List ℕ → ℕ → ℕ
 gray_in row place = (299 * slice_index row (3 * place) + 587 * slice_index row (3 * place + 1) + 114 * slice_index row (3 * place + 2)) / 1000
+
+-- the three samples of a dot of a row are the same
+abbrev pub IsGrayDot : List ℕ → ℕ → Type 0
+IsGrayDot row p = (slice_index row (3 * p + 1) ≡ slice_index row (3 * p)) × (slice_index row (3 * p + 2) ≡ slice_index row (3 * p))
+
+-- all dots of a row are gray
+abbrev pub IsGrayRow : List ℕ → Type 0
+IsGrayRow row = (p : ℕ) → 3 * p + 2 < length row → IsGrayDot row p
 
 -- the sample that a scene makes of a place in a row, in a channel of the picture
 abbrev pub value_in : Scene → List ℕ → ℕ → ℕ → ℕ

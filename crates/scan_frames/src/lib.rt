@@ -4,6 +4,7 @@
 mod buffers;
 mod faults;
 mod frame_rows;
+mod gray_rows;
 mod laws;
 mod line;
 mod pass;

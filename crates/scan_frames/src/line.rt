@@ -7,8 +7,9 @@ ghost use Rattle.page_picture.specs.Tone.{brightness};
 ghost use Rattle.scan_frames.specs.Line.{packing_of, line_of};
 ghost use Rattle.scan_frames.specs.Frames.{channel_in, format_at};
 ghost use Rattle.scan_frames.specs.Tables.{AreComposed, IsPlain};
-ghost use Rattle.scan_frames.specs.Samples.{HasSample, HasZeros, bit_in, bits_in, end_of, gray_in, value_at, value_in};
+ghost use Rattle.scan_frames.specs.Samples.{HasSample, HasZeros, IsGrayRow, bit_in, bits_in, end_of, gray_in, value_at, value_in};
 
+use crate::gray_rows::{is_gray, put_gray_places, put_gray_run};
 use crate::pass::{channel_in, channels_within, format_at};
 use crate::setup::{Packing, Setup, packing_of};
 use page_picture::{ColumnMap, Mode, Scene, in_channel, toned};
@@ -237,8 +238,8 @@ fn put_all(scene: &Scene, layout: Layout, row: &[u16], places: &[u32], line: &mu
     }
 }
 
-/// Puts the samples of all places in gray, a byte each.
-fn put_grays(table: &[u8; 256], row: &[u16], places: &[u32], line: &mut [u8])
+/// Puts the samples of all places in gray, a byte each, by the gray sum of each.
+fn put_sums(table: &[u8; 256], row: &[u16], places: &[u32], line: &mut [u8])
     requires places { (x : ℕ) → x < length places.now → 3 * slice_index places.now x + 2 < length row.now }
     requires room { length places.now ≤ length line.old }
     ensures here { (x : ℕ) → x < length places.now → slice_index line.new x ≡ slice_index table.now (gray_in row.now (slice_index places.now x) / 256) }
@@ -246,6 +247,25 @@ fn put_grays(table: &[u8; 256], row: &[u16], places: &[u32], line: &mut [u8])
 {
     for (x, place) in places.iter().enumerate() {
         line[x] = table[gray(row, *place) as usize / 256];
+    }
+}
+
+/// Puts the samples of all places in gray, a byte each; without a sum where the row is gray, and then without a look-up of
+/// the place where the places lie one beside the other from `first` on.
+fn put_grays(table: &[u8; 256], first: Option<u32>, row: &[u16], places: &[u32], line: &mut [u8])
+    requires places { (x : ℕ) → x < length places.now → 3 * slice_index places.now x + 2 < length row.now }
+    requires run { IfSome first (λ f. (x : ℕ) → x < length places.now → slice_index places.now x ≡ f + x) }
+    requires few { length places.now ≤ 65536 }
+    requires room { length places.now ≤ length line.old }
+    ensures here { (x : ℕ) → x < length places.now → slice_index line.new x ≡ slice_index table.now (gray_in row.now (slice_index places.now x) / 256) }
+    ensures behind { (j : ℕ) → length places.now ≤ j → slice_index line.new j ≡ slice_index line.old j }
+{
+    if !is_gray(row) {
+        return put_sums(table, row, places, line);
+    }
+    match first {
+        Some(first) => put_gray_run(table, row, first as usize, places, line),
+        None => put_gray_places(table, row, places, line),
     }
 }
 
@@ -313,8 +333,8 @@ fn packed_grays(scene: &Scene, row: &[u16], places: &[u32], channel: u32, b: usi
     byte
 }
 
-/// Puts the bits of all places, and zeros behind them. Whole bytes in gray have no test for each bit.
-fn put_bits(scene: &Scene, row: &[u16], places: &[u32], channel: u32, line: &mut [u8])
+/// Puts the bits of all places, and zeros behind them, by the sum or the sample of each.
+fn put_any_bits(scene: &Scene, row: &[u16], places: &[u32], channel: u32, line: &mut [u8])
     requires depth { packing_of scene.now.depth ≡ Packing.Bits }
     requires channel { channel < 3 }
     requires places { (x : ℕ) → x < length places.now → 3 * slice_index places.now x + 2 < length row.now }
@@ -332,6 +352,100 @@ fn put_bits(scene: &Scene, row: &[u16], places: &[u32], channel: u32, line: &mut
             packed(scene, row, places, channel, b)
         };
     }
+}
+
+/// The bit of a column in gray, of a gray row whose places lie one beside the other from `first` on.
+#[tactic(auto, using(crate::proofs::Grays::gray_of_even), unfolding(crate::specs::Samples::bit_in))]
+fn run_bit(scene: &Scene, row: &[u16], first: usize, places: &[u32], channel: u32, x: usize) -> u8
+    requires depth { packing_of scene.now.depth ≡ Packing.Bits }
+    requires gray { scene.now.mode ≡ Mode.Gray }
+    requires even { IsGrayRow row.now }
+    requires run { (x : ℕ) → x < length places.now → slice_index places.now x ≡ first + x }
+    requires places { (x : ℕ) → x < length places.now → 3 * slice_index places.now x + 2 < length row.now }
+    requires inside { x < length places.now }
+    ensures value { result ≡ bit_in scene.now row.now places.now channel x }
+    ensures limit { result ≤ 1 }
+{
+    let entry = scene.gamma[usize::from(row[3 * (first + x)] / 256)];
+    if entry < 128 { 1 } else { 0 }
+}
+
+/// The byte of eight such columns, the leftmost as its most significant bit.
+#[tactic(auto, unfolding(crate::specs::Samples::bits_in))]
+fn packed_run(
+    scene: &Scene,
+    row: &[u16],
+    first: usize,
+    places: &[u32],
+    channel: u32,
+    b: usize,
+) -> u8
+    requires depth { packing_of scene.now.depth ≡ Packing.Bits }
+    requires gray { scene.now.mode ≡ Mode.Gray }
+    requires even { IsGrayRow row.now }
+    requires run { (x : ℕ) → x < length places.now → slice_index places.now x ≡ first + x }
+    requires places { (x : ℕ) → x < length places.now → 3 * slice_index places.now x + 2 < length row.now }
+    requires few { b ≤ 65536 }
+    requires inside { 8 * b + 8 ≤ length places.now }
+    ensures { result ≡ bits_in scene.now row.now places.now channel b }
+{
+    let mut byte = 0u8;
+    for j in 0..8 {
+        byte = 2 * byte + run_bit(scene, row, first, places, channel, 8 * b + j);
+    }
+    byte
+}
+
+/// Puts the bits of all such places, and zeros behind them.
+fn put_run_bits(
+    scene: &Scene,
+    row: &[u16],
+    first: usize,
+    places: &[u32],
+    channel: u32,
+    line: &mut [u8],
+)
+    requires depth { packing_of scene.now.depth ≡ Packing.Bits }
+    requires gray { scene.now.mode ≡ Mode.Gray }
+    requires even { IsGrayRow row.now }
+    requires run { (x : ℕ) → x < length places.now → slice_index places.now x ≡ first + x }
+    requires channel { channel < 3 }
+    requires places { (x : ℕ) → x < length places.now → 3 * slice_index places.now x + 2 < length row.now }
+    requires few { length line.old ≤ 65536 }
+    ensures { (b : ℕ) → b < length line.old → slice_index line.new b ≡ bits_in scene.now row.now places.now channel b }
+{
+    let whole = places.len() / 8;
+    for b in 0..line.len() {
+        line[b] = if b < whole {
+            packed_run(scene, row, first, places, channel, b)
+        } else {
+            packed(scene, row, places, channel, b)
+        };
+    }
+}
+
+/// Puts the bits of all places, and zeros behind them. A gray row whose places lie one beside the other has no sums.
+fn put_bits(
+    scene: &Scene,
+    first: Option<u32>,
+    row: &[u16],
+    places: &[u32],
+    channel: u32,
+    line: &mut [u8],
+)
+    requires depth { packing_of scene.now.depth ≡ Packing.Bits }
+    requires run { IfSome first (λ f. (x : ℕ) → x < length places.now → slice_index places.now x ≡ f + x) }
+    requires channel { channel < 3 }
+    requires places { (x : ℕ) → x < length places.now → 3 * slice_index places.now x + 2 < length row.now }
+    requires few { length line.old ≤ 65536 }
+    ensures { (b : ℕ) → b < length line.old → slice_index line.new b ≡ bits_in scene.now row.now places.now channel b }
+{
+    if let (Mode::Gray, Some(first)) = (scene.mode, first) {
+        if is_gray(row) {
+            return put_run_bits(scene, row, first as usize, places, channel, line);
+        }
+    }
+    put_any_bits(scene, row, places, channel, line)
 }
 
 /// Writes the line of a pass that a row shows.
@@ -361,10 +475,13 @@ pub fn make_line(
     };
     let places = columns.places();
     match layout.packing {
-        Packing::Bits => put_bits(&setup.scene, row, places, channel_in(format, 0), line),
+        Packing::Bits => {
+            let channel = channel_in(format, 0);
+            put_bits(&setup.scene, columns.run(), row, places, channel, line)
+        }
         Packing::Bytes => {
             match setup.scene.mode {
-                Mode::Gray => put_grays(&setup.scene.gamma, row, places, line),
+                Mode::Gray => put_grays(&setup.scene.gamma, columns.run(), row, places, line),
                 Mode::Color => {
                     put_bytes(
                         &setup.scene,

@@ -10,7 +10,7 @@ pub returns-in-Bits-clause-bytes : goal.returns-in-Bits-clause-bytes
 returns-in-Bits-clause-bytes c =
     let setup = c.args.setup.now in
     let format = format_at setup c.args.pass in
-    bits_line setup.order format setup.scene c.args.row.now c.places-places.result.now c.channel_in.result c.args.columns.now c.put_bits.new.line _ (search rules) (c.channel_in.ensures.value ∙ ap (λ (f : FrameFormat). channel_in f 0) c.format_at-format.ensures) (search rules) c.places-places.ensures.size c.places-places.ensures.each (search rules)
+    bits_line setup.order format setup.scene c.args.row.now c.places-places.result.now c.channel_in-channel.result c.args.columns.now c.put_bits.new.line _ (search rules) (c.channel_in-channel.ensures.value ∙ ap (λ (f : FrameFormat). channel_in f 0) c.format_at-format.ensures) (search rules) c.places-places.ensures.size c.places-places.ensures.each (search rules)
 
 pub returns-in-Gray-clause-bytes : goal.returns-in-Gray-clause-bytes
 returns-in-Gray-clause-bytes c =

@@ -1,7 +1,7 @@
 use Rattle.std.proofs.Common.{◌≡◌, ℕ, ◌<◌, ◌≤◌, ◌/◌}
 use Rattle.std.specs.Prelude.{slice_index}
 use Rattle.scan_frames.specs.Samples.{gray_in}
-use Rattle.scan_frames.proofs.line.put_grays.Given as goal
+use Rattle.scan_frames.proofs.gray_rows.put_gray_run.Given as goal
 
 abbrev pub invariant-loop-x : goal.invariant-loop-x
 invariant-loop-x l = record {
