@@ -25,6 +25,18 @@ impl Model for Plane {
     ghost view = { plane_seen };
 }
 
+/// Puts bytes to each third place of `buf` from place `first` on.
+fn put_thirds(bytes: &[u8], first: usize, buf: &mut [u8])
+    requires first { first < 3 }
+    requires room { first + 3 * length bytes.now ≤ length buf.old + 2 }
+    ensures here { (i : ℕ) → i < first + 3 * length bytes.now → i % 3 ≡ first → slice_index buf.new i ≡ slice_index bytes.now (i / 3) }
+    ensures others { (i : ℕ) → (i % 3 ≡ first → ⊥) → slice_index buf.new i ≡ slice_index buf.old i }
+{
+    for k in 0..bytes.len() {
+        buf[first + 3 * k] = bytes[k];
+    }
+}
+
 impl Plane {
     fn new(alloc: Global) -> Plane
         ensures { result ≡ no_plane }
@@ -53,9 +65,8 @@ impl Plane {
         }
     }
 
-    /// Puts the bytes of row `y` to each third place of `buf`: those that are color `color` where the places from `from` on
-    /// are those of three colors side by side, a byte each.
-    fn put_color(&self, y: u32, from: usize, color: usize, buf: &mut [u8])
+    /// The same as `put_color`, also where the color has fewer bytes.
+    fn put_present(&self, y: u32, from: usize, color: usize, buf: &mut [u8])
         requires color { color < 3 }
         requires place { from + length buf.old ≤ 1048576 }
         ensures here { (i : ℕ) → i < length buf.old → (from + i) % 3 ≡ color → slice_index buf.new i ≡ slice_index self.now.bytes (y * self.now.line + (from + i) / 3) }
@@ -66,6 +77,24 @@ impl Plane {
         let count = (buf.len() + 2 - first) / 3;
         for k in 0..count {
             buf[first + 3 * k] = self.byte_at(y, place + k);
+        }
+    }
+
+    /// Puts the bytes of row `y` to each third place of `buf`: those that are color `color` where the places from `from` on
+    /// are those of three colors side by side, a byte each.
+    fn put_color(&self, y: u32, from: usize, color: usize, buf: &mut [u8])
+        requires color { color < 3 }
+        requires place { from + length buf.old ≤ 1048576 }
+        ensures here { (i : ℕ) → i < length buf.old → (from + i) % 3 ≡ color → slice_index buf.new i ≡ slice_index self.now.bytes (y * self.now.line + (from + i) / 3) }
+        ensures others { (i : ℕ) → ((from + i) % 3 ≡ color → ⊥) → slice_index buf.new i ≡ slice_index buf.old i }
+    {
+        let first = (color + 3 - from % 3) % 3;
+        let count = (buf.len() + 2 - first) / 3;
+        let start = y as usize * self.line as usize + (from + first) / 3;
+        if start + count <= self.bytes.len() {
+            put_thirds(&self.bytes[start..start + count], first, buf);
+        } else {
+            self.put_present(y, from, color, buf);
         }
     }
 

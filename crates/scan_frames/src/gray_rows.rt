@@ -1,7 +1,7 @@
 //! Rows of gray: the three samples of each dot are the same, so that none is summed.
 
-ghost use Rattle.std.specs.Prelude.{◌≡◌, ◌≤◌, ◌<◌, ◌+◌, ◌*◌, ◌/◌, ◌%◌, ℕ, true, false, length, slice_index};
-ghost use Rattle.scan_frames.specs.Samples.{IsGrayDot, IsGrayRow, gray_in};
+ghost use Rattle.std.specs.Prelude.{◌≡◌, ◌≤◌, ◌<◌, ◌+◌, ◌*◌, ◌%◌, ℕ, true, false, length, slice_index};
+ghost use Rattle.scan_frames.specs.Samples.{IsGrayDot, IsGrayRow};
 
 /// Whether a sample is as the one beside it, or the last of its dot.
 fn is_as_next(row: &[u16], dot: usize, i: usize) -> bool
@@ -42,33 +42,4 @@ pub fn is_gray(row: &[u16]) -> bool
         }
     }
     true
-}
-
-/// Puts the samples of a gray row's places in gray, a byte each.
-#[tactic(auto, using(crate::proofs::Grays::gray_of_even))]
-pub fn put_gray_places(table: &[u8; 256], row: &[u16], places: &[u32], line: &mut [u8])
-    requires even { IsGrayRow row.now }
-    requires places { (x : ℕ) → x < length places.now → 3 * slice_index places.now x + 2 < length row.now }
-    requires room { length places.now ≤ length line.old }
-    ensures here { (x : ℕ) → x < length places.now → slice_index line.new x ≡ slice_index table.now (gray_in row.now (slice_index places.now x) / 256) }
-    ensures behind { (j : ℕ) → length places.now ≤ j → slice_index line.new j ≡ slice_index line.old j }
-{
-    for (x, place) in places.iter().enumerate() {
-        line[x] = table[usize::from(row[3 * *place as usize] / 256)];
-    }
-}
-
-/// Puts the samples of a gray row's places in gray, a byte each, where the places lie one beside the other from `first` on.
-#[tactic(auto, using(crate::proofs::Grays::gray_of_even))]
-pub fn put_gray_run(table: &[u8; 256], row: &[u16], first: usize, places: &[u32], line: &mut [u8])
-    requires even { IsGrayRow row.now }
-    requires run { (x : ℕ) → x < length places.now → slice_index places.now x ≡ first + x }
-    requires places { (x : ℕ) → x < length places.now → 3 * slice_index places.now x + 2 < length row.now }
-    requires room { length places.now ≤ length line.old }
-    ensures here { (x : ℕ) → x < length places.now → slice_index line.new x ≡ slice_index table.now (gray_in row.now (slice_index places.now x) / 256) }
-    ensures behind { (j : ℕ) → length places.now ≤ j → slice_index line.new j ≡ slice_index line.old j }
-{
-    for x in 0..places.len() {
-        line[x] = table[usize::from(row[3 * (first + x)] / 256)];
-    }
 }

@@ -9,7 +9,7 @@ ghost use Rattle.scan_frames.specs.Frames.{channel_in, format_at};
 ghost use Rattle.scan_frames.specs.Tables.{AreComposed, IsPlain};
 ghost use Rattle.scan_frames.specs.Samples.{HasSample, HasZeros, IsGrayRow, bit_in, bits_in, end_of, gray_in, value_at, value_in};
 
-use crate::gray_rows::{is_gray, put_gray_places, put_gray_run};
+use crate::gray_rows::is_gray;
 use crate::pass::{channel_in, channels_within, format_at};
 use crate::setup::{Packing, Setup, packing_of};
 use page_picture::{ColumnMap, Mode, Scene, in_channel, toned};
@@ -170,6 +170,43 @@ fn put_color(table: &[u8; 256], k: u32, row: &[u16], places: &[u32], line: &mut 
     }
 }
 
+/// The same, where the places lie one beside the other from `first` on.
+fn put_run(table: &[u8; 256], k: u32, row: &[u16], first: usize, places: &[u32], line: &mut [u8])
+    requires channel { k < 3 }
+    requires run { (x : ℕ) → x < length places.now → slice_index places.now x ≡ first + x }
+    requires places { (x : ℕ) → x < length places.now → 3 * slice_index places.now x + 2 < length row.now }
+    requires room { length places.now ≤ length line.old }
+    ensures here { (x : ℕ) → x < length places.now → slice_index line.new x ≡ slice_index table.now (slice_index row.now (3 * slice_index places.now x + k) / 256) }
+    ensures behind { (j : ℕ) → length places.now ≤ j → slice_index line.new j ≡ slice_index line.old j }
+{
+    for x in 0..places.len() {
+        let seen = row[3 * (first + x) + k as usize];
+        line[x] = table[usize::from(seen / 256)];
+    }
+}
+
+/// The same, without a look-up of the place where there is a `first` from which on the places lie one beside the other.
+fn put_channel(
+    table: &[u8; 256],
+    k: u32,
+    first: Option<u32>,
+    row: &[u16],
+    places: &[u32],
+    line: &mut [u8],
+)
+    requires channel { k < 3 }
+    requires run { IfSome first (λ f. (x : ℕ) → x < length places.now → slice_index places.now x ≡ f + x) }
+    requires places { (x : ℕ) → x < length places.now → 3 * slice_index places.now x + 2 < length row.now }
+    requires room { length places.now ≤ length line.old }
+    ensures here { (x : ℕ) → x < length places.now → slice_index line.new x ≡ slice_index table.now (slice_index row.now (3 * slice_index places.now x + k) / 256) }
+    ensures behind { (j : ℕ) → length places.now ≤ j → slice_index line.new j ≡ slice_index line.old j }
+{
+    match first {
+        Some(first) => put_run(table, k, row, first as usize, places, line),
+        None => put_color(table, k, row, places, line),
+    }
+}
+
 /// Puts the samples of all places in red, green and blue as they are, two bytes each.
 fn put_words(layout: Layout, row: &[u16], places: &[u32], line: &mut [u8])
     requires packing { layout.packing ≡ Packing.Words }
@@ -210,9 +247,11 @@ fn put_bytes(
     match layout.format {
         FrameFormat::Rgb => put_rgb(tables, first, row, places, line),
         // A picture in color has no gray frame; the one channel of such a frame would be the first.
-        FrameFormat::Gray | FrameFormat::Red => put_color(&tables[0], 0, row, places, line),
-        FrameFormat::Green => put_color(&tables[1], 1, row, places, line),
-        FrameFormat::Blue => put_color(&tables[2], 2, row, places, line),
+        FrameFormat::Gray | FrameFormat::Red => put_channel(
+            &tables[0], 0, first, row, places, line,
+        ),
+        FrameFormat::Green => put_channel(&tables[1], 1, first, row, places, line),
+        FrameFormat::Blue => put_channel(&tables[2], 2, first, row, places, line),
     }
 }
 
@@ -250,8 +289,8 @@ fn put_sums(table: &[u8; 256], row: &[u16], places: &[u32], line: &mut [u8])
     }
 }
 
-/// Puts the samples of all places in gray, a byte each; without a sum where the row is gray, and then without a look-up of
-/// the place where the places lie one beside the other from `first` on.
+/// Puts the samples of all places in gray, a byte each; of a gray row they are those of its first channel, without a sum.
+#[tactic(auto, using(crate::proofs::Grays::gray_of_even))]
 fn put_grays(table: &[u8; 256], first: Option<u32>, row: &[u16], places: &[u32], line: &mut [u8])
     requires places { (x : ℕ) → x < length places.now → 3 * slice_index places.now x + 2 < length row.now }
     requires run { IfSome first (λ f. (x : ℕ) → x < length places.now → slice_index places.now x ≡ f + x) }
@@ -260,12 +299,10 @@ fn put_grays(table: &[u8; 256], first: Option<u32>, row: &[u16], places: &[u32],
     ensures here { (x : ℕ) → x < length places.now → slice_index line.new x ≡ slice_index table.now (gray_in row.now (slice_index places.now x) / 256) }
     ensures behind { (j : ℕ) → length places.now ≤ j → slice_index line.new j ≡ slice_index line.old j }
 {
-    if !is_gray(row) {
-        return put_sums(table, row, places, line);
-    }
-    match first {
-        Some(first) => put_gray_run(table, row, first as usize, places, line),
-        None => put_gray_places(table, row, places, line),
+    if is_gray(row) {
+        put_channel(table, 0, first, row, places, line)
+    } else {
+        put_sums(table, row, places, line)
     }
 }
 

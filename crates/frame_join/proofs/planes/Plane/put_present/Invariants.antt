@@ -1,6 +1,6 @@
 use Rattle.std.proofs.Common.{◌≡◌, ℕ, ◌+◌, ◌*◌, ◌/◌, ◌%◌, ◌<◌, length}
 use Rattle.std.specs.Prelude.{slice_index}
-use Rattle.frame_join.proofs.planes.Plane.put_color.Given as goal
+use Rattle.frame_join.proofs.planes.Plane.put_present.Given as goal
 
 abbrev pub invariant-loop-k : goal.invariant-loop-k
 invariant-loop-k l = record {
