@@ -6,7 +6,7 @@ use Rattle.std.proofs.lemmas.List.{append-nil, take_all, take_more, take_more_se
 use Rattle.std.proofs.Math.Nat.{lt-div-mul-add, div-mul-le_self, lt_of_mul-lt-mul_left, mul-le-mul_right}
 use Rattle.netpbm.specs.FileText.{header_text}
 use Rattle.sane_fixed.specs.declared.byte_order.ByteOrder.{ByteOrder}
-use Rattle.sane_fixed.specs.declared.byte_order.ByteOrder.TheVariants.{Little}
+use Rattle.sane_fixed.specs.declared.byte_order.ByteOrder.TheVariants.{Little, Big}
 use Rattle.sane_fixed.specs.declared.params.Params.{Params}
 use Rattle.frame_join.specs.declared.join_stage.Stage.{Stage}
 use Rattle.frame_join.specs.declared.join_stage.Stage.TheVariants.{Idle, Under, Keeping, Between, Whole, WholeColors, Failed}
@@ -437,6 +437,18 @@ turned v column plain deep little =
     sym (ap (λ (t : Bool). if t then side else trimmed v.params.pixels_per_line v.params.depth column (slice_index v.held (place_in v.order v.params.depth column))) plain
     ∙ (ap (λ (d : ℕ). trimmed v.params.pixels_per_line d column (slice_index v.held (place_in v.order d column))) deep
     ∙ ap (λ (o : ByteOrder). slice_index v.held (place_in o 16 column)) little))
+
+-- the byte at a column of a row of bits
+place_one : (o : ByteOrder) (column : ℕ) → place_in o 1 column ≡ column
+place_one Little column = refl
+place_one Big column = refl
+
+pub cut_off : (v : Joining) (column : ℕ) → is_colors v.stage ≡ false → v.params.depth ≡ 1 → trimmed v.params.pixels_per_line 1 column (slice_index v.held column) ≡ sample_at v column
+cut_off v column plain bits =
+    let side : ℕ = side_byte v.planes v.params.depth v.row (place_in v.order v.params.depth column) in
+    sym (ap (λ (t : Bool). if t then side else trimmed v.params.pixels_per_line v.params.depth column (slice_index v.held (place_in v.order v.params.depth column))) plain
+    ∙ (ap (λ (d : ℕ). trimmed v.params.pixels_per_line d column (slice_index v.held (place_in v.order d column))) bits
+    ∙ ap (λ (p : ℕ). trimmed v.params.pixels_per_line 1 column (slice_index v.held p)) (place_one v.order column)))
 
 -- n bytes of the row, each the one at its column
 pub row_steps : (past : Past) (v : Joining) (n : ℕ) (front bytes : List ℕ) → moves v.stage ≡ true → length v.head ≤ v.headed → is_ready v ≡ true → v.column < row_bytes v.params → v.column + n ≤ row_bytes v.params → n ≤ length bytes → ((j : ℕ) → j < n → get_or bytes j 0 ≡ sample_at v (v.column + j)) → Stands (after_pull front past) v → Stands (after_pull (front ++ take n bytes) past) (after_samples n v)

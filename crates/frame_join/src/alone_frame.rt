@@ -76,6 +76,18 @@ pub(crate) fn trimmed(width: u32, depth: u32, column: usize, byte: u8) -> u8
     byte >> past << past
 }
 
+/// Puts the bytes of a row of bits from column `from` on, without the bits past the row's end.
+pub(crate) fn put_trimmed(row: &[u8], width: u32, from: usize, buf: &mut [u8])
+    requires few { length row.now ≤ 1048576 }
+    requires inside { 8 * length row.now < width + 8 }
+    requires place { from + length buf.old ≤ length row.now }
+    ensures { (i : ℕ) → i < length buf.old → slice_index buf.new i ≡ trimmed width 1 (from + i) (slice_index row.now (from + i)) }
+{
+    for i in 0..buf.len() {
+        buf[i] = trimmed(width, 1, from + i, row[from + i]);
+    }
+}
+
 /// The depths of a frame; rows of bits are gray.
 fn is_depth(format: FrameFormat, depth: u32) -> bool
     ensures { result ≡ is_depth format depth }

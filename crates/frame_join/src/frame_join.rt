@@ -12,7 +12,8 @@ ghost use Rattle.frame_join.specs.Joining.{Stands, is_starved, IsDrained};
 ghost use Rattle.frame_join.specs.JoinSteps.{moves, is_ready, sample_at, may_go, after_samples, value_fed, under_ended, kept_ended, color_ended, value_ended, first_begun, next_begun, value_begun, accepts_next, answer_at, fresh, keeping};
 
 use crate::alone_frame::{
-    header_alone, is_alone, lines_in, most_lines, place_in, put_turned, row_size, trimmed,
+    header_alone, is_alone, lines_in, most_lines, place_in, put_trimmed, put_turned, row_size,
+    trimmed,
 };
 use crate::header::{HEADER_ROOM, put_header};
 use crate::join_stage::{JoinFault, Stage};
@@ -176,6 +177,9 @@ impl FrameJoin {
         if self.is_turned() {
             return self.turn_row(buf, at, end);
         }
+        if !self.has_colors() && self.params.depth == 1 {
+            return self.trim_row(buf, at, end);
+        }
         for i in at..end {
             buf[i] = self.sample_at(self.column + (i - at));
         }
@@ -258,6 +262,25 @@ impl FrameJoin {
     {
         let row = &self.lines()[..row_size(&self.params)];
         put_turned(row, self.column, &mut buf[at..end]);
+    }
+
+    /// Writes bytes of the row of bits, which stand in its line, without the bits past its end.
+    fn trim_row(&self, buf: &mut [u8], at: usize, end: usize)
+        requires moves { moves self.now.stage ≡ true }
+        requires head { length self.now.head ≤ self.now.headed }
+        requires ready { is_ready self.now ≡ true }
+        requires plain { is_colors self.now.stage ≡ false }
+        requires bits { self.now.params.depth ≡ 1 }
+        requires order { at ≤ end }
+        requires room { end ≤ length buf.old }
+        requires row { self.now.column + (end - at) ≤ row_bytes self.now.params }
+        ensures size { length buf.new ≡ length buf.old }
+        ensures rest { drop end buf.new ≡ drop end buf.old }
+        ensures carried { (past : Past) → Stands (after_pull (take at buf.old) past) self.now → Stands (after_pull (take end buf.new) past) (after_samples (end - at) self.now) }
+    {
+        let row = &self.lines()[..row_size(&self.params)];
+        let width = self.params.pixels_per_line;
+        put_trimmed(row, width, self.column, &mut buf[at..end]);
     }
 
     /// So many bytes of the row have gone.
