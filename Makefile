@@ -55,6 +55,7 @@ peer-check:
 bench: need-rt
 	cd crates/scan_bench && rt run
 	cd crates/wire_bench && rt run
+	cd crates/client_bench && rt run
 	tests/bench
 	[ -x crates/scanimage/out/scanimage ] && [ -x crates/saned/out/saned ] || $(MAKE) build
 	tests/bench-scanimage

@@ -4,7 +4,9 @@ use scan_job::{Job, JobFault, Outcome, Task, Why};
 use std::alloc::Global;
 use std::process::Abort;
 
+mod cut;
 mod jobs;
+mod statuses;
 mod strangers;
 
 /// What comes, and on which connection.

@@ -20,7 +20,13 @@ fn option(rt: &impl Abort, list: &mut Vec<u8>, name: &[u8], kind: u8, size: u8, 
 }
 
 /// Descriptors of so many options of fixed numbers, each named `o`, and last one of that name.
-fn options(rt: &impl Abort, alloc: Global, before: u8, name: &[u8], kind: u8) -> Vec<u8> {
+pub(super) fn options(
+    rt: &impl Abort,
+    alloc: Global,
+    before: u8,
+    name: &[u8],
+    kind: u8,
+) -> Vec<u8> {
     let mut list = Vec::new(alloc);
     list.extend_from_slice(&[0, 0, 0, before.saturating_add(1)])
         .expect(rt, "memory");
@@ -59,7 +65,7 @@ fn both_ways(
 const BIG: &[u8] = b"\0\0\0\0\0\0\x9c\x41\0\0\x43\x21\0\0\0\0";
 
 /// Three colors one after another.
-const COLORS: &[Comes<'static>] = &[
+pub(super) const COLORS: &[Comes<'static>] = &[
     Comes::Control(GREETED),
     Comes::Control(OPENED),
     Comes::Control(NO_OPTIONS),
@@ -75,7 +81,7 @@ const COLORS: &[Comes<'static>] = &[
 ];
 
 /// A line with lost pixels.
-const LOST: &[Comes<'static>] = &[
+pub(super) const LOST: &[Comes<'static>] = &[
     Comes::Control(GREETED),
     Comes::Control(OPENED),
     Comes::Control(NO_OPTIONS),
@@ -87,7 +93,7 @@ const LOST: &[Comes<'static>] = &[
 ];
 
 /// A frame of unknown height.
-const UNKNOWN: &[Comes<'static>] = &[
+pub(super) const UNKNOWN: &[Comes<'static>] = &[
     Comes::Control(GREETED),
     Comes::Control(OPENED),
     Comes::Control(NO_OPTIONS),
@@ -203,7 +209,7 @@ fn options_shown(rt: HostRuntime) {
 }
 
 /// A device that asks for a digest, which is answered.
-const ASKS: &[Comes<'static>] = &[
+pub(super) const ASKS: &[Comes<'static>] = &[
     Comes::Control(GREETED),
     Comes::Control(b"\0\0\0\0\0\0\0\0\0\0\0\x0eflatbed$MD5$a\0"),
     Comes::Control(b"\0\0\0\0"),
@@ -231,7 +237,7 @@ fn authorization(rt: HostRuntime) {
 }
 
 /// Two pages of a feeder, and then none.
-const PAGES: &[Comes<'static>] = &[
+pub(super) const PAGES: &[Comes<'static>] = &[
     Comes::Control(GREETED),
     Comes::Control(OPENED),
     Comes::Control(NO_OPTIONS),

@@ -126,65 +126,6 @@ fn no_line_at_all(rt: HostRuntime) {
     expect_end(&rt, alloc, OPEN_ENDED, end, Status::IoError, Why::Short);
 }
 
-/// What a client makes of the first bytes of a scan, one at a time.
-fn scanned(rt: &impl Abort, alloc: Global, most: usize) -> Played {
-    let scan = job(rt, alloc, &[], Task::Scan);
-    play(rt, alloc, scan, SCAN, 1, most)
-}
-
-/// Whether a scan that is cancelled behind so many bytes says so, takes leave, and leaves no whole file.
-fn is_cancelled(played: &Played, most: usize) -> bool {
-    let cancel: &[u8] = b"\0\0\0\x08\0\0\0\x02\0\0\0\x0a";
-    is_ended(played, Status::Cancelled, Why::Cancelled)
-        && played.sent.ends_with(cancel) == (most >= 40)
-        && played.sent.ends_with(b"\0\0\0\x0a")
-}
-
-/// Whether a scan is done, with its whole file.
-fn is_whole(played: &Played) -> bool {
-    is_done(played.client.outcome()) && played.files.len() == 32
-}
-
-/// A cancel behind so many bytes of a scan.
-fn cancelled(rt: &impl Abort, alloc: Global, most: usize) {
-    let mut played = scanned(rt, alloc, most);
-    played.client.cancel();
-    drain(rt, &mut played);
-    let is_right = if most < 78 {
-        is_cancelled(&played, most)
-    } else {
-        is_whole(&played)
-    };
-    assert!(rt; is_right);
-    drop(played);
-}
-
-/// The loss of a connection behind so many bytes of a scan: nothing more is sent.
-fn lost(rt: &impl Abort, alloc: Global, most: usize, link: Link) {
-    let mut played = scanned(rt, alloc, most);
-    let sent = played.sent.len();
-    played.client.link_lost(link);
-    drain(rt, &mut played);
-    let is_right = if most < 78 && (link == Link::Control || most >= 68) {
-        is_ended(&played, Status::IoError, Why::Lost) && played.sent.len() == sent
-    } else {
-        is_done(played.client.outcome()) == (played.files.len() == 32)
-    };
-    assert!(rt; is_right);
-    drop(played);
-}
-
-/// A cancel, and a loss of each connection, after each byte of a scan.
-#[test]
-fn cancels_and_losses(rt: HostRuntime) {
-    let alloc = rt.alloc();
-    for most in 0..=82usize {
-        cancelled(&rt, alloc, most);
-        lost(&rt, alloc, most, Link::Control);
-        lost(&rt, alloc, most, Link::Image);
-    }
-}
-
 /// The next of a row of numbers without rule.
 fn next(seed: u64) -> u64 {
     seed.wrapping_mul(6364136223846793005)
