@@ -1,5 +1,5 @@
 use Rattle.scan_frames.proofs.Grays.{one_more, not_gray_then, dots_as_next}
-use Rattle.std.proofs.Common.{◌≡◌, ◌+◌, ◌*◌, ◌<◌, arith, rules}
+use Rattle.std.proofs.Common.{◌≡◌, arith}
 use Rattle.scan_frames.proofs.gray_rows.are_gray.Goals as goal
 
 pub loop-i-preserved : goal.loop-i-preserved

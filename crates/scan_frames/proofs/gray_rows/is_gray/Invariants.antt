@@ -1,4 +1,4 @@
-use Rattle.std.proofs.Common.{◌≡◌, ℕ, ◌<◌, ◌+◌, ◌*◌}
+use Rattle.std.proofs.Common.{ℕ, ◌<◌, ◌*◌}
 use Rattle.scan_frames.specs.Samples.{IsGrayDot}
 use Rattle.scan_frames.proofs.gray_rows.is_gray.Given as goal
 
