@@ -1,6 +1,6 @@
 //! Scans over the net, client and daemon in one process and bytes in memory between them, for their speed. `tests/bench`
 //! runs it. The words are `MODE MILLIMETRES COUNT`: so many scans, at depth 8 and 1,200 dots per inch, of a square of
-//! noise of that side. It prints how many bytes their files had, and tells on standard error how fast they came, beside
+//! noise of that side, gray where the mode is. It prints how many bytes their files had, and tells on standard error how fast they came, beside
 //! copies of as many bytes.
 #![tactic(auto)]
 
@@ -26,24 +26,33 @@ const REQUESTS: usize = 4096;
 /// The most turns of a loop, which none of them needs.
 const TURNS: u64 = 1 << 32;
 
-/// Writes numbers without rule, from a fixed seed.
-fn fill(samples: &mut [u16]) {
+/// The next of a row of numbers without rule.
+fn next(seed: u64) -> u64 {
+    seed.wrapping_mul(6364136223846793005)
+        .wrapping_add(1442695040888963407)
+}
+
+/// Writes samples without rule, from a fixed seed; those of a gray dot are the same.
+fn fill(samples: &mut [u16], is_gray: bool) {
     let mut seed = 0x5eed_u64;
-    for sample in samples.iter_mut() {
-        seed = seed
-            .wrapping_mul(6364136223846793005)
-            .wrapping_add(1442695040888963407);
-        *sample = ((seed >> 33) % 65536) as u16;
+    for dot in samples.chunks_mut(3) {
+        seed = next(seed);
+        for sample in dot.iter_mut() {
+            if !is_gray {
+                seed = next(seed);
+            }
+            *sample = ((seed >> 33) % 65536) as u16;
+        }
     }
 }
 
-/// A square page of noise.
-fn page(alloc: Global, side: u32) -> Result<Page, AllocError>
+/// A square page of noise, in gray or in color.
+fn page(alloc: Global, side: u32, is_gray: bool) -> Result<Page, AllocError>
     requires some { 1 ≤ side }
     requires most { side ≤ 16384 }
 {
     let mut samples = vec![in alloc; 0u16; side as usize * side as usize * 3]?;
-    fill(samples.as_mut_slice());
+    fill(samples.as_mut_slice(), is_gray);
     Ok(Page::new(side, side, 1200, samples))
 }
 
@@ -53,11 +62,11 @@ fn buffer(alloc: Global) -> Result<Vec<u8>, AllocError> {
 }
 
 /// A daemon of one flatbed with a square page.
-fn daemon(alloc: Global, side: u32) -> Option<Daemon<Flatbed>>
+fn daemon(alloc: Global, side: u32, is_gray: bool) -> Option<Daemon<Flatbed>>
     requires some { 1 ≤ side }
     requires most { side ≤ 16384 }
 {
-    let source = Source::Memory(MemoryPage::new(page(alloc, side).ok()?));
+    let source = Source::Memory(MemoryPage::new(page(alloc, side, is_gray).ok()?));
     let name = Text::new(alloc, b"flatbed:0").ok()?;
     let flatbed = Flatbed::new(alloc, name, source, ByteOrder::Big).ok()?;
     let mut devices = Vec::new(alloc);
@@ -208,7 +217,7 @@ fn run(rt: &HostRuntime, mode: &str, length: &str, count: u32) -> anyhow::Result
     let side = length.parse::<u32>().unwrap_or(1).clamp(1, 200) * 12000 / 254;
     let mut piece = buffer(alloc)?;
     let mut room = buffer(alloc)?;
-    let Some(mut daemon) = daemon(alloc, side) else {
+    let Some(mut daemon) = daemon(alloc, side, mode == "Gray") else {
         return Ok(());
     };
     let start = Instant::now(rt)?;
