@@ -1,7 +1,7 @@
 //! Scans over the net, client and daemon in one process and bytes in memory between them, for their speed. `tests/bench`
 //! runs it. The words are `MODE MILLIMETRES COUNT`: so many scans, at depth 8 and 1,200 dots per inch, of a square of
-//! noise of that side, gray where the mode is. It prints how many bytes their files had, and tells on standard error how fast they came, beside
-//! copies of as many bytes.
+//! noise of that side, gray where the mode is. It prints how many bytes their files had, and tells on standard error how
+//! fast they came, beside copies of as many bytes.
 #![tactic(auto)]
 
 ghost use Rattle.std.specs.Prelude.{◌≤◌};
