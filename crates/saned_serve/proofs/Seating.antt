@@ -5,9 +5,9 @@ use Rattle.std.proofs.lemmas.Bool.{eq-eqb, eqb-true}
 use Rattle.saned_core.specs.State.{Core}
 use Rattle.saned_serve.specs.Talk.{Talk}
 use Rattle.saned_serve.specs.Ledger.{Ledger}
-use Rattle.saned_serve.specs.Story.{Deed, Life, life_of, Extends, Leads, left_in, no_life}
+use Rattle.saned_serve.specs.Story.{Deed, Life, life_of, Closing, Leads, left_in, no_life}
 use Rattle.saned_serve.specs.Goes.{Tells, Goes, Parts}
-use Rattle.saned_serve.specs.Stands.{link_at, Stands, WentOn, Keeps, Empties, Met, Greets, Closes, Served}
+use Rattle.saned_serve.specs.Stands.{link_at, Stands, WentOn, Shuts, Keeps, Empties, Met, Greets, Closes, Served}
 use Rattle.saned_serve.specs.declared.link.Link.{Link}
 use Rattle.saned_serve.specs.declared.seats.Seat.{Seat}
 use Rattle.saned_serve.specs.declared.serving.ServeEnd.TheVariants.{NoMem}
@@ -170,21 +170,21 @@ stands_keeps history d0 n0 past d n seats was e m seats' i (Some l) (Some k) at 
     stands_goes history d0 n0 past d n seats was e m seats' i l k at keeps now off
 
 pub stands_parts : {C : Type 0} (history : C → Option Talk) (d0 : Core) (n0 : Option Ledger) (past : List Deed) (d : Core) (n : Option Ledger) (seats : List (Seat C)) → Stands history d0 n0 past d n seats
-    → (e : Core) (m : Option Ledger) (seats' : List (Seat C)) (i : ℕ) (l : Link C) → link_at seats i ≡ Some l → Parts history d n l e m → link_at seats' i ≡ None → ((j : ℕ) → j ≢ i → link_at seats' j ≡ link_at seats j) → WentOn history d0 n0 past 1 e m seats'
+    → (e : Core) (m : Option Ledger) (seats' : List (Seat C)) (i : ℕ) (l : Link C) → link_at seats i ≡ Some l → Parts history d n l e m → link_at seats' i ≡ None → ((j : ℕ) → j ≢ i → link_at seats' j ≡ link_at seats j) → (went : WentOn history d0 n0 past 1 e m seats') × Closing past went.story
 stands_parts history d0 n0 past d n seats was e m seats' i l at parts now off =
     let had = was.each i l at in
     let w = parts.goes d0 n0 past was.leads had.1 in
     let stands = stands_change history d0 n0 past d n seats was e m seats' w.story l.id.number i None was.place w.leads w.others now off (λ j differ. refl)
     (own_at history d0 n0 past d n seats was i l at) (only_at history d0 n0 past d n seats was i l at)
     (w.gone, w.dark) in
-    record { story = w.story; more = w.more; stands = stands; count = w.left }
+    (record { story = w.story; more = (w.closing.0, w.closing.2); stands = stands; count = w.left }, w.closing)
 
 -- a seat with a link is emptied
 pub stands_empties : {C : Type 0} (history : C → Option Talk) (d0 : Core) (n0 : Option Ledger) (past : List Deed) (d : Core) (n : Option Ledger) (seats : List (Seat C)) → Stands history d0 n0 past d n seats
     → (e : Core) (m : Option Ledger) (seats' : List (Seat C)) (i : ℕ) (o : Option (Link C)) → IsSome o → link_at seats i ≡ o → Empties history d n o e m → link_at seats' i ≡ None → ((j : ℕ) → j ≢ i → link_at seats' j ≡ link_at seats j) → WentOn history d0 n0 past 1 e m seats'
 stands_empties history d0 n0 past d n seats was e m seats' i None some at empties now off = cc
 stands_empties history d0 n0 past d n seats was e m seats' i (Some l) some at empties now off =
-    stands_parts history d0 n0 past d n seats was e m seats' i l at empties now off
+    (stands_parts history d0 n0 past d n seats was e m seats' i l at empties now off).0
 
 pub stands_greets : {C : Type 0} (history : C → Option Talk) (d0 : Core) (n0 : Option Ledger) (past : List Deed) (d : Core) (n : Option Ledger) (seats : List (Seat C)) → Stands history d0 n0 past d n seats
     → (e : Core) (m : Option Ledger) (seats' : List (Seat C)) (i : ℕ) (p : Option (Link C)) → link_at seats i ≡ None → Greets history d n e m p → link_at seats' i ≡ p → ((j : ℕ) → j ≢ i → link_at seats' j ≡ link_at seats j) → WentOn history d0 n0 past 0 e m seats'
@@ -235,16 +235,19 @@ link_at_before (s ∷ seats) seat (suc j) h = link_at_before seats seat j (λ e.
 pub link_at_empty : {C : Type 0} (seats : List (Seat C)) (seat : Seat C) → seat.link ≡ None → ((j : ℕ) → link_at seats j ≡ None) → (j : ℕ) → link_at (seats ++ seat ∷ []) j ≡ None
 link_at_empty seats seat none all j = elim (decide j (length seats)) [ inl same ↦ ap (link_at (seats ++ seat ∷ [])) same ∙ link_at_last seats seat ∙ none | inr differ ↦ sym (link_at_before seats seat j differ) ∙ all j ]
 
+-- nothing was done
+pub shuts_here : {C : Type 0} (history : C → Option Talk) (d0 : Core) (n0 : Option Ledger) (past : List Deed) (e : Core) (m : Option Ledger) (seats : List (Seat C)) → Stands history d0 n0 past e m seats → Shuts history d0 n0 past e m seats
+shuts_here history d0 n0 past e m seats stands = record { story = past; closing = ([], tt, refl); stands = stands }
+
 -- the last seat is emptied and taken away
 pub stands_pops : {C : Type 0} (history : C → Option Talk) (d0 : Core) (n0 : Option Ledger) (past : List Deed) (d : Core) (n : Option Ledger) (seats : List (Seat C)) (seat : Seat C) → Stands history d0 n0 past d n (seats ++ seat ∷ [])
-    → (e : Core) (m : Option Ledger) (o : Option (Link C)) → seat.link ≡ o → Empties history d n o e m → (left : ℕ) × WentOn history d0 n0 past left e m seats
-stands_pops history d0 n0 past d n seats seat was e m None at empties = (
-  0,
-  stays history d0 n0 past e m seats (stands_same history d0 n0 past d n (seats ++ seat ∷ []) was e m seats empties.0 empties.1
-      (λ j. elim (decide j (length seats)) [ inl same ↦ ap (link_at seats) same ∙ link_at_end seats ∙ sym (ap (link_at (seats ++ seat ∷ [])) same ∙ link_at_last seats seat ∙ at) | inr differ ↦ link_at_before seats seat j differ ])),
-)
+    → (e : Core) (m : Option Ledger) (o : Option (Link C)) → seat.link ≡ o → Empties history d n o e m → Shuts history d0 n0 past e m seats
+stands_pops history d0 n0 past d n seats seat was e m None at empties =
+    shuts_here history d0 n0 past e m seats (stands_same history d0 n0 past d n (seats ++ seat ∷ []) was e m seats empties.0 empties.1
+    (λ j. elim (decide j (length seats)) [ inl same ↦ ap (link_at seats) same ∙ link_at_end seats ∙ sym (ap (link_at (seats ++ seat ∷ [])) same ∙ link_at_last seats seat ∙ at) | inr differ ↦ link_at_before seats seat j differ ]))
 stands_pops history d0 n0 past d n seats seat was e m (Some l) at empties =
-    (1, stands_parts history d0 n0 past d n (seats ++ seat ∷ []) was e m seats (length seats) l (link_at_last seats seat ∙ at) empties (link_at_end seats) (link_at_before seats seat))
+    let left = stands_parts history d0 n0 past d n (seats ++ seat ∷ []) was e m seats (length seats) l (link_at_last seats seat ∙ at) empties (link_at_end seats) (link_at_before seats seat) in
+    record { story = left.0.story; closing = left.1; stands = left.0.stands }
 
 -- all seats are empty
 pub stands_begins : {C : Type 0} (history : C → Option Talk) (d : Core) (n : Option Ledger) (seats : List (Seat C)) → ((j : ℕ) → link_at seats j ≡ None) → Stands history d n [] d n seats
@@ -257,10 +260,10 @@ stands_begins history d n seats none = record {
 }
 
 -- no seat is left
-pub stands_ends : {C : Type 0} (history : C → Option Talk) (d0 : Core) (n0 : Option Ledger) (past : List Deed) (left : ℕ) (d : Core) (n : Option Ledger) → WentOn {C = C} history d0 n0 past left d n [] → Closes d0 n0 past d n
-stands_ends {C} history d0 n0 past left d n turned = record {
+pub stands_ends : {C : Type 0} (history : C → Option Talk) (d0 : Core) (n0 : Option Ledger) (past : List Deed) (d : Core) (n : Option Ledger) → Shuts {C = C} history d0 n0 past d n [] → Closes d0 n0 past d n
+stands_ends {C} history d0 n0 past d n turned = record {
   story = turned.story;
-  more = turned.more;
+  closing = turned.closing;
   leads = turned.stands.leads;
   over = record {
     gone = λ id. gone id (life_of id turned.story).standing refl;
@@ -278,7 +281,7 @@ pub served_none : (d : Core) (n : Option Ledger) (sessions : ℕ) → Served d n
 served_none d n sessions = record {
   turns = [];
   story = [];
-  more = ([], refl);
+  closing = ([], tt, refl);
   leads = record { legal = tt; run = refl; net = refl; unused = λ id h. nobody id };
   over = record {
     gone = λ id. ap (λ v. v.standing) (nobody id);

@@ -10,9 +10,9 @@ use Rattle.saned_serve.specs.Calls.{Call, Steps, Runs, opened_after}
 use Rattle.saned_serve.specs.Calls.Call.{Open, Feed, Take, Connect, Turn, Lose, End}
 use Rattle.saned_serve.specs.Talk.{Talk, after_write, has_read, has_written, IsFresh, moved}
 use Rattle.saned_serve.specs.Ledger.{Ledger, counted, after_close}
-use Rattle.saned_serve.specs.Story.{Deed, Life, no_life, number_of, is_of, after_call, after_deed, life_of, MayCall, May, calls_of, noted, noted_call, Extends, Leads, left_in, Spoke, Showed}
+use Rattle.saned_serve.specs.Story.{Deed, Life, no_life, number_of, is_of, after_call, after_deed, life_of, MayCall, May, calls_of, noted, noted_call, Extends, AreEnds, Closing, Leads, left_in, Spoke, Showed}
 use Rattle.saned_serve.specs.Story.Deed.{Makes, Refuses, Leaves, HangsUp}
-use Rattle.saned_serve.specs.Goes.{Speaks, Shows, ShowsIn, Tells, Went, Goes, Ended, Parts}
+use Rattle.saned_serve.specs.Goes.{Speaks, Shows, ShowsIn, Tells, Went, Goes, hung_up, Ended, Parts}
 use Rattle.saned_serve.specs.declared.sockets.Got.{Got}
 use Rattle.saned_serve.specs.declared.sockets.Got.TheVariants.{Moved, Nothing, Lost}
 use Rattle.saned_serve.specs.declared.link.Link.{Link}
@@ -266,35 +266,50 @@ shows_front : (talk : Option Talk) (records : List ℕ) (life : Life) → Shows 
 shows_front None records life shows = tt
 shows_front (Some t) records life shows = (shows.0, (records, sym shows.1))
 
--- the data connection is handed back
-pub goes_hangs_up : {C : Type 0} (history : C → Option Talk) (d : Core) (n : Option Ledger) (l : Link C) (m : Option Ledger) (k : Link C) (conn : C) → l.image ≡ Some conn → k.image ≡ None → k.id ≡ l.id → k.replies ≡ l.replies → history k.conn ≡ history l.conn → m ≡ after_close (history conn) n → Goes history d n l d m k
-goes_hangs_up history d n l m k conn was none same replies told net = record {
-  same = same;
-  goes = λ d0 n0 past leads tells.
-      let life = life_of l.id.number past in
-      let deed = HangsUp l.id.number (history conn) in
-      let had = subst (λ i. ShowsIn history i l.records life) was tells.shows in
-      let at = life_at l.id.number deed past (eq-eqb l.id.number l.id.number refl) in
+speaks_on : (talk : Option Talk) (replies : List ℕ) (a b : Life) → b.heard ≡ a.heard → b.said ≡ a.said → Speaks talk replies a → Speaks talk replies b
+speaks_on None replies a b e f speaks = tt
+speaks_on (Some t) replies a b e f speaks = (speaks.0 ∙ sym e, speaks.1 ∙ sym f)
+
+-- the data connection, where there is one, is handed back, and that alone
+hangs_up : {C : Type 0} (history : C → Option Talk) (d : Core) (n : Option Ledger) (l : Link C) (i : Option C) → l.image ≡ i → (d0 : Core) (n0 : Option Ledger) (past : List Deed) → Leads d0 n0 past d n → Tells history (life_of l.id.number past) l
+    → (w : Went history d0 n0 past l.id.number d (hung_up history i n) (record l { image = None })) × Closing past w.story
+hangs_up history d n l None was d0 n0 past leads tells = (
+  record {
+    story = past;
+    more = ([], refl);
+    leads = leads;
+    tells = record { standing = tells.standing; speaks = tells.speaks; shows = subst (λ i. ShowsIn history i l.records (life_of l.id.number past)) was tells.shows };
+    others = λ j off. refl;
+    left = refl;
+  },
+  ([], tt, refl),
+)
+hangs_up history d n l (Some conn) was d0 n0 past leads tells =
+    let life = life_of l.id.number past in
+    let deed = HangsUp l.id.number (history conn) in
+    let had = subst (λ i. ShowsIn history i l.records life) was tells.shows in
+    let at = life_at l.id.number deed past (eq-eqb l.id.number l.id.number refl) in (
       record {
         story = deed ∷ past;
         more = (deed ∷ [], refl);
-        leads = subst (λ o. Leads d0 n0 (deed ∷ past) d o) (sym net)
-            (leads_deed deed d0 n0 past d n refl leads (had.0, shows_front (history conn) l.records life had.1));
-        tells = subst (λ v. Tells history v k) (sym at) (record {
+        leads = leads_deed deed d0 n0 past d n refl leads (had.0, shows_front (history conn) l.records life had.1);
+        tells = subst (λ v. Tells history v (record l { image = None })) (sym at) (record {
           standing = tells.standing;
-          speaks = subst (λ t. Speaks t k.replies (after_deed deed life)) (sym told)
-              (subst (λ r. Speaks (history l.conn) r (after_deed deed life)) (sym replies)
-              (speaks_on (history l.conn) l.replies life (after_deed deed life) refl refl tells.speaks));
-          shows = subst (λ i. ShowsIn history i k.records (after_deed deed life)) (sym none) refl;
+          speaks = speaks_on (history l.conn) l.replies life (after_deed deed life) refl refl tells.speaks;
+          shows = refl;
         });
         others = λ j off. life_off j deed past (eqb_off l.id.number j (λ e. off (sym e)));
         left = refl;
-      };
-}
-  where
-    speaks_on : (talk : Option Talk) (replies : List ℕ) (a b : Life) → b.heard ≡ a.heard → b.said ≡ a.said → Speaks talk replies a → Speaks talk replies b
-    speaks_on None replies a b e f speaks = tt
-    speaks_on (Some t) replies a b e f speaks = (speaks.0 ∙ sym e, speaks.1 ∙ sym f)
+      },
+      (deed ∷ [], (tt, tt), refl),
+    )
+
+pub goes_hung : {C : Type 0} (history : C → Option Talk) (d : Core) (n : Option Ledger) (l : Link C) (m : Option Ledger) (k : Link C) → k ≡ record l { image = None } → m ≡ hung_up history l.image n → Goes history d n l d m k
+goes_hung history d n l m k same net =
+    subst (λ o. Goes history d n l d o k) (sym net) (subst (λ x. Goes history d n l d (hung_up history l.image n) x) (sym same) (record {
+      same = refl;
+      goes = λ d0 n0 past leads tells. (hangs_up history d n l l.image refl d0 n0 past leads tells).0;
+    }))
 
 -- a connection that is not wanted is handed back
 pub goes_refuses : {C : Type 0} (history : C → Option Talk) (d : Core) (n : Option Ledger) (l : Link C) (m : Option Ledger) (conn : C) → IsFresh (history conn) → m ≡ after_close (history conn) (counted n) → Goes history d n l d m l
@@ -383,7 +398,7 @@ speaks_front None replies life speaks = tt
 speaks_front (Some t) replies life speaks = (speaks.0, (replies, sym speaks.1))
 
 -- the session is ended, and its control connection is handed back
-pub parts_here : {C : Type 0} (history : C → Option Talk) (d : Core) (n : Option Ledger) (l : Link C) (e : Core) (m : Option Ledger) → l.image ≡ None → Steps d (End l.id.number) e → m ≡ after_close (history l.conn) n → Parts history d n l e m
+parts_here : {C : Type 0} (history : C → Option Talk) (d : Core) (n : Option Ledger) (l : Link C) (e : Core) (m : Option Ledger) → l.image ≡ None → Steps d (End l.id.number) e → m ≡ after_close (history l.conn) n → Parts history d n l e m
 parts_here history d n l e m none steps net = record {
   goes = λ d0 n0 past leads tells.
       let id = l.id.number in
@@ -399,7 +414,7 @@ parts_here history d n l e m none steps net = record {
       (tells.standing, dark, refl, speaks_front (history l.conn) l.replies life tells.speaks) in
       record {
         story = deed ∷ mid;
-        more = (deed ∷ Makes call ∷ [], refl);
+        closing = (deed ∷ Makes call ∷ [], (tt, (tt, tt)), refl);
         leads = subst (λ o. Leads d0 n0 (deed ∷ mid) e o) (sym net) (leads_deed deed d0 n0 mid e n refl leads1 may);
         gone = ap (λ v. v.standing) at2;
         dark = ap (λ v. v.imaging) at2 ∙ ap (λ v. v.imaging) at ∙ dark;
@@ -408,21 +423,33 @@ parts_here history d n l e m none steps net = record {
       };
 }
 
-pub parts_then : {C : Type 0} {history : C → Option Talk} {d : Core} {n : Option Ledger} {l : Link C} {e : Core} {m : Option Ledger} {k : Link C} {f : Core} {o : Option Ledger} → Goes history d n l e m k → Parts history e m k f o → Parts history d n l f o
-parts_then {C} {history} {d} {n} {l} {e} {m} {k} {f} {o} a b = record {
+ends_append : (xs ys : List Deed) → AreEnds xs → AreEnds ys → AreEnds (xs ++ ys)
+ends_append [] ys a b = b
+ends_append (x ∷ xs) ys a b = (a.0, ends_append xs ys a.1 b)
+
+pub closing_then : (past mid story : List Deed) → Closing past mid → Closing mid story → Closing past story
+closing_then past mid story first then = (
+  then.0 ++ first.0,
+  ends_append then.0 first.0 then.1 first.1,
+  then.2 ∙ ap (λ xs. then.0 ++ xs) first.2 ∙ sym (append_assoc then.0 first.0 past),
+)
+
+-- all connections of a session are handed back
+pub parts_hung : {C : Type 0} (history : C → Option Talk) (d : Core) (n : Option Ledger) (l : Link C) (m : Option Ledger) (e : Core) (o : Option Ledger) → m ≡ hung_up history l.image n → Steps d (End l.id.number) e → o ≡ after_close (history l.conn) m → Parts history d n l e o
+parts_hung {C} history d n l m e o net steps back = record {
   goes = λ d0 n0 past leads tells.
-      let w = a.goes d0 n0 past leads tells in
-      let tells_k = subst (λ id. Tells history (life_of id.number w.story) k) (sym a.same) w.tells in
-      ended_after d0 n0 past l.id.number k.id.number f o (ap (λ id. id.number) a.same) w.story w.more w.others w.left (b.goes d0 n0 w.story w.leads tells_k);
+      let first = hangs_up history d n l l.image refl d0 n0 past leads tells in
+      let parts = parts_here history d (hung_up history l.image n) (record l { image = None }) e o refl steps (back ∙ ap (after_close (history l.conn)) net) in
+      ended_after d0 n0 past l.id.number e o first.0.story first.1 first.0.others first.0.left (parts.goes d0 n0 first.0.story first.0.leads first.0.tells);
 }
   where
-    ended_after : (d0 : Core) (n0 : Option Ledger) (past : List Deed) (id other : ℕ) (f : Core) (o : Option Ledger) → other ≡ id → (mid : List Deed) → Extends past mid → ((i : ℕ) → i ≢ id → life_of i mid ≡ life_of i past) → left_in mid ≡ left_in past → Ended d0 n0 mid other f o → Ended d0 n0 past id f o
-    ended_after d0 n0 past id other f o same mid more first count w = record {
+    ended_after : (d0 : Core) (n0 : Option Ledger) (past : List Deed) (id : ℕ) (e : Core) (o : Option Ledger) (mid : List Deed) → Closing past mid → ((i : ℕ) → i ≢ id → life_of i mid ≡ life_of i past) → left_in mid ≡ left_in past → Ended d0 n0 mid id e o → Ended d0 n0 past id e o
+    ended_after d0 n0 past id e o mid closing first count w = record {
       story = w.story;
-      more = extends_then past mid w.story more w.more;
+      closing = closing_then past mid w.story closing w.closing;
       leads = w.leads;
-      gone = subst (λ i. (life_of i w.story).standing ≡ false) same w.gone;
-      dark = subst (λ i. (life_of i w.story).imaging ≡ false) same w.dark;
-      others = λ i off. w.others i (λ e. off (e ∙ same)) ∙ first i off;
+      gone = w.gone;
+      dark = w.dark;
+      others = λ i off. w.others i off ∙ first i off;
       left = w.left ∙ ap (λ k. k + 1) count;
     }

@@ -2,8 +2,8 @@
 use Rattle.std.specs.Prelude.{◌≡◌, ◌≢◌, ℕ, ◌+◌, true, false, Option, None, Some, List, [], ◌++◌}
 use Rattle.saned_core.specs.State.{Core}
 use Rattle.saned_serve.specs.Talk.{Talk}
-use Rattle.saned_serve.specs.Ledger.{Ledger}
-use Rattle.saned_serve.specs.Story.{Deed, Life, life_of, Extends, Leads, left_in}
+use Rattle.saned_serve.specs.Ledger.{Ledger, after_close}
+use Rattle.saned_serve.specs.Story.{Deed, Life, life_of, Extends, Closing, Leads, left_in}
 use Rattle.saned_serve.specs.declared.link.Link.{Link}
 
 -- it read what was fed, and what was written and what waits are the replies taken
@@ -39,10 +39,15 @@ pub record Goes {C : Type 0} (history : C → Option Talk) (d : Core) (n : Optio
   pub same : k.id ≡ l.id
   pub goes : (d0 : Core) (n0 : Option Ledger) (past : List Deed) → Leads d0 n0 past d n → Tells history (life_of l.id.number past) l → Went history d0 n0 past l.id.number e m k
 
--- the story went on to the end of this session's connections
+-- what the listeners keep once a data connection, where there is one, is handed back
+abbrev pub hung_up : {C : Type 0} → (C → Option Talk) → Option C → Option Ledger → Option Ledger
+hung_up history None n = n
+hung_up history (Some conn) n = after_close (history conn) n
+
+-- the story went on, by ends alone, to the end of this session's connections
 pub record Ended (d0 : Core) (n0 : Option Ledger) (past : List Deed) (id : ℕ) (e : Core) (m : Option Ledger) : Type 0 where
   pub story : List Deed
-  pub more : Extends past story
+  pub closing : Closing past story
   pub leads : Leads d0 n0 story e m
   pub gone : (life_of id story).standing ≡ false
   pub dark : (life_of id story).imaging ≡ false

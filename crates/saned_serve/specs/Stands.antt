@@ -3,7 +3,7 @@ use Rattle.std.specs.Prelude.{◌≡◌, ◌≢◌, ℕ, ◌+◌, ◌≤◌, ◌
 use Rattle.saned_core.specs.State.{Core}
 use Rattle.saned_serve.specs.Talk.{Talk}
 use Rattle.saned_serve.specs.Ledger.{Ledger}
-use Rattle.saned_serve.specs.Story.{Deed, life_of, Extends, Leads, left_in, no_life, Closed}
+use Rattle.saned_serve.specs.Story.{Deed, life_of, Extends, Closing, Leads, left_in, no_life, Closed}
 use Rattle.saned_serve.specs.Goes.{Tells, Goes, Parts}
 use Rattle.saned_serve.specs.declared.link.Link.{Link}
 use Rattle.saned_serve.specs.declared.seats.Seat.{Seat}
@@ -46,6 +46,12 @@ pub record WentOn {C : Type 0} (history : C → Option Talk) (d0 : Core) (n0 : O
   pub stands : Stands history d0 n0 story e m seats
   pub count : left_in story ≡ left_in past + left
 
+-- the story went on by ends alone, and these seats are left
+pub record Shuts {C : Type 0} (history : C → Option Talk) (d0 : Core) (n0 : Option Ledger) (past : List Deed) (e : Core) (m : Option Ledger) (seats : List (Seat C)) : Type 0 where
+  pub story : List Deed
+  pub closing : Closing past story
+  pub stands : Stands history d0 n0 story e m seats
+
 -- all turns were taken
 pub record Ran {C : Type 0} (history : C → Option Talk) (d0 : Core) (n0 : Option Ledger) (end : ServeEnd) (sessions : ℕ) (e : Core) (m : Option Ledger) (seats : List (Seat C)) : Type 0 where
   pub story : List Deed
@@ -87,19 +93,19 @@ pub record IsOver (story : List Deed) : Type 0 where
   pub dark : (id : ℕ) → (life_of id story).imaging ≡ false
   pub each : (id : ℕ) → (life_of id story).opened ≡ true → Closed id story
 
--- what still stood was ended
+-- what still stood was ended, and nothing else was done
 pub record Closes (d0 : Core) (n0 : Option Ledger) (past : List Deed) (e : Core) (m : Option Ledger) : Type 0 where
   pub story : List Deed
-  pub more : Extends past story
+  pub closing : Closing past story
   pub leads : Leads d0 n0 story e m
   pub over : IsOver story
 
--- what a server's whole run did: its turns, and then the end of all that still stood. Where the turns ended is not to be
--- seen behind them: that they are this front of the story is what `Ran` says
+-- what a server's whole run did: its turns, and then nothing but the end of all that still stood. Where among the ends
+-- that stand last the turns ended is not to be seen behind them: that they are this front of the story is what `Ran` says
 pub record Served (d : Core) (before : Option Ledger) (e : Core) (after : Option Ledger) (end : ServeEnd) (sessions : ℕ) : Type 0 where
   pub turns : List Deed
   pub story : List Deed
-  pub more : Extends turns story
+  pub closing : Closing turns story
   pub leads : Leads d before story e after
   pub over : IsOver story
   pub ends : EndsBy end sessions (left_in turns)

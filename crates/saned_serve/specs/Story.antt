@@ -133,6 +133,30 @@ ledger_after (deed ∷ past) ledger = noted deed (ledger_after past ledger)
 abbrev pub Extends : List Deed → List Deed → Type 0
 Extends past story = (since : List Deed) × (story ≡ since ++ past)
 
+-- a session is ended, or a connection of one is handed back
+abbrev pub EndsCall : Call → Type 0
+EndsCall (Open port number) = ⊥
+EndsCall (Feed number piece fed) = ⊥
+EndsCall (Take number room bytes) = ⊥
+EndsCall (Connect number) = ⊥
+EndsCall (Turn number step bytes) = ⊥
+EndsCall (Lose number) = ⊥
+EndsCall (End number) = Unit {0}
+
+abbrev pub IsEnd : Deed → Type 0
+IsEnd (Makes call) = EndsCall call
+IsEnd (Refuses talk) = ⊥
+IsEnd (Leaves number talk) = Unit {0}
+IsEnd (HangsUp number talk) = Unit {0}
+
+abbrev pub AreEnds : List Deed → Type 0
+AreEnds [] = Unit {0}
+AreEnds (deed ∷ past) = IsEnd deed × AreEnds past
+
+-- the story went on by ends alone
+abbrev pub Closing : List Deed → List Deed → Type 0
+Closing past story = (since : List Deed) × AreEnds since × (story ≡ since ++ past)
+
 -- a deed is in the story
 abbrev pub Holds : Deed → List Deed → Type 0
 Holds deed [] = ⊥

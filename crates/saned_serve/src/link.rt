@@ -3,7 +3,7 @@
 ghost use Rattle.std.specs.Prelude.{◌≡◌, ◌≤◌, ℕ, Option, None, Some, IsSome};
 ghost use Rattle.saned_core.specs.State.{Core, core};
 ghost use Rattle.saned_serve.specs.Ledger.{Ledger, after_close};
-ghost use Rattle.saned_serve.specs.Goes.{Goes, Parts};
+ghost use Rattle.saned_serve.specs.Goes.{Goes, Parts, hung_up};
 
 use crate::pending::Pending;
 use crate::{Got, Listeners, Socket};
@@ -98,8 +98,8 @@ fn speak<D: Device, C: Socket>(daemon: &mut Daemon<D>, link: &mut Link<C>) -> bo
 
 /// Hands the data connection back.
 fn hang_up<L: Listeners>(net: &mut L, link: &mut Link<L::Conn>)
-    ensures goes { (d : Core) → Goes L.Conn.history d (L.ledger net.old) link.old d (L.ledger net.new) link.new }
-    ensures none { link.new.image ≡ None }
+    ensures net { L.ledger net.new ≡ hung_up L.Conn.history link.old.image (L.ledger net.old) }
+    ensures link { link.new ≡ record link.old { image = None } }
 {
     if let Some(conn) = link.image.take() {
         net.close(conn);

@@ -1,13 +1,13 @@
-use Rattle.std.proofs.Common.{ℕ, List, Option}
+use Rattle.std.proofs.Common.{List, Option}
 use Rattle.saned_core.specs.State.{Core, core}
 use Rattle.saned_serve.specs.Ledger.{Ledger}
 use Rattle.saned_serve.specs.Story.{Deed}
-use Rattle.saned_serve.specs.Stands.{Stands, WentOn}
+use Rattle.saned_serve.specs.Stands.{Stands, Shuts}
 use Rattle.saned_serve.proofs.seats.close_all.Given as goal
 
 abbrev pub invariant-loop-seat : goal.invariant-loop-seat
 invariant-loop-seat g l = (d0 : Core) (n0 : Option Ledger) (past : List Deed) → Stands g.L.Conn.Socket.history d0 n0 past (core g.D.Device.state l.fn.daemon) (g.L.Listeners.ledger l.fn.net) l.fn.seats.items
-    → (left : ℕ) × WentOn g.L.Conn.Socket.history d0 n0 past left (core g.D.Device.state l.daemon) (g.L.Listeners.ledger l.net) l.seats.items
+    → Shuts g.L.Conn.Socket.history d0 n0 past (core g.D.Device.state l.daemon) (g.L.Listeners.ledger l.net) l.seats.items
 
 abbrev pub decreases-loop-seat : goal.decreases-loop-seat
 decreases-loop-seat g l = goal.left-loop-seat g l

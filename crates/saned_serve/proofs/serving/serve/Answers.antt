@@ -19,4 +19,4 @@ returns-clause-served g c =
     let len = c.take_turns-end.auto.seats ∙ c.as_mut_slice.ensures.len in
     let closed = c.close_all.ensures d0 n0 ran.story (subst (λ xs. Stands history d0 n0 ran.story d1 n1 xs)
     (sym (ap (λ k. take k (c.take_turns-end.new.seats ++ drop (length c.take_turns-end.new.seats) c.in-Ok.seats.items)) (sym len) ∙ take_front c.take_turns-end.new.seats (drop (length c.take_turns-end.new.seats) c.in-Ok.seats.items))) ran.stands) in
-    record { turns = ran.story; story = closed.story; more = closed.more; leads = closed.leads; over = closed.over; ends = ran.ends }
+    record { turns = ran.story; story = closed.story; closing = closed.closing; leads = closed.leads; over = closed.over; ends = ran.ends }
