@@ -53,9 +53,7 @@ peer-check:
 
 # Prints speed and memory beside a peer in the same run. The gate leaves it out.
 bench: need-rt
-	cd crates/scan_bench && rt run
-	cd crates/wire_bench && rt run
-	cd crates/client_bench && rt run
+	cd crates/bench && rt run -- client Gray 1 1
 	tests/bench
 	[ -x crates/scanimage/out/scanimage ] && [ -x crates/saned/out/saned ] || $(MAKE) build
 	tests/bench-scanimage

@@ -1,11 +1,7 @@
-//! Tests of the daemon, from its desk to the program's library.
+//! Tests of the daemon's desk and of its core.
 #![tactic(auto)]
 
 #[cfg(test)]
 mod daemon;
 #[cfg(test)]
 mod desk;
-#[cfg(test)]
-mod program;
-#[cfg(test)]
-mod serve;

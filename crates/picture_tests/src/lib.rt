@@ -1,18 +1,8 @@
-//! Tests of the crates below the scanners: numbers, lines, pages, pictures and their files, options, authorization.
+//! Tests of pages, pictures and their files, and of frames that are joined.
 #![tactic(auto)]
 
 #[cfg(test)]
-mod auth;
-#[cfg(test)]
-mod constraints;
-#[cfg(test)]
-mod fixed;
-#[cfg(test)]
 mod joins;
-#[cfg(test)]
-mod lines;
-#[cfg(test)]
-mod options;
 #[cfg(test)]
 mod pages;
 #[cfg(test)]

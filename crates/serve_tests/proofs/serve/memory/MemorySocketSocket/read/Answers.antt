@@ -1,6 +1,6 @@
 use Rattle.std.proofs.Common.{◌≡◌, ◌≤◌, ◌+◌, Some, drop, length, ap, ◌∙◌, rules, arith}
 use Rattle.saned_serve.proofs.Ranges.{piece_read}
-use Rattle.daemon_tests.proofs.serve.memory.MemorySocketSocket.read.Goals as goal
+use Rattle.serve_tests.proofs.serve.memory.MemorySocketSocket.read.Goals as goal
 
 pub returns-clause-told : goal.returns-clause-told
 returns-clause-told c =

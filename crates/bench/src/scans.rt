@@ -1,6 +1,4 @@
-//! Scans and page files of a large page, for their speed and memory. `tests/bench` runs it and prints ratios; without
-//! words it does nothing. The words are `open FILE DPI`, `scan MODE DEPTH COUNT` or `copy BYTES COUNT`.
-#![tactic(auto)]
+//! Scans and page files of a large page.
 
 ghost use Rattle.std.specs.Prelude.{◌≡◌, ◌≤◌, ◌<◌, length, IfOk};
 
@@ -10,7 +8,6 @@ use option_desc::Value;
 use page_picture::{MemoryPage, Page, PageSource, PnmPage, Source};
 use sane_fixed::{ByteOrder, Fixed, Text};
 use std::alloc::{AllocError, Global};
-use std::env;
 use std::fs::File;
 use std::io::{self, Write};
 
@@ -89,7 +86,7 @@ fn scan<W: Write>(
 }
 
 /// Scans so often, and tells how many bytes that were.
-fn scan_often(rt: &HostRuntime, mode: &[u8], depth: i32, count: u32) -> anyhow::Result<()> {
+pub fn scan_often(rt: &HostRuntime, mode: &[u8], depth: i32, count: u32) -> anyhow::Result<()> {
     let alloc = rt.alloc();
     let Some(mut flatbed) = flatbed(alloc, mode, depth) else {
         return Ok(());
@@ -105,7 +102,7 @@ fn scan_often(rt: &HostRuntime, mode: &[u8], depth: i32, count: u32) -> anyhow::
 }
 
 /// Copies so many bytes out of one buffer into another, and writes them.
-fn copy_often(rt: &HostRuntime, bytes: u64) -> anyhow::Result<()> {
+pub fn copy_often(rt: &HostRuntime, bytes: u64) -> anyhow::Result<()> {
     let alloc = rt.alloc();
     let from = buffer(alloc, 65536)?;
     let mut to = buffer(alloc, 65536)?;
@@ -118,7 +115,7 @@ fn copy_often(rt: &HostRuntime, bytes: u64) -> anyhow::Result<()> {
 }
 
 /// Opens a page file, which reads it once through, and tells how many rows it has.
-fn open(rt: &HostRuntime, path: &str, dpi: u32) -> anyhow::Result<()> {
+pub fn open(rt: &HostRuntime, path: &str, dpi: u32) -> anyhow::Result<()> {
     let file = File::open(rt, path)?;
     let Ok(source) = PnmPage::open(rt.alloc(), file, dpi) else {
         return Ok(());
@@ -126,22 +123,4 @@ fn open(rt: &HostRuntime, path: &str, dpi: u32) -> anyhow::Result<()> {
     let (_, rows) = source.size();
     eprintln!(rt; "{rows}")?;
     Ok(())
-}
-
-fn main(rt: HostRuntime) -> anyhow::Result<()> {
-    let words: Vec<String> = env::args(&rt)?.collect(rt.alloc())?;
-    match words.as_slice() {
-        [_, what, path, dpi] if what.as_str() == "open" => {
-            open(&rt, path.as_str(), dpi.as_str().parse::<u32>().unwrap_or(0))
-        }
-        [_, what, mode, depth, count] if what.as_str() == "scan" => {
-            let depth = depth.as_str().parse::<i32>().unwrap_or(8);
-            let count = count.as_str().parse::<u32>().unwrap_or(1);
-            scan_often(&rt, mode.as_str().as_bytes(), depth, count)
-        }
-        [_, what, bytes] if what.as_str() == "copy" => {
-            copy_often(&rt, bytes.as_str().parse::<u64>().unwrap_or(0))
-        }
-        _ => Ok(()),
-    }
 }

@@ -1,13 +1,10 @@
-//! Messages and records of a million bytes, for their speed. `tests/bench` runs it; without words it does nothing. The
-//! words are `decode PIECE`, a reply that comes in pieces of that size, `lists PIECE`, one of as many tiny strings as
-//! there may be, `encode COUNT`, the first reply written so often, or `records COUNT`, so many records written and read.
-#![tactic(auto)]
+//! Messages and records of a million bytes.
 
 ghost use Rattle.std.specs.Prelude.{◌≡◌, ◌<◌, length, IfOk};
 
+use crate::tell;
 use std::alloc::{AllocError, Global};
-use std::env;
-use std::time::{Duration, Instant};
+use std::time::Instant;
 use wire_codec::{Decoder, Procedure, RecordReader, Reply, Step, encode_reply, record_head};
 
 /// The devices of the reply.
@@ -64,7 +61,12 @@ fn lists(alloc: Global) -> Result<Vec<u8>, AllocError> {
 }
 
 /// Feeds the bytes in pieces, and tries after each whether the reply is there.
-fn decode(alloc: Global, procedure: Procedure, bytes: &[u8], piece: usize) -> Option<Reply> {
+fn reply_in_pieces(
+    alloc: Global,
+    procedure: Procedure,
+    bytes: &[u8],
+    piece: usize,
+) -> Option<Reply> {
     let mut decoder = Decoder::new(alloc);
     let mut rest = bytes;
     for _ in 0..bytes.len() {
@@ -80,13 +82,6 @@ fn decode(alloc: Global, procedure: Procedure, bytes: &[u8], piece: usize) -> Op
     None
 }
 
-/// Tells how many bytes a microsecond, which are megabytes a second.
-fn tell(rt: &HostRuntime, what: &str, bytes: usize, took: Duration) -> anyhow::Result<()> {
-    let speed = (bytes as u128) / took.as_micros().max(1);
-    eprintln!(rt; "{what}: {speed} MB/s")?;
-    Ok(())
-}
-
 fn decode_once(
     rt: &HostRuntime,
     procedure: Procedure,
@@ -94,7 +89,7 @@ fn decode_once(
     piece: usize,
 ) -> anyhow::Result<()> {
     let start = Instant::now(rt)?;
-    let came = decode(rt.alloc(), procedure, bytes, piece).is_some();
+    let came = reply_in_pieces(rt.alloc(), procedure, bytes, piece).is_some();
     let took = start.elapsed(rt)?.as_millis();
     let count = bytes.len();
     eprintln!(rt; "{count} bytes, came: {came}, {took} ms")?;
@@ -102,10 +97,11 @@ fn decode_once(
 }
 
 /// Writes the reply so often, beside copies of its bytes.
-fn encode_often(rt: &HostRuntime, count: u32) -> anyhow::Result<()> {
+pub fn encode_often(rt: &HostRuntime, count: u32) -> anyhow::Result<()> {
     let alloc = rt.alloc();
     let bytes = reply(alloc)?;
-    let Some(reply) = decode(alloc, Procedure::GetDevices, bytes.as_slice(), bytes.len()) else {
+    let Some(reply) = reply_in_pieces(alloc, Procedure::GetDevices, bytes.as_slice(), bytes.len())
+    else {
         return Ok(());
     };
     let start = Instant::now(rt)?;
@@ -115,13 +111,13 @@ fn encode_often(rt: &HostRuntime, count: u32) -> anyhow::Result<()> {
             wrote = wrote.saturating_add(text.len());
         }
     }
-    tell(rt, "a reply written", wrote, start.elapsed(rt)?)?;
+    tell(rt, "a reply written", wrote as u64, start.elapsed(rt)?)?;
     let start = Instant::now(rt)?;
     let mut copied: usize = 0;
     for _ in 0..count {
         copied = copied.saturating_add(Vec::from_slice(alloc, bytes.as_slice())?.len());
     }
-    tell(rt, "its bytes copied", copied, start.elapsed(rt)?)
+    tell(rt, "its bytes copied", copied as u64, start.elapsed(rt)?)
 }
 
 fn buffer(alloc: Global) -> Result<Vec<u8>, AllocError>
@@ -162,12 +158,12 @@ fn copy(to: &mut Vec<u8>, from: &[u8]) -> Result<(), AllocError> {
 }
 
 /// Writes and reads so many records, beside copies of their payload.
-fn records(rt: &HostRuntime, count: u32) -> anyhow::Result<()> {
+pub fn records(rt: &HostRuntime, count: u32) -> anyhow::Result<()> {
     let alloc = rt.alloc();
     let from = buffer(alloc)?;
     let mut text = Vec::new(alloc);
     let mut to = Vec::new(alloc);
-    let all = RECORD.saturating_mul(count as usize);
+    let all = (RECORD as u64).saturating_mul(count as u64);
     let start = Instant::now(rt)?;
     for _ in 0..count {
         put_record(&mut text, from.as_slice())?;
@@ -185,29 +181,14 @@ fn records(rt: &HostRuntime, count: u32) -> anyhow::Result<()> {
     tell(rt, "their bytes copied", all, start.elapsed(rt)?)
 }
 
-fn main(rt: HostRuntime) -> anyhow::Result<()> {
-    let words: Vec<String> = env::args(&rt)?.collect(rt.alloc())?;
-    let [_, what, number] = words.as_slice() else {
-        return Ok(());
-    };
-    let number = number.as_str().parse::<u32>().unwrap_or(0);
-    match what.as_str() {
-        "decode" => {
-            let bytes = reply(rt.alloc())?;
-            decode_once(
-                &rt,
-                Procedure::GetDevices,
-                bytes.as_slice(),
-                number as usize,
-            )
-        }
-        "lists" => {
-            let bytes = lists(rt.alloc())?;
-            let procedure = Procedure::GetOptionDescriptors;
-            decode_once(&rt, procedure, bytes.as_slice(), number as usize)
-        }
-        "encode" => encode_often(&rt, number),
-        "records" => records(&rt, number),
-        _ => Ok(()),
-    }
+/// A list of devices that comes in pieces of that size.
+pub fn decode(rt: &HostRuntime, piece: usize) -> anyhow::Result<()> {
+    let bytes = reply(rt.alloc())?;
+    decode_once(rt, Procedure::GetDevices, bytes.as_slice(), piece)
+}
+
+/// A reply of as many tiny strings as there may be, that comes in pieces of that size.
+pub fn decode_lists(rt: &HostRuntime, piece: usize) -> anyhow::Result<()> {
+    let bytes = lists(rt.alloc())?;
+    decode_once(rt, Procedure::GetOptionDescriptors, bytes.as_slice(), piece)
 }

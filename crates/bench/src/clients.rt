@@ -1,11 +1,8 @@
-//! Scans over the net, client and daemon in one process and bytes in memory between them, for their speed. `tests/bench`
-//! runs it. The words are `MODE MILLIMETRES COUNT`: so many scans, at depth 8 and 1,200 dots per inch, of a square of
-//! noise of that side, gray where the mode is. It prints how many bytes their files had, and tells on standard error how
-//! fast they came, beside copies of as many bytes.
-#![tactic(auto)]
+//! Scans over the net, client and daemon in one process and bytes in memory between them.
 
 ghost use Rattle.std.specs.Prelude.{◌≤◌};
 
+use crate::tell;
 use dispatch::Registry;
 use flatbed_dev::Flatbed;
 use md5_auth::Users;
@@ -14,8 +11,8 @@ use page_picture::{MemoryPage, Page, Source};
 use sane_fixed::{ByteOrder, Text};
 use saned_core::{Daemon, DataStep, SessionId};
 use std::alloc::{AllocError, Global};
-use std::time::{Duration, Instant};
-use std::{env, mem};
+use std::mem;
+use std::time::Instant;
 
 /// The bytes of a piece of data, and of the file.
 const PIECE: usize = 65536;
@@ -204,15 +201,8 @@ fn copy(to: &mut Vec<u8>, from: &mut Vec<u8>, bytes: u64) -> Result<(), AllocErr
     Ok(())
 }
 
-/// Tells how many bytes a microsecond, which are megabytes a second.
-fn tell(rt: &HostRuntime, what: &str, bytes: u64, took: Duration) -> anyhow::Result<()> {
-    let speed = bytes as u128 / took.as_micros().max(1);
-    eprintln!(rt; "{what}: {speed} MB/s")?;
-    Ok(())
-}
-
-/// So many scans, and copies of as many bytes.
-fn run(rt: &HostRuntime, mode: &str, length: &str, count: u32) -> anyhow::Result<()> {
+/// So many scans of a square of noise of that length, and copies of as many bytes.
+pub fn run(rt: &HostRuntime, mode: &str, length: &str, count: u32) -> anyhow::Result<()> {
     let alloc = rt.alloc();
     let side = length.parse::<u32>().unwrap_or(1).clamp(1, 200) * 12000 / 254;
     let mut piece = buffer(alloc)?;
@@ -236,13 +226,4 @@ fn run(rt: &HostRuntime, mode: &str, length: &str, count: u32) -> anyhow::Result
     let start = Instant::now(rt)?;
     copy(&mut piece, &mut room, bytes)?;
     tell(rt, "as many bytes copied", bytes, start.elapsed(rt)?)
-}
-
-fn main(rt: HostRuntime) -> anyhow::Result<()> {
-    let words: Vec<String> = env::args(&rt)?.collect(rt.alloc())?;
-    let [_, mode, length, count] = words.as_slice() else {
-        return Ok(());
-    };
-    let count = count.as_str().parse::<u32>().unwrap_or(0);
-    run(&rt, mode.as_str(), length.as_str(), count)
 }
