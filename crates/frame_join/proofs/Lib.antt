@@ -13,3 +13,4 @@ pub mod HeightLaws
 pub mod EndLaws
 pub mod PullLaws
 pub mod GivenLaws
+pub mod WeaveLaws

@@ -1,4 +1,4 @@
-ghost use Rattle.std.specs.Prelude.{ℕ, ◌≡◌, ◌≤◌, ◌<◌, ◌+◌, ◌*◌, ◌/◌, ◌%◌, ◌⊎◌, length, slice_index};
+ghost use Rattle.std.specs.Prelude.{ℕ, ◌≡◌, ◌≤◌, ◌<◌, ◌+◌, ◌*◌, ◌/◌, ◌%◌, ◌⊎◌, IfSome, false, is_some, length, slice_index};
 ghost use Rattle.frame_join.specs.KeptFrame.{color_number};
 ghost use Rattle.frame_join.specs.ColorPlanes.{no_plane, no_planes, nth_plane, side_byte};
 ghost use Rattle.frame_join.specs.JoinSteps.{is_there, has_two, put_plane};
@@ -25,15 +25,22 @@ impl Model for Plane {
     ghost view = { plane_seen };
 }
 
-/// Puts bytes to each third place of `buf` from place `first` on.
-fn put_thirds(bytes: &[u8], first: usize, buf: &mut [u8])
-    requires first { first < 3 }
-    requires room { first + 3 * length bytes.now ≤ length buf.old + 2 }
-    ensures here { (i : ℕ) → i < first + 3 * length bytes.now → i % 3 ≡ first → slice_index buf.new i ≡ slice_index bytes.now (i / 3) }
-    ensures others { (i : ℕ) → (i % 3 ≡ first → ⊥) → slice_index buf.new i ≡ slice_index buf.old i }
+/// Puts the bytes of three colors side by side, one of each, from place `first` on.
+fn weave(red: &[u8], green: &[u8], blue: &[u8], first: usize, buf: &mut [u8])
+    requires green { length green.now ≡ length red.now }
+    requires blue { length blue.now ≡ length red.now }
+    requires room { first + 3 * length red.now ≤ length buf.old }
+    requires few { length buf.old ≤ 1048576 }
+    ensures red { (k : ℕ) → k < length red.now → slice_index buf.new (first + 3 * k) ≡ slice_index red.now k }
+    ensures green { (k : ℕ) → k < length red.now → slice_index buf.new (first + 3 * k + 1) ≡ slice_index green.now k }
+    ensures blue { (k : ℕ) → k < length red.now → slice_index buf.new (first + 3 * k + 2) ≡ slice_index blue.now k }
+    ensures before { (i : ℕ) → i < first → slice_index buf.new i ≡ slice_index buf.old i }
+    ensures behind { (i : ℕ) → first + 3 * length red.now ≤ i → slice_index buf.new i ≡ slice_index buf.old i }
 {
-    for k in 0..bytes.len() {
-        buf[first + 3 * k] = bytes[k];
+    for k in 0..red.len() {
+        buf[first + 3 * k] = red[k];
+        buf[first + 3 * k + 1] = green[k];
+        buf[first + 3 * k + 2] = blue[k];
     }
 }
 
@@ -65,37 +72,19 @@ impl Plane {
         }
     }
 
-    /// The same as `put_color`, also where the color has fewer bytes.
-    fn put_present(&self, y: u32, from: usize, color: usize, buf: &mut [u8])
-        requires color { color < 3 }
-        requires place { from + length buf.old ≤ 1048576 }
-        ensures here { (i : ℕ) → i < length buf.old → (from + i) % 3 ≡ color → slice_index buf.new i ≡ slice_index self.now.bytes (y * self.now.line + (from + i) / 3) }
-        ensures others { (i : ℕ) → ((from + i) % 3 ≡ color → ⊥) → slice_index buf.new i ≡ slice_index buf.old i }
+    /// So many bytes of a row from a place on, if the color has them.
+    fn part(&self, y: u32, place: usize, count: usize) -> Option<&[u8]>
+        requires place { place ≤ 1048576 }
+        requires count { count ≤ 1048576 }
+        ensures size { IfSome result (λ part. length part.now ≡ count) }
+        ensures bytes { IfSome result (λ part. (k : ℕ) → k < count → slice_index part.now k ≡ slice_index self.now.bytes (y * self.now.line + (place + k))) }
+        ensures none { is_some result ≡ false → length self.now.bytes < y * self.now.line + (place + count) }
     {
-        let first = (color + 3 - from % 3) % 3;
-        let place = (from + first) / 3;
-        let count = (buf.len() + 2 - first) / 3;
-        for k in 0..count {
-            buf[first + 3 * k] = self.byte_at(y, place + k);
+        let start = y as usize * self.line as usize + place;
+        if start + count > self.bytes.len() {
+            return None;
         }
-    }
-
-    /// Puts the bytes of row `y` to each third place of `buf`: those that are color `color` where the places from `from` on
-    /// are those of three colors side by side, a byte each.
-    fn put_color(&self, y: u32, from: usize, color: usize, buf: &mut [u8])
-        requires color { color < 3 }
-        requires place { from + length buf.old ≤ 1048576 }
-        ensures here { (i : ℕ) → i < length buf.old → (from + i) % 3 ≡ color → slice_index buf.new i ≡ slice_index self.now.bytes (y * self.now.line + (from + i) / 3) }
-        ensures others { (i : ℕ) → ((from + i) % 3 ≡ color → ⊥) → slice_index buf.new i ≡ slice_index buf.old i }
-    {
-        let first = (color + 3 - from % 3) % 3;
-        let count = (buf.len() + 2 - first) / 3;
-        let start = y as usize * self.line as usize + (from + first) / 3;
-        if start + count <= self.bytes.len() {
-            put_thirds(&self.bytes[start..start + count], first, buf);
-        } else {
-            self.put_present(y, from, color, buf);
-        }
+        Some(&self.bytes[start..start + count])
     }
 
     /// Takes the bytes of a frame, and gives back those that it had.
@@ -185,13 +174,37 @@ impl Planes {
         }
     }
 
+    /// The same as `put_side`, byte by byte, between two places of `buf`.
+    fn put_between(&self, y: u32, from: usize, start: usize, end: usize, buf: &mut [u8])
+        requires place { from + length buf.old ≤ 1048576 }
+        requires order { start ≤ end }
+        requires room { end ≤ length buf.old }
+        ensures here { (i : ℕ) → start ≤ i → i < end → slice_index buf.new i ≡ side_byte self.now 8 y (from + i) }
+        ensures before { (i : ℕ) → i < start → slice_index buf.new i ≡ slice_index buf.old i }
+        ensures behind { (i : ℕ) → end ≤ i → slice_index buf.new i ≡ slice_index buf.old i }
+    {
+        for i in start..end {
+            buf[i] = self.side_byte(8, y, from + i);
+        }
+    }
+
     /// Puts the bytes of row `y` from place `from` on, where the three colors of each pixel stand side by side, a byte each.
     pub(crate) fn put_side(&self, y: u32, from: usize, buf: &mut [u8])
         requires place { from + length buf.old ≤ 1048576 }
         ensures { (i : ℕ) → i < length buf.old → slice_index buf.new i ≡ side_byte self.now 8 y (from + i) }
     {
-        self.red.put_color(y, from, 0, buf);
-        self.green.put_color(y, from, 1, buf);
-        self.blue.put_color(y, from, 2, buf);
+        // What stands before the first whole pixel, and how many of these there are.
+        let head = ((3 - from % 3) % 3).min(buf.len());
+        let count = (buf.len() - head) / 3;
+        let (place, end) = ((from + head) / 3, head + 3 * count);
+        let red = self.red.part(y, place, count);
+        let green = self.green.part(y, place, count);
+        let blue = self.blue.part(y, place, count);
+        let (Some(red), Some(green), Some(blue)) = (red, green, blue) else {
+            return self.put_between(y, from, 0, buf.len(), buf);
+        };
+        self.put_between(y, from, 0, head, buf);
+        weave(red, green, blue, head, buf);
+        self.put_between(y, from, end, buf.len(), buf);
     }
 }

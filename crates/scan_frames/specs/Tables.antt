@@ -9,3 +9,7 @@ AreComposed scene tables = (k v : ℕ) → k < 3 → v < 256 → slice_index (ge
 -- each of the three tables gives each byte as it is
 abbrev pub IsPlain : List (List ℕ) → Type 0
 IsPlain tables = (k v : ℕ) → k < 3 → v < 256 → slice_index (get_or tables k []) v ≡ v
+
+-- a table gives each byte as it is
+abbrev pub IsSame : List ℕ → Type 0
+IsSame table = (v : ℕ) → v < 256 → slice_index table v ≡ v

@@ -6,7 +6,7 @@ ghost use Rattle.page_picture.specs.Shows.{channels_within};
 ghost use Rattle.page_picture.specs.Tone.{brightness};
 ghost use Rattle.scan_frames.specs.Line.{packing_of, line_of};
 ghost use Rattle.scan_frames.specs.Frames.{channel_in, format_at};
-ghost use Rattle.scan_frames.specs.Tables.{AreComposed, IsPlain};
+ghost use Rattle.scan_frames.specs.Tables.{AreComposed, IsPlain, IsSame};
 ghost use Rattle.scan_frames.specs.Samples.{HasSample, HasZeros, IsGrayRow, bit_in, bits_in, end_of, gray_in, value_at, value_in};
 
 use crate::gray_rows::is_gray;
@@ -105,18 +105,26 @@ fn put_colors(tables: &[[u8; 256]; 3], row: &[u16], places: &[u32], line: &mut [
     }
 }
 
+/// Whether a table leaves each byte as it is.
+fn is_same(table: &[u8; 256]) -> bool
+    ensures same { result ≡ true → IsSame table.now }
+    ensures other { result ≡ false → IsSame table.now → ⊥ }
+{
+    for v in 0..256 {
+        if usize::from(table[v]) != v {
+            return false;
+        }
+    }
+    true
+}
+
 /// Whether the tables leave each sample's upper byte as it is.
 fn is_plain(tables: &[[u8; 256]; 3]) -> bool
     ensures plain { result ≡ true → IsPlain tables.now }
     ensures other { result ≡ false → IsPlain tables.now → ⊥ }
 {
     let [red, green, blue] = tables;
-    for v in 0..256 {
-        if usize::from(red[v]) != v || usize::from(green[v]) != v || usize::from(blue[v]) != v {
-            return false;
-        }
-    }
-    true
+    is_same(red) && (is_same(green) && is_same(blue))
 }
 
 /// Puts the upper bytes of samples.
@@ -170,7 +178,21 @@ fn put_color(table: &[u8; 256], k: u32, row: &[u16], places: &[u32], line: &mut 
     }
 }
 
-/// The same, where the places lie one beside the other from `first` on.
+/// Puts the upper bytes of one channel's samples of all places, which lie one beside the other from `first` on.
+fn put_run_upper(k: u32, row: &[u16], first: usize, places: &[u32], line: &mut [u8])
+    requires channel { k < 3 }
+    requires run { (x : ℕ) → x < length places.now → slice_index places.now x ≡ first + x }
+    requires places { (x : ℕ) → x < length places.now → 3 * slice_index places.now x + 2 < length row.now }
+    requires room { length places.now ≤ length line.old }
+    ensures here { (x : ℕ) → x < length places.now → slice_index line.new x ≡ slice_index row.now (3 * slice_index places.now x + k) / 256 }
+    ensures behind { (j : ℕ) → length places.now ≤ j → slice_index line.new j ≡ slice_index line.old j }
+{
+    for x in 0..places.len() {
+        line[x] = (row[3 * (first + x) + k as usize] / 256) as u8;
+    }
+}
+
+/// The same as `put_color`, where the places lie one beside the other from `first` on.
 fn put_run(table: &[u8; 256], k: u32, row: &[u16], first: usize, places: &[u32], line: &mut [u8])
     requires channel { k < 3 }
     requires run { (x : ℕ) → x < length places.now → slice_index places.now x ≡ first + x }
@@ -179,6 +201,9 @@ fn put_run(table: &[u8; 256], k: u32, row: &[u16], first: usize, places: &[u32],
     ensures here { (x : ℕ) → x < length places.now → slice_index line.new x ≡ slice_index table.now (slice_index row.now (3 * slice_index places.now x + k) / 256) }
     ensures behind { (j : ℕ) → length places.now ≤ j → slice_index line.new j ≡ slice_index line.old j }
 {
+    if is_same(table) {
+        return put_run_upper(k, row, first, places, line);
+    }
     for x in 0..places.len() {
         let seen = row[3 * (first + x) + k as usize];
         line[x] = table[usize::from(seen / 256)];
@@ -224,6 +249,50 @@ fn put_words(layout: Layout, row: &[u16], places: &[u32], line: &mut [u8])
     }
 }
 
+/// Puts samples as they are, two bytes each.
+fn put_samples(order: ByteOrder, samples: &[u16], line: &mut [u8])
+    requires few { length samples.now ≤ 262144 }
+    requires room { 2 * length samples.now ≤ length line.old }
+    ensures here { (i : ℕ) → i < length samples.now → HasSample Packing.Words order line.new i (slice_index samples.now i) }
+    ensures behind { (j : ℕ) → 2 * length samples.now ≤ j → slice_index line.new j ≡ slice_index line.old j }
+{
+    // The order is asked outside of the loops, so that each is one of many bytes at once.
+    match order {
+        ByteOrder::Little => {
+            for (i, sample) in samples.iter().enumerate() {
+                line[2 * i] = (*sample % 256) as u8;
+                line[2 * i + 1] = (*sample / 256) as u8;
+            }
+        }
+        ByteOrder::Big => {
+            for (i, sample) in samples.iter().enumerate() {
+                line[2 * i] = (*sample / 256) as u8;
+                line[2 * i + 1] = (*sample % 256) as u8;
+            }
+        }
+    }
+}
+
+/// The same as `put_words`, without a look-up where there is a `first` from which on the places lie one beside the other.
+fn put_row_words(layout: Layout, first: Option<u32>, row: &[u16], places: &[u32], line: &mut [u8])
+    requires packing { layout.packing ≡ Packing.Words }
+    requires run { IfSome first (λ f. (x : ℕ) → x < length places.now → slice_index places.now x ≡ f + x) }
+    requires places { (x : ℕ) → x < length places.now → 3 * slice_index places.now x + 2 < length row.now }
+    requires few { length places.now ≤ 65536 }
+    requires room { 6 * length places.now ≤ length line.old }
+    ensures here { (x k : ℕ) → x < length places.now → k < 3 → HasSample Packing.Words layout.order line.new (3 * x + k) (slice_index row.now (3 * slice_index places.now x + k)) }
+    ensures behind { (j : ℕ) → 6 * length places.now ≤ j → slice_index line.new j ≡ slice_index line.old j }
+{
+    if let Some(first) = first {
+        let start = 3 * first as usize;
+        let end = start + 3 * places.len();
+        if end <= row.len() {
+            return put_samples(layout.order, &row[start..end], line);
+        }
+    }
+    put_words(layout, row, places, line)
+}
+
 /// Puts the samples of all places in color, a byte each.
 fn put_bytes(
     scene: &Scene,
@@ -255,8 +324,8 @@ fn put_bytes(
     }
 }
 
-/// Puts the samples of all places.
-fn put_all(scene: &Scene, layout: Layout, row: &[u16], places: &[u32], line: &mut [u8])
+/// Puts the samples of all places, one by one.
+fn put_each(scene: &Scene, layout: Layout, row: &[u16], places: &[u32], line: &mut [u8])
     requires packing { layout.packing ≡ packing_of scene.now.depth }
     requires places { (x : ℕ) → x < length places.now → 3 * slice_index places.now x + 2 < length row.now }
     requires few { length places.now ≤ 65536 }
@@ -264,16 +333,34 @@ fn put_all(scene: &Scene, layout: Layout, row: &[u16], places: &[u32], line: &mu
     ensures here { (x k : ℕ) → x < length places.now → k < channels_within layout.format → HasSample layout.packing layout.order line.new (channels_within layout.format * x + k) (value_in scene.now row.now (slice_index places.now x) (channel_in layout.format k)) }
     ensures behind { (j : ℕ) → end_of layout.packing (channels_within layout.format * length places.now) ≤ j → slice_index line.new j ≡ slice_index line.old j }
 {
-    if let (Packing::Words, FrameFormat::Rgb, Mode::Color) = (
-        layout.packing,
-        layout.format,
-        scene.mode,
-    ) {
-        return put_words(layout, row, places, line);
-    }
     let step = channels_within(layout.format) as usize;
     for (x, place) in places.iter().enumerate() {
         put_place(scene, layout, row, *place, step * x, line);
+    }
+}
+
+/// Puts the samples of all places.
+fn put_all(
+    scene: &Scene,
+    layout: Layout,
+    first: Option<u32>,
+    row: &[u16],
+    places: &[u32],
+    line: &mut [u8],
+)
+    requires packing { layout.packing ≡ packing_of scene.now.depth }
+    requires run { IfSome first (λ f. (x : ℕ) → x < length places.now → slice_index places.now x ≡ f + x) }
+    requires places { (x : ℕ) → x < length places.now → 3 * slice_index places.now x + 2 < length row.now }
+    requires few { length places.now ≤ 65536 }
+    requires room { end_of layout.packing (channels_within layout.format * length places.now) ≤ length line.old }
+    ensures here { (x k : ℕ) → x < length places.now → k < channels_within layout.format → HasSample layout.packing layout.order line.new (channels_within layout.format * x + k) (value_in scene.now row.now (slice_index places.now x) (channel_in layout.format k)) }
+    ensures behind { (j : ℕ) → end_of layout.packing (channels_within layout.format * length places.now) ≤ j → slice_index line.new j ≡ slice_index line.old j }
+{
+    match (layout.packing, layout.format, scene.mode) {
+        (Packing::Words, FrameFormat::Rgb, Mode::Color) => {
+            put_row_words(layout, first, row, places, line)
+        }
+        _ => put_each(scene, layout, row, places, line),
     }
 }
 
@@ -433,6 +520,53 @@ fn packed_run(
     byte
 }
 
+/// The bit of a column in gray, of such a row, where the gamma table leaves each byte as it is.
+#[tactic(auto, using(crate::proofs::Grays::gray_of_even), unfolding(crate::specs::Samples::bit_in))]
+fn same_bit(scene: &Scene, row: &[u16], first: usize, places: &[u32], channel: u32, x: usize) -> u8
+    requires depth { packing_of scene.now.depth ≡ Packing.Bits }
+    requires gray { scene.now.mode ≡ Mode.Gray }
+    requires same { IsSame scene.now.gamma }
+    requires even { IsGrayRow row.now }
+    requires run { (x : ℕ) → x < length places.now → slice_index places.now x ≡ first + x }
+    requires places { (x : ℕ) → x < length places.now → 3 * slice_index places.now x + 2 < length row.now }
+    requires inside { x < length places.now }
+    ensures value { result ≡ bit_in scene.now row.now places.now channel x }
+    ensures limit { result ≤ 1 }
+{
+    if row[3 * (first + x)] / 256 < 128 {
+        1
+    } else {
+        0
+    }
+}
+
+/// The byte of eight such columns, the leftmost as its most significant bit.
+#[tactic(auto, unfolding(crate::specs::Samples::bits_in))]
+fn packed_same(
+    scene: &Scene,
+    row: &[u16],
+    first: usize,
+    places: &[u32],
+    channel: u32,
+    b: usize,
+) -> u8
+    requires depth { packing_of scene.now.depth ≡ Packing.Bits }
+    requires gray { scene.now.mode ≡ Mode.Gray }
+    requires same { IsSame scene.now.gamma }
+    requires even { IsGrayRow row.now }
+    requires run { (x : ℕ) → x < length places.now → slice_index places.now x ≡ first + x }
+    requires places { (x : ℕ) → x < length places.now → 3 * slice_index places.now x + 2 < length row.now }
+    requires few { b ≤ 65536 }
+    requires inside { 8 * b + 8 ≤ length places.now }
+    ensures { result ≡ bits_in scene.now row.now places.now channel b }
+{
+    let mut byte = 0u8;
+    for j in 0..8 {
+        byte = 2 * byte + same_bit(scene, row, first, places, channel, 8 * b + j);
+    }
+    byte
+}
+
 /// Puts the bits of all such places, and zeros behind them.
 fn put_run_bits(
     scene: &Scene,
@@ -452,11 +586,14 @@ fn put_run_bits(
     ensures { (b : ℕ) → b < length line.old → slice_index line.new b ≡ bits_in scene.now row.now places.now channel b }
 {
     let whole = places.len() / 8;
+    let same = is_same(&scene.gamma);
     for b in 0..line.len() {
-        line[b] = if b < whole {
-            packed_run(scene, row, first, places, channel, b)
-        } else {
+        line[b] = if b >= whole {
             packed(scene, row, places, channel, b)
+        } else if same {
+            packed_same(scene, row, first, places, channel, b)
+        } else {
+            packed_run(scene, row, first, places, channel, b)
         };
     }
 }
@@ -532,6 +669,6 @@ pub fn make_line(
                 }
             }
         }
-        Packing::Words => put_all(&setup.scene, layout, row, places, line),
+        Packing::Words => put_all(&setup.scene, layout, columns.run(), row, places, line),
     }
 }

@@ -3,7 +3,7 @@ use Rattle.std.specs.Prelude.{slice_index}
 use Rattle.page_picture.specs.Shows.{channels_within}
 use Rattle.scan_frames.specs.Frames.{channel_in}
 use Rattle.scan_frames.specs.Samples.{HasSample, end_of, value_in}
-use Rattle.scan_frames.proofs.line.put_all.Given as goal
+use Rattle.scan_frames.proofs.line.put_each.Given as goal
 
 abbrev pub invariant-loop-x : goal.invariant-loop-x
 invariant-loop-x l =

@@ -1,0 +1,9 @@
+use Rattle.std.proofs.Common.{◌≡◌, ℕ, ◌<◌, ◌≤◌, ◌+◌, ◌*◌, ◌/◌}
+use Rattle.std.specs.Prelude.{slice_index}
+use Rattle.scan_frames.proofs.line.put_run_upper.Given as goal
+
+abbrev pub invariant-loop-x : goal.invariant-loop-x
+invariant-loop-x l = record {
+  here : (i : ℕ) → i < l.x → slice_index l.line i ≡ slice_index l.fn.row (3 * slice_index l.fn.places i + l.fn.k) / 256;
+  behind : (j : ℕ) → l.x ≤ j → slice_index l.line j ≡ slice_index l.fn.line j;
+}
