@@ -14,6 +14,7 @@ mod jobs;
 mod losses;
 mod memory;
 mod noise;
+mod plain;
 mod refusals;
 mod sharing;
 

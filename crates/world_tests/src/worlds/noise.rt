@@ -1,6 +1,7 @@
 //! Events of all kinds at random, with what must hold behind each.
 
 use super::losses::{COLORS, PASSES, THREE_PASS, WHOLE};
+use super::plain::{Aim, Deed, Party, Place, deed_of, event_of};
 use super::sharing::{BLACK, BLACK_FILE, ONE, TWO};
 use super::*;
 
@@ -61,128 +62,162 @@ fn all_told(rt: &impl Abort, world: &World) -> [Told; JOBS] {
     all
 }
 
-/// What an event is to the job that it is of.
-#[derive(Clone, Copy, PartialEq, Eq)]
-enum Kind {
-    /// One of its moves, which can be made.
-    Move,
-    Cancel,
-    Loss,
-    Other,
-}
-
-/// An event of a job, most often its next move.
-fn some_event(world: &World, dice: &mut Dice, i: usize) -> (Kind, Event) {
-    let size = dice.below(80) as usize;
-    match dice.below(600) {
-        0 => (Kind::Loss, Event::LoseControl(i)),
-        1 => (Kind::Loss, Event::LoseImage(i)),
-        2 => (Kind::Cancel, Event::Cancel(i)),
-        3..=9 => (Kind::Other, Event::ToDaemon(i, size)),
-        10..=19 => (Kind::Other, Event::ToClient(i, size)),
-        20..=29 => (Kind::Other, Event::DataToClient(i, size)),
-        30..=39 => (Kind::Other, Event::DataTurn(i)),
-        40..=49 => (Kind::Other, Event::DataConnect(i)),
-        _ => match world.next_move(i) {
-            Some(event) => (Kind::Move, within(event, size.saturating_add(1))),
-            None => (Kind::Other, Event::Connect(i)),
+/// Something that may happen to a job, most often its next move.
+fn some_deed(world: &World, dice: &mut Dice, i: usize) -> Deed {
+    let size = dice.below(300) as usize;
+    match dice.below(2_000) {
+        0 => Deed::LoseControl,
+        1 => Deed::LoseImage,
+        2 => Deed::Cancel,
+        3..=49 => Deed::ToDaemon(size),
+        50..=99 => Deed::ToClient(size),
+        100..=149 => Deed::DataToClient(size),
+        150..=199 => Deed::DataTurn,
+        200..=249 => Deed::DataConnect,
+        _ => match next_deed(world, i) {
+            Some(Deed::ToDaemon(_)) => Deed::ToDaemon(size.saturating_add(1)),
+            Some(Deed::ToClient(_)) => Deed::ToClient(size.saturating_add(1)),
+            Some(Deed::DataToClient(_)) => Deed::DataToClient(size.saturating_add(1)),
+            Some(deed) => deed,
+            None => Deed::Connect,
         },
     }
 }
 
-/// What was done to each job while it ran, and whether a device was taken out.
-#[derive(Clone, Copy)]
-struct Met {
-    cancelled: [bool; JOBS],
-    lost: [bool; JOBS],
+fn next_deed(world: &World, i: usize) -> Option<Deed> {
+    match world.next_move(i) {
+        Some(event) => deed_of(event),
+        None => None,
+    }
 }
 
-/// An event of some job: no other job is touched, what is over stays as it is, a move takes one of the job's moves, and a
-/// job that is given up ends so.
-fn one_event(rt: &impl Abort, alloc: Global, world: &mut World, dice: &mut Dice, met: &mut Met) {
-    let i = dice.below(JOBS as u64) as usize;
+/// What stands by the rules: the devices, and the jobs.
+#[derive(Clone, Copy)]
+struct Plain {
+    places: [Place; 3],
+    parties: [Party; JOBS],
+}
+
+impl Plain {
+    /// So job i and its device stand now.
+    fn stand(&mut self, i: usize, party: Party, place: Place) {
+        if let Some(it) = self.parties.get_mut(i) {
+            *it = party;
+        }
+        if let Some(it) = self.places.get_mut(party.aim.place) {
+            *it = place;
+        }
+    }
+}
+
+/// It is done to job i of a world, and by the rules: it happens just where the rules let it, and then both stand alike. No
+/// other job is touched, and what is over stays as it is.
+fn follow(
+    rt: &impl Abort,
+    alloc: Global,
+    world: &mut World,
+    plain: &mut Plain,
+    i: usize,
+    deed: Deed,
+) {
     let before = all_told(rt, world);
-    let (kind, event) = some_event(world, dice, i);
-    happens(rt, alloc, world, event);
+    let mut party = *plain.parties.get(i).expect(rt, "a job");
+    let mut place = *plain.places.get(party.aim.place).expect(rt, "a device");
+    let can = party.can(deed);
+    happens(rt, alloc, world, event_of(i, deed));
+    if can {
+        let goes_on = matches!(next_deed(world, i), Some(Deed::ToClient(_)));
+        party.goes(i, &mut place, deed, !goes_on);
+        plain.stand(i, party, place);
+    }
+    assert!(rt; how(rt, world, i) == party.over);
+    assert!(rt; next_deed(world, i) == party.next());
+    assert!(rt; world.finished(i) as usize == party.finished);
     for (j, old) in before.iter().enumerate() {
         let new = told_of(rt, world, j);
         assert!(rt; (new.moves == 0) == (new.over != Over::Running));
-        if j != i || old.over != Over::Running {
+        if j != i || old.over != Over::Running || !can {
             assert!(rt; new == *old);
-        } else {
-            assert!(rt; new.moves <= old.moves);
-            assert!(rt; kind != Kind::Move || new.moves < old.moves);
-            assert!(rt; kind != Kind::Cancel || new.over == CANCELLED);
+        } else if new.over == Over::Running {
+            assert!(rt; new.moves == old.moves.saturating_sub(1));
         }
     }
-    mark(met, kind, i);
 }
 
-fn mark(met: &mut Met, kind: Kind, i: usize) {
-    let list = match kind {
-        Kind::Cancel => &mut met.cancelled,
-        Kind::Loss => &mut met.lost,
-        Kind::Move | Kind::Other => return,
-    };
-    if let Some(it) = list.get_mut(i) {
-        *it = true;
-    }
-}
-
-const CANCELLED: Over = Over::Ended(Status::Cancelled, Why::Cancelled);
-
-/// How a job may have ended, where it was done these things to.
-fn has_cause(over: Over, cancelled: bool, lost: bool) -> bool {
-    match over {
-        Over::Running => false,
-        Over::Done => true,
-        Over::Ended(Status::Cancelled, Why::Cancelled) => cancelled,
-        Over::Ended(Status::IoError, Why::Lost) => lost,
-        Over::Ended(Status::DeviceBusy | Status::Inval | Status::NoDocs, Why::Answer) => true,
-        Over::Ended(_, _) => false,
-    }
-}
-
-/// The files of the pages that lie in the devices or are laid into them.
-const FILES: [&[u8]; 4] = [WHOLE, BLACK_FILE, ONE, TWO];
-
-/// A job that is done left a file of a page, each finished page of a batch is one, and another job has no whole file.
-fn expect_files(rt: &impl Abort, alloc: Global, world: &World, i: usize) {
-    let file = world.file(i);
-    if how(rt, world, i) == Over::Done && i != BATCH {
-        assert!(rt; FILES.contains(&file.expect(rt, "a file")));
+/// A job that is done left the file of the page of its start, each finished page of a batch is one, and another job has no
+/// whole file.
+fn expect_files(rt: &impl Abort, alloc: Global, world: &World, party: &Party, i: usize) {
+    if party.over == Over::Done && i != BATCH {
+        assert!(rt; world.file(i) == Some(party.begun));
     } else {
+        let file = world.file(i);
         assert!(rt; file.is_some() && !is_whole(alloc, file));
     }
-    for k in 1..=world.finished(i) {
-        assert!(rt; FILES.contains(&world.file_at(i, k).expect(rt, "a page")));
+    for (k, page) in (1u32..).zip(&party.pages) {
+        if (k as usize) <= party.finished {
+            assert!(rt; world.file_at(i, k) == Some(*page));
+        }
     }
 }
 
-/// Random events, with a page laid in now and then; then all jobs run to their ends.
+/// Next moves of all jobs by turns, until none has one.
+fn run_out(rt: &impl Abort, alloc: Global, world: &mut World, plain: &mut Plain) {
+    for _ in 0..EVERY {
+        let mut goes_on = false;
+        for i in 0..JOBS {
+            if let Some(deed) = next_deed(world, i) {
+                follow(rt, alloc, world, plain, i, deed);
+                goes_on = true;
+            }
+        }
+        if !goes_on {
+            return;
+        }
+    }
+}
+
+/// The devices that pages are laid into, and the pages with the files that they mean.
+const LAID: [(&[u8], [(&[u8], &[u8]); 2]); 2] = [
+    (b"threepass:0", [(BLACK, BLACK_FILE), (COLORS, WHOLE)]),
+    (
+        b"flatbed:0",
+        [(b"P5\n1 1\n255\n\x01", ONE), (b"P5\n1 1\n255\n\x02", TWO)],
+    ),
+];
+
+/// A page is laid into a device, or now and then the device is taken out.
+fn shift(rt: &impl Abort, alloc: Global, world: &mut World, plain: &mut Plain, dice: &mut Dice) {
+    let d = dice.below(2) as usize;
+    let (name, pages) = *LAID.get(d).expect(rt, "a device");
+    let place = plain.places.get_mut(d).expect(rt, "a device");
+    let name = text(rt, alloc, name);
+    if dice.below(16) == 0 {
+        happens(rt, alloc, world, Event::Unplug(name));
+        place.unplug();
+        return;
+    }
+    let (page, file) = *pages.get(dice.below(2) as usize).expect(rt, "a page");
+    let page = source(rt, alloc, page, 26);
+    happens(rt, alloc, world, Event::Load(name, page));
+    place.load(file);
+}
+
+/// Random events; then all jobs run to their ends.
 pub fn noise(rt: &impl Abort, alloc: Global, world: &mut World, seed: u64) {
     let mut dice = Dice { seed };
-    let mut met = Met {
-        cancelled: [false; JOBS],
-        lost: [false; JOBS],
-    };
+    let mut plain = plain_world();
     for k in 0..EVENTS {
-        if k % 100 == 99 {
-            let page = if dice.below(2) == 0 { BLACK } else { COLORS };
-            let name = text(rt, alloc, b"threepass:0");
-            happens(
-                rt,
-                alloc,
-                world,
-                Event::Load(name, source(rt, alloc, page, 26)),
-            );
+        if k % 50 == 49 {
+            shift(rt, alloc, world, &mut plain, &mut dice);
         }
-        one_event(rt, alloc, world, &mut dice, &mut met);
+        let i = dice.below(JOBS as u64) as usize;
+        let deed = some_deed(world, &mut dice, i);
+        follow(rt, alloc, world, &mut plain, i, deed);
     }
-    world.run_all();
-    for (i, (cancelled, lost)) in met.cancelled.iter().zip(&met.lost).enumerate() {
-        assert!(rt; has_cause(how(rt, world, i), *cancelled, *lost));
-        expect_files(rt, alloc, world, i);
+    run_out(rt, alloc, world, &mut plain);
+    for (i, party) in plain.parties.iter().enumerate() {
+        assert!(rt; party.over != Over::Running);
+        expect_files(rt, alloc, world, party, i);
     }
 }
 
@@ -195,6 +230,53 @@ const fn scan<'a>(device: &'a [u8], settings: &'a [(&'a [u8], &'a [u8])], task: 
         device,
         settings,
         task,
+    }
+}
+
+/// A word's SET has 32 bytes, and that of a text 28 and the text with its NUL. The mode of a scanner in three passes tells
+/// whether there is an order of them, and the depth whether there is a gamma table.
+const PASSED: Aim = Aim {
+    place: 0,
+    open: 20,
+    sets: &[
+        (34, true),
+        (32, true),
+        (32, false),
+        (32, false),
+        (32, false),
+        (32, false),
+    ],
+    is_batch: false,
+};
+
+const DOTS: &[(usize, bool)] = &[(32, false), (32, false), (32, false)];
+
+const FLAT: Aim = Aim {
+    place: 1,
+    open: 18,
+    sets: DOTS,
+    is_batch: false,
+};
+
+const fn fed(is_batch: bool) -> Aim {
+    Aim {
+        place: 2,
+        open: 17,
+        sets: DOTS,
+        is_batch,
+    }
+}
+
+fn plain_world() -> Plain {
+    let (passed, flat) = (Party::new(PASSED), Party::new(FLAT));
+    let (batch, scan) = (Party::new(fed(true)), Party::new(fed(false)));
+    Plain {
+        places: [
+            Place::new(3, 4, [Some(WHOLE), None]),
+            Place::new(1, 1, [Some(ONE), None]),
+            Place::feeder(1, [Some(ONE), Some(TWO)]),
+        ],
+        parties: [passed, passed, passed, flat, flat, flat, batch, scan],
     }
 }
 

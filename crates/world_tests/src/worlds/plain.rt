@@ -1,0 +1,543 @@
+//! What stands by the rules, at the level of messages: computed beside a world from the events alone.
+//!
+//! Of the bytes it knows how long each request, each record and each frame is. How long a reply is it does not know, and is told
+//! when one is whole.
+
+use super::*;
+
+/// A request, by its procedure.
+#[derive(Clone, Copy, PartialEq, Eq)]
+enum Ask {
+    Init,
+    Open,
+    Describe,
+    Set,
+    Start,
+    Parameters,
+    Cancel,
+    Close,
+    Exit,
+}
+
+/// What the client of a job waits for.
+#[derive(Clone, Copy, PartialEq, Eq)]
+enum Stage {
+    Greeting,
+    Opening,
+    Describing,
+    Putting,
+    Starting,
+    Shaping,
+    Imaging { opened: bool },
+    Over,
+}
+
+/// The frame of a session.
+#[derive(Clone, Copy, PartialEq, Eq)]
+enum Carriage {
+    Quiet,
+    Waiting,
+    Streaming,
+    Ending,
+}
+
+#[derive(Clone, Copy, PartialEq, Eq)]
+enum Phase {
+    Resting,
+    /// So many passes of the page are over.
+    Between(u32),
+    /// Behind so many passes another is read, whose one line was given or not.
+    Reading(u32, bool),
+}
+
+/// What may happen to a job.
+#[derive(Clone, Copy, PartialEq, Eq)]
+pub enum Deed {
+    Connect,
+    ToDaemon(usize),
+    ToClient(usize),
+    DataConnect,
+    DataTurn,
+    DataToClient(usize),
+    LoseControl,
+    LoseImage,
+    Cancel,
+}
+
+pub fn event_of(i: usize, deed: Deed) -> Event {
+    match deed {
+        Deed::Connect => Event::Connect(i),
+        Deed::ToDaemon(n) => Event::ToDaemon(i, n),
+        Deed::ToClient(n) => Event::ToClient(i, n),
+        Deed::DataConnect => Event::DataConnect(i),
+        Deed::DataTurn => Event::DataTurn(i),
+        Deed::DataToClient(n) => Event::DataToClient(i, n),
+        Deed::LoseControl => Event::LoseControl(i),
+        Deed::LoseImage => Event::LoseImage(i),
+        Deed::Cancel => Event::Cancel(i),
+    }
+}
+
+/// What an event of a job is.
+pub fn deed_of(event: Event) -> Option<Deed> {
+    match event {
+        Event::Connect(_) => Some(Deed::Connect),
+        Event::ToDaemon(_, n) => Some(Deed::ToDaemon(n)),
+        Event::ToClient(_, n) => Some(Deed::ToClient(n)),
+        Event::DataConnect(_) => Some(Deed::DataConnect),
+        Event::DataTurn(_) => Some(Deed::DataTurn),
+        Event::DataToClient(_, n) => Some(Deed::DataToClient(n)),
+        Event::LoseControl(_) => Some(Deed::LoseControl),
+        Event::LoseImage(_) => Some(Deed::LoseImage),
+        Event::Cancel(_) => Some(Deed::Cancel),
+        Event::Load(_, _) | Event::Unplug(_) => None,
+    }
+}
+
+/// A device among its users. A page is told by the file that a scan of it leaves.
+#[derive(Clone, Copy)]
+pub struct Place {
+    passes: u32,
+    /// The bytes of its one line in a pass.
+    line: usize,
+    is_feeder: bool,
+    tray: [Option<&'static [u8]>; 2],
+    listed: bool,
+    holder: Option<usize>,
+    phase: Phase,
+}
+
+impl Place {
+    pub const fn new(passes: u32, line: usize, tray: [Option<&'static [u8]>; 2]) -> Place {
+        Place {
+            passes,
+            line,
+            is_feeder: false,
+            tray,
+            listed: true,
+            holder: None,
+            phase: Phase::Resting,
+        }
+    }
+
+    /// A feeder with these pages in its tray.
+    pub const fn feeder(line: usize, tray: [Option<&'static [u8]>; 2]) -> Place {
+        let mut place = Place::new(1, line, tray);
+        place.is_feeder = true;
+        place
+    }
+
+    /// A page is laid in where the device is listed and at rest.
+    pub fn load(&mut self, page: &'static [u8]) {
+        if self.listed && self.phase == Phase::Resting {
+            self.tray = [Some(page), None];
+        }
+    }
+
+    /// The device is taken out where nobody holds it.
+    pub fn unplug(&mut self) {
+        if self.holder.is_none() {
+            self.listed = false;
+        }
+    }
+
+    /// OPEN: the device is handed out where it is listed and nobody has it.
+    fn open(&mut self, i: usize) -> Status {
+        if !self.listed {
+            return Status::Inval;
+        }
+        if self.holder.is_some() {
+            return Status::DeviceBusy;
+        }
+        self.holder = Some(i);
+        Status::Good
+    }
+
+    fn put_back(&mut self, i: usize) {
+        if self.holder == Some(i) {
+            self.holder = None;
+            self.phase = Phase::Resting;
+        }
+    }
+
+    /// The page that a start at rest takes.
+    fn take(&mut self) -> Option<&'static [u8]> {
+        let [page, next] = self.tray;
+        if self.is_feeder {
+            self.tray = [next, None];
+        }
+        page
+    }
+}
+
+/// What a job asks for, and how many bytes its requests have.
+#[derive(Clone, Copy)]
+pub struct Aim {
+    pub place: usize,
+    pub open: usize,
+    /// The bytes of each SET, and whether it changes descriptors.
+    pub sets: &'static [(usize, bool)],
+    pub is_batch: bool,
+}
+
+/// A job.
+#[derive(Clone, Copy)]
+pub struct Party {
+    pub aim: Aim,
+    pub over: Over,
+    stage: Stage,
+    put: usize,
+    was_connected: bool,
+    linked: bool,
+    served: bool,
+    /// The requests that are not whole at the daemon, and how many bytes of the first are there.
+    out: [Option<Ask>; 4],
+    came: usize,
+    /// The status of the reply that is not heard.
+    due: Option<Status>,
+    carriage: Carriage,
+    image: bool,
+    flight: usize,
+    is_last: bool,
+    frames: u32,
+    /// The file of the page that was started at rest.
+    pub begun: &'static [u8],
+    pub pages: [&'static [u8]; 2],
+    pub finished: usize,
+}
+
+impl Party {
+    pub const fn new(aim: Aim) -> Party {
+        Party {
+            aim,
+            over: Over::Running,
+            stage: Stage::Greeting,
+            put: 0,
+            was_connected: false,
+            linked: false,
+            served: false,
+            out: [Some(Ask::Init), None, None, None],
+            came: 0,
+            due: None,
+            carriage: Carriage::Quiet,
+            image: false,
+            flight: 0,
+            is_last: false,
+            frames: 0,
+            begun: b"",
+            pages: [b"", b""],
+            finished: 0,
+        }
+    }
+
+    // ---- what can happen
+
+    fn is_running(&self) -> bool {
+        self.over == Over::Running
+    }
+
+    pub fn can(&self, deed: Deed) -> bool {
+        match deed {
+            Deed::Connect => self.is_running() && !self.was_connected,
+            Deed::ToDaemon(n) => self.linked && !matches!(self.out, [None, ..]) && n > 0,
+            Deed::ToClient(n) => self.linked && self.due.is_some() && n > 0,
+            Deed::DataConnect => {
+                self.stage == Stage::Imaging { opened: false } && self.carriage == Carriage::Waiting
+            }
+            Deed::DataTurn => {
+                self.image && matches!(self.carriage, Carriage::Streaming | Carriage::Ending)
+            }
+            Deed::DataToClient(n) => self.image && self.flight > 0 && n > 0,
+            Deed::LoseControl => self.linked,
+            Deed::LoseImage => self.image,
+            Deed::Cancel => self.is_running(),
+        }
+    }
+
+    /// The next move of a job: the first that can happen.
+    pub fn next(&self) -> Option<Deed> {
+        let moves = [
+            Deed::Connect,
+            Deed::ToDaemon(4096),
+            Deed::ToClient(4096),
+            Deed::DataConnect,
+            Deed::DataToClient(4096),
+            Deed::DataTurn,
+        ];
+        for deed in moves {
+            if self.is_running() && self.can(deed) {
+                return Some(deed);
+            }
+        }
+        None
+    }
+
+    // ---- what a client does
+
+    fn say(&mut self, ask: Ask) {
+        for slot in self.out.iter_mut() {
+            if slot.is_none() {
+                *slot = Some(ask);
+                return;
+            }
+        }
+    }
+
+    fn asks(&mut self, ask: Ask, stage: Stage) {
+        self.say(ask);
+        self.stage = stage;
+    }
+
+    fn ends(&mut self, over: Over) {
+        self.over = over;
+        self.stage = Stage::Over;
+    }
+
+    fn is_done(&mut self) {
+        self.say(Ask::Close);
+        self.say(Ask::Exit);
+        self.ends(Over::Done);
+    }
+
+    fn puts_on(&mut self) {
+        if self.put < self.aim.sets.len() {
+            self.asks(Ask::Set, Stage::Putting);
+        } else {
+            self.asks(Ask::Start, Stage::Starting);
+        }
+    }
+
+    fn is_put(&mut self) {
+        let reloads = matches!(self.aim.sets.get(self.put), Some((_, true)));
+        self.put = self.put.saturating_add(1);
+        if reloads {
+            self.asks(Ask::Describe, Stage::Describing);
+        } else {
+            self.puts_on();
+        }
+    }
+
+    /// A reply is whole.
+    fn hears(&mut self, status: Status) {
+        if !self.is_running() {
+            return;
+        }
+        if status != Status::Good {
+            if status == Status::NoDocs && self.finished > 0 && self.frames == 0 {
+                self.is_done();
+            } else {
+                self.ends(Over::Ended(status, Why::Answer));
+            }
+            return;
+        }
+        match self.stage {
+            Stage::Greeting => self.asks(Ask::Open, Stage::Opening),
+            Stage::Opening => self.asks(Ask::Describe, Stage::Describing),
+            Stage::Describing => self.puts_on(),
+            Stage::Putting => self.is_put(),
+            Stage::Starting => self.asks(Ask::Parameters, Stage::Shaping),
+            Stage::Shaping => self.stage = Stage::Imaging { opened: false },
+            Stage::Imaging { .. } | Stage::Over => {}
+        }
+    }
+
+    /// The end record of a frame is whole.
+    fn sees_end(&mut self, passes: u32) {
+        self.frames = self.frames.saturating_add(1);
+        if self.frames < passes {
+            self.asks(Ask::Start, Stage::Starting);
+        } else if self.aim.is_batch {
+            let (k, begun) = (self.finished, self.begun);
+            if let Some(page) = self.pages.get_mut(k) {
+                *page = begun;
+            }
+            self.finished = self.finished.saturating_add(1);
+            self.frames = 0;
+            self.asks(Ask::Start, Stage::Starting);
+        } else {
+            self.is_done();
+        }
+    }
+
+    fn gives_up(&mut self) {
+        if matches!(self.stage, Stage::Shaping | Stage::Imaging { .. }) {
+            self.say(Ask::Cancel);
+        }
+        self.say(Ask::Exit);
+        self.ends(Over::Ended(Status::Cancelled, Why::Cancelled));
+    }
+
+    fn is_lost(&mut self) {
+        if self.is_running() {
+            self.ends(Over::Ended(Status::IoError, Why::Lost));
+        }
+    }
+
+    // ---- what the daemon does
+
+    fn size(&self, ask: Ask) -> usize {
+        match ask {
+            Ask::Init => 17,
+            Ask::Open => self.aim.open,
+            Ask::Set => match self.aim.sets.get(self.put) {
+                Some((size, _)) => *size,
+                None => 0,
+            },
+            Ask::Describe | Ask::Start | Ask::Parameters | Ask::Cancel | Ask::Close => 8,
+            Ask::Exit => 4,
+        }
+    }
+
+    /// So many bytes come to the daemon, which answers what is whole.
+    fn delivers(&mut self, i: usize, place: &mut Place, n: usize) {
+        let mut left = n.min(4096);
+        for _ in 0..4 {
+            let [Some(ask), second, third, fourth] = self.out else {
+                return;
+            };
+            let wants = self.size(ask).saturating_sub(self.came);
+            if left < wants {
+                self.came = self.came.saturating_add(left);
+                return;
+            }
+            left = left.saturating_sub(wants);
+            self.came = 0;
+            self.out = [second, third, fourth, None];
+            if self.served {
+                self.is_answered(i, place, ask);
+            }
+        }
+    }
+
+    fn is_answered(&mut self, i: usize, place: &mut Place, ask: Ask) {
+        self.due = match ask {
+            Ask::Open => Some(place.open(i)),
+            Ask::Start => Some(self.is_started(place)),
+            Ask::Init | Ask::Describe | Ask::Set | Ask::Parameters => Some(Status::Good),
+            Ask::Cancel => {
+                if place.holder == Some(i) {
+                    place.phase = Phase::Resting;
+                }
+                self.cut_off();
+                Some(Status::Good)
+            }
+            Ask::Close => {
+                place.put_back(i);
+                self.cut_off();
+                Some(Status::Good)
+            }
+            Ask::Exit => {
+                place.put_back(i);
+                self.served = false;
+                self.carriage = Carriage::Quiet;
+                self.due
+            }
+        };
+    }
+
+    fn cut_off(&mut self) {
+        self.carriage = match self.carriage {
+            Carriage::Quiet | Carriage::Waiting => Carriage::Quiet,
+            Carriage::Streaming | Carriage::Ending => Carriage::Ending,
+        };
+    }
+
+    fn is_started(&mut self, place: &mut Place) -> Status {
+        if self.carriage != Carriage::Quiet {
+            return Status::DeviceBusy;
+        }
+        match place.phase {
+            Phase::Resting => match place.take() {
+                Some(page) => self.begun = page,
+                None => return Status::NoDocs,
+            },
+            Phase::Between(_) => {}
+            Phase::Reading(_, _) => return Status::DeviceBusy,
+        }
+        place.phase = match place.phase {
+            Phase::Between(over) => Phase::Reading(over, false),
+            Phase::Resting | Phase::Reading(_, _) => Phase::Reading(0, false),
+        };
+        self.carriage = Carriage::Waiting;
+        Status::Good
+    }
+
+    /// A turn of the data connection: the line of the frame, or its end.
+    fn turns(&mut self, place: &mut Place) {
+        if let (Carriage::Streaming, Phase::Reading(over, false)) = (self.carriage, place.phase) {
+            place.phase = Phase::Reading(over, true);
+            self.flight = self.flight.saturating_add(4).saturating_add(place.line);
+            return;
+        }
+        if let (Carriage::Streaming, Phase::Reading(over, true)) = (self.carriage, place.phase) {
+            let over = over.saturating_add(1);
+            place.phase = if over < place.passes {
+                Phase::Between(over)
+            } else {
+                Phase::Resting
+            };
+        }
+        self.flight = self.flight.saturating_add(5);
+        self.is_last = true;
+        self.carriage = Carriage::Quiet;
+    }
+
+    // ---- what happens
+
+    fn is_shown(&mut self, passes: u32, n: usize) {
+        self.flight = self.flight.saturating_sub(n.min(4096));
+        if self.is_last && self.flight == 0 {
+            self.image = false;
+            if self.is_running() {
+                self.sees_end(passes);
+            }
+        }
+    }
+
+    fn loses_image(&mut self, i: usize, place: &mut Place) {
+        self.image = false;
+        if matches!(self.stage, Stage::Imaging { .. }) {
+            self.is_lost();
+        }
+        if self.carriage == Carriage::Streaming && place.holder == Some(i) {
+            place.phase = Phase::Resting;
+        }
+        self.carriage = Carriage::Quiet;
+    }
+
+    /// It happens to job i, which can, and where a reply came, whether it is whole.
+    pub fn goes(&mut self, i: usize, place: &mut Place, deed: Deed, is_whole: bool) {
+        match deed {
+            Deed::Connect => {
+                self.was_connected = true;
+                self.linked = true;
+                self.served = true;
+            }
+            Deed::ToDaemon(n) => self.delivers(i, place, n),
+            Deed::ToClient(_) => {
+                if let (Some(status), true) = (self.due, is_whole) {
+                    self.due = None;
+                    self.hears(status);
+                }
+            }
+            Deed::DataConnect => {
+                self.stage = Stage::Imaging { opened: true };
+                self.image = true;
+                self.flight = 0;
+                self.is_last = false;
+                self.carriage = Carriage::Streaming;
+            }
+            Deed::DataTurn => self.turns(place),
+            Deed::DataToClient(n) => self.is_shown(place.passes, n),
+            Deed::LoseControl => {
+                place.put_back(i);
+                self.is_lost();
+                self.linked = false;
+                self.served = false;
+                self.image = false;
+            }
+            Deed::LoseImage => self.loses_image(i, place),
+            Deed::Cancel => self.gives_up(),
+        }
+    }
+}
