@@ -1,5 +1,5 @@
 -- What a device is to its callers, and what each call does to it.
-use Rattle.std.specs.Prelude.{ℕ, ◌+◌, ◌-◌, ◌<◌, ◌≤◌, ◌≡◌, nat_lt, ◌==◌, ◌&&◌, ◌||◌, not, Bool, true, false, if◌then◌else◌, Option, Some, None, Result, Ok, Err, List, [], ◌∷◌, ◌++◌, take, drop, length}
+use Rattle.std.specs.Prelude.{ℕ, ◌+◌, ◌-◌, ◌<◌, ◌≤◌, ◌≡◌, nat_lt, ◌==◌, ◌&&◌, ◌||◌, not, Bool, true, false, if◌then◌else◌, Option, Some, None, Result, Ok, Err, List, [], ◌∷◌, ◌++◌, take, drop, min, length}
 use Rattle.sane_fixed.specs.declared.info.Info.{Info}
 use Rattle.sane_fixed.specs.declared.params.Params.{Params}
 use Rattle.sane_fixed.specs.declared.status.Status.{Status}
@@ -230,8 +230,10 @@ abbrev pub after_told : Setup → ℕ → Status → Phase
 after_told setup pass Eof = after_pass setup pass
 after_told setup pass _ = AtRest false
 
--- n bytes were written: those of the pass that follow the ones given before
+-- n bytes were written: those of the pass that follow the ones given before, all that are left, but no more than the buffer
+-- holds, nor than one read gives
 pub record GivesBytes (old : DeviceState) (pass given n : ℕ) (new : DeviceState) (buf : List ℕ) : Type 0 where
+  pub count : n ≡ min (pass_length old.setup (page_of old) pass - given) (min (length buf) old.setup.limit)
   pub some : 0 < n
   pub room : n ≤ length buf
   pub limit : n ≤ old.setup.limit

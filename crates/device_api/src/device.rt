@@ -62,10 +62,11 @@ pub trait Device: Drop {
     fn start(&mut self, alloc: Global) -> Result<(), Status>
         ensures { Starts (state self.old) result (state self.new) };
 
-    /// The next bytes of the frame, at least one. Refuses: `Eof` at the frame's end, after which the
-    /// scanner waits for the next start, or is at rest if it was the last frame; before that `IoError` where the
-    /// page's source failed; what `read-return-value` says; `Cancelled` after a cancelled scan, until the
-    /// next start or reset; and `Inval` where no frame is being read. It takes no memory.
+    /// The next bytes of the frame: all that is left of it, but no more than the buffer holds, nor than the option
+    /// `read-limit-size` says. Refuses: `Eof` at the frame's end, after which the scanner waits for the next start, or
+    /// is at rest if it was the last frame; before that `IoError` where the page's source failed at a row that these
+    /// bytes show; what `read-return-value` says; `Cancelled` after a cancelled scan, until the next start or reset; and
+    /// `Inval` where no frame is being read. It takes no memory.
     fn read(&mut self, buf: &mut [u8]) -> Result<usize, Status>
         requires { 0 < length buf.old }
         ensures reads { Reads (state self.old) result (state self.new) buf.new }

@@ -270,6 +270,7 @@ fn while_a_frame_is_read(rt: HostRuntime) {
         &mut flatbed,
         &[
             Call::Window(1, 2),
+            Call::Set(READ_LIMIT_SIZE, Plain::Int(1)),
             Call::Start(Ok(())),
             Call::Start(Err(Status::DeviceBusy)),
             Call::Refuses(DEPTH, Plain::Int(1), Status::DeviceBusy),
@@ -302,6 +303,7 @@ fn cancel_and_reset(rt: HostRuntime) {
             Call::Window(1, 2),
             Call::Cancel,
             Call::Read(Err(Status::Inval)),
+            Call::Set(READ_LIMIT_SIZE, Plain::Int(1)),
             Call::Start(Ok(())),
             Call::Read(Ok(1)),
             Call::Cancel,
@@ -352,24 +354,25 @@ fn failing(alloc: Global, n: u64) -> Option<Flatbed> {
     flatbed(alloc, Source::Failing(FailingPage::new(page, n)))
 }
 
-/// A scan of two rows makes one rewind and two calls of `next_row`: its third call is the last that can fail.
+/// A scan of two rows makes one rewind and two calls of `next_row`: its third call is the last that can fail. A read that
+/// wants a row which fails gives nothing, also of the lines before it.
 #[test]
 fn a_source_fails_at_each_call(rt: HostRuntime) {
     let refused = Call::Start(Err(Status::IoError));
     let started = Call::Start(Ok(()));
     let rest = Call::AtRest(true);
     let again = Call::Scan(&[7, 9]);
-    let whole = Call::Frame(2, &[7, 9], Status::Eof);
+    let whole = Call::Frame(1, &[7, 9], Status::Eof);
+    let (failed, byte) = (
+        Call::Frame(0, &[], Status::IoError),
+        Call::Set(READ_LIMIT_SIZE, Plain::Int(1)),
+    );
+    let second = Call::Frame(1, &[7], Status::IoError);
     for (n, calls) in [
         (1, [refused, rest, again].as_slice()),
-        (
-            2,
-            &[started, Call::Frame(0, &[], Status::IoError), rest, again],
-        ),
-        (
-            3,
-            &[started, Call::Frame(1, &[7], Status::IoError), rest, again],
-        ),
+        (2, &[started, failed, rest, again]),
+        (3, &[started, failed, rest, again]),
+        (3, &[byte, started, second, rest, again]),
         (4, &[started, whole, rest]),
         (5, &[started, whole, rest]),
     ] {

@@ -160,15 +160,17 @@ fn lost_pixels_are_zero(rt: HostRuntime) {
 }
 
 #[test]
-fn reads_end_with_the_line(rt: HostRuntime) {
-    let nine = flatbed(Mode::Gray, Packing::Bytes, 9, 2);
+fn reads_go_on_over_lines(rt: HostRuntime) {
+    let mut nine = flatbed(Mode::Gray, Packing::Bytes, 9, 2);
     let file =
         b"P5\n9 2\n255\n\x01\x02\x03\x04\x05\x06\x07\x08\x09\x11\x12\x13\x14\x15\x16\x17\x18\x19";
     let bytes = [
         1, 2, 3, 4, 5, 6, 7, 8, 9, 17, 18, 19, 20, 21, 22, 23, 24, 25,
     ];
-    // Seven and two bytes, twice.
-    shows(&rt, rt.alloc(), &nine, (file, 26), &bytes, Some(4));
+    // Seven bytes twice, and four; then four times four, and two.
+    shows(&rt, rt.alloc(), &nine, (file, 26), &bytes, Some(3));
+    nine.limit = 4;
+    shows(&rt, rt.alloc(), &nine, (file, 26), &bytes, Some(5));
 }
 
 #[test]
@@ -286,7 +288,8 @@ fn failing(alloc: Global, n: u64) -> Option<FailingPage> {
     Some(FailingPage::new(page, n))
 }
 
-/// A frame of two lines makes one rewind and two calls of `next_row`, so a third row is never asked for.
+/// A frame of two lines makes one rewind and two calls of `next_row`, so a third row is never asked for. A read that wants
+/// a row which fails gives nothing, also of the lines before it.
 #[test]
 fn a_source_fails_at_each_call(rt: HostRuntime) {
     let alloc = rt.alloc();
@@ -294,7 +297,7 @@ fn a_source_fails_at_each_call(rt: HostRuntime) {
     let whole = ([7, 9].as_slice(), None, Ok(ReadEnd::End));
     for (n, bytes, ended) in [
         (2, [].as_slice(), Ok(ReadEnd::SourceFailed)),
-        (3, &[7], Ok(ReadEnd::SourceFailed)),
+        (3, &[], Ok(ReadEnd::SourceFailed)),
         (1, &[], Err(BeginFault::SourceFailed)),
         (4, &[7, 9], Ok(ReadEnd::End)),
         (5, &[7, 9], Ok(ReadEnd::End)),
@@ -306,6 +309,16 @@ fn a_source_fails_at_each_call(rt: HostRuntime) {
     }
 }
 
+/// Reads of a byte each give the line before a row that fails.
+#[test]
+fn reads_of_a_byte_before_a_row_that_fails(rt: HostRuntime) {
+    let mut two = flatbed(Mode::Gray, Packing::Bytes, 1, 2);
+    two.limit = 1;
+    let mut source = failing(rt.alloc(), 3).expect(&rt, "a page");
+    let first = ([7].as_slice(), None, Ok(ReadEnd::SourceFailed));
+    assert!(rt; is_frame(rt.alloc(), &mut source, &two, 0, first));
+}
+
 /// A window taller than the page is white below it: its frame makes one rewind and takes the two rows that there are, so
 /// no row after the page's last is asked for.
 #[test]
@@ -313,7 +326,7 @@ fn no_row_after_the_last(rt: HostRuntime) {
     let alloc = rt.alloc();
     let tall = flatbed(Mode::Gray, Packing::Bytes, 1, 5);
     for (n, bytes, end, failures) in [
-        (3, [7].as_slice(), ReadEnd::SourceFailed, 1),
+        (3, [].as_slice(), ReadEnd::SourceFailed, 1),
         (4, &[7, 9, 255, 255, 255], ReadEnd::End, 0),
         (5, &[7, 9, 255, 255, 255], ReadEnd::End, 0),
     ] {

@@ -60,14 +60,20 @@ fn column(alloc: Global) -> Result<Vec<u8>, AllocError> {
     Ok(bytes)
 }
 
-/// At depth 1 the ten rows are 324 pixels a line, of which the first is black, by reads of at most so many bytes.
-pub fn expect_column<D: Device>(rt: &impl Abort, alloc: Global, device: &mut D, most: usize) {
+/// At depth 1 the ten rows are 324 pixels a line, of which the first is black, by so many reads of at most so many bytes.
+pub fn expect_column<D: Device>(
+    rt: &impl Abort,
+    alloc: Global,
+    device: &mut D,
+    count: u32,
+    most: usize,
+) {
     let line = told(FrameFormat::Gray, true, 41, 324, None, 1);
     let depth = Call::Set(DEPTH, Plain::Int(1));
     let calls = [depth, Call::Told(line), Call::Start(Ok(()))];
     expect_each(rt, alloc, device, &calls);
     let want = column(alloc).expect(rt, "memory");
-    let is_column = reads(alloc, device, most, 10, &want, Status::Eof);
+    let is_column = reads(alloc, device, most, count, &want, Status::Eof);
     assert!(rt; is_column == Some(true));
     expect_each(rt, alloc, device, &[Call::AtRest(true)]);
 }
@@ -76,5 +82,5 @@ pub fn expect_column<D: Device>(rt: &impl Abort, alloc: Global, device: &mut D, 
 fn one_black_column(rt: HostRuntime) {
     let alloc = rt.alloc();
     let mut hand = hand(alloc, BLACK).expect(&rt, "a scanner");
-    expect_column(&rt, alloc, &mut hand, 41);
+    expect_column(&rt, alloc, &mut hand, 10, 41);
 }

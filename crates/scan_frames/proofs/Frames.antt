@@ -1,6 +1,6 @@
 -- A frame from its beginning to its end.
-use Rattle.std.proofs.Common.{◌≡◌, ℕ, ◌<◌, ◌≤◌, ◌+◌, ◌-◌, ◌*◌, inl, inr, Bool, true, false, List, length, take, drop, arith, refl, sym, ap, ◌∙◌, subst}
-use Rattle.std.specs.Prelude.{min, ◌==◌, ◌&&◌, nat_le}
+use Rattle.std.proofs.Common.{◌≡◌, ℕ, ◌<◌, ◌≤◌, ◌+◌, ◌-◌, ◌*◌, inl, inr, Bool, true, false, List, length, arith, refl, sym, ap, ◌∙◌, subst}
+use Rattle.std.specs.Prelude.{◌==◌, ◌&&◌, nat_le}
 use Rattle.std.proofs.lemmas.Bool.{cases_lt}
 use Rattle.std.proofs.lemmas.Bool.Decides.{nat_tests}
 use Rattle.std.proofs.lemmas.Nat.{mul-le}
@@ -14,11 +14,11 @@ use Rattle.scan_frames.specs.declared.setup.Packing.{Packing}
 use Rattle.scan_frames.specs.declared.setup.Packing.TheVariants.{Bits, Bytes, Words}
 use Rattle.scan_frames.specs.declared.setup.Setup.{Setup}
 use Rattle.scan_frames.specs.Line.{packing_of, line_size}
-use Rattle.scan_frames.specs.Frames.{has_picture, height_of, width_of, format_at, bytes_per_line, line_bytes, payload, pass_length}
+use Rattle.scan_frames.specs.Frames.{has_picture, height_of, width_of, format_at, bytes_per_line, pass_length}
 use Rattle.scan_frames.specs.Samples.{HasZeros, IsZeroFrom}
-use Rattle.scan_frames.specs.Reading.{FrameState, IsFrame, IsCounted, GivesBytes, HasBegun, given_in}
-use Rattle.scan_frames.specs.Buffers.{IsFresh, MakesLine, KeepsCount, HasBytes, GivesLine}
-use Rattle.scan_frames.proofs.Scans.{length-line_bytes, joined_part, mul-split, lines_and_front, left_in_line, left_whole, made_not_given}
+use Rattle.scan_frames.specs.Reading.{FrameState, IsFrame, IsCounted, HasBegun, given_in}
+use Rattle.scan_frames.specs.Buffers.{IsFresh, MakesLine, KeepsCount, HasBytes}
+use Rattle.scan_frames.proofs.Scans.{mul-split, left_in_line, left_whole, made_not_given}
 
 -- ---- a picture has bytes
 
@@ -208,75 +208,3 @@ given_none f is =
           let given : given_in f ≡ 0 = omega arith in
           grind (arith, nat_tests)
     ]
-
--- ---- what is given
-
-pub gives_bytes : (s t : SourceState) (setup : Setup) (old mid new : FrameState) (n : ℕ) (buf : List ℕ) → 1 ≤ setup.limit → 0 < length buf → HasBytes s setup old t mid → GivesLine mid setup.limit n new buf → GivesBytes s setup old n t new buf
-gives_bytes s t setup old mid new n buf limit room has gives =
-    let is = has.frame in
-    let b = bytes_per_line setup mid.pass in
-    let page : t.page ≡ s.page = ap (λ (u : SourceState). u.page) has.source.after in
-    let h = height_of setup s.page in
-    let height : mid.height ≡ h = is.height ∙ ap (height_of setup) page in
-    let size = is.line in
-    let some_left = has.some in
-    let some_made = has.made in
-    let count = gives.count in
-    let some : 0 < n = omega arith in
-    let enough : n ≤ mid.left = omega arith in
-    let fits = is.left in
-    let front : given_in mid ≡ (mid.made - 1) * length mid.line + (length mid.line - mid.left) = lines_and_front mid.made (length mid.line) mid.left some_made fits in
-    let all : mid.made * length mid.line ≤ h * length mid.line = mul-le mid.made (length mid.line) h (length mid.line) (omega (arith, is.made)) (omega arith) in
-    let one : length mid.line ≤ mid.made * length mid.line = omega (arith, mul-split mid.made (length mid.line) some_made) in
-    let whole : h * length mid.line ≡ pass_length setup s.page old.pass = ap (λ (k : ℕ). h * k) (is.line ∙ ap (bytes_per_line setup) has.pass_is) in
-    let given = has.given in
-    let after : IsFrame t setup (record mid { left = mid.left - n }) = record {
-      picture = is.picture;
-      columns = is.columns;
-      tables = is.tables;
-      height = is.height;
-      row = is.row;
-      taken = is.taken;
-      within = is.within;
-      behind = is.behind;
-      known = is.known;
-      line = is.line;
-      zeros = is.zeros;
-      made = is.made;
-      left = omega arith;
-      bytes = is.bytes;
-    } in
-    record {
-      count = gives.count ∙ ap (λ (k : ℕ). min k (min (length buf) setup.limit)) has.left;
-      some = some;
-      room = omega arith;
-      limit = omega arith;
-      inside = omega arith;
-      bytes = λ steady.
-          let steady_too : t.steady ≡ true = ap (λ (u : SourceState). u.steady) has.source.after ∙ steady in
-          let line : mid.line ≡ line_bytes setup s.page mid.pass (mid.made - 1) = is.bytes steady_too some_made ∙ ap (λ (p : Sheet). line_bytes setup p mid.pass (mid.made - 1)) page in
-          let last : mid.made - 1 < h = omega (arith, is.made) in
-          let part = joined_part (line_bytes setup s.page mid.pass) b h (mid.made - 1) (b - mid.left) n (length-line_bytes setup s.page mid.pass) last (omega arith) in
-          let place : given_in old ≡ (mid.made - 1) * b + (b - mid.left) = sym given ∙ (front ∙ ap (λ (k : ℕ). (mid.made - 1) * k + (k - mid.left)) size) in
-          gives.bytes
-          ∙ (ap (λ (l : List ℕ). take n (drop (length mid.line - mid.left) l)) line
-          ∙ (ap (λ (k : ℕ). take n (drop (k - mid.left) (line_bytes setup s.page mid.pass (mid.made - 1)))) size
-          ∙ (sym part
-          ∙ (ap (λ (k : ℕ). take n (drop k (payload setup s.page mid.pass))) (sym place)
-          ∙ ap (λ (p : ℕ). take n (drop (given_in old) (payload setup s.page p))) has.pass_is))));
-      further = ap given_in gives.after ∙ omega arith;
-      pass_is = ap (λ (f : FrameState). f.pass) gives.after ∙ has.pass_is;
-      source = has.source;
-      frame = subst (λ (f : FrameState). IsFrame t setup f) (sym gives.after) after;
-    }
-
-pub gives_count : (s t : SourceState) (setup : Setup) (old mid new : FrameState) (n : ℕ) (buf : List ℕ) → 1 ≤ setup.limit → 0 < length buf → HasBytes s setup old t mid → GivesLine mid setup.limit n new buf → IsCounted new
-gives_count s t setup old mid new n buf limit room has gives =
-    let some_left = has.some in
-    let some_made = has.made in
-    let count = gives.count in
-    let fits = has.frame.left in
-    subst IsCounted (sym gives.after) (record {
-      none = λ e. absurd (omega arith);
-      begun = λ some. omega arith;
-    })

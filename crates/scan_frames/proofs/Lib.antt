@@ -2,6 +2,7 @@ pub mod Lines
 pub mod Seen
 pub mod Scans
 pub mod Frames
+pub mod Giving
 pub mod Shown
 pub mod Zeros
 pub mod Passes

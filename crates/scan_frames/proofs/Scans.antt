@@ -31,8 +31,8 @@ use Rattle.scan_frames.specs.Frames.{width_of, channel_in, format_at, bytes_per_
 use Rattle.scan_frames.specs.Samples.{HasZeros, value_at}
 use Rattle.scan_frames.specs.Rows.{IsSeen, Sees, HasRow, IsWhiteBehind, TakesRows}
 use Rattle.scan_frames.specs.Tables.{AreComposed}
-use Rattle.scan_frames.specs.Reading.{FrameState, IsFrame, IsCounted, given_in, left_of_line, row_of}
-use Rattle.scan_frames.specs.Buffers.{MakesLine}
+use Rattle.scan_frames.specs.Reading.{FrameState, IsFrame, IsCounted, given_in, row_of}
+use Rattle.scan_frames.specs.Buffers.{MakesLine, left_of_line}
 use Rattle.scan_frames.proofs.Lines.{length-numbers, numbers_at, sample_place, binary-same}
 use Rattle.scan_frames.proofs.Seen.{off_page}
 

@@ -1,17 +1,15 @@
 -- The buffers of a frame, step by step.
-use Rattle.std.specs.Prelude.{ℕ, ◌+◌, ◌-◌, ◌<◌, ◌≡◌, List, length, take, drop, min, Result, Ok, Err}
+use Rattle.std.specs.Prelude.{ℕ, ◌+◌, ◌-◌, ◌%◌, ◌<◌, ◌≡◌, ◌==◌, ◌&&◌, Bool, true, List, length, take, drop, min}
 use Rattle.page_picture.specs.Page.{Sheet}
 use Rattle.page_picture.specs.Columns.{columns_of}
 use Rattle.page_picture.specs.Source.{SourceState}
-use Rattle.scan_frames.specs.Frames.{bytes_per_line, pass_length}
+use Rattle.scan_frames.specs.Frames.{bytes_per_line, payload}
 use Rattle.scan_frames.specs.Samples.{IsZeroFrom}
 use Rattle.scan_frames.specs.Tables.{AreComposed}
-use Rattle.scan_frames.specs.Rows.{IsWhiteBehind, TakesRows, StopsFailing}
-use Rattle.scan_frames.specs.Reading.{FrameState, IsFrame, IsCounted, given_in, left_of_line}
+use Rattle.scan_frames.specs.Rows.{IsWhiteBehind, TakesRows}
+use Rattle.scan_frames.specs.Reading.{FrameState, IsFrame, IsCounted, given_in}
 use Rattle.scan_frames.specs.declared.buffers.Buffers.{Buffers}
 use Rattle.scan_frames.specs.declared.setup.Setup.{Setup}
-use Rattle.scan_frames.specs.declared.faults.ReadEnd.{ReadEnd}
-use Rattle.scan_frames.specs.declared.faults.ReadEnd.TheVariants.{End, SourceFailed}
 
 abbrev pub state_of : Buffers → FrameState
 state_of b = record {
@@ -54,6 +52,14 @@ pub record KeepsCount (old new : FrameState) : Type 0 where
   pub made : new.made ≡ old.made
   pub left : new.left ≡ old.left
 
+-- the bytes that are left of the line that is given next
+abbrev pub left_of_line : FrameState → ℕ
+left_of_line f = length f.line - given_in f % length f.line
+
+-- all lines were made and given
+abbrev pub is_over : FrameState → Bool
+is_over f = (f.left == 0) && (f.made == f.height)
+
 -- some byte of the last line is left
 pub record HasBytes (s : SourceState) (setup : Setup) (old : FrameState) (t : SourceState) (new : FrameState) : Type 0 where
   pub source : TakesRows s t
@@ -64,13 +70,23 @@ pub record HasBytes (s : SourceState) (setup : Setup) (old : FrameState) (t : So
   pub some : 0 < new.left
   pub made : 0 < new.made
 
-abbrev pub IsReady : SourceState → Setup → FrameState → Result Unit ReadEnd → SourceState → FrameState → Type 0
-IsReady s setup old (Ok u) t new = HasBytes s setup old t new
-IsReady s setup old (Err End) t new = (given_in old ≡ pass_length setup s.page old.pass) × (t ≡ s) × (new ≡ old)
-IsReady s setup old (Err SourceFailed) t new = (given_in old < pass_length setup s.page old.pass) × StopsFailing s t × IsCounted new
-
 -- n bytes of the last line were given
-pub record GivesLine (old : FrameState) (most n : ℕ) (new : FrameState) (buf : List ℕ) : Type 0 where
-  pub count : n ≡ min old.left (min (length buf) most)
+pub record GivesLine (old : FrameState) (n : ℕ) (new : FrameState) (buf : List ℕ) : Type 0 where
+  pub count : n ≡ min old.left (length buf)
   pub bytes : take n buf ≡ take n (drop (length old.line - old.left) old.line)
   pub after : new ≡ record old { left = old.left - n }
+
+-- n bytes of the frame were written, behind those that were given before
+pub record HasGiven (s : SourceState) (setup : Setup) (old : FrameState) (n : ℕ) (t : SourceState) (new : FrameState) (buf : List ℕ) : Type 0 where
+  pub source : TakesRows s t
+  pub frame : IsFrame t setup new
+  pub counted : IsCounted new
+  pub pass_is : new.pass ≡ old.pass
+  pub further : given_in new ≡ given_in old + n
+  pub bytes : s.steady ≡ true → take n buf ≡ take n (drop (given_in old) (payload setup s.page old.pass))
+
+-- they are all that is left of a line, but no more than the buffer holds
+pub record GivesOfLine (s : SourceState) (setup : Setup) (old : FrameState) (n : ℕ) (t : SourceState) (new : FrameState) (buf : List ℕ) : Type 0 where
+  pub count : n ≡ min (left_of_line old) (length buf)
+  pub some : 0 < n
+  pub given : HasGiven s setup old n t new buf

@@ -1,5 +1,5 @@
 -- A frame that is read, line by line, from a source that gives its page row by row.
-use Rattle.std.specs.Prelude.{ℕ, ◌+◌, ◌-◌, ◌*◌, ◌%◌, ◌<◌, ◌≤◌, ◌≡◌, true, false, List, length, take, drop, min, Result, Ok, Err}
+use Rattle.std.specs.Prelude.{ℕ, ◌+◌, ◌-◌, ◌*◌, ◌<◌, ◌≤◌, ◌≡◌, true, false, List, length, take, drop, min, Result, Ok, Err}
 use Rattle.page_picture.specs.Page.{Sheet, IsRow}
 use Rattle.page_picture.specs.Seen.{row_seen}
 use Rattle.page_picture.specs.Columns.{Columns, columns_of}
@@ -80,14 +80,10 @@ Begins old setup pass (Err NoPicture) new = (has_picture setup old.page ≡ fals
 Begins old setup pass (Err SourceFailed) new = (has_picture setup old.page ≡ true) × Fails old new
 Begins old setup pass (Err NoMem) new = (has_picture setup old.page ≡ true) × (new ≡ old)
 
--- the bytes that are left of the line that a read gives from
-abbrev pub left_of_line : FrameState → ℕ
-left_of_line f = length f.line - given_in f % length f.line
-
--- n bytes of the frame were written, behind those that were given before: all that is left of the line, but no more
+-- n bytes of the frame were written, behind those that were given before: all that is left of the frame, but no more
 -- than the buffer holds, nor than one read gives
 pub record GivesBytes (s : SourceState) (setup : Setup) (old : FrameState) (n : ℕ) (t : SourceState) (new : FrameState) (buf : List ℕ) : Type 0 where
-  pub count : n ≡ min (left_of_line old) (min (length buf) setup.limit)
+  pub count : n ≡ min (pass_length setup s.page old.pass - given_in old) (min (length buf) setup.limit)
   pub some : 0 < n
   pub room : n ≤ length buf
   pub limit : n ≤ setup.limit

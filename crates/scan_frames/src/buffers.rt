@@ -1,11 +1,11 @@
 //! The buffers of a frame, and how lines are made and given.
 
-ghost use Rattle.std.specs.Prelude.{◌≡◌, ◌==◌, ◌≤◌, ◌<◌, ◌-◌, length, OnOk, OnErr, IfOk};
+ghost use Rattle.std.specs.Prelude.{◌≡◌, ◌==◌, ◌≤◌, ◌<◌, ◌-◌, false, length, OnOk, OnErr, IfOk};
 ghost use Rattle.scan_frames.specs.Rows.{IsWhiteBehind, StopsFailing};
 ghost use Rattle.scan_frames.specs.Samples.{IsZeroFrom};
 ghost use Rattle.scan_frames.specs.Frames.{IsSetup};
 ghost use Rattle.scan_frames.specs.Reading.{IsFrame, IsCounted, ReadsFrame, row_of};
-ghost use Rattle.scan_frames.specs.Buffers.{IsFresh, MakesLine, KeepsCount, IsReady, GivesLine, state_of};
+ghost use Rattle.scan_frames.specs.Buffers.{IsFresh, MakesLine, KeepsCount, HasBytes, GivesLine, GivesOfLine, is_over, state_of};
 
 use crate::faults::ReadEnd;
 use crate::line::make_line;
@@ -158,37 +158,61 @@ fn make_ready<S: PageSource>(
     buffers: &mut Buffers,
     source: &mut S,
     setup: &Setup,
-) -> Result<(), ReadEnd>
+) -> Result<(), SourceFault>
     requires setup { IsSetup setup.now }
     requires frame { IsFrame (S.source source.old) setup.now (state_of buffers.old) }
     requires counted { IsCounted (state_of buffers.old) }
-    ensures { IsReady (S.source source.old) setup.now (state_of buffers.old) result (S.source source.new) (state_of buffers.new) }
+    requires more { is_over (state_of buffers.old) ≡ false }
+    ensures ok { OnOk result (HasBytes (S.source source.old) setup.now (state_of buffers.old) (S.source source.new) (state_of buffers.new)) }
+    ensures err { OnErr result (StopsFailing (S.source source.old) (S.source source.new)) }
+    ensures counted { OnErr result (IsCounted (state_of buffers.new)) }
 {
     if buffers.left > 0 {
         return Ok(());
     }
-    if buffers.made == buffers.height {
-        return Err(ReadEnd::End);
-    }
-    match next_line(buffers, source, setup) {
-        Ok(()) => Ok(()),
-        Err(_) => Err(ReadEnd::SourceFailed),
-    }
+    next_line(buffers, source, setup)
 }
 
-/// Gives what is left of the last line, but no more than `most` bytes, nor than the buffer holds.
-fn give(buffers: &mut Buffers, most: usize, buf: &mut [u8]) -> usize
+/// Gives what is left of the last line, but no more bytes than the buffer holds.
+fn give(buffers: &mut Buffers, buf: &mut [u8]) -> usize
     requires { buffers.old.left ≤ length buffers.old.line.items }
-    ensures { GivesLine (state_of buffers.old) most result (state_of buffers.new) buf.new }
+    ensures { GivesLine (state_of buffers.old) result (state_of buffers.new) buf.new }
 {
-    let n = buffers.left.min(buf.len().min(most));
+    let n = buffers.left.min(buf.len());
     let start = buffers.line.len() - buffers.left;
     buf[..n].copy_from_slice(&buffers.line[start..start + n]);
     buffers.left -= n;
     n
 }
 
-/// Gives the next bytes of a frame.
+/// Gives what is left of a line, or the next one where nothing is, but no more bytes than the buffer holds.
+fn give_of_line<S: PageSource>(
+    buffers: &mut Buffers,
+    source: &mut S,
+    setup: &Setup,
+    buf: &mut [u8],
+) -> Result<usize, SourceFault>
+    requires setup { IsSetup setup.now }
+    requires frame { IsFrame (S.source source.old) setup.now (state_of buffers.old) }
+    requires counted { IsCounted (state_of buffers.old) }
+    requires more { is_over (state_of buffers.old) ≡ false }
+    requires buf { 0 < length buf.old }
+    ensures ok { IfOk result (λ n. GivesOfLine (S.source source.old) setup.now (state_of buffers.old) n (S.source source.new) (state_of buffers.new) buf.new) }
+    ensures err { OnErr result (StopsFailing (S.source source.old) (S.source source.new)) }
+    ensures counted { OnErr result (IsCounted (state_of buffers.new)) }
+{
+    make_ready(buffers, source, setup)?;
+    Ok(give(buffers, buf))
+}
+
+/// Whether all bytes of the frame were given.
+fn is_over(buffers: &Buffers) -> bool
+    ensures { result ≡ is_over (state_of buffers.now) }
+{
+    buffers.left == 0 && buffers.made == buffers.height
+}
+
+/// Gives the next bytes of a frame, line after line until the buffer is full.
 pub fn read_on<S: PageSource>(
     buffers: &mut Buffers,
     source: &mut S,
@@ -202,8 +226,15 @@ pub fn read_on<S: PageSource>(
     ensures read { ReadsFrame (S.source source.old) setup.now (state_of buffers.old) result (S.source source.new) (state_of buffers.new) buf.new }
     ensures counted { IsCounted (state_of buffers.new) }
 {
-    make_ready(buffers, source, setup)?;
-    Ok(give(buffers, setup.limit as usize, buf))
+    let most = buf.len().min(setup.limit as usize);
+    let mut n = 0;
+    while n < most && !is_over(buffers) {
+        match give_of_line(buffers, source, setup, &mut buf[n..most]) {
+            Ok(given) => n += given,
+            Err(_) => return Err(ReadEnd::SourceFailed),
+        }
+    }
+    if n > 0 { Ok(n) } else { Err(ReadEnd::End) }
 }
 
 impl Buffers {

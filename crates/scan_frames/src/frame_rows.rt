@@ -58,13 +58,13 @@ impl FrameRows {
         }
     }
 
-    /// Gives the next bytes of the frame: what is left of one line, but no more than the options let one read give, nor
+    /// Gives the next bytes of the frame: all that is left of it, but no more than the options let one read give, nor
     /// than the buffer holds. It takes no memory, and no row twice.
     ///
     /// # Errors
     ///
-    /// `End` where all bytes were given. `SourceFailed` where the source does not give the next row; the frame can be
-    /// read no more then.
+    /// `End` where all bytes were given. `SourceFailed` where the source does not give a row that these bytes show; the
+    /// frame can be read no more then, and nothing in the buffer counts.
     pub fn read<S: PageSource>(
         &mut self,
         source: &mut S,

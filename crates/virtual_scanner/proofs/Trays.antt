@@ -77,6 +77,7 @@ refuses info setup xs ys phase pass fault e h =
 gives_on : (info : DeviceInfo) (setup : Setup) (s t : SourceState) (more : List SourceState) (f g : FrameState) (told : Option Status) (n : ℕ) (buf : List ℕ) → Answers told s setup f (Ok n) t g buf → FrameReads told (device_on info setup (s ∷ more) (Reading f.pass (given_in f))) f.pass (given_in f) (Ok n) (device_on info setup (t ∷ more) (Reading g.pass (given_in g))) buf
 gives_on info setup s t more f g (Some status) n buf h = absurd (let e : Ok n ≡ Err status = h.0 in (cc))
 gives_on info setup s t more f g None n buf h = record {
+  count = h.count;
   some = h.some;
   room = h.room;
   limit = h.limit;

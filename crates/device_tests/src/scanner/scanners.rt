@@ -22,7 +22,7 @@ fn a_hand_scanner(rt: HostRuntime) {
     let mut hand = scanner(alloc, DeviceKind::Hand, black).expect(&rt, "a scanner");
     let class = Call::Is(Part::Class, b"handheld scanner");
     expect_each(&rt, alloc, &mut hand, &[class]);
-    expect_column(&rt, alloc, &mut hand, 100);
+    expect_column(&rt, alloc, &mut hand, 5, 100);
 }
 
 /// Three passes of two places at depth 16, blue first.

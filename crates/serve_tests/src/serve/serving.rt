@@ -80,7 +80,7 @@ fn second_open_is_answered_while_a_frame_is_open(rt: HostRuntime) -> Result<(), 
     let mut net = MemoryNet::new(rt, alloc);
     net.clients.push(client(&rt, alloc, &[INIT, OPEN]))?;
     net.clients.push(client(&rt, alloc, &[INIT, OPEN, START]))?;
-    // Of records of 157 bytes this takes five bytes.
+    // Of the one record, of 196 lines of 157 bytes, this takes five bytes.
     net.images.push(image(&rt, alloc, 5))?;
     let end = serve(alloc, &mut daemon, &mut net, 0, 1000);
     assert!(rt; end == ServeEnd::Idle);
@@ -89,7 +89,7 @@ fn second_open_is_answered_while_a_frame_is_open(rt: HostRuntime) -> Result<(), 
     let [second, shown, first] = net.back.as_slice() else {
         panic!(rt; "other connections came back")
     };
-    assert!(rt; shown.out.as_slice() == b"\0\0\0\x9d\x07".as_slice());
+    assert!(rt; shown.out.as_slice() == b"\0\0\x78\x34\x07".as_slice());
     expect_out(&rt, alloc, first, &[INIT_REPLY, OPEN_REPLY, START_REPLY]);
     expect_out(&rt, alloc, second, &[INIT_REPLY, BUSY_REPLY]);
     expect_free(rt, alloc, &mut daemon, &mut net)

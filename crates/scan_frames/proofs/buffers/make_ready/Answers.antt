@@ -1,12 +1,17 @@
 use Rattle.std.proofs.Common.{arith}
-use Rattle.scan_frames.proofs.Frames.{ready_left, ready_made, more_left, same_count}
+use Rattle.std.specs.Prelude.{OnOk, Ok, Err}
+use Rattle.scan_frames.proofs.Frames.{ready_left, ready_made}
+use Rattle.scan_frames.specs.Buffers.{HasBytes, MakesLine, state_of}
 use Rattle.scan_frames.proofs.buffers.make_ready.Goals as goal
 
-pub returns-then-buffers-gt0 : goal.returns-then-buffers-gt0
-returns-then-buffers-gt0 g c = ready_left _ _ _ c.requires.frame c.requires.counted c.if-buffers-gt0.true
+pub returns-then-buffers-gt0-clause-ok : goal.returns-then-buffers-gt0-clause-ok
+returns-then-buffers-gt0-clause-ok g c = ready_left _ _ _ c.requires.frame c.requires.counted c.if-buffers-gt0.true
 
-pub returns-in-Ok : goal.returns-in-Ok
-returns-in-Ok g c = ready_made _ _ _ _ _ c.requires.frame (omega arith) c.in-Ok.ensures.ok
-
-pub returns-in-Err : goal.returns-in-Err
-returns-in-Err g c = (more_left _ _ _ c.requires.frame (omega arith) (let made = c.requires.frame.made in let not_all = c.if-buffers.false in omega arith), c.in-Err.ensures.err, same_count _ _ c.requires.counted c.in-Err.ensures.count)
+pub returns-clause-ok : goal.returns-clause-ok
+returns-clause-ok g c =
+    let s = g.S.PageSource.source c.args.source.now in
+    let t = g.S.PageSource.source c.next_line.new.source in
+    let setup = c.args.setup.now in
+    let old = state_of c.args.buffers.now in
+    let new = state_of c.next_line.new.buffers in
+    elim c.next_line.result as (λ r. OnOk r (MakesLine s setup old t new) → OnOk r (HasBytes s setup old t new)) [ Ok u ↦ λ made. ready_made s t setup old new c.requires.frame (omega arith) made | Err e ↦ λ made. made ] c.next_line.ensures.ok
