@@ -13,7 +13,7 @@ demo: need-rt
 	@echo 'command: scanimage $(DEMO_WORDS)'
 	@echo 'input:   $(DEMO_INPUT)'
 	@echo 'output, byte by byte:'
-	@cd crates/scanimage && echo '$(DEMO_INPUT)' | rt try -- $(DEMO_WORDS) 2>../../demo.log >../../demo.pgm || { cat ../../demo.log >&2; exit 1; }
+	@cd crates/scanimage && echo '$(DEMO_INPUT)' | rt try -- $(DEMO_WORDS) 2>../../demo.log >../../demo.pgm || { cat ../../demo.log >&2; rm -f ../../demo.log ../../demo.pgm; exit 1; }
 	@od -A d -t x1z demo.pgm
 	@rm -f demo.log demo.pgm
 
@@ -27,8 +27,8 @@ build: need-rt
 layout: need-rt
 	tests/gate --layout
 
-# The gate: rt ci (every proof from nothing, the must-fail edits, the tests, the stored runs) and the built program case by
-# case. It also says for which crates make more-edits is due.
+# The gate: rt ci (every proof from nothing, the must-fail edits, the tests, the stored runs) and the built programs case by
+# case. It refuses a text for which make more-edits is due.
 test: need-rt
 	tests/gate
 

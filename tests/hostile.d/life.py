@@ -61,7 +61,7 @@ def life(tally, scale):
                 is_right = kind(client)
                 tally.saw(fault, {True: f"{kind.__name__.replace('_', ' ')}, as it must"}.get(is_right, f"{kind.__name__}: otherwise"), is_right)
             if at == min(999, count // 2):
-                is_right = daemon.rests_at(descriptors)
+                tally.saw(fault, "descriptors as at first, early in it", daemon.rests_at(descriptors))
                 first = daemon.memory()
         is_right = daemon.rests_at(descriptors) and daemon.is_up()
         last = daemon.memory() if is_right else 0

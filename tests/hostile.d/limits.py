@@ -161,39 +161,40 @@ def refused(tally, scale):
         library = built(folder, "failing_malloc")
         for job in (HERE_JOBS + NET_JOBS)[:: scale["refused"]] if library else ():
             for at in range(1, 5000):
-                env = {**os.environ, "LD_PRELOAD": library, "FAIL_ALLOC": str(at)}
+                mark = f"{folder}/{at}"
+                env = {**os.environ, "LD_PRELOAD": library, "FAIL_ALLOC": str(at), "FAIL_ALLOC_MARK": mark}
                 ended = scan(words_of(job, daemon), (job.config or "").encode(), env=env)
-                tally.saw("scanimage: each allocation refused in turn", ended.what(), refused_ending(job, ended, at), f"{job.name}, the {at}th: {ended.err!r}")
-                if ended.status == 0:
-                    tally.saw("scanimage: each allocation refused in turn", "Done where none was left to refuse", at > 1 and ended.out == job.out, job.name)
+                if not os.path.exists(mark):
+                    tally.saw("scanimage: each allocation refused in turn", "Done where none was left to refuse", at > 1 and (ended.status, ended.out) == (0, job.out), job.name)
                     break
+                os.remove(mark)
+                tally.saw("scanimage: each allocation refused in turn", ended.what(), refused_ending(job, ended, at), f"{job.name}, the {at}th: {ended.err!r}")
             else:
                 tally.saw("scanimage: each allocation refused in turn", "no run met none", False, job.name)
 
 
-def daemon_refused(tally, library, job, at):
-    """A daemon whose allocation of that number is refused, and two clients; whether the first got what it asked for."""
+def daemon_refused(tally, library, job, at, mark):
+    """A daemon whose allocation of that number is refused, and makes this file then, and two clients."""
     fault, about = "saned: each allocation refused in turn", f"{job.name}, the {at}th"
-    with Daemon(CONFIG, env={**os.environ, "LD_PRELOAD": library, "FAIL_ALLOC": str(at)}) as daemon:
+    with Daemon(CONFIG, env={**os.environ, "LD_PRELOAD": library, "FAIL_ALLOC": str(at), "FAIL_ALLOC_MARK": mark}) as daemon:
         if daemon.port is None:
             ended = ending(daemon.process)
             is_right = (ended.status, ended.err) == (10, NO_MEMORY) or (ended.status == 65 and ended.err.endswith(b": out of memory\n"))
             tally.saw(fault, f"before it serves: {ended.what()}", is_right, f"{about}: {ended.err!r}")
-            return False
+            return
         first = scan(words_of(job, daemon))
         if first.status == 0:
-            tally.saw(fault, "its first client is done before it is refused", first.out == job.out, about)
-            return True
+            tally.saw(fault, "its first client is done before it is refused, or in spite of it", first.out == job.out, about)
+            return
         second = scan(words_of(job, daemon))
         if second.status == 9 and first.status == 9:
             # It listens, but has not made the room for its sessions.
             ended = ending(daemon.process, 5)
             tally.saw(fault, f"before its first session: {ended.what()}", (ended.status, ended.err) == (10, NO_MEMORY), about)
-            return False
+            return
         is_right = (second.status, second.out) == (0, job.out) and daemon.is_up()
         is_right &= first.keeps_the_promise("-d" in job.words and "-A" not in job.words) and first.status in (9, 10)
         tally.saw(fault, f"its session: {first.what()}; the next one: {second.what()}", is_right, about)
-        return False
 
 
 def daemons_refused(tally, scale):
@@ -201,12 +202,15 @@ def daemons_refused(tally, scale):
     with tempfile.TemporaryDirectory() as folder:
         library = built(folder, "failing_malloc")
         for job in NET_JOBS[:: scale["refused"]] if library else ():
-            done = 0
             for at in range(1, 5000):
-                done = done + 1 if daemon_refused(tally, library, job, at) else 0
-                if done == 3:
-                    tally.saw("saned: each allocation refused in turn", "no further one was left to refuse", at > 3, job.name)
+                mark = f"{folder}/{at}"
+                daemon_refused(tally, library, job, at, mark)
+                if not os.path.exists(mark):
+                    tally.saw("saned: each allocation refused in turn", "no further one was left to refuse", at > 1, job.name)
                     break
+                os.remove(mark)
+            else:
+                tally.saw("saned: each allocation refused in turn", "no run met none", False, job.name)
 
 
 def limits(tally, scale):

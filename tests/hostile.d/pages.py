@@ -1,4 +1,5 @@
 """Page files that shrink, grow, vanish or become something else between open and read, and pages that are no files."""
+import functools
 import os
 import pty
 import tempfile
@@ -7,11 +8,19 @@ from world import SANED, Daemon, ending, is_whole, netpbm, page, scan, start
 
 IO_ERROR = b"scanimage: SANE_STATUS_IO_ERROR (answer)\n"
 
-# A page of many rows, each of its own shade, and what it is read as.
-ROWS = 2000
-PAGE = netpbm(f"P5 100 {ROWS} 255", b"".join(bytes([it % 251]) * 100 for it in range(ROWS)), b"")
-PAGE_WINDOW = "--resolution 254 --br-x 10 --br-y 200".split()
-PICTURE = netpbm(f"P5 100 {ROWS} 255", PAGE[-100 * ROWS :])
+# A page whose rows have a shade each. Its picture in color has 53 MB, so that behind the first byte of it far less than a half
+# can be on the way: sockets and pipes together hold a few MB.
+COLUMNS, ROWS, DPI = 944, 9448, 1200
+SHADES = [bytes([it % 251]) for it in range(ROWS)]
+PAGE = netpbm(f"P5 {COLUMNS} {ROWS} 255", b"".join(it * COLUMNS for it in SHADES), b"")
+WINDOW = f"--resolution {DPI} --br-x 20 --br-y 200".split()
+
+
+@functools.cache
+def picture(is_color):
+    if is_color:
+        return netpbm(f"P6 {COLUMNS} {ROWS} 65535", b"".join(it * (6 * COLUMNS) for it in SHADES))
+    return netpbm(f"P5 {COLUMNS} {ROWS} 255", PAGE[-COLUMNS * ROWS :])
 
 
 def shrink(path):
@@ -48,28 +57,26 @@ CHANGES = [
 def changed_at(tally, name, change, status, way):
     """The page changes after it was opened: before a daemon's scan, or in the midst of a frame, here and there."""
     with tempfile.TemporaryDirectory() as folder:
-        path, config = f"{folder}/page", f"flatbed 0 254 {folder}/page\nhand 0 75 {page('P5 1 10 255', bytes(10))}\n"
+        path, config = f"{folder}/page", f"flatbed 0 {DPI} {folder}/page\nhand 0 75 {page('P5 1 10 255', bytes(10))}\n"
         with open(path, "wb") as file:
             file.write(PAGE)
         with open(f"{folder}/config", "w", encoding="ascii") as file:
             file.write(config)
         with Daemon(config) as daemon:
             words = ["--config", f"{folder}/config"] if way == "here" else ["--port", str(daemon.port)]
-            words += ["-d", "flatbed:0" if way == "here" else "net:localhost:flatbed:0", *PAGE_WINDOW]
+            words += ["-d", "flatbed:0" if way == "here" else "net:localhost:flatbed:0", *WINDOW]
             if way == "before":
                 change(path)
                 ended, got = scan(words), None
                 got = ended.out
             else:
-                # The first byte is out, and the pipe holds no more than a part of the picture.
                 process = start([*words, "--mode", "Color", "--depth", "16"], bufsize=0)
                 got = process.stdout.read(1)
                 change(path)
                 ended = ending(process)
                 got += ended.out
-            wanted = PICTURE if way == "before" else None
             if status == 0:
-                is_right = ended.status == 0 and is_whole(got) and wanted in (None, got)
+                is_right = ended.status == 0 and got == picture(way != "before")
             else:
                 is_right = (ended.status, ended.err) == (9, IO_ERROR) and not is_whole(got)
             again = scan(["-d", "net:localhost:hand:0", "-n", "--port", str(daemon.port)])
