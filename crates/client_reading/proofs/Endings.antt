@@ -26,7 +26,7 @@ use Rattle.client_rules.specs.declared.progress.Errand.{Errand}
 pub begins_alike : ClientsBeginAlike
 begins_alike place errand job settings e = record {
   files = record { part = refl; all = refl };
-  stands = (record { answers = refl; none = refl; descriptors = refl; told = refl; few = omega arith; number = refl; alone = λ e. refl }, (refl, ((tt, refl), e)), tt);
+  stands = (record { answers = refl; none = refl; descriptors = refl; told = refl; only = tt; few = omega arith; number = refl; alone = λ e. refl }, (refl, ((tt, refl), e)), tt);
 }
 
 -- ---- ends

@@ -1,4 +1,5 @@
 pub mod Lists
+pub mod Filled
 pub mod Apt
 pub mod Sides
 pub mod Openings

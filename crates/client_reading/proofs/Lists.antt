@@ -3,6 +3,8 @@ use Rattle.std.proofs.Common.{arith, ◌≡◌, ◌∙◌, ◌<◌, ◌+◌, ℕ
 use Rattle.std.specs.Prelude.{if◌then◌else◌, position, slice_get, slice_set, is_none}
 use Rattle.std.specs.List.{position_from}
 use Rattle.std.proofs.lemmas.Iterator.Adapters.{position_from-zero}
+use Rattle.std.proofs.lemmas.Bool.{and_parts, both_ways}
+use Rattle.std.proofs.Math.Bool.{and-true}
 use Rattle.sane_fixed.specs.declared.kind.Kind.{Kind}
 use Rattle.sane_fixed.specs.declared.kind.Kind.TheVariants as kinds
 use Rattle.option_desc.specs.declared.descriptor.Descriptor.{Descriptor}
@@ -11,7 +13,7 @@ use Rattle.device_api.specs.Options.{has_cap}
 use Rattle.scan_job.specs.Shown.{has_one_value, tells_value, with_value}
 use Rattle.client_rules.specs.Talking.{wants_value, told_of}
 use Rattle.scan_rules.specs.Devices.{is_single, is_readable, readable_from}
-use Rattle.client_reading.specs.Reading.{descs, shown_by, shown, AreBlank, wanted_from, Behind, AreFilled}
+use Rattle.client_reading.specs.Reading.{descs, shown_by, shown, AreBlank, AreTellers, wanted_from, Behind, AreFilled}
 
 -- ---- the first that is wanted
 
@@ -57,7 +59,7 @@ next_wanted k (o ∷ more) n left e = next_if (wants_value o) k o more n left (�
 
 -- ---- no value was told
 
-both : (a b c : Bool) → ((not a && (b && c)) && true) ≡ (b && (not a && c))
+both : (a b c : Bool) → (not a && (b && c)) ≡ (b && (not a && c))
 both true true true = refl
 both true true false = refl
 both true false true = refl
@@ -75,11 +77,14 @@ single kinds.String size = refl
 single kinds.Button size = refl
 single kinds.Group size = refl
 
+-- the client asks for the values that the rules ask for
+pub told_alike : (d : Descriptor) → tells_value d ≡ is_readable d
+told_alike d =
+    both (has_cap d.caps.0 32) (has_cap d.caps.0 4) (has_one_value d.kind d.size)
+    ∙ ap (λ (b : Bool). has_cap d.caps.0 4 && (not (has_cap d.caps.0 32) && b)) (single d.kind d.size)
+
 blank_wants : (o : Descriptor × Option Value) → o.1 ≡ None → wants_value o ≡ is_readable o.0
-blank_wants o e =
-    ap (λ (v : Option Value). tells_value o.0 && is_none v) e
-    ∙ both (has_cap o.0.caps.0 32) (has_cap o.0.caps.0 4) (has_one_value o.0.kind o.0.size)
-    ∙ ap (λ (b : Bool). has_cap o.0.caps.0 4 && (not (has_cap o.0.caps.0 32) && b)) (single o.0.kind o.0.size)
+blank_wants o e = ap (λ (v : Option Value). tells_value o.0 && is_none v) e ∙ and-true (tells_value o.0) ∙ told_alike o.0
 
 pub blank_wanted : (k : ℕ) (known : List (Descriptor × Option Value)) → AreBlank known → wanted_from k known ≡ readable_from k (descs known)
 blank_wanted k [] b = refl
@@ -90,6 +95,10 @@ blank_wanted k (o ∷ more) b =
 pub blank_shown : (known : List (Descriptor × Option Value)) → AreBlank known → shown known ≡ []
 blank_shown [] b = refl
 blank_shown (o ∷ more) b = ap (λ (v : Option Value). shown_by v (shown more)) b.0 ∙ blank_shown more b.1
+
+pub blank_tells : (known : List (Descriptor × Option Value)) → AreBlank known → AreTellers known
+blank_tells [] b = tt
+blank_tells (o ∷ more) b = (λ e. b.0, blank_tells more b.1)
 
 behind : (t : Bool) (more : List (Descriptor × Option Value)) → AreBlank more → AreFilled more → Behind t (AreBlank more) (AreFilled more)
 behind true more b f = b
@@ -117,6 +126,7 @@ pub record IsSet (k : ℕ) (known after : List (Descriptor × Option Value)) (le
   pub wanted : wanted_from k after ≡ left
   pub values : shown after ≡ shown known ++ v ∷ []
   pub filled : AreFilled after
+  pub only : AreTellers known → AreTellers after
   pub same : descs after ≡ descs known
   pub long : length after ≡ length known
 
@@ -141,6 +151,7 @@ set_here k o more left v w b e =
       wanted = ap (λ (t : Bool). if t then k ∷ wanted_from (k + 1) more else wanted_from (k + 1) more) n ∙ e;
       values = ap (λ (vs : List Value). v ∷ vs) s ∙ sym (ap (λ (x : Option Value). shown_by x (shown more) ++ v ∷ []) (wants_none (tells_value o.0) o.1 w) ∙ ap (λ (vs : List Value). vs ++ v ∷ []) s);
       filled = subst (λ (t : Bool). Behind t (AreBlank more) (AreFilled more)) (sym n) (blank_filled more b);
+      only = λ t. (λ none. absurd (both_ways (tells_value o.0) none (and_parts (tells_value o.0) (is_none o.1) w).0), t.1);
       same = refl;
       long = refl;
     }
@@ -151,6 +162,7 @@ set_there k o more after left v w s = record {
   wanted = ap (λ (t : Bool). if t then k ∷ wanted_from (k + 1) after else wanted_from (k + 1) after) w ∙ s.wanted;
   values = ap (λ (vs : List Value). shown_by o.1 vs) s.values ∙ shown_after o.1 (shown more) v;
   filled = subst (λ (t : Bool). Behind t (AreBlank after) (AreFilled after)) (sym w) s.filled;
+  only = λ t. (t.0, s.only t.1);
   same = ap (λ (ds : List Descriptor). o.0 ∷ ds) s.same;
   long = ap suc s.long;
 }

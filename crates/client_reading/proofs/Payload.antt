@@ -260,6 +260,7 @@ turns_unseen place errand job pages talk m o p fits r =
               none = k.none;
               descriptors = k.descriptors;
               told = k.told;
+              only = k.only;
               few = k.few;
               number = ap (λ (b : Bool). if b then talk.notes.file + 1 else talk.notes.file) w.1 ∙ (omega arith);
               alone = λ e. absurd (let clash : true ≡ false = sym batch ∙ e in cc);

@@ -32,7 +32,7 @@ use Rattle.scan_rules.specs.Hearing.{hear_at}
 use Rattle.scan_rules.specs.Devices.{info_of, resolve, readable, readable_from}
 use Rattle.client_reading.specs.Senses.{good, plain, gave, sense_at, IsShort}
 use Rattle.client_reading.specs.Reading.{task_of, wish_of, Put, put_of, put_by, descs, AreBlank, wanted_from, is_nil, KnowsAs, Early}
-use Rattle.client_reading.proofs.Lists.{blank_wanted, blank_shown, blank_filled, told_blank, told_descs, told_length, named_alike, place_below}
+use Rattle.client_reading.proofs.Lists.{blank_wanted, blank_shown, blank_filled, blank_tells, told_blank, told_descs, told_length, named_alike, place_below}
 use Rattle.client_reading.proofs.Sides.{Side, FilesAs, Goes, Hears, ends, awry_ends, refused}
 use Rattle.client_reading.proofs.Showing.{few_is, shows_next}
 
@@ -135,6 +135,7 @@ describes x task notes m (replies.GetOptionDescriptors descriptors) short t f k 
       none = k.none;
       descriptors = sym (told_descs descriptors);
       told = k.told ∙ blank_shown notes.known b.0 ∙ sym (blank_shown (map told_of descriptors) (told_blank descriptors));
+      only = blank_tells (map told_of descriptors) (told_blank descriptors);
       few = short_told descriptors short;
       number = k.number;
       alone = k.alone;
@@ -165,6 +166,7 @@ puts_given x task notes m n name asked wish info (Some given) w t f k b =
       none = k.none;
       descriptors = k.descriptors;
       told = k.told;
+      only = k.only;
       few = k.few;
       number = k.number;
       alone = k.alone;

@@ -33,7 +33,7 @@ shows_by : (x : Side) (notes : Notes) (m : rules.Mind) (ns : List ℕ) → wante
     → Goes x tasks.Show (turn notes (next_shown notes.known)) (record m { stage = rules.next_value ns })
 shows_by x notes m [] e p a f k =
     subst (λ (r : Option ℕ). Goes x tasks.Show (turn notes (gets notes.known (few r))) (record m { stage = rules.Done })) (sym p)
-    (f, record { stage = refl; settings = k.answers; devices = k.none; options = (k.descriptors, k.told) })
+    (f, record { stage = refl; settings = k.answers; devices = k.none; options = (k.descriptors, k.told, k.only) })
 shows_by x notes m (n ∷ left) e p a f k =
     let i = next_wanted 0 notes.known n left e in
     let same : n ≡ 0 + i.place = i.number in
@@ -66,6 +66,7 @@ gets_value x notes m n left (Some value) e a f k =
       none = k.none;
       descriptors = k.descriptors ∙ sym s.same;
       told = ap (λ (vs : List Value). vs ++ value ∷ []) k.told ∙ sym s.values;
+      only = s.only k.only;
       few = omega arith;
       number = k.number;
       alone = k.alone;

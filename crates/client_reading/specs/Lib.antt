@@ -6,3 +6,4 @@ pub mod Lives
 pub mod Requests
 pub mod Pieces
 pub mod Calls
+pub mod Filled

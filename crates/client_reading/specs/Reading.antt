@@ -21,6 +21,7 @@ use Rattle.client_rules.specs.declared.progress.Progress.{Progress}
 use Rattle.client_rules.specs.declared.progress.Progress.TheVariants as stages
 use Rattle.scan_job.specs.declared.report.Report.{Report}
 use Rattle.scan_job.specs.declared.report.Reports.{Reports}
+use Rattle.scan_job.specs.Shown.{tells_value}
 use Rattle.client_rules.specs.Talking.{wants_value}
 use Rattle.client_rules.specs.Talks.{Talk, shows, is_batch}
 use Rattle.scan_rules.specs.Words as words
@@ -68,6 +69,11 @@ abbrev pub AreBlank : List (Descriptor × Option Value) → Type 0
 AreBlank [] = Unit {0}
 AreBlank (o ∷ more) = (o.1 ≡ None) × AreBlank more
 
+-- where no value is to be told none stands
+abbrev pub AreTellers : List (Descriptor × Option Value) → Type 0
+AreTellers [] = Unit {0}
+AreTellers (o ∷ more) = (tells_value o.0 ≡ false → o.1 ≡ None) × AreTellers more
+
 -- the numbers of the options whose values are still to be asked for
 abbrev pub wanted_from : ℕ → List (Descriptor × Option Value) → List ℕ
 wanted_from k [] = []
@@ -106,6 +112,7 @@ pub record Knows (task : Task) (pages : List (List Frame)) (puts : List Report) 
   pub none : devices ≡ []
   pub descriptors : known ≡ descs options
   pub told : values ≡ shown options
+  pub only : AreTellers options
   pub few : length options ≤ 1024
   pub number : file ≡ suc (length pages)
   pub alone : is_batch task ≡ false → pages ≡ []
@@ -171,7 +178,7 @@ IsApt errand progress notes = Unit {0}
 -- ---- a job that is over
 
 abbrev pub ShowsAs : Bool → List (Descriptor × Option Value) → rules.Mind → Type 0
-ShowsAs true options m = (m.known ≡ descs options) × (m.values ≡ shown options)
+ShowsAs true options m = (m.known ≡ descs options) × (m.values ≡ shown options) × AreTellers options
 ShowsAs false options m = Unit {0}
 
 pub record DoneAs (place : DeviceInfo → ℕ) (task : Task) (reports : Reports) (m : rules.Mind) : Type 0 where

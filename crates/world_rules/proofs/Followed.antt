@@ -1,18 +1,25 @@
 -- Events one after another.
 use Rattle.std.specs.Prelude.{◌<◌}
-use Rattle.std.proofs.Common.{◌≡◌, ◌⊎◌, inl, inr, ◌∙◌, ℕ, List, [], ◌∷◌, ◌++◌, refl, sym, ap, subst}
+use Rattle.std.proofs.Common.{◌≡◌, ◌≢◌, ◌⊎◌, inl, inr, ◌∙◌, ℕ, List, [], ◌∷◌, ◌++◌, Some, refl, sym, ap, subst, slice_get}
+use Rattle.sane_fixed.specs.declared.status.Status.{Status}
+use Rattle.sane_fixed.specs.declared.status.Status.TheVariants.{Good, Eof}
 use Rattle.page_picture.specs.Source.{SourceState}
 use Rattle.scan_rules.specs.Devices.{Page}
 use Rattle.page_picture.specs.declared.sources.kinds.Source.{Source}
 use Rattle.scan_rules.specs.Deeds.{Deed as Ruled}
-use Rattle.scan_rules.specs.Standing.{Standing}
+use Rattle.scan_job.specs.declared.outcome.Outcome.TheVariants.{Ended}
+use Rattle.scan_job.specs.declared.outcome.Why.{Why}
+use Rattle.scan_rules.specs.Standing.{Standing, make_for}
 use Rattle.scan_rules.specs.Steps.{IsHistory, Step, after_all}
 use Rattle.scan_rules.proofs.RunMarks.{histories_legal}
 use Rattle.scan_world.specs.declared.event.Event.{Event}
 use Rattle.scan_world.specs.declared.event.Event.TheVariants.{Connect, ToDaemon, ToClient, DataConnect, DataTurn, DataToClient, LoseControl, LoseImage, Cancel, Load, Unplug}
 use Rattle.scan_world.specs.declared.event.Deed.{Deed}
 use Rattle.scan_world.specs.declared.event.Deed.TheVariants as deeds
+use Rattle.scan_world.specs.declared.post.Post.{Post}
 use Rattle.scan_world.specs.Worlds.{At, Leads, Runs, Scene}
+use Rattle.scan_world.proofs.Events.{stands_run}
+use Rattle.scan_world.proofs.Telling.{none_tells, page_none_tells, short_tells}
 use Rattle.world_rules.specs.Told.{Told, Wires}
 use Rattle.world_rules.specs.Stands.{Stands}
 use Rattle.world_rules.specs.Costs.{Pays}
@@ -20,6 +27,7 @@ use Rattle.world_rules.specs.Happens.{Can, CanLoad, CanUnplug, Connects, Dials, 
 use Rattle.world_rules.specs.Answering.{AnswersSome, BreaksOff, GoesOn, IsOver, WasOver}
 use Rattle.world_rules.specs.Delivered.{Delivers, Hears}
 use Rattle.world_rules.specs.Seen.{Sees}
+use Rattle.world_rules.specs.Promises.{HasCause, IsOutcome}
 use Rattle.world_rules.specs.Histories.{AllIsKept, AreTrueLoads, Comes, ComesAll, EventsFollow, IsTrueLoad}
 use Rattle.world_rules.proofs.Beginnings.{new_worlds_stand}
 use Rattle.world_rules.proofs.Budgets.{Owns, new_worlds_pay, none_left, pays_at, pays_loads, pays_unplugs, rests_over, same_pays}
@@ -29,10 +37,12 @@ use Rattle.world_rules.proofs.Connecting.{connect_decides}
 use Rattle.world_rules.proofs.Counted.{batches_are_counted}
 use Rattle.world_rules.proofs.Dialling.{dial_decides}
 use Rattle.world_rules.proofs.FedEvent.{delivery_decides}
+use Rattle.world_rules.proofs.Filed.{new_files}
 use Rattle.world_rules.proofs.Hearing.{deliver_decides}
 use Rattle.world_rules.proofs.Lists.{within}
 use Rattle.world_rules.proofs.Loading.{loads_follow}
 use Rattle.world_rules.proofs.Losing.{control_decides}
+use Rattle.world_rules.proofs.Named.{AllSpared, all_spared, refuses}
 use Rattle.world_rules.proofs.OneAnswer.{all_requests}
 use Rattle.world_rules.proofs.Paged.{pages_are_meant}
 use Rattle.world_rules.proofs.Promised.{outcomes_are_right, scans_are_meant}
@@ -210,15 +220,26 @@ events_follow source events t w v h sheets run =
       pays = all.pays;
     }
 
+ended_named : (u : Told) (v : Scene) (i : ℕ) (post : Post) (status : Status) (why : Why) → Stands u v → slice_get v.posts i ≡ Some post → AllSpared u.rules → post.client.outcome ≡ Ended status why → (status ≢ Good) × (status ≢ Eof)
+ended_named u v i post status why h at spared e =
+    let cause : HasCause u i status why = subst (IsOutcome u i) e (outcomes_are_right u v i post h at) in
+    refuses (make_for u.rules i) (u.rules.party i) status cause.0 (spared i) cause.2
+
 pub all_kept : AllIsKept
 all_kept source events jobs other devices w v new daemon names steady fit sheets run =
     let stood = events_follow source events _ w v (new_worlds_stand jobs other devices w new daemon names steady fit) sheets run in
     let u = stood.then_told in
     let pays = stood.pays (new_worlds_pay jobs other devices w new fit) in
+    let files = stands_run source events w v run (new_files jobs w.posts fit new) in
+    let spared : AllSpared u.rules = subst AllSpared (sym stood.rules_are) (all_spared _ stood.steps stood.legal (λ i none. none)) in
     record {
       stood = stood;
       promises = record {
         outcomes = λ i post at. outcomes_are_right u v i post stood.stands at;
+        statuses = λ i post status why at e. ended_named u v i post status why stood.stands at spared e;
+        short = λ i post file at undone file_is whole. short_tells post file (files i post at) undone file_is whole;
+        starved = λ i post at none. none_tells post (files i post at) none;
+        pages_starved = λ i k post at positive most few none. page_none_tells post k (files i post at) positive most few none;
         scans = λ i post reports file at task done file_is. scans_are_meant u v i post reports file stood.stands at task done file_is;
         batches = λ i count post reports at task done. batches_are_counted u v i count post reports stood.stands (subst (λ (n : ℕ). i < n) (sym stood.stands.is_of.count) (within v.posts i post at)) at task done;
         moves = λ i post event at next. nobody_is_stuck u v i post event stood.stands at next;

@@ -82,4 +82,6 @@ pub mod Lengths
 pub mod Paying
 pub mod Spending
 pub mod Budgets
+pub mod Named
+pub mod Filed
 pub mod Followed

@@ -19,20 +19,21 @@ use Rattle.option_desc.specs.declared.value.Value.{Value}
 use Rattle.client_rules.specs.Talks.{errand_of, is_batch, shows}
 use Rattle.net_client.specs.Talker.{talk_of}
 use Rattle.scan_rules.specs.Words as words
-use Rattle.scan_rules.specs.Devices.{status_of}
+use Rattle.scan_rules.specs.Devices.{Make, Options, descriptors_of, status_of}
 use Rattle.scan_rules.specs.Client as rules
 use Rattle.scan_rules.specs.Client.{Idle, Mind, Stage}
 use Rattle.scan_rules.specs.InForce as ruled
 use Rattle.scan_rules.specs.Scanners.{Begin}
 use Rattle.scan_rules.specs.Settings.{pair_of}
-use Rattle.scan_rules.specs.Sound.{Sound}
-use Rattle.scan_rules.specs.Standing.{make_for}
-use Rattle.scan_rules.specs.Sync.{IsPicture}
+use Rattle.scan_rules.specs.Sound.{IsDone, Sound, Talks}
+use Rattle.scan_rules.specs.Standing.{Base, Standing, make_for, wanted}
+use Rattle.scan_rules.specs.Sync.{IsPicture, IsSettled}
 use Rattle.scan_rules.proofs.Meaning.{pictures_meant}
 use Rattle.scan_rules.proofs.Promised.{done_allowed, ends_caused, lists_right, scans_right, settings_answered, shows_right}
 use Rattle.scan_rules.proofs.SameSettings.{settings_same}
 use Rattle.client_reading.specs.Lives.{EndAlike}
-use Rattle.client_reading.specs.Reading.{ShowsAs, descs, put_by, shown, task_of, wholes, wish_of}
+use Rattle.client_reading.specs.Reading.{AreTellers, ShowsAs, descs, put_by, put_of, shown, task_of, wholes, wish_of}
+use Rattle.client_reading.proofs.Filled.{is_filled}
 use Rattle.client_reading.proofs.Outcomes.{outcomes_alike}
 use Rattle.scan_world.specs.declared.post.Post.{Post}
 use Rattle.scan_world.specs.Deeds.{is_done}
@@ -40,7 +41,7 @@ use Rattle.scan_world.specs.Draining.{Keeps}
 use Rattle.scan_world.specs.Worlds.{Scene}
 use Rattle.world_rules.specs.Told.{Told, place_in}
 use Rattle.world_rules.specs.Stands.{IsFinished, KeepsFiles, Stands, is_laid, woken}
-use Rattle.world_rules.specs.Promises.{AreShown, HasCause, IsMeant, IsOutcome, KeepsPromise, OutcomesAreRight, ScansAreMeant}
+use Rattle.world_rules.specs.Promises.{AreReported, AreShown, HasCause, IsMeant, IsOutcome, KeepsPromise, OutcomesAreRight, ScansAreMeant}
 use Rattle.world_rules.proofs.Minds.{under_by, woken_under}
 
 -- ---- a mind that is over is the rules' own
@@ -75,7 +76,7 @@ no_list tasks.Scan n = λ e. let clash : rules.Scan ≡ rules.List_ = e in absur
 no_list (tasks.Batch count) n = λ e. let clash : rules.Batch _ ≡ rules.List_ = e in absurd (cc)
 
 -- what is shown is what the rules tell
-shows_as : (task : Task) (options : List (Descriptor × Option Value)) (m : Mind) → task ≡ tasks.Show → ShowsAs (shows task) options m → (m.known ≡ descs options) × (m.values ≡ shown options)
+shows_as : (task : Task) (options : List (Descriptor × Option Value)) (m : Mind) → task ≡ tasks.Show → ShowsAs (shows task) options m → (m.known ≡ descs options) × (m.values ≡ shown options) × AreTellers options
 shows_as task options m e h = subst (λ (x : Task). ShowsAs (shows x) options m) e h
 
 options_shown : (t : Told) (i : ℕ) (reports : Reports) → Sound t.rules → (t.rules.party i).mind.stage ≡ rules.Done → (t.rules.party i).base.job.task ≡ rules.Show → (t.jobs i).task ≡ tasks.Show → woken (t.rules.party i).mind.stage (t.rules.party i).mind ≡ (t.rules.party i).mind →
@@ -84,7 +85,39 @@ options_shown t i reports sound stage ruled task same h =
     let m = (t.rules.party i).mind in
     let told = shows_as (t.jobs i).task reports.options m task (subst (λ (x : Mind). ShowsAs (shows (t.jobs i).task) reports.options x) same h) in
     let right = shows_right t.rules i sound stage ruled in
-    record { in_force = right.0; settled = right.1; descriptors = sym told.0 ∙ right.2; values = sym told.1 ∙ right.3 }
+    record {
+      in_force = right.0;
+      settled = right.1;
+      descriptors = sym told.0 ∙ right.2;
+      values = sym told.1 ∙ right.3;
+      filled = is_filled (make_for t.rules i) right.0 (descriptors_of (make_for t.rules i) right.0) reports.options told.2 (sym told.0 ∙ right.2) (sym told.1 ∙ right.3);
+    }
+
+-- the settings of a job that is done are those of the rules' fold
+settled_for : (k : Make) (b : Base) (m : Mind) (task : rules.Task) → task ≢ rules.List_ → IsDone k b m task → (o : Options) × IsSettled k b.job b.sent m.reports o
+settled_for k b m rules.List_ n h = absurd (n refl)
+settled_for k b m rules.Show n h = (h.options, h.settled)
+settled_for k b m rules.SetOnly n h = h
+settled_for k b m rules.Scan n h = h.0
+settled_for k b m (rules.Batch l) n h = h.0
+
+done_at : (s : Standing) (i : ℕ) (st : Stage) → st ≡ rules.Done → Talks i (make_for s i) (s.party i) (wanted s i) st → IsDone (make_for s i) (s.party i).base (s.party i).mind (s.party i).base.job.task
+done_at s i st e h = subst (λ (x : Stage). Talks i (make_for s i) (s.party i) (wanted s i) x) e h
+
+settings_kept : (t : Told) (w : Scene) (i : ℕ) (post : Post) (reports : Reports) → Stands t w → slice_get w.posts i ≡ Some post → (t.rules.party i).mind.stage ≡ rules.Done → (t.rules.party i).base.job.task ≢ rules.List_ → map put_by (t.rules.party i).mind.reports ≡ map put_of reports.settings →
+    AreReported t i reports.settings
+settings_kept t w i post reports h at stage no_list are =
+    let me = t.rules.party i in
+    let k = make_for t.rules i in
+    let settled = settled_for k me.base me.mind me.base.job.task no_list (done_at t.rules i me.mind.stage stage (h.sound.talks i)) in
+    let wishes : me.base.job.settings ≡ map wish_of (t.jobs i).settings.items = ap (λ (x : rules.Job). x.settings) (h.posts i post at).job_is in
+    record {
+      reports = me.mind.reports;
+      options = settled.0;
+      are = are;
+      forced = subst (λ (x : List words.Wish). ruled.in_force k x ≡ Some (record { options = settled.0; reports = me.mind.reports })) wishes settled.1.forced;
+      answered = subst (λ (x : List words.Wish). ruled.AreAnswered k x me.mind.reports) wishes (settings_answered t.rules i h.sound stage no_list);
+    }
 
 pub kept_promise : (t : Told) (w : Scene) (i : ℕ) (post : Post) (reports : Reports) → Stands t w → slice_get w.posts i ≡ Some post → post.client.outcome ≡ outcomes.Done reports → KeepsPromise t i reports
 kept_promise t w i post reports h at e =
@@ -95,7 +128,7 @@ kept_promise t w i post reports h at e =
     let task = task_is t w i post h at in
     record {
       stage = stage;
-      settings = λ n. record { reports = me.mind.reports; are = ap (λ (m : Mind). map put_by m.reports) (sym same) ∙ d.settings; answered = settings_answered t.rules i h.sound stage (λ l. no_list (t.jobs i).task n (sym task ∙ l)) };
+      settings = λ n. settings_kept t w i post reports h at stage (λ l. no_list (t.jobs i).task n (sym task ∙ l)) (ap (λ (m : Mind). map put_by m.reports) (sym same) ∙ d.settings);
       permitted = λ n. done_allowed t.rules i h.sound stage (λ l. no_list (t.jobs i).task n (sym task ∙ l));
       options = λ l. options_shown t i reports h.sound stage (task ∙ ap task_of l) l same d.options;
       devices = λ l. lists_right t.rules i h.sound stage (task ∙ ap task_of l) ∙ ap (λ (x : List ℕ). Some x) (ap (λ (m : Mind). m.devices) (sym same) ∙ d.devices);

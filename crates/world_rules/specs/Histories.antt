@@ -1,5 +1,8 @@
 -- What a list of events does to what stands, in whatever order they come, and what is promised behind it.
-use Rattle.std.specs.Prelude.{ℕ, ◌≡◌, ◌<◌, ◌++◌, true, false, Option, Some, None, IsSome, List, [], ◌∷◌, All, slice_get}
+use Rattle.std.specs.Prelude.{ℕ, ◌≡◌, ◌≢◌, ◌≤◌, ◌<◌, ◌++◌, true, false, Option, Some, None, IsSome, List, [], ◌∷◌, All, slice_get}
+use Rattle.sane_fixed.specs.declared.status.Status.{Status}
+use Rattle.sane_fixed.specs.declared.status.Status.TheVariants.{Good, Eof}
+use Rattle.netpbm.specs.Pnm.{IsWhole}
 use Rattle.page_picture.specs.Page.{IsSheet}
 use Rattle.page_picture.specs.Source.{SourceState}
 use Rattle.page_picture.specs.declared.sources.kinds.Source.{Source}
@@ -7,7 +10,8 @@ use Rattle.device_api.specs.State.{DeviceState}
 use Rattle.dispatch.specs.RegistryFault.{HaveOwnNames}
 use Rattle.scan_job.specs.declared.job.Job.{Job}
 use Rattle.scan_job.specs.declared.job.Task.TheVariants as tasks
-use Rattle.scan_job.specs.declared.outcome.Outcome.TheVariants.{Done}
+use Rattle.scan_job.specs.declared.outcome.Outcome.TheVariants.{Done, Ended}
+use Rattle.scan_job.specs.declared.outcome.Why.{Why}
 use Rattle.scan_job.specs.declared.report.Reports.{Reports}
 use Rattle.scan_rules.specs.Marks.{Goes, slot_of}
 use Rattle.scan_rules.specs.Runs.{all_marks}
@@ -17,7 +21,9 @@ use Rattle.scan_world.specs.declared.event.Event.TheVariants.{Connect, ToDaemon,
 use Rattle.scan_world.specs.declared.event.Deed.TheVariants as deeds
 use Rattle.client_rules.specs.Talks.{is_running}
 use Rattle.scan_world.specs.declared.post.Post.{Post}
+use Rattle.scan_world.specs.Deeds.{is_done}
 use Rattle.scan_world.specs.Moves.{IsNextMove, left_of}
+use Rattle.scan_world.specs.Posts.{page_of}
 use Rattle.scan_world.specs.Rounds.{RestsAt}
 use Rattle.scan_world.specs.Worlds.{AreNew, IsFit, Runs, Scene}
 use Rattle.world_rules.specs.Told.{Told}
@@ -76,10 +82,16 @@ EventsFollow = (source : Source → SourceState) (events : List Event) (t : Told
 
 -- ---- the headline
 
--- of each job: its outcome is the rules', the file of a scan that is done and those of a batch's finished pages denote what the job's
--- settings mean on the pages of its starts, a batch has its pages, and a job that runs has a next move
+-- Of each job: its outcome is the rules', and one that is refused names a status; the file of a scan that is done and those of a
+-- batch's finished pages denote what the job's settings mean on the pages of its starts, the file of a job that is not done is never
+-- whole, and a file is none only where the job is told as starved; a batch has its pages, and a job that runs has a next move.
 pub record Promises (u : Told) (v : Scene) : Type 0 where
   pub outcomes : (i : ℕ) (post : Post) → slice_get v.posts i ≡ Some post → IsOutcome u i post.client.outcome
+  pub statuses : (i : ℕ) (post : Post) (status : Status) (why : Why) → slice_get v.posts i ≡ Some post → post.client.outcome ≡ Ended status why → (status ≢ Good) × (status ≢ Eof)
+  pub short : (i : ℕ) (post : Post) (file : List ℕ) → slice_get v.posts i ≡ Some post → is_done post.client.outcome ≡ false → post.file ≡ Some file → IsWhole file → ⊥
+  pub starved : (i : ℕ) (post : Post) → slice_get v.posts i ≡ Some post → post.file ≡ None → post.is_starved ≡ true
+  -- page k of the finished ones, from 1
+  pub pages_starved : (i k : ℕ) (post : Post) → slice_get v.posts i ≡ Some post → 0 < k → k ≤ post.finished → k ≤ 16 → page_of post k ≡ None → post.is_starved ≡ true
   pub scans : (i : ℕ) (post : Post) (reports : Reports) (file : List ℕ) → slice_get v.posts i ≡ Some post → (u.jobs i).task ≡ tasks.Scan → post.client.outcome ≡ Done reports → post.file ≡ Some file → HasScanned u i file
   pub batches : (i count : ℕ) (post : Post) (reports : Reports) → slice_get v.posts i ≡ Some post → (u.jobs i).task ≡ tasks.Batch count → post.client.outcome ≡ Done reports → IsCounted u i count post
   pub moves : (i : ℕ) (post : Post) (event : Option Event) → slice_get v.posts i ≡ Some post → IsNextMove v.daemon i post event → (is_running post.client.outcome ≡ true → IsSome event) × (is_running post.client.outcome ≡ false → event ≡ None)

@@ -18,14 +18,16 @@ use Rattle.scan_rules.specs.Words as words
 use Rattle.scan_rules.specs.Causes.{Met, TrayRanOut}
 use Rattle.scan_rules.specs.Devices.{Make, Options, descriptors_of, readable, status_of}
 use Rattle.scan_rules.specs.Client as rules
+use Rattle.scan_rules.specs.InForce as ruled
 use Rattle.scan_rules.specs.InForce.{AreAnswered, values_of}
 use Rattle.scan_rules.specs.Scanners.{Begin}
 use Rattle.scan_rules.specs.Standing.{make_for}
 use Rattle.scan_rules.specs.Steps.{IsUnderWay}
 use Rattle.scan_rules.specs.Sound.{IsCaused}
 use Rattle.scan_rules.specs.Sync.{IsPermitted, IsSettled}
+use Rattle.client_reading.specs.Filled.{IsFilled}
 use Rattle.client_reading.specs.Senses.{why_of}
-use Rattle.client_reading.specs.Reading.{descs, put_by, put_of, shown}
+use Rattle.client_reading.specs.Reading.{descs, put_by, put_of, shown, wish_of}
 use Rattle.client_rules.specs.Talks.{is_running}
 use Rattle.scan_world.specs.declared.event.Event.{Event}
 use Rattle.scan_world.specs.declared.post.Post.{Post}
@@ -36,22 +38,26 @@ use Rattle.world_rules.specs.Stands.{Stands}
 
 -- ---- outcomes
 
--- of each setting, in order: what its text reads as, the nearest admitted value, and INEXACT just where the two differ
+-- Of each setting, in order: what its text reads as, the nearest admitted value, and INEXACT just where the two differ. They are put
+-- one after another from the defaults on, each by the descriptors in force then.
 pub record AreReported (t : Told) (i : ℕ) (settings : List Report) : Type 0 where
   pub reports : List words.Report
+  pub options : Options
   pub are : map put_by reports ≡ map put_of settings
-  pub answered : AreAnswered (make_for t.rules i) (party t i).base.job.settings reports
+  pub forced : ruled.in_force (make_for t.rules i) (map wish_of (t.jobs i).settings.items) ≡ Some (record { options = options; reports = reports })
+  pub answered : AreAnswered (make_for t.rules i) (map wish_of (t.jobs i).settings.items) reports
 
 -- the devices that were listed as the daemon read the request, in their order
 abbrev pub AreListed : Told → ℕ → List DeviceInfo → Type 0
 AreListed t i infos = (party t i).base.shown ≡ Some (map (place_in t.names) infos)
 
--- the descriptors and the values of the options in force, as the job's settings made them
+-- the descriptors of the options in force, as the job's settings made them, and at each whose value is told that value
 pub record AreShown (t : Told) (i : ℕ) (options : List (Descriptor × Option Value)) : Type 0 where
   pub in_force : Options
   pub settled : IsSettled (make_for t.rules i) (party t i).base.job (party t i).base.sent (party t i).mind.reports in_force
   pub descriptors : descs options ≡ descriptors_of (make_for t.rules i) in_force
   pub values : shown options ≡ values_of (make_for t.rules i) in_force (readable (descriptors_of (make_for t.rules i) in_force))
+  pub filled : IsFilled (make_for t.rules i) in_force (descriptors_of (make_for t.rules i) in_force) options
 
 -- a job that is done kept its promise: on its settings and on permission, on the options that it shows, or on the list
 pub record KeepsPromise (t : Told) (i : ℕ) (reports : Reports) : Type 0 where
