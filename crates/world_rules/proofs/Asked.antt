@@ -1,16 +1,14 @@
 -- A request of a job's client, as a call by the rules.
 use Rattle.std.specs.Prelude.{option_map, position, ◌/◌}
-use Rattle.std.proofs.Common.{◌≡◌, ◌≢◌, ◌⊎◌, inl, inr, ◌∙◌, ℕ, zero, suc, ◌+◌, ◌<◌, List, [], ◌∷◌, Option, Some, None, Bool, true, false, cond, eqb, refl, sym, ap, subst, map, length, slice_get, get_or, arith}
+use Rattle.std.proofs.Common.{◌≡◌, ◌≢◌, ◌⊎◌, inl, inr, ◌∙◌, ℕ, zero, suc, List, [], ◌∷◌, Option, Some, None, Bool, false, eqb, refl, sym, ap, subst, map, length, slice_get}
 use Rattle.std.proofs.lemmas.List.{length-map}
-use Rattle.std.proofs.lemmas.List.Quantifiers.{position-Some}
-use Rattle.std.proofs.lemmas.Iterator.Adapters.{position_from-zero}
-use Rattle.std.specs.List.{position_from}
 use Rattle.sane_fixed.specs.declared.kind.Kind.{Kind}
 use Rattle.option_desc.specs.declared.descriptor.Descriptor.{Descriptor}
 use Rattle.option_desc.specs.declared.value.Value.{Value}
 use Rattle.md5_auth.specs.declared.users.Entry.{Entry}
 use Rattle.device_api.specs.Options.{descriptors_of as table_options}
 use Rattle.device_api.specs.State.{DeviceState}
+use Rattle.device_api.specs.declared.device_info.DeviceInfo.{DeviceInfo}
 use Rattle.dispatch.specs.declared.table.place.Lease.{Lease}
 use Rattle.dispatch.specs.declared.table.place.Place.{Place}
 use Rattle.dispatch.specs.declared.table.place.Slot.{Slot}
@@ -46,57 +44,22 @@ use Rattle.desk_rules.specs.WholeSessions.{IsGuarded, IsJudged}
 use Rattle.desk_rules.proofs.Changes.{Held}
 use Rattle.desk_rules.proofs.Moved.{unsome}
 use Rattle.desk_rules.proofs.Others.{IsThere}
-use Rattle.world_rules.specs.Told.{found, place_named, rules_job}
+use Rattle.world_rules.specs.Told.{found, name_at, place_named, rules_job}
 use Rattle.world_rules.specs.Speaks.{Awaits, SetsAsHeld, SpeaksAs}
-use Rattle.world_rules.specs.Stands.{AreApart, are_named, session_by}
+use Rattle.world_rules.specs.Stands.{AreApart, info_at, session_by}
 use Rattle.world_rules.proofs.Calling.{word_wanted}
 use Rattle.world_rules.proofs.Finding.{find_there, found_place, names_at}
-use Rattle.world_rules.proofs.Judged.{guards, judged, same_is, same_of}
+use Rattle.world_rules.proofs.Infos.{is_name, name_here, place_is}
+use Rattle.world_rules.proofs.Judged.{guards, judged}
 use Rattle.world_rules.proofs.Setting.{asked_again}
 
 -- ---- the place of a name
-
-there_is : {X : Type 0} (xs : List X) (k : ℕ) (d : X) → k < length xs → slice_get xs k ≡ Some (get_or xs k d)
-there_is [] k d low = absurd (omega (arith, low))
-there_is (x ∷ xs) zero d low = refl
-there_is (x ∷ xs) (suc k) d low = there_is xs k d (omega (arith, low))
 
 past_end : {X : Type 0} (xs : List X) → slice_get xs (length xs) ≡ None
 past_end [] = refl
 past_end (x ∷ xs) = past_end xs
 
--- where a test finds none it fails at each
-fails_by : {X : Type 0} (test : X → Bool) (n : ℕ) (x : X) (xs : List X) (b : Bool) → test x ≡ b → cond (test x) (Some n) (position_from test (n + 1) xs) ≡ None → (test x ≡ false) × (position_from test (n + 1) xs ≡ None)
-fails_by test n x xs true e h = absurd (let clash : Some n ≡ None = sym (ap (λ (b : Bool). cond b (Some n) (position_from test (n + 1) xs)) e) ∙ h in cc)
-fails_by test n x xs false e h = (e, sym (ap (λ (b : Bool). cond b (Some n) (position_from test (n + 1) xs)) e) ∙ h)
-
-fails_from : {X : Type 0} (test : X → Bool) (n : ℕ) (xs : List X) (k : ℕ) (x : X) → position_from test n xs ≡ None → slice_get xs k ≡ Some x → test x ≡ false
-fails_from test n [] k x h at = absurd (let clash : None ≡ Some x = at in cc)
-fails_from test n (y ∷ xs) zero x h at = subst (λ (z : _). test z ≡ false) (unsome y x at) (fails_by test n y xs (test y) refl h).0
-fails_from test n (y ∷ xs) (suc k) x h at = fails_from test (n + 1) xs k x (fails_by test n y xs (test y) refl h).1 at
-
-abbrev is_name : List ℕ → List ℕ → Bool
-is_name name other = same_text other name
-
-name_here : (names : List (List ℕ)) (name : List ℕ) (j : ℕ) → position (is_name name) names ≡ Some j → slice_get names j ≡ Some name
-name_here names name j e =
-    let p = position-Some (is_name name) names j name e in
-    there_is names j name p.0 ∙ ap (λ (x : List ℕ). Some x) (same_is (get_or names j name) name p.1)
-
-name_nowhere : (names : List (List ℕ)) (name : List ℕ) (k : ℕ) → position (is_name name) names ≡ None → slice_get names k ≡ Some name → ⊥
-name_nowhere names name k e at =
-    let fails = fails_from (is_name name) 0 names k name (sym (position_from-zero (is_name name) names) ∙ e) at in
-    let clash : true ≡ false = sym (same_of name name refl) ∙ fails in absurd (cc)
-
-place_by : (names : List (List ℕ)) (name : List ℕ) (k : ℕ) (o : Option ℕ) → position (is_name name) names ≡ o → AreApart names → slice_get names k ≡ Some name → found (length names) o ≡ k
-place_by names name k None e apart at = absurd (name_nowhere names name k e at)
-place_by names name k (Some j) e apart at = apart j k name (name_here names name j e) at
-
--- the place of a name that stands there
-pub place_is : (names : List (List ℕ)) (name : List ℕ) (k : ℕ) → AreApart names → slice_get names k ≡ Some name → place_named names name ≡ k
-place_is names name k apart at = place_by names name k (position (is_name name) names) refl apart at
-
-named_at : (t : Table) (k : ℕ) (name : List ℕ) → slice_get (map are_named t) k ≡ Some name → (p : Place DeviceState) × (slice_get t k ≡ Some p) × (p.info.name ≡ name)
+named_at : (t : Table) (k : ℕ) (name : List ℕ) → name_at (map info_at t) k ≡ Some name → (p : Place DeviceState) × (slice_get t k ≡ Some p) × (p.info.name ≡ name)
 named_at [] k name e = absurd (let clash : None ≡ Some name = e in cc)
 named_at (p ∷ t) zero name e = (p, refl, unsome p.info.name name e)
 named_at (p ∷ t) (suc k) name e = named_at t k name e
@@ -113,28 +76,28 @@ unlisted_at : (i : ℕ) (make : Make) (held : Held) (k : ℕ) (dev : Device) (o 
 unlisted_at i make held k dev o p e gone h = unlisted_slot i make held k dev p.info.name p.slot gone (subst (ShowsPlace i make held k dev) e h)
 
 -- a name that is not found is of a place that is not listed
-nobody_found : (i : ℕ) (make : ℕ → Make) (held : Held) (registry : Table) (device : ℕ → Device) (name : List ℕ) (o : Option ℕ) → AreApart (map are_named registry) → ShowsTable i make held registry device → find_name name registry ≡ None → position (is_name name) (map are_named registry) ≡ o →
-    (device (found (length (map are_named registry)) o)).listed ≡ false
+nobody_found : (i : ℕ) (make : ℕ → Make) (held : Held) (registry : Table) (device : ℕ → Device) (name : List ℕ) (o : Option ℕ) → AreApart (map info_at registry) → ShowsTable i make held registry device → find_name name registry ≡ None → position (is_name name) (map info_at registry) ≡ o →
+    (device (found (length (map info_at registry)) o)).listed ≡ false
 nobody_found i make held registry device name None apart h none e =
-    let far : slice_get registry (length (map are_named registry)) ≡ None = ap (slice_get registry) (length-map registry are_named) ∙ past_end registry in
-    (subst (ShowsPlace i (make (length (map are_named registry))) held (length (map are_named registry)) (device (length (map are_named registry)))) far (h.places (length (map are_named registry)))).0
+    let far : slice_get registry (length (map info_at registry)) ≡ None = ap (slice_get registry) (length-map registry info_at) ∙ past_end registry in
+    (subst (ShowsPlace i (make (length (map info_at registry))) held (length (map info_at registry)) (device (length (map info_at registry)))) far (h.places (length (map info_at registry)))).0
 nobody_found i make held registry device name (Some j) apart h none e =
-    let p = named_at registry j name (name_here (map are_named registry) name j e) in
+    let p = named_at registry j name (name_here (map info_at registry) name j e) in
     by_slot p.0 p.1 p.2 (gone_or p.0.slot)
   where
     by_slot : (p : Place DeviceState) → slice_get registry j ≡ Some p → p.info.name ≡ name → (p.slot ≡ Gone) ⊎ IsThere p.slot → (device j).listed ≡ false
     by_slot p at named (inl gone) = unlisted_at i (make j) held j (device j) (slice_get registry j) p at gone (h.places j)
     by_slot p at named (inr there) = absurd (let clash : None ≡ Some j = sym none ∙ find_there registry name j p apart at named there in cc)
 
-names_by : (i : ℕ) (make : ℕ → Make) (held : Held) (registry : Table) (device : ℕ → Device) (name : List ℕ) (o : Option ℕ) → AreApart (map are_named registry) → ShowsTable i make held registry device → find_name name registry ≡ o → NamesPlace o device (place_named (map are_named registry) name)
-names_by i make held registry device name None apart h e = nobody_found i make held registry device name (position (is_name name) (map are_named registry)) apart h e refl
+names_by : (i : ℕ) (make : ℕ → Make) (held : Held) (registry : Table) (device : ℕ → Device) (name : List ℕ) (o : Option ℕ) → AreApart (map info_at registry) → ShowsTable i make held registry device → find_name name registry ≡ o → NamesPlace o device (place_named (map info_at registry) name)
+names_by i make held registry device name None apart h e = nobody_found i make held registry device name (position (is_name name) (map info_at registry)) apart h e refl
 names_by i make held registry device name (Some k) apart h e =
     let f = found_place registry name k e in
-    sym (place_is (map are_named registry) name k apart (names_at registry k f.place f.at ∙ ap (λ (x : List ℕ). Some x) f.name_is))
+    sym (place_is (map info_at registry) name k apart (names_at registry k f.place f.at ∙ ap (λ (x : List ℕ). Some x) f.name_is))
 
-pub names_place : (i : ℕ) (make : ℕ → Make) (held : Held) (registry : Table) (device : ℕ → Device) (names : List (List ℕ)) (name : List ℕ) → names ≡ map are_named registry → AreApart names → ShowsTable i make held registry device → Names name registry device (place_named names name)
-names_place i make held registry device names name same apart h =
-    subst (λ (all : List (List ℕ)). Names name registry device (place_named all name)) (sym same) (names_by i make held registry device name (find_name name registry) (subst AreApart same apart) h refl)
+pub names_place : (i : ℕ) (make : ℕ → Make) (held : Held) (registry : Table) (device : ℕ → Device) (infos : List DeviceInfo) (name : List ℕ) → infos ≡ map info_at registry → AreApart infos → ShowsTable i make held registry device → Names name registry device (place_named infos name)
+names_place i make held registry device infos name same apart h =
+    subst (λ (all : List DeviceInfo). Names name registry device (place_named all name)) (sym same) (names_by i make held registry device name (find_name name registry) (subst AreApart same apart) h refl)
 
 -- ---- what the session holds
 
@@ -223,15 +186,15 @@ abbrev pub all_around : Party → List ℕ → ℕ → Around
 all_around p listed k = around p.base listed [] None
 
 -- what the job's session stands on
-pub record IsSession (i : ℕ) (make : ℕ → Make) (users : List Entry) (names : List (List ℕ)) (job : Job) (d : Desk) (device : ℕ → Device) (p : Party) : Type 0 where
-  pub job_is : p.base.job ≡ rules_job users names job
-  pub names_are : names ≡ map are_named d.registry
-  pub apart : AreApart names
+pub record IsSession (i : ℕ) (make : ℕ → Make) (users : List Entry) (infos : List DeviceInfo) (job : Job) (d : Desk) (device : ℕ → Device) (p : Party) : Type 0 where
+  pub job_is : p.base.job ≡ rules_job users infos job
+  pub infos_are : infos ≡ map info_at d.registry
+  pub apart : AreApart infos
   pub shows : Shows i make d device (session_by i device p)
   pub speaks : SpeaksAs job.device p d.session
 
-wants_is : (users : List Entry) (names : List (List ℕ)) (job : Job) (p : Party) → p.base.job ≡ rules_job users names job → p.base.job.wants ≡ place_named names job.device
-wants_is users names job p e = ap (λ (j : rules.Job). j.wants) e
+wants_is : (users : List Entry) (infos : List DeviceInfo) (job : Job) (p : Party) → p.base.job ≡ rules_job users infos job → p.base.job.wants ≡ place_named infos job.device
+wants_is users infos job p e = ap (λ (j : rules.Job). j.wants) e
 
 -- a SET whose value is not of its option's type: the daemon and the rules refuse it
 pub record IsOdd (i : ℕ) (make : ℕ → Make) (d : Desk) (device : ℕ → Device) (p : Party) (q : Asked) (r : Request) : Type 0 where
@@ -248,93 +211,93 @@ pub record IsOdd (i : ℕ) (make : ℕ → Make) (d : Desk) (device : ℕ → De
 abbrev pub IsFree : ℕ → (ℕ → Make) → List Entry → Desk → (ℕ → Device) → Party → List ℕ → Asked → Request → Type 0
 IsFree i make users d device p listed q r = IsFreeCall users d device q (call_to p.base.job.wants r) (all_around p listed) ⊎ IsOdd i make d device p q r
 
-pub open_names : (i : ℕ) (make : ℕ → Make) (users : List Entry) (names : List (List ℕ)) (job : Job) (d : Desk) (device : ℕ → Device) (p : Party) (name : List ℕ) → IsSession i make users names job d device p → name ≡ job.device → Names name d.registry device p.base.job.wants
-open_names i make users names job d device p name h is =
+pub open_names : (i : ℕ) (make : ℕ → Make) (users : List Entry) (infos : List DeviceInfo) (job : Job) (d : Desk) (device : ℕ → Device) (p : Party) (name : List ℕ) → IsSession i make users infos job d device p → name ≡ job.device → Names name d.registry device p.base.job.wants
+open_names i make users infos job d device p name h is =
     subst (λ (n : List ℕ). Names n d.registry device p.base.job.wants) (sym is)
-    (subst (λ (k : ℕ). Names job.device d.registry device k) (sym (wants_is users names job p h.job_is)) (names_place i make d.session.held d.registry device names job.device h.names_are h.apart h.shows.devices))
+    (subst (λ (k : ℕ). Names job.device d.registry device k) (sym (wants_is users infos job p h.job_is)) (names_place i make d.session.held d.registry device infos job.device h.infos_are h.apart h.shows.devices))
 
-pub open_guarded : (i : ℕ) (make : ℕ → Make) (users : List Entry) (names : List (List ℕ)) (job : Job) (d : Desk) (device : ℕ → Device) (p : Party) (name : List ℕ) → IsSession i make users names job d device p → name ≡ job.device → IsGuarded users name p.base.job.guarded
-open_guarded i make users names job d device p name h is =
+pub open_guarded : (i : ℕ) (make : ℕ → Make) (users : List Entry) (infos : List DeviceInfo) (job : Job) (d : Desk) (device : ℕ → Device) (p : Party) (name : List ℕ) → IsSession i make users infos job d device p → name ≡ job.device → IsGuarded users name p.base.job.guarded
+open_guarded i make users infos job d device p name h is =
     subst (λ (n : List ℕ). IsGuarded users n p.base.job.guarded) (sym is) (subst (λ (b : Bool). IsGuarded users job.device b) (sym (ap (λ (j : rules.Job). j.guarded) h.job_is)) (guards users job.device))
 
-set_free : (i : ℕ) (make : ℕ → Make) (users : List Entry) (names : List (List ℕ)) (job : Job) (d : Desk) (device : ℕ → Device) (p : Party) (listed : List ℕ) (known : List Descriptor) (n : ℕ) (kind : Kind) (value : WireValue) (asked : Value) → IsSession i make users names job d device p → known ≡ descriptors_of (make p.base.job.wants) (device p.base.job.wants).options →
+set_free : (i : ℕ) (make : ℕ → Make) (users : List Entry) (infos : List DeviceInfo) (job : Job) (d : Desk) (device : ℕ → Device) (p : Party) (listed : List ℕ) (known : List Descriptor) (n : ℕ) (kind : Kind) (value : WireValue) (asked : Value) → IsSession i make users infos job d device p → known ≡ descriptors_of (make p.base.job.wants) (device p.base.job.wants).options →
     IsSet 0 known n asked 0 n kind value → IsFree i make users d device p listed (requests.ControlOption 0 n actions.SetValue kind value) (Set n asked)
-set_free i make users names job d device p listed known n kind value asked h as_held is =
+set_free i make users infos job d device p listed known n kind value asked h as_held is =
     by_set (set_at i make d device p (make p.base.job.wants) known n kind value asked is.desc is.text (held_by d.session.held 0) refl h.shows as_held is.stands is.kind_is is.reads is.value_is)
   where
     by_set : SetComes i device p d (make p.base.job.wants) n kind value asked → IsFree i make users d device p listed (requests.ControlOption 0 n actions.SetValue kind value) (Set n asked)
     by_set (inl asks) = inl (asked, asks, (refl, refl))
     by_set (inr odd) = inr (record { option = n; kind = kind; value = value; asked = asked; asked_is = refl; is = refl; none = odd.0; holder = odd.1; refused = odd.2 })
 
-set_there : (i : ℕ) (make : ℕ → Make) (users : List Entry) (names : List (List ℕ)) (job : Job) (d : Desk) (device : ℕ → Device) (p : Party) (listed : List ℕ) (known : List Descriptor) (w o n : ℕ) (kind : Kind) (value : WireValue) (asked : Value) → IsSession i make users names job d device p → known ≡ descriptors_of (make p.base.job.wants) (device p.base.job.wants).options →
+set_there : (i : ℕ) (make : ℕ → Make) (users : List Entry) (infos : List DeviceInfo) (job : Job) (d : Desk) (device : ℕ → Device) (p : Party) (listed : List ℕ) (known : List Descriptor) (w o n : ℕ) (kind : Kind) (value : WireValue) (asked : Value) → IsSession i make users infos job d device p → known ≡ descriptors_of (make p.base.job.wants) (device p.base.job.wants).options →
     IsSet 0 known n asked w o kind value → IsFree i make users d device p listed (requests.ControlOption w o actions.SetValue kind value) (Set n asked)
-set_there i make users names job d device p listed known w o n kind value asked h as_held is =
+set_there i make users infos job d device p listed known w o n kind value asked h as_held is =
     subst (λ (x : ℕ). IsFree i make users d device p listed (requests.ControlOption x o actions.SetValue kind value) (Set n asked)) (sym is.device_is)
     (subst (λ (x : ℕ). IsFree i make users d device p listed (requests.ControlOption 0 x actions.SetValue kind value) (Set n asked)) (sym is.number)
-    (set_free i make users names job d device p listed known n kind value asked h as_held (record { device_is = refl; number = refl; desc = is.desc; stands = is.stands; kind_is = is.kind_is; text = is.text; reads = is.reads; value_is = is.value_is })))
+    (set_free i make users infos job d device p listed known n kind value asked h as_held (record { device_is = refl; number = refl; desc = is.desc; stands = is.stands; kind_is = is.kind_is; text = is.text; reads = is.reads; value_is = is.value_is })))
 
 -- of a session that awaits nothing
-is_free : (i : ℕ) (make : ℕ → Make) (users : List Entry) (names : List (List ℕ)) (job : Job) (d : Desk) (device : ℕ → Device) (p : Party) (listed : List ℕ) (known : List Descriptor) (q : Asked) (r : Request) (rest : List Request) → IsSession i make users names job d device p →
+is_free : (i : ℕ) (make : ℕ → Make) (users : List Entry) (infos : List DeviceInfo) (job : Job) (d : Desk) (device : ℕ → Device) (p : Party) (listed : List ℕ) (known : List Descriptor) (q : Asked) (r : Request) (rest : List Request) → IsSession i make users infos job d device p →
     SetsAsHeld i (make p.base.job.wants) known (device p.base.job.wants) (r ∷ rest) → IsRequest (errand_of job) 0 known q r → IsFree i make users d device p listed q r
-is_free i make users names job d device p listed known (requests.Init version user) Init rest h as_held is = inl (refl, subst (λ (v : ℕ). v / 16777216 ≡ 1) (sym is.0) refl)
-is_free i make users names job d device p listed known requests.GetDevices GetDevices rest h as_held is = inl refl
-is_free i make users names job d device p listed known (requests.Open name) Open rest h as_held is = inl (refl, open_names i make users names job d device p name h is, λ free found. open_guarded i make users names job d device p name h is)
-is_free i make users names job d device p listed known (requests.Authorize resource user answer) (Authorize challenge) rest h as_held is = inl (challenge, refl)
-is_free i make users names job d device p listed known (requests.GetOptionDescriptors w) Describe rest h as_held is = inl (refl, sym is)
-is_free i make users names job d device p listed known (requests.ControlOption w o actions.GetValue kind value) (Get n) rest h as_held is = inl (ap (λ (k : ℕ). Get k) (sym is.number), sym is.device_is)
-is_free i make users names job d device p listed known (requests.ControlOption w o actions.SetValue kind value) (Set n asked) rest h as_held is = set_there i make users names job d device p listed known w o n kind value asked h as_held.1 is
-is_free i make users names job d device p listed known (requests.GetParameters w) Parameters rest h as_held is = inl (refl, sym is)
-is_free i make users names job d device p listed known (requests.Start w) Start rest h as_held is = inl (refl, sym is)
-is_free i make users names job d device p listed known (requests.Cancel w) Cancel rest h as_held is = inl (refl, sym is)
-is_free i make users names job d device p listed known (requests.Close w) Close rest h as_held is = inl (refl, sym is)
-is_free i make users names job d device p listed known requests.Exit Exit rest h as_held is = inl refl
-is_free i make users names job d device p listed known q r rest h as_held is = absurd is
+is_free i make users infos job d device p listed known (requests.Init version user) Init rest h as_held is = inl (refl, subst (λ (v : ℕ). v / 16777216 ≡ 1) (sym is.0) refl)
+is_free i make users infos job d device p listed known requests.GetDevices GetDevices rest h as_held is = inl refl
+is_free i make users infos job d device p listed known (requests.Open name) Open rest h as_held is = inl (refl, open_names i make users infos job d device p name h is, λ free found. open_guarded i make users infos job d device p name h is)
+is_free i make users infos job d device p listed known (requests.Authorize resource user answer) (Authorize challenge) rest h as_held is = inl (challenge, refl)
+is_free i make users infos job d device p listed known (requests.GetOptionDescriptors w) Describe rest h as_held is = inl (refl, sym is)
+is_free i make users infos job d device p listed known (requests.ControlOption w o actions.GetValue kind value) (Get n) rest h as_held is = inl (ap (λ (k : ℕ). Get k) (sym is.number), sym is.device_is)
+is_free i make users infos job d device p listed known (requests.ControlOption w o actions.SetValue kind value) (Set n asked) rest h as_held is = set_there i make users infos job d device p listed known w o n kind value asked h as_held.1 is
+is_free i make users infos job d device p listed known (requests.GetParameters w) Parameters rest h as_held is = inl (refl, sym is)
+is_free i make users infos job d device p listed known (requests.Start w) Start rest h as_held is = inl (refl, sym is)
+is_free i make users infos job d device p listed known (requests.Cancel w) Cancel rest h as_held is = inl (refl, sym is)
+is_free i make users infos job d device p listed known (requests.Close w) Close rest h as_held is = inl (refl, sym is)
+is_free i make users infos job d device p listed known requests.Exit Exit rest h as_held is = inl refl
+is_free i make users infos job d device p listed known q r rest h as_held is = absurd is
 
 -- of one that awaits AUTHORIZE
-authorizes : (i : ℕ) (make : ℕ → Make) (users : List Entry) (names : List (List ℕ)) (job : Job) (d : Desk) (device : ℕ → Device) (p : Party) (listed : List ℕ) (awaited : Awaited) (resource user answer : List ℕ) (challenge : Challenge) → IsSession i make users names job d device p → awaited.name ≡ job.device →
+authorizes : (i : ℕ) (make : ℕ → Make) (users : List Entry) (infos : List DeviceInfo) (job : Job) (d : Desk) (device : ℕ → Device) (p : Party) (listed : List ℕ) (awaited : Awaited) (resource user answer : List ℕ) (challenge : Challenge) → IsSession i make users infos job d device p → awaited.name ≡ job.device →
     (resource ≡ challenge) × (user ≡ job.user) × (answer_of resource job.password ≡ Some answer) → IsJudged (MayOpen users awaited resource user answer) (same_text challenge awaited.resource) (p.base.job.allows awaited.resource)
-authorizes i make users names job d device p listed awaited resource user answer challenge h named is =
+authorizes i make users infos job d device p listed awaited resource user answer challenge h named is =
     subst (λ (u : List ℕ). IsJudged (MayOpen users awaited resource u answer) (same_text challenge awaited.resource) (p.base.job.allows awaited.resource)) (sym is.1)
     (subst (λ (c : List ℕ). IsJudged (MayOpen users awaited resource job.user answer) (same_text c awaited.resource) (p.base.job.allows awaited.resource)) is.0
     (subst (λ (b : Bool). IsJudged (MayOpen users awaited resource job.user answer) (same_text resource awaited.resource) b) (sym (ap (λ (j : rules.Job). j.allows awaited.resource) h.job_is))
     (judged users awaited job.device job.user job.password resource answer named is.2)))
 
-is_awaited : (i : ℕ) (make : ℕ → Make) (users : List Entry) (names : List (List ℕ)) (job : Job) (d : Desk) (device : ℕ → Device) (p : Party) (listed : List ℕ) (known : List Descriptor) (awaited : Awaited) (q : Asked) (r : Request) → IsSession i make users names job d device p → awaited.name ≡ job.device →
+is_awaited : (i : ℕ) (make : ℕ → Make) (users : List Entry) (infos : List DeviceInfo) (job : Job) (d : Desk) (device : ℕ → Device) (p : Party) (listed : List ℕ) (known : List Descriptor) (awaited : Awaited) (q : Asked) (r : Request) → IsSession i make users infos job d device p → awaited.name ≡ job.device →
     IsRequest (errand_of job) 0 known q r → IsAwaitedCall users awaited awaited.resource p.base.job.wants q (call_to p.base.job.wants r) (all_around p listed)
-is_awaited i make users names job d device p listed known awaited (requests.Authorize resource user answer) (Authorize challenge) h named is = (challenge, refl, authorizes i make users names job d device p listed awaited resource user answer challenge h named is)
-is_awaited i make users names job d device p listed known awaited (requests.Init version user) Init h named is = tt
-is_awaited i make users names job d device p listed known awaited requests.GetDevices GetDevices h named is = tt
-is_awaited i make users names job d device p listed known awaited (requests.Open name) Open h named is = tt
-is_awaited i make users names job d device p listed known awaited (requests.GetOptionDescriptors w) Describe h named is = tt
-is_awaited i make users names job d device p listed known awaited (requests.ControlOption w o actions.GetValue kind value) (Get n) h named is = tt
-is_awaited i make users names job d device p listed known awaited (requests.ControlOption w o actions.SetValue kind value) (Set n asked) h named is = tt
-is_awaited i make users names job d device p listed known awaited (requests.GetParameters w) Parameters h named is = tt
-is_awaited i make users names job d device p listed known awaited (requests.Start w) Start h named is = tt
-is_awaited i make users names job d device p listed known awaited (requests.Cancel w) Cancel h named is = tt
-is_awaited i make users names job d device p listed known awaited (requests.Close w) Close h named is = tt
-is_awaited i make users names job d device p listed known awaited requests.Exit Exit h named is = tt
-is_awaited i make users names job d device p listed known awaited q r h named is = absurd is
+is_awaited i make users infos job d device p listed known awaited (requests.Authorize resource user answer) (Authorize challenge) h named is = (challenge, refl, authorizes i make users infos job d device p listed awaited resource user answer challenge h named is)
+is_awaited i make users infos job d device p listed known awaited (requests.Init version user) Init h named is = tt
+is_awaited i make users infos job d device p listed known awaited requests.GetDevices GetDevices h named is = tt
+is_awaited i make users infos job d device p listed known awaited (requests.Open name) Open h named is = tt
+is_awaited i make users infos job d device p listed known awaited (requests.GetOptionDescriptors w) Describe h named is = tt
+is_awaited i make users infos job d device p listed known awaited (requests.ControlOption w o actions.GetValue kind value) (Get n) h named is = tt
+is_awaited i make users infos job d device p listed known awaited (requests.ControlOption w o actions.SetValue kind value) (Set n asked) h named is = tt
+is_awaited i make users infos job d device p listed known awaited (requests.GetParameters w) Parameters h named is = tt
+is_awaited i make users infos job d device p listed known awaited (requests.Start w) Start h named is = tt
+is_awaited i make users infos job d device p listed known awaited (requests.Cancel w) Cancel h named is = tt
+is_awaited i make users infos job d device p listed known awaited (requests.Close w) Close h named is = tt
+is_awaited i make users infos job d device p listed known awaited requests.Exit Exit h named is = tt
+is_awaited i make users infos job d device p listed known awaited q r h named is = absurd is
 
 -- whatever it awaits
-call_by : (i : ℕ) (make : ℕ → Make) (users : List Entry) (names : List (List ℕ)) (job : Job) (d : Desk) (device : ℕ → Device) (p : Party) (listed : List ℕ) (known : List Descriptor) (q : Asked) (r : Request) (rest : List Request) (a : Option Awaited) (sent : Option Challenge) → IsSession i make users names job d device p →
+call_by : (i : ℕ) (make : ℕ → Make) (users : List Entry) (infos : List DeviceInfo) (job : Job) (d : Desk) (device : ℕ → Device) (p : Party) (listed : List ℕ) (known : List Descriptor) (q : Asked) (r : Request) (rest : List Request) (a : Option Awaited) (sent : Option Challenge) → IsSession i make users infos job d device p →
     SetsAsHeld i (make p.base.job.wants) known (device p.base.job.wants) (r ∷ rest) → IsRequest (errand_of job) 0 known q r → Awaits job.device a sent →
     IsCallBy users d device a (option_map (λ (c : Challenge). (c, p.base.job.wants)) sent) q (call_to p.base.job.wants r) (all_around p listed) ⊎ ((a ≡ None) × (sent ≡ None) × IsOdd i make d device p q r)
-call_by i make users names job d device p listed known q r rest None sent h as_held is none = by_free (is_free i make users names job d device p listed known q r rest h as_held is)
+call_by i make users infos job d device p listed known q r rest None sent h as_held is none = by_free (is_free i make users infos job d device p listed known q r rest h as_held is)
   where
     by_free : IsFree i make users d device p listed q r → IsCallBy users d device None (option_map (λ (c : Challenge). (c, p.base.job.wants)) sent) q (call_to p.base.job.wants r) (all_around p listed) ⊎ ((◌≡◌ {A = Option Awaited} None None) × (sent ≡ None) × IsOdd i make d device p q r)
     by_free (inl call) = inl call
     by_free (inr odd) = inr (refl, none, odd)
-call_by i make users names job d device p listed known q r rest (Some awaited) sent h as_held is awaits =
+call_by i make users infos job d device p listed known q r rest (Some awaited) sent h as_held is awaits =
     inl (subst (λ (x : Option Challenge). IsCallBy users d device (Some awaited) (option_map (λ (c : Challenge). (c, p.base.job.wants)) x) q (call_to p.base.job.wants r) (all_around p listed)) (sym awaits.1)
-    (is_awaited i make users names job d device p listed known awaited q r h awaits.0 is))
+    (is_awaited i make users infos job d device p listed known awaited q r h awaits.0 is))
 
 -- the request is a call, or a SET that both refuse
 abbrev pub Calls : ℕ → (ℕ → Make) → List Entry → Desk → (ℕ → Device) → Party → List ℕ → Asked → Request → Type 0
 Calls i make users d device p listed q r = IsCall users d device (session_by i device p) q (call_to p.base.job.wants r) (all_around p listed) ⊎ ((d.session.awaited ≡ None) × (p.base.awaited ≡ None) × IsOdd i make d device p q r)
 
-pub is_call : (i : ℕ) (make : ℕ → Make) (users : List Entry) (names : List (List ℕ)) (job : Job) (d : Desk) (device : ℕ → Device) (p : Party) (listed : List ℕ) (known : List Descriptor) (q : Asked) (r : Request) (rest : List Request) → IsSession i make users names job d device p →
+pub is_call : (i : ℕ) (make : ℕ → Make) (users : List Entry) (infos : List DeviceInfo) (job : Job) (d : Desk) (device : ℕ → Device) (p : Party) (listed : List ℕ) (known : List Descriptor) (q : Asked) (r : Request) (rest : List Request) → IsSession i make users infos job d device p →
     SetsAsHeld i (make p.base.job.wants) known (device p.base.job.wants) (r ∷ rest) → IsRequest (errand_of job) 0 known q r → Calls i make users d device p listed q r
-is_call i make users names job d device p listed known q r rest h as_held is = call_by i make users names job d device p listed known q r rest d.session.awaited p.base.awaited h as_held is h.speaks.awaits
+is_call i make users infos job d device p listed known q r rest h as_held is = call_by i make users infos job d device p listed known q r rest d.session.awaited p.base.awaited h as_held is h.speaks.awaits
 
 -- its word is 0
 pub word_is : (errand : Errand) (known : List Descriptor) (q : Asked) (r : Request) → IsRequest errand 0 known q r → word_of q ≡ 0

@@ -14,6 +14,7 @@ use Rattle.device_api.specs.Allowed.{HasLimits, IsHeld, IsPageCount}
 use Rattle.device_api.specs.State.{DeviceState, Held, Phase, after_cancel, cancelled_in, feeds, is_feeder, left_behind}
 use Rattle.device_api.specs.State.Phase.{AtRest, Between, Reading}
 use Rattle.device_api.proofs.AllowedLaws.{defaults_allowed}
+use Rattle.device_api.specs.declared.device_info.DeviceInfo.{DeviceInfo}
 use Rattle.dispatch.specs.RegistryFault.{HaveOwnNames}
 use Rattle.dispatch.specs.Table.{Table, fresh_table}
 use Rattle.saned_core.specs.declared.seat.Seat.{Seat}
@@ -29,14 +30,15 @@ use Rattle.client_reading.proofs.Calling.{made_alike}
 use Rattle.desk_rules.specs.Reading.{ShowsTable, sheets}
 use Rattle.desk_rules.specs.Cores.{fresh_device, fresh_devices}
 use Rattle.desk_rules.proofs.Beginning.{registries_show}
+use Rattle.desk_rules.proofs.Moved.{unsome}
 use Rattle.scan_world.specs.declared.post.Post.{Post}
 use Rattle.scan_world.specs.Posts.{IsNew, budget_of, no_pages}
 use Rattle.scan_world.specs.Deeds.{is_done}
 use Rattle.scan_world.specs.Worlds.{AreNew, Scene}
-use Rattle.world_rules.specs.Told.{place_in, rules_job}
-use Rattle.world_rules.specs.Stands.{AreApart, AreSeated, IsBelow, IsFaithful, IsFaithfulPlace, IsFaithfulSeat, IsTrueTo, KeepsFiles, Means, Sits, SitsAt, Talks, are_named, is_laid}
+use Rattle.world_rules.specs.Told.{name_at, place_in, rules_job}
+use Rattle.world_rules.specs.Stands.{AreApart, AreSeated, IsBelow, IsFaithful, IsFaithfulPlace, IsFaithfulSeat, IsTrueTo, KeepsFiles, Means, Sits, SitsAt, Talks, info_at, is_laid}
 use Rattle.world_rules.proofs.Seated.{none_seated}
-use Rattle.world_rules.specs.Beginning.{IsNewDaemon, IsSteady, NewWorldsStand, make_of, name_of, nothing_told, wires_of}
+use Rattle.world_rules.specs.Beginning.{IsNewDaemon, IsSteady, NewWorldsStand, info_of, make_of, nothing_told, wires_of}
 use Rattle.world_rules.proofs.Faithful.{cancel_true}
 use Rattle.world_rules.proofs.Waiting.{waits_first}
 use Rattle.world_rules.proofs.Pending.{no_reply_none, no_request_none, receives_greeting}
@@ -135,22 +137,22 @@ table_true : (devices : List DeviceState) → AllByRecursion IsSteady devices �
 table_true [] h = tt
 table_true (s ∷ devices) h = (cancel_true s (steady_true s h.0), table_true devices h.1)
 
--- ---- their names
+-- ---- their infos
 
-table_names : (devices : List DeviceState) → map name_of devices ≡ map are_named (fresh_table devices)
-table_names [] = refl
-table_names (s ∷ devices) = ap (λ (names : List (List ℕ)). s.info.name ∷ names) (table_names devices)
+table_infos : (devices : List DeviceState) → map info_of devices ≡ map info_at (fresh_table devices)
+table_infos [] = refl
+table_infos (s ∷ devices) = ap (λ (infos : List DeviceInfo). s.info ∷ infos) (table_infos devices)
 
-apart_from : (name : List ℕ) (devices : List DeviceState) (k : ℕ) (other : List ℕ) → AllByRecursion (λ (s : DeviceState). name ≢ s.info.name) devices → slice_get (map name_of devices) k ≡ Some other → name ≢ other
-apart_from name [] k other h e = absurd (cc)
-apart_from name (s ∷ devices) zero other h e = λ same. h.0 (let is : s.info.name ≡ other = cc in same ∙ sym is)
+apart_from : (name : List ℕ) (devices : List DeviceState) (k : ℕ) (other : List ℕ) → AllByRecursion (λ (s : DeviceState). name ≢ s.info.name) devices → name_at (map info_of devices) k ≡ Some other → name ≢ other
+apart_from name [] k other h e = absurd (let clash : None ≡ Some other = e in cc)
+apart_from name (s ∷ devices) zero other h e = λ same. h.0 (same ∙ sym (unsome s.info.name other e))
 apart_from name (s ∷ devices) (suc k) other h e = apart_from name devices k other h.1 e
 
-apart : (devices : List DeviceState) → HaveOwnNames devices → AreApart (map name_of devices)
-apart [] h j k name e f = absurd (cc)
+apart : (devices : List DeviceState) → HaveOwnNames devices → AreApart (map info_of devices)
+apart [] h j k name e f = absurd (let clash : None ≡ Some name = e in cc)
 apart (s ∷ devices) h zero zero name e f = refl
-apart (s ∷ devices) h zero (suc k) name e f = absurd (apart_from s.info.name devices k name (all_each (λ (x : DeviceState). s.info.name ≢ x.info.name) devices h.0) f (let is : s.info.name ≡ name = cc in is))
-apart (s ∷ devices) h (suc j) zero name e f = absurd (apart_from s.info.name devices j name (all_each (λ (x : DeviceState). s.info.name ≢ x.info.name) devices h.0) e (let is : s.info.name ≡ name = cc in is))
+apart (s ∷ devices) h zero (suc k) name e f = absurd (apart_from s.info.name devices k name (all_each (λ (x : DeviceState). s.info.name ≢ x.info.name) devices h.0) f (unsome s.info.name name e))
+apart (s ∷ devices) h (suc j) zero name e f = absurd (apart_from s.info.name devices j name (all_each (λ (x : DeviceState). s.info.name ≢ x.info.name) devices h.0) e (unsome s.info.name name f))
 apart (s ∷ devices) h (suc j) (suc k) name e f = ap suc (apart devices h.1 j k name e f)
 
 -- ---- the jobs
@@ -189,9 +191,9 @@ new_post job c = record {
   budget = budget_of job.task;
 }
 
-new_talks : (users : List Entry) (names : List (List ℕ)) (job : Job) (c : Talker) → IsFresh job c → Talks (place_in names) job no_past [] (fresh (rules_job users names job)) (new_post job c)
-new_talks users names job c h =
-    let made = made_alike (place_in names) job (rules_job users names job) c refl h in
+new_talks : (users : List Entry) (infos : List DeviceInfo) (job : Job) (c : Talker) → IsFresh job c → Talks (place_in infos) job no_past [] (fresh (rules_job users infos job)) (new_post job c)
+new_talks users infos job c h =
+    let made = made_alike (place_in infos) job (rules_job users infos job) c refl h in
     record {
       task = refl;
       errand = ap (λ (v : Talker). v.errand) h.value;
@@ -207,9 +209,9 @@ new_talks users names job c h =
       done = λ e joined. absurd (let clash : false ≡ true = sym (ap (λ (v : Talker). is_done v.outcome) h.value) ∙ e in cc);
     }
 
-new_means : (users : List Entry) (names : List (List ℕ)) (job : Job) (c : Talker) → IsFresh job c → Means (place_in names) job (wires_of (Some (new_post job c))) (fresh (rules_job users names job)) (new_post job c)
-new_means users names job c h =
-    let made = made_alike (place_in names) job (rules_job users names job) c refl h in
+new_means : (users : List Entry) (infos : List DeviceInfo) (job : Job) (c : Talker) → IsFresh job c → Means (place_in infos) job (wires_of (Some (new_post job c))) (fresh (rules_job users infos job)) (new_post job c)
+new_means users infos job c h =
+    let made = made_alike (place_in infos) job (rules_job users infos job) c refl h in
     record {
       linked = refl;
       before = λ _. (refl, refl);
@@ -234,17 +236,17 @@ new_table i devices = registries_show i (λ k. make_of (slice_get devices k)) de
 new_sits : (jobs : List Job) (other : Job) (devices : List DeviceState) (w : Scene) (i : ℕ) (p : Post) → IsNewDaemon devices w.daemon → IsNewAt jobs i p → slice_get w.posts i ≡ Some p → SitsAt (nothing_told jobs other devices w.daemon.users w.posts) w.daemon i p
 new_sits jobs other devices w i p d n at =
     let users = w.daemon.users in
-    let names = map name_of devices in
+    let infos = map info_of devices in
     let make = λ (k : ℕ). make_of (slice_get devices k) in
     let device = fresh_devices devices in
     let job_is : slice_index_or jobs i other ≡ n.job = at_index jobs i n.job other n.at in
-    subst (λ (job : Job). Sits users names job make device i (fresh (rules_job users names job)) (wires_of (slice_get w.posts i)) no_past [] w.daemon p) (sym job_is)
-    (subst (λ (o : Option Post). Sits users names n.job make device i (fresh (rules_job users names n.job)) (wires_of o) no_past [] w.daemon p) (sym at)
-    (subst (λ (x : Post). Sits users names n.job make device i (fresh (rules_job users names n.job)) (wires_of (Some x)) no_past [] w.daemon x) (sym n.new.rest) (record {
+    subst (λ (job : Job). Sits users infos job make device i (fresh (rules_job users infos job)) (wires_of (slice_get w.posts i)) no_past [] w.daemon p) (sym job_is)
+    (subst (λ (o : Option Post). Sits users infos n.job make device i (fresh (rules_job users infos n.job)) (wires_of o) no_past [] w.daemon p) (sym at)
+    (subst (λ (x : Post). Sits users infos n.job make device i (fresh (rules_job users infos n.job)) (wires_of (Some x)) no_past [] w.daemon x) (sym n.new.rest) (record {
       job_is = refl;
-      talks = new_talks users names n.job p.client n.new.client;
+      talks = new_talks users infos n.job p.client n.new.client;
       carries = record { up = refl; asking = refl; down = refl; telling = ap (λ (v : Talker). v.input.rest) n.new.client.value; image = refl };
-      means = new_means users names n.job p.client n.new.client;
+      means = new_means users infos n.job p.client n.new.client;
       served = (refl, subst (λ (t : Table). ShowsTable i make [] t device) (sym d.registry) (new_table i devices));
       speaks = tt;
       waits = waits_first p.client.progress [] (ap (λ (v : Talker). v.progress) n.new.client.value);
@@ -259,13 +261,14 @@ new_worlds_stand jobs other devices w new d names steady fit =
     let t = nothing_told jobs other devices w.daemon.users w.posts in
     let all = all_each IsSteady devices steady in
     record {
-      sound = beginning_sound t.rules.make t.rules.device (λ i. rules_job w.daemon.users t.names (slice_index_or jobs i other)) t.rules.places (λ k. free_at (slice_get devices k))
+      sound = beginning_sound t.rules.make t.rules.device (λ i. rules_job w.daemon.users t.infos (slice_index_or jobs i other)) t.rules.places (λ k. free_at (slice_get devices k))
           (λ k. fit_at (slice_get devices k) (λ s e. (all_there IsSteady devices k s all e).limits));
       asks = λ i. tt;
+      shown = λ i. tt;
       is_of = record {
         count = as_many jobs w.posts new;
         users = refl;
-        names = table_names devices ∙ ap (map are_named) (sym d.registry);
+        infos = table_infos devices ∙ ap (map info_at) (sym d.registry);
         apart = apart devices names;
         places = refl;
         counts = λ i low. (fit i other low).1;

@@ -127,7 +127,7 @@ new_worlds_pay jobs other devices w new fit i post at under =
     let job = slice_index_or jobs i other in
     let size : HasJobSize job × HasCount job.task = fit i other (within jobs i is.job is.at) in
     let few : length (map wish_of job.settings.items) ≤ 64 = subst (λ (n : ℕ). n ≤ 64) (sym (length-map job.settings.items wish_of)) size.0.few in
-    let bounds = numbers_bounded t.rules.make t.rules.device (λ k. rules_job w.daemon.users t.names (slice_index_or jobs k other)) t.rules.places i few in
+    let bounds = numbers_bounded t.rules.make t.rules.device (λ k. rules_job w.daemon.users t.infos (slice_index_or jobs k other)) t.rules.places i few in
     let costs : cost t i ≤ budget_of job.task = enough job.task (number t.rules i) size.1 bounds in
     let task : job.task ≡ is.job.task = ap (λ (j : Job). j.task) (at_index jobs i is.job other is.at) in
     let budget : post.budget ≡ budget_of is.job.task = ap (λ (p : Post). p.budget) is.new.rest in
@@ -139,7 +139,7 @@ pub left_runs : (t : Told) (w : Scene) (i : ℕ) (post : Post) → Stands t w �
 left_runs t w i post h pays at runs =
     let s = h.posts i post at in
     let me = party t i in
-    let under = runs_under (place_in t.names) (errand_of (t.jobs i)) me.base.job (map (λ (x : Past). x.ended) (t.pages i)) (talk_of post.client (t.past i)) me.mind s.talks.reads runs in
+    let under = runs_under (place_in t.infos) (errand_of (t.jobs i)) me.base.job (map (λ (x : Past). x.ended) (t.pages i)) (talk_of post.client (t.past i)) me.mind s.talks.reads runs in
     let few : cost t i ≤ post.budget = pays i post at under in
     let one : 1 ≤ moves t.rules i = at_least me.mind.stage me (wanted t.rules i) under in
     let budget : 0 < post.budget = by_sum (moves t.rules i) _ post.budget few one in

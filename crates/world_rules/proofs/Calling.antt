@@ -4,6 +4,7 @@ use Rattle.std.specs.Option.{option_and_then}
 use Rattle.std.specs.List.{AllByRecursion}
 use Rattle.std.proofs.Common.{◌≡◌, ◌≢◌, ◌⊎◌, inl, inr, ◌∙◌, ℕ, zero, suc, List, [], ◌∷◌, Option, Some, None, option_map, Bool, true, false, cond, eqb, refl, sym, ap, subst, map, slice_get, arith}
 use Rattle.device_api.specs.State.{DeviceState, after_cancel}
+use Rattle.device_api.specs.declared.device_info.DeviceInfo.{DeviceInfo}
 use Rattle.dispatch.specs.declared.table.place.Lease.{Lease}
 use Rattle.dispatch.specs.declared.table.place.Place.{Place}
 use Rattle.dispatch.specs.declared.table.place.Slot.{Slot}
@@ -36,36 +37,36 @@ use Rattle.desk_rules.proofs.Endings.{ends, left_by, no_place, same_tables}
 use Rattle.desk_rules.proofs.Leaves.{IsKept, changed, ends_leave, held_own, kept, leaves_kept, put_one}
 use Rattle.desk_rules.proofs.Moved.{put_elsewhere, put_there, unsome}
 use Rattle.desk_rules.proofs.Others.{leaves_all, leaves_same}
-use Rattle.world_rules.specs.Stands.{AreFaithful, IsBelow, IsFaithfulLease, IsFaithfulSeat, IsFaithfulSession, IsServed, are_named, session_by}
+use Rattle.world_rules.specs.Stands.{AreFaithful, IsBelow, IsFaithfulLease, IsFaithfulSeat, IsFaithfulSession, IsServed, info_at, session_by}
 use Rattle.world_rules.proofs.Faithful.{cancelled_word_true, let_go_true, on_seat_all, seat_all, session_true}
 use Rattle.world_rules.proofs.Lists.{is_same}
 use Rattle.world_rules.proofs.Sees.{Leaves}
 use Rattle.world_rules.proofs.Taking.{put_self, same_session}
 
--- ---- names of places
+-- ---- infos of places
 
-pub slot_names : (t : Table) (k : ℕ) (slot : Slot DeviceState) → map are_named (with_slot t k slot) ≡ map are_named t
+pub slot_infos : (t : Table) (k : ℕ) (slot : Slot DeviceState) → map info_at (with_slot t k slot) ≡ map info_at t
 unfolding with_slot
-slot_names [] k slot = refl
-slot_names (p ∷ t) zero slot = refl
-slot_names (p ∷ t) (suc k) slot = ap (λ (x : List (List ℕ)). p.info.name ∷ x) (slot_names t k slot)
+slot_infos [] k slot = refl
+slot_infos (p ∷ t) zero slot = refl
+slot_infos (p ∷ t) (suc k) slot = ap (λ (x : List DeviceInfo). p.info ∷ x) (slot_infos t k slot)
 
-pub give_names : (t : Table) (l : Lease DeviceState) (b : Bool) → map are_named (if b then with_slot t l.place (In (after_cancel l.device)) else t) ≡ map are_named t
-give_names t l true = slot_names t l.place (In (after_cancel l.device))
-give_names t l false = refl
+pub give_infos : (t : Table) (l : Lease DeviceState) (b : Bool) → map info_at (if b then with_slot t l.place (In (after_cancel l.device)) else t) ≡ map info_at t
+give_infos t l true = slot_infos t l.place (In (after_cancel l.device))
+give_infos t l false = refl
 
-pub back_names : (t : Table) (lease : Option (Lease DeviceState)) → map are_named (back t lease) ≡ map are_named t
+pub back_infos : (t : Table) (lease : Option (Lease DeviceState)) → map info_at (back t lease) ≡ map info_at t
 unfolding after_give_back
-back_names t None = refl
-back_names t (Some l) = give_names t l (awaits l.device.info.name l.place t)
+back_infos t None = refl
+back_infos t (Some l) = give_infos t l (awaits l.device.info.name l.place t)
 
-pub given_names : (t : Table) (held : Held) → map are_named (given_back t held) ≡ map are_named t
-given_names t [] = refl
-given_names t (lease ∷ held) = given_names (back t lease) held ∙ back_names t lease
+pub given_infos : (t : Table) (held : Held) → map info_at (given_back t held) ≡ map info_at t
+given_infos t [] = refl
+given_infos t (lease ∷ held) = given_infos (back t lease) held ∙ back_infos t lease
 
-let_go_names : (t : Table) (session : Option (DeskSession DeviceState)) → map are_named (session_let_go t session) ≡ map are_named t
-let_go_names t None = refl
-let_go_names t (Some session) = given_names t session.held
+let_go_infos : (t : Table) (session : Option (DeskSession DeviceState)) → map info_at (session_let_go t session) ≡ map info_at t
+let_go_infos t None = refl
+let_go_infos t (Some session) = given_infos t session.held
 
 -- ---- a client holds no device but the one that its job names
 
@@ -170,7 +171,7 @@ leaves_ended i make d id served table p below faithful h =
     let same = put_let_go i p.base.job.wants table e.only in
     record {
       users = refl;
-      names = let_go_names d.registry (session_of d id.number);
+      infos = let_go_infos d.registry (session_of d id.number);
       opened = omega arith;
       below = on_seat_all (IsBelow d.opened) no_more id.number d.seats tt (λ s b. tt) below;
       faithful = record {
@@ -220,7 +221,7 @@ pub leaves_on : (g : DeskSession DeviceState → DeskSession DeviceState) (i : �
 leaves_on g i make d id table device keeps below faithful held shows others =
     record {
       users = refl;
-      names = refl;
+      infos = refl;
       opened = omega arith;
       below = on_below g id.number d.opened d.seats below;
       faithful = record { lying = faithful.lying; lent = on_true g id.number d.seats keeps faithful.lent };

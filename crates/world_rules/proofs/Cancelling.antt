@@ -49,6 +49,7 @@ use Rattle.world_rules.specs.Stands.{KeepsFiles, Means, Stands, Talks, is_laid, 
 use Rattle.world_rules.specs.Happens.{GivesUp, Leads}
 use Rattle.world_rules.proofs.Changing.{stands_change}
 use Rattle.world_rules.proofs.Held.{held_after_all}
+use Rattle.world_rules.proofs.Shown.{shown_after}
 use Rattle.world_rules.proofs.Spoken.{same_as, speaks_more}
 use Rattle.world_rules.proofs.Minds.{runs_under, stopped_woken, stops_idle, stops_over, under_runs, woken_known}
 use Rattle.world_rules.proofs.Seated.{reseats_same}
@@ -181,8 +182,8 @@ given_up_stands : (t : Told) (w : Scene) (i : ℕ) (p : Post) (out : List ℕ) �
 given_up_stands t w i p out h at low runs c text =
     let s = h.posts i p at in
     let me = t.rules.party i in
-    let talk = said (place_in t.names) (errand_of (t.jobs i)) me.base.job (map (λ (q : Past). q.ended) (t.pages i)) p.client (t.past i) me.mind out s.talks.errand (s.talks.word runs) runs text s.talks.reads in
-    let under : IsUnderWay me.mind.stage = runs_under (place_in t.names) (errand_of (t.jobs i)) me.base.job (map (λ (q : Past). q.ended) (t.pages i)) (talk_of p.client (t.past i)) me.mind s.talks.reads runs in
+    let talk = said (place_in t.infos) (errand_of (t.jobs i)) me.base.job (map (λ (q : Past). q.ended) (t.pages i)) p.client (t.past i) me.mind out s.talks.errand (s.talks.word runs) runs text s.talks.reads in
+    let under : IsUnderWay me.mind.stage = runs_under (place_in t.infos) (errand_of (t.jobs i)) me.base.job (map (λ (q : Past). q.ended) (t.pages i)) (talk_of p.client (t.past i)) me.mind s.talks.reads runs in
     let bytes : Wires = record (t.wires i) { up = (t.wires i).up ++ talk.text } in
     let steps = By i deeds.Stops ∷ [] in
     let u : Told = wired_then t i steps bytes in
@@ -194,11 +195,12 @@ given_up_stands t w i p out h at low runs c text =
       leaves = leaves_core t w i p u.rules.device h at same;
       sound = sound;
       asks = held_after_all t.rules steps h.sound h.asks (under, tt);
+      shown = shown_after t w steps h;
       sits = sits_there u w.daemon i (given_up out p) (stops_by me) bytes (t.past i) (t.pages i) (one_party t i deeds.Stops bytes (t.past i) (t.pages i)) (put_there t.wires i bytes) (put_there t.past i (t.past i)) (put_there t.pages i (t.pages i)) (record {
         job_is = s.job_is;
-        talks = talks_stopped (place_in t.names) (t.jobs i) (t.past i) (t.pages i) me p out s.talks runs c talk;
+        talks = talks_stopped (place_in t.infos) (t.jobs i) (t.past i) (t.pages i) me p out s.talks runs c talk;
         carries = record { up = talk.out_is ∙ ap (λ (x : List ℕ). x ++ talk.text) s.carries.up; asking = s.carries.asking; down = s.carries.down; telling = s.carries.telling; image = s.carries.image };
-        means = means_stopped (place_in t.names) (t.jobs i) (t.wires i) me p out talk.text s.means (λ served e. idle_unserved i _ me (wanted t.rules i) me.mind.stage (h.sound.talks i) e served) talk.spells;
+        means = means_stopped (place_in t.infos) (t.jobs i) (t.wires i) me p out talk.text s.means (λ served e. idle_unserved i _ me (wanted t.rules i) me.mind.stage (h.sound.talks i) e served) talk.spells;
         served = same_served i t.rules.make w.daemon p.link me.served t.rules.device u.rules.device (stops_by me) same s.served;
         speaks = let session = session_in (seat_by w.daemon p.link) in speaks_more (t.jobs i).device me (stops_by me) (farewell me.mind.stage) session session refl refl (same_as session) s.speaks;
         waits = waits_over stages.Over (stops_by me).todo refl;
@@ -218,8 +220,8 @@ cancel_decides t w i p h at low =
     let s = h.posts i p at in
     let me = t.rules.party i in
     record {
-      can = λ can. under_runs (place_in t.names) (errand_of (t.jobs i)) me.base.job (map (λ (q : Past). q.ended) (t.pages i)) (talk_of p.client (t.past i)) me.mind s.talks.reads can.1;
-      back = λ runs. (low, runs_under (place_in t.names) (errand_of (t.jobs i)) me.base.job (map (λ (q : Past). q.ended) (t.pages i)) (talk_of p.client (t.past i)) me.mind s.talks.reads runs);
+      can = λ can. under_runs (place_in t.infos) (errand_of (t.jobs i)) me.base.job (map (λ (q : Past). q.ended) (t.pages i)) (talk_of p.client (t.past i)) me.mind s.talks.reads can.1;
+      back = λ runs. (low, runs_under (place_in t.infos) (errand_of (t.jobs i)) me.base.job (map (λ (q : Past). q.ended) (t.pages i)) (talk_of p.client (t.past i)) me.mind s.talks.reads runs);
       either = runs_or (is_running p.client.outcome);
       does = λ runs e q d. by_parts t w i p h at low runs e q d.0 d.1;
     }

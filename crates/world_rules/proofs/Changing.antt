@@ -4,6 +4,7 @@ use Rattle.std.specs.List.{AllByRecursion}
 use Rattle.page_picture.specs.Page.{IsSheet}
 use Rattle.frame_join.specs.FrameHistory.{Past}
 use Rattle.device_api.specs.State.{DeviceState}
+use Rattle.device_api.specs.declared.device_info.DeviceInfo.{DeviceInfo}
 use Rattle.md5_auth.specs.declared.users.Entry.{Entry}
 use Rattle.saned_core.specs.declared.seat.Seat.{Seat}
 use Rattle.saned_core.specs.declared.seat.SessionId.{SessionId}
@@ -20,7 +21,7 @@ use Rattle.saned_core.specs.State.{session_in}
 use Rattle.world_rules.specs.Speaks.{AsksAsHeld, Speaks}
 use Rattle.world_rules.specs.Told.{Told, Wires}
 use Rattle.desk_rules.specs.Reading.{ShowsTable}
-use Rattle.world_rules.specs.Stands.{AreApart, Carries, HaveOwn, IsNobody, IsServed, Sits, SitsAt, Stands, numbered, seat_by, session_by}
+use Rattle.world_rules.specs.Stands.{AreApart, Carries, HaveOwn, IsNobody, IsServed, ShowsBelow, Sits, SitsAt, Stands, numbered, seat_by, session_by}
 use Rattle.world_rules.proofs.Lists.{is_same, set_elsewhere, set_length, set_there}
 use Rattle.world_rules.proofs.Seated.{Reseats, seated_change}
 use Rattle.world_rules.proofs.Sees.{IsOther, Leaves, seat_stands, served_stands, table_stands}
@@ -28,7 +29,7 @@ use Rattle.world_rules.proofs.Sees.{IsOther, Leaves, seat_stands, served_stands,
 -- what never changes is the same, and so is all of every job but i
 pub record IsChange (i : ℕ) (t u : Told) : Type 0 where
   pub users : u.users ≡ t.users
-  pub names : u.names ≡ t.names
+  pub infos : u.infos ≡ t.infos
   pub count : u.count ≡ t.count
   pub jobs : u.jobs ≡ t.jobs
   pub make : u.rules.make ≡ t.rules.make
@@ -44,6 +45,7 @@ pub record Change (i : ℕ) (t u : Told) (w : Scene) (p q : Post) (e : Core) : T
   pub leaves : Leaves i t.rules.make p.link w.daemon e t.rules.device u.rules.device
   pub sound : Sound u.rules
   pub asks : (j : ℕ) → AsksAsHeld u.rules j
+  pub shown : (j : ℕ) → ShowsBelow (length u.infos) (u.rules.party j).base.shown
   pub sits : SitsAt u e i q
   -- its session is the one that it had, or was not opened before
   pub link : (id : SessionId) → q.link ≡ Some id → (p.link ≡ Some id) ⊎ ((w.daemon.opened ≤ id.number) × (id.number < e.opened))
@@ -67,14 +69,14 @@ other_apart t w i j p post h n at there id is = (own_number w i j p post id p.li
 sits_same : (t u : Told) (d e : Core) (i j : ℕ) (post : Post) → j ≢ i → IsChange i t u → seat_by e post.link ≡ seat_by d post.link →
     IsServed j t.rules.make e post.link (t.rules.party j).served u.rules.device (session_by j u.rules.device (t.rules.party j)) → SitsAt t d j post → SitsAt u e j post
 sits_same t u d e i j post n c seat served h =
-    subst (λ (x : List Entry). Sits x u.names (u.jobs j) u.rules.make u.rules.device j (u.rules.party j) (u.wires j) (u.past j) (u.pages j) e post) (sym c.users)
-    (subst (λ (x : List (List ℕ)). Sits t.users x (u.jobs j) u.rules.make u.rules.device j (u.rules.party j) (u.wires j) (u.past j) (u.pages j) e post) (sym c.names)
-    (subst (λ (x : ℕ → Job). Sits t.users t.names (x j) u.rules.make u.rules.device j (u.rules.party j) (u.wires j) (u.past j) (u.pages j) e post) (sym c.jobs)
-    (subst (λ (x : ℕ → Make). Sits t.users t.names (t.jobs j) x u.rules.device j (u.rules.party j) (u.wires j) (u.past j) (u.pages j) e post) (sym c.make)
-    (subst (λ (x : Party). Sits t.users t.names (t.jobs j) t.rules.make u.rules.device j x (u.wires j) (u.past j) (u.pages j) e post) (sym (c.party j n))
-    (subst (λ (x : Wires). Sits t.users t.names (t.jobs j) t.rules.make u.rules.device j (t.rules.party j) x (u.past j) (u.pages j) e post) (sym (c.wires j n))
-    (subst (λ (x : Past). Sits t.users t.names (t.jobs j) t.rules.make u.rules.device j (t.rules.party j) (t.wires j) x (u.pages j) e post) (sym (c.past j n))
-    (subst (λ (x : List Past). Sits t.users t.names (t.jobs j) t.rules.make u.rules.device j (t.rules.party j) (t.wires j) (t.past j) x e post) (sym (c.pages j n))
+    subst (λ (x : List Entry). Sits x u.infos (u.jobs j) u.rules.make u.rules.device j (u.rules.party j) (u.wires j) (u.past j) (u.pages j) e post) (sym c.users)
+    (subst (λ (x : List DeviceInfo). Sits t.users x (u.jobs j) u.rules.make u.rules.device j (u.rules.party j) (u.wires j) (u.past j) (u.pages j) e post) (sym c.infos)
+    (subst (λ (x : ℕ → Job). Sits t.users t.infos (x j) u.rules.make u.rules.device j (u.rules.party j) (u.wires j) (u.past j) (u.pages j) e post) (sym c.jobs)
+    (subst (λ (x : ℕ → Make). Sits t.users t.infos (t.jobs j) x u.rules.device j (u.rules.party j) (u.wires j) (u.past j) (u.pages j) e post) (sym c.make)
+    (subst (λ (x : Party). Sits t.users t.infos (t.jobs j) t.rules.make u.rules.device j x (u.wires j) (u.past j) (u.pages j) e post) (sym (c.party j n))
+    (subst (λ (x : Wires). Sits t.users t.infos (t.jobs j) t.rules.make u.rules.device j (t.rules.party j) x (u.past j) (u.pages j) e post) (sym (c.wires j n))
+    (subst (λ (x : Past). Sits t.users t.infos (t.jobs j) t.rules.make u.rules.device j (t.rules.party j) (t.wires j) x (u.pages j) e post) (sym (c.past j n))
+    (subst (λ (x : List Past). Sits t.users t.infos (t.jobs j) t.rules.make u.rules.device j (t.rules.party j) (t.wires j) (t.past j) x e post) (sym (c.pages j n))
     (record {
       job_is = h.job_is;
       talks = h.talks;
@@ -158,12 +160,13 @@ stands_change t u w i p q e h at low c =
     record {
       sound = c.sound;
       asks = c.asks;
+      shown = c.shown;
       is_of = record {
         count = c.told.count ∙ (h.is_of.count ∙ sym (set_length w.posts i q));
         users = c.told.users ∙ (h.is_of.users ∙ sym c.leaves.users);
-        names = c.told.names ∙ (h.is_of.names ∙ sym c.leaves.names);
-        apart = subst AreApart (sym c.told.names) h.is_of.apart;
-        places = c.told.places ∙ (h.is_of.places ∙ ap (numbered 0) (sym c.told.names));
+        infos = c.told.infos ∙ (h.is_of.infos ∙ sym c.leaves.infos);
+        apart = subst AreApart (sym c.told.infos) h.is_of.apart;
+        places = c.told.places ∙ (h.is_of.places ∙ ap (numbered 0) (sym c.told.infos));
         counts = λ j low. subst (λ (jobs : ℕ → Job). HasCount (jobs j).task) (sym c.told.jobs) (h.is_of.counts j (subst (λ (n : ℕ). j < n) c.told.count low));
       };
       posts = λ j post there. each_sits t u w i j p q post e h at c (is_same j i) there;

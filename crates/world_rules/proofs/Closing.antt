@@ -32,9 +32,9 @@ use Rattle.desk_rules.proofs.Moved.{put_elsewhere, put_there}
 use Rattle.desk_rules.proofs.Others.{leaves_same, leaves_then}
 use Rattle.desk_rules.proofs.Starting.{starved_in}
 use Rattle.world_rules.specs.Told.{Told}
-use Rattle.world_rules.specs.Stands.{IsFaithful, IsFaithfulLease, IsFaithfulPlace, are_named, session_by}
+use Rattle.world_rules.specs.Stands.{IsFaithful, IsFaithfulLease, IsFaithfulPlace, info_at, session_by}
 use Rattle.world_rules.proofs.Answered.{Stays, stays}
-use Rattle.world_rules.proofs.Calling.{given_names, place_left, put_let_go, word_wanted}
+use Rattle.world_rules.proofs.Calling.{given_infos, place_left, put_let_go, word_wanted}
 use Rattle.world_rules.proofs.Faithful.{given_true, word_true}
 use Rattle.world_rules.proofs.ReadTrue.{held_true, stopped_true}
 use Rattle.world_rules.proofs.Folding.{AnswersOne, Desked, answers_to, due_none, legal_answer}
@@ -107,7 +107,7 @@ pub record Closed (t : Told) (i : ℕ) (s : Standing) (d : Desk) (steps : List S
   pub started : AllByRecursion (λ (b : Begin). IsSheet b.page) ((after_all s steps).party i).base.started
   pub back : ShowsTable i s.make [] (daemon.let_go new) (after_all s steps).device
   pub others : LeavesOthers i d.registry (daemon.let_go new) s.device (after_all s steps).device
-  pub names : t.names ≡ map are_named (daemon.let_go new)
+  pub infos : t.infos ≡ map info_at (daemon.let_go new)
   pub lying : AllByRecursion IsFaithfulPlace (daemon.let_go new)
   pub nothing_due : IsUnderWay (s.party i).mind.stage → ((after_all s steps).party i).due ≡ []
 
@@ -153,7 +153,7 @@ breaks t i s d new memory h may back =
       started = subst (λ (x : Party). AllByRecursion (λ (b : Begin). IsSheet b.page) x.base.started) (sym is) h.started;
       back = same_tables i s.make [] (daemon.let_go new) (λ k. let_go i (s.device k)) next.device same back.back;
       others = leaves_same i d.registry (daemon.let_go new) s.device (λ k. let_go i (s.device k)) next.device same back.others;
-      names = h.names ∙ (ap (map are_named) (sym back.registry) ∙ sym (given_names new.registry new.session.held));
+      infos = h.infos ∙ (ap (map info_at) (sym back.registry) ∙ sym (given_infos new.registry new.session.held));
       lying = given_true new.registry new.session.held (back_true d new h.held back.words) (subst (AllByRecursion IsFaithfulPlace) (sym back.registry) h.lying);
       nothing_due = λ e. ap (λ (x : Party). x.due) is;
     }
@@ -183,7 +183,7 @@ ends_by_request t i s d new q r rest said h e g off one =
       started = one.sheets h.started;
       back = same_tables i s.make [] (daemon.let_go new) (λ k. let_go i (s.device k)) next.device (one.device off) back.back;
       others = leaves_same i d.registry (daemon.let_go new) s.device (λ k. let_go i (s.device k)) next.device (one.device off) back.others;
-      names = h.names ∙ (ap (map are_named) (sym back.registry) ∙ sym (given_names new.registry new.session.held));
+      infos = h.infos ∙ (ap (map info_at) (sym back.registry) ∙ sym (given_infos new.registry new.session.held));
       lying = given_true new.registry new.session.held (back_true d new h.held back.words) (subst (AllByRecursion IsFaithfulPlace) (sym back.registry) h.lying);
       nothing_due = λ u. (one.silent off).1 ∙ due_none t i s d r rest h u e;
     }
@@ -205,7 +205,7 @@ closed_behind t i s d mid new chances steps memory legal others c =
       started = subst (λ (x : Standing). AllByRecursion (λ (b : Begin). IsSheet b.page) (x.party i).base.started) (sym is) c.started;
       back = subst (λ (x : Standing). ShowsTable i s.make [] (daemon.let_go new) x.device) (sym is) (subst (λ (m : ℕ → Make). ShowsTable i m [] (daemon.let_go new) (after_all far steps).device) stay.make c.back);
       others = subst (λ (x : Standing). LeavesOthers i d.registry (daemon.let_go new) s.device x.device) (sym is) (leaves_then i d.registry mid.registry (daemon.let_go new) s.device far.device (after_all far steps).device others c.others);
-      names = c.names;
+      infos = c.infos;
       lying = c.lying;
       nothing_due = λ u. ap (λ (x : Standing). (x.party i).due) is ∙ c.nothing_due (subst (λ (m : Mind). IsUnderWay m.stage) (sym stay.own.mind) u);
     }

@@ -46,6 +46,7 @@ use Rattle.world_rules.proofs.Losing.{carries_cut, loses_by, means_cut}
 use Rattle.world_rules.proofs.Lost.{IsLost, talks_lost}
 use Rattle.world_rules.specs.Speaks.{Speaks}
 use Rattle.world_rules.proofs.Held.{held_after_all}
+use Rattle.world_rules.proofs.Shown.{shown_after}
 use Rattle.world_rules.proofs.Minds.{runs_under, under_runs}
 use Rattle.world_rules.proofs.Seated.{Reseats, reseats_opened, reseats_same}
 use Rattle.world_rules.proofs.Sees.{Leaves}
@@ -142,7 +143,7 @@ linked_stands : (t : Told) (w : Scene) (i : ℕ) (p : Post) (id : SessionId) →
 linked_stands t w i p id h at low idle closed number =
     let s = h.posts i p at in
     let me = t.rules.party i in
-    let place = place_in t.names in
+    let place = place_in t.infos in
     let bytes : Wires = t.wires i in
     let steps = By i deeds.Connects ∷ [] in
     let u : Told = wired_then t i steps bytes in
@@ -161,6 +162,7 @@ linked_stands t w i p id h at low idle closed number =
       leaves = subst (λ (x : Option SessionId). Leaves i t.rules.make x w.daemon e t.rules.device u.rules.device) (sym idle.link) (leaves_opened i t.rules.make w.daemon t.rules.device u.rules.device h.seats h.faithful same table);
       sound = sound_after_all t.rules steps h.sound (idle.stage, tt);
       asks = held_after_all t.rules steps h.sound h.asks (idle.stage, tt);
+      shown = shown_after t w steps h;
       sits = sits_there u e i q (connected me) bytes (t.past i) (t.pages i) party (put_there t.wires i bytes) (put_there t.past i (t.past i)) (put_there t.pages i (t.pages i)) (record {
         job_is = s.job_is;
         talks = talks_linked place (t.jobs i) (t.past i) (t.pages i) me p id idle.stage s.talks;
@@ -197,7 +199,7 @@ two_change t i bytes =
     let s = after t.rules (By i deeds.Connects) in
     record {
       users = refl;
-      names = refl;
+      infos = refl;
       count = refl;
       jobs = refl;
       make = refl;
@@ -226,7 +228,7 @@ shut_stands : (t : Told) (w : Scene) (i : ℕ) (p : Post) → Stands t w → sli
 shut_stands t w i p h at low idle =
     let s = h.posts i p at in
     let me = t.rules.party i in
-    let place = place_in t.names in
+    let place = place_in t.infos in
     let bytes : Wires = cut (t.wires i) in
     let steps = both_steps i in
     let u : Told = wired_then t i steps bytes in
@@ -244,6 +246,7 @@ shut_stands t w i p h at low idle =
       leaves = leaves_core t w i p u.rules.device h at same;
       sound = sound_after_all t.rules steps h.sound legal;
       asks = held_after_all t.rules steps h.sound h.asks legal;
+      shown = shown_after t w steps h;
       sits = sits_there u w.daemon i q now bytes (t.past i) (t.pages i) (two_party t i bytes) (put_there t.wires i bytes) (put_there t.past i (t.past i)) (put_there t.pages i (t.pages i)) (record {
         job_is = s.job_is;
         talks = talks_lost place (t.jobs i) (t.past i) (t.pages i) me (bare me.base WasStarved) p q links.Control (is_running p.client.outcome) refl never refl (shut_lost p) s.talks now (shut_mind me.mind idle.stage) refl;
@@ -265,7 +268,7 @@ not_connected : (t : Told) (w : Scene) (i : ℕ) (p : Post) → Stands t w → s
 not_connected t w i p h at can =
     let s = h.posts i p at in
     let me = t.rules.party i in
-    let under = runs_under (place_in t.names) (errand_of (t.jobs i)) me.base.job (map (λ (x : Past). x.ended) (t.pages i)) (talk_of p.client (t.past i)) me.mind s.talks.reads can.0 in
+    let under = runs_under (place_in t.infos) (errand_of (t.jobs i)) me.base.job (map (λ (x : Past). x.ended) (t.pages i)) (talk_of p.client (t.past i)) me.mind s.talks.reads can.0 in
     by_begun me.mind.stage under (s.talks.begun can.1)
   where
     by_begun : (st : Stage) → IsUnderWay st → (st ≡ Idle) ⊎ (IsUnderWay st → ⊥) → st ≡ Idle
@@ -292,7 +295,7 @@ connect_decides t w i p h at low =
     let me = t.rules.party i in
     record {
       can = λ can. (
-        under_runs (place_in t.names) (errand_of (t.jobs i)) me.base.job (map (λ (x : Past). x.ended) (t.pages i)) (talk_of p.client (t.past i)) me.mind s.talks.reads (subst IsUnderWay (sym can.1) tt),
+        under_runs (place_in t.infos) (errand_of (t.jobs i)) me.base.job (map (λ (x : Past). x.ended) (t.pages i)) (talk_of p.client (t.past i)) me.mind s.talks.reads (subst IsUnderWay (sym can.1) tt),
         s.talks.idle can.1,
       );
       back = λ can. (low, not_connected t w i p h at can);

@@ -29,6 +29,7 @@ use Rattle.world_rules.proofs.Lost.{IsLost, talks_lost}
 use Rattle.world_rules.proofs.Sees.{Leaves}
 use Rattle.world_rules.specs.Speaks.{Speaks}
 use Rattle.world_rules.proofs.Held.{held_after_all}
+use Rattle.world_rules.proofs.Shown.{shown_after}
 use Rattle.world_rules.proofs.Spoken.{same_lost, same_on, speaks_still}
 use Rattle.world_rules.proofs.Taking.{one_change, one_party, sits_there}
 use Rattle.world_rules.proofs.Unimaged.{carries_dropped, drops_by, image_counts, means_dropped}
@@ -45,7 +46,7 @@ pub cut_stands : (t : Told) (w : Scene) (i : ℕ) (p : Post) (id : SessionId) �
 cut_stands t w i p id h at low link some =
     let s = h.posts i p at in
     let me = t.rules.party i in
-    let place = place_in t.names in
+    let place = place_in t.infos in
     let may : me.image ≡ true = s.means.image some in
     let bytes : Wires = with_image None (t.wires i) in
     let steps = By i (deeds.LosesImage true) ∷ [] in
@@ -65,6 +66,7 @@ cut_stands t w i p id h at low link some =
       leaves = subst (λ (x : Option SessionId). Leaves i t.rules.make x w.daemon e t.rules.device u.rules.device) (sym link) both.0;
       sound = sound_after_all t.rules steps h.sound (may, tt);
       asks = held_after_all t.rules steps h.sound h.asks (may, tt);
+      shown = shown_after t w steps h;
       sits = sits_there u e i q after bytes (t.past i) (t.pages i) party (put_there t.wires i bytes) (put_there t.past i (t.past i)) (put_there t.pages i (t.pages i)) (record {
         job_is = s.job_is;
         talks = talks_lost place (t.jobs i) (t.past i) (t.pages i) me (without_image me.base WasStarved) p q links.Image b refl idle refl (cut_lost p) s.talks after refl refl;
@@ -90,11 +92,11 @@ abbrev pub retold : Told → (ℕ → Wires) → (ℕ → Past) → (ℕ → Lis
 retold t x y z = record t { wires = x; past = y; pages = z }
 
 sits_retold : (t : Told) (w : Scene) (j : ℕ) (post : Post) (x : Wires) (y : Past) (z : List Past) → x ≡ t.wires j → y ≡ t.past j → z ≡ t.pages j → SitsAt t w.daemon j post →
-    Sits t.users t.names (t.jobs j) t.rules.make t.rules.device j (t.rules.party j) x y z w.daemon post
+    Sits t.users t.infos (t.jobs j) t.rules.make t.rules.device j (t.rules.party j) x y z w.daemon post
 sits_retold t w j post x y z e f g h =
-    subst (λ (a : Wires). Sits t.users t.names (t.jobs j) t.rules.make t.rules.device j (t.rules.party j) a y z w.daemon post) (sym e)
-    (subst (λ (a : Past). Sits t.users t.names (t.jobs j) t.rules.make t.rules.device j (t.rules.party j) (t.wires j) a z w.daemon post) (sym f)
-    (subst (λ (a : List Past). Sits t.users t.names (t.jobs j) t.rules.make t.rules.device j (t.rules.party j) (t.wires j) (t.past j) a w.daemon post) (sym g) h))
+    subst (λ (a : Wires). Sits t.users t.infos (t.jobs j) t.rules.make t.rules.device j (t.rules.party j) a y z w.daemon post) (sym e)
+    (subst (λ (a : Past). Sits t.users t.infos (t.jobs j) t.rules.make t.rules.device j (t.rules.party j) (t.wires j) a z w.daemon post) (sym f)
+    (subst (λ (a : List Past). Sits t.users t.infos (t.jobs j) t.rules.make t.rules.device j (t.rules.party j) (t.wires j) (t.past j) a w.daemon post) (sym g) h))
 
 nobody_retold : (t : Told) (w : Scene) (x : ℕ → Wires) (y : ℕ → Past) (z : ℕ → List Past) (j : ℕ) → x j ≡ t.wires j → IsNobody t w j → IsNobody (retold t x y z) w j
 nobody_retold t w x y z j e h = record { stage = h.stage; linked = h.linked; carriage = h.carriage; image = ap (λ (a : Wires). a.image) e ∙ h.image; table = h.table }
@@ -104,7 +106,8 @@ stands_retold t w x y z e f g h =
     record {
       sound = h.sound;
       asks = h.asks;
-      is_of = record { count = h.is_of.count; users = h.is_of.users; names = h.is_of.names; apart = h.is_of.apart; places = h.is_of.places; counts = h.is_of.counts };
+      shown = h.shown;
+      is_of = record { count = h.is_of.count; users = h.is_of.users; infos = h.is_of.infos; apart = h.is_of.apart; places = h.is_of.places; counts = h.is_of.counts };
       posts = λ j post there. sits_retold t w j post (x j) (y j) (z j) (e j) (f j) (g j) (h.posts j post there);
       beyond = λ j far. nobody_retold t w x y z j (e j) (h.beyond j far);
       own = h.own;

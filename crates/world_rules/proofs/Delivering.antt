@@ -38,6 +38,7 @@ use Rattle.world_rules.specs.Stands.{Carries, IsServed, Means, Stands, Talks, se
 use Rattle.world_rules.specs.Delivered.{asking_left, delivered}
 use Rattle.world_rules.proofs.Changing.{stands_change}
 use Rattle.world_rules.proofs.Held.{held_after_all}
+use Rattle.world_rules.proofs.Shown.{shown_after}
 use Rattle.world_rules.proofs.Heeded.{nothing_said}
 use Rattle.world_rules.proofs.Seated.{Reseats}
 use Rattle.world_rules.proofs.Sees.{Leaves}
@@ -63,7 +64,7 @@ pub record Keeps (p q : Party) : Type 0 where
   pub awaited : q.base.awaited ≡ p.base.awaited
 
 pub delivered_stands : (t : Told) (w : Scene) (i n : ℕ) (p q : Post) (id : SessionId) (steps : List Step) (x : Wires) (past : Past) (after : Party) → Stands t w → slice_get w.posts i ≡ Some p → i < t.count → p.link ≡ Some id → q.link ≡ p.link →
-    StepsTo t i steps x past (t.pages i) after → Keeps (t.rules.party i) after → Talks (place_in t.names) (t.jobs i) past (t.pages i) after q → Carries x (seat_by (world.taken id.number n w.daemon) (Some id)) q → Means (place_in t.names) (t.jobs i) x after q → Waits q.client.progress after.todo → Pends q.client.outcome q.client.progress q.client.phase x →
+    StepsTo t i steps x past (t.pages i) after → Keeps (t.rules.party i) after → Talks (place_in t.infos) (t.jobs i) past (t.pages i) after q → Carries x (seat_by (world.taken id.number n w.daemon) (Some id)) q → Means (place_in t.infos) (t.jobs i) x after q → Waits q.client.progress after.todo → Pends q.client.outcome q.client.progress q.client.phase x →
     Stands (told_then t i steps x past (t.pages i)) (record { daemon = world.taken id.number n w.daemon; posts = slice_set w.posts i q })
 delivered_stands t w i n p q id steps x past after h at low link stays to keeps talks carries means waits pends =
     let s = h.posts i p at in
@@ -84,6 +85,7 @@ delivered_stands t w i n p q id steps x past after h at low link stays to keeps 
       leaves = subst (λ (l : Option SessionId). Leaves i t.rules.make l w.daemon e t.rules.device u.rules.device) (sym link) (leaves_taken t w i n p id u.rules.device h at to.devices);
       sound = sound_after_all t.rules steps h.sound to.legal;
       asks = held_after_all t.rules steps h.sound h.asks to.legal;
+      shown = shown_after t w steps h;
       sits = sits_there u e i q after x past (t.pages i) to.party (put_there t.wires i x) (put_there t.past i past) (put_there t.pages i (t.pages i)) (record {
         job_is = keeps.job ∙ s.job_is;
         talks = talks;
@@ -172,7 +174,7 @@ pub record IsDueTo (t : Told) (i : ℕ) (p : Post) : Type 0 where
   pub stage : (t.rules.party i).mind.stage ≡ Running progress
   pub reply : Reply
   pub due : (t.rules.party i).due ≡ reply ∷ []
-  pub comes : Comes (place_in t.names) p.client.progress reply ((t.wires i).telling ++ (t.wires i).down)
+  pub comes : Comes (place_in t.infos) p.client.progress reply ((t.wires i).telling ++ (t.wires i).down)
   pub served : (t.rules.party i).served ≡ true
   pub todo : (t.rules.party i).todo ≡ []
   pub waits : asked progress ≢ []
@@ -192,7 +194,7 @@ due_to t w i p id h at link under some =
     let s = h.posts i p at in
     let me = t.rules.party i in
     let x = t.wires i in
-    let one = due_one (place_in t.names) p.client.progress me.due x.telling x.down (s.means.down under) some in
+    let one = due_one (place_in t.infos) p.client.progress me.due x.telling x.down (s.means.down under) some in
     let run = running_by me.mind.stage under (λ idle. let clash : None ≡ Some id = sym (s.means.before (s.talks.idle idle)).0 ∙ link in absurd (cc)) in
     let told = told_by i (make_for t.rules i) me (wanted t.rules i) run.0 one.reply one.due_is (subst (λ (st : Stage). sound.Talks i (make_for t.rules i) me (wanted t.rules i) st) run.1 (h.sound.talks i)) in
     let same : told.reply ≡ one.reply = first_of_one told.reply one.reply (sym told.due ∙ one.due_is) in

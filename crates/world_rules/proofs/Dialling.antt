@@ -61,6 +61,7 @@ use Rattle.world_rules.proofs.Seated.{reseats_on}
 use Rattle.world_rules.proofs.Sees.{Leaves}
 use Rattle.world_rules.specs.Speaks.{Speaks}
 use Rattle.world_rules.proofs.Held.{held_after_all}
+use Rattle.world_rules.proofs.Shown.{shown_after}
 use Rattle.world_rules.proofs.Spoken.{same_connected, same_on, speaks_still}
 use Rattle.world_rules.proofs.Taking.{DecidesAt, done, one_change, one_party, put_self, sits_there}
 use Rattle.world_rules.proofs.Unimaged.{both_or, waits_as}
@@ -272,7 +273,7 @@ dialled_stands : (t : Told) (w : Scene) (i : ℕ) (p : Post) (id : SessionId) �
 dialled_stands t w i p id h at low link some frame =
     let s = h.posts i p at in
     let me = t.rules.party i in
-    let place = place_in t.names in
+    let place = place_in t.infos in
     let served = subst (λ (x : Option SessionId). IsServed i t.rules.make w.daemon x me.served t.rules.device (session_by i t.rules.device me)) link s.served in
     let waits = waits_by i t.rules.make w.daemon id me.served t.rules.device me refl served frame in
     let is = wants_imaging place (t.jobs i) (t.past i) (t.pages i) me p s.talks some in
@@ -293,6 +294,7 @@ dialled_stands t w i p id h at low link some frame =
       leaves = subst (λ (x : Option SessionId). Leaves i t.rules.make x w.daemon e t.rules.device u.rules.device) (sym link) both.0;
       sound = sound_after_all t.rules steps h.sound ((is, waits.carriage), tt);
       asks = held_after_all t.rules steps h.sound h.asks ((is, waits.carriage), tt);
+      shown = shown_after t w steps h;
       sits = sits_there u e i q after bytes (t.past i) (t.pages i) party (put_there t.wires i bytes) (put_there t.past i (t.past i)) (put_there t.pages i (t.pages i)) (record {
         job_is = s.job_is;
         talks = talks_dialled place (t.jobs i) (t.past i) (t.pages i) me p s.talks;
@@ -341,7 +343,7 @@ pub dial_decides : DecidesAt events.DataConnect Dials
 dial_decides t w i p h at low =
     record {
       can = λ can. may_dial t w i p h at can;
-      back = λ can. (waits_back p.link refl can.1, wants_imaging (place_in t.names) (t.jobs i) (t.past i) (t.pages i) (t.rules.party i) p (h.posts i p at).talks can.0);
+      back = λ can. (waits_back p.link refl can.1, wants_imaging (place_in t.infos) (t.jobs i) (t.past i) (t.pages i) (t.rules.party i) p (h.posts i p at).talks can.0);
       either = both_or (some_or (client.wanted p.client.progress)) (frame_or w.daemon p.link);
       does = λ can e q d. by_link t w i p p.link h at low refl can.0 can.1 e q d;
     }

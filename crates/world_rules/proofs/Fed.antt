@@ -30,6 +30,7 @@ use Rattle.world_rules.specs.Stands.{Carries, HasNoEnd, IsServed, Means, Stands,
 use Rattle.world_rules.proofs.Changing.{IsChange, stands_change}
 use Rattle.world_rules.proofs.Closing.{Keeps}
 use Rattle.world_rules.proofs.Held.{held_after_all}
+use Rattle.world_rules.proofs.Shown.{shown_after}
 use Rattle.world_rules.proofs.Seated.{Reseats}
 use Rattle.world_rules.proofs.Sees.{Leaves}
 use Rattle.world_rules.proofs.Sent.{IsSent, talks_sent}
@@ -53,7 +54,7 @@ pub fed_change : (t : Told) (i : ℕ) (steps : List Step) (x : Wires) → Keeps 
 fed_change t i steps x k =
     record {
       users = refl;
-      names = refl;
+      infos = refl;
       count = refl;
       jobs = refl;
       make = k.make;
@@ -114,7 +115,7 @@ pub record FedSo (t : Told) (w : Scene) (i : ℕ) (p q : Post) (id : SessionId) 
   pub speaks : Speaks (t.jobs i).device ((after_all t.rules steps).party i) (session_in (seat_of e.seats id.number))
   pub waits : Waits p.client.progress ((after_all t.rules steps).party i).todo
   pub pending : HasNoRequest asking
-  pub means : MeansSo (place_in t.names) (t.jobs i) (fed_wires up asking down (t.wires i)) (t.rules.party i) ((after_all t.rules steps).party i) p q
+  pub means : MeansSo (place_in t.infos) (t.jobs i) (fed_wires up asking down (t.wires i)) (t.rules.party i) ((after_all t.rules steps).party i) p q
 
 carries_fed : (x : Wires) (up asking down out : List ℕ) (seat now : Option (Seat DeviceState)) (old new : Post) (served : Bool) → IsFedPost out served old new → out ≡ up → input_in now ≡ asking → replies_in now ≡ down → Carries x seat old → Carries (fed_wires up asking down x) now new
 carries_fed x up asking down out seat now old new served f up_is input replies h =
@@ -141,11 +142,12 @@ fed_stands t w i p q id e steps up asking down out h at low link f =
       leaves = subst (λ (x : Option SessionId). Leaves i t.rules.make x w.daemon e t.rules.device u.rules.device) (sym link) f.leaves;
       sound = sound_after_all t.rules steps h.sound f.legal;
       asks = held_after_all t.rules steps h.sound h.asks f.legal;
+      shown = shown_after t w steps h;
       sits = sits_there u e i q now bytes (t.past i) (t.pages i) refl (put_there t.wires i bytes) (put_there t.past i (t.past i)) (put_there t.pages i (t.pages i)) (record {
         job_is = f.keeps.job ∙ s.job_is;
-        talks = talks_sent (place_in t.names) (t.jobs i) out (t.past i) (t.pages i) me now p q f.post.sent f.keeps.mind f.keeps.job s.talks;
+        talks = talks_sent (place_in t.infos) (t.jobs i) out (t.past i) (t.pages i) me now p q f.post.sent f.keeps.mind f.keeps.job s.talks;
         carries = subst (λ (x : Option SessionId). Carries bytes (seat_by e x) q) (sym q_link) (carries_fed (t.wires i) up asking down out (seat_by w.daemon p.link) (seat_of e.seats id.number) p q now.served f.post f.up_is f.input f.replies s.carries);
-        means = means_fed (place_in t.names) (t.jobs i) up asking down out (t.wires i) me now p q f.post linked f.means s.means;
+        means = means_fed (place_in t.infos) (t.jobs i) up asking down out (t.wires i) me now p q f.post linked f.means s.means;
         served = subst (λ (x : Option SessionId). IsServed i u.rules.make e x now.served u.rules.device (session_by i u.rules.device now)) (sym q_link)
             (subst (λ (m : ℕ → Make). IsServed i m e (Some id) now.served u.rules.device (session_by i u.rules.device now)) (sym f.keeps.make) f.served);
         speaks = subst (λ (x : Option SessionId). Speaks (t.jobs i).device now (session_in (seat_by e x))) (sym q_link) f.speaks;

@@ -145,7 +145,7 @@ record Ready (t : Told) (w : Scene) (i : ℕ) (p : Post) (id : SessionId) (sessi
   reads : IsReadAs t i t.rules (map (λ (x : Past). x.ended) (t.pages i)) (talk_of p.client (t.past i))
 
 -- what waits for the client that is under way is what is due to it, which is nothing
-due_is : (t : Told) (w : Scene) (i : ℕ) (p : Post) (id : SessionId) (session : DeskSession DeviceState) → Ready t w i p id session → IsUnderWay (t.rules.party i).mind.stage → SpellsTold (place_in t.names) p.client.progress (t.rules.party i).due ((t.wires i).telling ++ (t.wires i).down)
+due_is : (t : Told) (w : Scene) (i : ℕ) (p : Post) (id : SessionId) (session : DeskSession DeviceState) → Ready t w i p id session → IsUnderWay (t.rules.party i).mind.stage → SpellsTold (place_in t.infos) p.client.progress (t.rules.party i).due ((t.wires i).telling ++ (t.wires i).down)
 due_is t w i p id session r u = (r.stands.posts i p r.at).means.down u
 
 nothing_waits : (t : Told) (w : Scene) (i : ℕ) (p : Post) (id : SessionId) (session : DeskSession DeviceState) → Ready t w i p id session → IsUnderWay (t.rules.party i).mind.stage → (t.wires i).telling ++ (t.wires i).down ≡ []
@@ -156,8 +156,8 @@ front_none : (a b : List ℕ) → a ++ b ≡ [] → a ≡ []
 front_none [] b e = refl
 front_none (x ∷ a) b e = absurd (let clash : x ∷ (a ++ b) ≡ [] = e in cc)
 
-told_none : (t : Told) (progress : Progress) (due : List words.Reply) (text : List ℕ) → due ≡ [] → text ≡ [] → SpellsTold (place_in t.names) progress due text
-told_none t progress due text e none = subst (λ (x : List words.Reply). SpellsTold (place_in t.names) progress x text) (sym e) none
+told_none : (t : Told) (progress : Progress) (due : List words.Reply) (text : List ℕ) → due ≡ [] → text ≡ [] → SpellsTold (place_in t.infos) progress due text
+told_none t progress due text e none = subst (λ (x : List words.Reply). SpellsTold (place_in t.infos) progress x text) (sym e) none
 
 -- ---- its seat
 
@@ -229,7 +229,7 @@ goes_on t w i n p id session e desk rest text r can f =
       input = ap input_in there;
       replies = ap replies_in there ∙ ap (λ (b : List ℕ). b ++ text) (waits_is t w i p id session r);
       served = subst (λ (b : Bool). IsServed i t.rules.make e (Some id) b s.device (session_by i s.device now)) (sym ran.desked.served) (session_on e desk i t.rules.make id.number s.device (session_by i s.device now) session_there f.registry f.stream shows ran.desked.begun);
-      leaves = leaves_fed i t.rules.make w.daemon e id t.rules.device s.device Standing desk rest text desk.registry f.others f.seats f.registry h.seats h.faithful (sym ran.desked.names ∙ h.is_of.names) ran.desked.lying ran.desked.held desk.session.held shows.devices ran.others;
+      leaves = leaves_fed i t.rules.make w.daemon e id t.rules.device s.device Standing desk rest text desk.registry f.others f.seats f.registry h.seats h.faithful (sym ran.desked.infos ∙ h.is_of.infos) ran.desked.lying ran.desked.held desk.session.held shows.devices ran.others;
       reseats = reseats_fed Standing desk rest text (Some id) w.daemon e id.number f.seats;
       begun = ran.desked.started;
       speaks = subst (λ (o : Option (DeskSession DeviceState)). Speaks (t.jobs i).device now o) (sym session_there) ran.desked.speaks;
@@ -247,7 +247,7 @@ goes_on t w i n p id session e desk rest text r can f =
         up = λ _. subst (λ (m : Mind). SpellsAsked (t.jobs i) m now.todo (rest ++ up)) (sym stay.own.mind) (subst (λ (qs : List Request). SpellsAsked (t.jobs i) me.mind qs (rest ++ up)) (sym ran.todo) c.still);
         down = λ under.
             let first : IsUnderWay me.mind.stage = subst (λ (m : Mind). IsUnderWay m.stage) stay.own.mind under in
-            subst (SpellsTold (place_in t.names) p.client.progress now.due) (append_assoc x.telling x.down text)
+            subst (SpellsTold (place_in t.infos) p.client.progress now.due) (append_assoc x.telling x.down text)
             (ran.told_are first (map (λ (y : Past). y.ended) (t.pages i)) (talk_of p.client (t.past i)) r.reads sits.waits (x.telling ++ x.down) text (due_is t w i p id session r first) so.says);
         flow = flow_kept me now p.client.progress p.client.phase x.image stay.own.mind stay.own.flight stay.own.ending r.may sits.means.flow;
         starved = λ met. sits.means.starved (stay.own.starved met);
@@ -285,7 +285,7 @@ off_so t w i n p q id session e fed desk rest text down steps memory r f post c 
     let there : seat_of e.seats id.number ≡ seat_of (on_seat (daemon.seat_after fed desk rest text) id.number w.daemon.seats) id.number = ap (λ (ss : Seats). seat_of ss id.number) f.seats in
     let none : session_in (seat_of e.seats id.number) ≡ None = ap session_in there ∙ over.session in
     let way : (p.client.progress ≡ stages.Over) ⊎ IsUnderWay now.mind.stage = way_or p.client.outcome p.client.progress now.mind.stage (is_running p.client.outcome) refl sits.talks.over
-    (λ runs. subst (λ (m : Mind). IsUnderWay m.stage) (sym c.keeps.mind) (runs_under (place_in t.names) (errand_of (t.jobs i)) me.base.job (map (λ (y : Past). y.ended) (t.pages i)) (talk_of p.client (t.past i)) me.mind sits.talks.reads runs)) in
+    (λ runs. subst (λ (m : Mind). IsUnderWay m.stage) (sym c.keeps.mind) (runs_under (place_in t.infos) (errand_of (t.jobs i)) me.base.job (map (λ (y : Past). y.ended) (t.pages i)) (talk_of p.client (t.past i)) me.mind sits.talks.reads runs)) in
     record {
       legal = c.legal;
       keeps = c.keeps;
@@ -294,7 +294,7 @@ off_so t w i n p q id session e fed desk rest text down steps memory r f post c 
       input = ap input_in there ∙ over.input;
       replies = ap replies_in there ∙ (over.replies ∙ (ap (λ (b : List ℕ). left_down fed b text) (waits_is t w i p id session r) ∙ down_is));
       served = subst (λ (b : Bool). IsServed i t.rules.make e (Some id) b s.device (session_by i s.device now)) (sym c.served) (none, subst (λ (y : Table). ShowsTable i t.rules.make [] y s.device) (sym f.registry) c.back);
-      leaves = leaves_fed i t.rules.make w.daemon e id t.rules.device s.device fed desk rest text (daemon.let_go desk) f.others f.seats f.registry h.seats h.faithful (sym c.names ∙ h.is_of.names) c.lying (true_off fed desk f.off) [] c.back c.others;
+      leaves = leaves_fed i t.rules.make w.daemon e id t.rules.device s.device fed desk rest text (daemon.let_go desk) f.others f.seats f.registry h.seats h.faithful (sym c.infos ∙ h.is_of.infos) c.lying (true_off fed desk f.off) [] c.back c.others;
       reseats = reseats_fed fed desk rest text (Some id) w.daemon e id.number f.seats;
       begun = c.started;
       speaks = subst (λ (o : Option (DeskSession DeviceState)). Speaks (t.jobs i).device now o) (sym none) tt;
@@ -455,7 +455,7 @@ ready t w i n p id h at low link one can on =
           shows = shows.shows;
           begun = shows.begun;
           job_is = s.job_is;
-          names = h.is_of.names;
+          infos = h.is_of.infos;
           apart = h.is_of.apart;
           places = h.is_of.places;
           held = held_of seat.0 shows.session seat.2 lent;

@@ -18,7 +18,7 @@ use Rattle.desk_rules.specs.Others.{LeavesOthers}
 use Rattle.desk_rules.proofs.Changes.{Held}
 use Rattle.desk_rules.proofs.Cores.{own_seat}
 use Rattle.saned_core.proofs.Apart.{apart}
-use Rattle.world_rules.specs.Stands.{AreFaithful, IsBelow, IsFaithfulLease, IsFaithfulPlace, IsFaithfulSeat, are_named}
+use Rattle.world_rules.specs.Stands.{AreFaithful, IsBelow, IsFaithfulLease, IsFaithfulPlace, IsFaithfulSeat, info_at}
 use Rattle.world_rules.proofs.Faithful.{Seats, on_seat_all}
 use Rattle.world_rules.proofs.Seated.{Reseats, Single, was_on}
 use Rattle.world_rules.proofs.Sees.{Leaves}
@@ -115,12 +115,12 @@ seat_on d rest text n seats seat is = own_seat (seat_after Standing d rest text)
 -- ---- what is left to others
 
 pub leaves_fed : (i : ℕ) (make : ℕ → Make) (d e : Core) (id : SessionId) (table device : ℕ → Device) (fed : Fed) (desk : Desk) (rest text : List ℕ) (registry : Table) → e ≡ record d { seats = e.seats; registry = e.registry; stream = e.stream } → e.seats ≡ on_seat (seat_after fed desk rest text) id.number d.seats → e.registry ≡ registry →
-    AllByRecursion (IsBelow d.opened) d.seats → AreFaithful d → map are_named registry ≡ map are_named d.registry → AllByRecursion IsFaithfulPlace registry → HeldTrue fed desk → (held : Held) → ShowsTable i make held registry device → LeavesOthers i d.registry registry table device →
+    AllByRecursion (IsBelow d.opened) d.seats → AreFaithful d → map info_at registry ≡ map info_at d.registry → AllByRecursion IsFaithfulPlace registry → HeldTrue fed desk → (held : Held) → ShowsTable i make held registry device → LeavesOthers i d.registry registry table device →
     Leaves i make (Some id) d e table device
-leaves_fed i make d e id table device fed desk rest text registry others seats is below faithful names lying held_true held shows leaves =
+leaves_fed i make d e id table device fed desk rest text registry others seats is below faithful infos lying held_true held shows leaves =
     record {
       users = ap (λ (c : Core). c.users) others;
-      names = ap (map are_named) is ∙ names;
+      infos = ap (map info_at) is ∙ infos;
       opened = let same : e.opened ≡ d.opened = ap (λ (c : Core). c.opened) others in omega (arith, same);
       below = subst (λ (x : ℕ). AllByRecursion (IsBelow x) e.seats) (sym (ap (λ (c : Core). c.opened) others)) (subst (AllByRecursion (IsBelow d.opened)) (sym seats) (on_seat_all (IsBelow d.opened) (seat_after fed desk rest text) id.number d.seats tt (λ s b. below_after fed desk rest text d.opened s b) below));
       faithful = record {

@@ -247,7 +247,7 @@ one_more t i d mid todo came rest behind left_over told q f k =
 
 -- to a client that is under way nothing was said
 abbrev pub IsSilent : Told → ℕ → List ℕ → Type 0
-IsSilent t i text = IsUnderWay (t.rules.party i).mind.stage → (pages : List (List Frame)) (talk : Talk) → IsReadAs t i t.rules pages talk → Waits talk.progress (t.rules.party i).todo → (front : List ℕ) → SpellsTold (place_in t.names) talk.progress (t.rules.party i).due front → front ++ text ≡ []
+IsSilent t i text = IsUnderWay (t.rules.party i).mind.stage → (pages : List (List Frame)) (talk : Talk) → IsReadAs t i t.rules pages talk → Waits talk.progress (t.rules.party i).todo → (front : List ℕ) → SpellsTold (place_in t.infos) talk.progress (t.rules.party i).due front → front ++ text ≡ []
 
 none_said : (told : List Reply) (text : List ℕ) → told ≡ [] → daemon.SaysAll told text → text ≡ []
 none_said told text e h = subst (λ (x : List Reply). daemon.SaysAll x text) e h

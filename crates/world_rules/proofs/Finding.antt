@@ -20,7 +20,8 @@ use Rattle.desk_rules.specs.Reading.{NamesPlace}
 use Rattle.desk_rules.proofs.Holding.{put_other, put_same}
 use Rattle.desk_rules.proofs.Moved.{put_elsewhere, put_there, unsome}
 use Rattle.desk_rules.proofs.Others.{IsThere}
-use Rattle.world_rules.specs.Stands.{AreApart, are_named}
+use Rattle.world_rules.specs.Told.{name_at}
+use Rattle.world_rules.specs.Stands.{AreApart, info_at}
 use Rattle.world_rules.proofs.Lists.{is_same}
 
 pub same_texts : (a b : List ℕ) → Decides (pointwise nat_eq a b) (a ≡ b)
@@ -71,12 +72,12 @@ none_from test n (y ∷ xs) (suc k) x h at = none_from test (n + 1) xs k x (none
 not_found : (t : Table) (name : List ℕ) (k : ℕ) (p : Place DeviceState) → find_name name t ≡ None → slice_get t k ≡ Some p → is_named name p ≡ false
 not_found t name k p h at = none_from (is_named name) 0 t k p (sym (position_from-zero (is_named name) t) ∙ h) at
 
-pub names_at : (t : Table) (k : ℕ) (p : Place DeviceState) → slice_get t k ≡ Some p → slice_get (map are_named t) k ≡ Some p.info.name
+pub names_at : (t : Table) (k : ℕ) (p : Place DeviceState) → slice_get t k ≡ Some p → name_at (map info_at t) k ≡ Some p.info.name
 names_at [] k p e = absurd (let clash : None ≡ Some p = e in cc)
 names_at (q ∷ t) zero p e = ap (λ (x : Place DeviceState). Some x.info.name) (unsome q p e)
 names_at (q ∷ t) (suc k) p e = names_at t k p e
 
-find_by : (t : Table) (name : List ℕ) (k : ℕ) (p : Place DeviceState) (o : Option ℕ) → find_name name t ≡ o → AreApart (map are_named t) → slice_get t k ≡ Some p → p.info.name ≡ name → IsThere p.slot → o ≡ Some k
+find_by : (t : Table) (name : List ℕ) (k : ℕ) (p : Place DeviceState) (o : Option ℕ) → find_name name t ≡ o → AreApart (map info_at t) → slice_get t k ≡ Some p → p.info.name ≡ name → IsThere p.slot → o ≡ Some k
 find_by t name k p None e apart at same there =
     absurd (let clash : true ≡ false = sym (is_named_by name p p.slot refl same there) ∙ not_found t name k p e at in cc)
 find_by t name k p (Some j) e apart at same there =
@@ -84,7 +85,7 @@ find_by t name k p (Some j) e apart at same there =
     let is : j ≡ k = apart j k name (names_at t j f.place f.at ∙ ap (λ (x : List ℕ). Some x) f.name_is) (names_at t k p at ∙ ap (λ (x : List ℕ). Some x) same) in
     ap (λ (x : ℕ). Some x) is
 
-pub find_there : (t : Table) (name : List ℕ) (k : ℕ) (p : Place DeviceState) → AreApart (map are_named t) → slice_get t k ≡ Some p → p.info.name ≡ name → IsThere p.slot → find_name name t ≡ Some k
+pub find_there : (t : Table) (name : List ℕ) (k : ℕ) (p : Place DeviceState) → AreApart (map info_at t) → slice_get t k ≡ Some p → p.info.name ≡ name → IsThere p.slot → find_name name t ≡ Some k
 find_there t name k p apart at same there = find_by t name k p (find_name name t) refl apart at same there
 
 -- ---- a device is taken out
@@ -106,7 +107,7 @@ not_gone t d j p q at now there = λ same.
     let gone : Some (record p { slot = Gone }) ≡ Some q = sym (put_same t d p Gone at) ∙ (ap (slice_get (with_slot t d Gone)) (sym same) ∙ now) in
     subst (λ (x : Place DeviceState). IsThere x.slot) (sym (unsome (record p { slot = Gone }) q gone)) there
 
-pub names_out : (t : Table) (name : List ℕ) (d k : ℕ) (p : Place DeviceState) (table : ℕ → Device) (o : Option ℕ) → find_name name (with_slot t d Gone) ≡ o → AreApart (map are_named t) → slice_get t d ≡ Some p → NamesPlace (find_name name t) table k → NamesPlace o (put table d (unplugged (table d))) k
+pub names_out : (t : Table) (name : List ℕ) (d k : ℕ) (p : Place DeviceState) (table : ℕ → Device) (o : Option ℕ) → find_name name (with_slot t d Gone) ≡ o → AreApart (map info_at t) → slice_get t d ≡ Some p → NamesPlace (find_name name t) table k → NamesPlace o (put table d (unplugged (table d))) k
 names_out t name d k p table None e apart at h = listed_out table d k (is_same k d) (λ n. was_listed t name d k table (find_name name t) refl e n h)
 names_out t name d k p table (Some j) e apart at h =
     let f = found_place (with_slot t d Gone) name j e in

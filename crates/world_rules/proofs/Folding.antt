@@ -34,7 +34,7 @@ use Rattle.desk_rules.proofs.Others.{leaves_all, leaves_then}
 use Rattle.world_rules.specs.Told.{Told, place_in, rules_job}
 use Rattle.world_rules.specs.Speaks.{AsksAsHeld, SpeaksAs, Waits}
 use Rattle.world_rules.specs.Spelled.{Comes, SpellsTold}
-use Rattle.world_rules.specs.Stands.{AreApart, IsFaithfulLease, IsFaithfulPlace, are_named, numbered, session_by, woken}
+use Rattle.world_rules.specs.Stands.{AreApart, IsFaithfulLease, IsFaithfulPlace, info_at, numbered, session_by, woken}
 use Rattle.world_rules.proofs.Answered.{stays}
 use Rattle.world_rules.proofs.Waiting.{waits_less}
 
@@ -42,10 +42,10 @@ use Rattle.world_rules.proofs.Waiting.{waits_less}
 pub record Desked (t : Told) (i : ℕ) (s : Standing) (d : Desk) : Type 0 where
   pub shows : Shows i s.make d s.device (session_by i s.device (s.party i))
   pub begun : IsBegun d
-  pub job_is : (s.party i).base.job ≡ rules_job t.users t.names (t.jobs i)
-  pub names : t.names ≡ map are_named d.registry
-  pub apart : AreApart t.names
-  pub places : s.places ≡ numbered 0 t.names
+  pub job_is : (s.party i).base.job ≡ rules_job t.users t.infos (t.jobs i)
+  pub infos : t.infos ≡ map info_at d.registry
+  pub apart : AreApart t.infos
+  pub places : s.places ≡ numbered 0 t.infos
   pub held : AllByRecursion IsFaithfulLease d.session.held
   pub lying : AllByRecursion IsFaithfulPlace d.registry
   pub started : AllByRecursion (λ (b : Begin). IsSheet b.page) (s.party i).base.started
@@ -61,11 +61,11 @@ answers_to i challenge fault = By i (deeds.Answers challenge fault)
 pub record Replied (t : Told) (i : ℕ) (s new : Standing) (progress : Progress) (said : Said) : Type 0 where
   pub reply : words.Reply
   pub due : (new.party i).due ≡ (s.party i).due ++ reply ∷ []
-  pub comes : (text : List ℕ) → SaysAll (replies_to said) text → Comes (place_in t.names) progress reply text
+  pub comes : (text : List ℕ) → SaysAll (replies_to said) text → Comes (place_in t.infos) progress reply text
 
 -- the client that talks so is read as the mind of the job
 abbrev pub IsReadAs : Told → ℕ → Standing → List (List Frame) → Talk → Type 0
-IsReadAs t i s pages talk = Reads (place_in t.names) (errand_of (t.jobs i)) (s.party i).base.job pages talk (woken (s.party i).mind.stage (s.party i).mind)
+IsReadAs t i s pages talk = Reads (place_in t.infos) (errand_of (t.jobs i)) (s.party i).base.job pages talk (woken (s.party i).mind.stage (s.party i).mind)
 
 -- what comes of one request: of a reply that is not said by the wire nothing was said before it
 pub record AnswersOne (t : Told) (i : ℕ) (s : Standing) (d : Desk) (said : Said) (new : Desk) : Type 0 where
@@ -115,8 +115,8 @@ no_reply i k p dev (Ended status why) r rest u e h = absurd u
 pub due_none : (t : Told) (i : ℕ) (s : Standing) (d : Desk) (r : Request) (rest : List Request) → Desked t i s d → IsUnderWay (s.party i).mind.stage → (s.party i).todo ≡ r ∷ rest → (s.party i).due ≡ []
 due_none t i s d r rest h u e = no_reply i (make_for s i) (s.party i) (wanted s i) (s.party i).mind.stage r rest u e (h.sound.talks i)
 
-pub spells_none : (t : Told) (progress : Progress) (due : List words.Reply) (text : List ℕ) → due ≡ [] → SpellsTold (place_in t.names) progress due text → text ≡ []
-spells_none t progress due text e h = subst (λ (x : List words.Reply). SpellsTold (place_in t.names) progress x text) e h
+pub spells_none : (t : Told) (progress : Progress) (due : List words.Reply) (text : List ℕ) → due ≡ [] → SpellsTold (place_in t.infos) progress due text → text ≡ []
+spells_none t progress due text e h = subst (λ (x : List words.Reply). SpellsTold (place_in t.infos) progress x text) e h
 
 -- ---- one answer
 
@@ -139,8 +139,8 @@ pub record Ran (t : Told) (i : ℕ) (s : Standing) (d : Desk) (qs : List Asked) 
   pub desked : Desked t i (after_all s (answers i chances)) new
   pub others : LeavesOthers i d.registry new.registry s.device (after_all s (answers i chances)).device
   pub todo : ((after_all s (answers i chances)).party i).todo ≡ later
-  pub told_are : IsUnderWay (s.party i).mind.stage → (pages : List (List Frame)) (talk : Talk) → IsReadAs t i s pages talk → Waits talk.progress (s.party i).todo → (front text : List ℕ) → SpellsTold (place_in t.names) talk.progress (s.party i).due front → SaysAll told text →
-      SpellsTold (place_in t.names) talk.progress ((after_all s (answers i chances)).party i).due (front ++ text)
+  pub told_are : IsUnderWay (s.party i).mind.stage → (pages : List (List Frame)) (talk : Talk) → IsReadAs t i s pages talk → Waits talk.progress (s.party i).todo → (front text : List ℕ) → SpellsTold (place_in t.infos) talk.progress (s.party i).due front → SaysAll told text →
+      SpellsTold (place_in t.infos) talk.progress ((after_all s (answers i chances)).party i).due (front ++ text)
 
 ran_none : (t : Told) (i : ℕ) (s : Standing) (d new : Desk) (later : List Request) (told : List Reply) → Desked t i s d → (s.party i).todo ≡ later → (told ≡ []) × (new ≡ d) → Ran t i s d [] later told new
 ran_none t i s d new later told h e g =
@@ -153,14 +153,14 @@ ran_none t i s d new later told h e g =
       todo = e;
       told_are = λ u pages talk reads waits front text spells says.
           let none : text ≡ [] = subst (λ (x : List Reply). SaysAll x text) g.0 says in
-          subst (SpellsTold (place_in t.names) talk.progress (s.party i).due) (sym (ap (λ (x : List ℕ). front ++ x) none ∙ append-nil front)) spells;
+          subst (SpellsTold (place_in t.infos) talk.progress (s.party i).due) (sym (ap (λ (x : List ℕ). front ++ x) none ∙ append-nil front)) spells;
     }
 
 read_after : (t : Told) (i : ℕ) (s : Standing) (chance : Chance) (pages : List (List Frame)) (talk : Talk) → IsReadAs t i s pages talk → IsReadAs t i (after s (answers_to i chance.0 chance.1)) pages talk
 read_after t i s chance pages talk h =
     let own = (stays i s (chance ∷ [])).own in
-    subst (λ (m : Mind). Reads (place_in t.names) (errand_of (t.jobs i)) ((after s (answers_to i chance.0 chance.1)).party i).base.job pages talk (woken m.stage m)) (sym own.mind)
-    (subst (λ (j : Job). Reads (place_in t.names) (errand_of (t.jobs i)) j pages talk (woken (s.party i).mind.stage (s.party i).mind)) (sym own.job) h)
+    subst (λ (m : Mind). Reads (place_in t.infos) (errand_of (t.jobs i)) ((after s (answers_to i chance.0 chance.1)).party i).base.job pages talk (woken m.stage m)) (sym own.mind)
+    (subst (λ (j : Job). Reads (place_in t.infos) (errand_of (t.jobs i)) j pages talk (woken (s.party i).mind.stage (s.party i).mind)) (sym own.job) h)
 
 ran_more : (t : Told) (i : ℕ) (s : Standing) (d mid new : Desk) (q : Asked) (qs : List Asked) (r : Request) (rest later : List Request) (said : Said) (more : List Reply) → Desked t i s d → (s.party i).todo ≡ r ∷ rest → goes_on said ≡ true → (one : AnswersOne t i s d said mid) →
     Ran t i (after s (answers_to i one.challenge one.fault)) mid qs later more new → Ran t i s d (q ∷ qs) later (replies_to said ++ more) new
@@ -181,12 +181,12 @@ ran_more t i s d mid new q qs r rest later said more h e on one ran =
           let none = due_none t i s d r rest h u e in
           let empty : front ≡ [] = spells_none t talk.progress (s.party i).due front none spells in
           let due : (next.party i).due ≡ reply.reply ∷ [] = reply.due ∙ ap (λ (x : List words.Reply). x ++ reply.reply ∷ []) none in
-          let first : SpellsTold (place_in t.names) talk.progress (next.party i).due (front ++ both.front) =
-          subst (λ (x : List words.Reply). SpellsTold (place_in t.names) talk.progress x (front ++ both.front)) (sym due)
-          (subst (λ (x : List ℕ). SpellsTold (place_in t.names) talk.progress (reply.reply ∷ []) (x ++ both.front)) (sym empty) (reply.comes both.front both.first)) in
+          let first : SpellsTold (place_in t.infos) talk.progress (next.party i).due (front ++ both.front) =
+          subst (λ (x : List words.Reply). SpellsTold (place_in t.infos) talk.progress x (front ++ both.front)) (sym due)
+          (subst (λ (x : List ℕ). SpellsTold (place_in t.infos) talk.progress (reply.reply ∷ []) (x ++ both.front)) (sym empty) (reply.comes both.front both.first)) in
           let under : IsUnderWay (next.party i).mind.stage = subst (λ (m : Mind). IsUnderWay m.stage) (sym own.mind) u in
           let later_waits = subst (Waits talk.progress) (sym (todo_after i s one.challenge one.fault r rest e)) (waits_less talk.progress r rest (subst (Waits talk.progress) e waits)) in
-          subst (SpellsTold (place_in t.names) talk.progress ((after_all next (answers i ran.chances)).party i).due) (append_assoc front both.front both.back ∙ ap (λ (x : List ℕ). front ++ x) (sym both.text_is))
+          subst (SpellsTold (place_in t.infos) talk.progress ((after_all next (answers i ran.chances)).party i).due) (append_assoc front both.front both.back ∙ ap (λ (x : List ℕ). front ++ x) (sym both.text_is))
           (ran.told_are under pages talk (read_after t i s chance pages talk reads) later_waits (front ++ both.front) both.back first both.second);
     }
 

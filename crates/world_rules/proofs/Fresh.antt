@@ -60,7 +60,7 @@ pub leaves_opened : (i : ℕ) (make : ℕ → Make) (d : Core) (table device : �
 leaves_opened i make d table device below faithful same h =
     record {
       users = refl;
-      names = refl;
+      infos = refl;
       opened = omega arith;
       below = with_seat_all (IsBelow (d.opened + 1)) d.seats (fresh_seat d.opened 1) (omega arith) (all_below_more d.opened (d.opened + 1) d.seats (omega arith) below);
       faithful = record { lying = faithful.lying; lent = with_seat_all IsFaithfulSeat d.seats (fresh_seat d.opened 1) (tt, (tt, (tt, (tt, tt)))) faithful.lent };

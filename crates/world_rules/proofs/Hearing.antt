@@ -147,15 +147,15 @@ goes_on t i past then_ more ended given = record { ended = ended; more = more; g
 
 -- the world stands for it, where the job goes on so
 reached_stands : (t : Told) (w : Scene) (i n : ℕ) (p q : Post) (id : SessionId) (c : Talker) (steps : List Step) (m : Mind) (todo more : List Request) (due : List Reply) (met : List Cause) (telling text : List ℕ) → todo ≡ (t.rules.party i).todo ++ more → Ready t w i n p id → Drains (with_client c p) q →
-    (r : Reaches (place_in t.names) (t.rules.party i).base.job (pages_shown t i) p.client (t.past i) m text c) → (d : Dried r.past_then (t.pages i) (with_client c p) q) → (m.stage ≡ Idle → ⊥) → c.input.rest ≡ telling →
+    (r : Reaches (place_in t.infos) (t.rules.party i).base.job (pages_shown t i) p.client (t.past i) m text c) → (d : Dried r.past_then (t.pages i) (with_client c p) q) → (m.stage ≡ Idle → ⊥) → c.input.rest ≡ telling →
     StepsTo t i steps (delivered (t.rules.party i).served n telling text (t.wires i)) (record r.past_then { given = r.past_then.given ++ d.more }) (t.pages i) (moved_on (t.rules.party i) m todo due met) →
-    SpellsAsked (t.jobs i) m todo (asking_left (t.rules.party i).served (left n (t.wires i).down) (t.wires i).asking ++ ((t.wires i).up ++ text)) → (IsUnderWay m.stage → SpellsTold (place_in t.names) c.progress due (telling ++ left n (t.wires i).down)) →
+    SpellsAsked (t.jobs i) m todo (asking_left (t.rules.party i).served (left n (t.wires i).down) (t.wires i).asking ++ ((t.wires i).up ++ text)) → (IsUnderWay m.stage → SpellsTold (place_in t.infos) c.progress due (telling ++ left n (t.wires i).down)) →
     ((phase : Phase) → Flows m.stage (t.rules.party i).base.carriage c.progress phase (t.wires i).image (t.rules.party i).base.flight (t.rules.party i).base.ending) → (Met WasStarved met → Met WasStarved (t.rules.party i).base.met) → Waits c.progress todo → Pends c.outcome c.progress c.phase (delivered (t.rules.party i).served n telling text (t.wires i)) →
     Stands (told_then t i steps (delivered (t.rules.party i).served n telling text (t.wires i)) (record r.past_then { given = r.past_then.given ++ d.more }) (t.pages i)) (record { daemon = world.taken id.number n w.daemon; posts = slice_set w.posts i q })
 reached_stands t w i n p q id c steps m todo more due met telling text more_is g drains r d awake rest to up down flow starved waits pends =
     let s = g.stands.posts i p g.at in
     let me = t.rules.party i in
-    let place = place_in t.names in
+    let place = place_in t.infos in
     let progress : q.client.progress ≡ c.progress = ap (λ (v : Talker). v.progress) d.client in
     delivered_stands t w i n p q id steps (delivered me.served n telling text (t.wires i)) (record r.past_then { given = r.past_then.given ++ d.more }) (moved_on me m todo due met) g.stands g.at g.low g.link (ap (λ (x : Post). x.link) d.rest) to
     (record { served = refl; job = refl; started = refl; session = λ j device. refl; more = more; todo = more_is; awaited = refl })
@@ -186,14 +186,14 @@ Led t i n v = Leads (events.ToClient n) (Hears n) t i v
 abbrev then_scene : Scene → ℕ → ℕ → SessionId → Post → Scene
 then_scene w i n id q = record { daemon = world.taken id.number n w.daemon; posts = slice_set w.posts i q }
 
-dried_of : (t : Told) (w : Scene) (i n : ℕ) (p q : Post) (id : SessionId) (c : Talker) (m : Mind) (text : List ℕ) → Ready t w i n p id → Drains (with_client c p) q → (r : Reaches (place_in t.names) (t.rules.party i).base.job (pages_shown t i) p.client (t.past i) m text c) → Dried r.past_then (t.pages i) (with_client c p) q
+dried_of : (t : Told) (w : Scene) (i n : ℕ) (p q : Post) (id : SessionId) (c : Talker) (m : Mind) (text : List ℕ) → Ready t w i n p id → Drains (with_client c p) q → (r : Reaches (place_in t.infos) (t.rules.party i).base.job (pages_shown t i) p.client (t.past i) m text c) → Dried r.past_then (t.pages i) (with_client c p) q
 dried_of t w i n p q id c m text g drains r =
     let s = g.stands.posts i p g.at in
     let still = unturned c.errand.task c.outcome c.progress r.past_then (ap is_joined r.ended ∙ g.part) r.serves.fits in
-    dried_by (place_in t.names) (t.jobs i) (t.past i) (t.pages i) (t.rules.party i) m text p q c s.talks g.part r still drains
+    dried_by (place_in t.infos) (t.jobs i) (t.past i) (t.pages i) (t.rules.party i) m text p q c s.talks g.part r still drains
 
 waits_led : (t : Told) (w : Scene) (i n : ℕ) (p q : Post) (id : SessionId) (c : Talker) → (g : Ready t w i n p id) → Can t i (events.ToClient n) → WaitsAs (t.rules.party i).base.job p.client.progress p.client.notes (t.past i) (t.rules.party i).mind → Drains (with_client c p) q →
-    WaitsOn (place_in t.names) (t.rules.party i).base.job (pages_shown t i) (t.rules.party i).mind p.client (t.past i) (moved n (t.wires i).down) (left n (t.wires i).down) g.due.reply c → Led t i n (then_scene w i n id q)
+    WaitsOn (place_in t.infos) (t.rules.party i).base.job (pages_shown t i) (t.rules.party i).mind p.client (t.past i) (moved n (t.wires i).down) (left n (t.wires i).down) g.due.reply c → Led t i n (then_scene w i n id q)
 waits_led t w i n p q id c g can waiting drains h =
     let s = g.stands.posts i p g.at in
     let me = t.rules.party i in
@@ -217,13 +217,13 @@ waits_led t w i n p q id c g can waiting drains h =
       }),
     ))
     (reached_stands t w i n p q id c [] me.mind me.todo [] me.due me.base.met c.input.rest [] (sym (append-nil me.todo)) g drains r d awake refl (by_none t i bytes past (t.pages i)) (asked_same t w i n p id me.mind g refl)
-    (λ _. subst (λ (due : List Reply). SpellsTold (place_in t.names) c.progress due (c.input.rest ++ left n x.down)) (sym g.due.due) h.comes)
+    (λ _. subst (λ (due : List Reply). SpellsTold (place_in t.infos) c.progress due (c.input.rest ++ left n x.down)) (sym g.due.due) h.comes)
     (λ phase. flows_still me.mind.stage me.base.carriage c.progress phase x.image me.base.flight me.base.ending g.due.still (λ imaging. absurd (not_imaging me.mind.stage g.due.progress g.due.stage g.due.waits imaging))) (λ e. e)
-    (let f = comes_front (place_in t.names) c.progress g.due.reply (c.input.rest ++ left n x.down) h.comes in waits_awaited c.progress f.procedure me.todo f.awaited_is g.due.todo)
+    (let f = comes_front (place_in t.infos) c.progress g.due.reply (c.input.rest ++ left n x.down) h.comes in waits_awaited c.progress f.procedure me.todo f.awaited_is g.due.todo)
     (record {
       asking = no_request_left me.served (left n x.down) x.asking s.pends.asking;
       telling = λ on. h.pending;
-      reading = λ e. absurd (let f = comes_front (place_in t.names) c.progress g.due.reply (c.input.rest ++ left n x.down) h.comes in receives_none c.outcome c.progress f.procedure f.awaited_is e);
+      reading = λ e. absurd (let f = comes_front (place_in t.infos) c.progress g.due.reply (c.input.rest ++ left n x.down) h.comes in receives_none c.outcome c.progress f.procedure f.awaited_is e);
     }))
 
 -- ---- it hears the reply
@@ -245,12 +245,12 @@ imaging_wants place errand job pages c past m r wants imaging =
     wants (waits_imaging job c.progress c.notes past m (waits_as place errand job pages (talk_of c past) m r runs) imaging)
 
 hears_led : (t : Told) (w : Scene) (i n : ℕ) (p q : Post) (id : SessionId) (c : Talker) → (g : Ready t w i n p id) → Can t i (events.ToClient n) → Drains (with_client c p) q →
-    HearsIt (place_in t.names) (t.rules.party i).base.job (pages_shown t i) (t.rules.party i).mind p.client (t.past i) (moved n (t.wires i).down) (left n (t.wires i).down) g.due.reply c → Led t i n (then_scene w i n id q)
+    HearsIt (place_in t.infos) (t.rules.party i).base.job (pages_shown t i) (t.rules.party i).mind p.client (t.past i) (moved n (t.wires i).down) (left n (t.wires i).down) g.due.reply c → Led t i n (then_scene w i n id q)
 hears_led t w i n p q id c g can drains h =
     let s = g.stands.posts i p g.at in
     let me = t.rules.party i in
     let x = t.wires i in
-    let place = place_in t.names in
+    let place = place_in t.infos in
     let reply = g.due.reply in
     let m = mind_at t i reply in
     let r = h.reaches in
@@ -285,7 +285,7 @@ starved_else : WasStarved ≡ ClientStarved → ⊥
 starved_else e = absurd (cc)
 
 chokes_led : (t : Told) (w : Scene) (i n : ℕ) (p q : Post) (id : SessionId) (c : Talker) → (g : Ready t w i n p id) → Can t i (events.ToClient n) → Drains (with_client c p) q →
-    ChokesAt (place_in t.names) (t.rules.party i).base.job (pages_shown t i) (t.rules.party i).mind p.client (t.past i) c → Led t i n (then_scene w i n id q)
+    ChokesAt (place_in t.infos) (t.rules.party i).base.job (pages_shown t i) (t.rules.party i).mind p.client (t.past i) c → Led t i n (then_scene w i n id q)
 chokes_led t w i n p q id c g can drains h =
     let me = t.rules.party i in
     let x = t.wires i in
@@ -309,7 +309,7 @@ chokes_led t w i n p q id c g can drains h =
     (pends_off c.outcome c.progress c.phase bytes h.over (no_request_left me.served (left n x.down) x.asking (g.stands.posts i p g.at).pends.asking)))
 
 both_led : (t : Told) (w : Scene) (i n : ℕ) (p q : Post) (id : SessionId) (c : Talker) → (g : Ready t w i n p id) → Can t i (events.ToClient n) → Drains (with_client c p) q →
-    ChokesBehind (place_in t.names) (t.rules.party i).base.job (pages_shown t i) (t.rules.party i).mind p.client (t.past i) (moved n (t.wires i).down) (left n (t.wires i).down) g.due.reply c → Led t i n (then_scene w i n id q)
+    ChokesBehind (place_in t.infos) (t.rules.party i).base.job (pages_shown t i) (t.rules.party i).mind p.client (t.past i) (moved n (t.wires i).down) (left n (t.wires i).down) g.due.reply c → Led t i n (then_scene w i n id q)
 both_led t w i n p q id c g can drains h =
     let s = g.stands.posts i p g.at in
     let me = t.rules.party i in
@@ -371,9 +371,9 @@ ignored_led t w i n p id h at low link can over =
     let x = t.wires i in
     let bytes : Wires = delivered me.served n x.telling [] x in
     done (events.ToClient n) (Hears n) t i _ [] (told_then t i [] bytes (t.past i) (t.pages i)) can (inl (record { over = over; steps_are = refl; takes = record { legal = tt; then_is = refl } }))
-    (delivered_stands t w i n p (spent p) id [] bytes (t.past i) me h at low link refl (by_none t i bytes (t.past i) (t.pages i)) (record { served = refl; job = refl; started = refl; session = λ j device. refl; more = []; todo = sym (append-nil me.todo); awaited = refl }) (talks_spent (place_in t.names) (t.jobs i) (t.past i) (t.pages i) me p s.talks)
+    (delivered_stands t w i n p (spent p) id [] bytes (t.past i) me h at low link refl (by_none t i bytes (t.past i) (t.pages i)) (record { served = refl; job = refl; started = refl; session = λ j device. refl; more = []; todo = sym (append-nil me.todo); awaited = refl }) (talks_spent (place_in t.infos) (t.jobs i) (t.past i) (t.pages i) me p s.talks)
     (carries_taken t w i n p (spent p) id x.telling [] h at link (sym (append-nil p.client.out)) s.carries.telling refl)
-    (means_then (place_in t.names) (t.jobs i) x n x.telling [] me me.mind me.todo me.due me.base.met p (spent p) s.means refl refl refl refl (λ idle. over (subst IsUnderWay (sym idle) tt)) (λ served. asked_still (t.jobs i) x n me me.mind served (s.means.up served) refl) (λ u. absurd (over u)) s.means.flow s.means.starved) s.waits
+    (means_then (place_in t.infos) (t.jobs i) x n x.telling [] me me.mind me.todo me.due me.base.met p (spent p) s.means refl refl refl refl (λ idle. over (subst IsUnderWay (sym idle) tt)) (λ served. asked_still (t.jobs i) x n me me.mind served (s.means.up served) refl) (λ u. absurd (over u)) s.means.flow s.means.starved) s.waits
     (pends_same p.client.outcome p.client.progress p.client.phase x bytes (no_request_left me.served (left n x.down) x.asking s.pends.asking) refl s.pends))
 
 -- ---- the event
@@ -385,12 +385,12 @@ ready : (t : Told) (w : Scene) (i n : ℕ) (p : Post) (id : SessionId) → Stand
 ready t w i n p id h at low link runs under some =
     let s = h.posts i p at in
     let due = due_to t w i p id h at link under some in
-    let f = comes_front (place_in t.names) p.client.progress due.reply ((t.wires i).telling ++ (t.wires i).down) due.comes in
+    let f = comes_front (place_in t.infos) p.client.progress due.reply ((t.wires i).telling ++ (t.wires i).down) due.comes in
     let between = between_at p.client.progress f.procedure (t.past i) f.awaited_is (fits_running p.client.errand.task p.client.outcome p.client.progress (t.past i) runs s.talks.serves.fits) in
     (record { stands = h; at = at; low = low; link = link; due = due; part = between.2 }, between)
 
 by_four : (t : Told) (w : Scene) (i n : ℕ) (p q : Post) (id : SessionId) (c : Talker) → (g : Ready t w i n p id) → Can t i (events.ToClient n) → WaitsAs (t.rules.party i).base.job p.client.progress p.client.notes (t.past i) (t.rules.party i).mind → Drains (with_client c p) q →
-    Comes4 (place_in t.names) (t.rules.party i).base.job (pages_shown t i) (t.rules.party i).mind p.client (t.past i) (moved n (t.wires i).down) (left n (t.wires i).down) g.due.reply c → Led t i n (then_scene w i n id q)
+    Comes4 (place_in t.infos) (t.rules.party i).base.job (pages_shown t i) (t.rules.party i).mind p.client (t.past i) (moved n (t.wires i).down) (left n (t.wires i).down) g.due.reply c → Led t i n (then_scene w i n id q)
 by_four t w i n p q id c g can waiting drains (inl h) = waits_led t w i n p q id c g can waiting drains h
 by_four t w i n p q id c g can waiting drains (inr (inl h)) = hears_led t w i n p q id c g can drains h
 by_four t w i n p q id c g can waiting drains (inr (inr (inl h))) = chokes_led t w i n p q id c g can drains h
@@ -401,7 +401,7 @@ heard_led t w i n p q id h at low link can runs d =
     let s = h.posts i p at in
     let me = t.rules.party i in
     let x = t.wires i in
-    let place = place_in t.names in
+    let place = place_in t.infos in
     let under : IsUnderWay me.mind.stage = runs_under place (errand_of (t.jobs i)) me.base.job (pages_shown t i) (talk_of p.client (t.past i)) me.mind s.talks.reads runs in
     let both = ready t w i n p id h at low link runs under can.1 in
     let g = both.0 in
@@ -442,7 +442,7 @@ deliver_leads t w i n p q id h at low link can d (inl runs) = heard_led t w i n 
 deliver_leads t w i n p q id h at low link can d (inr over) =
     let s = h.posts i p at in
     let me = t.rules.party i in
-    let never : IsUnderWay me.mind.stage → ⊥ = λ u. let clash : true ≡ false = sym (under_runs (place_in t.names) (errand_of (t.jobs i)) me.base.job (pages_shown t i) (talk_of p.client (t.past i)) me.mind s.talks.reads u) ∙ over in absurd (cc) in
+    let never : IsUnderWay me.mind.stage → ⊥ = λ u. let clash : true ≡ false = sym (under_runs (place_in t.infos) (errand_of (t.jobs i)) me.base.job (pages_shown t i) (talk_of p.client (t.past i)) me.mind s.talks.reads u) ∙ over in absurd (cc) in
     subst (λ (x : Post). Led t i n (then_scene w i n id x)) (sym (d.over over)) (ignored_led t w i n p id h at low link can never)
 
 pub deliver_decides : (n : ℕ) → DecidesAt (events.ToClient n) (Hears n)

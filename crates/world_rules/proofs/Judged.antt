@@ -37,11 +37,11 @@ same_is (x ∷ xs) (y ∷ ys) e = same_head x y xs ys (eqb x y) refl e (λ h. sa
 pub same_of : (a b : List ℕ) → a ≡ b → same_text a b ≡ true
 same_of a b e = ap (same_text a) (sym e) ∙ same_self a
 
-both_parts : (a b : Bool) → (a && b) ≡ true → (a ≡ true) × (b ≡ true)
+pub both_parts : (a b : Bool) → (a && b) ≡ true → (a ≡ true) × (b ≡ true)
 both_parts true b e = (refl, e)
 both_parts false b e = absurd (let clash : false ≡ true = e in cc)
 
-both_true : (a b : Bool) → a ≡ true → b ≡ true → (a && b) ≡ true
+pub both_true : (a b : Bool) → a ≡ true → b ≡ true → (a && b) ≡ true
 both_true a b e f = ap (λ (x : Bool). x && b) e ∙ f
 
 -- ---- the backend of a name

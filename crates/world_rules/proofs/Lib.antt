@@ -10,6 +10,7 @@ pub mod Spelling
 pub mod Seated
 pub mod Sees
 pub mod Held
+pub mod Shown
 pub mod Spoken
 pub mod Changing
 pub mod Taking
@@ -33,6 +34,7 @@ pub mod Streamed
 pub mod CutOff
 pub mod Turning
 pub mod Judged
+pub mod Infos
 pub mod Plain
 pub mod Setting
 pub mod Asked

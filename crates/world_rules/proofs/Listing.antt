@@ -1,6 +1,6 @@
 -- The devices that the daemon tells are the places that the rules list.
 use Rattle.std.specs.Prelude.{cond}
-use Rattle.std.proofs.Common.{◌≡◌, ◌∙◌, ℕ, suc, ◌+◌, List, [], ◌∷◌, Some, Bool, true, false, refl, sym, ap, subst, map, slice_get, arith}
+use Rattle.std.proofs.Common.{◌≡◌, ◌∙◌, ℕ, zero, suc, ◌+◌, List, [], ◌∷◌, Some, None, Bool, true, false, refl, sym, ap, subst, map, slice_get, arith}
 use Rattle.device_api.specs.State.{DeviceState}
 use Rattle.device_api.specs.declared.device_info.DeviceInfo.{DeviceInfo}
 use Rattle.dispatch.specs.declared.table.place.Place.{Place}
@@ -14,31 +14,36 @@ use Rattle.scan_rules.specs.Standing.{listed_of}
 use Rattle.desk_rules.specs.Reading.{Shows}
 use Rattle.desk_rules.specs.WholeSessions.{infos_for}
 use Rattle.desk_rules.proofs.Endings.{lists_agree}
+use Rattle.desk_rules.proofs.Moved.{unsome}
 use Rattle.world_rules.specs.Told.{place_in}
-use Rattle.world_rules.specs.Stands.{AreApart, are_named, numbered}
-use Rattle.world_rules.proofs.Asked.{place_is}
-use Rattle.world_rules.proofs.Finding.{names_at}
+use Rattle.world_rules.specs.Stands.{AreApart, info_at, numbered}
+use Rattle.world_rules.proofs.Infos.{info_place}
 
 one_more : (k j : ℕ) → (k + 1) + j ≡ k + suc j
 one_more k j = omega arith
 
-listed_if : (names : List (List ℕ)) (k : ℕ) (info : DeviceInfo) (infos : List DeviceInfo) (places : List ℕ) (b : Bool) → place_in names info ≡ k → map (place_in names) infos ≡ places → map (place_in names) (cond b (info ∷ infos) infos) ≡ cond b (k ∷ places) places
-listed_if names k info infos places true e h = ap (λ (n : ℕ). n ∷ map (place_in names) infos) e ∙ ap (λ (x : List ℕ). k ∷ x) h
-listed_if names k info infos places false e h = h
+listed_if : (all : List DeviceInfo) (k : ℕ) (info : DeviceInfo) (infos : List DeviceInfo) (places : List ℕ) (b : Bool) → place_in all info ≡ k → map (place_in all) infos ≡ places → map (place_in all) (cond b (info ∷ infos) infos) ≡ cond b (k ∷ places) places
+listed_if all k info infos places true e h = ap (λ (n : ℕ). n ∷ map (place_in all) infos) e ∙ ap (λ (x : List ℕ). k ∷ x) h
+listed_if all k info infos places false e h = h
 
 -- from place k on
-listed_from : (device : ℕ → Device) (names : List (List ℕ)) (k : ℕ) (t : Table) → AreApart names → ((j : ℕ) (p : Place DeviceState) → slice_get t j ≡ Some p → slice_get names (k + j) ≡ Some p.info.name) → map (place_in names) (infos_for device k t) ≡ listed_of device (numbered k (map are_named t))
-listed_from device names k [] apart at = refl
-listed_from device names k (p ∷ t) apart at =
+listed_from : (device : ℕ → Device) (all : List DeviceInfo) (k : ℕ) (t : Table) → AreApart all → ((j : ℕ) (p : Place DeviceState) → slice_get t j ≡ Some p → slice_get all (k + j) ≡ Some p.info) → map (place_in all) (infos_for device k t) ≡ listed_of device (numbered k (map info_at t))
+listed_from device all k [] apart at = refl
+listed_from device all k (p ∷ t) apart at =
     let next : k + 1 ≡ suc k = omega arith in
     let here : k + 0 ≡ k = omega arith in
-    let more = listed_from device names (k + 1) t apart (λ j q e. subst (λ (n : ℕ). slice_get names n ≡ Some q.info.name) (sym (one_more k j)) (at (suc j) q e)) in
-    listed_if names k p.info (infos_for device (k + 1) t) (listed_of device (numbered (suc k) (map are_named t))) (device k).listed
-    (place_is names p.info.name k apart (subst (λ (n : ℕ). slice_get names n ≡ Some p.info.name) here (at 0 p refl)))
-    (more ∙ ap (λ (n : ℕ). listed_of device (numbered n (map are_named t))) next)
+    let more = listed_from device all (k + 1) t apart (λ j q e. subst (λ (n : ℕ). slice_get all n ≡ Some q.info) (sym (one_more k j)) (at (suc j) q e)) in
+    listed_if all k p.info (infos_for device (k + 1) t) (listed_of device (numbered (suc k) (map info_at t))) (device k).listed
+    (info_place all p.info k apart (subst (λ (n : ℕ). slice_get all n ≡ Some p.info) here (at 0 p refl)))
+    (more ∙ ap (λ (n : ℕ). listed_of device (numbered n (map info_at t))) next)
 
-pub listed_told : (i : ℕ) (make : ℕ → Make) (d : Desk) (device : ℕ → Device) (s : Session) (names : List (List ℕ)) → names ≡ map are_named d.registry → AreApart names → Shows i make d device s → map (place_in names) (registry.listed d.registry) ≡ listed_of device (numbered 0 names)
-listed_told i make d device s names same apart h =
-    ap (map (place_in names)) (lists_agree i make d device s h)
-    ∙ (listed_from device names 0 d.registry apart (λ j p e. subst (λ (all : List (List ℕ)). slice_get all (0 + j) ≡ Some p.info.name) (sym same) (subst (λ (n : ℕ). slice_get (map are_named d.registry) n ≡ Some p.info.name) (let plain : j ≡ 0 + j = omega arith in plain) (names_at d.registry j p e)))
-    ∙ ap (λ (all : List (List ℕ)). listed_of device (numbered 0 all)) (sym same))
+infos_of : (t : Table) (k : ℕ) (p : Place DeviceState) → slice_get t k ≡ Some p → slice_get (map info_at t) k ≡ Some p.info
+infos_of [] k p e = absurd (let clash : None ≡ Some p = e in cc)
+infos_of (q ∷ t) zero p e = ap (λ (x : Place DeviceState). Some x.info) (unsome q p e)
+infos_of (q ∷ t) (suc k) p e = infos_of t k p e
+
+pub listed_told : (i : ℕ) (make : ℕ → Make) (d : Desk) (device : ℕ → Device) (s : Session) (all : List DeviceInfo) → all ≡ map info_at d.registry → AreApart all → Shows i make d device s → map (place_in all) (registry.listed d.registry) ≡ listed_of device (numbered 0 all)
+listed_told i make d device s all same apart h =
+    ap (map (place_in all)) (lists_agree i make d device s h)
+    ∙ (listed_from device all 0 d.registry apart (λ j p e. subst (λ (infos : List DeviceInfo). slice_get infos (0 + j) ≡ Some p.info) (sym same) (subst (λ (n : ℕ). slice_get (map info_at d.registry) n ≡ Some p.info) (let plain : j ≡ 0 + j = omega arith in plain) (infos_of d.registry j p e)))
+    ∙ ap (λ (infos : List DeviceInfo). listed_of device (numbered 0 infos)) (sym same))

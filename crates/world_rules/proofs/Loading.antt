@@ -7,6 +7,7 @@ use Rattle.std.proofs.Common.{◌≡◌, ◌≢◌, ◌⊎◌, inl, inr, ◌∙�
 use Rattle.page_picture.specs.Page.{IsSheet}
 use Rattle.page_picture.specs.Source.{SourceState}
 use Rattle.device_api.specs.State.{DeviceState, after_load as page_loaded, takes_page}
+use Rattle.device_api.specs.declared.device_info.DeviceInfo.{DeviceInfo}
 use Rattle.dispatch.specs.declared.table.place.Lease.{Lease}
 use Rattle.dispatch.specs.declared.table.place.Place.{Place}
 use Rattle.dispatch.specs.declared.table.place.Slot.{Slot}
@@ -39,16 +40,17 @@ use Rattle.desk_rules.proofs.Tables.{loads_agree, pages_agree, refusals_agree}
 use Rattle.desk_rules.proofs.Leaves.{devices_leave}
 use Rattle.scan_world.specs.declared.post.Post.{Post}
 use Rattle.scan_world.specs.Worlds.{Scene}
-use Rattle.world_rules.specs.Told.{Told, Wires}
+use Rattle.world_rules.specs.Told.{Told, Wires, name_at}
 use Rattle.world_rules.specs.Speaks.{Speaks}
 use Rattle.world_rules.specs.Stands.{AreApart, Carries, IsFaithful, IsFaithfulLease, IsFaithfulPlace, IsFaithfulSlot, IsServed, Stands, seat_by, session_by}
 use Rattle.world_rules.specs.Happens.{CanLoad, LaysIn, LeadsTo, LoadsFollow}
-use Rattle.world_rules.proofs.Calling.{found_on, input_on, leaves_on, replies_on, slot_names}
+use Rattle.world_rules.proofs.Calling.{found_on, input_on, leaves_on, replies_on, slot_infos}
 use Rattle.world_rules.proofs.Sees.{Leaves}
 use Rattle.world_rules.proofs.Changing.{stands_change}
 use Rattle.world_rules.proofs.Faithful.{Seats, slot_true}
 use Rattle.world_rules.proofs.Finding.{find_there, found_place, names_at}
 use Rattle.world_rules.proofs.Held.{held_after_all}
+use Rattle.world_rules.proofs.Shown.{shown_after}
 use Rattle.world_rules.proofs.Laying.{laid_none, laid_shows}
 use Rattle.world_rules.proofs.Leasing.{FoundSeat, any_lease, any_seat, found_seat, laid, laid_true, load_true}
 use Rattle.world_rules.proofs.Lists.{is_same, there, within}
@@ -115,10 +117,10 @@ whose t w name h any =
     by_served t w name l.place l.post l.id f (t.rules.party l.place).served l.at l.link l.number h any refl (subst (λ (o : Option SessionId). IsServed l.place t.rules.make w.daemon o (t.rules.party l.place).served t.rules.device (session_by l.place t.rules.device (t.rules.party l.place))) l.link s.served)
 
 -- its place by that name
-named_there : (t : Told) (w : Scene) (name : List ℕ) → Stands t w → (d : IsLeased t w name) → slice_get t.names d.lease.place ≡ Some name
+named_there : (t : Told) (w : Scene) (name : List ℕ) → Stands t w → (d : IsLeased t w name) → name_at t.infos d.lease.place ≡ Some name
 named_there t w name h d =
     let own = (d.shows.shows.devices.leases d.word d.lease d.stands).own in
-    ap (λ (names : List (List ℕ)). slice_get names d.lease.place) h.is_of.names ∙ (names_at w.daemon.registry d.lease.place own.place own.at ∙ ap (λ (x : List ℕ). Some x) (sym own.name ∙ d.name_is))
+    ap (λ (infos : List DeviceInfo). name_at infos d.lease.place) h.is_of.infos ∙ (names_at w.daemon.registry d.lease.place own.place own.at ∙ ap (λ (x : List ℕ). Some x) (sym own.name ∙ d.name_is))
 
 -- ---- leased, and it takes the page
 
@@ -164,12 +166,13 @@ lays_leased t w name source steady sheet h d takes =
       stands = subst (λ (c : Core). Stands u (record w { daemon = c })) (sym (d.then_is source))
           (subst (λ (ps : List Post). Stands u (record { daemon = e; posts = ps })) (same_posts w.posts i p d.at)
           (stands_change t u w i p p e h d.at (within w.posts i p d.at) (record {
-            told = record { users = refl; names = refl; count = refl; jobs = refl; make = refl; places = refl; party = λ j n. refl; wires = λ j n. refl; past = λ j n. refl; pages = λ j n. refl };
+            told = record { users = refl; infos = refl; count = refl; jobs = refl; make = refl; places = refl; party = λ j n. refl; wires = λ j n. refl; past = λ j n. refl; pages = λ j n. refl };
             leaves = subst (λ (o : Option SessionId). Leaves i t.rules.make o w.daemon e t.rules.device u.rules.device) (sym d.link)
                 (subst (λ (x : ℕ → Device). Leaves i t.rules.make (Some d.id) w.daemon e t.rules.device x) (sym is_device)
                 (leaves_on g i t.rules.make w.daemon d.id t.rules.device device keeps h.seats h.faithful (g d.shows.session).held shows.devices (devices_leave i t.rules.make d.shows.session.held w.daemon.registry t.rules.device d.word l (page_loaded l.device source) d.shows.shows.devices d.stands)));
             sound = sound_after_all t.rules xs h.sound legal;
             asks = held_after_all t.rules xs h.sound h.asks legal;
+            shown = shown_after t w xs h;
             sits = record {
               job_is = s.job_is;
               talks = s.talks;
@@ -211,7 +214,7 @@ refused t w name source h same never =
     (record { steps = []; then_told = t; happens = record { either = inr never; does = λ can. absurd (never can); cannot = λ _. (refl, refl) }; stands = h })
 
 -- a place of that name is this one
-place_is : (t : Told) (w : Scene) (name : List ℕ) (j k : ℕ) → Stands t w → slice_get t.names j ≡ Some name → slice_get t.names k ≡ Some name → j ≡ k
+place_is : (t : Told) (w : Scene) (name : List ℕ) (j k : ℕ) → Stands t w → name_at t.infos j ≡ Some name → name_at t.infos k ≡ Some name → j ≡ k
 place_is t w name j k h a b = h.is_of.apart j k name a b
 
 seat_self : (f : Seat DeviceState → Option (Seat DeviceState)) (n : ℕ) (seats : Seats) (seat : Seat DeviceState) → seat_of seats n ≡ Some seat → f seat ≡ Some seat → on_seat f n seats ≡ seats
@@ -393,10 +396,10 @@ served_in j make d (Some id) true table p name source h takes is =
 served_in j make d None false table p name source h takes is = (refl, table_in j make [] d.registry table name source h takes is.1)
 served_in j make d (Some id) false table p name source h takes is = (is.0, table_in j make [] d.registry table name source h takes is.1)
 
-named_in : (t : Told) (w : Scene) (name : List ℕ) → Stands t w → (d : IsIn w.daemon.registry name) → slice_get t.names d.place ≡ Some name
+named_in : (t : Told) (w : Scene) (name : List ℕ) → Stands t w → (d : IsIn w.daemon.registry name) → name_at t.infos d.place ≡ Some name
 named_in t w name h d =
     let f = found_place w.daemon.registry name d.place d.found in
-    ap (λ (names : List (List ℕ)). slice_get names d.place) h.is_of.names ∙ (names_at w.daemon.registry d.place f.place f.at ∙ ap (λ (x : List ℕ). Some x) f.name_is)
+    ap (λ (infos : List DeviceInfo). name_at infos d.place) h.is_of.infos ∙ (names_at w.daemon.registry d.place f.place f.at ∙ ap (λ (x : List ℕ). Some x) f.name_is)
 
 lays_in : (t : Told) (w : Scene) (name : List ℕ) (source : SourceState) → source.steady ≡ true → IsSheet source.page → Stands t w → list_any (holds name) w.daemon.seats ≡ false → (d : IsIn w.daemon.registry name) → takes_page d.state ≡ true → Loaded t w name source
 lays_in t w name source steady sheet h free d takes =
@@ -424,10 +427,11 @@ lays_in t w name source steady sheet h free d takes =
       stands = subst (λ (c : Core). Stands told (record w { daemon = c })) (sym core_is) (record {
         sound = sound_after_all t.rules xs h.sound legal;
         asks = held_after_all t.rules xs h.sound h.asks legal;
+        shown = shown_after t w xs h;
         is_of = record {
           count = h.is_of.count;
           users = h.is_of.users;
-          names = h.is_of.names ∙ sym (slot_names w.daemon.registry k (In next));
+          infos = h.is_of.infos ∙ sym (slot_infos w.daemon.registry k (In next));
           apart = h.is_of.apart;
           places = h.is_of.places;
           counts = h.is_of.counts;
@@ -498,8 +502,8 @@ unlisted t w name h none can = by_place (slice_get w.daemon.registry can.place) 
         let shown : ShowsSlot (length w.posts) (t.rules.make can.place) [] can.place (t.rules.device can.place) p.info.name Gone = subst (λ (s : Slot DeviceState). ShowsSlot (length w.posts) (t.rules.make can.place) [] can.place (t.rules.device can.place) p.info.name s) gone v in
         let clash : false ≡ true = sym shown.0 ∙ can.listed in absurd (cc)
     by_there p at v (inl is) =
-        let same : Some p.info.name ≡ Some name = sym (names_at w.daemon.registry can.place p at) ∙ (ap (λ (names : List (List ℕ)). slice_get names can.place) (sym h.is_of.names) ∙ can.named) in
-        let found = find_there w.daemon.registry name can.place p (subst AreApart h.is_of.names h.is_of.apart) at (unsome p.info.name name same) is in
+        let same : Some p.info.name ≡ Some name = sym (names_at w.daemon.registry can.place p at) ∙ (ap (λ (infos : List DeviceInfo). name_at infos can.place) (sym h.is_of.infos) ∙ can.named) in
+        let found = find_there w.daemon.registry name can.place p (subst AreApart h.is_of.infos h.is_of.apart) at (unsome p.info.name name same) is in
         let clash : None ≡ Some can.place = sym none ∙ found in absurd (cc)
 
     by_place : (o : Option (Place DeviceState)) → slice_get w.daemon.registry can.place ≡ o → ShowsPlace (length w.posts) (t.rules.make can.place) [] can.place (t.rules.device can.place) o → ⊥

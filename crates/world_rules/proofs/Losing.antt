@@ -38,6 +38,7 @@ use Rattle.world_rules.proofs.Cancelling.{flows_over, other_cause}
 use Rattle.world_rules.proofs.Changing.{stands_change}
 use Rattle.world_rules.proofs.Lost.{IsLost, if_input, if_out, talks_lost}
 use Rattle.world_rules.proofs.Held.{held_after_all}
+use Rattle.world_rules.proofs.Shown.{shown_after}
 use Rattle.world_rules.proofs.Minds.{stops_idle, stops_over, under_runs}
 use Rattle.world_rules.proofs.Seated.{Reseats, reseats_ended}
 use Rattle.world_rules.proofs.Sees.{Leaves}
@@ -102,7 +103,7 @@ unlinked_stands t w i p id h at low link =
     let served = subst (λ (x : Option SessionId). IsServed i t.rules.make w.daemon x me.served t.rules.device (session_by i t.rules.device me)) link s.served in
     let leaves = leaves_ended i t.rules.make w.daemon id me.served t.rules.device me h.seats h.faithful served in
     let idle : is_running p.client.outcome ≡ false → IsUnderWay me.mind.stage → ⊥ = λ over under.
-    let runs = under_runs (place_in t.names) (errand_of (t.jobs i)) me.base.job (map (λ (x : Past). x.ended) (t.pages i)) (talk_of p.client (t.past i)) me.mind s.talks.reads under in
+    let runs = under_runs (place_in t.infos) (errand_of (t.jobs i)) me.base.job (map (λ (x : Past). x.ended) (t.pages i)) (talk_of p.client (t.past i)) me.mind s.talks.reads under in
     let clash : true ≡ false = sym runs ∙ over in absurd (cc) in
     let party = one_party t i (deeds.Loses false) bytes (t.past i) (t.pages i) in
     done events.LoseControl LosesControl t i _ steps u linked (refl, record { legal = (linked, tt); then_is = refl })
@@ -111,11 +112,12 @@ unlinked_stands t w i p id h at low link =
       leaves = subst (λ (x : Option SessionId). Leaves i t.rules.make x w.daemon e t.rules.device u.rules.device) (sym link) leaves;
       sound = sound_after_all t.rules steps h.sound (linked, tt);
       asks = held_after_all t.rules steps h.sound h.asks (linked, tt);
+      shown = shown_after t w steps h;
       sits = sits_there u e i q after bytes (t.past i) (t.pages i) party (put_there t.wires i bytes) (put_there t.past i (t.past i)) (put_there t.pages i (t.pages i)) (record {
         job_is = s.job_is;
-        talks = talks_lost (place_in t.names) (t.jobs i) (t.past i) (t.pages i) me (bare me.base LinkLost) p q links.Control (is_running p.client.outcome) refl idle refl (control_lost p) s.talks after refl refl;
+        talks = talks_lost (place_in t.infos) (t.jobs i) (t.past i) (t.pages i) me (bare me.base LinkLost) p q links.Control (is_running p.client.outcome) refl idle refl (control_lost p) s.talks after refl refl;
         carries = carries_cut (t.wires i) (seat_by w.daemon p.link) (is_running p.client.outcome) p q (control_lost p) refl s.carries;
-        means = means_cut (place_in t.names) (t.jobs i) (t.wires i) me LinkLost q (λ met. s.means.starved (not_linked LinkLost starved_else me.base.met met)) (λ e. (s.means.before e).1) refl refl;
+        means = means_cut (place_in t.infos) (t.jobs i) (t.wires i) me LinkLost q (λ met. s.means.starved (not_linked LinkLost starved_else me.base.met met)) (λ e. (s.means.before e).1) refl refl;
         served = (refl, shows_ended i t.rules.make w.daemon id me.served t.rules.device me served);
         speaks = tt;
         waits = waits_lost p.client after.todo s.talks.over;

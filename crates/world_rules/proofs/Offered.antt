@@ -235,40 +235,40 @@ offered_at t i s d q r x rest said reply text f stage only o = subst (λ (y : Re
 free_at : (t : Told) (i : ℕ) (s : Standing) (d : Desk) → Desked t i s d → (wanted s i).holder ≢ Some i → (manner d 0).free ≡ Some 0
 free_at t i s d h n = free_zero i s.make d s.device (s.party i) h.shows n
 
-infos_at : (t : Told) (i : ℕ) (s : Standing) (d : Desk) → Desked t i s d → map (place_in t.names) (manner d 0).infos ≡ listed s
-infos_at t i s d h = listed_told i s.make d s.device (session_by i s.device (s.party i)) t.names h.names h.apart h.shows ∙ ap (listed_of s.device) (sym h.places)
+infos_at : (t : Told) (i : ℕ) (s : Standing) (d : Desk) → Desked t i s d → map (place_in t.infos) (manner d 0).infos ≡ listed s
+infos_at t i s d h = listed_told i s.make d s.device (session_by i s.device (s.party i)) t.infos h.infos h.apart h.shows ∙ ap (listed_of s.device) (sym h.places)
 
 allowed_here : (t : Told) (i : ℕ) (s : Standing) (d : Desk) → Desked t i s d → rules_devices.IsAllowed (make_for s i) (wanted s i).options
 allowed_here t i s d h = (h.sound.fit (s.party i).base.job.wants).allowed
 
 pub comes_by : (t : Told) (i : ℕ) (s : Standing) (d : Desk) (q : Asked) (r : Request) (rest : List Request) (said : Said) (reply : Reply) (text : List ℕ) (progress : Progress) (notes : Notes) (past : Past) → IsOffered t i s d q r rest said reply text → WaitsAs (s.party i).base.job progress notes past (s.party i).mind → IsApt (errand_of (t.jobs i)) progress notes →
-    (s.party i).mind.known ≡ descs notes.known → Waits progress (r ∷ rest) → Comes (place_in t.names) progress reply text
+    (s.party i).mind.known ≡ descs notes.known → Waits progress (r ∷ rest) → Comes (place_in t.infos) progress reply text
 comes_by t i s d q r rest said reply text stages.Greeting notes past offer w apt known waits =
     let o = offered_at t i s d q r Init rest said reply text rules.Greeting w.0 refl offer in
-    greeting_comes (place_in t.names) (make_for s i) (wanted s i).options (listed s) (errand_of (t.jobs i)) (s.party i).mind.known (manner d 0) q reply said text o.is o.for_it o.shape o.spelled o.says
+    greeting_comes (place_in t.infos) (make_for s i) (wanted s i).options (listed s) (errand_of (t.jobs i)) (s.party i).mind.known (manner d 0) q reply said text o.is o.for_it o.shape o.spelled o.says
 comes_by t i s d q r rest said reply text stages.Listing notes past offer w apt known waits =
     let o = offered_at t i s d q r GetDevices rest said reply text rules.Listing w.0 refl offer in
-    listing_comes (place_in t.names) (make_for s i) (wanted s i).options (listed s) (errand_of (t.jobs i)) (s.party i).mind.known (manner d 0) q reply said text (infos_at t i s d o.desked) o.is o.for_it o.shape o.spelled o.says
+    listing_comes (place_in t.infos) (make_for s i) (wanted s i).options (listed s) (errand_of (t.jobs i)) (s.party i).mind.known (manner d 0) q reply said text (infos_at t i s d o.desked) o.is o.for_it o.shape o.spelled o.says
 comes_by t i s d q r rest said reply text stages.Opening notes past offer w apt known waits =
     let o = offered_at t i s d q r Open rest said reply text rules.Opening w.0 refl offer in
     let sync = sync_at i s r rest offer.asking rules.Opening w.0 in
-    open_comes (place_in t.names) (make_for s i) (wanted s i).options (listed s) (errand_of (t.jobs i)) (s.party i).mind.known (manner d 0) q reply said text (free_at t i s d o.desked sync.0.free) o.is o.for_it o.shape o.spelled o.says
+    open_comes (place_in t.infos) (make_for s i) (wanted s i).options (listed s) (errand_of (t.jobs i)) (s.party i).mind.known (manner d 0) q reply said text (free_at t i s d o.desked sync.0.free) o.is o.for_it o.shape o.spelled o.says
 comes_by t i s d q r rest said reply text (stages.Allowing resource answer) notes past offer w apt known waits =
     let challenge = w.0.0 in
     let o = offered_at t i s d q r (Authorize challenge) rest said reply text (rules.Allowing challenge) w.0.1.0 refl offer in
     let sync = sync_at i s r rest offer.asking (rules.Allowing challenge) w.0.1.0 in
-    authorize_comes (place_in t.names) (make_for s i) (wanted s i).options (listed s) (errand_of (t.jobs i)) (s.party i).mind.known (manner d 0) challenge resource answer q reply said text (free_at t i s d o.desked sync.0.free) o.is o.for_it o.shape o.spelled o.says
+    authorize_comes (place_in t.infos) (make_for s i) (wanted s i).options (listed s) (errand_of (t.jobs i)) (s.party i).mind.known (manner d 0) challenge resource answer q reply said text (free_at t i s d o.desked sync.0.free) o.is o.for_it o.shape o.spelled o.says
 comes_by t i s d q r rest said reply text stages.Reopening notes past offer w apt known waits = absurd (let clash : r ∷ rest ≡ [] = waits.silent refl in cc)
 comes_by t i s d q r rest said reply text stages.Describing notes past offer w apt known waits =
     let o = offered_at t i s d q r Describe rest said reply text (rules.Describing _) w.0 refl offer in
-    describing_comes (place_in t.names) (make_for s i) (wanted s i).options (listed s) (errand_of (t.jobs i)) (s.party i).mind.known (manner d 0) q reply said text o.is o.for_it o.shape o.spelled o.says
+    describing_comes (place_in t.infos) (make_for s i) (wanted s i).options (listed s) (errand_of (t.jobs i)) (s.party i).mind.known (manner d 0) q reply said text o.is o.for_it o.shape o.spelled o.says
 comes_by t i s d q r rest said reply text (stages.Putting n kind name asked_) notes past offer w apt known waits =
     let wish = w.0.0 in
     let g = rules.Putting n asked_ wish _ in
     let o = offered_at t i s d q r (Set n asked_) rest said reply text g w.0.1.0 refl offer in
     let sync = sync_at i s r rest offer.asking g w.0.1.0 in
     let is = table_is (make_for s i) (s.party i).mind.known sync.options (wanted s i).options sync.known sync.settles.held.options_are in
-    set_comes (place_in t.names) (make_for s i) (wanted s i).options (listed s) (errand_of (t.jobs i)) (s.party i).mind.known (manner d 0) q n kind name asked_ reply said text
+    set_comes (place_in t.infos) (make_for s i) (wanted s i).options (listed s) (errand_of (t.jobs i)) (s.party i).mind.known (manner d 0) q n kind name asked_ reply said text
     (λ w on sent value set. set_back (make_for s i) (wanted s i).options (errand_of (t.jobs i)) (s.party i).mind.known notes n kind name asked_ is known apt w on sent value set) o.is o.for_it o.shape o.spelled o.says
 comes_by t i s d q r rest said reply text (stages.Getting n kind size) notes past offer w apt known waits =
     let left = w.0.0 in
@@ -277,14 +277,14 @@ comes_by t i s d q r rest said reply text (stages.Getting n kind size) notes pas
     let sync = sync_at i s r rest offer.asking g w.0.1.0 in
     let is = table_is (make_for s i) (s.party i).mind.known sync.options (wanted s i).options sync.known sync.held.options_are in
     let own_is = word_descriptors i s.make d s.device (s.party i) o.desked.shows sync.held.mine in
-    get_comes (place_in t.names) (make_for s i) (wanted s i).options (listed s) (errand_of (t.jobs i)) (s.party i).mind.known (manner d 0) q n kind size reply said text
+    get_comes (place_in t.infos) (make_for s i) (wanted s i).options (listed s) (errand_of (t.jobs i)) (s.party i).mind.known (manner d 0) q n kind size reply said text
     (λ w2 on sent value get. get_back (make_for s i) (wanted s i).options (errand_of (t.jobs i)) (s.party i).mind.known (manner d 0).descriptors notes n kind size left is own_is (allowed_here t i s d o.desked) known w.0.1.1 apt w2 on sent value get) o.is o.for_it o.shape o.spelled o.says
 comes_by t i s d q r rest said reply text (stages.Starting first) notes past offer w apt known waits =
     let o = offered_at t i s d q r Start rest said reply text rules.Starting w.0 refl offer in
-    start_comes (place_in t.names) (make_for s i) (wanted s i).options (listed s) (errand_of (t.jobs i)) (s.party i).mind.known (manner d 0) q first reply said text o.is o.for_it o.shape o.spelled o.says
+    start_comes (place_in t.infos) (make_for s i) (wanted s i).options (listed s) (errand_of (t.jobs i)) (s.party i).mind.known (manner d 0) q first reply said text o.is o.for_it o.shape o.spelled o.says
 comes_by t i s d q r rest said reply text (stages.Shaping port order) notes past offer w apt known waits =
     let o = offered_at t i s d q r Parameters rest said reply text rules.Shaping w.0 refl offer in
-    shaping_comes (place_in t.names) (make_for s i) (wanted s i).options (listed s) (errand_of (t.jobs i)) (s.party i).mind.known (manner d 0) q port order reply said text o.is o.for_it o.shape o.spelled o.says
+    shaping_comes (place_in t.infos) (make_for s i) (wanted s i).options (listed s) (errand_of (t.jobs i)) (s.party i).mind.known (manner d 0) q port order reply said text o.is o.for_it o.shape o.spelled o.says
 comes_by t i s d q r rest said reply text (stages.Imaging port made) notes past offer w apt known waits =
     absurd (let clash : [] ≡ r ∷ [] = sym (ap asked (asked_for i s r rest offer.asking (rules.Imaging w.params w.payload) w.stage)) ∙ offer.asking.only in cc)
 comes_by t i s d q r rest said reply text stages.Turning notes past offer w apt known waits = absurd (waits.unturned refl)

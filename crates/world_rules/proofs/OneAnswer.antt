@@ -51,7 +51,7 @@ keeps_true t i s d q r said new challenge fault h g =
     let keeps = answers_keep t.users d q said new g in
     let own : IsTrueDesk d = record { lying = h.lying; lent = h.held } in
     let still = keeps.stays own in
-    record { names = keeps.names; held = still.lent; lying = still.lying; begun = begun_sheets i s.make (listed s) d s.device (s.party i) r challenge fault h.shows own }
+    record { infos = keeps.infos; held = still.lent; lying = still.lying; begun = begun_sheets i s.make (listed s) d s.device (s.party i) r challenge fault h.shows own }
 
 -- ---- its reply
 
@@ -86,7 +86,7 @@ replies_one : (t : Told) (i : ℕ) (s : Standing) (d new : Desk) (q : Asked) (r 
     Replied t i s (after s (answers_to i challenge fault)) talk.progress said
 replies_one t i s d new q r rest said challenge fault h e is g a on u pages talk reads waits =
     let p = s.party i in
-    let place = place_in t.names in
+    let place = place_in t.infos in
     let asking = is_asking i s r rest h.sound u h.served e in
     let one = tells_one t i s d new q r rest said challenge fault h e a on asking in
     let awake : woken p.mind.stage p.mind ≡ p.mind = ap (λ st. woken st p.mind) asking.stage in

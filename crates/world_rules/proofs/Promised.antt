@@ -1,11 +1,12 @@
 -- The promises, by the laws of the rules.
 use Rattle.std.specs.Prelude.{cond, option_map}
 use Rattle.std.specs.List.{AllByRecursion}
-use Rattle.std.proofs.Common.{◌≡◌, ◌≢◌, ◌∙◌, ℕ, List, [], ◌∷◌, ◌++◌, Option, Some, Bool, true, false, refl, sym, ap, subst, map, slice_get}
+use Rattle.std.proofs.Common.{◌≡◌, ◌≢◌, ◌∙◌, ℕ, List, [], ◌∷◌, ◌++◌, Option, Some, Bool, true, false, refl, sym, ap, subst, length, map, slice_get}
 use Rattle.netpbm.specs.Pnm.{Denotes}
 use Rattle.page_picture.specs.Page.{IsSheet}
 use Rattle.page_picture.specs.Shows.{Frame}
 use Rattle.device_api.specs.InForce as devices
+use Rattle.device_api.specs.declared.device_info.DeviceInfo.{DeviceInfo}
 use Rattle.frame_join.specs.FrameHistory.{Past, is_joined}
 use Rattle.scan_job.specs.declared.job.Task.{Task}
 use Rattle.scan_job.specs.declared.job.Task.TheVariants as tasks
@@ -40,8 +41,9 @@ use Rattle.scan_world.specs.Deeds.{is_done}
 use Rattle.scan_world.specs.Draining.{Keeps}
 use Rattle.scan_world.specs.Worlds.{Scene}
 use Rattle.world_rules.specs.Told.{Told, place_in}
-use Rattle.world_rules.specs.Stands.{IsFinished, KeepsFiles, Stands, is_laid, woken}
-use Rattle.world_rules.specs.Promises.{AreReported, AreShown, HasCause, IsMeant, IsOutcome, KeepsPromise, OutcomesAreRight, ScansAreMeant}
+use Rattle.world_rules.specs.Stands.{IsFinished, KeepsFiles, ShowsBelow, Stands, is_laid, woken}
+use Rattle.world_rules.specs.Promises.{AreListed, AreReported, AreShown, HasCause, IsMeant, IsOutcome, KeepsPromise, OutcomesAreRight, ScansAreMeant}
+use Rattle.world_rules.proofs.Infos.{stand_there}
 use Rattle.world_rules.proofs.Minds.{under_by, woken_under}
 
 -- ---- a mind that is over is the rules' own
@@ -61,9 +63,9 @@ woken_ended (rules.Ended s w) m status why e h = sym e ∙ h
 woken_over : (st : Stage) (m : Mind) → st ≡ rules.Done → woken st m ≡ m
 woken_over st m e = ap (λ (x : Stage). woken x m) e
 
-end_alike : (t : Told) (w : Scene) (i : ℕ) (post : Post) → Stands t w → slice_get w.posts i ≡ Some post → EndAlike (place_in t.names) (t.jobs i).task post.client.outcome (woken (t.rules.party i).mind.stage (t.rules.party i).mind)
+end_alike : (t : Told) (w : Scene) (i : ℕ) (post : Post) → Stands t w → slice_get w.posts i ≡ Some post → EndAlike (place_in t.infos) (t.jobs i).task post.client.outcome (woken (t.rules.party i).mind.stage (t.rules.party i).mind)
 end_alike t w i post h at =
-    outcomes_alike (place_in t.names) (errand_of (t.jobs i)) (t.rules.party i).base.job (map (λ (q : Past). q.ended) (t.pages i)) (talk_of post.client (t.past i)) (woken (t.rules.party i).mind.stage (t.rules.party i).mind) (h.posts i post at).talks.reads
+    outcomes_alike (place_in t.infos) (errand_of (t.jobs i)) (t.rules.party i).base.job (map (λ (q : Past). q.ended) (t.pages i)) (talk_of post.client (t.past i)) (woken (t.rules.party i).mind.stage (t.rules.party i).mind) (h.posts i post at).talks.reads
 
 pub task_is : (t : Told) (w : Scene) (i : ℕ) (post : Post) → Stands t w → slice_get w.posts i ≡ Some post → (t.rules.party i).base.job.task ≡ task_of (t.jobs i).task
 task_is t w i post h at = ap (λ (x : rules.Job). x.task) (h.posts i post at).job_is
@@ -119,6 +121,10 @@ settings_kept t w i post reports h at stage no_list are =
       answered = subst (λ (x : List words.Wish). ruled.AreAnswered k x me.mind.reports) wishes (settings_answered t.rules i h.sound stage no_list);
     }
 
+-- each info that is told is that of a place that was shown
+list_told : (t : Told) (i : ℕ) (infos : List DeviceInfo) → (t.rules.party i).base.shown ≡ Some (map (place_in t.infos) infos) → ShowsBelow (length t.infos) (t.rules.party i).base.shown → AreListed t i infos
+list_told t i infos e low = record { places = map (place_in t.infos) infos; shown = e; told = stand_there t.infos infos (subst (ShowsBelow (length t.infos)) e low) }
+
 pub kept_promise : (t : Told) (w : Scene) (i : ℕ) (post : Post) (reports : Reports) → Stands t w → slice_get w.posts i ≡ Some post → post.client.outcome ≡ outcomes.Done reports → KeepsPromise t i reports
 kept_promise t w i post reports h at e =
     let me = t.rules.party i in
@@ -131,7 +137,7 @@ kept_promise t w i post reports h at e =
       settings = λ n. settings_kept t w i post reports h at stage (λ l. no_list (t.jobs i).task n (sym task ∙ l)) (ap (λ (m : Mind). map put_by m.reports) (sym same) ∙ d.settings);
       permitted = λ n. done_allowed t.rules i h.sound stage (λ l. no_list (t.jobs i).task n (sym task ∙ l));
       options = λ l. options_shown t i reports h.sound stage (task ∙ ap task_of l) l same d.options;
-      devices = λ l. lists_right t.rules i h.sound stage (task ∙ ap task_of l) ∙ ap (λ (x : List ℕ). Some x) (ap (λ (m : Mind). m.devices) (sym same) ∙ d.devices);
+      devices = λ l. list_told t i reports.devices (lists_right t.rules i h.sound stage (task ∙ ap task_of l) ∙ ap (λ (x : List ℕ). Some x) (ap (λ (m : Mind). m.devices) (sym same) ∙ d.devices)) (h.shown i);
     }
 
 has_cause : (t : Told) (w : Scene) (i : ℕ) (post : Post) (status : Code) (why : Why) → Stands t w → slice_get w.posts i ≡ Some post → post.client.outcome ≡ outcomes.Ended status why → HasCause t i status why

@@ -29,6 +29,7 @@ use Rattle.scan_rules.specs.Deeds.{answered, around}
 use Rattle.scan_rules.specs.Standing.{Party, put}
 use Rattle.saned_desk.specs.declared.session.Session.{Session as DeskSession}
 use Rattle.device_api.specs.State.{DeviceState}
+use Rattle.device_api.specs.declared.device_info.DeviceInfo.{DeviceInfo}
 use Rattle.scan_rules.specs.Sessions.{free_word as free_of, one_word, only_word}
 use Rattle.scan_rules.specs.Steps.{MayFail}
 use Rattle.client_reading.specs.Requests.{IsRequest}
@@ -225,28 +226,28 @@ opens_free users d p name device_name rest said new true (Some awaited) e f todo
     let awaits = subst (λ (x : Option Awaited). Awaits device_name x p.base.awaited) f s.awaits in
     absurd (let clash : None ≡ Some awaited.resource = sym none ∙ awaits.1 in cc)
 
-open_answered : (i : ℕ) (make : ℕ → Make) (users : List Entry) (names : List (List ℕ)) (job : Job) (d : Desk) (device : ℕ → Device) (p : Party) (listed : List ℕ) (known : List Descriptor) (q : Asked) (rest : List Request) (said : Said) (new : Desk) → IsSession i make users names job d device p → AsksNow device p Open → p.todo ≡ Open ∷ rest →
+open_answered : (i : ℕ) (make : ℕ → Make) (users : List Entry) (infos : List DeviceInfo) (job : Job) (d : Desk) (device : ℕ → Device) (p : Party) (listed : List ℕ) (known : List Descriptor) (q : Asked) (rest : List Request) (said : Said) (new : Desk) → IsSession i make users infos job d device p → AsksNow device p Open → p.todo ≡ Open ∷ rest →
     IsRequest (errand_of job) 0 known q Open → Answers users d q said new → IsRaw i make listed device p d q Open said new → Answering i make listed job.device device p d q Open said new
-open_answered i make users names job d device p listed known (requests.Open name) rest said new h asks todo is g a =
+open_answered i make users infos job d device p listed known (requests.Open name) rest said new h asks todo is g a =
     let opens = opens_free users d p name job.device rest said new d.session.greeted d.session.awaited refl refl todo asks.none h.speaks g in
-    let now = asks_at users d device p.base.job.wants p.base.job.guarded name (free_word d.session.held) (find_name name d.registry) said new (has_free i make d device p h.shows) (open_names i make users names job d device p name h is) asks.listed asks.guarded (open_guarded i make users names job d device p name h is) opens in
+    let now = asks_at users d device p.base.job.wants p.base.job.guarded name (free_word d.session.held) (find_name name d.registry) said new (has_free i make d device p h.shows) (open_names i make users infos job d device p name h is) asks.listed asks.guarded (open_guarded i make users infos job d device p name h is) opens in
     asked_answered i make users listed job.device device p d (requests.Open name) said new a.0 a.1 a.2 asks.none asks.listed asks.guarded (subst (λ (n : List ℕ). Asks users d n said new) is now)
-open_answered i make users names job d device p listed known (requests.ControlOption w o actions.GetValue kind value) rest said new h asks todo is g a = absurd is
-open_answered i make users names job d device p listed known (requests.ControlOption w o actions.SetValue kind value) rest said new h asks todo is g a = absurd is
-open_answered i make users names job d device p listed known q rest said new h asks todo is g a = absurd is
+open_answered i make users infos job d device p listed known (requests.ControlOption w o actions.GetValue kind value) rest said new h asks todo is g a = absurd is
+open_answered i make users infos job d device p listed known (requests.ControlOption w o actions.SetValue kind value) rest said new h asks todo is g a = absurd is
+open_answered i make users infos job d device p listed known q rest said new h asks todo is g a = absurd is
 
-by_asks : (i : ℕ) (make : ℕ → Make) (users : List Entry) (names : List (List ℕ)) (job : Job) (d : Desk) (device : ℕ → Device) (p : Party) (listed : List ℕ) (known : List Descriptor) (q : Asked) (r : Request) (rest : List Request) (said : Said) (new : Desk) → IsSession i make users names job d device p → p.todo ≡ r ∷ rest → IsRequest (errand_of job) 0 known q r → Answers users d q said new →
+by_asks : (i : ℕ) (make : ℕ → Make) (users : List Entry) (infos : List DeviceInfo) (job : Job) (d : Desk) (device : ℕ → Device) (p : Party) (listed : List ℕ) (known : List Descriptor) (q : Asked) (r : Request) (rest : List Request) (said : Said) (new : Desk) → IsSession i make users infos job d device p → p.todo ≡ r ∷ rest → IsRequest (errand_of job) 0 known q r → Answers users d q said new →
     IsRaw i make listed device p d q r said new → AsksNow device p r ⊎ (r ≡ Open → p.base.awaited ≡ None → (device p.base.job.wants).listed ≡ true → p.base.job.guarded ≡ true → ⊥) → Answering i make listed job.device device p d q r said new
-by_asks i make users names job d device p listed known q r rest said new h todo is g a (inl asks) =
+by_asks i make users infos job d device p listed known q r rest said new h todo is g a (inl asks) =
     subst (λ (x : Request). Answering i make listed job.device device p d q x said new) (sym asks.open_is)
-    (open_answered i make users names job d device p listed known q rest said new h (record { open_is = refl; none = asks.none; listed = asks.listed; guarded = asks.guarded }) (subst (λ (x : Request). p.todo ≡ x ∷ rest) asks.open_is todo)
+    (open_answered i make users infos job d device p listed known q rest said new h (record { open_is = refl; none = asks.none; listed = asks.listed; guarded = asks.guarded }) (subst (λ (x : Request). p.todo ≡ x ∷ rest) asks.open_is todo)
     (subst (IsRequest (errand_of job) 0 known q) asks.open_is is) g (subst (λ (x : Request). IsRaw i make listed device p d q x said new) asks.open_is a))
-by_asks i make users names job d device p listed known q r rest said new h todo is g a (inr never) =
+by_asks i make users infos job d device p listed known q r rest said new h todo is g a (inr never) =
     (a.0, a.1, plain_answered i make listed job.device device p d q r said new a.0 a.1 a.2 (answer_plain i (make p.base.job.wants) (device p.base.job.wants) p.base.carriage p.base.awaited (around p.base listed a.0 a.1) r never))
 
 -- ONE REQUEST of a job's client that the daemon answers is answered by the rules, with some challenge, where its page source fails or not
-pub answers_as : (i : ℕ) (make : ℕ → Make) (users : List Entry) (names : List (List ℕ)) (job : Job) (d : Desk) (device : ℕ → Device) (p : Party) (listed : List ℕ) (known : List Descriptor) (q : Asked) (r : Request) (rest : List Request) (said : Said) (new : Desk) → IsSession i make users names job d device p → IsBegun d → p.todo ≡ r ∷ rest →
+pub answers_as : (i : ℕ) (make : ℕ → Make) (users : List Entry) (infos : List DeviceInfo) (job : Job) (d : Desk) (device : ℕ → Device) (p : Party) (listed : List ℕ) (known : List Descriptor) (q : Asked) (r : Request) (rest : List Request) (said : Said) (new : Desk) → IsSession i make users infos job d device p → IsBegun d → p.todo ≡ r ∷ rest →
     SetsAsHeld i (make p.base.job.wants) known (device p.base.job.wants) (r ∷ rest) → IsRequest (errand_of job) 0 known q r → Answers users d q said new → Answering i make listed job.device device p d q r said new
-answers_as i make users names job d device p listed known q r rest said new h begun todo as_held is g =
-    by_asks i make users names job d device p listed known q r rest said new h todo is g (raw i make users names job d device p listed known q r rest said new h begun todo as_held is g)
+answers_as i make users infos job d device p listed known q r rest said new h begun todo as_held is g =
+    by_asks i make users infos job d device p listed known q r rest said new h todo is g (raw i make users infos job d device p listed known q r rest said new h begun todo as_held is g)
     (asks_or device p r (is_open r) (is_none p.base.awaited) (is_true (device p.base.job.wants).listed) (is_true p.base.job.guarded))

@@ -27,7 +27,7 @@ use Rattle.desk_rules.specs.Others.{LeavesOthers}
 use Rattle.desk_rules.proofs.Moved.{put_there}
 use Rattle.world_rules.specs.Told.{Told}
 use Rattle.world_rules.specs.Speaks.{SetsAsHeld, SpeaksAs, Waits}
-use Rattle.world_rules.specs.Stands.{IsFaithfulLease, IsFaithfulPlace, are_named, session_by}
+use Rattle.world_rules.specs.Stands.{IsFaithfulLease, IsFaithfulPlace, info_at, session_by}
 use Rattle.world_rules.proofs.Asked.{IsSession, free_elsewhere}
 use Rattle.world_rules.proofs.Folding.{AnswersOne, Desked, IsReadAs, OneRequest, Replied, answers_to, legal_answer}
 use Rattle.world_rules.proofs.Held.{held_after_all}
@@ -36,9 +36,9 @@ use Rattle.world_rules.proofs.Replied.{Answering, IsAnswered, answers_as}
 use Rattle.world_rules.proofs.Served.{devices_by, put_let_go, serving}
 use Rattle.world_rules.proofs.Silent.{IsOwnInit, ends_silent}
 
--- what an answer leaves of the table's names, and of what is true to its pages
+-- what an answer leaves of the table's infos, and of what is true to its pages
 pub record KeepsTrue (d new : Desk) (v : Served) : Type 0 where
-  pub names : map are_named new.registry ≡ map are_named d.registry
+  pub infos : map info_at new.registry ≡ map info_at d.registry
   pub held : AllByRecursion IsFaithfulLease new.session.held
   pub lying : AllByRecursion IsFaithfulPlace new.registry
   pub begun : AllByRecursion (λ (b : Begin). IsSheet b.page) v.begun
@@ -106,7 +106,7 @@ one_by t i s d new q r rest said challenge fault h e is g a more =
         shows = subst (λ (x : ℕ → Device). Shows i s.make new x (session_by i x (next.party i))) (sym device) (subst (λ (x : Party). Shows i s.make new (devices_by s.device p v) (session_by i (devices_by s.device p v) x)) (sym party) (a.behind.shows (a.behind.same_end ∙ on)));
         begun = a.begun;
         job_is = ap (λ (x : Party). x.base.job) party ∙ h.job_is;
-        names = h.names ∙ sym more.keeps.names;
+        infos = h.infos ∙ sym more.keeps.infos;
         apart = h.apart;
         places = h.places;
         held = more.keeps.held;
@@ -136,6 +136,6 @@ pub one_request : (t : Told) (i : ℕ) → ((s : Standing) (d new : Desk) (q : A
     (a : Answering i s.make (listed s) (t.jobs i).device s.device (s.party i) d q r said new) → Rest t i s d q r said new a.0 a.1) → OneRequest t i
 one_request t i more s d new q r rest said h e is g =
     let as_held : SetsAsHeld i (make_for s i) (s.party i).mind.known (wanted s i) (r ∷ rest) = subst (λ (qs : List Request). SetsAsHeld i (make_for s i) (s.party i).mind.known (wanted s i) qs) e (h.asks i) in
-    let session : IsSession i s.make t.users t.names (t.jobs i) d s.device (s.party i) = record { job_is = h.job_is; names_are = h.names; apart = h.apart; shows = h.shows; speaks = h.speaks } in
-    let a = answers_as i s.make t.users t.names (t.jobs i) d s.device (s.party i) (listed s) (s.party i).mind.known q r rest said new session h.begun e as_held is g in
+    let session : IsSession i s.make t.users t.infos (t.jobs i) d s.device (s.party i) = record { job_is = h.job_is; infos_are = h.infos; apart = h.apart; shows = h.shows; speaks = h.speaks } in
+    let a = answers_as i s.make t.users t.infos (t.jobs i) d s.device (s.party i) (listed s) (s.party i).mind.known q r rest said new session h.begun e as_held is g in
     one_by t i s d new q r rest said a.0 a.1 h e is g a.2 (more s d new q r rest said h e is g a)

@@ -38,6 +38,7 @@ use Rattle.scan_rules.specs.Steps.{IsImaging, IsUnderWay}
 use Rattle.scan_rules.proofs.Promised.{sound_after_all}
 use Rattle.world_rules.specs.Speaks.{Speaks, Waits}
 use Rattle.world_rules.proofs.Held.{held_after_all}
+use Rattle.world_rules.proofs.Shown.{shown_after}
 use Rattle.world_rules.proofs.Spoken.{same_as, speaks_more}
 use Rattle.client_reading.specs.Reading.{Reads, WaitsAs, task_of}
 use Rattle.client_reading.specs.Requests.{asks_of}
@@ -155,7 +156,7 @@ pub record IsSeen (t : Told) (i : ℕ) (p : Post) (n : ℕ) (image : Image) (r :
   pub pages : List Past
   pub rest : IsLaid (handed n image p) r
   pub starved : p.is_starved ≡ true → r.is_starved ≡ true
-  pub talks : Talks (place_in t.names) (t.jobs i) past pages now (closed r)
+  pub talks : Talks (place_in t.infos) (t.jobs i) past pages now (closed r)
   pub input : r.client.input ≡ p.client.input
   pub sent : List ℕ
   pub out : r.client.out ≡ p.client.out ++ sent
@@ -163,7 +164,7 @@ pub record IsSeen (t : Told) (i : ℕ) (p : Post) (n : ℕ) (image : Image) (r :
   pub says : SpellsAsked (t.jobs i) now.mind asks sent
   pub then_is : IsThen (t.rules.party i) now (open_still (t.rules.party i).base.ending (left n image.bytes)) asks
   pub flow : Flows now.mind.stage now.base.carriage r.client.progress r.client.phase (open_still (t.rules.party i).base.ending (left n image.bytes)) now.base.flight now.base.ending
-  pub down : IsUnderWay now.mind.stage → SpellsTold (place_in t.names) r.client.progress (t.rules.party i).due ((t.wires i).telling ++ (t.wires i).down)
+  pub down : IsUnderWay now.mind.stage → SpellsTold (place_in t.infos) r.client.progress (t.rules.party i).due ((t.wires i).telling ++ (t.wires i).down)
   pub waits : Waits r.client.progress now.todo
   pub pends : Pends r.client.outcome r.client.progress r.client.phase (seen n image.bytes sent (t.rules.party i).base.ending (t.wires i))
   pub sees : (u : Told) → u.rules.party i ≡ now → u ≡ told_then t i (by_all i come) (seen n image.bytes sent (t.rules.party i).base.ending (t.wires i)) past pages → (t.wires i).image ≡ Some image.bytes → Sees n t i (by_all i come) u
@@ -190,8 +191,8 @@ all_asked job m now todo then_ asks asking up sent known is h says =
 some_open : (o : Option Image) (im : Image) (bytes : Option (List ℕ)) → o ≡ Some im → option_map bytes_of o ≡ bytes → IsSome bytes
 some_open o im bytes e f = subst IsSome (sym (ap (option_map bytes_of) e) ∙ f) refl
 
-means_seen : (t : Told) (i : ℕ) (p : Post) (n : ℕ) (image : Image) (r : Post) → p.image ≡ Some image → image.is_last ≡ is_some (t.rules.party i).base.ending → (s : IsSeen t i p n image r) → Means (place_in t.names) (t.jobs i) (t.wires i) (t.rules.party i) p →
-    Means (place_in t.names) (t.jobs i) (seen n image.bytes s.sent (t.rules.party i).base.ending (t.wires i)) s.now (closed r)
+means_seen : (t : Told) (i : ℕ) (p : Post) (n : ℕ) (image : Image) (r : Post) → p.image ≡ Some image → image.is_last ≡ is_some (t.rules.party i).base.ending → (s : IsSeen t i p n image r) → Means (place_in t.infos) (t.jobs i) (t.wires i) (t.rules.party i) p →
+    Means (place_in t.infos) (t.jobs i) (seen n image.bytes s.sent (t.rules.party i).base.ending (t.wires i)) s.now (closed r)
 means_seen t i p n image r at last s h =
     let me = t.rules.party i in
     let x = t.wires i in
@@ -216,7 +217,7 @@ means_seen t i p n image r at last s h =
       first = λ e. absurd (c.alive e);
       up = λ served.
           all_asked (t.jobs i) me.mind s.now.mind me.todo s.now.todo s.asks x.asking x.up s.sent c.known c.todo (h.up (sym c.served ∙ served)) s.says;
-      down = λ u. subst (λ (due : List Reply). SpellsTold (place_in t.names) r.client.progress due (x.telling ++ x.down)) (sym c.due) (s.down u);
+      down = λ u. subst (λ (due : List Reply). SpellsTold (place_in t.infos) r.client.progress due (x.telling ++ x.down)) (sym c.due) (s.down u);
       flow = s.flow;
       starved = λ met. s.starved (h.starved (c.met met));
     }
@@ -258,7 +259,7 @@ over_seen t w i p n image h at has never =
       pages = t.pages i;
       rest = refl;
       starved = λ e. e;
-      talks = talks_closed (place_in t.names) (t.jobs i) (t.past i) (t.pages i) me n image p s.talks;
+      talks = talks_closed (place_in t.infos) (t.jobs i) (t.past i) (t.pages i) me n image p s.talks;
       input = refl;
       sent = [];
       out = sym (append-nil p.client.out);
@@ -326,7 +327,7 @@ pub is_reader : (t : Told) (w : Scene) (i : ℕ) (p : Post) (image : Image) → 
 is_reader t w i p image h at low has runs =
     let s = h.posts i p at in
     let me = t.rules.party i in
-    let place = place_in t.names in
+    let place = place_in t.infos in
     let shown : List (List Frame) = map (λ (q : Past). q.ended) (t.pages i) in
     let text : (t.wires i).image ≡ Some image.bytes = sym s.carries.image ∙ ap (option_map bytes_of) has in
     let some : IsSome (t.wires i).image = subst IsSome (sym text) refl in
@@ -381,7 +382,7 @@ under_seen : (t : Told) (w : Scene) (i : ℕ) (p : Post) (n : ℕ) (image : Imag
 under_seen t w i p n image mid after st at low has h m unopened reading drains =
     let s = st.posts i p at in
     let me = t.rules.party i in
-    let place = place_in t.names in
+    let place = place_in t.infos in
     let old : Post = record (handed n image p) { client = mid } in
     let d = drained place (t.jobs i) me.base.job m.past (t.pages i) m.now.mind old after m.told (place_few old (t.pages i) h.few) drains in
     let b : Bool = is_done after.client.outcome && is_batch after.task in
@@ -492,6 +493,7 @@ seen_stands t w i p n image r h at low has some positive s =
       leaves = leaves_core t w i p u.rules.device h at same;
       sound = sound_after_all t.rules steps h.sound legal;
       asks = held_after_all t.rules steps h.sound h.asks legal;
+      shown = shown_after t w steps h;
       sits = sits_there u w.daemon i q s.now bytes s.past s.pages party (put_there t.wires i bytes) (put_there t.past i s.past) (put_there t.pages i s.pages) (record {
         job_is = c.job ∙ sits.job_is;
         talks = s.talks;
@@ -518,7 +520,7 @@ seen_by t w i p n image r h at low has (inr off) d =
     let s = h.posts i p at in
     let me = t.rules.party i in
     let never : IsUnderWay me.mind.stage → ⊥ = λ under.
-    (let clash : true ≡ false = sym (under_runs (place_in t.names) (errand_of (t.jobs i)) me.base.job (map (λ (x : Past). x.ended) (t.pages i)) (talk_of p.client (t.past i)) me.mind s.talks.reads under) ∙ off in absurd (cc)) in
+    (let clash : true ≡ false = sym (under_runs (place_in t.infos) (errand_of (t.jobs i)) me.base.job (map (λ (x : Past). x.ended) (t.pages i)) (talk_of p.client (t.past i)) me.mind s.talks.reads under) ∙ off in absurd (cc)) in
     subst (λ (x : Post). IsSeen t i p n image x) (sym (d.over off)) (over_seen t w i p n image h at has never)
 seen_by t w i p n image r h at low has (inl runs) d =
     let s = h.posts i p at in

@@ -210,8 +210,8 @@ pub record IsReader (t : Told) (i : ℕ) (p : Post) (bytes : List ℕ) : Type 0 
   pub wants : client.wanted p.client.progress ≡ None
   pub flows : (progress : Progress) (phase : Phase) (image : Option (List ℕ)) (flight : List ℕ) (ending : Option Status) → Dialled progress phase image flight ending → FlowsAt (t.rules.party i).base.carriage progress phase image flight ending
   pub carried : Carried p.client.phase bytes (t.rules.party i).base.flight (t.rules.party i).base.ending
-  pub talks : Talks (place_in t.names) (t.jobs i) (t.past i) (t.pages i) (t.rules.party i) p
-  pub reads : Reads (place_in t.names) (errand_of (t.jobs i)) (t.rules.party i).base.job (map (λ (q : Past). q.ended) (t.pages i)) (talk_of p.client (t.past i)) (t.rules.party i).mind
+  pub talks : Talks (place_in t.infos) (t.jobs i) (t.past i) (t.pages i) (t.rules.party i) p
+  pub reads : Reads (place_in t.infos) (errand_of (t.jobs i)) (t.rules.party i).base.job (map (λ (q : Past). q.ended) (t.pages i)) (talk_of p.client (t.past i)) (t.rules.party i).mind
   pub part : is_joined (t.past i).ended ≡ false
   pub scanning : scans (t.jobs i).task ≡ true
 
@@ -241,7 +241,7 @@ pub record IsMid (t : Told) (i : ℕ) (p : Post) (piece left : List ℕ) (post :
   pub now : Party
   pub now_is : after_each (t.rules.party i) come ≡ now
   pub past : Past
-  pub told : IsTold (place_in t.names) (t.jobs i) (t.rules.party i).base.job past (t.pages i) now.mind (record post { client = mid })
+  pub told : IsTold (place_in t.infos) (t.jobs i) (t.rules.party i).base.job past (t.pages i) now.mind (record post { client = mid })
   pub input : mid.input ≡ p.client.input
   pub sent : List ℕ
   pub out : mid.out ≡ p.client.out ++ sent
@@ -264,7 +264,7 @@ files_handed false given past pages n image p mid e is was was_is f =
     record { file = subst (λ (l : List ℕ). Keeps p.is_starved l p.file) (was_is ∙ sym is) f.file; each = f.each; count = f.count; room = f.room }
 
 told_mid : (t : Told) (i : ℕ) (p : Post) (bytes : List ℕ) (n : ℕ) (image : Image) (mid : Talker) (past : Past) (m : Mind) → IsReader t i p bytes → IsKept p.client mid → Serves past mid → past.given ≡ (t.past i).given →
-    Reads (place_in t.names) p.client.errand (t.rules.party i).base.job (map (λ (q : Past). q.ended) (t.pages i)) (talk_of mid past) m → IsTold (place_in t.names) (t.jobs i) (t.rules.party i).base.job past (t.pages i) m (record (handed n image p) { client = mid })
+    Reads (place_in t.infos) p.client.errand (t.rules.party i).base.job (map (λ (q : Past). q.ended) (t.pages i)) (talk_of mid past) m → IsTold (place_in t.infos) (t.jobs i) (t.rules.party i).base.job past (t.pages i) m (record (handed n image p) { client = mid })
 told_mid t i p bytes n image mid past m h kept serves given r =
     record {
       task = h.talks.task;
@@ -272,7 +272,7 @@ told_mid t i p bytes n image mid past m h kept serves given r =
       word = λ _. kept.word ∙ h.talks.word h.runs;
       over = kept.over;
       serves = serves;
-      reads = subst (λ (x : Errand). Reads (place_in t.names) x (t.rules.party i).base.job (map (λ (q : Past). q.ended) (t.pages i)) (talk_of mid past) m) h.talks.errand r;
+      reads = subst (λ (x : Errand). Reads (place_in t.infos) x (t.rules.party i).base.job (map (λ (q : Past). q.ended) (t.pages i)) (talk_of mid past) m) h.talks.errand r;
       files = files_handed (is_laid (t.jobs i).task p.client.outcome (t.past i)) (t.past i).given past (t.pages i) n image p mid (laid_not (t.jobs i).task p.client.outcome (t.past i) (not_done p.client.outcome h.runs)) given (t.past i) refl h.talks.files;
       finished = h.talks.finished;
       alone = h.talks.alone;
@@ -327,11 +327,11 @@ is_imaged : (t : Told) (i : ℕ) (p : Post) (bytes : List ℕ) → IsReader t i 
 is_imaged t i p bytes h = (h.params, h.heard, h.stage)
 
 goes : (t : Told) (i : ℕ) (p : Post) (n : ℕ) (image : Image) (piece : List ℕ) (mid : Talker) (given : List ℕ) (past : Past) → IsReader t i p image.bytes → piece ++ left n image.bytes ≡ image.bytes → IsKept p.client mid → Carries p.client.phase mid.phase piece given → mid ≡ record p.client { phase = mid.phase; join = mid.join } → (HasEnded mid.phase → ⊥) →
-    Serves past mid → past.given ≡ (t.past i).given → Reads (place_in t.names) p.client.errand (t.rules.party i).base.job (map (λ (q : Past). q.ended) (t.pages i)) (talk_of mid past) (read_in (t.rules.party i).mind.stage (t.rules.party i).mind given) → IsMid t i p piece (left n image.bytes) (handed n image p) mid
+    Serves past mid → past.given ≡ (t.past i).given → Reads (place_in t.infos) p.client.errand (t.rules.party i).base.job (map (λ (q : Past). q.ended) (t.pages i)) (talk_of mid past) (read_in (t.rules.party i).mind.stage (t.rules.party i).mind given) → IsMid t i p piece (left n image.bytes) (handed n image p) mid
 goes t i p n image piece mid given past h whole kept carries same going serves given_is r =
     let me = t.rules.party i in
     let rest = left n image.bytes in
-    let place = place_in t.names in
+    let place = place_in t.infos in
     let shown : List (List Frame) = map (λ (q : Past). q.ended) (t.pages i) in
     let behind = left_behind p.client.phase mid.phase piece rest me.base.flight given me.base.ending carries (subst (λ (l : List ℕ). Carried p.client.phase l me.base.flight me.base.ending) (sym whole) h.carried) in
     let short = within i (make_for t.rules i) me (wanted t.rules i) h.params h.heard given behind.rest h.images behind.flight_is in
@@ -388,23 +388,23 @@ is_done_so (outcomes.Done reports) e = (reports, refl)
 is_done_so (outcomes.Ended status why) e = absurd (let clash : false ≡ true = e in cc)
 
 -- a client that is done with its frame has a page that is whole
-whole_page : (t : Told) (i : ℕ) (p : Post) (bytes : List ℕ) (mid : Talker) (past : Past) (m : Mind) → IsReader t i p bytes → IsEnd m (t.rules.party i).mind → Reads (place_in t.names) p.client.errand (t.rules.party i).base.job (map (λ (q : Past). q.ended) (t.pages i)) (talk_of mid past) m →
+whole_page : (t : Told) (i : ℕ) (p : Post) (bytes : List ℕ) (mid : Talker) (past : Past) (m : Mind) → IsReader t i p bytes → IsEnd m (t.rules.party i).mind → Reads (place_in t.infos) p.client.errand (t.rules.party i).base.job (map (λ (q : Past). q.ended) (t.pages i)) (talk_of mid past) m →
     is_done mid.outcome ≡ true → is_joined past.ended ≡ true
 whole_page t i p bytes mid past m h end_ r done =
     let shown : List (List Frame) = map (λ (q : Past). q.ended) (t.pages i) in
     let d = is_done_so mid.outcome done in
-    let stage = ((outcomes_alike (place_in t.names) p.client.errand (t.rules.party i).base.job shown (talk_of mid past) m r).done d.0 d.1).stage in
+    let stage = ((outcomes_alike (place_in t.infos) p.client.errand (t.rules.party i).base.job shown (talk_of mid past) m r).done d.0 d.1).stage in
     let page = end_.done stage in
     let none : wholes (t.past i).ended ≡ [] = ap (λ (b : Bool). if b then (t.past i).ended ∷ [] else []) h.part in
     let before : (t.rules.party i).mind.pages ≡ shown = h.reads.files.all ∙ (ap (λ (x : List (List Frame)). shown ++ x) none ∙ append-nil shown) in
     joined_by (is_joined past.ended) past shown page.0 refl (sym (ap (λ (x : List (List Frame)). x ++ page.0 ∷ []) before) ∙ (sym page.1 ∙ r.files.all))
 
 ends : (t : Told) (i : ℕ) (p : Post) (n : ℕ) (image : Image) (piece : List ℕ) (mid : Talker) (given : List ℕ) (number : ℕ) (past : Past) (sent : List ℕ) → IsReader t i p image.bytes → piece ++ left n image.bytes ≡ image.bytes → IsKept p.client mid → Brings p.client.phase (phases.Ended number) piece given → mid.out ≡ p.client.out ++ sent →
-    EndsAs (place_in t.names) p.client.errand (t.rules.party i).base.job (map (λ (q : Past). q.ended) (t.pages i)) (t.past i).given past mid (read_in (t.rules.party i).mind.stage (t.rules.party i).mind given) sent (status_at number) → IsMid t i p piece (left n image.bytes) (handed n image p) mid
+    EndsAs (place_in t.infos) p.client.errand (t.rules.party i).base.job (map (λ (q : Past). q.ended) (t.pages i)) (t.past i).given past mid (read_in (t.rules.party i).mind.stage (t.rules.party i).mind given) sent (status_at number) → IsMid t i p piece (left n image.bytes) (handed n image p) mid
 ends t i p n image piece mid given number past sent h whole kept b out e =
     let me = t.rules.party i in
     let rest = left n image.bytes in
-    let place = place_in t.names in
+    let place = place_in t.infos in
     let shown : List (List Frame) = map (λ (q : Past). q.ended) (t.pages i) in
     let all : b.used ++ (b.rest ++ rest) ≡ image.bytes = sym (append_assoc b.used b.rest rest) ∙ (ap (λ (l : List ℕ). l ++ rest) (sym b.whole) ∙ whole) in
     let a = at_end p.client.phase number b.used (b.rest ++ rest) me.base.flight given me.base.ending b.carries (subst (λ (l : List ℕ). Carried p.client.phase l me.base.flight me.base.ending) (sym all) h.carried) in
@@ -474,11 +474,11 @@ starved_else e = absurd (cc)
 
 starves : (t : Told) (i : ℕ) (p : Post) (n : ℕ) (image : Image) (piece : List ℕ) (mid : Talker) (given more : List ℕ) (phase : Phase) (past : Past) → IsReader t i p image.bytes → piece ++ left n image.bytes ≡ image.bytes → IsKept p.client mid → Brings p.client.phase phase piece (given ++ more) → mid.out ≡ p.client.out →
     mid.outcome ≡ outcomes.Ended statuses.NoMem whys.Memory → Serves past mid → past.given ≡ (t.past i).given →
-    Reads (place_in t.names) p.client.errand (t.rules.party i).base.job (map (λ (q : Past). q.ended) (t.pages i)) (talk_of mid past) (stopped words.NoMem words.Memory (read_in (t.rules.party i).mind.stage (t.rules.party i).mind given)) → IsMid t i p piece (left n image.bytes) (handed n image p) mid
+    Reads (place_in t.infos) p.client.errand (t.rules.party i).base.job (map (λ (q : Past). q.ended) (t.pages i)) (talk_of mid past) (stopped words.NoMem words.Memory (read_in (t.rules.party i).mind.stage (t.rules.party i).mind given)) → IsMid t i p piece (left n image.bytes) (handed n image p) mid
 starves t i p n image piece mid given more phase past h whole kept b out outcome serves given_is r =
     let me = t.rules.party i in
     let rest = left n image.bytes in
-    let place = place_in t.names in
+    let place = place_in t.infos in
     let shown : List (List Frame) = map (λ (q : Past). q.ended) (t.pages i) in
     let all : b.used ++ (b.rest ++ rest) ≡ image.bytes = sym (append_assoc b.used b.rest rest) ∙ (ap (λ (l : List ℕ). l ++ rest) (sym b.whole) ∙ whole) in
     let behind = left_behind p.client.phase phase b.used (b.rest ++ rest) me.base.flight (given ++ more) me.base.ending b.carries (subst (λ (l : List ℕ). Carried p.client.phase l me.base.flight me.base.ending) (sym all) h.carried) in
@@ -527,7 +527,7 @@ starves t i p n image piece mid given more phase past h whole kept b out outcome
 -- ---- more than the frame may have: there never is
 
 overflows_never : (t : Told) (i : ℕ) (p : Post) (n : ℕ) (image : Image) (piece : List ℕ) (mid : Talker) (given : List ℕ) (phase : Phase) (past : Past) → IsReader t i p image.bytes → piece ++ left n image.bytes ≡ image.bytes → Brings p.client.phase phase piece given → mid.outcome ≡ outcomes.Ended statuses.IoError whys.Long →
-    Reads (place_in t.names) p.client.errand (t.rules.party i).base.job (map (λ (q : Past). q.ended) (t.pages i)) (talk_of mid past) (read_in (t.rules.party i).mind.stage (t.rules.party i).mind given) → ⊥
+    Reads (place_in t.infos) p.client.errand (t.rules.party i).base.job (map (λ (q : Past). q.ended) (t.pages i)) (talk_of mid past) (read_in (t.rules.party i).mind.stage (t.rules.party i).mind given) → ⊥
 overflows_never t i p n image piece mid given phase past h whole b outcome r =
     let me = t.rules.party i in
     let rest = left n image.bytes in
@@ -536,14 +536,14 @@ overflows_never t i p n image piece mid given phase past h whole b outcome r =
     let behind = left_behind p.client.phase phase b.used (b.rest ++ rest) me.base.flight given me.base.ending b.carries (subst (λ (l : List ℕ). Carried p.client.phase l me.base.flight me.base.ending) (sym all) h.carried) in
     let short = within i (make_for t.rules i) me (wanted t.rules i) h.params h.heard given behind.rest h.images behind.flight_is in
     let mind = read_is me.mind h.params h.heard given h.stage short in
-    let runs = (outcomes_alike (place_in t.names) p.client.errand me.base.job shown (talk_of mid past) (read_in me.mind.stage me.mind given) r).runs_by (Imaging h.params (h.heard ++ given)) (ap (λ (m : Mind). m.stage) mind) in
+    let runs = (outcomes_alike (place_in t.infos) p.client.errand me.base.job shown (talk_of mid past) (read_in me.mind.stage me.mind given) r).runs_by (Imaging h.params (h.heard ++ given)) (ap (λ (m : Mind). m.stage) mind) in
     let clash : true ≡ false = sym (ap is_running runs) ∙ ap is_running outcome in
     absurd (cc)
 
 -- ---- all of it
 
 by_received : (t : Told) (i : ℕ) (p : Post) (n : ℕ) (image : Image) (piece : List ℕ) (mid : Talker) → IsReader t i p image.bytes → piece ++ left n image.bytes ≡ image.bytes → IsKept p.client mid →
-    Received (place_in t.names) (t.rules.party i).base.job (map (λ (q : Past). q.ended) (t.pages i)) (t.rules.party i).mind p.client (t.past i) piece mid → IsMid t i p piece (left n image.bytes) (handed n image p) mid
+    Received (place_in t.infos) (t.rules.party i).base.job (map (λ (q : Past). q.ended) (t.pages i)) (t.rules.party i).mind p.client (t.past i) piece mid → IsMid t i p piece (left n image.bytes) (handed n image p) mid
 by_received t i p n image piece mid h whole kept (pieces.Goes given past carries same going s) = goes t i p n image piece mid given past h whole kept carries same going s.serves s.given_is s.reads
 by_received t i p n image piece mid h whole kept (pieces.Overflows given past b out outcome s) = absurd (overflows_never t i p n image piece mid given mid.phase past h whole b outcome s.reads)
 by_received t i p n image piece mid h whole kept (pieces.Ends given number past sent b out e) = ends t i p n image piece mid given number past sent h whole kept b out e
@@ -555,6 +555,6 @@ received_mid t i p n image mid count task h r =
     let shown : List (List Frame) = map (λ (q : Past). q.ended) (t.pages i) in
     let own : p.client.errand.task ≡ (t.jobs i).task = ap (λ (x : Errand). x.task) h.talks.errand in
     let received =
-    all_received (place_in t.names) me.base.job shown p.client mid (t.past i) (moved n image.bytes) me.mind (task ∙ ap task_of (sym own)) (subst HasCount (sym own) count) h.receiving h.talks.serves
-    (subst (λ (x : Errand). Reads (place_in t.names) x me.base.job shown (talk_of p.client (t.past i)) me.mind) (sym h.talks.errand) h.reads) r in
+    all_received (place_in t.infos) me.base.job shown p.client mid (t.past i) (moved n image.bytes) me.mind (task ∙ ap task_of (sym own)) (subst HasCount (sym own) count) h.receiving h.talks.serves
+    (subst (λ (x : Errand). Reads (place_in t.infos) x me.base.job shown (talk_of p.client (t.past i)) me.mind) (sym h.talks.errand) h.reads) r in
     by_received t i p n image (moved n image.bytes) mid h (take-append-drop (min n 4096) image.bytes) (received_kept p.client (t.past i) (moved n image.bytes) mid h.runs r) received

@@ -97,7 +97,7 @@ pub change_all : (t : Told) (i : ℕ) (come : List Deed) (bytes : Wires) (past :
 change_all t i come bytes past pages =
     record {
       users = refl;
-      names = refl;
+      infos = refl;
       count = refl;
       jobs = refl;
       make = make_all t.rules i come;

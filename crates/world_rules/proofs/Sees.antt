@@ -21,7 +21,7 @@ use Rattle.desk_rules.proofs.Changes.{Held}
 use Rattle.desk_rules.proofs.Cores.{stands_as}
 use Rattle.desk_rules.proofs.Endings.{shift}
 use Rattle.desk_rules.proofs.Others.{others_stand}
-use Rattle.world_rules.specs.Stands.{AreFaithful, IsBelow, IsServed, are_named, seat_by, session_by}
+use Rattle.world_rules.specs.Stands.{AreFaithful, IsBelow, IsServed, info_at, seat_by, session_by}
 
 -- a number that is not the link's
 abbrev pub IsOther : Option SessionId → ℕ → Type 0
@@ -31,7 +31,7 @@ IsOther (Some id) m = m ≢ id.number
 -- what a call for client i's session does to the daemon, and what it leaves to all others
 pub record Leaves (i : ℕ) (make : ℕ → Make) (link : Option SessionId) (d e : Core) (table device : ℕ → Device) : Type 0 where
   pub users : e.users ≡ d.users
-  pub names : map are_named e.registry ≡ map are_named d.registry
+  pub infos : map info_at e.registry ≡ map info_at d.registry
   pub opened : d.opened ≤ e.opened
   pub below : AllByRecursion (IsBelow e.opened) e.seats
   pub faithful : AreFaithful e

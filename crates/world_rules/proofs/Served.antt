@@ -1,6 +1,7 @@
 -- One request of a job's client: what the daemon answers, and what it leaves, is the rules' answer.
 use Rattle.std.specs.Prelude.{◌/◌}
 use Rattle.std.proofs.Common.{◌≡◌, ◌≢◌, ◌⊎◌, inl, inr, ◌∙◌, ℕ, List, [], ◌∷◌, Option, Some, None, Bool, true, false, refl, sym, ap, subst}
+use Rattle.device_api.specs.declared.device_info.DeviceInfo.{DeviceInfo}
 use Rattle.sane_fixed.specs.declared.status.Status.TheVariants as code
 use Rattle.md5_auth.specs.declared.users.Entry.{Entry}
 use Rattle.dispatch.specs.Table.{Table}
@@ -139,9 +140,9 @@ IsRaw i make listed device p d q r said new = (challenge : Challenge) × (fault 
 chance_is : (p : Party) (listed : List ℕ) (challenge : Challenge) (fault : Option Fault) → with_chance (all_around p listed) p.base.job.wants challenge fault p.base.job.wants ≡ around p.base listed challenge fault
 chance_is p listed challenge fault = put_there (all_around p listed) p.base.job.wants (record (all_around p listed p.base.job.wants) { challenge = challenge; fault = fault })
 
-raw_call : (i : ℕ) (make : ℕ → Make) (users : List Entry) (names : List (List ℕ)) (job : Job) (d : Desk) (device : ℕ → Device) (p : Party) (listed : List ℕ) (q : Asked) (r : Request) (said : Said) (new : Desk) → IsSession i make users names job d device p → d.session.greeted ≡ true → word_of q ≡ 0 →
+raw_call : (i : ℕ) (make : ℕ → Make) (users : List Entry) (infos : List DeviceInfo) (job : Job) (d : Desk) (device : ℕ → Device) (p : Party) (listed : List ℕ) (q : Asked) (r : Request) (said : Said) (new : Desk) → IsSession i make users infos job d device p → d.session.greeted ≡ true → word_of q ≡ 0 →
     IsCall users d device (session_by i device p) q (call_to p.base.job.wants r) (all_around p listed) → Answers users d q said new → IsRaw i make listed device p d q r said new
-raw_call i make users names job d device p listed q r said new h greeted word call g =
+raw_call i make users infos job d device p listed q r said new h greeted word call g =
     let wants = p.base.job.wants in
     let s = session_by i device p in
     let served = requests_agree i make users d device s q (call_to wants r) (all_around p listed) said new h.shows greeted call g in
@@ -162,9 +163,9 @@ raw_call i make users names job d device p listed q r said new h greeted word ca
     )
 
 -- INIT, of a session that was not
-raw_init : (i : ℕ) (make : ℕ → Make) (users : List Entry) (names : List (List ℕ)) (job : Job) (d : Desk) (device : ℕ → Device) (p : Party) (listed : List ℕ) (version : ℕ) (user : List ℕ) (said : Said) (new : Desk) → IsSession i make users names job d device p → d.session.awaited ≡ None → version / 16777216 ≡ 1 → Gives (greet d version) said new →
+raw_init : (i : ℕ) (make : ℕ → Make) (users : List Entry) (infos : List DeviceInfo) (job : Job) (d : Desk) (device : ℕ → Device) (p : Party) (listed : List ℕ) (version : ℕ) (user : List ℕ) (said : Said) (new : Desk) → IsSession i make users infos job d device p → d.session.awaited ≡ None → version / 16777216 ≡ 1 → Gives (greet d version) said new →
     Answers users d (requests.Init version user) said new → IsRaw i make listed device p d (requests.Init version user) Init said new
-raw_init i make users names job d device p listed version user said new h none major gives g =
+raw_init i make users infos job d device p listed version user said new h none major gives g =
     let wants = p.base.job.wants in
     let s = session_by i device p in
     let x = all_around p listed in
@@ -213,9 +214,9 @@ odd_served i k dev c a x n value e mine none =
     subst (λ (o : Option Challenge). IsRefused dev c (answer i k dev c o x (Set n value))) (sym e)
     (odd_if (is_held_by i dev.holder) i k dev c x n value (ap (is_held_by i) mine ∙ own i) none)
 
-raw_odd : (i : ℕ) (make : ℕ → Make) (users : List Entry) (names : List (List ℕ)) (job : Job) (d : Desk) (device : ℕ → Device) (p : Party) (listed : List ℕ) (q : Asked) (r : Request) (said : Said) (new : Desk) → IsSession i make users names job d device p → d.session.greeted ≡ true → d.session.awaited ≡ None → p.base.awaited ≡ None →
+raw_odd : (i : ℕ) (make : ℕ → Make) (users : List Entry) (infos : List DeviceInfo) (job : Job) (d : Desk) (device : ℕ → Device) (p : Party) (listed : List ℕ) (q : Asked) (r : Request) (said : Said) (new : Desk) → IsSession i make users infos job d device p → d.session.greeted ≡ true → d.session.awaited ≡ None → p.base.awaited ≡ None →
     IsOdd i make d device p q r → Answers users d q said new → IsRaw i make listed device p d q r said new
-raw_odd i make users names job d device p listed q r said new h greeted none sent odd g =
+raw_odd i make users infos job d device p listed q r said new h greeted none sent odd g =
     let wants = p.base.job.wants in
     let dev = device wants in
     let k = make wants in
@@ -253,34 +254,34 @@ raw_odd i make users names job d device p listed q r said new h greeted none sen
 
 -- ---- any request
 
-by_calls : (i : ℕ) (make : ℕ → Make) (users : List Entry) (names : List (List ℕ)) (job : Job) (d : Desk) (device : ℕ → Device) (p : Party) (listed : List ℕ) (q : Asked) (r : Request) (said : Said) (new : Desk) → IsSession i make users names job d device p → d.session.greeted ≡ true → word_of q ≡ 0 →
+by_calls : (i : ℕ) (make : ℕ → Make) (users : List Entry) (infos : List DeviceInfo) (job : Job) (d : Desk) (device : ℕ → Device) (p : Party) (listed : List ℕ) (q : Asked) (r : Request) (said : Said) (new : Desk) → IsSession i make users infos job d device p → d.session.greeted ≡ true → word_of q ≡ 0 →
     Calls i make users d device p listed q r → Answers users d q said new → IsRaw i make listed device p d q r said new
-by_calls i make users names job d device p listed q r said new h greeted word (inl call) g = raw_call i make users names job d device p listed q r said new h greeted word call g
-by_calls i make users names job d device p listed q r said new h greeted word (inr odd) g = raw_odd i make users names job d device p listed q r said new h greeted odd.0 odd.1 odd.2 g
+by_calls i make users infos job d device p listed q r said new h greeted word (inl call) g = raw_call i make users infos job d device p listed q r said new h greeted word call g
+by_calls i make users infos job d device p listed q r said new h greeted word (inr odd) g = raw_odd i make users infos job d device p listed q r said new h greeted odd.0 odd.1 odd.2 g
 
 -- a session that was not greeted has INIT as its first request
-first_init : (i : ℕ) (make : ℕ → Make) (users : List Entry) (names : List (List ℕ)) (job : Job) (d : Desk) (device : ℕ → Device) (p : Party) (listed : List ℕ) (known : List Descriptor) (q : Asked) (said : Said) (new : Desk) → IsSession i make users names job d device p → d.session.awaited ≡ None →
+first_init : (i : ℕ) (make : ℕ → Make) (users : List Entry) (infos : List DeviceInfo) (job : Job) (d : Desk) (device : ℕ → Device) (p : Party) (listed : List ℕ) (known : List Descriptor) (q : Asked) (said : Said) (new : Desk) → IsSession i make users infos job d device p → d.session.awaited ≡ None →
     IsRequest (errand_of job) 0 known q Init → Gives (first_of d q) said new → Answers users d q said new → IsRaw i make listed device p d q Init said new
-first_init i make users names job d device p listed known (requests.Init version user) said new h none is gives g = raw_init i make users names job d device p listed version user said new h none (subst (λ (v : ℕ). v / 16777216 ≡ 1) (sym is.0) refl) gives g
-first_init i make users names job d device p listed known (requests.ControlOption w o actions.GetValue kind value) said new h none is gives g = absurd is
-first_init i make users names job d device p listed known (requests.ControlOption w o actions.SetValue kind value) said new h none is gives g = absurd is
-first_init i make users names job d device p listed known q said new h none is gives g = absurd is
+first_init i make users infos job d device p listed known (requests.Init version user) said new h none is gives g = raw_init i make users infos job d device p listed version user said new h none (subst (λ (v : ℕ). v / 16777216 ≡ 1) (sym is.0) refl) gives g
+first_init i make users infos job d device p listed known (requests.ControlOption w o actions.GetValue kind value) said new h none is gives g = absurd is
+first_init i make users infos job d device p listed known (requests.ControlOption w o actions.SetValue kind value) said new h none is gives g = absurd is
+first_init i make users infos job d device p listed known q said new h none is gives g = absurd is
 
-by_greeted : (i : ℕ) (make : ℕ → Make) (users : List Entry) (names : List (List ℕ)) (job : Job) (d : Desk) (device : ℕ → Device) (p : Party) (listed : List ℕ) (known : List Descriptor) (q : Asked) (r : Request) (rest : List Request) (said : Said) (new : Desk) (b : Bool) → d.session.greeted ≡ b → IsSession i make users names job d device p → IsBegun d → p.todo ≡ r ∷ rest →
+by_greeted : (i : ℕ) (make : ℕ → Make) (users : List Entry) (infos : List DeviceInfo) (job : Job) (d : Desk) (device : ℕ → Device) (p : Party) (listed : List ℕ) (known : List Descriptor) (q : Asked) (r : Request) (rest : List Request) (said : Said) (new : Desk) (b : Bool) → d.session.greeted ≡ b → IsSession i make users infos job d device p → IsBegun d → p.todo ≡ r ∷ rest →
     SetsAsHeld i (make p.base.job.wants) known (device p.base.job.wants) (r ∷ rest) → IsRequest (errand_of job) 0 known q r → Answers users d q said new → IsRaw i make listed device p d q r said new
-by_greeted i make users names job d device p listed known q r rest said new true e h begun todo as_held is g =
-    by_calls i make users names job d device p listed q r said new h e (word_is (errand_of job) known q r is) (is_call i make users names job d device p listed known q r rest h as_held is) g
-by_greeted i make users names job d device p listed known q r rest said new false e h (inl greeted) todo as_held is g = absurd (let clash : true ≡ false = sym greeted ∙ e in cc)
-by_greeted i make users names job d device p listed known q r rest said new false e h (inr none) todo as_held is g =
+by_greeted i make users infos job d device p listed known q r rest said new true e h begun todo as_held is g =
+    by_calls i make users infos job d device p listed q r said new h e (word_is (errand_of job) known q r is) (is_call i make users infos job d device p listed known q r rest h as_held is) g
+by_greeted i make users infos job d device p listed known q r rest said new false e h (inl greeted) todo as_held is g = absurd (let clash : true ≡ false = sym greeted ∙ e in cc)
+by_greeted i make users infos job d device p listed known q r rest said new false e h (inr none) todo as_held is g =
     let first = subst (λ (b : Bool). IsGreeted b p.todo) e h.speaks.greeted in
     let same : r ≡ Init = ap (λ (x : List Request). first_or r x) (sym todo ∙ first.1) in
     subst (λ (x : Request). IsRaw i make listed device p d q x said new) (sym same)
-    (first_init i make users names job d device p listed known q said new h none (subst (IsRequest (errand_of job) 0 known q) same is) (subst (λ (b : Bool). AnswersBy b users d q said new) e g) g)
+    (first_init i make users infos job d device p listed known q said new h none (subst (IsRequest (errand_of job) 0 known q) same is) (subst (λ (b : Bool). AnswersBy b users d q said new) e g) g)
   where
     first_or : Request → List Request → Request
     first_or r [] = r
     first_or r (x ∷ xs) = x
 
-pub raw : (i : ℕ) (make : ℕ → Make) (users : List Entry) (names : List (List ℕ)) (job : Job) (d : Desk) (device : ℕ → Device) (p : Party) (listed : List ℕ) (known : List Descriptor) (q : Asked) (r : Request) (rest : List Request) (said : Said) (new : Desk) → IsSession i make users names job d device p → IsBegun d → p.todo ≡ r ∷ rest →
+pub raw : (i : ℕ) (make : ℕ → Make) (users : List Entry) (infos : List DeviceInfo) (job : Job) (d : Desk) (device : ℕ → Device) (p : Party) (listed : List ℕ) (known : List Descriptor) (q : Asked) (r : Request) (rest : List Request) (said : Said) (new : Desk) → IsSession i make users infos job d device p → IsBegun d → p.todo ≡ r ∷ rest →
     SetsAsHeld i (make p.base.job.wants) known (device p.base.job.wants) (r ∷ rest) → IsRequest (errand_of job) 0 known q r → Answers users d q said new → IsRaw i make listed device p d q r said new
-raw i make users names job d device p listed known q r rest said new h begun todo as_held is g = by_greeted i make users names job d device p listed known q r rest said new d.session.greeted refl h begun todo as_held is g
+raw i make users infos job d device p listed known q r rest said new h begun todo as_held is g = by_greeted i make users infos job d device p listed known q r rest said new d.session.greeted refl h begun todo as_held is g

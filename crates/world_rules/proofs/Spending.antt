@@ -79,7 +79,7 @@ greeting_within t w i p h at idle =
     let x = wires t i in
     let up : length x.up ≤ message = first_within (t.jobs i) (party t i).mind _ x.up (m.first idle) in
     let due = no_due i (make_for t.rules i) (party t i) (wanted t.rules i) (party t i).mind.stage idle (h.sound.talks i) in
-    let none : length (x.telling ++ x.down) ≡ 0 = none_told (place_in t.names) p.client.progress (party t i).due (x.telling ++ x.down) due (m.down (subst IsUnderWay (sym idle) tt)) in
+    let none : length (x.telling ++ x.down) ≡ 0 = none_told (place_in t.infos) p.client.progress (party t i).due (x.telling ++ x.down) due (m.down (subst IsUnderWay (sym idle) tt)) in
     let both : length (x.telling ++ x.down) ≡ length x.telling + length x.down = length-append x.telling x.down in
     let flow = subst (λ (st : Stage). Flows st (party t i).base.carriage p.client.progress p.client.phase x.image (party t i).base.flight (party t i).base.ending) idle m.flow in
     let image : on_its_way x.image ≡ 0 = ap on_its_way flow.image_is in
@@ -277,10 +277,10 @@ waiting u v i q h at under =
     let x = wires u i in
     let spelled = (h.posts i q at).means.down under in
     let both : length (x.telling ++ x.down) ≡ length x.telling + length x.down = length-append x.telling x.down in
-    let most : length (x.telling ++ x.down) ≤ message = told_within (place_in u.names) q.client.progress (party u i).due (x.telling ++ x.down) spelled in
+    let most : length (x.telling ++ x.down) ≤ message = told_within (place_in u.infos) q.client.progress (party u i).due (x.telling ++ x.down) spelled in
     record {
       few = by_sum (length x.telling) (length x.down) (length (x.telling ++ x.down)) message both most;
-      none = λ due. let zero_long : length (x.telling ++ x.down) ≡ 0 = none_told (place_in u.names) q.client.progress (party u i).due (x.telling ++ x.down) due spelled in omega (arith, both, zero_long);
+      none = λ due. let zero_long : length (x.telling ++ x.down) ≡ 0 = none_told (place_in u.infos) q.client.progress (party u i).due (x.telling ++ x.down) due spelled in omega (arith, both, zero_long);
     }
   where
     by_sum : (a b c m : ℕ) → c ≡ a + b → c ≤ m → b ≤ m

@@ -30,8 +30,8 @@ use Rattle.saned_desk.specs.Holding.{free_word, held_by, on_word, with_device}
 use Rattle.saned_desk.specs.Rules.{Answers, AnswersAwaiting, AnswersBy, AnswersFree, AnswersGreeted, Desk, Falters, FaltersBy, FaltersFree, FaltersGreeted, OpensAt, StartsIn as StartsHeldIn, StartsLease, StartsWord, answered, asked_at, cancel_held, close_lease, control_device, control_lease, did_set, first_of, not_awaited, set_asked, take, take_into, took}
 use Rattle.saned_desk.specs.Rules.Falters.{Under, All}
 use Rattle.desk_rules.proofs.Moved.{unsome}
-use Rattle.world_rules.specs.Stands.{IsFaithful, IsFaithfulLease, IsFaithfulPlace, IsFaithfulSlot, are_named}
-use Rattle.world_rules.proofs.Calling.{back_names, slot_names}
+use Rattle.world_rules.specs.Stands.{IsFaithful, IsFaithfulLease, IsFaithfulPlace, IsFaithfulSlot, info_at}
+use Rattle.world_rules.proofs.Calling.{back_infos, slot_infos}
 use Rattle.world_rules.proofs.Faithful.{back_true, cancel_true, cancelled_word_true, slot_true, word_true}
 use Rattle.world_rules.proofs.ReadTrue.{failed_true, lease_at, same_true, stopped_true}
 
@@ -42,7 +42,7 @@ pub record IsTrueDesk (d : Desk) : Type 0 where
 
 -- one becomes the other
 pub record Keeps (d new : Desk) : Type 0 where
-  pub names : map are_named new.registry ≡ map are_named d.registry
+  pub infos : map info_at new.registry ≡ map info_at d.registry
   pub stays : IsTrueDesk d → IsTrueDesk new
 
 keeps_same : (d new e : Desk) → new ≡ e → Keeps d e → Keeps d new
@@ -52,7 +52,7 @@ keeps_same d new e is h = subst (Keeps d) (sym is) h
 still : (d new : Desk) → new.registry ≡ d.registry → new.session.held ≡ d.session.held → Keeps d new
 still d new registry held =
     record {
-      names = ap (map are_named) registry;
+      infos = ap (map info_at) registry;
       stays = λ h. record { lying = subst (AllByRecursion IsFaithfulPlace) (sym registry) h.lying; lent = subst (AllByRecursion IsFaithfulLease) (sym held) h.lent };
     }
 
@@ -84,7 +84,7 @@ taken_true t name l h e = at_true t (find_name name t) l h e
 took_keeps : (d : Desk) (name : List ℕ) (w : ℕ) (r : Result (Lease DeviceState) Code) → take_answer d.registry name ≡ r → Keeps d (took d w r).1
 took_keeps d name w (Ok l) e =
     record {
-      names = slot_names d.registry l.place Out;
+      infos = slot_infos d.registry l.place Out;
       stays = λ h. record {
         lying = slot_true d.registry l.place Out tt h.lying;
         lent = word_true (λ _. Some l) d.session.held w (λ o f. taken_true d.registry name l h.lying e) h.lent;
@@ -109,7 +109,7 @@ open_keeps users d name (Some w) (Some k) said new (inr now) = keeps_same d new 
 
 -- with nothing awaited any more
 not_awaited_keeps : (d new : Desk) → Keeps (not_awaited d) new → Keeps d new
-not_awaited_keeps d new h = record { names = h.names; stays = λ t. h.stays (record { lying = t.lying; lent = t.lent }) }
+not_awaited_keeps d new h = record { infos = h.infos; stays = λ t. h.stays (record { lying = t.lying; lent = t.lent }) }
 
 answered_keeps : (b : Bool) (d : Desk) (name : List ℕ) → Keeps d (answered b d name).1
 answered_keeps true d name = take_keeps d name
@@ -121,7 +121,7 @@ close_keeps : (d : Desk) (w : ℕ) (o : Option (Lease DeviceState)) → held_by 
 close_keeps d w None e = still d d refl refl
 close_keeps d w (Some l) e =
     record {
-      names = back_names d.registry (Some l);
+      infos = back_infos d.registry (Some l);
       stays = λ h. record {
         lying = back_true d.registry (Some l) (subst IsFaithfulLease e (lease_at d.session.held w h.lent)) h.lying;
         lent = word_true (λ _. None) d.session.held w (λ o f. tt) h.lent;
@@ -130,13 +130,13 @@ close_keeps d w (Some l) e =
 
 cancel_keeps : (d : Desk) (w : ℕ) (o : Option (Lease DeviceState)) → Keeps d (cancel_held d w o)
 cancel_keeps d w None = still d d refl refl
-cancel_keeps d w (Some l) = record { names = refl; stays = λ h. record { lying = h.lying; lent = cancelled_word_true d.session.held w h.lent } }
+cancel_keeps d w (Some l) = record { infos = refl; stays = λ h. record { lying = h.lying; lent = cancelled_word_true d.session.held w h.lent } }
 
 -- a word that stands for another lease
 word_keeps : (d new : Desk) (w : ℕ) (lease : Option (Lease DeviceState)) → new.registry ≡ d.registry → new.session.held ≡ on_word (λ _. lease) d.session.held w → (IsFaithfulLease (held_by d.session.held w) → IsFaithfulLease lease) → Keeps d new
 word_keeps d new w lease registry held h =
     record {
-      names = ap (map are_named) registry;
+      infos = ap (map info_at) registry;
       stays = λ t. record {
         lying = subst (AllByRecursion IsFaithfulPlace) (sym registry) t.lying;
         lent = subst (AllByRecursion IsFaithfulLease) (sym held) (word_true (λ _. lease) d.session.held w (λ o f. h (lease_at d.session.held w t.lent)) t.lent);
@@ -218,7 +218,7 @@ free_keeps users d (requests.ControlOption w n action kind value) said new g =
 free_keeps users d (requests.GetParameters w) said new g = keeps_same d new d g.1 (still d d refl refl)
 free_keeps users d (requests.Start w) said new g =
     let k = word_starts d w (Ok (g.reply, g.carriage)) g.held g.starts in
-    keeps_same d new _ g.gives.1 (record { names = k.names; stays = λ h. let t = k.stays h in record { lying = t.lying; lent = t.lent } })
+    keeps_same d new _ g.gives.1 (record { infos = k.infos; stays = λ h. let t = k.stays h in record { lying = t.lying; lent = t.lent } })
 free_keeps users d (requests.Cancel w) said new g = keeps_same d new (cancel_held d w (held_by d.session.held w)) g.1 (cancel_keeps d w (held_by d.session.held w))
 free_keeps users d (requests.Authorize resource user password) said new g = keeps_same d new d g.1 (still d d refl refl)
 free_keeps users d requests.Exit said new g = keeps_same d new d g.1 (still d d refl refl)

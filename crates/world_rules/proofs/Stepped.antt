@@ -1,5 +1,6 @@
 -- A request that is answered is a step of the rules, and the session goes on with the next.
 use Rattle.std.proofs.Common.{◌≡◌, ◌≢◌, ◌∙◌, ℕ, List, [], ◌∷◌, Option, true, sym, ap}
+use Rattle.device_api.specs.declared.device_info.DeviceInfo.{DeviceInfo}
 use Rattle.md5_auth.specs.declared.users.Entry.{Entry}
 use Rattle.wire_message.specs.declared.message.Request.{Request as Asked}
 use Rattle.saned_desk.specs.declared.said.Said.{Said}
@@ -33,12 +34,12 @@ pub step_may : (s : Standing) (i : ℕ) (r : Request) (rest : List Request) (cha
 step_may s i r rest challenge fault served e may = (served, some_request (s.party i).todo r rest e, may)
 
 -- the session goes on
-pub next_session : (i : ℕ) (make : ℕ → Make) (users : List Entry) (names : List (List ℕ)) (job : Job) (d : Desk) (device : ℕ → Device) (p : Party) (ds : List ℕ) (q : Asked) (r : Request) (said : Said) (new : Desk) (challenge : Challenge) (fault : Option Fault) → IsSession i make users names job d device p →
-    Answers users d q said new → IsAnswered i make ds job.device device p d q r said new challenge fault → goes_on said ≡ true → IsSession i make users names job new (devices_by device p (serving i make ds device p r challenge fault)) (answered p (serving i make ds device p r challenge fault))
-next_session i make users names job d device p ds q r said new challenge fault h g a on =
+pub next_session : (i : ℕ) (make : ℕ → Make) (users : List Entry) (infos : List DeviceInfo) (job : Job) (d : Desk) (device : ℕ → Device) (p : Party) (ds : List ℕ) (q : Asked) (r : Request) (said : Said) (new : Desk) (challenge : Challenge) (fault : Option Fault) → IsSession i make users infos job d device p →
+    Answers users d q said new → IsAnswered i make ds job.device device p d q r said new challenge fault → goes_on said ≡ true → IsSession i make users infos job new (devices_by device p (serving i make ds device p r challenge fault)) (answered p (serving i make ds device p r challenge fault))
+next_session i make users infos job d device p ds q r said new challenge fault h g a on =
     record {
       job_is = h.job_is;
-      names_are = h.names_are ∙ sym (answers_keep users d q said new g).names;
+      infos_are = h.infos_are ∙ sym (answers_keep users d q said new g).infos;
       apart = h.apart;
       shows = a.behind.shows (a.behind.same_end ∙ on);
       speaks = a.speaks on;

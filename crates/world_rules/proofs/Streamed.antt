@@ -32,7 +32,7 @@ use Rattle.desk_rules.proofs.Moved.{put_there}
 use Rattle.desk_rules.proofs.Others.{own_of}
 use Rattle.scan_world.specs.declared.post.Post.{Post}
 use Rattle.scan_world.specs.Deeds as world
-use Rattle.world_rules.specs.Stands.{AreFaithful, IsBelow, IsFaithfulLease, IsFaithfulPlace, IsFaithfulSeat, IsFaithfulSession, are_named, session_by}
+use Rattle.world_rules.specs.Stands.{AreFaithful, IsBelow, IsFaithfulLease, IsFaithfulPlace, IsFaithfulSeat, IsFaithfulSession, info_at, session_by}
 use Rattle.world_rules.proofs.Seated.{Reseats, reseats_with, with_number}
 use Rattle.world_rules.proofs.Calling.{word_wanted}
 use Rattle.world_rules.proofs.Faithful.{on_seat_all, seat_all, session_true}
@@ -95,7 +95,7 @@ leaves_by i make d e id table device now s below faithful others seats true_now 
     let opened : e.opened ≡ d.opened = ap (λ (c : Core). c.opened) others in
     record {
       users = ap (λ (c : Core). c.users) others;
-      names = ap (λ (t : Table). map are_named t) registry;
+      infos = ap (λ (t : Table). map info_at t) registry;
       opened = omega (arith, opened);
       below =
           subst (λ (k : ℕ). AllByRecursion (IsBelow k) e.seats) (sym opened)

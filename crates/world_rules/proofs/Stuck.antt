@@ -146,8 +146,8 @@ told_move : (t : Told) (w : Scene) (i : ℕ) (p : Post) (g : rules.Progress) →
 told_move t w i p g h at runs under told =
     let s = h.posts i p at in
     let x = t.wires i in
-    let spelled = subst (λ (due : List Reply). SpellsTold (place_in t.names) p.client.progress due (x.telling ++ x.down)) told.due (s.means.down under) in
-    let f = comes_front (place_in t.names) p.client.progress told.reply (x.telling ++ x.down) spelled in
+    let spelled = subst (λ (due : List Reply). SpellsTold (place_in t.infos) p.client.progress due (x.telling ++ x.down)) told.due (s.means.down under) in
+    let f = comes_front (place_in t.infos) p.client.progress told.reply (x.telling ++ x.down) spelled in
     let some : x.down ≢ [] = λ none. s.pends.telling runs f.front f.back f.answer (sym (ap (λ (l : List ℕ). x.telling ++ l) none ∙ append-nil x.telling) ∙ f.text_is) (record { procedure = f.procedure; awaited_is = f.awaited_is; spelled = f.spelled }) in
     inr (inr (inl (told.linked, some, omega arith)))
 
@@ -175,7 +175,7 @@ can_move : (t : Told) (w : Scene) (i : ℕ) (p : Post) → Stands t w → slice_
 can_move t w i p h at low runs =
     let s = h.posts i p at in
     let me = t.rules.party i in
-    let under = runs_under (place_in t.names) (errand_of (t.jobs i)) me.base.job (map (λ (x : Past). x.ended) (t.pages i)) (talk_of p.client (t.past i)) me.mind s.talks.reads runs in
+    let under = runs_under (place_in t.infos) (errand_of (t.jobs i)) me.base.job (map (λ (x : Past). x.ended) (t.pages i)) (talk_of p.client (t.past i)) me.mind s.talks.reads runs in
     by_stage t w i p me.mind.stage h at low runs refl under (h.sound.talks i)
 
 -- ---- in a world

@@ -171,7 +171,7 @@ leaves_taken t w i n p id device h at same =
     let own = served_table i t.rules.make d p.link (t.rules.party i).served t.rules.device (session_by i t.rules.device (t.rules.party i)) (h.posts i p at).served in
     record {
       users = refl;
-      names = refl;
+      infos = refl;
       opened = omega arith;
       below = on_seat_all (IsBelow d.opened) (after_taken c) id.number d.seats tt (λ s b. standing_all (IsBelow d.opened) s.session (drop c s.replies) (after_reply c s) tt b) h.seats;
       faithful = record { lying = h.faithful.lying; lent = on_seat_all IsFaithfulSeat (after_taken c) id.number d.seats tt (λ s b. standing_all IsFaithfulSeat s.session (drop c s.replies) (after_reply c s) tt b) h.faithful.lent };

@@ -37,7 +37,7 @@ pub one_change : (t : Told) (i : ℕ) (x : Deed) (bytes : Wires) (past : Past) (
 one_change t i x bytes past pages =
     record {
       users = refl;
-      names = refl;
+      infos = refl;
       count = refl;
       jobs = refl;
       make = refl;
@@ -55,12 +55,12 @@ one_party t i x bytes past pages = put_there t.rules.party i (party_after i (mak
 -- ---- the job itself
 
 pub sits_there : (u : Told) (e : Core) (i : ℕ) (q : Post) (p : Party) (bytes : Wires) (past : Past) (pages : List Past) → u.rules.party i ≡ p → u.wires i ≡ bytes → u.past i ≡ past → u.pages i ≡ pages →
-    Sits u.users u.names (u.jobs i) u.rules.make u.rules.device i p bytes past pages e q → SitsAt u e i q
+    Sits u.users u.infos (u.jobs i) u.rules.make u.rules.device i p bytes past pages e q → SitsAt u e i q
 sits_there u e i q p bytes past pages at_p at_x at_past at_pages h =
-    subst (λ (x : Party). Sits u.users u.names (u.jobs i) u.rules.make u.rules.device i x (u.wires i) (u.past i) (u.pages i) e q) (sym at_p)
-    (subst (λ (x : Wires). Sits u.users u.names (u.jobs i) u.rules.make u.rules.device i p x (u.past i) (u.pages i) e q) (sym at_x)
-    (subst (λ (x : Past). Sits u.users u.names (u.jobs i) u.rules.make u.rules.device i p bytes x (u.pages i) e q) (sym at_past)
-    (subst (λ (x : List Past). Sits u.users u.names (u.jobs i) u.rules.make u.rules.device i p bytes past x e q) (sym at_pages) h)))
+    subst (λ (x : Party). Sits u.users u.infos (u.jobs i) u.rules.make u.rules.device i x (u.wires i) (u.past i) (u.pages i) e q) (sym at_p)
+    (subst (λ (x : Wires). Sits u.users u.infos (u.jobs i) u.rules.make u.rules.device i p x (u.past i) (u.pages i) e q) (sym at_x)
+    (subst (λ (x : Past). Sits u.users u.infos (u.jobs i) u.rules.make u.rules.device i p bytes x (u.pages i) e q) (sym at_past)
+    (subst (λ (x : List Past). Sits u.users u.infos (u.jobs i) u.rules.make u.rules.device i p bytes past x e q) (sym at_pages) h)))
 
 -- ---- devices that are the same at each place
 
@@ -112,7 +112,7 @@ leaves_core t w i p device h at same =
     let own = served_table i t.rules.make w.daemon p.link (t.rules.party i).served t.rules.device (session_by i t.rules.device (t.rules.party i)) (h.posts i p at).served in
     record {
       users = refl;
-      names = refl;
+      infos = refl;
       opened = omega arith;
       below = h.seats;
       faithful = h.faithful;

@@ -53,6 +53,7 @@ use Rattle.world_rules.proofs.Sees.{Leaves}
 use Rattle.world_rules.proofs.Streamed.{Streamed, streamed}
 use Rattle.world_rules.specs.Speaks.{Speaks}
 use Rattle.world_rules.proofs.Held.{held_after_all}
+use Rattle.world_rules.proofs.Shown.{shown_after}
 use Rattle.world_rules.proofs.Spoken.{speaks_still}
 use Rattle.world_rules.proofs.Taking.{DecidesAt, done, one_change, one_party, sits_there}
 use Rattle.world_rules.proofs.Turned.{IsShortRecord, Turn, Failed, Gives, Named, Off, Short, Whole, carriage_after, deed_of, device_is, ending_after, flight_after, is_end, job_after, met_after, party_is, record_of, text_of}
@@ -218,7 +219,7 @@ turned_stands t w i p id im mid step buf h at low link image served started some
     let s = h.posts i p at in
     let me = t.rules.party i in
     let turn = turned.turn in
-    let place = place_in t.names in
+    let place = place_in t.infos in
     let bytes : Wires = with_record (text_of turn) (t.wires i) in
     let u : Told = told_turn t i turn in
     let q = gained turn im p in
@@ -233,6 +234,7 @@ turned_stands t w i p id im mid step buf h at low link image served started some
       leaves = subst (λ (x : Option SessionId). Leaves i t.rules.make x w.daemon mid t.rules.device u.rules.device) (sym link) leaves;
       sound = sound_after_all t.rules (turn_steps i turn) h.sound (turned.may, tt);
       asks = held_after_all t.rules (turn_steps i turn) h.sound h.asks (turned.may, tt);
+      shown = shown_after t w (turn_steps i turn) h;
       sits = sits_there u mid i q after bytes (t.past i) (t.pages i) party (put_there t.wires i bytes) (put_there t.past i (t.past i)) (put_there t.pages i (t.pages i)) (record {
         job_is = s.job_is;
         talks = talks_turned turn im place (t.jobs i) (t.past i) (t.pages i) me p s.talks;

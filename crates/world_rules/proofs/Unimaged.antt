@@ -52,6 +52,7 @@ use Rattle.world_rules.proofs.Seated.{reseats_on}
 use Rattle.world_rules.proofs.Sees.{Leaves}
 use Rattle.world_rules.specs.Speaks.{Speaks}
 use Rattle.world_rules.proofs.Held.{held_after_all}
+use Rattle.world_rules.proofs.Shown.{shown_after}
 use Rattle.world_rules.proofs.Spoken.{same_lost, same_on, speaks_still}
 use Rattle.world_rules.proofs.Taking.{DecidesAt, done, one_change, one_party, sits_there}
 use Rattle.world_rules.proofs.Waiting.{waits_if}
@@ -171,7 +172,7 @@ unimaged_stands : (t : Told) (w : Scene) (i : ℕ) (p : Post) (id : SessionId) �
 unimaged_stands t w i p id h at low link some =
     let s = h.posts i p at in
     let me = t.rules.party i in
-    let place = place_in t.names in
+    let place = place_in t.infos in
     let linked : me.linked ≡ true = s.means.linked ∙ ap is_some link in
     let may : me.image ≡ true = s.means.image some in
     let bytes : Wires = with_image None (t.wires i) in
@@ -193,6 +194,7 @@ unimaged_stands t w i p id h at low link some =
       leaves = subst (λ (x : Option SessionId). Leaves i t.rules.make x w.daemon e t.rules.device u.rules.device) (sym link) both.0;
       sound = sound_after_all t.rules steps h.sound (may, tt);
       asks = held_after_all t.rules steps h.sound h.asks (may, tt);
+      shown = shown_after t w steps h;
       sits = sits_there u e i q after bytes (t.past i) (t.pages i) party (put_there t.wires i bytes) (put_there t.past i (t.past i)) (put_there t.pages i (t.pages i)) (record {
         job_is = s.job_is;
         talks = talks_lost place (t.jobs i) (t.past i) (t.pages i) me (without_image me.base LinkLost) p q links.Image b refl idle refl (image_lost p) s.talks after refl refl;

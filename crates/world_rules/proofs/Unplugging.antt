@@ -2,6 +2,7 @@
 use Rattle.std.proofs.Common.{◌≡◌, ◌≢◌, ◌⊎◌, inl, inr, ◌∙◌, ℕ, List, [], ◌∷◌, Option, Some, None, Bool, true, false, refl, sym, ap, subst, map, length, slice_get, arith}
 use Rattle.std.specs.Prelude.{Ok}
 use Rattle.device_api.specs.State.{DeviceState}
+use Rattle.device_api.specs.declared.device_info.DeviceInfo.{DeviceInfo}
 use Rattle.dispatch.specs.declared.table.place.Lease.{Lease}
 use Rattle.dispatch.specs.declared.table.place.Place.{Place}
 use Rattle.dispatch.specs.declared.table.place.Slot.{Slot}
@@ -27,11 +28,12 @@ use Rattle.desk_rules.proofs.Opening.{found_slot, held_there}
 use Rattle.desk_rules.proofs.Others.{IsThere}
 use Rattle.desk_rules.proofs.Tables.{unplugs_agree}
 use Rattle.scan_world.specs.Worlds.{Scene}
-use Rattle.world_rules.specs.Told.{Told}
-use Rattle.world_rules.specs.Stands.{AreApart, IsServed, Stands, are_named, session_by}
+use Rattle.world_rules.specs.Told.{Told, name_at}
+use Rattle.world_rules.specs.Stands.{AreApart, IsServed, Stands, info_at, session_by}
 use Rattle.world_rules.specs.Happens.{CanUnplug, LeadsTo, TakesOut, UnplugsFollow}
 use Rattle.world_rules.proofs.Held.{held_after_all}
-use Rattle.world_rules.proofs.Calling.{slot_names}
+use Rattle.world_rules.proofs.Shown.{shown_after}
+use Rattle.world_rules.proofs.Calling.{slot_infos}
 use Rattle.world_rules.proofs.Faithful.{slot_true}
 use Rattle.world_rules.proofs.Finding.{find_there, found_place, names_at, names_out}
 use Rattle.world_rules.proofs.Lists.{is_same}
@@ -66,7 +68,7 @@ table_out i make held registry table name h shows =
 
 -- ---- the sessions
 
-awaited_out : (registry : Table) (name : List ℕ) (held : Held) (table : ℕ → Device) (a : Option Awaited) (sent : Option (Challenge × ℕ)) → (h : IsIn registry name) → AreApart (map are_named registry) → IsAwaited held registry table a sent → IsAwaited held (with_slot registry h.place Gone) (out_of table h.place) a sent
+awaited_out : (registry : Table) (name : List ℕ) (held : Held) (table : ℕ → Device) (a : Option Awaited) (sent : Option (Challenge × ℕ)) → (h : IsIn registry name) → AreApart (map info_at registry) → IsAwaited held registry table a sent → IsAwaited held (with_slot registry h.place Gone) (out_of table h.place) a sent
 awaited_out registry name held table None sent h apart is = is
 awaited_out registry name held table (Some a) None h apart is = absurd is
 awaited_out registry name held table (Some a) (Some sent) h apart is = (names_out registry a.name h.place sent.1 h.at table (find_name a.name (with_slot registry h.place Gone)) refl apart h.is_at is.0, is.1)
@@ -78,7 +80,7 @@ holder_out table d k (inr n) = ap (λ (x : Device). x.holder) (put_elsewhere tab
 ruled_out : (j : ℕ) (table : ℕ → Device) (d : ℕ) (p : Party) → session_by j (out_of table d) p ≡ session_by j table p
 ruled_out j table d p = ap (λ (x : Option ℕ). one_word (is_held_by j x) p.base.job.wants p.base.carriage p.base.awaited) (holder_out table d p.base.job.wants (is_same p.base.job.wants d))
 
-shows_out : (j : ℕ) (make : ℕ → Make) (d : Desk) (table : ℕ → Device) (s : Session) (name : List ℕ) → (h : IsIn d.registry name) → AreApart (map are_named d.registry) → Shows j make d table s → Shows j make (record d { registry = with_slot d.registry h.place Gone }) (out_of table h.place) s
+shows_out : (j : ℕ) (make : ℕ → Make) (d : Desk) (table : ℕ → Device) (s : Session) (name : List ℕ) → (h : IsIn d.registry name) → AreApart (map info_at d.registry) → Shows j make d table s → Shows j make (record d { registry = with_slot d.registry h.place Gone }) (out_of table h.place) s
 shows_out j make d table s name h apart shows =
     record {
       words = shows.words;
@@ -92,7 +94,7 @@ shows_out j make d table s name h apart shows =
 abbrev core_out : Core → ℕ → Core
 core_out d k = record d { registry = with_slot d.registry k Gone }
 
-served_out : (j : ℕ) (make : ℕ → Make) (d : Core) (link : Option SessionId) (served : Bool) (table : ℕ → Device) (p : Party) (name : List ℕ) → (h : IsIn d.registry name) → AreApart (map are_named d.registry) → IsServed j make d link served table (session_by j table p) →
+served_out : (j : ℕ) (make : ℕ → Make) (d : Core) (link : Option SessionId) (served : Bool) (table : ℕ → Device) (p : Party) (name : List ℕ) → (h : IsIn d.registry name) → AreApart (map info_at d.registry) → IsServed j make d link served table (session_by j table p) →
     IsServed j make (core_out d h.place) link served (out_of table h.place) (session_by j (out_of table h.place) p)
 served_out j make d None true table p name h apart is = absurd is
 served_out j make d (Some id) true table p name h apart is =
@@ -112,11 +114,11 @@ listed_in i make k dev p s e h =
 out_stands : (t : Told) (w : Scene) (name : List ℕ) → Stands t w → (d : IsIn w.daemon.registry name) → LeadsTo (CanUnplug t name) (TakesOut t name) t (record w { daemon = core_out w.daemon d.place })
 out_stands t w name h d =
     let n = length w.posts in
-    let apart : AreApart (map are_named w.daemon.registry) = subst AreApart h.is_of.names h.is_of.apart in
+    let apart : AreApart (map info_at w.daemon.registry) = subst AreApart h.is_of.infos h.is_of.apart in
     let view : ShowsPlace n (t.rules.make d.place) [] d.place (t.rules.device d.place) (Some d.at) = subst (λ (o : Option (Place DeviceState)). ShowsPlace n (t.rules.make d.place) [] d.place (t.rules.device d.place) o) d.is_at ((h.beyond n (omega arith)).table.places d.place) in
     let seen = listed_in n (t.rules.make d.place) d.place (t.rules.device d.place) d.at d.state d.is_in view in
     let f = found_place w.daemon.registry name d.place d.found in
-    let named : slice_get t.names d.place ≡ Some name = ap (λ (names : List (List ℕ)). slice_get names d.place) h.is_of.names ∙ (names_at w.daemon.registry d.place f.place f.at ∙ ap (λ (x : List ℕ). Some x) f.name_is) in
+    let named : name_at t.infos d.place ≡ Some name = ap (λ (infos : List DeviceInfo). name_at infos d.place) h.is_of.infos ∙ (names_at w.daemon.registry d.place f.place f.at ∙ ap (λ (x : List ℕ). Some x) f.name_is) in
     let steps = Unplugs d.place ∷ [] in
     let legal : IsHistory t.rules steps = (seen, tt) in
     record {
@@ -130,10 +132,11 @@ out_stands t w name h d =
       stands = record {
         sound = sound_after_all t.rules steps h.sound legal;
         asks = held_after_all t.rules steps h.sound h.asks legal;
+        shown = shown_after t w steps h;
         is_of = record {
           count = h.is_of.count;
           users = h.is_of.users;
-          names = h.is_of.names ∙ sym (slot_names w.daemon.registry d.place Gone);
+          infos = h.is_of.infos ∙ sym (slot_infos w.daemon.registry d.place Gone);
           apart = h.is_of.apart;
           places = h.is_of.places;
           counts = h.is_of.counts;
@@ -177,12 +180,12 @@ place_in : (t : Told) (w : Scene) (name : List ℕ) (can : CanUnplug t name) (o 
 place_in t w name can None h e view = absurd (let clash : false ≡ true = sym view.0 ∙ can.listed in cc)
 place_in t w name can (Some p) h e view =
     let s = slot_in (length w.posts) (t.rules.make can.place) can.place (t.rules.device can.place) p.info.name p.slot can.listed can.free view in
-    let named : Some p.info.name ≡ Some name = sym (names_at w.daemon.registry can.place p e) ∙ (ap (λ (names : List (List ℕ)). slice_get names can.place) (sym h.is_of.names) ∙ can.named) in
+    let named : Some p.info.name ≡ Some name = sym (names_at w.daemon.registry can.place p e) ∙ (ap (λ (infos : List DeviceInfo). name_at infos can.place) (sym h.is_of.infos) ∙ can.named) in
     record {
       place = can.place;
       at = p;
       state = s.0;
-      found = find_there w.daemon.registry name can.place p (subst AreApart h.is_of.names h.is_of.apart) e (unsome p.info.name name named) (subst IsThere (sym s.1) tt);
+      found = find_there w.daemon.registry name can.place p (subst AreApart h.is_of.infos h.is_of.apart) e (unsome p.info.name name named) (subst IsThere (sym s.1) tt);
       is_at = e;
       is_in = s.1;
     }

@@ -1,10 +1,11 @@
 -- A new world: nothing has happened.
-use Rattle.std.specs.Prelude.{ℕ, ◌≡◌, true, Option, Some, None, List, [], ◌∷◌, All, length, map, slice_get, slice_index_or}
+use Rattle.std.specs.Prelude.{◌≡◌, true, Option, Some, None, List, [], ◌∷◌, All, length, map, slice_get, slice_index_or}
 use Rattle.sane_fixed.specs.declared.byte_order.ByteOrder.TheVariants.{Little}
 use Rattle.page_picture.specs.declared.scene.DeviceKind.TheVariants.{Feeder}
 use Rattle.md5_auth.specs.declared.users.Entry.{Entry}
 use Rattle.frame_join.specs.FrameHistory.{no_past}
 use Rattle.device_api.specs.Allowed.{HasLimits}
+use Rattle.device_api.specs.declared.device_info.DeviceInfo.{DeviceInfo}
 use Rattle.device_api.specs.State.{DeviceState, Held}
 use Rattle.dispatch.specs.RegistryFault.{HaveOwnNames}
 use Rattle.dispatch.specs.Table.{fresh_table}
@@ -40,17 +41,17 @@ abbrev pub wires_of : Option Post → Wires
 wires_of None = record { up = []; asking = []; down = []; telling = []; image = None }
 wires_of (Some p) = record { up = p.client.out; asking = []; down = []; telling = []; image = None }
 
-abbrev pub name_of : DeviceState → List ℕ
-name_of s = s.info.name
+abbrev pub info_of : DeviceState → DeviceInfo
+info_of s = s.info
 
 -- Of these jobs nothing is told yet. (The other job stands for those that there are not.)
 abbrev pub nothing_told : List Job → Job → List DeviceState → List Entry → List Post → Told
 nothing_told jobs other devices users posts =
-    let names = map name_of devices in
+    let infos = map info_of devices in
     record {
-      rules = beginning (λ k. make_of (slice_get devices k)) (fresh_devices devices) (λ i. rules_job users names (slice_index_or jobs i other)) (numbered 0 names);
+      rules = beginning (λ k. make_of (slice_get devices k)) (fresh_devices devices) (λ i. rules_job users infos (slice_index_or jobs i other)) (numbered 0 infos);
       users = users;
-      names = names;
+      infos = infos;
       count = length jobs;
       jobs = λ i. slice_index_or jobs i other;
       wires = λ i. wires_of (slice_get posts i);

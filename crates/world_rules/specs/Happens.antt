@@ -1,5 +1,5 @@
 -- What an event does to what stands: its steps by the rules, and the bytes that it moves.
-use Rattle.std.specs.Prelude.{ℕ, ◌≡◌, ◌≢◌, ◌<◌, ◌⊎◌, ◌++◌, true, false, Option, Some, None, IsSome, option_map, List, [], ◌∷◌, slice_get}
+use Rattle.std.specs.Prelude.{ℕ, ◌≡◌, ◌≢◌, ◌<◌, ◌⊎◌, ◌++◌, true, false, Option, Some, None, IsSome, option_map, List, [], ◌∷◌}
 use Rattle.sane_fixed.specs.declared.status.Status.{Status as Code}
 use Rattle.sane_fixed.specs.declared.status.Status.TheVariants as codes
 use Rattle.sane_fixed.specs.Status.{status_code}
@@ -17,7 +17,7 @@ use Rattle.saned_core.specs.Loading.{loaded}
 use Rattle.dispatch.specs.Table.{after_unplug}
 use Rattle.scan_world.specs.declared.event.Deed.{Deed}
 use Rattle.scan_world.specs.declared.event.Deed.TheVariants.{Connect, ToDaemon, ToClient, DataConnect, DataTurn, DataToClient, LoseControl, LoseImage, Cancel}
-use Rattle.world_rules.specs.Told.{Told, Wires, party, wires, wired_then}
+use Rattle.world_rules.specs.Told.{Told, Wires, name_at, party, wires, wired_then}
 use Rattle.world_rules.specs.Spelled.{SpellsAsked}
 use Rattle.scan_world.specs.Worlds.{At, Scene}
 use Rattle.world_rules.specs.Stands.{Stands, woken}
@@ -126,14 +126,14 @@ Follows deed Does = (t : Told) (i : ℕ) (w v : Scene) → Stands t w → At w i
 -- the place of that name has a device that is listed and that nobody holds
 pub record CanUnplug (t : Told) (name : List ℕ) : Type 0 where
   pub place : ℕ
-  pub named : slice_get t.names place ≡ Some name
+  pub named : name_at t.infos place ≡ Some name
   pub listed : (t.rules.device place).listed ≡ true
   pub free : (t.rules.device place).holder ≡ None
 
 -- it is listed no more
 pub record TakesOut (t : Told) (name : List ℕ) (steps : List Step) (u : Told) : Type 0 where
   pub place : ℕ
-  pub named : slice_get t.names place ≡ Some name
+  pub named : name_at t.infos place ≡ Some name
   pub steps_are : steps ≡ Unplugs place ∷ []
   pub legal : IsHistory t.rules steps
   pub then_is : u ≡ record t { rules = after_all t.rules steps }
@@ -145,7 +145,7 @@ UnplugsFollow =
 -- the place of that name has a device that is listed, at rest, and has room for a page
 pub record CanLoad (t : Told) (name : List ℕ) : Type 0 where
   pub place : ℕ
-  pub named : slice_get t.names place ≡ Some name
+  pub named : name_at t.infos place ≡ Some name
   pub listed : (t.rules.device place).listed ≡ true
   pub at_rest : (t.rules.device place).phase ≡ Resting
   pub room : has_room (t.rules.make place).model (t.rules.device place).tray ≡ true
@@ -153,7 +153,7 @@ pub record CanLoad (t : Told) (name : List ℕ) : Type 0 where
 -- it has the page
 pub record LaysIn (t : Told) (name : List ℕ) (page : Page) (steps : List Step) (u : Told) : Type 0 where
   pub place : ℕ
-  pub named : slice_get t.names place ≡ Some name
+  pub named : name_at t.infos place ≡ Some name
   pub steps_are : steps ≡ Loads place page ∷ []
   pub legal : IsHistory t.rules steps
   pub then_is : u ≡ record t { rules = after_all t.rules steps }

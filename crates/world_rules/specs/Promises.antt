@@ -33,7 +33,7 @@ use Rattle.scan_world.specs.declared.event.Event.{Event}
 use Rattle.scan_world.specs.declared.post.Post.{Post}
 use Rattle.scan_world.specs.Moves.{IsNextMove}
 use Rattle.scan_world.specs.Worlds.{Scene}
-use Rattle.world_rules.specs.Told.{Told, party, place_in}
+use Rattle.world_rules.specs.Told.{Told, party}
 use Rattle.world_rules.specs.Stands.{Stands}
 
 -- ---- outcomes
@@ -47,9 +47,11 @@ pub record AreReported (t : Told) (i : ℕ) (settings : List Report) : Type 0 wh
   pub forced : ruled.in_force (make_for t.rules i) (map wish_of (t.jobs i).settings.items) ≡ Some (record { options = options; reports = reports })
   pub answered : AreAnswered (make_for t.rules i) (map wish_of (t.jobs i).settings.items) reports
 
--- the devices that were listed as the daemon read the request, in their order
-abbrev pub AreListed : Told → ℕ → List DeviceInfo → Type 0
-AreListed t i infos = (party t i).base.shown ≡ Some (map (place_in t.names) infos)
+-- the devices that were listed as the daemon read the request, in their order, and of each its own name, vendor, model and class
+pub record AreListed (t : Told) (i : ℕ) (infos : List DeviceInfo) : Type 0 where
+  pub places : List ℕ
+  pub shown : (party t i).base.shown ≡ Some places
+  pub told : map (slice_get t.infos) places ≡ map Some infos
 
 -- the descriptors of the options in force, as the job's settings made them, and at each whose value is told that value
 pub record AreShown (t : Told) (i : ℕ) (options : List (Descriptor × Option Value)) : Type 0 where

@@ -43,7 +43,7 @@ use Rattle.scan_world.specs.declared.post.Post.{Post}
 use Rattle.scan_world.specs.Draining.{HasFiles}
 use Rattle.scan_world.specs.Deeds.{is_done}
 use Rattle.scan_world.specs.Worlds.{Scene}
-use Rattle.world_rules.specs.Told.{Told, Wires, place_in, rules_job}
+use Rattle.world_rules.specs.Told.{Told, Wires, name_at, place_in, rules_job}
 use Rattle.world_rules.specs.Spelled.{Flows, SpellsAsked, SpellsTold}
 use Rattle.world_rules.specs.Pending.{Pends}
 use Rattle.world_rules.specs.Speaks.{AsksAsHeld, Speaks, Waits}
@@ -180,33 +180,38 @@ abbrev pub IsBelow : ℕ → Option (Seat DeviceState) → Type 0
 IsBelow n None = Unit {0}
 IsBelow n (Some seat) = seat.number < n
 
-abbrev pub are_named : Place DeviceState → List ℕ
-are_named p = p.info.name
+abbrev pub info_at : Place DeviceState → DeviceInfo
+info_at p = p.info
 
 -- the numbers from k on, one for each of these
 abbrev pub numbered : {X : Type 0} → ℕ → List X → List ℕ
 numbered k [] = []
 numbered k (x ∷ xs) = k ∷ numbered (suc k) xs
 
--- no two of these are the same
-abbrev pub AreApart : List (List ℕ) → Type 0
-AreApart names = (j k : ℕ) (name : List ℕ) → slice_get names j ≡ Some name → slice_get names k ≡ Some name → j ≡ k
+-- no two of these have one name
+abbrev pub AreApart : List DeviceInfo → Type 0
+AreApart infos = (j k : ℕ) (name : List ℕ) → name_at infos j ≡ Some name → name_at infos k ≡ Some name → j ≡ k
+
+-- the places that were shown to a client, if any were, are below this number
+abbrev pub ShowsBelow : ℕ → Option (List ℕ) → Type 0
+ShowsBelow n None = Unit {0}
+ShowsBelow n (Some places) = AllByRecursion (λ (k : ℕ). k < n) places
 
 -- ---- the world
 
 -- the post of a job is what stands of it
-pub record Sits (users : List Entry) (names : List (List ℕ)) (job : Job) (make : ℕ → Make) (device : ℕ → Device) (i : ℕ) (p : Party) (wires : Wires) (past : Past) (pages : List Past) (core : Core) (post : Post) : Type 0 where
-  pub job_is : p.base.job ≡ rules_job users names job
-  pub talks : Talks (place_in names) job past pages p post
+pub record Sits (users : List Entry) (infos : List DeviceInfo) (job : Job) (make : ℕ → Make) (device : ℕ → Device) (i : ℕ) (p : Party) (wires : Wires) (past : Past) (pages : List Past) (core : Core) (post : Post) : Type 0 where
+  pub job_is : p.base.job ≡ rules_job users infos job
+  pub talks : Talks (place_in infos) job past pages p post
   pub carries : Carries wires (seat_by core post.link) post
-  pub means : Means (place_in names) job wires p post
+  pub means : Means (place_in infos) job wires p post
   pub served : IsServed i make core post.link p.served device (session_by i device p)
   pub speaks : Speaks job.device p (session_in (seat_by core post.link))
   pub waits : Waits post.client.progress p.todo
   pub pends : Pends post.client.outcome post.client.progress post.client.phase wires
 
 abbrev pub SitsAt : Told → Core → ℕ → Post → Type 0
-SitsAt t core i post = Sits t.users t.names (t.jobs i) t.rules.make t.rules.device i (t.rules.party i) (t.wires i) (t.past i) (t.pages i) core post
+SitsAt t core i post = Sits t.users t.infos (t.jobs i) t.rules.make t.rules.device i (t.rules.party i) (t.wires i) (t.past i) (t.pages i) core post
 
 -- where there is no job nothing happens
 pub record IsNobody (t : Told) (w : Scene) (i : ℕ) : Type 0 where
@@ -220,9 +225,9 @@ pub record IsNobody (t : Told) (w : Scene) (i : ℕ) : Type 0 where
 pub record IsOf (t : Told) (w : Scene) : Type 0 where
   pub count : t.count ≡ length w.posts
   pub users : t.users ≡ w.daemon.users
-  pub names : t.names ≡ map are_named w.daemon.registry
-  pub apart : AreApart t.names
-  pub places : t.rules.places ≡ numbered 0 t.names
+  pub infos : t.infos ≡ map info_at w.daemon.registry
+  pub apart : AreApart t.infos
+  pub places : t.rules.places ≡ numbered 0 t.infos
   -- no job asks for more pages than a batch may have
   pub counts : (i : ℕ) → i < t.count → HasCount (t.jobs i).task
 
@@ -247,6 +252,7 @@ pub record AreSeated (seats : List (Option (Seat DeviceState))) (posts : List Po
 pub record Stands (t : Told) (w : Scene) : Type 0 where
   pub sound : Sound t.rules
   pub asks : (i : ℕ) → AsksAsHeld t.rules i
+  pub shown : (i : ℕ) → ShowsBelow (length t.infos) (t.rules.party i).base.shown
   pub is_of : IsOf t w
   pub posts : (i : ℕ) (post : Post) → slice_get w.posts i ≡ Some post → SitsAt t w.daemon i post
   pub beyond : (i : ℕ) → length w.posts ≤ i → IsNobody t w i

@@ -1,5 +1,5 @@
 -- What stands of a world, as plain data that contracts alone see: the rules' own, and the bytes beside it.
-use Rattle.std.specs.Prelude.{ℕ, false, ◌==◌, ◌&&◌, if◌then◌else◌, Bool, Option, Some, None, List, [], ◌∷◌, ◌++◌, length, map, position}
+use Rattle.std.specs.Prelude.{ℕ, false, ◌==◌, ◌&&◌, if◌then◌else◌, Bool, Option, Some, None, List, [], ◌∷◌, ◌++◌, length, map, option_map, position, slice_get}
 use Rattle.std.specs.List.{list_any}
 use Rattle.md5.specs.Md5.{md5}
 use Rattle.md5_auth.specs.declared.users.Entry.{Entry}
@@ -23,11 +23,11 @@ pub record Wires : Type 0 where
   pub telling : List ℕ
   pub image : Option (List ℕ)
 
--- what never changes: the users, the names of all places, and the jobs
+-- what never changes: the users, the infos of all places (name, vendor, model and class), and the jobs
 pub record Told : Type 0 where
   pub rules : Standing
   pub users : List Entry
-  pub names : List (List ℕ)
+  pub infos : List DeviceInfo
   pub count : ℕ
   pub jobs : ℕ → Job
   pub wires : ℕ → Wires
@@ -37,16 +37,24 @@ pub record Told : Type 0 where
 
 -- ---- a job by the rules
 
--- the place of a name; a name that no place has is read as the place behind all
+-- the name of a place
+abbrev pub name_at : List DeviceInfo → ℕ → Option (List ℕ)
+name_at infos k = option_map (λ (info : DeviceInfo). info.name) (slice_get infos k)
+
+-- the same name, vendor, model and class
+abbrev pub same_info : DeviceInfo → DeviceInfo → Bool
+same_info a b = (same_text a.name b.name && same_text a.vendor b.vendor) && (same_text a.model b.model && same_text a.class b.class)
+
+-- the place of a name, and of an info; what no place has is read as the place behind all
 abbrev pub found : ℕ → Option ℕ → ℕ
 found n None = n
 found n (Some k) = k
 
-abbrev pub place_named : List (List ℕ) → List ℕ → ℕ
-place_named names name = found (length names) (position (λ other. same_text other name) names)
+abbrev pub place_named : List DeviceInfo → List ℕ → ℕ
+place_named infos name = found (length infos) (position (λ (other : DeviceInfo). same_text other.name name) infos)
 
-abbrev pub place_in : List (List ℕ) → DeviceInfo → ℕ
-place_in names info = place_named names info.name
+abbrev pub place_in : List DeviceInfo → DeviceInfo → ℕ
+place_in infos info = found (length infos) (position (λ (other : DeviceInfo). same_info other info) infos)
 
 -- what stands before the first colon of a device's name, or the name where it has none
 abbrev pub backend_of : List ℕ → List ℕ
@@ -67,10 +75,10 @@ abbrev pub is_allowed_for : List Entry → List ℕ → List ℕ → List ℕ �
 is_allowed_for users user password backend None = false
 is_allowed_for users user password backend (Some challenge) = is_allowed users user password backend challenge
 
-abbrev pub rules_job : List Entry → List (List ℕ) → Job → rules.Job
-rules_job users names job =
+abbrev pub rules_job : List Entry → List DeviceInfo → Job → rules.Job
+rules_job users infos job =
     record {
-      wants = place_named names job.device;
+      wants = place_named infos job.device;
       guarded = is_guarded users (backend_of job.device);
       allows = λ resource. is_allowed_for users job.user job.password (backend_of job.device) (challenge_of resource);
       settings = map wish_of job.settings.items;
