@@ -35,6 +35,7 @@ pub use geometry::Geometry;
 pub use host::HostDial;
 pub use laws::options_are_those_of_the_cut;
 pub use listing::{device_list, net_prefix};
+pub use local_job::{run_local, run_local_batch};
 pub use net_doing::{do_net_batch, do_net_job};
 pub use options::{Options, OptionsFault, read_options};
 pub use output::Output;
