@@ -15,6 +15,7 @@ mod losses;
 mod memory;
 mod noise;
 mod plain;
+mod records;
 mod refusals;
 mod sharing;
 
@@ -41,10 +42,13 @@ struct Asked<'a> {
 enum Step<'a> {
     /// So many next moves of a job, each delivery of so many bytes at most.
     Moves(usize, u64, usize),
-    /// Next moves of a job until its next one is the so manyth delivery on its data connection, or there is none.
-    UntilData(usize, u64),
+    /// Next moves of a job, each delivery of so many bytes at most, until its next one is the so manyth delivery on its data
+    /// connection, or there is none.
+    UntilData(usize, u64, usize),
     /// Next moves of all jobs by turns, until none has one.
     All,
+    /// What a client has said comes to the daemon.
+    ToDaemon(usize),
     Lose(usize),
     LoseImage(usize),
     Cancel(usize),
@@ -52,7 +56,7 @@ enum Step<'a> {
     Unplug(&'a [u8]),
     /// Events of all kinds at random, from a seed.
     Noise(u64),
-    /// So a job stands.
+    /// So a job stands, and no growth was refused.
     Is(usize, Over),
     /// That a job shows.
     Shows(usize, Shown<'a>),
@@ -67,6 +71,12 @@ enum Shown<'a> {
     FileIfMemory(&'a [u8]),
     /// A file under way that is not whole.
     NoWholeFile,
+    /// So many bytes of this file are under way.
+    Front(&'a [u8], usize),
+    /// A proper front of this file is under way.
+    FrontOf(&'a [u8]),
+    /// A whole file of so many columns and rows.
+    Extent(u32, u32),
     /// The files of the finished pages of a batch.
     Pages(&'a [&'a [u8]]),
     /// The devices that it lists.
@@ -204,8 +214,16 @@ fn moves(
     count
 }
 
-/// Next moves of a job until its next one is the so manyth delivery on its data connection.
-fn until_data(rt: &impl Abort, alloc: Global, world: &mut World, i: usize, count: u64) -> u64 {
+/// Next moves of a job, each delivery of so many bytes at most, until its next one is the so manyth delivery on its data
+/// connection.
+fn until_data(
+    rt: &impl Abort,
+    alloc: Global,
+    world: &mut World,
+    i: usize,
+    count: u64,
+    most: usize,
+) -> u64 {
     let mut left = count;
     for made in 0..EVERY {
         let Some(event) = world.next_move(i) else {
@@ -218,7 +236,7 @@ fn until_data(rt: &impl Abort, alloc: Global, world: &mut World, i: usize, count
             drop(event);
             return made;
         }
-        happens(rt, alloc, world, event);
+        happens(rt, alloc, world, within(event, most));
     }
     EVERY
 }
@@ -227,7 +245,9 @@ fn until_data(rt: &impl Abort, alloc: Global, world: &mut World, i: usize, count
 fn act(rt: &impl Abort, alloc: Global, world: &mut World, step: Step<'_>) -> u64 {
     let event = match step {
         Step::Moves(i, count, most) => return moves(rt, alloc, world, i, count, most),
-        Step::UntilData(i, count) => return until_data(rt, alloc, world, i, count),
+        Step::UntilData(i, count, most) => {
+            return until_data(rt, alloc, world, i, count, most);
+        }
         Step::All => {
             world.run_all();
             return 0;
@@ -236,13 +256,14 @@ fn act(rt: &impl Abort, alloc: Global, world: &mut World, step: Step<'_>) -> u64
             noise::noise(rt, alloc, world, seed);
             return 0;
         }
+        Step::ToDaemon(i) => Event::ToDaemon(i, AT_ONCE),
         Step::Lose(i) => Event::LoseControl(i),
         Step::LoseImage(i) => Event::LoseImage(i),
         Step::Cancel(i) => Event::Cancel(i),
         Step::Load(name, page) => Event::Load(text(rt, alloc, name), source(rt, alloc, page, 26)),
         Step::Unplug(name) => Event::Unplug(text(rt, alloc, name)),
         Step::Is(i, over) => {
-            assert_eq!(rt; how(rt, world, i), over);
+            stands(rt, world, i, over);
             return 0;
         }
         Step::Shows(i, shown) => {
@@ -291,6 +312,12 @@ fn how(rt: &impl Abort, world: &World, i: usize) -> Over {
     }
 }
 
+/// A job stands so, and no growth was refused on its connections, in its session or for its files.
+fn stands(rt: &impl Abort, world: &World, i: usize, over: Over) {
+    assert_eq!(rt; how(rt, world, i), over);
+    assert!(rt; !world.starved(i));
+}
+
 /// What a job shows is this.
 fn shows(rt: &impl Abort, alloc: Global, world: &World, i: usize, shown: Shown<'_>) {
     match shown {
@@ -299,6 +326,17 @@ fn shows(rt: &impl Abort, alloc: Global, world: &World, i: usize, shown: Shown<'
         Shown::NoWholeFile => {
             let file = world.file(i);
             assert!(rt; file.is_some() && !is_whole(alloc, file));
+        }
+        Shown::Front(whole, count) => {
+            let front = whole.get(..count).expect(rt, "a front");
+            assert!(rt; world.file(i) == Some(front));
+        }
+        Shown::FrontOf(whole) => {
+            let file = world.file(i).expect(rt, "a file");
+            assert!(rt; whole.starts_with(file) && file.len() < whole.len());
+        }
+        Shown::Extent(width, height) => {
+            assert!(rt; extent(alloc, world.file(i)) == Some((width, height)));
         }
         Shown::Pages(files) => {
             assert!(rt; world.finished(i) as usize == files.len());
@@ -320,6 +358,14 @@ fn is_whole(alloc: Global, file: Option<&[u8]>) -> bool {
         Some(file) => read_pnm(alloc, file).is_ok(),
         None => false,
     }
+}
+
+/// The columns and rows of a whole file.
+fn extent(alloc: Global, file: Option<&[u8]>) -> Option<(u32, u32)> {
+    let picture = read_pnm(alloc, file?).ok()?;
+    let extent = (picture.width, picture.height);
+    drop(picture);
+    Some(extent)
 }
 
 fn reports<'a>(rt: &impl Abort, world: &'a World, i: usize) -> &'a Reports {

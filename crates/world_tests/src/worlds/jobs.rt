@@ -26,6 +26,8 @@ impl<'a> Worked<'a> {
 
 const DOT: &[(&[u8], &[u8])] = &[(b"resolution", b"26"), (b"br-x", b"1"), (b"br-y", b"1")];
 
+const DOT_FILE: &[u8] = b"P5\n# SANE data follows\n1 1\n255\n\x0a";
+
 /// One dot of two.
 pub const ONE_DOT: Worked<'static> = Worked {
     scanner: Scanner {
@@ -36,12 +38,15 @@ pub const ONE_DOT: Worked<'static> = Worked {
     settings: DOT,
     task: Task::Scan,
     over: Over::Done,
-    shown: Shown::File(b"P5\n# SANE data follows\n1 1\n255\n\x0a"),
+    shown: Shown::File(DOT_FILE),
 };
+
+pub const LOST_DOTS_FILE: &[u8] = b"P6\n# SANE data follows\n2 1\n255\n\x01\x02\x03\x04\x05\x06";
 
 /// Two dots in color and three lost ones, a byte a read.
 pub const LOST_DOTS: Worked<'static> = Worked {
     scanner: Scanner {
+        name: b"flatbed:1",
         pages: &[b"P6\n2 1\n255\n\x01\x02\x03\x04\x05\x06"],
         ..FLATBED
     },
@@ -53,7 +58,7 @@ pub const LOST_DOTS: Worked<'static> = Worked {
         (b"ppl-loss", b"3"),
         (b"read-limit-size", b"1"),
     ],
-    shown: Shown::File(b"P6\n# SANE data follows\n2 1\n255\n\x01\x02\x03\x04\x05\x06"),
+    shown: Shown::File(LOST_DOTS_FILE),
     ..ONE_DOT
 };
 
@@ -94,11 +99,69 @@ pub const BY_HAND: Worked<'static> = Worked {
     ..ONE_DOT
 };
 
+pub const PAIR_FILE: &[u8] = b"P5\n# SANE data follows\n2 1\n255\n\xaa\xbb";
+
+/// Two dots in a row.
+pub const PAIR: Worked<'static> = Worked {
+    scanner: Scanner {
+        pages: &[b"P5\n2 1\n255\n\xaa\xbb"],
+        ..FLATBED
+    },
+    settings: &[(b"resolution", b"26"), (b"br-x", b"2"), (b"br-y", b"1")],
+    shown: Shown::File(PAIR_FILE),
+    ..ONE_DOT
+};
+
+/// Of 33 bytes.
+pub const ROWS_FILE: &[u8] = b"P5\n# SANE data follows\n1 2\n255\n\x07\x09";
+
+/// Two rows of a dot.
+pub const ROWS: Worked<'static> = Worked {
+    scanner: Scanner {
+        pages: &[b"P5\n1 2\n255\n\x07\x09"],
+        ..FLATBED
+    },
+    settings: &[(b"resolution", b"26"), (b"br-x", b"1"), (b"br-y", b"2")],
+    shown: Shown::File(ROWS_FILE),
+    ..ONE_DOT
+};
+
+/// Two rows of a dot, a byte a read.
+pub const ROW_BY_ROW: Worked<'static> = Worked {
+    settings: &[
+        (b"resolution", b"26"),
+        (b"br-x", b"1"),
+        (b"br-y", b"2"),
+        (b"read-limit-size", b"1"),
+    ],
+    ..ROWS
+};
+
+/// The files of the four jobs below.
+pub const FOUR_FILES: [&[u8]; 4] = [DOT_FILE, BY_HAND_FILE, WHOLE, LOST_DOTS_FILE];
+
+const FOUR: &[Worked<'static>] = &[ONE_DOT, BY_HAND, THREE_PASSES, LOST_DOTS];
+
+/// Steps of one world of four jobs, each at a scanner of its own.
+pub fn play_four(rt: &impl Abort, alloc: Global, steps: &[Step<'_>]) {
+    let [a, b, c, d] = FOUR else {
+        panic!(rt; "not four jobs");
+    };
+    let scanners = [a.scanner, b.scanner, c.scanner, d.scanner];
+    let asked = [a.asked(), b.asked(), c.asked(), d.asked()];
+    play(rt, alloc, &scanners, b"", &asked, steps);
+}
+
+/// Steps of one of these jobs.
+pub fn play_one(rt: &impl Abort, alloc: Global, it: &Worked<'_>, steps: &[Step<'_>]) {
+    play(rt, alloc, &[it.scanner], it.users, &[it.asked()], steps);
+}
+
 /// It ends so, and shows that, whole and byte by byte.
 fn expect(rt: &impl Abort, alloc: Global, it: &Worked<'_>) {
     for first in [Step::All, Step::Moves(0, EVERY, 1)] {
         let steps = [first, Step::Is(0, it.over), Step::Shows(0, it.shown)];
-        play(rt, alloc, &[it.scanner], it.users, &[it.asked()], &steps);
+        play_one(rt, alloc, it, &steps);
     }
 }
 
@@ -145,20 +208,43 @@ const RED: Worked<'static> = Worked {
     ..ONE_DOT
 };
 
+const SCANS: &[Worked<'static>] = &[
+    ONE_DOT,
+    LOST_DOTS,
+    THREE_PASSES,
+    BY_HAND,
+    BESIDE,
+    WINDOW,
+    RED,
+    PAIR,
+    ROWS,
+    ROW_BY_ROW,
+];
+
 /// Scans that are done leave these files.
 #[test]
 fn scans(rt: HostRuntime) {
-    for it in [
-        ONE_DOT,
-        LOST_DOTS,
-        THREE_PASSES,
-        BY_HAND,
-        BESIDE,
-        WINDOW,
-        RED,
-    ] {
-        expect(&rt, rt.alloc(), &it);
+    for it in SCANS {
+        expect(&rt, rt.alloc(), it);
     }
+}
+
+/// Four jobs that move by turns are all done.
+#[test]
+fn scans_by_turns(rt: HostRuntime) {
+    let [dot, by_hand, passes, lost] = FOUR_FILES;
+    let steps = [
+        Step::All,
+        Step::Is(0, Over::Done),
+        Step::Shows(0, Shown::File(dot)),
+        Step::Is(1, Over::Done),
+        Step::Shows(1, Shown::File(by_hand)),
+        Step::Is(2, Over::Done),
+        Step::Shows(2, Shown::File(passes)),
+        Step::Is(3, Over::Done),
+        Step::Shows(3, Shown::File(lost)),
+    ];
+    play_four(&rt, rt.alloc(), &steps);
 }
 
 /// A setting alone, and what its report tells: what was asked for, what was given, and whether that is inexact.
@@ -247,12 +333,14 @@ const NO_OPTION: Worked<'static> = Worked {
     ..SHORT
 };
 
+const OTHERS: &[Worked<'static>] = &[
+    LISTS, SHOWS, ALLOWED, DENIED, SHORT, JAMMED, NO_PICTURE, NO_OPTION,
+];
+
 /// Lists, options shown, passwords, and jobs that end otherwise.
 #[test]
 fn other_endings(rt: HostRuntime) {
-    for it in [
-        LISTS, SHOWS, ALLOWED, DENIED, SHORT, JAMMED, NO_PICTURE, NO_OPTION,
-    ] {
-        expect(&rt, rt.alloc(), &it);
+    for it in OTHERS {
+        expect(&rt, rt.alloc(), it);
     }
 }

@@ -1,7 +1,7 @@
-//! Jobs for which there may be no memory. With ample memory they are done; `tests/failing-allocations` runs this test with
-//! each allocation refused in turn.
+//! Four jobs of one world for which there may be no memory. With ample memory they are done; `tests/failing-allocations` runs
+//! this test with each allocation refused in turn.
 
-use super::jobs::{BY_HAND, LOST_DOTS, ONE_DOT, THREE_PASSES};
+use super::jobs::{FOUR_FILES, play_four};
 use super::*;
 
 /// It is done with its file, or without one where a growth was refused; or it ended for want of memory, at the client or as
@@ -23,18 +23,13 @@ pub fn done_or_wanting(rt: &impl Abort, alloc: Global, world: &World, i: usize, 
 
 #[test]
 fn want_of_memory(rt: HostRuntime) {
-    for it in [ONE_DOT, BY_HAND, THREE_PASSES, LOST_DOTS] {
-        let Shown::File(file) = it.shown else {
-            panic!(&rt; "no file");
-        };
-        let steps = [Step::All, Step::Shows(0, Shown::FileIfMemory(file))];
-        play(
-            &rt,
-            rt.alloc(),
-            &[it.scanner],
-            it.users,
-            &[it.asked()],
-            &steps,
-        );
-    }
+    let [dot, by_hand, passes, lost] = FOUR_FILES;
+    let steps = [
+        Step::All,
+        Step::Shows(0, Shown::FileIfMemory(dot)),
+        Step::Shows(1, Shown::FileIfMemory(by_hand)),
+        Step::Shows(2, Shown::FileIfMemory(passes)),
+        Step::Shows(3, Shown::FileIfMemory(lost)),
+    ];
+    play_four(&rt, rt.alloc(), &steps);
 }

@@ -2,7 +2,7 @@
 
 use super::losses::{COLORS, PASSES, THREE_PASS, WHOLE};
 use super::plain::{Aim, Deed, Party, Place, deed_of, event_of};
-use super::sharing::{BLACK, BLACK_FILE, ONE, TWO};
+use super::sharing::{BLACK, BLACK_FILE, NINE, SEVEN};
 use super::*;
 
 /// How many events a world sees, and how many worlds there are.
@@ -130,7 +130,7 @@ fn follow(
         party.goes(i, &mut place, deed, !goes_on);
         plain.stand(i, party, place);
     }
-    assert!(rt; how(rt, world, i) == party.over);
+    stands(rt, world, i, party.over);
     assert!(rt; next_deed(world, i) == party.next());
     assert!(rt; world.finished(i) as usize == party.finished);
     for (j, old) in before.iter().enumerate() {
@@ -181,7 +181,10 @@ const LAID: [(&[u8], [(&[u8], &[u8]); 2]); 2] = [
     (b"threepass:0", [(BLACK, BLACK_FILE), (COLORS, WHOLE)]),
     (
         b"flatbed:0",
-        [(b"P5\n1 1\n255\n\x01", ONE), (b"P5\n1 1\n255\n\x02", TWO)],
+        [
+            (b"P5\n1 1\n255\n\x07", SEVEN),
+            (b"P5\n1 1\n255\n\x09", NINE),
+        ],
     ),
 ];
 
@@ -273,8 +276,8 @@ fn plain_world() -> Plain {
     Plain {
         places: [
             Place::new(3, 4, [Some(WHOLE), None]),
-            Place::new(1, 1, [Some(ONE), None]),
-            Place::feeder(1, [Some(ONE), Some(TWO)]),
+            Place::new(1, 1, [Some(SEVEN), None]),
+            Place::feeder(1, [Some(SEVEN), Some(NINE)]),
         ],
         parties: [passed, passed, passed, flat, flat, flat, batch, scan],
     }
@@ -290,7 +293,7 @@ fn random_events(rt: HostRuntime) {
         dpi: 26,
         pages,
     };
-    let pages: &[&[u8]] = &[b"P5\n1 1\n255\n\x01", b"P5\n1 1\n255\n\x02"];
+    let pages: &[&[u8]] = &[b"P5\n1 1\n255\n\x07", b"P5\n1 1\n255\n\x09"];
     let scanners = [
         THREE_PASS,
         gray(DeviceKind::Flatbed, b"flatbed:0", pages),
