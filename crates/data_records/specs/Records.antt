@@ -19,11 +19,11 @@ abbrev pub joined : List (List ℕ) → List ℕ
 joined [] = []
 joined (body ∷ bodies) = body ++ joined bodies
 
--- records, whose bodies joined are the payload, and then FFFFFFFF and the status
 -- what ends the records
 abbrev pub ending : ℕ → List ℕ
 ending status = 255 ∷ 255 ∷ 255 ∷ 255 ∷ status ∷ []
 
+-- records, whose bodies joined are the payload, and then FFFFFFFF and the status
 pub record IsRecords (text payload : List ℕ) (status : ℕ) : Type 0 where
   pub bodies : List (List ℕ)
   pub short : AllByRecursion (λ body. length body < 4294967295) bodies
