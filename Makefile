@@ -33,7 +33,7 @@ test: need-rt
 	tests/gate
 
 # Tries the edits of crates/*/more-edits, which the prover must refuse as well, of each crate that changed since
-# tests/edits.record, many in one check. Of all crates it takes about an hour on four cores.
+# tests/edits.record, many in one check. Of all crates it takes more than two hours on four cores.
 more-edits: need-rt
 	tests/edits --changed
 
