@@ -93,6 +93,27 @@ fn frames_in_pieces(rt: HostRuntime) -> Result<(), Fail> {
     Ok(())
 }
 
+/// One line of gray and two, and two lines of a color.
+const GRAY: Params = Params {
+    format: FrameFormat::Gray,
+    last_frame: true,
+    bytes_per_line: 1,
+    pixels_per_line: 1,
+    lines: Some(1),
+    depth: 8,
+};
+
+const GRAYS: Params = Params {
+    lines: Some(2),
+    ..GRAY
+};
+
+const COLORS: Params = Params {
+    format: FrameFormat::Rgb,
+    bytes_per_line: 3,
+    ..GRAYS
+};
+
 /// A call of a join.
 #[derive(Clone, Copy)]
 enum Call<'a> {
@@ -103,33 +124,35 @@ enum Call<'a> {
 }
 
 /// Makes a call; whether it answers as it should.
-fn answers(alloc: Global, join: &mut FrameJoin, call: Call) -> bool {
+fn answers(alloc: Global, join: &mut FrameJoin, call: &Call) -> bool {
     match call {
-        Call::Begin(params) => join.begin(alloc, &params, ByteOrder::Big),
+        Call::Begin(params) => join.begin(alloc, params, ByteOrder::Big),
         Call::Feed(bytes) => join.feed(bytes),
-        Call::End(answer) => return join.end() == answer,
+        Call::End(answer) => return join.end() == *answer,
     }
     true
 }
+
+/// Calls, and how many bytes have gone out behind each. What comes after the whole picture changes nothing.
+const TWO_ROWS: &[(Call<'static>, usize)] = &[
+    (Call::Feed(b""), 0),
+    (Call::Begin(GRAYS), 31),
+    (Call::Feed(b"\x07"), 32),
+    (Call::Feed(b"\x09"), 32),
+    (Call::End(Ok(true)), 33),
+    (Call::Feed(b"\x0B"), 33),
+    (Call::End(Ok(true)), 33),
+];
 
 #[test]
 fn last_row_waits_for_the_end(rt: HostRuntime) -> Result<(), Fail> {
     let mut join = FrameJoin::new(rt.alloc());
     let mut out = PnmOut::new();
     let mut file = Vec::new(rt.alloc());
-    // What comes after the whole picture changes nothing.
-    for (call, size) in [
-        (Call::Feed(b""), 0),
-        (Call::Begin(told(FrameFormat::Gray, 8, 1, 1, 2)), 31),
-        (Call::Feed(b"\x07"), 32),
-        (Call::Feed(b"\x09"), 32),
-        (Call::End(Ok(true)), 33),
-        (Call::Feed(b"\x0B"), 33),
-        (Call::End(Ok(true)), 33),
-    ] {
+    for (call, size) in TWO_ROWS {
         assert!(rt; answers(rt.alloc(), &mut join, call));
         pull_all(&mut out, &mut join, &mut file)?;
-        assert!(rt; file.len() == size);
+        assert!(rt; file.len() == *size);
     }
     assert!(rt; join.fault() == None);
     assert!(rt; file.as_slice() == b"P5\n# SANE data follows\n1 2\n255\n\x07\x09".as_slice());
@@ -141,65 +164,87 @@ fn stands_after(alloc: Global, calls: &[Call]) -> (bool, Option<JoinFault>, usiz
     let mut join = FrameJoin::new(alloc);
     let mut as_it_should = true;
     for call in calls {
-        as_it_should &= answers(alloc, &mut join, *call);
+        as_it_should &= answers(alloc, &mut join, call);
     }
     let mut buf = [0u8; 64];
     let size = PnmOut::new().pull(&mut join, &mut buf);
     (as_it_should, join.fault(), size)
 }
 
+const BEGIN: Call<'static> = Call::Begin(COLORS);
+
+const LONG: Call<'static> = Call::Feed(b"\x01\x02\x03\x04\x05\x06\x07");
+
+/// Calls, and the fault that stands behind them.
+const FAULTS: &[(&[Call<'static>], Option<JoinFault>)] = &[
+    (&[BEGIN, LONG], Some(JoinFault::Long)),
+    // The first fault stands for good.
+    (
+        &[BEGIN, LONG, BEGIN, Call::End(Err(JoinFault::Long))],
+        Some(JoinFault::Long),
+    ),
+    (
+        &[
+            BEGIN,
+            Call::Feed(b"\x01\x02\x03\x04\x05"),
+            Call::End(Err(JoinFault::Short)),
+        ],
+        Some(JoinFault::Short),
+    ),
+    (&[BEGIN, BEGIN], Some(JoinFault::Shape)),
+    (&[Call::Feed(b"\x01"), Call::End(Ok(false))], None),
+];
+
 #[test]
 fn faults_of_frames(rt: HostRuntime) {
-    let begin = Call::Begin(told(FrameFormat::Rgb, 8, 3, 1, 2));
-    let long = Call::Feed(b"\x01\x02\x03\x04\x05\x06\x07");
-    let short = Call::Feed(b"\x01\x02\x03\x04\x05");
-    for (calls, fault) in [
-        ([begin, long].as_slice(), Some(JoinFault::Long)),
-        // The first fault stands for good.
-        (
-            &[begin, long, begin, Call::End(Err(JoinFault::Long))],
-            Some(JoinFault::Long),
-        ),
-        (
-            &[begin, short, Call::End(Err(JoinFault::Short))],
-            Some(JoinFault::Short),
-        ),
-        (&[begin, begin], Some(JoinFault::Shape)),
-        (&[Call::Feed(b"\x01"), Call::End(Ok(false))], None),
-    ] {
-        assert!(rt; stands_after(rt.alloc(), calls) == (true, fault, 0));
+    for (calls, fault) in FAULTS {
+        assert!(rt; stands_after(rt.alloc(), calls) == (true, *fault, 0));
     }
+}
+
+/// A frame's format, depth, bytes and pixels of a line, and lines.
+type Told = (FrameFormat, u32, u32, u32, u32);
+
+const NO_SHAPES: &[Told] = &[
+    (FrameFormat::Rgb, 1, 3, 1, 2),
+    (FrameFormat::Gray, 4, 3, 1, 2),
+    (FrameFormat::Gray, 8, 1, 2, 1),
+    (FrameFormat::Gray, 16, 3, 2, 1),
+    (FrameFormat::Gray, 1, 1, 9, 1),
+    (FrameFormat::Gray, 8, 1, 0, 1),
+    (FrameFormat::Gray, 8, 65537, 65537, 1),
+    (FrameFormat::Gray, 8, 1, 1, 0),
+    (FrameFormat::Gray, 8, 1, 1, 65537),
+    (FrameFormat::Gray, 8, 1_048_577, 1, 1),
+];
+
+const SHAPES: &[Told] = &[
+    (FrameFormat::Gray, 8, 1_048_576, 1, 65536),
+    (FrameFormat::Rgb, 16, 393_216, 65536, 1),
+    (FrameFormat::Gray, 1, 2, 9, 1),
+];
+
+/// What a first frame is refused for, and what its end answers then.
+fn first_fault(alloc: Global, params: &Params) -> (Option<JoinFault>, Result<bool, JoinFault>) {
+    let mut join = FrameJoin::new(alloc);
+    join.begin(alloc, params, ByteOrder::Big);
+    (join.fault(), join.end())
 }
 
 #[test]
 fn shapes_refused(rt: HostRuntime) {
-    let mut early = told(FrameFormat::Gray, 8, 1, 1, 1);
-    early.last_frame = false;
-    for params in [
-        told(FrameFormat::Rgb, 1, 3, 1, 2),
-        told(FrameFormat::Gray, 4, 3, 1, 2),
-        told(FrameFormat::Gray, 8, 1, 2, 1),
-        told(FrameFormat::Gray, 16, 3, 2, 1),
-        told(FrameFormat::Gray, 1, 1, 9, 1),
-        told(FrameFormat::Gray, 8, 1, 0, 1),
-        told(FrameFormat::Gray, 8, 65537, 65537, 1),
-        told(FrameFormat::Gray, 8, 1, 1, 0),
-        told(FrameFormat::Gray, 8, 1, 1, 65537),
-        told(FrameFormat::Gray, 8, 1_048_577, 1, 1),
-        early,
-    ] {
-        let mut join = FrameJoin::new(rt.alloc());
-        join.begin(rt.alloc(), &params, ByteOrder::Big);
-        assert!(rt; join.fault() == Some(JoinFault::Shape));
-        assert!(rt; join.end() == Err(JoinFault::Shape));
+    let refused = (Some(JoinFault::Shape), Err(JoinFault::Shape));
+    for &(format, depth, line, width, lines) in NO_SHAPES {
+        let params = told(format, depth, line, width, lines);
+        assert!(rt; first_fault(rt.alloc(), &params) == refused);
     }
-    for params in [
-        told(FrameFormat::Gray, 8, 1_048_576, 1, 65536),
-        told(FrameFormat::Rgb, 16, 393_216, 65536, 1),
-        told(FrameFormat::Gray, 1, 2, 9, 1),
-    ] {
-        let mut join = FrameJoin::new(rt.alloc());
-        join.begin(rt.alloc(), &params, ByteOrder::Big);
-        assert!(rt; join.fault() == None);
+    let early = Params {
+        last_frame: false,
+        ..GRAY
+    };
+    assert!(rt; first_fault(rt.alloc(), &early) == refused);
+    for &(format, depth, line, width, lines) in SHAPES {
+        let params = told(format, depth, line, width, lines);
+        assert!(rt; first_fault(rt.alloc(), &params).0 == None);
     }
 }

@@ -55,34 +55,29 @@ fn samples(rt: &impl std::process::Abort, page: &Page) -> [u16; 6] {
     ]
 }
 
+/// Texts, dots per inch, and why they are no page.
+const REFUSED: &[(&[u8], u32, PageFault)] = &[
+    (b"P4\n1 1\n\x80", 26, PageFault::BadMagic),
+    (b"P5\n1 1\n255\n\x00", 0, PageFault::BadDpi),
+    (b"P5\n1 1\n255\n\x00", 1201, PageFault::BadDpi),
+    (b"P5\n0 1\n255\n\x00", 26, PageFault::BadHeader),
+    (b"P5\n16385 1\n255\n", 26, PageFault::BadHeader),
+    (b"P5\n1 1\n255", 26, PageFault::BadHeader),
+    (b"P5\n1 1\n255\n", 26, PageFault::Short),
+    (b"P5\n1 1\n255\n\x00\x00", 26, PageFault::Trailing),
+    (b"P5\n1 1\n10\n\x0B", 26, PageFault::SampleTooLarge),
+    (b"", 26, PageFault::BadMagic),
+    // Two at once: the one that is tested first.
+    (b"P4\n1 1\n\x80", 0, PageFault::BadDpi),
+    (b"P7\n0 0\n255\n", 26, PageFault::BadMagic),
+    (b"P6\n1 1\n10\n\x0B", 26, PageFault::Short),
+    (b"P5\n1 1\n10\n\x0B\x0B", 26, PageFault::Trailing),
+];
+
 #[test]
 fn refusals_in_their_order(rt: HostRuntime) {
-    for (text, dpi, fault) in [
-        (b"P4\n1 1\n\x80".as_slice(), 26, PageFault::BadMagic),
-        (b"P5\n1 1\n255\n\x00".as_slice(), 0, PageFault::BadDpi),
-        (b"P5\n1 1\n255\n\x00".as_slice(), 1201, PageFault::BadDpi),
-        (b"P5\n0 1\n255\n\x00".as_slice(), 26, PageFault::BadHeader),
-        (b"P5\n16385 1\n255\n".as_slice(), 26, PageFault::BadHeader),
-        (b"P5\n1 1\n255".as_slice(), 26, PageFault::BadHeader),
-        (b"P5\n1 1\n255\n".as_slice(), 26, PageFault::Short),
-        (
-            b"P5\n1 1\n255\n\x00\x00".as_slice(),
-            26,
-            PageFault::Trailing,
-        ),
-        (
-            b"P5\n1 1\n10\n\x0B".as_slice(),
-            26,
-            PageFault::SampleTooLarge,
-        ),
-        (b"".as_slice(), 26, PageFault::BadMagic),
-        // Two at once: the one that is tested first.
-        (b"P4\n1 1\n\x80".as_slice(), 0, PageFault::BadDpi),
-        (b"P7\n0 0\n255\n".as_slice(), 26, PageFault::BadMagic),
-        (b"P6\n1 1\n10\n\x0B".as_slice(), 26, PageFault::Short),
-        (b"P5\n1 1\n10\n\x0B\x0B".as_slice(), 26, PageFault::Trailing),
-    ] {
-        assert!(rt; read_page(rt.alloc(), text, dpi).err() == Some(fault));
+    for (text, dpi, fault) in REFUSED {
+        assert!(rt; read_page(rt.alloc(), text, *dpi).err() == Some(*fault));
     }
 }
 

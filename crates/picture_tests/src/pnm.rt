@@ -16,26 +16,23 @@ fn header(format: Format, width: u32, height: u32, maxval: u32) -> Header
     }
 }
 
+/// Texts with the header of gray samples, 1 x 2 and up to 255, and what follows it.
+const HEADERS: &[(&[u8], &[u8])] = &[
+    (b"P5\n1 2\n255\nab", b"ab"),
+    (b"P5 1\t2\r255 ", b""),
+    // A comment stands after white space or after a comment, and CR ends one as LF does.
+    (b"P5 #a\r#b\n1 #\n 2\n#c\n255\n#d", b"#d"),
+    (b"P5\x0B1\x0C0000000002\n255\n\n", b"\n"),
+];
+
 #[test]
 fn headers(rt: HostRuntime) {
     let small = header(Format::Pgm, 1, 2, 255);
-    for (text, rest) in [
-        (b"P5\n1 2\n255\nab".as_slice(), b"ab".as_slice()),
-        (b"P5 1\t2\r255 ".as_slice(), b"".as_slice()),
-        // A comment stands after white space or after a comment, and CR ends one as LF does.
-        (
-            b"P5 #a\r#b\n1 #\n 2\n#c\n255\n#d".as_slice(),
-            b"#d".as_slice(),
-        ),
-        (
-            b"P5\x0B1\x0C0000000002\n255\n\n".as_slice(),
-            b"\n".as_slice(),
-        ),
-    ] {
+    for (text, rest) in HEADERS {
         match read_header(text) {
             Some((found, raster)) => {
                 assert!(rt; found == small);
-                assert!(rt; raster == rest);
+                assert!(rt; raster == *rest);
             }
             None => panic!(rt; "no header in {text:?}"),
         }
@@ -51,23 +48,25 @@ fn headers(rt: HostRuntime) {
     }
 }
 
+const NO_HEADERS: &[&[u8]] = &[
+    b"",
+    b"P5",
+    b"P51 2 255\n",
+    b"P5#\n1 2 255\n",
+    b"P5\n1#\n2 255\n",
+    b"P5\n0 2 255\n",
+    b"P5\n65537 2 255\n",
+    b"P5\n1 2 0\n",
+    b"P5\n1 2 65536\n",
+    b"P5\n1 2 255",
+    b"P5\n1 00000000002 255\n",
+    b"P5\n1 2\n#never ended",
+    b"P3\n1 2 255\n",
+];
+
 #[test]
 fn no_headers(rt: HostRuntime) {
-    for text in [
-        b"".as_slice(),
-        b"P5".as_slice(),
-        b"P51 2 255\n".as_slice(),
-        b"P5#\n1 2 255\n".as_slice(),
-        b"P5\n1#\n2 255\n".as_slice(),
-        b"P5\n0 2 255\n".as_slice(),
-        b"P5\n65537 2 255\n".as_slice(),
-        b"P5\n1 2 0\n".as_slice(),
-        b"P5\n1 2 65536\n".as_slice(),
-        b"P5\n1 2 255".as_slice(),
-        b"P5\n1 00000000002 255\n".as_slice(),
-        b"P5\n1 2\n#never ended".as_slice(),
-        b"P3\n1 2 255\n".as_slice(),
-    ] {
+    for text in NO_HEADERS {
         assert!(rt; read_header(text).is_none(), "at {text:?}");
     }
     assert!(rt; format_of(b"P6") == Some(Format::Ppm));

@@ -46,125 +46,128 @@ fn opened<'a>(rt: &impl Abort, alloc: Global, text: &'a [u8]) -> PnmPage<Cursor<
     }
 }
 
+/// Texts of 2 x 2 places, and their rows.
+const FILES: &[(&[u8], ([u16; 6], [u16; 6]))] = &[
+    (GRAYS, GRAY_ROWS),
+    // White space of every kind, and comments where they may stand.
+    (
+        b"P5\t# P6 9 9\n#\r 2\x0c\x0b2 #1\n 255\r\x00\xff\x33\x66",
+        GRAY_ROWS,
+    ),
+    (
+        b"P5 2 2 1000 \x01\xf4\x00\x01\x03\xe7\x03\xe8",
+        (
+            [32767, 32767, 32767, 65, 65, 65],
+            [65469, 65469, 65469, 65535, 65535, 65535],
+        ),
+    ),
+    (
+        b"P6 2 2 15 \x00\x01\x02\x03\x04\x05\x0f\x00\x00\x00\x0f\x00",
+        (
+            [0, 4369, 8738, 13107, 17476, 21845],
+            [65535, 0, 0, 0, 65535, 0],
+        ),
+    ),
+    (
+        b"P6\n2 2\n65535\n\x00\x01\x00\x02\x00\x03\x00\x04\x00\x05\x00\x06\x01\x00\x00\x00\x00\x00\x00\x00\x00\x00\xff\xff",
+        ([1, 2, 3, 4, 5, 6], [256, 0, 0, 0, 0, 65535]),
+    ),
+];
+
+/// Both rows of a page are these, and again after a rewind.
+fn expect_twice<S: PageSource>(rt: &impl Abort, source: &mut S, rows: &([u16; 6], [u16; 6])) {
+    for _ in 0..2 {
+        source.rewind().expect(rt, "a rewind");
+        assert!(rt; source.size() == (2, 2));
+        assert!(rt; both_rows(source).expect(rt, "rows") == *rows);
+    }
+}
+
 #[test]
-fn rows_of_page_files(rt: HostRuntime) -> Result<(), Fail> {
-    let thousandth = (
-        [32767, 32767, 32767, 65, 65, 65],
-        [65469, 65469, 65469, 65535, 65535, 65535],
-    );
-    let colors = (
-        [0, 4369, 8738, 13107, 17476, 21845],
-        [65535, 0, 0, 0, 65535, 0],
-    );
-    let words = ([1, 2, 3, 4, 5, 6], [256, 0, 0, 0, 0, 65535]);
-    for (text, rows) in [
-        (GRAYS, GRAY_ROWS),
-        // White space of every kind, and comments where they may stand.
-        (
-            b"P5\t# P6 9 9\n#\r 2\x0c\x0b2 #1\n 255\r\x00\xff\x33\x66".as_slice(),
-            GRAY_ROWS,
-        ),
-        (
-            b"P5 2 2 1000 \x01\xf4\x00\x01\x03\xe7\x03\xe8".as_slice(),
-            thousandth,
-        ),
-        (
-            b"P6 2 2 15 \x00\x01\x02\x03\x04\x05\x0f\x00\x00\x00\x0f\x00".as_slice(),
-            colors,
-        ),
-        (
-            b"P6\n2 2\n65535\n\x00\x01\x00\x02\x00\x03\x00\x04\x00\x05\x00\x06\x01\x00\x00\x00\x00\x00\x00\x00\x00\x00\xff\xff".as_slice(),
-            words,
-        ),
-    ] {
+fn rows_of_page_files(rt: HostRuntime) {
+    for (text, rows) in FILES {
         let mut page = opened(&rt, rt.alloc(), text);
-        assert!(rt; page.size() == (2, 2));
         assert!(rt; page.dpi() == 50);
-        assert!(rt; both_rows(&mut page)? == rows);
-        page.rewind()?;
         assert!(rt; page.size() == (2, 2));
-        assert!(rt; both_rows(&mut page)? == rows);
+        assert!(rt; both_rows(&mut page).expect(&rt, "rows") == *rows);
+        expect_twice(&rt, &mut page, rows);
         assert!(rt; page.failures() == 0);
-        let whole = read_page(rt.alloc(), text, 50)?;
+        drop(page);
+        let whole = read_page(rt.alloc(), text, 50).expect(&rt, "a page");
         assert!(rt; (whole.width(), whole.height()) == (2, 2));
         assert!(rt; whole.row(0) == rows.0.as_slice());
         assert!(rt; whole.row(1) == rows.1.as_slice());
+        drop(whole);
     }
-    Ok(())
 }
+
+/// Texts, dots per inch, and why they are no page.
+const REFUSED: &[(&[u8], u32, PageFault)] = &[
+    (b"P4\n1 1\n\x80", 50, PageFault::BadMagic),
+    (b"P", 50, PageFault::BadMagic),
+    (b"", 50, PageFault::BadMagic),
+    (b"P4", 0, PageFault::BadDpi),
+    (GRAYS, 0, PageFault::BadDpi),
+    (GRAYS, 1201, PageFault::BadDpi),
+    (b"P5\n0 1\n255\n", 50, PageFault::BadHeader),
+    (b"P5\n16385 1\n255\n", 50, PageFault::BadHeader),
+    (b"P5\n1 1\n65536\n", 50, PageFault::BadHeader),
+    (b"P5\n12345678901 1\n255\n\x00", 50, PageFault::BadHeader),
+    (b"P5\n1 1\n255", 50, PageFault::BadHeader),
+    (b"P51 1\n255\n\x00", 50, PageFault::BadHeader),
+    (b"P5 #1 1\r1", 50, PageFault::BadHeader),
+    (b"P5\n1 1\n255\n", 50, PageFault::Short),
+    (b"P5\n3 1\n255\n\x01\x02", 50, PageFault::Short),
+    (b"P5\n2 1\n10\n\x0b", 50, PageFault::Short),
+    (b"P5\n1 1\n256\n\x00", 50, PageFault::Short),
+    (b"P5\n1 1\n10\n\x0b\x00", 50, PageFault::Trailing),
+    (b"P5\n1 1\n10\n\x0b", 50, PageFault::SampleTooLarge),
+    (
+        b"P5\n1 2\n256\n\x01\x01\x00\x00",
+        50,
+        PageFault::SampleTooLarge,
+    ),
+];
 
 #[test]
 fn refused_files(rt: HostRuntime) {
-    for (text, dpi, fault) in [
-        (b"P4\n1 1\n\x80".as_slice(), 50, PageFault::BadMagic),
-        (b"P".as_slice(), 50, PageFault::BadMagic),
-        (b"".as_slice(), 50, PageFault::BadMagic),
-        (b"P4".as_slice(), 0, PageFault::BadDpi),
-        (GRAYS, 0, PageFault::BadDpi),
-        (GRAYS, 1201, PageFault::BadDpi),
-        (b"P5\n0 1\n255\n".as_slice(), 50, PageFault::BadHeader),
-        (b"P5\n16385 1\n255\n".as_slice(), 50, PageFault::BadHeader),
-        (b"P5\n1 1\n65536\n".as_slice(), 50, PageFault::BadHeader),
-        (
-            b"P5\n12345678901 1\n255\n\x00".as_slice(),
-            50,
-            PageFault::BadHeader,
-        ),
-        (b"P5\n1 1\n255".as_slice(), 50, PageFault::BadHeader),
-        (b"P51 1\n255\n\x00".as_slice(), 50, PageFault::BadHeader),
-        (b"P5 #1 1\r1".as_slice(), 50, PageFault::BadHeader),
-        (b"P5\n1 1\n255\n".as_slice(), 50, PageFault::Short),
-        (b"P5\n3 1\n255\n\x01\x02".as_slice(), 50, PageFault::Short),
-        (b"P5\n2 1\n10\n\x0b".as_slice(), 50, PageFault::Short),
-        (b"P5\n1 1\n256\n\x00".as_slice(), 50, PageFault::Short),
-        (b"P5\n1 1\n10\n\x0b\x00".as_slice(), 50, PageFault::Trailing),
-        (
-            b"P5\n1 1\n10\n\x0b".as_slice(),
-            50,
-            PageFault::SampleTooLarge,
-        ),
-        (
-            b"P5\n1 2\n256\n\x01\x01\x00\x00".as_slice(),
-            50,
-            PageFault::SampleTooLarge,
-        ),
-    ] {
-        let Err((refused, _)) = PnmPage::open(rt.alloc(), Cursor::new(text), dpi) else {
+    for (text, dpi, fault) in REFUSED {
+        let Err((refused, _)) = PnmPage::open(rt.alloc(), Cursor::new(*text), *dpi) else {
             panic!(rt; "{text:?} is opened");
         };
-        assert!(rt; refused == OpenFault::Page(fault));
-        let Err(refused) = read_page(rt.alloc(), text, dpi) else {
+        assert!(rt; refused == OpenFault::Page(*fault));
+        let Err(refused) = read_page(rt.alloc(), text, *dpi) else {
             panic!(rt; "{text:?} is read");
         };
-        assert!(rt; refused == fault);
+        assert!(rt; refused == *fault);
     }
 }
 
 #[test]
-fn a_file_cut_short(rt: HostRuntime) -> Result<(), Fail> {
-    fs::write(&rt, "page.pgm", GRAYS)?;
-    let page = match PnmPage::open(rt.alloc(), File::open(&rt, "page.pgm")?, 50) {
+fn a_file_cut_short(rt: HostRuntime) {
+    fs::write(&rt, "page.pgm", GRAYS).expect(&rt, "a file");
+    let file = File::open(&rt, "page.pgm").expect(&rt, "a file");
+    let page = match PnmPage::open(rt.alloc(), file, 50) {
         Ok(page) => page,
         Err((fault, _)) => panic!(rt; "{fault:?}"),
     };
     let mut source = Source::Pnm(page);
     assert!(rt; source.size() == (2, 2));
-    assert!(rt; both_rows(&mut source)? == GRAY_ROWS);
-    fs::write(&rt, "page.pgm", b"P5\n2 2\n255\n\x00\xff\x33".as_slice())?;
-    source.rewind()?;
+    assert!(rt; both_rows(&mut source).expect(&rt, "rows") == GRAY_ROWS);
+    expect_twice(&rt, &mut source, &GRAY_ROWS);
+    fs::write(&rt, "page.pgm", &GRAYS[..14]).expect(&rt, "a file");
+    source.rewind().expect(&rt, "a rewind");
     assert!(rt; source.size() == (2, 2));
     assert!(rt; both_rows(&mut source).is_err());
     assert!(rt; source.failures() == 1);
     assert!(rt; source.size() == (2, 2));
     // The rows are lost until a rewind.
-    fs::write(&rt, "page.pgm", GRAYS)?;
+    fs::write(&rt, "page.pgm", GRAYS).expect(&rt, "a file");
     assert!(rt; both_rows(&mut source).is_err());
     assert!(rt; source.failures() == 2);
-    source.rewind()?;
-    assert!(rt; source.size() == (2, 2));
-    assert!(rt; both_rows(&mut source)? == GRAY_ROWS);
+    expect_twice(&rt, &mut source, &GRAY_ROWS);
     assert!(rt; source.failures() == 2);
-    Ok(())
+    drop(source);
 }
 
 /// A reader that gives three bytes at a time and fails at one of its calls, counted from 1.
@@ -267,19 +270,51 @@ fn each_call_of_the_reader_fails_in_turn(rt: HostRuntime) -> Result<(), Fail> {
     Ok(())
 }
 
+/// A page with a comment of so many bytes, and of so many columns and rows of two bytes each, all 7.
+fn sevens(rt: &impl Abort, alloc: Global, comment: usize, columns: u32, rows: u32) -> Vec<u8> {
+    let mut text = Vec::from_slice(alloc, b"P5 #").expect(rt, "memory");
+    for _ in 0..comment {
+        text.push(b'x').expect(rt, "memory");
+    }
+    let sizes = format!(in alloc; "\n{columns} {rows}\n65535\n").expect(rt, "memory");
+    text.extend_from_slice(sizes.as_bytes())
+        .expect(rt, "memory");
+    drop(sizes);
+    let samples = (columns as usize).saturating_mul(rows as usize);
+    for _ in 0..samples.saturating_mul(2) {
+        text.push(7).expect(rt, "memory");
+    }
+    text
+}
+
+/// The rows of such a page, each of whose samples is 7 * 257, and none behind them.
+fn expect_sevens<S: PageSource>(
+    rt: &impl Abort,
+    alloc: Global,
+    page: &mut S,
+    columns: u32,
+    rows: u32,
+) {
+    assert!(rt; page.size() == (columns, rows));
+    let mut row = vec![in alloc; 0u16; 3 * page.size().0 as usize].expect(rt, "memory");
+    for _ in 0..rows {
+        assert!(rt; row.len() == (3 * page.size().0 as usize));
+        assert!(rt; page.next_row(&mut row) == Ok(true));
+        assert!(rt; row.iter().all(|sample| *sample == 7 * 257));
+    }
+    assert!(rt; row.len() == (3 * page.size().0 as usize));
+    assert!(rt; page.next_row(&mut row) == Ok(false));
+    assert!(rt; page.failures() == 0);
+    drop(row);
+}
+
+/// The bytes of a comment, columns and rows.
+const MANY: &[(usize, u32, u32)] = &[(5000, 2, 2), (0, 1, 5000), (0, 10000, 1)];
+
 #[test]
-fn many_reads(rt: HostRuntime) -> Result<(), Fail> {
-    // A comment of so many bytes, then a page of columns and rows of two bytes each.
-    for (comment, columns, rows) in [(5000usize, 2u32, 2u32), (0, 1, 5000), (0, 10000, 1)] {
-        let mut text = Vec::from_slice(rt.alloc(), b"P5 #")?;
-        for _ in 0..comment {
-            text.push(b'x')?;
-        }
-        let sizes = format!(in rt.alloc(); "\n{columns} {rows}\n65535\n")?;
-        text.extend_from_slice(sizes.as_bytes())?;
-        let samples = (columns as usize).saturating_mul(rows as usize);
-        let raster = vec![in rt.alloc(); 7u8; samples.saturating_mul(2)]?;
-        text.extend_from_slice(&raster)?;
+fn many_reads(rt: HostRuntime) {
+    for &(comment, columns, rows) in MANY {
+        let text = sevens(&rt, rt.alloc(), comment, columns, rows);
         let reader = Faulty {
             bytes: Cursor::new(text.as_slice()),
             calls: 0,
@@ -290,67 +325,63 @@ fn many_reads(rt: HostRuntime) -> Result<(), Fail> {
             Ok(page) => page,
             Err((fault, _)) => panic!(&rt; "{fault:?} at {columns} x {rows}"),
         };
-        assert!(rt; page.size() == (columns, rows));
-        let mut row = vec![in rt.alloc(); 0u16; 3 * page.size().0 as usize]?;
-        for _ in 0..rows {
-            assert!(rt; row.len() == (3 * page.size().0 as usize));
-            assert!(rt; page.next_row(&mut row)? == true);
-            assert!(rt; row.iter().all(|sample| *sample == 7 * 257));
-        }
-        assert!(rt; row.len() == (3 * page.size().0 as usize));
-        assert!(rt; page.next_row(&mut row)? == false);
-        assert!(rt; page.failures() == 0);
+        expect_sevens(&rt, rt.alloc(), &mut page, columns, rows);
+        drop(page);
+        drop(text);
     }
-    Ok(())
 }
 
-#[test]
-fn a_page_that_fails_once(rt: HostRuntime) -> Result<(), Fail> {
-    for (n, given) in [(0, 6), (1, 0), (2, 1), (3, 2), (4, 3), (6, 5)] {
-        let mut source = Source::Failing(FailingPage::new(read_page(rt.alloc(), GRAYS, 50)?, n));
-        // Two passes of a rewind and two rows.
-        let mut calls = 0u32;
-        for _ in 0..2 {
-            assert!(rt; source.size() == (2, 2));
-            let mut row = [0u16; 6];
-            if source.rewind().is_err() {
-                break;
-            }
-            calls = calls.saturating_add(1);
-            assert!(rt; source.size() == (2, 2));
-            if source.next_row(&mut row).is_err() {
-                break;
-            }
-            calls = calls.saturating_add(1);
-            assert!(rt; row == GRAY_ROWS.0);
-            assert!(rt; source.size() == (2, 2));
-            if source.next_row(&mut row).is_err() {
-                break;
-            }
-            calls = calls.saturating_add(1);
-            assert!(rt; row == GRAY_ROWS.1);
+/// So many calls of a rewind and two rows, twice over, go well before one fails.
+fn calls_before_a_failure<S: PageSource>(rt: &impl Abort, source: &mut S) -> u32 {
+    let mut calls = 0u32;
+    for _ in 0..2 {
+        let mut row = [0u16; 6];
+        if source.rewind().is_err() {
+            break;
         }
-        assert!(rt; calls == given);
-        assert!(rt; source.failures() == u64::from(given < 6));
-        source.rewind()?;
+        calls = calls.saturating_add(1);
         assert!(rt; source.size() == (2, 2));
-        assert!(rt; both_rows(&mut source)? == GRAY_ROWS);
+        if source.next_row(&mut row).is_err() {
+            break;
+        }
+        calls = calls.saturating_add(1);
+        assert!(rt; row == GRAY_ROWS.0);
+        assert!(rt; source.size() == (2, 2));
+        if source.next_row(&mut row).is_err() {
+            break;
+        }
+        calls = calls.saturating_add(1);
+        assert!(rt; row == GRAY_ROWS.1);
     }
-    Ok(())
+    calls
+}
+
+/// The call that fails, and how many go well before it.
+const FAILS_AT: &[(u64, u32)] = &[(0, 6), (1, 0), (2, 1), (3, 2), (4, 3), (6, 5)];
+
+#[test]
+fn a_page_that_fails_once(rt: HostRuntime) {
+    for &(n, given) in FAILS_AT {
+        let page = read_page(rt.alloc(), GRAYS, 50).expect(&rt, "a page");
+        let mut source = Source::Failing(FailingPage::new(page, n));
+        assert!(rt; source.size() == (2, 2));
+        assert!(rt; calls_before_a_failure(&rt, &mut source) == given);
+        assert!(rt; source.failures() == u64::from(given < 6));
+        expect_twice(&rt, &mut source, &GRAY_ROWS);
+        drop(source);
+    }
 }
 
 #[test]
-fn a_page_in_memory(rt: HostRuntime) -> Result<(), Fail> {
-    let page: Page = read_page(rt.alloc(), GRAYS, 50)?;
+fn a_page_in_memory(rt: HostRuntime) {
+    let page: Page = read_page(rt.alloc(), GRAYS, 50).expect(&rt, "a page");
     let mut source = Source::Memory(MemoryPage::new(page));
     assert!(rt; source.size() == (2, 2));
     assert!(rt; source.dpi() == 50);
-    assert!(rt; both_rows(&mut source)? == GRAY_ROWS);
-    source.rewind()?;
-    assert!(rt; source.size() == (2, 2));
-    assert!(rt; both_rows(&mut source)? == GRAY_ROWS);
+    assert!(rt; both_rows(&mut source).expect(&rt, "rows") == GRAY_ROWS);
+    expect_twice(&rt, &mut source, &GRAY_ROWS);
     assert!(rt; source.failures() == 0);
-    Ok(())
+    drop(source);
 }
 
 fn window(resolution: u32, left: i32, right: i32) -> Scene

@@ -71,65 +71,65 @@ fn window_from_its_origin(rt: HostRuntime) -> Result<(), Fail> {
     Ok(())
 }
 
+/// A red dot in each mode and depth.
+const RED: &[(Mode, u32, &[u8])] = &[
+    (Mode::Gray, 8, b"P5\n# SANE data follows\n1 1\n255\n\x4C"),
+    (
+        Mode::Gray,
+        16,
+        b"P5\n# SANE data follows\n1 1\n65535\n\x4C\x8A",
+    ),
+    (Mode::Gray, 1, b"P4\n# SANE data follows\n1 1\n\x80"),
+    (
+        Mode::Color,
+        8,
+        b"P6\n# SANE data follows\n1 1\n255\n\xFF\x00\x00",
+    ),
+];
+
 #[test]
 fn red_in_every_mode(rt: HostRuntime) -> Result<(), Fail> {
     let page = read_page(rt.alloc(), b"P6\n1 1\n255\n\xFF\x00\x00", 26)?;
-    let gray = scan_plain(rt.alloc(), &page, &scene(Mode::Gray, 8, 26, mm(1), mm(1)))?;
-    assert!(rt; gray.as_slice() == b"P5\n# SANE data follows\n1 1\n255\n\x4C".as_slice());
-    let wide = scan_plain(rt.alloc(), &page, &scene(Mode::Gray, 16, 26, mm(1), mm(1)))?;
-    assert!(rt; wide.as_slice() == b"P5\n# SANE data follows\n1 1\n65535\n\x4C\x8A".as_slice());
-    let bits = scan_plain(rt.alloc(), &page, &scene(Mode::Gray, 1, 26, mm(1), mm(1)))?;
-    assert!(rt; bits.as_slice() == b"P4\n# SANE data follows\n1 1\n\x80".as_slice());
-    let color = scan_plain(rt.alloc(), &page, &scene(Mode::Color, 8, 26, mm(1), mm(1)))?;
-    assert!(rt; color.as_slice() == b"P6\n# SANE data follows\n1 1\n255\n\xFF\x00\x00".as_slice());
+    for &(mode, depth, wanted) in RED {
+        let file = scan_plain(rt.alloc(), &page, &scene(mode, depth, 26, mm(1), mm(1)))?;
+        assert!(rt; file.as_slice() == wanted);
+    }
     let none = scan_plain(rt.alloc(), &page, &scene(Mode::Color, 1, 26, mm(1), mm(1)));
     assert!(rt; none.err() == Some(PlainFault::NoPicture));
     Ok(())
 }
 
+/// Texts, and why they are no picture.
+const REFUSED: &[(&[u8], PnmFault)] = &[
+    // The file of one gray sample without its last byte, and with one more.
+    (b"P5\n# SANE data follows\n1 1\n255\n", PnmFault::Short),
+    (
+        b"P5\n# SANE data follows\n1 1\n255\n\x0A\x00",
+        PnmFault::Trailing,
+    ),
+    (b"P5\n0 1\n255\n", PnmFault::BadHeader),
+    (b"P5\n1 1\n10\n\x0B", PnmFault::SampleTooLarge),
+    (b"P5\n1 1\n300\n\x01\x2D", PnmFault::SampleTooLarge),
+    // The first fault in the order of the tests.
+    (b"P5\n2 1\n10\n\x0B", PnmFault::Short),
+    (b"P5\n1 1\n10\n\x0B\x0B", PnmFault::Trailing),
+    (b"", PnmFault::BadMagic),
+    (b"P3\n1 1\n255\n0", PnmFault::BadMagic),
+    (b"P4", PnmFault::BadHeader),
+    (b"P5\n1 1\n255", PnmFault::BadHeader),
+    (b"P5\n1 65537\n255\n\x00", PnmFault::BadHeader),
+    (b"P5\n1 1\n0\n\x00", PnmFault::BadHeader),
+    (b"P5\n1 1\n65536\n\x00\x00", PnmFault::BadHeader),
+    (b"P5\n1 00000000001\n255\n\x00", PnmFault::BadHeader),
+    (b"P5\n1# no gap\n 1\n255\n\x00", PnmFault::BadHeader),
+    (b"P4\n9 2\n\x80\x80\x00", PnmFault::Short),
+    (b"P6\n1 1\n255\n\x00\x00\x00\x00", PnmFault::Trailing),
+];
+
 #[test]
 fn refused_texts(rt: HostRuntime) {
-    for (text, fault) in [
-        // The file of one gray sample without its last byte, and with one more.
-        (
-            b"P5\n# SANE data follows\n1 1\n255\n".as_slice(),
-            PnmFault::Short,
-        ),
-        (
-            b"P5\n# SANE data follows\n1 1\n255\n\x0A\x00".as_slice(),
-            PnmFault::Trailing,
-        ),
-        (b"P5\n0 1\n255\n".as_slice(), PnmFault::BadHeader),
-        (b"P5\n1 1\n10\n\x0B".as_slice(), PnmFault::SampleTooLarge),
-        (
-            b"P5\n1 1\n300\n\x01\x2D".as_slice(),
-            PnmFault::SampleTooLarge,
-        ),
-        // The first fault in the order of the tests.
-        (b"P5\n2 1\n10\n\x0B".as_slice(), PnmFault::Short),
-        (b"P5\n1 1\n10\n\x0B\x0B".as_slice(), PnmFault::Trailing),
-        (b"".as_slice(), PnmFault::BadMagic),
-        (b"P3\n1 1\n255\n0".as_slice(), PnmFault::BadMagic),
-        (b"P4".as_slice(), PnmFault::BadHeader),
-        (b"P5\n1 1\n255".as_slice(), PnmFault::BadHeader),
-        (b"P5\n1 65537\n255\n\x00".as_slice(), PnmFault::BadHeader),
-        (b"P5\n1 1\n0\n\x00".as_slice(), PnmFault::BadHeader),
-        (b"P5\n1 1\n65536\n\x00\x00".as_slice(), PnmFault::BadHeader),
-        (
-            b"P5\n1 00000000001\n255\n\x00".as_slice(),
-            PnmFault::BadHeader,
-        ),
-        (
-            b"P5\n1# no gap\n 1\n255\n\x00".as_slice(),
-            PnmFault::BadHeader,
-        ),
-        (b"P4\n9 2\n\x80\x80\x00".as_slice(), PnmFault::Short),
-        (
-            b"P6\n1 1\n255\n\x00\x00\x00\x00".as_slice(),
-            PnmFault::Trailing,
-        ),
-    ] {
-        assert!(rt; read_pnm(rt.alloc(), text).err() == Some(fault));
+    for (text, fault) in REFUSED {
+        assert!(rt; read_pnm(rt.alloc(), text).err() == Some(*fault));
     }
     assert!(rt; (PnmFault::BadMagic as u32) == 1);
     assert!(rt; (PnmFault::NoMem as u32) == 7);

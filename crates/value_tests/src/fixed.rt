@@ -3,51 +3,57 @@ use sane_fixed::{
 };
 use std::test::Fail;
 
+/// Texts, and the words that they spell.
+const DECIMALS: &[(&[u8], Option<Fixed>)] = &[
+    (b"80.5", Some(Fixed(0x0050_8000))),
+    (b"-32768", Some(Fixed(i32::MIN))),
+    (b"32768", None),
+    (b"32767.99999237060546875", None),
+    (b"32767.9999847412109375", Some(Fixed(i32::MAX))),
+    // 0.6 is nearest to 39322 / 65536.
+    (b"0.6", Some(Fixed(39322))),
+    // A half of a word goes away from zero.
+    (b"0.00000762939453125", None),
+    (b"0.0000076293945313", Some(Fixed(1))),
+    (b"0.0000076293945312", Some(Fixed(0))),
+    (b"-0", Some(Fixed(0))),
+    (b"1.", None),
+    (b".5", None),
+    (b"+1", None),
+    (b"--1", None),
+    (b"", None),
+    (b"-", None),
+    (b"1 ", None),
+    (b"000000001", Some(Fixed(65536))),
+    (b"0000000001", None),
+];
+
 #[test]
 fn decimal_texts(rt: HostRuntime) {
-    for (text, word) in [
-        (b"80.5".as_slice(), Some(Fixed(0x0050_8000))),
-        (b"-32768".as_slice(), Some(Fixed(i32::MIN))),
-        (b"32768".as_slice(), None),
-        (b"32767.99999237060546875".as_slice(), None),
-        (b"32767.9999847412109375".as_slice(), Some(Fixed(i32::MAX))),
-        // 0.6 is nearest to 39322 / 65536.
-        (b"0.6".as_slice(), Some(Fixed(39322))),
-        // A half of a word goes away from zero.
-        (b"0.00000762939453125".as_slice(), None),
-        (b"0.0000076293945313".as_slice(), Some(Fixed(1))),
-        (b"0.0000076293945312".as_slice(), Some(Fixed(0))),
-        (b"-0".as_slice(), Some(Fixed(0))),
-        (b"1.".as_slice(), None),
-        (b".5".as_slice(), None),
-        (b"+1".as_slice(), None),
-        (b"--1".as_slice(), None),
-        (b"".as_slice(), None),
-        (b"-".as_slice(), None),
-        (b"1 ".as_slice(), None),
-        (b"000000001".as_slice(), Some(Fixed(65536))),
-        (b"0000000001".as_slice(), None),
-    ] {
-        assert!(rt; Fixed::parse(text) == word);
+    for (text, word) in DECIMALS {
+        assert!(rt; Fixed::parse(text) == *word);
     }
 }
 
+/// Words, and the texts that show them.
+const EXACT: &[(i32, &[u8])] = &[
+    // 0.6 mm is shown as what it is kept as.
+    (39322, b"0.600006103515625"),
+    (0x0050_8000, b"80.5"),
+    (80 * 65536, b"80"),
+    (200 * 65536, b"200"),
+    (0, b"0"),
+    (-65536, b"-1"),
+    (-32768, b"-0.5"),
+    (1, b"0.0000152587890625"),
+    (i32::MAX, b"32767.9999847412109375"),
+    (i32::MIN, b"-32768"),
+];
+
 #[test]
 fn exact_decimals(rt: HostRuntime) -> Result<(), NoMem> {
-    for (word, text) in [
-        // 0.6 mm is shown as what it is kept as.
-        (39322, b"0.600006103515625".as_slice()),
-        (0x0050_8000, b"80.5".as_slice()),
-        (80 * 65536, b"80".as_slice()),
-        (200 * 65536, b"200".as_slice()),
-        (0, b"0".as_slice()),
-        (-65536, b"-1".as_slice()),
-        (-32768, b"-0.5".as_slice()),
-        (1, b"0.0000152587890625".as_slice()),
-        (i32::MAX, b"32767.9999847412109375".as_slice()),
-        (i32::MIN, b"-32768".as_slice()),
-    ] {
-        assert!(rt; Fixed(word).to_text(rt.alloc())?.as_bytes() == text);
+    for (word, text) in EXACT {
+        assert!(rt; Fixed(*word).to_text(rt.alloc())?.as_bytes() == *text);
     }
     Ok(())
 }

@@ -1,28 +1,22 @@
 use text_lines::{LimitFault, Limits, first_line, split_once};
 
+/// A text, its first line, and what stands behind that.
+const CUTS: &[(&[u8], Option<(&[u8], &[u8])>)] = &[
+    (b"", None),
+    (b"a", Some((b"a", b""))),
+    (b"a\n", Some((b"a", b""))),
+    (b"\n\nb", Some((b"", b"\nb"))),
+    (b"a\r\nb\r\n", Some((b"a", b"b\r\n"))),
+    // Only the one CR before LF is dropped, and at the end of the text none is.
+    (b"a\r\r\nb", Some((b"a\r", b"b"))),
+    (b"a\r", Some((b"a\r", b""))),
+    (b"\r\n", Some((b"", b""))),
+];
+
 #[test]
 fn lines_of_texts(rt: HostRuntime) {
-    for (text, cut) in [
-        (b"".as_slice(), None),
-        (b"a".as_slice(), Some((b"a".as_slice(), b"".as_slice()))),
-        (b"a\n".as_slice(), Some((b"a".as_slice(), b"".as_slice()))),
-        (
-            b"\n\nb".as_slice(),
-            Some((b"".as_slice(), b"\nb".as_slice())),
-        ),
-        (
-            b"a\r\nb\r\n".as_slice(),
-            Some((b"a".as_slice(), b"b\r\n".as_slice())),
-        ),
-        // Only the one CR before LF is dropped, and at the end of the text none is.
-        (
-            b"a\r\r\nb".as_slice(),
-            Some((b"a\r".as_slice(), b"b".as_slice())),
-        ),
-        (b"a\r".as_slice(), Some((b"a\r".as_slice(), b"".as_slice()))),
-        (b"\r\n".as_slice(), Some((b"".as_slice(), b"".as_slice()))),
-    ] {
-        assert!(rt; first_line(text) == cut);
+    for (text, cut) in CUTS {
+        assert!(rt; first_line(text) == *cut);
     }
 }
 

@@ -202,14 +202,12 @@ fn nothing_follows_a_whole_picture(rt: HostRuntime) {
     assert!(rt; join.end() == Ok(true));
 }
 
+/// No line at all, a part of a line, a line and a part of one.
+const NO_LINES: &[&[u8]] = &[b"", b"\x01", b"\x01\x02\x03"];
+
 #[test]
 fn no_whole_line(rt: HostRuntime) {
-    // No line at all, a part of a line, a line and a part of one.
-    for payload in [
-        b"".as_slice(),
-        b"\x01".as_slice(),
-        b"\x01\x02\x03".as_slice(),
-    ] {
+    for payload in NO_LINES {
         let mut join = FrameJoin::new(rt.alloc());
         join.begin(rt.alloc(), &rolled(8, 2, 2), ByteOrder::Big);
         join.feed(payload);
@@ -258,67 +256,108 @@ fn second_fault(alloc: Global, second: &Params, order: ByteOrder) -> Option<Join
     join.fault()
 }
 
+/// The second pass of three, as `pass` makes it.
+const GREEN: Params = Params {
+    format: FrameFormat::Green,
+    last_frame: false,
+    bytes_per_line: 4,
+    pixels_per_line: 2,
+    lines: Some(1),
+    depth: 16,
+};
+
+const RED: Params = Params {
+    format: FrameFormat::Red,
+    ..GREEN
+};
+
+/// Another width, height or depth, the same color again, the last of three too early, a frame that is a picture alone, and
+/// a color of unknown height.
+const NO_SECOND: &[Params] = &[
+    Params {
+        pixels_per_line: 1,
+        ..GREEN
+    },
+    Params {
+        lines: Some(2),
+        ..GREEN
+    },
+    Params { depth: 8, ..GREEN },
+    RED,
+    Params {
+        last_frame: true,
+        ..GREEN
+    },
+    Params {
+        format: FrameFormat::Gray,
+        ..GREEN
+    },
+    Params {
+        format: FrameFormat::Gray,
+        last_frame: true,
+        ..GREEN
+    },
+    Params {
+        format: FrameFormat::Rgb,
+        last_frame: true,
+        ..GREEN
+    },
+    Params {
+        lines: None,
+        ..GREEN
+    },
+];
+
 #[test]
 fn shapes_of_passes(rt: HostRuntime) {
-    let green = pass(FrameFormat::Green, false);
-    assert!(rt; second_fault(rt.alloc(), &green, ByteOrder::Big) == None);
-    // Another width, height or depth, the same color again, the last of three too early, a frame that is a picture
-    // alone, and a color of unknown height.
-    for params in [
-        Params {
-            pixels_per_line: 1,
-            ..green
-        },
-        Params {
-            lines: Some(2),
-            ..green
-        },
-        Params { depth: 8, ..green },
-        pass(FrameFormat::Red, false),
-        pass(FrameFormat::Green, true),
-        pass(FrameFormat::Gray, false),
-        pass(FrameFormat::Gray, true),
-        pass(FrameFormat::Rgb, true),
-        Params {
-            lines: None,
-            ..green
-        },
-    ] {
-        let fault = second_fault(rt.alloc(), &params, ByteOrder::Big);
+    assert!(rt; pass(FrameFormat::Green, false) == GREEN);
+    assert!(rt; second_fault(rt.alloc(), &GREEN, ByteOrder::Big) == None);
+    for params in NO_SECOND {
+        let fault = second_fault(rt.alloc(), params, ByteOrder::Big);
         assert!(rt; fault == Some(JoinFault::Shape));
     }
-    let fault = second_fault(rt.alloc(), &green, ByteOrder::Little);
+    let fault = second_fault(rt.alloc(), &GREEN, ByteOrder::Little);
     assert!(rt; fault == Some(JoinFault::Shape));
 }
 
+/// A line of gray, of a picture whose height is not known.
+const ROLLED: Params = Params {
+    format: FrameFormat::Gray,
+    last_frame: true,
+    bytes_per_line: 1,
+    pixels_per_line: 1,
+    lines: None,
+    depth: 8,
+};
+
+/// Of unknown height, the last of three, of one bit, too short a line, not the last, too wide.
+const NO_FIRST: &[Params] = &[
+    Params { lines: None, ..RED },
+    Params {
+        last_frame: true,
+        ..RED
+    },
+    Params { depth: 1, ..RED },
+    Params {
+        bytes_per_line: 3,
+        ..RED
+    },
+    Params {
+        last_frame: false,
+        ..ROLLED
+    },
+    Params {
+        pixels_per_line: 2,
+        ..ROLLED
+    },
+];
+
 #[test]
 fn shapes_of_first_frames(rt: HostRuntime) {
-    // Of unknown height, the last of three, of one bit, too short a line, not the last, too wide.
-    for params in [
-        Params {
-            lines: None,
-            ..pass(FrameFormat::Red, false)
-        },
-        pass(FrameFormat::Red, true),
-        Params {
-            depth: 1,
-            ..pass(FrameFormat::Red, false)
-        },
-        Params {
-            bytes_per_line: 3,
-            ..pass(FrameFormat::Red, false)
-        },
-        Params {
-            last_frame: false,
-            ..rolled(8, 1, 1)
-        },
-        Params {
-            pixels_per_line: 2,
-            ..rolled(8, 1, 1)
-        },
-    ] {
+    assert!(rt; rolled(8, 1, 1) == ROLLED);
+    for params in NO_FIRST {
         let mut join = FrameJoin::new(rt.alloc());
-        join.begin(rt.alloc(), &params, ByteOrder::Big);
+        join.begin(rt.alloc(), params, ByteOrder::Big);
         assert!(rt; join.fault() == Some(JoinFault::Shape));
     }
 }
@@ -335,30 +374,35 @@ fn third_fault(alloc: Global, third: &Params) -> Option<JoinFault> {
     join.fault()
 }
 
+/// A third frame, whether it is told to be the last, and what it is refused for.
+const THIRDS: &[(FrameFormat, bool, Option<JoinFault>)] = &[
+    (FrameFormat::Blue, true, None),
+    (FrameFormat::Blue, false, Some(JoinFault::Shape)),
+    (FrameFormat::Green, true, Some(JoinFault::Shape)),
+    (FrameFormat::Red, true, Some(JoinFault::Shape)),
+    (FrameFormat::Gray, true, Some(JoinFault::Shape)),
+];
+
 #[test]
 fn third_of_three(rt: HostRuntime) {
-    for (format, last_frame, fault) in [
-        (FrameFormat::Blue, true, None),
-        (FrameFormat::Blue, false, Some(JoinFault::Shape)),
-        (FrameFormat::Green, true, Some(JoinFault::Shape)),
-        (FrameFormat::Red, true, Some(JoinFault::Shape)),
-        (FrameFormat::Gray, true, Some(JoinFault::Shape)),
-    ] {
+    for &(format, last_frame, fault) in THIRDS {
         let third = pass(format, last_frame);
         assert!(rt; third_fault(rt.alloc(), &third) == fault);
     }
 }
 
+const CUT_OR_LONG: &[(&[u8], JoinFault)] = &[
+    (b"\0\x01\0", JoinFault::Short),
+    (b"\0\x01\0\x04\0", JoinFault::Long),
+];
+
 #[test]
 fn colors_cut_or_too_long(rt: HostRuntime) {
-    for (payload, fault) in [
-        (b"\0\x01\0".as_slice(), JoinFault::Short),
-        (b"\0\x01\0\x04\0".as_slice(), JoinFault::Long),
-    ] {
+    for (payload, fault) in CUT_OR_LONG {
         let mut join = FrameJoin::new(rt.alloc());
         join.begin(rt.alloc(), &pass(FrameFormat::Red, false), ByteOrder::Big);
         join.feed(payload);
-        assert!(rt; join.end() == Err(fault));
+        assert!(rt; join.end() == Err(*fault));
     }
     // A color inside a color.
     let mut join = FrameJoin::new(rt.alloc());
