@@ -87,6 +87,13 @@ fn session<D: Device>(rt: &impl Abort, alloc: Global, daemon: &mut Daemon<D>) ->
     id
 }
 
+/// The turns of a frame of one byte.
+const TURNS: &[(DataStep, &[u8])] = &[
+    (DataStep::Bytes(5), b"\0\0\0\x01\x07"),
+    (DataStep::Last(5), b"\xff\xff\xff\xff\x05"),
+    (DataStep::Idle, b""),
+];
+
 #[test]
 fn one_byte_through_the_daemon(rt: HostRuntime) {
     let alloc = rt.alloc();
@@ -141,12 +148,8 @@ fn one_byte_through_the_daemon(rt: HostRuntime) {
     assert!(rt; daemon.frame(id) == FrameState::Waiting);
     assert!(rt; daemon.data_connected(id));
     assert!(rt; !daemon.data_connected(id));
-    for (step, bytes) in [
-        (DataStep::Bytes(5), b"\0\0\0\x01\x07".as_slice()),
-        (DataStep::Last(5), b"\xff\xff\xff\xff\x05"),
-        (DataStep::Idle, b""),
-    ] {
-        turns(&rt, &mut daemon, id, step, bytes);
+    for (step, bytes) in TURNS {
+        turns(&rt, &mut daemon, id, *step, bytes);
     }
     // EXIT
     assert!(rt; daemon.feed(alloc, id, b"\0\0\0\x0a") == Fed::Over);

@@ -36,16 +36,18 @@ fn session() -> Session<Flatbed> {
     }
 }
 
+const NAMES: &[&[u8]] = &[
+    b"flatbed:0",
+    b"flatbed:1",
+    b"flatbed:2",
+    b"flatbed:3",
+    b"flatbed:4",
+];
+
 /// A session that was just opened, over five flatbeds and these users.
 fn new_desk(rt: &impl Abort, alloc: Global, users: &[u8]) -> Desk {
     let mut devices = Vec::new(alloc);
-    for name in [
-        b"flatbed:0".as_slice(),
-        b"flatbed:1",
-        b"flatbed:2",
-        b"flatbed:3",
-        b"flatbed:4",
-    ] {
+    for name in NAMES {
         devices.push(flatbed(rt, alloc, name)).expect(rt, "memory");
     }
     let registry = match Registry::new(alloc, devices) {
@@ -140,6 +142,14 @@ fn greeted(rt: &impl Abort, alloc: Global, users: &[u8]) -> Desk {
     desk
 }
 
+const NOT_INIT: &[&[u8]] = &[
+    b"\0\0\0\x01",
+    OPEN,
+    b"\0\0\0\x03\0\0\0\0",
+    b"\0\0\0\x07\0\0\0\0",
+    b"\0\0\0\x0a",
+];
+
 /// The first request is INIT, of major 1; each one that is not ends the session.
 #[test]
 fn greetings(rt: HostRuntime) {
@@ -156,13 +166,7 @@ fn greetings(rt: HostRuntime) {
         _ => panic!(&rt; "the session goes on"),
     }
     end(two);
-    for sent in [
-        b"\0\0\0\x01".as_slice(),
-        OPEN,
-        b"\0\0\0\x03\0\0\0\0",
-        b"\0\0\0\x07\0\0\0\0",
-        b"\0\0\0\x0a",
-    ] {
+    for sent in NOT_INIT {
         let mut desk = new_desk(&rt, alloc, b"");
         expect_end(&rt, alloc, &mut desk, sent);
         end(desk);
@@ -215,17 +219,19 @@ fn who_may_open(rt: HostRuntime) {
     );
 }
 
+const NOT_AWAITED: &[&[u8]] = &[
+    INIT,
+    b"\0\0\0\x01",
+    OPEN,
+    b"\0\0\0\x08\0\0\0\0",
+    b"\0\0\0\x0a",
+];
+
 /// While AUTHORIZE is awaited every other request ends the session.
 #[test]
 fn awaited(rt: HostRuntime) {
     let alloc = rt.alloc();
-    for sent in [
-        INIT,
-        b"\0\0\0\x01",
-        OPEN,
-        b"\0\0\0\x08\0\0\0\0",
-        b"\0\0\0\x0a",
-    ] {
+    for sent in NOT_AWAITED {
         let mut desk = greeted(&rt, alloc, b"ann:bc:flatbed\n");
         let Said::One(_challenge) = ask(&rt, alloc, &mut desk, OPEN) else {
             panic!(&rt; "not one reply")
@@ -234,6 +240,30 @@ fn awaited(rt: HostRuntime) {
         end(desk);
     }
 }
+
+/// OPEN of further devices, and what is answered behind a first one.
+const FURTHER: &[(&[u8], &[u8])] = &[
+    (
+        b"\0\0\0\x02\0\0\0\x0aflatbed:1\0",
+        b"\0\0\0\0\0\0\0\x01\0\0\0\0",
+    ),
+    (
+        b"\0\0\0\x02\0\0\0\x0aflatbed:2\0",
+        b"\0\0\0\0\0\0\0\x02\0\0\0\0",
+    ),
+    (
+        b"\0\0\0\x02\0\0\0\x0aflatbed:3\0",
+        b"\0\0\0\0\0\0\0\x03\0\0\0\0",
+    ),
+    (
+        b"\0\0\0\x02\0\0\0\x0aflatbed:4\0",
+        b"\0\0\0\x01\0\0\0\0\0\0\0\0",
+    ),
+    (
+        b"\0\0\0\x02\0\0\0\x0aflatbed:9\0",
+        b"\0\0\0\x01\0\0\0\0\0\0\0\0",
+    ),
+];
 
 /// Four words; the least free one is given, and a name is not looked up where there is none.
 #[test]
@@ -249,28 +279,7 @@ fn five_opens(rt: HostRuntime) {
         b"\0\0\0\x02\0\0\0\x0aflatbed:9\0",
         b"\0\0\0\x04\0\0\0\0\0\0\0\0",
     );
-    for (sent, wanted) in [
-        (
-            b"\0\0\0\x02\0\0\0\x0aflatbed:1\0",
-            b"\0\0\0\0\0\0\0\x01\0\0\0\0",
-        ),
-        (
-            b"\0\0\0\x02\0\0\0\x0aflatbed:2\0",
-            b"\0\0\0\0\0\0\0\x02\0\0\0\0",
-        ),
-        (
-            b"\0\0\0\x02\0\0\0\x0aflatbed:3\0",
-            b"\0\0\0\0\0\0\0\x03\0\0\0\0",
-        ),
-        (
-            b"\0\0\0\x02\0\0\0\x0aflatbed:4\0",
-            b"\0\0\0\x01\0\0\0\0\0\0\0\0",
-        ),
-        (
-            b"\0\0\0\x02\0\0\0\x0aflatbed:9\0",
-            b"\0\0\0\x01\0\0\0\0\0\0\0\0",
-        ),
-    ] {
+    for (sent, wanted) in FURTHER {
         expect(&rt, alloc, &mut desk, sent, wanted);
     }
     expect(&rt, alloc, &mut desk, b"\0\0\0\x03\0\0\0\x02", b"\0\0\0\0");

@@ -50,6 +50,9 @@ const ONE_BYTE: &[u8] = b"\0\0\0\x01\x0a\xff\xff\xff\xff\x05";
 /// The descriptors of no option.
 const NO_OPTIONS: &[u8] = b"\0\0\0\0";
 
+/// The most bytes of a piece: all come at once, or one by one.
+const SIZES: &[usize] = &[usize::MAX, 1];
+
 /// A scan without settings, of one gray pixel.
 const SCAN: &[Comes<'static>] = &[
     Comes::Control(GREETED),
@@ -191,30 +194,35 @@ fn refused(alloc: Global, job: Job) -> Option<(JobFault, usize)> {
     }
 }
 
+/// A setting with a text that is too long.
+const LONG: &[(&[u8], &[u8])] = &[(b"mode", &[b'a'; 1024])];
+
+/// How many settings are too long, how many others come behind them, the task, and the fault of that job, with how many
+/// settings come back.
+type Given = (usize, u32, Task, Option<(JobFault, usize)>);
+
+/// Jobs, and which of them are refused.
+const REFUSALS: &[Given] = &[
+    (1, 0, Task::Batch(0), Some((JobFault::TextTooLong, 1))),
+    (1, 64, Task::Batch(0), Some((JobFault::TooManySettings, 65))),
+    (0, 0, Task::Batch(0), Some((JobFault::BadCount, 0))),
+    (0, 0, Task::Batch(17), Some((JobFault::BadCount, 0))),
+    (0, 0, Task::List, None),
+    (0, 0, Task::Batch(1), None),
+    (0, 0, Task::Batch(16), None),
+];
+
 /// A client refuses what is no job, in the order of the faults, and gives it back.
 #[test]
 fn jobs_that_are_refused(rt: HostRuntime) {
     let alloc = rt.alloc();
-    let long: &[(&[u8], &[u8])] = &[(b"mode", &[b'a'; 1024])];
-    for (settings, more, task, fault) in [
-        (long, 0, Task::Batch(0), Some((JobFault::TextTooLong, 1))),
-        (
-            long,
-            64,
-            Task::Batch(0),
-            Some((JobFault::TooManySettings, 65)),
-        ),
-        (&[], 0, Task::Batch(0), Some((JobFault::BadCount, 0))),
-        (&[], 0, Task::Batch(17), Some((JobFault::BadCount, 0))),
-        (&[], 0, Task::List, None),
-        (&[], 0, Task::Batch(1), None),
-        (&[], 0, Task::Batch(16), None),
-    ] {
-        let mut job = job(&rt, alloc, settings, task);
-        for _ in 0..more {
+    for (long, more, task, fault) in REFUSALS {
+        let settings = LONG.get(..*long).expect(&rt, "settings");
+        let mut job = job(&rt, alloc, settings, *task);
+        for _ in 0..*more {
             let setting = (text(&rt, alloc, b"mode"), text(&rt, alloc, b"Gray"));
             job.settings.push(setting).expect(&rt, "memory");
         }
-        assert!(&rt; refused(alloc, job) == fault);
+        assert!(&rt; refused(alloc, job) == *fault);
     }
 }

@@ -37,16 +37,19 @@ fn job(rt: &impl Abort, alloc: Global, count: usize, bytes: usize, task: Task) -
     }
 }
 
+/// How many settings a job has, of how many bytes each, and whether it has the size of a job.
+const SIZES: &[(usize, usize, bool)] = &[
+    (0, 0, true),
+    (64, 1023, true),
+    (65, 1023, false),
+    (1, 1024, false),
+];
+
 #[test]
 fn the_size_of_a_job(rt: HostRuntime) {
-    for (count, bytes, has_size) in [
-        (0, 0, true),
-        (64, 1023, true),
-        (65, 1023, false),
-        (1, 1024, false),
-    ] {
-        let given = job(&rt, rt.alloc(), count, bytes, Task::Scan);
-        assert!(&rt; given.has_size() == has_size);
+    for (count, bytes, has_size) in SIZES {
+        let given = job(&rt, rt.alloc(), *count, *bytes, Task::Scan);
+        assert!(&rt; given.has_size() == *has_size);
         drop(given);
     }
 }
@@ -63,54 +66,62 @@ fn named(rt: &impl Abort, alloc: Global, texts: [&[u8]; 4]) -> Job {
     }
 }
 
+/// The device, the user, the password and the name of a setting, and whether a job of these has the size of a job.
+const TEXTS: &[([&[u8]; 4], bool)] = &[
+    ([b"flatbed:0", b"user", b"", b"mode"], true),
+    ([LONG, b"user", b"", b"mode"], false),
+    ([b"flatbed:0", LONG, b"", b"mode"], false),
+    ([b"flatbed:0", b"user", LONG, b"mode"], false),
+    ([b"flatbed:0", b"user", b"", LONG], false),
+];
+
 #[test]
 fn each_text_of_a_job_is_short(rt: HostRuntime) {
-    for (texts, has_size) in [
-        ([b"flatbed:0".as_slice(), b"user", b"", b"mode"], true),
-        ([LONG, b"user", b"", b"mode"], false),
-        ([b"flatbed:0", LONG, b"", b"mode"], false),
-        ([b"flatbed:0", b"user", LONG, b"mode"], false),
-        ([b"flatbed:0", b"user", b"", LONG], false),
-    ] {
-        let given = named(&rt, rt.alloc(), texts);
-        assert!(&rt; given.has_size() == has_size);
+    for (texts, has_size) in TEXTS {
+        let given = named(&rt, rt.alloc(), *texts);
+        assert!(&rt; given.has_size() == *has_size);
         drop(given);
     }
 }
+
+/// How many settings a job has, of how many bytes each, its task, and its fault.
+const FAULTS: &[(usize, usize, Task, Option<JobFault>)] = &[
+    (64, 1023, Task::Batch(16), None),
+    (64, 1023, Task::Batch(1), None),
+    (0, 0, Task::List, None),
+    (65, 1024, Task::Batch(0), Some(JobFault::TooManySettings)),
+    (1, 1024, Task::Batch(0), Some(JobFault::TextTooLong)),
+    (1, 1023, Task::Batch(0), Some(JobFault::BadCount)),
+    (1, 1023, Task::Batch(17), Some(JobFault::BadCount)),
+];
 
 #[test]
 fn why_a_job_is_refused(rt: HostRuntime) {
-    for (count, bytes, task, fault) in [
-        (64, 1023, Task::Batch(16), None),
-        (64, 1023, Task::Batch(1), None),
-        (0, 0, Task::List, None),
-        (65, 1024, Task::Batch(0), Some(JobFault::TooManySettings)),
-        (1, 1024, Task::Batch(0), Some(JobFault::TextTooLong)),
-        (1, 1023, Task::Batch(0), Some(JobFault::BadCount)),
-        (1, 1023, Task::Batch(17), Some(JobFault::BadCount)),
-    ] {
-        let given = job(&rt, rt.alloc(), count, bytes, task);
-        assert!(&rt; given.fault() == fault);
+    for (count, bytes, task, fault) in FAULTS {
+        let given = job(&rt, rt.alloc(), *count, *bytes, *task);
+        assert!(&rt; given.fault() == *fault);
         drop(given);
     }
 }
 
+/// Each reason, and the word of it that is printed.
+const WORDS: &[(Why, &str)] = &[
+    (Why::Answer, "answer"),
+    (Why::Cancelled, "cancelled"),
+    (Why::Lost, "lost"),
+    (Why::Malformed, "malformed"),
+    (Why::Short, "short"),
+    (Why::Long, "long"),
+    (Why::Setting, "setting"),
+    (Why::Plain, "plain password asked"),
+    (Why::Memory, "memory"),
+    (Why::Sink, "output"),
+];
+
 #[test]
 fn words_of_why(rt: HostRuntime) {
-    let words = [
-        (Why::Answer, "answer"),
-        (Why::Cancelled, "cancelled"),
-        (Why::Lost, "lost"),
-        (Why::Malformed, "malformed"),
-        (Why::Short, "short"),
-        (Why::Long, "long"),
-        (Why::Setting, "setting"),
-        (Why::Plain, "plain password asked"),
-        (Why::Memory, "memory"),
-        (Why::Sink, "output"),
-    ];
-    for (why, word) in words {
-        assert!(&rt; why.word() == word);
+    for (why, word) in WORDS {
+        assert!(&rt; why.word() == *word);
     }
 }
 

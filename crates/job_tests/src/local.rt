@@ -219,108 +219,143 @@ fn each_scans(
     }
 }
 
+/// Lost pixels of a line in color, a byte a read.
+const LOSSES: &[(&[u8], &[u8])] = &[
+    (b"mode", b"Color"),
+    (b"resolution", b"26"),
+    (b"br-x", b"2"),
+    (b"br-y", b"1"),
+    (b"ppl-loss", b"3"),
+    (b"read-limit-size", b"1"),
+];
+
+/// The file of that.
+const LOSSES_FILE: &[(usize, &[u8])] = &[(
+    6,
+    b"P6\n# SANE data follows\n2 1\n255\n\x01\x02\x03\x04\x05\x06",
+)];
+
 #[test]
 fn lost_pixels(rt: HostRuntime) {
-    let settings: &[(&[u8], &[u8])] = &[
-        (b"mode", b"Color"),
-        (b"resolution", b"26"),
-        (b"br-x", b"2"),
-        (b"br-y", b"1"),
-        (b"ppl-loss", b"3"),
-        (b"read-limit-size", b"1"),
-    ];
     let page = b"P6\n2 1\n255\n\x01\x02\x03\x04\x05\x06";
     let mut device = flatbed_on(&rt, rt.alloc(), page, 26);
-    each_scans(
-        &rt,
-        rt.alloc(),
-        &mut device,
-        settings,
-        &[(
-            6,
-            b"P6\n# SANE data follows\n2 1\n255\n\x01\x02\x03\x04\x05\x06",
-        )],
-    );
+    each_scans(&rt, rt.alloc(), &mut device, LOSSES, LOSSES_FILE);
     drop(device);
 }
 
+/// Two places in gray, and then in black and white.
+const TWO_BY_ONE: &[(&[u8], &[u8])] = &[
+    (b"resolution", b"26"),
+    (b"br-x", b"2"),
+    (b"br-y", b"1"),
+    (b"depth", b"1"),
+];
+
+/// The files of a page of which the first place is black, and the second is off it.
+const HALF_SEEN: &[(usize, &[u8])] = &[
+    (3, b"P5\n# SANE data follows\n2 1\n255\n\x00\xFF"),
+    (4, b"P4\n# SANE data follows\n2 1\n\x80"),
+];
+
 #[test]
 fn a_page_half_seen(rt: HostRuntime) {
-    let settings: &[(&[u8], &[u8])] = &[
-        (b"resolution", b"26"),
-        (b"br-x", b"2"),
-        (b"br-y", b"1"),
-        (b"depth", b"1"),
-    ];
     let mut device = flatbed_on(&rt, rt.alloc(), b"P5\n1 1\n255\n\x00", 26);
-    each_scans(
-        &rt,
-        rt.alloc(),
-        &mut device,
-        settings,
-        &[
-            (3, b"P5\n# SANE data follows\n2 1\n255\n\x00\xFF"),
-            (4, b"P4\n# SANE data follows\n2 1\n\x80"),
-        ],
-    );
+    each_scans(&rt, rt.alloc(), &mut device, TWO_BY_ONE, HALF_SEEN);
     drop(device);
 }
+
+/// One place in gray, and then at depth 16.
+const DEEP: &[(&[u8], &[u8])] = &[
+    (b"resolution", b"26"),
+    (b"br-x", b"1"),
+    (b"br-y", b"1"),
+    (b"depth", b"16"),
+];
+
+/// The files of a page of one red place.
+const RED: &[(usize, &[u8])] = &[
+    (3, b"P5\n# SANE data follows\n1 1\n255\n\x4C"),
+    (4, b"P5\n# SANE data follows\n1 1\n65535\n\x4C\x8A"),
+];
+
+/// No scanner has colors at depth 1.
+const COLOR_BITS: &[(&[u8], &[u8])] = &[(b"mode", b"Color"), (b"depth", b"1")];
 
 #[test]
 fn one_red_place(rt: HostRuntime) {
     let alloc = rt.alloc();
-    let settings: &[(&[u8], &[u8])] = &[
-        (b"resolution", b"26"),
-        (b"br-x", b"1"),
-        (b"br-y", b"1"),
-        (b"depth", b"16"),
-    ];
+    let bad = Status::Inval;
     let mut device = flatbed_on(&rt, alloc, b"P6\n1 1\n255\n\xFF\x00\x00", 26);
-    each_scans(
-        &rt,
-        alloc,
-        &mut device,
-        settings,
-        &[
-            (3, b"P5\n# SANE data follows\n1 1\n255\n\x4C"),
-            (4, b"P5\n# SANE data follows\n1 1\n65535\n\x4C\x8A"),
-        ],
-    );
-    let color: &[(&[u8], &[u8])] = &[(b"mode", b"Color"), (b"depth", b"1")];
-    scan_ends(&rt, alloc, &mut device, color, Status::Inval, Why::Answer);
+    each_scans(&rt, alloc, &mut device, DEEP, RED);
+    scan_ends(&rt, alloc, &mut device, COLOR_BITS, bad, Why::Answer);
     drop(device);
+}
+
+/// Settings by which a scan ends, its status, and why.
+type Ended = (&'static [(&'static [u8], &'static [u8])], Status, Why);
+
+/// What the first read of a frame is set to answer.
+const FIRST_READS: &[Ended] = &[
+    (
+        &[(b"read-return-value", b"SANE_STATUS_EOF")],
+        Status::IoError,
+        Why::Short,
+    ),
+    (
+        &[(b"read-return-value", b"SANE_STATUS_JAMMED")],
+        Status::Jammed,
+        Why::Answer,
+    ),
+    (
+        &[(b"read-return-value", b"SANE_STATUS_NO_MEM")],
+        Status::NoMem,
+        Why::Answer,
+    ),
+];
+
+/// Each of these scans ends so.
+fn each_ends(rt: &impl Abort, alloc: Global, device: &mut Flatbed, scans: &[Ended]) {
+    for (settings, status, why) in scans {
+        scan_ends(rt, alloc, device, settings, *status, *why);
+    }
 }
 
 /// What the first read of a frame answers in the place of its bytes.
 #[test]
 fn what_the_first_read_answers(rt: HostRuntime) {
-    let alloc = rt.alloc();
-    let mut device = flatbed_on(&rt, alloc, TWO_ROWS, 26);
-    for (answer, status, why) in [
-        (b"SANE_STATUS_EOF".as_slice(), Status::IoError, Why::Short),
-        (b"SANE_STATUS_JAMMED", Status::Jammed, Why::Answer),
-        (b"SANE_STATUS_NO_MEM", Status::NoMem, Why::Answer),
-    ] {
-        let settings: &[(&[u8], &[u8])] = &[(b"read-return-value", answer)];
-        scan_ends(&rt, alloc, &mut device, settings, status, why);
-    }
+    let mut device = flatbed_on(&rt, rt.alloc(), TWO_ROWS, 26);
+    each_ends(&rt, rt.alloc(), &mut device, FIRST_READS);
     drop(device);
 }
+
+/// Widths that are set one after another.
+const WIDTHS: &[(&[u8], &[u8])] = &[(b"br-x", b"80.5"), (b"br-x", b"80"), (b"br-x", b"250")];
+
+/// The number of such a setting, what it was asked to be, what it was given as, and what was said of it.
+const GIVEN: &[(usize, i32, i32, u32)] = &[
+    (
+        0,
+        0x00508000,
+        0x00510000,
+        Info::INEXACT + Info::RELOAD_PARAMS,
+    ),
+    (1, 0x00500000, 0x00500000, Info::RELOAD_PARAMS),
+    (
+        2,
+        0x00FA0000,
+        0x00C80000,
+        Info::INEXACT + Info::RELOAD_PARAMS,
+    ),
+];
 
 #[test]
 fn a_rounded_value(rt: HostRuntime) {
     let alloc = rt.alloc();
     let mut device = flatbed_on(&rt, alloc, TWO_ROWS, 26);
-    let settings: &[(&[u8], &[u8])] = &[(b"br-x", b"80.5"), (b"br-x", b"80"), (b"br-x", b"250")];
-    let reports = sets(&rt, alloc, &mut device, settings);
+    let reports = sets(&rt, alloc, &mut device, WIDTHS);
     assert!(&rt; reports.settings.as_slice().len() == 3);
-    let rounded = Info::INEXACT + Info::RELOAD_PARAMS;
-    for (n, asked, given, info) in [
-        (0, 0x00508000, 0x00510000, rounded),
-        (1, 0x00500000, 0x00500000, Info::RELOAD_PARAMS),
-        (2, 0x00FA0000, 0x00C80000, rounded),
-    ] {
-        assert!(&rt; put_fixed(&reports, n) == Some((asked, given, info)));
+    for (n, asked, given, info) in GIVEN {
+        assert!(&rt; put_fixed(&reports, *n) == Some((*asked, *given, *info)));
     }
     drop(reports);
     drop(device);
@@ -350,32 +385,35 @@ fn settings_are_kept_for_their_own_job(rt: HostRuntime) {
     drop(device);
 }
 
+/// Settings that end the job.
+const ENDINGS: &[Ended] = &[
+    (&[(b"contrast", b"1")], Status::Inval, Why::Setting),
+    (&[(b"resolution", b"fine")], Status::Inval, Why::Setting),
+    // A list of texts that has none that begins so.
+    (&[(b"mode", b"SANE")], Status::Inval, Why::Answer),
+    // At depth 16 the option is inactive.
+    (
+        &[(b"depth", b"16"), (b"gamma-table", b"0")],
+        Status::Inval,
+        Why::Answer,
+    ),
+    // What comes after the last setting that was put is not put.
+    (
+        &[
+            (b"resolution", b"100"),
+            (b"contrast", b"1"),
+            (b"resolution", b"200"),
+        ],
+        Status::Inval,
+        Why::Setting,
+    ),
+];
+
 #[test]
 fn settings_that_end_the_job(rt: HostRuntime) {
     let alloc = rt.alloc();
     let mut device = flatbed_on(&rt, alloc, TWO_ROWS, 26);
-    for (settings, why) in [
-        (
-            [(b"contrast".as_slice(), b"1".as_slice())].as_slice(),
-            Why::Setting,
-        ),
-        (&[(b"resolution", b"fine")], Why::Setting),
-        // A list of texts that has none that begins so.
-        (&[(b"mode", b"SANE")], Why::Answer),
-        // At depth 16 the option is inactive.
-        (&[(b"depth", b"16"), (b"gamma-table", b"0")], Why::Answer),
-        // What comes after the last setting that was put is not put.
-        (
-            &[
-                (b"resolution", b"100"),
-                (b"contrast", b"1"),
-                (b"resolution", b"200"),
-            ],
-            Why::Setting,
-        ),
-    ] {
-        scan_ends(&rt, alloc, &mut device, settings, Status::Inval, why);
-    }
+    each_ends(&rt, alloc, &mut device, ENDINGS);
     stands_at(&rt, alloc, &device, 100);
     drop(device);
 }
@@ -402,6 +440,12 @@ fn short_table_ends(rt: &impl Abort, alloc: Global, device: &mut Flatbed) {
     scan_ends(rt, alloc, device, settings, Status::Inval, Why::Answer);
 }
 
+/// The files of a page of one place, with an inverted table and without.
+const WITH_A_TABLE: &[(usize, &[u8])] = &[
+    (4, b"P5\n# SANE data follows\n1 1\n255\n\xF5"),
+    (3, b"P5\n# SANE data follows\n1 1\n255\n\x0A"),
+];
+
 #[test]
 fn gamma_tables(rt: HostRuntime) {
     let alloc = rt.alloc();
@@ -414,26 +458,18 @@ fn gamma_tables(rt: HostRuntime) {
         (b"br-y", b"1"),
         (b"gamma-table", &table),
     ];
-    each_scans(
-        &rt,
-        alloc,
-        &mut device,
-        settings,
-        &[
-            (4, b"P5\n# SANE data follows\n1 1\n255\n\xF5"),
-            (3, b"P5\n# SANE data follows\n1 1\n255\n\x0A"),
-        ],
-    );
+    each_scans(&rt, alloc, &mut device, settings, WITH_A_TABLE);
     drop(device);
 }
 
 /// At 25 dots per inch a mm is less than one dot.
+const NO_DOT: &[(&[u8], &[u8])] = &[(b"resolution", b"25"), (b"br-x", b"1"), (b"br-y", b"1")];
+
 #[test]
 fn no_picture(rt: HostRuntime) {
     let alloc = rt.alloc();
     let mut device = flatbed_on(&rt, alloc, b"P5\n1 1\n255\n\x0a", 26);
-    let settings: &[(&[u8], &[u8])] = &[(b"resolution", b"25"), (b"br-x", b"1"), (b"br-y", b"1")];
-    let (outcome, file) = run(&rt, alloc, &mut device, settings, Task::Scan);
+    let (outcome, file) = run(&rt, alloc, &mut device, NO_DOT, Task::Scan);
     ends(&rt, &outcome, Status::Inval, Why::Answer);
     assert!(&rt; file.is_empty());
     drop(outcome);
@@ -489,6 +525,9 @@ fn known_by(rt: &impl Abort, alloc: Global, device: &mut Flatbed, letters: usize
     outcome
 }
 
+/// The second setting has a name that is too long.
+const LONG_NAME: &[(&[u8], &[u8])] = &[(b"resolution", b"26"), (LONG, b"26")];
+
 #[test]
 fn a_job_with_a_long_text(rt: HostRuntime) {
     let alloc = rt.alloc();
@@ -497,8 +536,8 @@ fn a_job_with_a_long_text(rt: HostRuntime) {
     let outcome = known_by(&rt, alloc, &mut device, 1024);
     ends(&rt, &outcome, Status::Inval, Why::Setting);
     drop(outcome);
-    let named: &[(&[u8], &[u8])] = &[(b"resolution", b"26"), (LONG, b"26")];
-    scan_ends(&rt, alloc, &mut device, named, Status::Inval, Why::Setting);
+    let bad = Status::Inval;
+    scan_ends(&rt, alloc, &mut device, LONG_NAME, bad, Why::Setting);
     stands_at(&rt, alloc, &device, 50);
     drop(device);
 }
@@ -589,51 +628,60 @@ fn an_output_that_fails(rt: HostRuntime) {
             assert!(&rt; TWO_ROWS_FILE.starts_with(out.taken.as_slice()));
             assert!(&rt; device.at_rest());
             drop(outcome);
+            drop(out);
         }
     }
     drop(device);
 }
 
+/// The room of an output, how often it is interrupted, the task, and what is written.
+const INTERRUPTED: &[(usize, u32, Task, &[u8])] = &[
+    (33, 3, Task::Scan, TWO_ROWS_FILE),
+    // Settings alone write nothing, so that nothing fails.
+    (0, 0, Task::SetOnly, b""),
+];
+
 #[test]
 fn an_output_that_is_interrupted(rt: HostRuntime) {
     let alloc = rt.alloc();
     let mut device = flatbed_on(&rt, alloc, TWO_ROWS, 26);
-    // Settings alone write nothing, so that nothing fails.
-    for (room, interrupts, task, file) in [
-        (33, 3, Task::Scan, TWO_ROWS_FILE),
-        (0, 0, Task::SetOnly, b""),
-    ] {
-        let mut out = disk_with(alloc, room, interrupts, true);
-        let outcome = writes_to(&rt, alloc, &mut device, &mut out, task);
+    for (room, interrupts, task, file) in INTERRUPTED {
+        let mut out = disk_with(alloc, *room, *interrupts, true);
+        let outcome = writes_to(&rt, alloc, &mut device, &mut out, *task);
         drop(done(&rt, outcome));
-        assert!(&rt; out.taken.as_slice() == file);
+        assert!(&rt; out.taken.as_slice() == *file);
+        drop(out);
     }
     drop(device);
 }
+
+/// Bytes for an output with room for twelve, and whether it takes them.
+const BYTES: &[(&[u8], bool)] = &[(b"twelve bytes", true), (b"", true), (b"more", false)];
 
 #[test]
 fn bytes_put(rt: HostRuntime) {
     let mut out = disk_with(rt.alloc(), 12, 2, true);
     let mut again = 2;
-    for (bytes, takes) in [
-        (b"twelve bytes".as_slice(), true),
-        (b"", true),
-        (b"more", false),
-    ] {
-        assert!(&rt; put(&mut out, bytes, &mut again) == takes);
+    for (bytes, takes) in BYTES {
+        assert!(&rt; put(&mut out, bytes, &mut again) == *takes);
         assert!(&rt; out.taken.as_slice() == b"twelve bytes".as_slice());
         assert!(&rt; again == 0);
     }
+    drop(out);
 }
+
+/// How often an output is interrupted, and whether it takes what is put then.
+const TOO_OFTEN: &[(u32, bool)] = &[(2, true), (1, true), (1, false), (0, true)];
 
 /// Interrupted writes are counted over all that is put.
 #[test]
 fn interrupted_too_often(rt: HostRuntime) {
     let alloc = rt.alloc();
     let mut again = 3;
-    for (interrupts, takes) in [(2, true), (1, true), (1, false), (0, true)] {
-        let mut out = disk_with(alloc, 4, interrupts, true);
-        assert!(&rt; put(&mut out, b"four", &mut again) == takes);
+    for (interrupts, takes) in TOO_OFTEN {
+        let mut out = disk_with(alloc, 4, *interrupts, true);
+        assert!(&rt; put(&mut out, b"four", &mut again) == *takes);
+        drop(out);
     }
     assert!(&rt; MOST_AGAIN == 1_099_511_627_776);
 }

@@ -130,6 +130,9 @@ const ASKED: &[u8] =
 
 const FILE: &[u8] = b"P5\n# SANE data follows\n1 1\n255\n\x0a";
 
+/// All replies to a scan of one place.
+const REPLIES: &[&[u8]] = &[OPENED, ONE_GRAY];
+
 fn text(rt: &impl Abort, alloc: Global, bytes: &[u8]) -> Text {
     Text::new(alloc, bytes).expect(rt, "a text")
 }
@@ -200,7 +203,7 @@ fn scan(
     asked: usize,
     most: usize,
 ) -> Ran {
-    let mut control = peer(rt, alloc, &[OPENED, ONE_GRAY], asked);
+    let mut control = peer(rt, alloc, REPLIES, asked);
     control.input.truncate(heard);
     let mut dial = streams(rt, alloc, data);
     let mut out = Disk {
@@ -289,15 +292,19 @@ fn outputs(alloc: Global, most: usize, never_opens: u32, never_takes: usize) -> 
     }
 }
 
+/// The replies of a feeder of two pages.
+const FED: &[&[u8]] = &[OPENED, ONE_GRAY, ONE_GRAY, NO_PAGE];
+
+/// The data of its pages.
+const FED_DATA: &[&[u8]] = &[
+    b"\0\0\0\x01\x07\xff\xff\xff\xff\x05",
+    b"\0\0\0\x01\x09\xff\xff\xff\xff\x05",
+];
+
 /// Two pages of a feeder, and then none.
 fn feed(rt: &impl Abort, alloc: Global, rack: &mut Rack, count: u32) -> Outcome {
-    let parts: [&[u8]; 4] = [OPENED, ONE_GRAY, ONE_GRAY, NO_PAGE];
-    let data: [&[u8]; 2] = [
-        b"\0\0\0\x01\x07\xff\xff\xff\xff\x05",
-        b"\0\0\0\x01\x09\xff\xff\xff\xff\x05",
-    ];
-    let mut control = peer(rt, alloc, &parts, usize::MAX);
-    let mut dial = streams(rt, alloc, &data);
+    let mut control = peer(rt, alloc, FED, usize::MAX);
+    let mut dial = streams(rt, alloc, FED_DATA);
     let batch = job(rt, alloc, Task::Batch(count));
     let outcome = run_batch(alloc, batch, &mut control, &mut dial, rack);
     drop(dial);
@@ -311,14 +318,14 @@ fn expect_pages(rt: &impl Abort, alloc: Global, count: u32, files: usize) {
     let outcome = feed(rt, alloc, &mut rack, count);
     assert!(rt; is_done(&outcome) && rack.files.len() == files);
     for (file, page) in rack.files.iter().zip(PAGES) {
-        assert!(rt; file.as_slice() == page);
+        assert!(rt; file.as_slice() == *page);
     }
     drop(outcome);
     drop(rack);
 }
 
 /// The files of the pages of the feeder.
-const PAGES: [&[u8]; 2] = [
+const PAGES: &[&[u8]] = &[
     b"P5\n# SANE data follows\n1 1\n255\n\x07",
     b"P5\n# SANE data follows\n1 1\n255\n\x09",
 ];
@@ -348,25 +355,33 @@ fn outputs_that_fail(rt: HostRuntime) {
     }
 }
 
+/// The most pages of a batch, and how many files come of it.
+const BATCHES: &[(u32, usize)] = &[(16, 2), (2, 2), (1, 1)];
+
+/// The most pages of a batch, the numbers of the output that is not opened and of that which is not taken back, how many
+/// files come of it, and how it ends.
+type Batch = (u32, u32, usize, usize, Status, Why);
+
+/// An output that cannot be made, and one that is not taken back; and a batch of too many pages.
+const FAILING: &[Batch] = &[
+    (2, 1, 0, 0, Status::IoError, Why::Sink),
+    (2, 2, 0, 1, Status::IoError, Why::Sink),
+    (2, 0, 1, 1, Status::IoError, Why::Sink),
+    (2, 0, 2, 2, Status::IoError, Why::Sink),
+    (17, 0, 0, 0, Status::Inval, Why::Setting),
+];
+
 #[test]
 fn batches_over_streams(rt: HostRuntime) {
     let alloc = rt.alloc();
-    for (count, files) in [(16, 2), (2, 2), (1, 1)] {
-        expect_pages(&rt, alloc, count, files);
+    for (count, files) in BATCHES {
+        expect_pages(&rt, alloc, *count, *files);
     }
-    let bad = (Status::IoError, Why::Sink);
-    // An output that cannot be made, and one that is not taken back; and a batch of too many pages.
-    for (count, most, never_opens, never_takes, files, (status, why)) in [
-        (2, usize::MAX, 1, 0, 0, bad),
-        (2, usize::MAX, 2, 0, 1, bad),
-        (2, usize::MAX, 0, 1, 1, bad),
-        (2, usize::MAX, 0, 2, 2, bad),
-        (17, usize::MAX, 0, 0, 0, (Status::Inval, Why::Setting)),
-    ] {
-        let mut rack = outputs(alloc, most, never_opens, never_takes);
-        let outcome = feed(&rt, alloc, &mut rack, count);
-        assert!(&rt; is_ended(&outcome, status, why));
-        assert!(&rt; rack.files.len() == files);
+    for (count, never_opens, never_takes, files, status, why) in FAILING {
+        let mut rack = outputs(alloc, usize::MAX, *never_opens, *never_takes);
+        let outcome = feed(&rt, alloc, &mut rack, *count);
+        assert!(&rt; is_ended(&outcome, *status, *why));
+        assert!(&rt; rack.files.len() == *files);
         drop(outcome);
         drop(rack);
     }

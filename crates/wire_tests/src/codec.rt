@@ -1,9 +1,10 @@
 mod descriptors;
 mod replies;
 
-use option_desc::Constraint;
+use option_desc::{Constraint, Descriptor};
 use sane_fixed::{ByteOrder, FrameFormat, Info, Kind, Params, Status, Text};
 use std::alloc::Global;
+use std::process::Abort;
 use std::test::*;
 use wire_codec::*;
 
@@ -71,40 +72,46 @@ fn fault_of(alloc: Global, bytes: &[u8]) -> Option<WireFault> {
 }
 
 #[test]
-fn init_of_user(rt: HostRuntime) -> Result<(), Fail> {
-    let bytes = [
-        0, 0, 0, 0, 1, 0, 0, 3, 0, 0, 0, 5, 0x75, 0x73, 0x65, 0x72, 0,
-    ];
-    match request_by_bytes(rt.alloc(), &bytes).ok_or("a request")? {
+fn init_of_user(rt: HostRuntime) {
+    let bytes = b"\0\0\0\0\x01\0\0\x03\0\0\0\x05user\0";
+    let request = request_by_bytes(rt.alloc(), bytes).expect(&rt, "a request");
+    match &request {
         Request::Init { version, user } => {
-            assert!(rt; version == 0x1000003);
+            assert!(rt; *version == 0x1000003);
             assert!(rt; user.as_bytes() == b"user".as_slice());
         }
-        _ => assert!(rt; false),
+        _ => panic!(rt; "no INIT"),
     }
-    match reply_by_bytes(rt.alloc(), Procedure::Init, &[0, 0, 0, 0, 1, 0, 0, 3]).ok_or("a reply")? {
+    drop(request);
+    let bytes = b"\0\0\0\0\x01\0\0\x03";
+    let reply = reply_by_bytes(rt.alloc(), Procedure::Init, bytes).expect(&rt, "a reply");
+    match &reply {
         Reply::Init { status, version } => {
-            assert!(rt; status == Status::Good);
-            assert!(rt; version == 0x1000003);
+            assert!(rt; *status == Status::Good);
+            assert!(rt; *version == 0x1000003);
         }
-        _ => assert!(rt; false),
+        _ => panic!(rt; "no reply to INIT"),
     }
-    Ok(())
+    drop(reply);
 }
 
+/// With a NULL pointer and without one.
+const NO_DEVICES: &[&[u8]] = &[b"\0\0\0\0\0\0\0\x01\0\0\0\x01", b"\0\0\0\0\0\0\0\0"];
+
 #[test]
-fn no_devices_in_both_spellings(rt: HostRuntime) -> Result<(), Fail> {
-    let with_null = [0, 0, 0, 0, 0, 0, 0, 1, 0, 0, 0, 1];
-    for bytes in [with_null.as_slice(), [0; 8].as_slice()] {
-        match reply_by_bytes(rt.alloc(), Procedure::GetDevices, bytes).ok_or("a reply")? {
+fn no_devices_in_both_spellings(rt: HostRuntime) {
+    for bytes in NO_DEVICES {
+        let reply = reply_by_bytes(rt.alloc(), Procedure::GetDevices, bytes);
+        let reply = reply.expect(&rt, "a reply");
+        match &reply {
             Reply::GetDevices { status, devices } => {
-                assert!(rt; status == Status::Good);
+                assert!(rt; *status == Status::Good);
                 assert!(rt; devices.as_slice().len() == 0);
             }
-            _ => assert!(rt; false),
+            _ => panic!(rt; "no devices"),
         }
+        drop(reply);
     }
-    Ok(())
 }
 
 /// The fields of a request about an option, and the only word of its value.
@@ -143,196 +150,192 @@ fn option_reply_fields(reply: &Reply) -> Option<(Status, Info, Kind, Option<u32>
     }
 }
 
+const SET: &[u8] =
+    b"\0\0\0\x05\0\0\0\0\0\0\0\x06\0\0\0\x01\0\0\0\x02\0\0\0\x04\0\0\0\x01\0\x50\x80\0";
+
+const WAS_SET: &[u8] = b"\0\0\0\0\0\0\0\x05\0\0\0\x02\0\0\0\x04\0\0\0\x01\0\x51\0\0\0\0\0\0";
+
 #[test]
-fn set_of_br_x(rt: HostRuntime) -> Result<(), Fail> {
-    let bytes = [
-        0, 0, 0, 5, 0, 0, 0, 0, 0, 0, 0, 6, 0, 0, 0, 1, 0, 0, 0, 2, 0, 0, 0, 4, 0, 0, 0, 1, 0,
-        0x50, 0x80, 0,
-    ];
-    let request = request_by_bytes(rt.alloc(), &bytes).ok_or("a request")?;
+fn set_of_br_x(rt: HostRuntime) {
+    let request = request_by_bytes(rt.alloc(), SET).expect(&rt, "a request");
     assert!(rt;
         option_fields(&request) == Some((0, 6, Action::SetValue, Kind::Fixed, Some(0x508000)))
     );
-    let encoded = encode_request(rt.alloc(), &request)
-        .ok()
-        .ok_or("it has a spelling")?;
-    assert!(rt; encoded.as_slice() == bytes.as_slice());
-    let reply = [
-        0, 0, 0, 0, 0, 0, 0, 5, 0, 0, 0, 2, 0, 0, 0, 4, 0, 0, 0, 1, 0, 0x51, 0, 0, 0, 0, 0, 0,
-    ];
-    let reply = reply_by_bytes(rt.alloc(), Procedure::ControlOption, &reply).ok_or("a reply")?;
+    assert!(rt; goes_round(rt.alloc(), &request, SET));
+    drop(request);
+    let reply = reply_by_bytes(rt.alloc(), Procedure::ControlOption, WAS_SET);
+    let reply = reply.expect(&rt, "a reply");
     let info = Info(Info::INEXACT + Info::RELOAD_PARAMS);
     assert!(rt;
         option_reply_fields(&reply) == Some((Status::Good, info, Kind::Fixed, Some(0x510000), 0))
     );
-    Ok(())
+    drop(reply);
+}
+
+/// Whether a request is written as these bytes.
+fn is_written(alloc: Global, request: &Request, bytes: &[u8]) -> bool {
+    match encode_request(alloc, request) {
+        Ok(encoded) => encoded.as_slice() == bytes,
+        Err(_) => false,
+    }
 }
 
 /// Whether a request is written as these bytes, and read from them and written again.
 fn goes_round(alloc: Global, request: &Request, bytes: &[u8]) -> bool {
-    let Ok(encoded) = encode_request(alloc, request) else {
+    let Some(again) = request_by_bytes(alloc, bytes) else {
         return false;
     };
-    let Some(again) = request_by_bytes(alloc, encoded.as_slice()) else {
-        return false;
-    };
-    let Ok(twice) = encode_request(alloc, &again) else {
-        return false;
-    };
-    encoded.as_slice() == bytes && twice.as_slice() == bytes
+    let is_so = is_written(alloc, request, bytes) && is_written(alloc, &again, bytes);
+    drop(again);
+    is_so
+}
+
+/// Whether a request goes round, which is let go of.
+fn rounds(alloc: Global, request: Request, bytes: &[u8]) -> bool {
+    let is_so = goes_round(alloc, &request, bytes);
+    drop(request);
+    is_so
 }
 
 #[test]
 fn requests_of_words_go_round(rt: HostRuntime) {
-    let device = u32::MAX;
-    for (request, bytes) in &[
-        (Request::GetDevices, [0, 0, 0, 1].as_slice()),
-        (Request::Close { device }, &[0, 0, 0, 3, 255, 255, 255, 255]),
-        (
-            Request::GetOptionDescriptors { device: 0 },
-            &[0, 0, 0, 4, 0, 0, 0, 0],
-        ),
-        (
-            Request::GetParameters { device },
-            &[0, 0, 0, 6, 255, 255, 255, 255],
-        ),
-        (Request::Start { device: 3 }, &[0, 0, 0, 7, 0, 0, 0, 3]),
-        (Request::Cancel { device: 1 }, &[0, 0, 0, 8, 0, 0, 0, 1]),
-        (Request::Exit, &[0, 0, 0, 10]),
-    ] {
-        assert!(rt; goes_round(rt.alloc(), request, bytes));
-    }
-}
-
-/// Whether an INIT or an OPEN of this text goes round.
-fn named_goes_round(alloc: Global, text: &[u8], is_init: bool, bytes: &[u8]) -> bool {
-    let Ok(text) = Text::new(alloc, text) else {
-        return false;
-    };
-    let request = if is_init {
-        Request::Init {
-            version: 0x1000003,
-            user: text,
-        }
-    } else {
-        Request::Open { name: text }
-    };
-    goes_round(alloc, &request, bytes)
-}
-
-/// An AUTHORIZE of these texts.
-fn authorize(alloc: Global, texts: [&[u8]; 3]) -> Result<Request, Fail> {
-    let [resource, user, password] = texts;
-    Ok(Request::Authorize {
-        resource: Text::new(alloc, resource)?,
-        user: Text::new(alloc, user)?,
-        password: Text::new(alloc, password)?,
-    })
-}
-
-#[test]
-fn requests_of_texts_go_round(rt: HostRuntime) -> Result<(), Fail> {
-    for (text, is_init, bytes) in [
-        (
-            b"user".as_slice(),
-            true,
-            b"\0\0\0\0\x01\0\0\x03\0\0\0\x05user\0".as_slice(),
-        ),
-        (b"", false, b"\0\0\0\x02\0\0\0\x01\0"),
-    ] {
-        assert!(rt; named_goes_round(rt.alloc(), text, is_init, bytes));
-    }
-    for (texts, bytes) in [
-        (
-            [b"r".as_slice(), b"\xff", b"\x01"],
-            b"\0\0\0\x09\0\0\0\x02r\0\0\0\0\x02\xff\0\0\0\0\x02\x01\0".as_slice(),
-        ),
-        (
-            [b"", b"", b""],
-            b"\0\0\0\x09\0\0\0\0\0\0\0\x01\0\0\0\0\x01\0",
-        ),
-    ] {
-        let request = authorize(rt.alloc(), texts)?;
-        assert!(rt; goes_round(rt.alloc(), &request, bytes));
-    }
-    Ok(())
-}
-
-#[test]
-fn a_value_of_bytes(rt: HostRuntime) -> Result<(), Fail> {
     let alloc = rt.alloc();
-    let value = WireValue::Bytes(Array::from_vec(Vec::from_slice(alloc, &[0x67, 0x72, 0])?));
-    let set = Request::ControlOption {
+    let device = u32::MAX;
+    assert!(rt; rounds(alloc, Request::GetDevices, b"\0\0\0\x01"));
+    assert!(rt;
+        rounds(
+            alloc,
+            Request::Close { device },
+            b"\0\0\0\x03\xff\xff\xff\xff"
+        )
+    );
+    let options = Request::GetOptionDescriptors { device: 0 };
+    assert!(rt; rounds(alloc, options, b"\0\0\0\x04\0\0\0\0"));
+    let params = Request::GetParameters { device };
+    assert!(rt; rounds(alloc, params, b"\0\0\0\x06\xff\xff\xff\xff"));
+    assert!(rt; rounds(alloc, Request::Start { device: 3 }, b"\0\0\0\x07\0\0\0\x03"));
+    assert!(rt;
+        rounds(
+            alloc,
+            Request::Cancel { device: 1 },
+            b"\0\0\0\x08\0\0\0\x01"
+        )
+    );
+    assert!(rt; rounds(alloc, Request::Exit, b"\0\0\0\x0a"));
+}
+
+fn text(rt: &impl Abort, alloc: Global, bytes: &[u8]) -> Text {
+    Text::new(alloc, bytes).expect(rt, "a text")
+}
+
+/// The texts of an AUTHORIZE, and its bytes.
+const AUTHORIZE: &[(&[u8], &[u8], &[u8], &[u8])] = &[
+    (
+        b"r",
+        b"\xff",
+        b"\x01",
+        b"\0\0\0\x09\0\0\0\x02r\0\0\0\0\x02\xff\0\0\0\0\x02\x01\0",
+    ),
+    (b"", b"", b"", b"\0\0\0\x09\0\0\0\0\0\0\0\x01\0\0\0\0\x01\0"),
+];
+
+#[test]
+fn requests_of_texts_go_round(rt: HostRuntime) {
+    let alloc = rt.alloc();
+    let init = Request::Init {
+        version: 0x1000003,
+        user: text(&rt, alloc, b"user"),
+    };
+    let bytes = b"\0\0\0\0\x01\0\0\x03\0\0\0\x05user\0";
+    assert!(rt; rounds(alloc, init, bytes));
+    let open = Request::Open {
+        name: text(&rt, alloc, b""),
+    };
+    assert!(rt; rounds(alloc, open, b"\0\0\0\x02\0\0\0\x01\0"));
+    for (resource, user, password, bytes) in AUTHORIZE {
+        let request = Request::Authorize {
+            resource: text(&rt, alloc, resource),
+            user: text(&rt, alloc, user),
+            password: text(&rt, alloc, password),
+        };
+        assert!(rt; rounds(alloc, request, bytes));
+    }
+}
+
+/// A request about an option, of that kind and with that value.
+fn about(action: Action, kind: Kind, value: WireValue) -> Request {
+    Request::ControlOption {
         device: 1,
         option: 2,
-        action: Action::GetValue,
-        kind: Kind::String,
+        action,
+        kind,
         value,
-    };
-    let bytes = [
-        0, 0, 0, 5, 0, 0, 0, 1, 0, 0, 0, 2, 0, 0, 0, 0, 0, 0, 0, 3, 0, 0, 0, 3, 0, 0, 0, 3, 0x67,
-        0x72, 0,
-    ];
-    assert!(rt; goes_round(alloc, &set, &bytes));
-    Ok(())
+    }
 }
 
 #[test]
-fn what_is_not_encoded(rt: HostRuntime) -> Result<(), Fail> {
+fn a_value_of_bytes(rt: HostRuntime) {
     let alloc = rt.alloc();
-    let long = Text::from_vec(vec![in alloc; 0x61; 1024]?)
-        .ok()
-        .ok_or("no NUL")?;
-    let request = Request::Open { name: long };
-    assert!(rt; matches!(encode_request(alloc, &request), Err(WireFault::TooLong)));
-    let most = Text::from_vec(vec![in alloc; 0x61; 1023]?)
-        .ok()
-        .ok_or("no NUL")?;
-    assert!(rt; encode_request(alloc, &Request::Open { name: most }).is_ok());
-    let words = WireValue::Words(Array::from_vec(vec![in alloc; 0; 1025]?));
-    let long = Request::ControlOption {
-        device: 0,
-        option: 0,
-        action: Action::SetValue,
-        kind: Kind::Button,
-        value: words,
-    };
-    assert!(rt; matches!(encode_request(alloc, &long), Err(WireFault::TooLong)));
-    let words = WireValue::Words(Array::from_vec(vec![in alloc; 0; 1024]?));
-    let button = Request::ControlOption {
-        device: 0,
-        option: 0,
-        action: Action::SetValue,
-        kind: Kind::Button,
-        value: words,
-    };
-    assert!(rt; matches!(encode_request(alloc, &button), Err(WireFault::BadValue)));
-    Ok(())
+    let bytes = Vec::from_slice(alloc, b"gr\0").expect(&rt, "memory");
+    let value = WireValue::Bytes(Array::from_vec(bytes));
+    let get = about(Action::GetValue, Kind::String, value);
+    let bytes = b"\0\0\0\x05\0\0\0\x01\0\0\0\x02\0\0\0\0\0\0\0\x03\0\0\0\x03\0\0\0\x03gr\0";
+    assert!(rt; rounds(alloc, get, bytes));
+}
+
+/// Why a request is not written, if it is not.
+fn refusal(alloc: Global, request: Request) -> Option<WireFault> {
+    let refused = encode_request(alloc, &request).err();
+    drop(request);
+    refused
+}
+
+/// An OPEN of a name of so many letters.
+fn long_open(rt: &impl Abort, alloc: Global, count: usize) -> Request {
+    let bytes = vec![in alloc; b'a'; count].expect(rt, "memory");
+    let name = Text::from_vec(bytes).ok().expect(rt, "no NUL");
+    Request::Open { name }
+}
+
+/// A BUTTON is set with so many words.
+fn button(rt: &impl Abort, alloc: Global, count: usize) -> Request {
+    let words = vec![in alloc; 0u32; count].expect(rt, "memory");
+    let value = WireValue::Words(Array::from_vec(words));
+    about(Action::SetValue, Kind::Button, value)
 }
 
 #[test]
-fn start_and_parameters(rt: HostRuntime) -> Result<(), Fail> {
-    let start = [0, 0, 0, 0, 0, 0, 0x9c, 0x41, 0, 0, 0x12, 0x34, 0, 0, 0, 0];
-    match reply_by_bytes(rt.alloc(), Procedure::Start, &start).ok_or("a reply")? {
+fn what_is_not_encoded(rt: HostRuntime) {
+    let alloc = rt.alloc();
+    assert!(rt; refusal(alloc, long_open(&rt, alloc, 1024)) == Some(WireFault::TooLong));
+    assert!(rt; refusal(alloc, long_open(&rt, alloc, 1023)) == None);
+    assert!(rt; refusal(alloc, button(&rt, alloc, 1025)) == Some(WireFault::TooLong));
+    assert!(rt; refusal(alloc, button(&rt, alloc, 1024)) == Some(WireFault::BadValue));
+}
+
+#[test]
+fn start_and_parameters(rt: HostRuntime) {
+    let start = b"\0\0\0\0\0\0\x9c\x41\0\0\x12\x34\0\0\0\0";
+    let reply = reply_by_bytes(rt.alloc(), Procedure::Start, start).expect(&rt, "a reply");
+    match &reply {
         Reply::Start {
             status,
             port,
             order,
             resource,
         } => {
-            assert!(rt; status == Status::Good);
-            assert!(rt; port == 40001);
-            assert!(rt; order == ByteOrder::Little);
+            assert!(rt; *status == Status::Good && *port == 40001);
+            assert!(rt; *order == ByteOrder::Little);
             assert!(rt; resource.as_bytes().len() == 0);
         }
-        _ => assert!(rt; false),
+        _ => panic!(rt; "no reply to START"),
     }
-    let params = [
-        0, 0, 0, 0, 0, 0, 0, 0, 0, 0, 0, 1, 0, 0, 0, 1, 0, 0, 0, 1, 0, 0, 0, 1, 0, 0, 0, 8,
-    ];
-    match reply_by_bytes(rt.alloc(), Procedure::GetParameters, &params).ok_or("a reply")? {
+    drop(reply);
+    let params = b"\0\0\0\0\0\0\0\0\0\0\0\x01\0\0\0\x01\0\0\0\x01\0\0\0\x01\0\0\0\x08";
+    let reply = reply_by_bytes(rt.alloc(), Procedure::GetParameters, params);
+    let reply = reply.expect(&rt, "a reply");
+    match &reply {
         Reply::GetParameters { status, params } => {
-            assert!(rt; status == Status::Good);
             let wanted = Params {
                 format: FrameFormat::Gray,
                 last_frame: true,
@@ -341,54 +344,60 @@ fn start_and_parameters(rt: HostRuntime) -> Result<(), Fail> {
                 lines: Some(1),
                 depth: 8,
             };
-            assert!(rt; params == wanted);
+            assert!(rt; *status == Status::Good && *params == wanted);
         }
-        _ => assert!(rt; false),
+        _ => panic!(rt; "no parameters"),
     }
-    Ok(())
+    drop(reply);
+}
+
+/// A descriptor with its pointer, without its constraint.
+const HEAD: &[u8] =
+    b"\0\0\0\0\0\0\0\x02a\0\0\0\0\0\0\0\0\0\0\0\0\x01\0\0\0\x04\0\0\0\x04\0\0\0\x05";
+
+/// No constraint, a range from -1 to 1, the word -1, and the text `b`.
+const CONSTRAINTS: &[&[u8]] = &[
+    b"\0\0\0\0",
+    b"\0\0\0\x01\0\0\0\0\xff\xff\xff\xff\0\0\0\x01\0\0\0\0",
+    b"\0\0\0\x02\0\0\0\x02\0\0\0\x01\xff\xff\xff\xff",
+    b"\0\0\0\x03\0\0\0\x02\0\0\0\x02b\0\0\0\0\0",
+];
+
+/// Whether a descriptor is of an integer `a` and has the constraint at that place.
+fn is_constrained(descriptor: &Descriptor, place: usize) -> bool {
+    let is_whole = descriptor.name.as_bytes() == b"a".as_slice()
+        && descriptor.kind == Kind::Int
+        && descriptor.size == 4;
+    is_whole
+        && match &descriptor.constraint {
+            Constraint::Free => place == 0,
+            Constraint::Span(range) => place == 1 && range.min() == -1,
+            Constraint::Words(words) => place == 2 && words.as_slice() == [-1].as_slice(),
+            Constraint::Strings(entries) => place == 3 && entries.as_slice().len() == 1,
+        }
 }
 
 #[test]
-fn a_descriptor_of_each_constraint(rt: HostRuntime) -> Result<(), Fail> {
-    let head = [
-        0, 0, 0, 0, 0, 0, 0, 2, 0x61, 0, 0, 0, 0, 0, 0, 0, 0, 0, 0, 0, 0, 1, 0, 0, 0, 4, 0, 0, 0,
-        4, 0, 0, 0, 5,
-    ];
-    let free = [0, 0, 0, 0];
-    let range = [
-        0, 0, 0, 1, 0, 0, 0, 0, 0xff, 0xff, 0xff, 0xff, 0, 0, 0, 1, 0, 0, 0, 0,
-    ];
-    let words = [0, 0, 0, 2, 0, 0, 0, 2, 0, 0, 0, 1, 0xff, 0xff, 0xff, 0xff];
-    let strings = [0, 0, 0, 3, 0, 0, 0, 2, 0, 0, 0, 2, 0x62, 0, 0, 0, 0, 0];
-    let mut bytes = Vec::from_slice(rt.alloc(), &[0, 0, 0, 4])?;
-    for constraint in [
-        free.as_slice(),
-        range.as_slice(),
-        words.as_slice(),
-        strings.as_slice(),
-    ] {
-        bytes.extend_from_slice(&head)?;
-        bytes.extend_from_slice(constraint)?;
+fn a_descriptor_of_each_constraint(rt: HostRuntime) {
+    let alloc = rt.alloc();
+    let mut bytes = Vec::from_slice(alloc, b"\0\0\0\x04").expect(&rt, "memory");
+    for constraint in CONSTRAINTS {
+        bytes.extend_from_slice(HEAD).expect(&rt, "memory");
+        bytes.extend_from_slice(constraint).expect(&rt, "memory");
     }
-    match reply_by_bytes(rt.alloc(), Procedure::GetOptionDescriptors, &bytes).ok_or("a reply")? {
+    let reply = reply_by_bytes(alloc, Procedure::GetOptionDescriptors, &bytes);
+    let reply = reply.expect(&rt, "a reply");
+    match &reply {
         Reply::GetOptionDescriptors { descriptors } => {
-            let all = descriptors.as_slice();
-            assert!(rt; all.len() == 4);
-            for descriptor in all {
-                assert!(rt; descriptor.name.as_bytes() == b"a".as_slice());
-                assert!(rt; descriptor.kind == Kind::Int);
-                assert!(rt; descriptor.size == 4);
-                match &descriptor.constraint {
-                    Constraint::Free => {}
-                    Constraint::Span(range) => assert!(rt; range.min() == -1),
-                    Constraint::Words(words) => assert!(rt; words.as_slice() == [-1].as_slice()),
-                    Constraint::Strings(entries) => assert!(rt; entries.as_slice().len() == 1),
-                }
+            assert!(rt; descriptors.as_slice().len() == 4);
+            for (place, descriptor) in descriptors.as_slice().iter().enumerate() {
+                assert!(rt; is_constrained(descriptor, place));
             }
         }
-        _ => assert!(rt; false),
+        _ => panic!(rt; "no descriptors"),
     }
-    Ok(())
+    drop(reply);
+    drop(bytes);
 }
 
 #[test]
@@ -410,28 +419,30 @@ fn three_faults(rt: HostRuntime) {
 }
 
 #[test]
-fn a_long_string_by_bytes(rt: HostRuntime) -> Result<(), Fail> {
+fn a_long_string_by_bytes(rt: HostRuntime) {
     let alloc = rt.alloc();
-    let name = Text::from_vec(vec![in alloc; 0x61; 999]?)
-        .ok()
-        .ok_or("no NUL")?;
-    let bytes = encode_request(alloc, &Request::Open { name })
-        .ok()
-        .ok_or("it has a spelling")?;
+    let open = long_open(&rt, alloc, 999);
+    let bytes = encode_request(alloc, &open).ok().expect(&rt, "a spelling");
+    drop(open);
     assert!(rt; bytes.len() == 1008);
-    match request_by_bytes(alloc, bytes.as_slice()).ok_or("a request")? {
+    let request = request_by_bytes(alloc, bytes.as_slice()).expect(&rt, "a request");
+    match &request {
         Request::Open { name } => assert!(rt; name.as_bytes().len() == 999),
-        _ => assert!(rt; false),
+        _ => panic!(rt; "no OPEN"),
     }
-    Ok(())
+    drop(request);
+    drop(bytes);
 }
+
+/// The front of an OPEN.
+const OPENING: &[u8] = b"\0\0\0\x02\0\0\0\x09abc";
 
 #[test]
 fn a_nul_is_a_fault_as_it_comes(rt: HostRuntime) {
     let alloc = rt.alloc();
     let mut decoder = Decoder::new(alloc);
-    for byte in [0, 0, 0, 2, 0, 0, 0, 9, 0x61, 0x62, 0x63] {
-        assert!(rt; decoder.feed(&[byte]).is_ok());
+    for byte in OPENING {
+        assert!(rt; decoder.feed(&[*byte]).is_ok());
         assert!(rt; matches!(decoder.next_request(alloc), Ok(None)));
     }
     assert!(rt; decoder.feed(&[0]).is_ok());

@@ -206,13 +206,15 @@ fn at_stage(
     (id, stage)
 }
 
+const BEFORE: &[&[usize]] = &[&[], &[0], &[0, 2], &[0, 2, 7]];
+
 /// Each pair of requests one after another, to a session that was not greeted, that has no device, one, and a frame of it:
 /// each is answered by where the session is, and the next session finds the device free, whatever came before.
 #[test]
 fn any_two_requests(rt: HostRuntime) {
     let alloc = rt.alloc();
     let mut daemon = daemon(&rt, alloc, b"");
-    for before in [[].as_slice(), &[0], &[0, 2], &[0, 2, 7]] {
+    for before in BEFORE {
         for first in 0..ROWS.len() {
             for second in 0..ROWS.len() {
                 let (id, stage) = at_stage(&rt, alloc, &mut daemon, before);
@@ -224,19 +226,22 @@ fn any_two_requests(rt: HostRuntime) {
     }
 }
 
-/// No request has the code 11, no action is 2, and no string has 1,025 bytes: each ends the session, without a reply.
+/// No request has the code 11, no action is 2, and no string has 1,025 bytes.
+const NOTHING: &[&[u8]] = &[
+    b"\0\0\0\x0b",
+    b"\0\0\0\x05\0\0\0\0\0\0\0\x06\0\0\0\x02",
+    b"\0\0\0\x02\0\0\x04\x01",
+];
+
+/// Each of these ends the session, without a reply.
 #[test]
 fn bytes_that_spell_nothing(rt: HostRuntime) {
     let alloc = rt.alloc();
     let mut daemon = daemon(&rt, alloc, b"");
-    for sent in [
-        b"\0\0\0\x0b".as_slice(),
-        b"\0\0\0\x05\0\0\0\0\0\0\0\x06\0\0\0\x02",
-        b"\0\0\0\x02\0\0\x04\x01",
-    ] {
+    for sent in NOTHING {
         let (id, _) = at_stage(&rt, alloc, &mut daemon, &[0, 2, 7]);
         let mut fed = Fed::Standing;
-        for byte in sent {
+        for byte in *sent {
             assert!(&rt; fed == Fed::Standing);
             fed = daemon.feed(alloc, id, &[*byte]);
         }

@@ -72,6 +72,23 @@ fn frame<D: Device>(
     assert!(rt; daemon.frame(id) == FrameState::Quiet);
 }
 
+/// Options of a scan of two dots in color, in the order BGR: the option, its value, and what is told.
+const IN_COLOR: &[(u8, &[u8], u8)] = &[
+    (1, b"\0\0\0\x03\0\0\0\x06\0\0\0\x06Color\0", 6),
+    (2, b"\0\0\0\x01\0\0\0\x04\0\0\0\x01\0\0\0\x10", 6),
+    (8, b"\0\0\0\x03\0\0\0\x04\0\0\0\x04BGR\0", 4),
+    (3, b"\0\0\0\x01\0\0\0\x04\0\0\0\x01\0\0\0\x1a", 4),
+    (6, b"\0\0\0\x02\0\0\0\x04\0\0\0\x01\0\x02\0\0", 4),
+    (7, b"\0\0\0\x02\0\0\0\x04\0\0\0\x01\0\x01\0\0", 4),
+];
+
+/// Its three frames: the format, whether it is the last, and its record.
+const FRAMES: &[(u8, u8, &[u8])] = &[
+    (4, 0, b"\0\0\0\x04\0\x03\x01\0"),
+    (3, 0, b"\0\0\0\x04\0\x02\0\x05"),
+    (2, 1, b"\0\0\0\x04\0\x01\0\x04"),
+];
+
 /// Three frames in the order that was set. Between them no option is set and no page is loaded, and afterwards both are.
 #[test]
 fn three_passes(rt: HostRuntime) {
@@ -93,22 +110,11 @@ fn three_passes(rt: HostRuntime) {
         open,
         b"\0\0\0\0\0\0\0\0\0\0\0\0",
     );
-    for (option, value, info) in [
-        (1, b"\0\0\0\x03\0\0\0\x06\0\0\0\x06Color\0".as_slice(), 6),
-        (2, b"\0\0\0\x01\0\0\0\x04\0\0\0\x01\0\0\0\x10", 6),
-        (8, b"\0\0\0\x03\0\0\0\x04\0\0\0\x04BGR\0", 4),
-        (3, b"\0\0\0\x01\0\0\0\x04\0\0\0\x01\0\0\0\x1a", 4),
-        (6, b"\0\0\0\x02\0\0\0\x04\0\0\0\x01\0\x02\0\0", 4),
-        (7, b"\0\0\0\x02\0\0\0\x04\0\0\0\x01\0\x01\0\0", 4),
-    ] {
+    for &(option, value, info) in IN_COLOR {
         set(&rt, alloc, &mut daemon, id, option, value, 0, info);
     }
     let depth = b"\0\0\0\x01\0\0\0\x04\0\0\0\x01\0\0\0\x08";
-    for (color, is_last, payload) in [
-        (4, 0, b"\0\0\0\x04\0\x03\x01\0".as_slice()),
-        (3, 0, b"\0\0\0\x04\0\x02\0\x05"),
-        (2, 1, b"\0\0\0\x04\0\x01\0\x04"),
-    ] {
+    for &(color, is_last, payload) in FRAMES {
         let params = [
             0, 0, 0, color, 0, 0, 0, is_last, 0, 0, 0, 4, 0, 0, 0, 2, 0, 0, 0, 1, 0, 0, 0, 16,
         ];
@@ -124,13 +130,25 @@ fn three_passes(rt: HostRuntime) {
     }
 }
 
+/// Two pages, and the records of their frames and of a third one's.
+const TRAY: &[&[u8]] = &[b"P5\n1 1\n255\n\x07", b"P5\n1 1\n255\n\x09"];
+
+const RECORDS: &[&[u8]] = &[b"\0\0\0\x01\x07", b"\0\0\0\x01\x09", b"\0\0\0\x01\x0b"];
+
+/// Options of a scan of one dot.
+const ONE_DOT: &[(u8, &[u8])] = &[
+    (3, b"\0\0\0\x01\0\0\0\x04\0\0\0\x01\0\0\0\x1a"),
+    (6, b"\0\0\0\x02\0\0\0\x04\0\0\0\x01\0\x01\0\0"),
+    (7, b"\0\0\0\x02\0\0\0\x04\0\0\0\x01\0\x01\0\0"),
+];
+
 /// Between two pages a feeder is at rest: another is laid in behind them, and nobody else opens it. The last is followed by
 /// none.
 #[test]
 fn a_feeder_between_pages(rt: HostRuntime) {
     let alloc = rt.alloc();
     let mut pages = Vec::new(alloc);
-    for file in [b"P5\n1 1\n255\n\x07".as_slice(), b"P5\n1 1\n255\n\x09"] {
+    for file in TRAY {
         pages.push(source(&rt, alloc, file)).expect(&rt, "memory");
     }
     let name = Text::new(alloc, b"feeder:0").expect(&rt, "a name");
@@ -149,20 +167,16 @@ fn a_feeder_between_pages(rt: HostRuntime) {
         open,
         b"\0\0\0\0\0\0\0\0\0\0\0\0",
     );
-    for (option, value) in [
-        (3, b"\0\0\0\x01\0\0\0\x04\0\0\0\x01\0\0\0\x1a".as_slice()),
-        (6, b"\0\0\0\x02\0\0\0\x04\0\0\0\x01\0\x01\0\0"),
-        (7, b"\0\0\0\x02\0\0\0\x04\0\0\0\x01\0\x01\0\0"),
-    ] {
+    for &(option, value) in ONE_DOT {
         set(&rt, alloc, &mut daemon, id, option, value, 0, 4);
     }
     let one = b"\0\0\0\0\0\0\0\x01\0\0\0\x01\0\0\0\x01\0\0\0\x01\0\0\0\x08";
     let started = b"\0\0\0\0\0\0\x9c\x41\0\0\x12\x34\0\0\0\0";
-    for payload in [b"\0\0\0\x01\x07", b"\0\0\0\x01\x09", b"\0\0\0\x01\x0b"] {
+    for payload in RECORDS {
         frame(&rt, alloc, &mut daemon, id, started, one, payload);
         let busy = b"\0\0\0\x03\0\0\0\0\0\0\0\0";
         expect(&rt, alloc, &mut daemon, other, open, busy);
-        if payload == b"\0\0\0\x01\x07" {
+        if *payload == RECORDS[0] {
             let page = source(&rt, alloc, b"P5\n1 1\n255\n\x0b");
             assert!(&rt; daemon.load(b"feeder:0", page).is_ok());
         }

@@ -14,17 +14,6 @@ struct Worked<'a, 'b> {
 }
 
 impl<'a, 'b> Worked<'a, 'b> {
-    /// A scan of these frames to a file of so many bytes.
-    fn scan(script: &'a [Comes<'b>], frames: &'a [usize], whole: usize) -> Worked<'a, 'b> {
-        Worked {
-            task: Task::Scan,
-            settings: &[],
-            script,
-            frames,
-            whole,
-        }
-    }
-
     /// A job that is no scan.
     fn other(
         task: Task,
@@ -140,13 +129,8 @@ fn expect_untaken(rt: &impl Abort, alloc: Global) {
     drop(played);
 }
 
-/// A list, the options shown, and a setting behind which the descriptors are asked for again (RELOAD_OPTIONS).
+/// The options shown, and a setting behind which the descriptors are asked for again (RELOAD_OPTIONS).
 fn expect_others<'a>(rt: &impl Abort, alloc: Global, set: &'a [u8], get: &'a [u8]) {
-    let list = [
-        Comes::Control(GREETED),
-        Comes::Control(b"\0\0\0\0\0\0\0\x01\0\0\0\x01"),
-    ];
-    expect_each(rt, alloc, &Worked::other(Task::List, &[], &list, &[]));
     let show = [
         Comes::Control(GREETED),
         Comes::Control(OPENED),
@@ -169,22 +153,76 @@ fn expect_others<'a>(rt: &impl Abort, alloc: Global, set: &'a [u8], get: &'a [u8
     );
 }
 
+/// A scan of one gray pixel.
+const ONE: Worked<'static, 'static> = Worked {
+    task: Task::Scan,
+    settings: &[],
+    script: SCAN,
+    frames: &[3],
+    whole: 32,
+};
+
+/// A password asked for.
+const ASKED: Worked<'static, 'static> = Worked {
+    task: Task::SetOnly,
+    settings: &[],
+    script: ASKS,
+    frames: &[],
+    whole: usize::MAX,
+};
+
+/// A list.
+const LISTED: Worked<'static, 'static> = Worked {
+    task: Task::List,
+    script: &[
+        Comes::Control(GREETED),
+        Comes::Control(b"\0\0\0\0\0\0\0\x01\0\0\0\x01"),
+    ],
+    ..ASKED
+};
+
+/// As many pages as there are.
+const ALL_PAGES: Worked<'static, 'static> = Worked {
+    task: Task::Batch(16),
+    script: PAGES,
+    frames: &[3, 6],
+    ..ASKED
+};
+
+/// The worked jobs, but for those of which a part is made in the test.
+const CUT_OFF: &[Worked<'static, 'static>] = &[
+    ONE,
+    Worked {
+        script: COLORS,
+        frames: &[3, 6, 9],
+        whole: 45,
+        ..ONE
+    },
+    Worked {
+        script: LOST,
+        whole: 37,
+        ..ONE
+    },
+    Worked {
+        script: UNKNOWN,
+        whole: 31,
+        ..ONE
+    },
+    ASKED,
+    LISTED,
+    ALL_PAGES,
+];
+
 /// A cancel, and a loss of each connection, behind each byte of each worked job.
 #[test]
 fn cancels_and_losses(rt: HostRuntime) {
     let alloc = rt.alloc();
-    let batch = PAGES.get(..9).unwrap_or(PAGES);
-    for worked in [
-        Worked::scan(SCAN, &[3], 32),
-        Worked::scan(COLORS, &[3, 6, 9], 45),
-        Worked::scan(LOST, &[3], 37),
-        Worked::scan(UNKNOWN, &[3], 31),
-        Worked::other(Task::SetOnly, &[], ASKS, &[]),
-        Worked::other(Task::Batch(2), &[], batch, &[3, 6]),
-        Worked::other(Task::Batch(16), &[], PAGES, &[3, 6]),
-    ] {
-        expect_each(&rt, alloc, &worked);
+    for worked in CUT_OFF {
+        expect_each(&rt, alloc, worked);
     }
+    let batch = PAGES.get(..9).unwrap_or(PAGES);
+    let two = Worked::other(Task::Batch(2), &[], batch, &[3, 6]);
+    expect_each(&rt, alloc, &two);
     let set = options(&rt, alloc, 0, b"br-x", 2);
     let get = options(&rt, alloc, 0, b"resolution", 1);
     expect_others(&rt, alloc, &set, &get);

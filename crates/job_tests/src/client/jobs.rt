@@ -53,9 +53,9 @@ fn both_ways(
     files: &[u8],
     end: &[u8],
 ) {
-    for size in [usize::MAX, 1] {
+    for size in SIZES {
         let given = job(rt, alloc, &[], task);
-        let played = play(rt, alloc, given, script, size, usize::MAX);
+        let played = play(rt, alloc, given, script, *size, usize::MAX);
         assert!(rt; is_done_so(&played, files, end));
         drop(played);
     }
@@ -102,36 +102,44 @@ pub(super) const UNKNOWN: &[Comes<'static>] = &[
     Comes::Data(b"\0\0\0\x03\x80\0\x80\0\0\0\x01\0\xff\xff\xff\xff\x05"),
 ];
 
+/// What comes of a scan, and its file.
+const SCANNED: &[(&[Comes<'static>], &[u8])] = &[
+    (SCAN, b"P5\n# SANE data follows\n1 1\n255\n\x0a"),
+    (
+        COLORS,
+        b"P6\n# SANE data follows\n2 1\n65535\n\0\x01\0\x02\0\x03\0\x04\0\x05\x01\0",
+    ),
+    (
+        LOST,
+        b"P6\n# SANE data follows\n2 1\n255\n\x01\x02\x03\x04\x05\x06",
+    ),
+    (UNKNOWN, b"P4\n# SANE data follows\n9 2\n\x80\0\x80\0"),
+];
+
 /// Three colors one after another, a frame of unknown height, a line with lost pixels, and one gray pixel.
 #[test]
 fn pictures(rt: HostRuntime) {
     let end = b"\0\0\0\x07\0\0\0\x02\0\0\0\x06\0\0\0\x02\0\0\0\x03\0\0\0\x02\0\0\0\x0a";
-    for (script, file) in [
-        (SCAN, b"P5\n# SANE data follows\n1 1\n255\n\x0a".as_slice()),
-        (
-            COLORS,
-            b"P6\n# SANE data follows\n2 1\n65535\n\0\x01\0\x02\0\x03\0\x04\0\x05\x01\0",
-        ),
-        (
-            LOST,
-            b"P6\n# SANE data follows\n2 1\n255\n\x01\x02\x03\x04\x05\x06",
-        ),
-        (UNKNOWN, b"P4\n# SANE data follows\n9 2\n\x80\0\x80\0"),
-    ] {
+    for (script, file) in SCANNED {
         both_ways(&rt, rt.alloc(), Task::Scan, script, file, end);
     }
 }
+
+/// A list of no device, with the NULL pointer at its end and without.
+const LISTED: &[&[Comes<'static>]] = &[
+    &[
+        Comes::Control(GREETED),
+        Comes::Control(b"\0\0\0\0\0\0\0\x01\0\0\0\x01"),
+    ],
+    &[Comes::Control(GREETED), Comes::Control(b"\0\0\0\0\0\0\0\0")],
+];
 
 /// A list reads with and without the NULL pointer at its end, and asks for no device.
 #[test]
 fn lists(rt: HostRuntime) {
     let sent = b"\0\0\0\0\x01\0\0\x03\0\0\0\x05user\0\0\0\0\x01\0\0\0\x0a";
-    for devices in [
-        b"\0\0\0\0\0\0\0\x01\0\0\0\x01".as_slice(),
-        b"\0\0\0\0\0\0\0\0",
-    ] {
-        let script = [Comes::Control(GREETED), Comes::Control(devices)];
-        both_ways(&rt, rt.alloc(), Task::List, &script, b"", sent);
+    for script in LISTED {
+        both_ways(&rt, rt.alloc(), Task::List, script, b"", sent);
     }
 }
 
@@ -165,29 +173,37 @@ fn set<'a>(rt: &impl Abort, alloc: Global, table: &'a [u8], given: &'a [u8]) -> 
     play(rt, alloc, setting, &script, 3, usize::MAX)
 }
 
+/// The request that sets br-x to 80.5.
+const SET_SENT: &[u8] =
+    b"\0\0\0\x05\0\0\0\x02\0\0\0\x06\0\0\0\x01\0\0\0\x02\0\0\0\x04\0\0\0\x01\0\x50\x80\0";
+
+/// The reply to that, what is sent last then, and what was put in a job that is done.
+type Answer = (&'static [u8], &'static [u8], Option<(i32, i32, u32)>);
+
+/// Without RELOAD_OPTIONS and with it.
+const ANSWERS: &[Answer] = &[
+    (
+        b"\0\0\0\0\0\0\0\x05\0\0\0\x02\0\0\0\x04\0\0\0\x01\0\x51\0\0\0\0\0\0",
+        b"\0\0\0\x03\0\0\0\x02\0\0\0\x0a",
+        Some((0x508000, 0x510000, 5)),
+    ),
+    (
+        b"\0\0\0\0\0\0\0\x07\0\0\0\x02\0\0\0\x04\0\0\0\x01\0\x51\0\0\0\0\0\0",
+        b"\0\0\0\x04\0\0\0\x02",
+        None,
+    ),
+];
+
 /// 80.5 is put as option 6 and given as 81; after RELOAD_OPTIONS the descriptors are asked for again.
 #[test]
 fn settings(rt: HostRuntime) {
     let table = options(&rt, rt.alloc(), 6, b"br-x", 2);
-    let put_sent: &[u8] =
-        b"\0\0\0\x05\0\0\0\x02\0\0\0\x06\0\0\0\x01\0\0\0\x02\0\0\0\x04\0\0\0\x01\0\x50\x80\0";
-    for (given, next, wanted) in [
-        (
-            b"\0\0\0\0\0\0\0\x05\0\0\0\x02\0\0\0\x04\0\0\0\x01\0\x51\0\0\0\0\0\0".as_slice(),
-            b"\0\0\0\x03\0\0\0\x02\0\0\0\x0a".as_slice(),
-            Some((0x508000, 0x510000, 5)),
-        ),
-        (
-            b"\0\0\0\0\0\0\0\x07\0\0\0\x02\0\0\0\x04\0\0\0\x01\0\x51\0\0\0\0\0\0",
-            b"\0\0\0\x04\0\0\0\x02",
-            None,
-        ),
-    ] {
+    for (given, next, wanted) in ANSWERS {
         let played = set(&rt, rt.alloc(), &table, given);
-        assert!(&rt; contains(&played.sent, put_sent));
+        assert!(&rt; contains(&played.sent, SET_SENT));
         assert!(&rt; played.sent.ends_with(next));
         assert!(&rt; is_done(played.client.outcome()) == wanted.is_some());
-        assert!(&rt; put(played.client.outcome()) == wanted);
+        assert!(&rt; put(played.client.outcome()) == *wanted);
         drop(played);
     }
 }
@@ -250,20 +266,23 @@ pub(super) const PAGES: &[Comes<'static>] = &[
     Comes::Control(b"\0\0\0\x07\0\0\0\0\0\0\x12\x34\0\0\0\0"),
 ];
 
+/// The most pages of a batch, how many parts of the two pages come, and what is sent last.
+const FED: &[(u32, usize, &[u8])] = &[
+    (
+        16,
+        10,
+        b"\0\0\0\x07\0\0\0\x02\0\0\0\x03\0\0\0\x02\0\0\0\x0a",
+    ),
+    (2, 9, b"\0\0\0\x06\0\0\0\x02\0\0\0\x03\0\0\0\x02\0\0\0\x0a"),
+];
+
 /// Each page of a batch is a file of its own, and the next is asked for once the file before was taken.
 #[test]
 fn batches(rt: HostRuntime) {
     let files = b"P5\n# SANE data follows\n1 1\n255\n\x07P5\n# SANE data follows\n1 1\n255\n\x09";
-    for (count, parts, end) in [
-        (
-            16,
-            10,
-            b"\0\0\0\x07\0\0\0\x02\0\0\0\x03\0\0\0\x02\0\0\0\x0a",
-        ),
-        (2, 9, b"\0\0\0\x06\0\0\0\x02\0\0\0\x03\0\0\0\x02\0\0\0\x0a"),
-    ] {
-        let script = PAGES.get(..parts).expect(&rt, "parts of the batch");
-        both_ways(&rt, rt.alloc(), Task::Batch(count), script, files, end);
+    for (count, parts, end) in FED {
+        let script = PAGES.get(..*parts).expect(&rt, "parts of the batch");
+        both_ways(&rt, rt.alloc(), Task::Batch(*count), script, files, end);
     }
 }
 
@@ -276,6 +295,17 @@ fn is_taken(client: &mut Client, size: usize, taken: usize, sent: &[u8], file: u
     given == taken && out.get(..count) == Some(sent) && client.file_number() == file
 }
 
+/// The START of the next page.
+const NEXT: &[u8] = b"\0\0\0\x07\0\0\0\x02";
+
+/// By the room for the file: what it takes, what is sent then, and the number of the file.
+const TAKEN: &[(usize, usize, &[u8], u32)] = &[
+    (31, 31, &[], 1),
+    (0, 0, &[], 1),
+    (31, 1, NEXT, 2),
+    (31, 0, &[], 2),
+];
+
 /// The START of the next page goes out in the call that gives the last byte of the file before, and not sooner.
 #[test]
 fn a_page_is_asked_for_once_the_file_was_taken(rt: HostRuntime) {
@@ -286,15 +316,8 @@ fn a_page_is_asked_for_once_the_file_was_taken(rt: HostRuntime) {
         feed(&mut played.client, *comes, comes.bytes());
     }
     let _ = played.client.take_out(&mut [0; 256]);
-    let start: &[u8] = b"\0\0\0\x07\0\0\0\x02";
-    // By the room for the file: what it takes, what is sent then, and the number of the file.
-    for (size, taken, sent, file) in [
-        (31usize, 31usize, [].as_slice(), 1u32),
-        (0, 0, &[], 1),
-        (31, 1, start, 2),
-        (31, 0, &[], 2),
-    ] {
-        assert!(&rt; is_taken(&mut played.client, size, taken, sent, file));
+    for (size, taken, sent, file) in TAKEN {
+        assert!(&rt; is_taken(&mut played.client, *size, *taken, sent, *file));
     }
     drop(played);
 }

@@ -2,7 +2,7 @@ use super::jobs::{ASKS, COLORS, PAGES, options};
 use super::*;
 
 /// How a job ends by a reply of each status, and of a word that is none.
-const ENDINGS: [(u8, Option<(Status, Why)>); 13] = [
+const ENDINGS: &[(u8, Option<(Status, Why)>)] = &[
     (0, None),
     (1, Some((Status::Unsupported, Why::Answer))),
     (2, Some((Status::Cancelled, Why::Answer))),
@@ -24,14 +24,14 @@ fn expect_status(
     alloc: Global,
     job: Job,
     before: &[Comes<'_>],
-    reply: [Comes<'_>; 2],
+    reply: &[Comes<'_>],
     wanted: Option<(Status, Why)>,
 ) {
     let mut played = play(rt, alloc, job, before, usize::MAX, usize::MAX);
     let sent = played.sent.len();
     let files = played.files.len();
     for comes in reply {
-        come(rt, &mut played, comes, usize::MAX, usize::MAX);
+        come(rt, &mut played, *comes, usize::MAX, usize::MAX);
     }
     assert!(rt; ended(played.client.outcome()) == wanted);
     let is_quiet = played.sent.len() == sent && played.files.len() == files;
@@ -50,12 +50,12 @@ fn expect_each(
 ) {
     for (code, ending) in ENDINGS {
         // A tray that runs out ends a batch that has a page.
-        let is_all = task == Task::Batch(3) && code == 7;
-        let wanted = if is_all { None } else { ending };
-        let word = [0, 0, 0, code];
+        let is_all = task == Task::Batch(3) && *code == 7;
+        let wanted = if is_all { None } else { *ending };
+        let word = [0, 0, 0, *code];
         let reply = [Comes::Control(&word), Comes::Control(rest)];
         let given = job(rt, alloc, settings, task);
-        expect_status(rt, alloc, given, before, reply, wanted);
+        expect_status(rt, alloc, given, before, &reply, wanted);
     }
 }
 
@@ -78,19 +78,30 @@ fn expect_values<'a>(rt: &impl Abort, alloc: Global, set: &'a [u8], get: &'a [u8
     expect_each(rt, alloc, Task::Show, &[], &getting, value);
 }
 
-/// The rest of each reply behind its status, and the job and the parts before it.
+/// A job's task, what comes, how many parts of that come before a reply, and the reply, which begins with its status.
+type Reply = (Task, &'static [Comes<'static>], usize, &'static [u8]);
+
+/// Each reply that begins with a status, but for those to SET and to GET.
+const REPLIES: &[Reply] = &[
+    (Task::Scan, SCAN, 0, GREETED),
+    (Task::List, SCAN, 1, b"\0\0\0\0\0\0\0\0"),
+    (Task::Scan, SCAN, 1, OPENED),
+    (Task::Scan, ASKS, 3, OPENED),
+    (Task::Scan, SCAN, 3, STARTED),
+    (Task::Scan, COLORS, 6, STARTED),
+    (Task::Batch(3), PAGES, 6, STARTED),
+    (Task::Scan, SCAN, 4, ONE_GRAY),
+];
+
+/// Each reply with each status in the place of its own.
 #[test]
 fn each_reply_with_each_status(rt: HostRuntime) {
     let alloc = rt.alloc();
-    let opened = b"\0\0\0\x02\0\0\0\0";
-    expect_each(&rt, alloc, Task::Scan, &[], &[], b"\x01\0\0\x03");
-    expect_each(&rt, alloc, Task::List, &[], &SCAN[..1], b"\0\0\0\0");
-    expect_each(&rt, alloc, Task::Scan, &[], &SCAN[..1], opened);
-    expect_each(&rt, alloc, Task::Scan, &[], &ASKS[..3], opened);
-    expect_each(&rt, alloc, Task::Scan, &[], &SCAN[..3], &STARTED[4..]);
-    expect_each(&rt, alloc, Task::Scan, &[], &COLORS[..6], &STARTED[4..]);
-    expect_each(&rt, alloc, Task::Batch(3), &[], &PAGES[..6], &STARTED[4..]);
-    expect_each(&rt, alloc, Task::Scan, &[], &SCAN[..4], &ONE_GRAY[4..]);
+    for (task, script, parts, reply) in REPLIES {
+        let before = script.get(..*parts).expect(&rt, "parts before it");
+        let rest = reply.get(4..).expect(&rt, "a rest");
+        expect_each(&rt, alloc, *task, &[], before, rest);
+    }
     let set = options(&rt, alloc, 6, b"br-x", 2);
     let get = options(&rt, alloc, 0, b"resolution", 1);
     expect_values(&rt, alloc, &set, &get);
@@ -100,21 +111,21 @@ fn each_reply_with_each_status(rt: HostRuntime) {
 /// The reply to AUTHORIZE is a word without meaning, whatever it is; an end record says how the frame ended.
 fn expect_words_of_no_status(rt: &impl Abort, alloc: Global) {
     for (code, ending) in ENDINGS {
-        let word = [0, 0, 0, code];
+        let word = [0, 0, 0, *code];
         let reply = [Comes::Control(&word), Comes::Control(&[])];
         let asked = job(rt, alloc, &[], Task::Scan);
-        expect_status(rt, alloc, asked, &ASKS[..2], reply, None);
-        let wanted = match code {
+        expect_status(rt, alloc, asked, &ASKS[..2], &reply, None);
+        let wanted = match *code {
             0 => Some((Status::IoError, Why::Malformed)),
             5 => None,
-            _ => ending,
+            _ => *ending,
         };
-        let byte = [code];
+        let byte = [*code];
         let end = [
             Comes::Data(b"\0\0\0\x01\x0a\xff\xff\xff\xff"),
             Comes::Data(&byte),
         ];
         let scan = job(rt, alloc, &[], Task::Scan);
-        expect_status(rt, alloc, scan, &SCAN[..5], end, wanted);
+        expect_status(rt, alloc, scan, &SCAN[..5], &end, wanted);
     }
 }

@@ -1,5 +1,8 @@
 use super::*;
 
+/// How most of these scans end.
+const BAD: Status = Status::IoError;
+
 /// Parameters of a red frame that is the last.
 const RED_ALONE: &[u8] = b"\0\0\0\0\0\0\0\x02\0\0\0\x01\0\0\0\x01\0\0\0\x01\0\0\0\x01\0\0\0\x08";
 
@@ -26,10 +29,10 @@ fn expect_end(
     status: Status,
     why: Why,
 ) {
-    for size in [usize::MAX, 1] {
+    for size in SIZES {
         let scan = job(rt, alloc, &[], Task::Scan);
-        let mut played = play(rt, alloc, scan, before, size, usize::MAX);
-        come(rt, &mut played, last, size, usize::MAX);
+        let mut played = play(rt, alloc, scan, before, *size, usize::MAX);
+        come(rt, &mut played, last, *size, usize::MAX);
         assert!(rt; is_ended(&played, status, why));
         drop(played);
     }
@@ -48,73 +51,88 @@ fn expect_end_behind(
     expect_end(rt, alloc, parts, Comes::Control(reply), status, why);
 }
 
+/// Behind how many parts of a scan a reply comes, the reply, and how the scan ends by it.
+type Strange = (usize, &'static [u8], Status, Why);
+
+/// Before a frame is asked for.
+const EARLY: &[Strange] = &[
+    (0, b"\0\0\0\x0c\x01\0\0\x03", BAD, Why::Malformed),
+    (0, b"\0\0\0\x09\x01\0\0\x03", BAD, Why::Answer),
+    (
+        1,
+        b"\0\0\0\x03\0\0\0\0\0\0\0\0",
+        Status::DeviceBusy,
+        Why::Answer,
+    ),
+    (1, b"\0\0\0\0\0\0\0\0\0\0\0\x01b", BAD, Why::Malformed),
+    (2, b"\0\0\0\x01\0\0\0\x01", BAD, Why::Malformed),
+];
+
+/// Where a frame is asked for.
+const OF_FRAMES: &[Strange] = &[
+    (
+        3,
+        b"\0\0\0\0\0\x01\0\0\0\0\x12\x34\0\0\0\0",
+        BAD,
+        Why::Malformed,
+    ),
+    (
+        3,
+        b"\0\0\0\x07\0\0\0\0\0\0\x12\x34\0\0\0\0",
+        Status::NoDocs,
+        Why::Answer,
+    ),
+    (
+        3,
+        b"\0\0\0\x04\0\0\0\0\0\0\x12\x34\0\0\0\x02a\0",
+        BAD,
+        Why::Malformed,
+    ),
+    (4, RED_ALONE, BAD, Why::Malformed),
+];
+
+/// A scan ends so by each of these replies.
+fn expect_strange(rt: &impl Abort, alloc: Global, replies: &[Strange]) {
+    for (before, bytes, status, why) in replies {
+        expect_end_behind(rt, alloc, *before, bytes, *status, *why);
+    }
+}
+
 /// Replies that no daemon of ours sends, before a frame is asked for, behind so many parts of a scan.
 #[test]
 fn strangers(rt: HostRuntime) {
-    let bad = Status::IoError;
-    for (before, bytes, status, why) in [
-        (
-            0usize,
-            b"\0\0\0\x0c\x01\0\0\x03".as_slice(),
-            bad,
-            Why::Malformed,
-        ),
-        (0, b"\0\0\0\x09\x01\0\0\x03", bad, Why::Answer),
-        (
-            1,
-            b"\0\0\0\x03\0\0\0\0\0\0\0\0",
-            Status::DeviceBusy,
-            Why::Answer,
-        ),
-        (1, b"\0\0\0\0\0\0\0\0\0\0\0\x01b", bad, Why::Malformed),
-        (2, b"\0\0\0\x01\0\0\0\x01", bad, Why::Malformed),
-    ] {
-        expect_end_behind(&rt, rt.alloc(), before, bytes, status, why);
-    }
+    expect_strange(&rt, rt.alloc(), EARLY);
 }
 
 /// The same where a frame is asked for.
 #[test]
 fn strange_frames(rt: HostRuntime) {
-    let bad = Status::IoError;
-    for (before, bytes, status, why) in [
-        (
-            3usize,
-            b"\0\0\0\0\0\x01\0\0\0\0\x12\x34\0\0\0\0".as_slice(),
-            bad,
-            Why::Malformed,
-        ),
-        (
-            3,
-            b"\0\0\0\x07\0\0\0\0\0\0\x12\x34\0\0\0\0",
-            Status::NoDocs,
-            Why::Answer,
-        ),
-        (
-            3,
-            b"\0\0\0\x04\0\0\0\0\0\0\x12\x34\0\0\0\x02a\0",
-            bad,
-            Why::Malformed,
-        ),
-        (4, RED_ALONE, bad, Why::Malformed),
-    ] {
-        expect_end_behind(&rt, rt.alloc(), before, bytes, status, why);
-    }
+    expect_strange(&rt, rt.alloc(), OF_FRAMES);
 }
+
+/// What comes on a data connection, and how the scan ends by it.
+const DATA: &[(Comes<'static>, Status, Why)] = &[
+    (Comes::Data(b"\xff\xff\xff\xff\0"), BAD, Why::Malformed),
+    (Comes::Data(b"\xff\xff\xff\xff\x0c"), BAD, Why::Malformed),
+    (
+        Comes::Data(b"\xff\xff\xff\xff\x06"),
+        Status::Jammed,
+        Why::Answer,
+    ),
+    (Comes::Data(b"\xff\xff\xff\xff\x05"), BAD, Why::Short),
+    (
+        Comes::Data(b"\0\0\0\x02\x01\x02\xff\xff\xff\xff\x05"),
+        BAD,
+        Why::Long,
+    ),
+];
 
 /// The same of a data connection.
 #[test]
 fn strange_data(rt: HostRuntime) {
-    let bad = Status::IoError;
     let parts = SCAN.get(..5).expect(&rt, "parts of the scan");
-    for (bytes, status, why) in [
-        (b"\xff\xff\xff\xff\0".as_slice(), bad, Why::Malformed),
-        (b"\xff\xff\xff\xff\x0c", bad, Why::Malformed),
-        (b"\xff\xff\xff\xff\x06", Status::Jammed, Why::Answer),
-        (b"\xff\xff\xff\xff\x05", bad, Why::Short),
-        (b"\0\0\0\x02\x01\x02\xff\xff\xff\xff\x05", bad, Why::Long),
-    ] {
-        expect_end(&rt, rt.alloc(), parts, Comes::Data(bytes), status, why);
+    for (last, status, why) in DATA {
+        expect_end(&rt, rt.alloc(), parts, *last, *status, *why);
     }
 }
 

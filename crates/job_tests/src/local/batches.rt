@@ -154,16 +154,15 @@ fn gives_none(
     drop(shelf);
 }
 
+/// The most pages of a batch, the grays of its pages, and those of the batch behind it.
+const TRAYS: &[(u32, &[u8], &[u8])] = &[(16, &[7, 9], &[]), (2, &[7, 9], &[]), (1, &[7], &[9])];
+
 #[test]
 fn pages_of_a_tray(rt: HostRuntime) {
     let alloc = rt.alloc();
     let none = Status::NoDocs;
-    for (count, first, rest) in [
-        (16, [7u8, 9].as_slice(), [].as_slice()),
-        (2, &[7, 9], &[]),
-        (1, &[7], &[9u8]),
-    ] {
-        let batch = Task::Batch(count);
+    for (count, first, rest) in TRAYS {
+        let batch = Task::Batch(*count);
         let mut device = feeder(&rt, alloc, &[7, 9]);
         gives(&rt, alloc, &mut device, batch, first);
         // What is left is a batch of its own, and where nothing is there is no page.
@@ -176,12 +175,14 @@ fn pages_of_a_tray(rt: HostRuntime) {
     }
 }
 
+/// The grays of sixteen pages.
+const SIXTEEN: &[u8] = &[1, 2, 3, 4, 5, 6, 7, 8, 9, 10, 11, 12, 13, 14, 15, 16];
+
 #[test]
 fn sixteen_pages(rt: HostRuntime) {
     let alloc = rt.alloc();
-    let grays = [1u8, 2, 3, 4, 5, 6, 7, 8, 9, 10, 11, 12, 13, 14, 15, 16];
-    let mut device = feeder(&rt, alloc, &grays);
-    gives(&rt, alloc, &mut device, Task::Batch(16), &grays);
+    let mut device = feeder(&rt, alloc, SIXTEEN);
+    gives(&rt, alloc, &mut device, Task::Batch(16), SIXTEEN);
     // A page on glass is there for each.
     let mut flatbed = flatbed_on(&rt, alloc, b"P5\n1 1\n255\n\x05", 26);
     gives(&rt, alloc, &mut flatbed, Task::Batch(3), &[5, 5, 5]);
@@ -201,7 +202,7 @@ fn second_fails(rt: &impl Abort, alloc: Global, fails: u64) -> Feeder {
 #[test]
 fn a_page_that_fails(rt: HostRuntime) {
     let alloc = rt.alloc();
-    for fails in [1, 2] {
+    for fails in 1..3u64 {
         let mut device = second_fails(&rt, alloc, fails);
         let mut shelf = empty_drawer(alloc, 0, 0);
         let outcome = batch(&rt, alloc, &mut device, Task::Batch(16), &mut shelf);
@@ -228,16 +229,18 @@ fn rows_that_fail(rt: &impl Abort, alloc: Global, calls: &[u64]) -> Feeder {
     feeder_of(rt, alloc, pages)
 }
 
+/// The settings that show a page of two rows as it is, a byte a read.
+const BY_BYTES: &[(&[u8], &[u8])] = &[
+    (b"resolution", b"26"),
+    (b"br-x", b"1"),
+    (b"br-y", b"2"),
+    (b"read-limit-size", b"1"),
+];
+
 /// Batches of so many pages of two rows, read a byte at a time, end by the fault of a page.
 fn fails_in_rows(rt: &impl Abort, alloc: Global, calls: &[u64], count: u32, shelf: &mut Drawer) {
     let mut device = rows_that_fail(rt, alloc, calls);
-    let settings: &[(&[u8], &[u8])] = &[
-        (b"resolution", b"26"),
-        (b"br-x", b"1"),
-        (b"br-y", b"2"),
-        (b"read-limit-size", b"1"),
-    ];
-    let given = job(rt, alloc, settings, Task::Batch(count));
+    let given = job(rt, alloc, BY_BYTES, Task::Batch(count));
     let outcome = run_local_batch(alloc, &mut device, &given, shelf);
     ends(rt, &outcome, Status::IoError, Why::Answer);
     drop(outcome);
@@ -306,21 +309,27 @@ fn is_no_job_of_one_file(rt: &impl Abort, alloc: Global, device: &mut dyn Device
     drop(outcome);
 }
 
+/// Tasks that are no batch, and the grays of their files.
+const NO_BATCH: &[(Task, &[u8])] = &[
+    (Task::List, &[]),
+    (Task::Show, &[]),
+    (Task::SetOnly, &[]),
+    (Task::Scan, &[7]),
+];
+
+/// A batch of no page, and one of too many.
+const BAD_COUNTS: &[u32] = &[0, 17];
+
 #[test]
 fn jobs_that_are_no_batch(rt: HostRuntime) {
     let alloc = rt.alloc();
     let mut device = feeder(&rt, alloc, &[7, 9]);
-    for (task, grays) in [
-        (Task::List, [].as_slice()),
-        (Task::Show, &[]),
-        (Task::SetOnly, &[]),
-        (Task::Scan, &[7]),
-    ] {
-        gives(&rt, alloc, &mut device, task, grays);
+    for (task, grays) in NO_BATCH {
+        gives(&rt, alloc, &mut device, *task, grays);
     }
     // A batch of no page, or of too many, is refused, and so is a batch with an output for one file.
-    for count in [0, 17] {
-        let batch = Task::Batch(count);
+    for count in BAD_COUNTS {
+        let batch = Task::Batch(*count);
         gives_none(&rt, alloc, &mut device, batch, Status::Inval, Why::Setting);
     }
     is_no_job_of_one_file(&rt, alloc, &mut device);
@@ -331,14 +340,16 @@ fn jobs_that_are_no_batch(rt: HostRuntime) {
     drop(device);
 }
 
+/// The first read answers that there is no page.
+const NO_DOCS: &[(&[u8], &[u8])] = &[(b"read-return-value", b"SANE_STATUS_NO_DOCS")];
+
 /// What the first read of a frame answers is no end of the pages.
 #[test]
 fn no_page_told_by_a_read(rt: HostRuntime) {
     let alloc = rt.alloc();
     let mut device = feeder(&rt, alloc, &[7, 9]);
     let mut shelf = empty_drawer(alloc, 0, 0);
-    let settings: &[(&[u8], &[u8])] = &[(b"read-return-value", b"SANE_STATUS_NO_DOCS")];
-    let both = job(&rt, alloc, settings, Task::Batch(2));
+    let both = job(&rt, alloc, NO_DOCS, Task::Batch(2));
     let outcome = run_local_batch(alloc, &mut device, &both, &mut shelf);
     ends(&rt, &outcome, Status::NoDocs, Why::Answer);
     assert!(&rt; shelf.opens == 0);

@@ -106,41 +106,59 @@ fn rounded(reports: &Reports) -> Option<(i32, i32, bool)> {
     }
 }
 
+/// A name and what it is set to.
+type Setting = (&'static [u8], &'static [u8]);
+
+/// A resolution, and as what number it is asked for and given.
+const RESOLUTIONS: &[(&[Setting], i32, i32)] = &[
+    (&[(b"resolution", b"125")], 125, 100),
+    (&[(b"resolution", b"5000")], 5000, 300),
+    (&[(b"resolution", b"150")], 150, 150),
+];
+
 #[test]
 fn resolutions_of_a_hand_scanner(rt: HostRuntime) {
     let alloc = rt.alloc();
     let mut device = hand(&rt, alloc, b"P5\n1 1\n255\n\x00", 75);
-    for (text, asked, given) in [
-        (b"125".as_slice(), 125, 100),
-        (b"5000", 5000, 300),
-        (b"150", 150, 150),
-    ] {
-        let (reports, _) = scanned(&rt, alloc, &mut device, &[(b"resolution", text)]);
-        assert!(&rt; rounded(&reports) == Some((asked, given, asked != given)));
+    for (settings, asked, given) in RESOLUTIONS {
+        let (reports, _) = scanned(&rt, alloc, &mut device, settings);
+        assert!(&rt; rounded(&reports) == Some((*asked, *given, *asked != *given)));
         drop(reports);
     }
     drop(device);
 }
+
+/// A resolution, and how the file of seven rows at 113 dots per inch begins: 7 * 75 / 113 is 4.6, 7 * 100 / 113 is 6.2, 9.3,
+/// and 18.6.
+const HEADS: &[(&[Setting], &[u8])] = &[
+    (
+        &[(b"resolution", b"75")],
+        b"P5\n# SANE data follows\n324 5\n255\n",
+    ),
+    (
+        &[(b"resolution", b"100")],
+        b"P5\n# SANE data follows\n433 7\n255\n",
+    ),
+    (
+        &[(b"resolution", b"150")],
+        b"P5\n# SANE data follows\n649 10\n255\n",
+    ),
+    (
+        &[(b"resolution", b"300")],
+        b"P5\n# SANE data follows\n1299 19\n255\n",
+    ),
+];
 
 /// At each resolution of a hand scanner: 110 mm are so many dots, and line y shows the page's row
 /// floor(y * dpi / resolution), as long as there is one.
 #[test]
 fn odd_pages_by_hand(rt: HostRuntime) {
     let alloc = rt.alloc();
-    for (resolution, head) in [
-        (
-            b"75".as_slice(),
-            b"P5\n# SANE data follows\n324 5\n255\n".as_slice(),
-        ),
-        (b"100", b"P5\n# SANE data follows\n433 7\n255\n"),
-        (b"150", b"P5\n# SANE data follows\n649 10\n255\n"),
-        (b"300", b"P5\n# SANE data follows\n1299 19\n255\n"),
-    ] {
-        // Seven rows at 113 dots per inch: 7 * 75 / 113 is 4.6, 7 * 100 / 113 is 6.2, 9.3, and 18.6.
+    for (settings, head) in HEADS {
         let page = b"P5\n1 7\n255\n\x00\x01\x02\x03\x04\x05\x06";
         let mut device = hand(&rt, alloc, page, 113);
-        let (reports, file) = scanned(&rt, alloc, &mut device, &[(b"resolution", resolution)]);
-        assert!(&rt; file.get(..head.len()) == Some(head));
+        let (reports, file) = scanned(&rt, alloc, &mut device, settings);
+        assert!(&rt; file.get(..head.len()) == Some(*head));
         drop(reports);
         drop(device);
     }
@@ -164,27 +182,35 @@ fn in_order(order: &[u8]) -> [(&[u8], &[u8]); 6] {
     ]
 }
 
+/// The orders of the bytes of a word.
+const BYTE_ORDERS: &[ByteOrder] = &[ByteOrder::Big, ByteOrder::Little];
+
+/// The orders of the passes.
+const ORDERS: &[&[u8]] = &[b"RGB", b"RBG", b"GBR", b"GRB", b"BRG", b"BGR"];
+
 #[test]
 fn passes_in_any_order_and_byte_order(rt: HostRuntime) {
     let alloc = rt.alloc();
-    for bytes in [ByteOrder::Big, ByteOrder::Little] {
-        for order in [b"RGB".as_slice(), b"RBG", b"GBR", b"GRB", b"BRG", b"BGR"] {
+    for bytes in BYTE_ORDERS {
+        for order in ORDERS {
             let page = source(&rt, alloc, TWO_PLACES, 26);
-            let mut device = three_pass(&rt, alloc, page, bytes);
+            let mut device = three_pass(&rt, alloc, page, *bytes);
             writes(&rt, alloc, &mut device, &in_order(order), TWO_PLACES_FILE);
             drop(device);
         }
     }
 }
 
+/// The settings that show two places in gray as they are.
+const TWO_GRAYS: &[Setting] = &[(b"resolution", b"26"), (b"br-x", b"2"), (b"br-y", b"1")];
+
 #[test]
 fn one_pass_of_grays(rt: HostRuntime) {
     let alloc = rt.alloc();
     let page = source(&rt, alloc, b"P5\n2 1\n255\n\x07\x09", 26);
     let mut device = three_pass(&rt, alloc, page, ByteOrder::Big);
-    let settings: [(&[u8], &[u8]); 3] = [(b"resolution", b"26"), (b"br-x", b"2"), (b"br-y", b"1")];
     let want = b"P5\n# SANE data follows\n2 1\n255\n\x07\x09";
-    writes(&rt, alloc, &mut device, &settings, want);
+    writes(&rt, alloc, &mut device, TWO_GRAYS, want);
     drop(device);
 }
 

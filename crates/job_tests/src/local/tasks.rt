@@ -44,16 +44,17 @@ fn is_of_flatbed(reports: &Reports) -> bool {
         && reports.options.as_slice().is_empty()
 }
 
+/// A name and what it is set to.
+type Setting = (&'static [u8], &'static [u8]);
+
+/// A setting of no option, and another.
+const IGNORED: &[Setting] = &[(b"none", b"1"), (b"resolution", b"100")];
+
 #[test]
 fn a_list_has_the_device(rt: HostRuntime) {
     let alloc = rt.alloc();
     let mut device = flatbed_on(&rt, alloc, TWO_ROWS, 26);
-    // A setting of no option and another are ignored.
-    let settings = [
-        (b"none".as_slice(), b"1".as_slice()),
-        (b"resolution", b"100"),
-    ];
-    let (outcome, file) = run(&rt, alloc, &mut device, &settings, Task::List);
+    let (outcome, file) = run(&rt, alloc, &mut device, IGNORED, Task::List);
     let reports = done(&rt, outcome);
     assert!(&rt; is_of_flatbed(&reports) && file.is_empty());
     stands_at(&rt, alloc, &device, 50);
@@ -62,7 +63,7 @@ fn a_list_has_the_device(rt: HostRuntime) {
 }
 
 /// The names of a flatbed's options.
-const NAMES: [&[u8]; 15] = [
+const NAMES: &[&[u8]] = &[
     b"",
     b"mode",
     b"depth",
@@ -85,25 +86,33 @@ fn has_options(rt: &impl Abort, reports: &Reports) {
     let options = reports.options.as_slice();
     assert!(rt; options.len() == NAMES.len());
     for ((desc, _), name) in options.iter().zip(NAMES) {
-        assert!(rt; desc.name.as_bytes() == name);
+        assert!(rt; desc.name.as_bytes() == *name);
     }
 }
+
+/// The depth and the mode that are shown.
+const SHOWN: &[Setting] = &[(b"depth", b"16"), (b"mode", b"gr")];
+
+/// The numbers of options, and the integers that they tell.
+const INTS: &[(usize, i32)] = &[(0, 15), (2, 16), (3, 50), (10, 65536)];
+
+/// The same of texts.
+const TEXTS: &[(usize, &[u8])] = &[(1, b"Gray"), (11, b"Default")];
 
 #[test]
 fn options_are_shown_after_the_settings(rt: HostRuntime) {
     let alloc = rt.alloc();
     let mut device = flatbed_on(&rt, alloc, TWO_ROWS, 26);
-    let settings = [(b"depth".as_slice(), b"16".as_slice()), (b"mode", b"gr")];
-    let (outcome, file) = run(&rt, alloc, &mut device, &settings, Task::Show);
+    let (outcome, file) = run(&rt, alloc, &mut device, SHOWN, Task::Show);
     let reports = done(&rt, outcome);
     assert!(&rt; reports.settings.as_slice().len() == 2);
     assert!(&rt; reports.devices.as_slice().is_empty() && file.is_empty());
     has_options(&rt, &reports);
-    for (n, word) in [(0, 15), (2, 16), (3, 50), (10, 65536)] {
-        assert!(&rt; int_told(&rt, &reports, n) == Some(word));
+    for (n, word) in INTS {
+        assert!(&rt; int_told(&rt, &reports, *n) == Some(*word));
     }
-    for (n, text) in [(1, b"Gray".as_slice()), (11, b"Default")] {
-        assert!(&rt; text_told(&rt, &reports, n) == text);
+    for (n, text) in TEXTS {
+        assert!(&rt; text_told(&rt, &reports, *n) == *text);
     }
     // The gamma table is inactive at depth 16, and has many values.
     assert!(&rt; told(&rt, &reports, 8).is_none());
@@ -111,16 +120,19 @@ fn options_are_shown_after_the_settings(rt: HostRuntime) {
     drop(device);
 }
 
+/// A setting that is refused, and why the job ends by it.
+const REFUSED: &[(&[Setting], Why)] = &[
+    (&[(b"mode", b"SANE")], Why::Answer),
+    (&[(b"none", b"1")], Why::Setting),
+];
+
 #[test]
 fn options_are_not_shown_after_a_refusal(rt: HostRuntime) {
     let alloc = rt.alloc();
     let mut device = flatbed_on(&rt, alloc, TWO_ROWS, 26);
-    for (name, value, why) in [
-        (b"mode".as_slice(), b"SANE".as_slice(), Why::Answer),
-        (b"none", b"1", Why::Setting),
-    ] {
-        let (outcome, _) = run(&rt, alloc, &mut device, &[(name, value)], Task::Show);
-        ends(&rt, &outcome, Status::Inval, why);
+    for (settings, why) in REFUSED {
+        let (outcome, _) = run(&rt, alloc, &mut device, settings, Task::Show);
+        ends(&rt, &outcome, Status::Inval, *why);
         drop(outcome);
     }
     drop(device);

@@ -43,14 +43,13 @@ fn flatbed(rt: &impl Abort, alloc: Global) -> Flatbed {
     }
 }
 
+/// The settings that show a page of one place as it is.
+const ONE_PLACE: &[(&[u8], &[u8])] = &[(b"resolution", b"26"), (b"br-x", b"1"), (b"br-y", b"1")];
+
 /// A scan of one place.
 fn job(rt: &impl Abort, alloc: Global) -> Job {
     let mut settings = Vec::new(alloc);
-    for (name, value) in [
-        (b"resolution".as_slice(), b"26".as_slice()),
-        (b"br-x", b"1"),
-        (b"br-y", b"1"),
-    ] {
+    for (name, value) in ONE_PLACE {
         let setting = (text(rt, alloc, name), text(rt, alloc, value));
         settings.push(setting).expect(rt, "memory");
     }
@@ -72,28 +71,28 @@ fn exit_of(done: &Result<Printed, Ending>) -> Option<(u8, bool)> {
     Some((ending.exit_status(), is_sink))
 }
 
+/// The number of the write that fails, the exit status then and whether it was the output, and what was written.
+const WRITES: &[(u32, Option<(u8, bool)>, &[u8])] = &[
+    (0, None, b"P5\n# SANE data follows\n1 1\n255\n\x0a"),
+    (1, Some((9, true)), b""),
+];
+
 /// The one write fails, and nothing is written after it.
 #[test]
 fn an_output_that_fails_once(rt: HostRuntime) {
     let alloc = rt.alloc();
-    for (fails, exit, file) in [
-        (
-            0,
-            None,
-            b"P5\n# SANE data follows\n1 1\n255\n\x0a".as_slice(),
-        ),
-        (1, Some((9, true)), b""),
-    ] {
+    for (fails, exit, file) in WRITES {
         let mut device = flatbed(&rt, alloc);
         let mut out = Once {
             taken: Vec::new(alloc),
             writes: 0,
-            fails,
+            fails: *fails,
         };
         let scan = job(&rt, alloc);
         let done = do_job(alloc, &mut device, &scan, &mut out);
-        assert!(&rt; exit_of(&done) == exit);
-        assert!(&rt; out.taken.as_slice() == file);
+        assert!(&rt; exit_of(&done) == *exit);
+        assert!(&rt; out.taken.as_slice() == *file);
+        drop(out);
         drop(done);
         drop(scan);
         drop(device);

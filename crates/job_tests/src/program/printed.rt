@@ -46,6 +46,22 @@ fn unread(rt: &impl Abort, alloc: Global) -> [(Ending, &'static [u8]); 4] {
     ]
 }
 
+/// How a job ended, the line that tells it, and the exit status.
+const ENDED: &[(Status, Why, &[u8], u8)] = &[
+    (
+        Status::Inval,
+        Why::Setting,
+        b"scanimage: SANE_STATUS_INVAL (setting)\n",
+        4,
+    ),
+    (
+        Status::NoMem,
+        Why::Memory,
+        b"scanimage: SANE_STATUS_NO_MEM (memory)\n",
+        10,
+    ),
+];
+
 #[test]
 fn endings(rt: HostRuntime) {
     let alloc = rt.alloc();
@@ -56,21 +72,10 @@ fn endings(rt: HostRuntime) {
         expect_told(&rt, alloc, ending, line, 65);
     }
     drop(unread);
-    for (status, why, line, exit) in [
-        (
-            Status::Inval,
-            Why::Setting,
-            b"scanimage: SANE_STATUS_INVAL (setting)\n".as_slice(),
-            4,
-        ),
-        (
-            Status::NoMem,
-            Why::Memory,
-            b"scanimage: SANE_STATUS_NO_MEM (memory)\n",
-            10,
-        ),
-    ] {
-        expect_told(&rt, alloc, &Ending::Ended(status, why), line, exit);
+    for (status, why, line, exit) in ENDED {
+        let ending = Ending::Ended(*status, *why);
+        expect_told(&rt, alloc, &ending, line, *exit);
+        drop(ending);
     }
 }
 
@@ -165,26 +170,25 @@ fn lines_of_options(rt: HostRuntime) {
     shows(&rt, alloc, free, Some(value), line);
 }
 
+/// The kind of an option that has no value to tell, what may be done with it, and its line.
+const UNTOLD: &[(Kind, Cap, &[u8])] = &[
+    (Kind::Int, Cap(5 + 32), b"    --name <int> [inactive]\n"),
+    (Kind::Fixed, Cap(1), b"    --name <fixed> [unknown]\n"),
+    (
+        Kind::Bool,
+        Cap(0),
+        b"    --name yes|no [unknown] [read-only]\n",
+    ),
+    (Kind::Group, Cap(0), b"  A title:\n"),
+    (Kind::Button, Cap(1), b"    --name\n"),
+];
+
 #[test]
 fn options_without_a_value_to_tell(rt: HostRuntime) {
     let alloc = rt.alloc();
-    for (kind, caps, line) in [
-        (
-            Kind::Int,
-            Cap(5 + 32),
-            b"    --name <int> [inactive]\n".as_slice(),
-        ),
-        (Kind::Fixed, Cap(1), b"    --name <fixed> [unknown]\n"),
-        (
-            Kind::Bool,
-            Cap(0),
-            b"    --name yes|no [unknown] [read-only]\n",
-        ),
-        (Kind::Group, Cap(0), b"  A title:\n"),
-        (Kind::Button, Cap(1), b"    --name\n"),
-    ] {
-        let mut desc = option(&rt, alloc, kind, Unit::None, 4, Constraint::Free);
-        desc.caps = caps;
+    for (kind, caps, line) in UNTOLD {
+        let mut desc = option(&rt, alloc, *kind, Unit::None, 4, Constraint::Free);
+        desc.caps = *caps;
         shows(&rt, alloc, desc, None, line);
     }
 }

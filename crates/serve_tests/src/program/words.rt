@@ -54,30 +54,32 @@ fn all_options(rt: HostRuntime) -> Result<(), Fail> {
     Ok(())
 }
 
+const BAD: &[&str] = &[
+    "",
+    "--port 1",
+    "--config",
+    "--config c x",
+    "--config c --config c",
+    "--config c --unknown",
+    "--config c --help",
+    "--config c -V",
+    "--config c --users u",
+    "--config c --port 65536",
+    "--config c --port -1",
+    "--config c --port x",
+    "--config c --byte-order Little",
+    "--config c --byte-order middle",
+    "--config c --sessions 1000000001",
+    "--config c --sessions 18446744073709551616",
+    "--config c --idle-turns 0",
+    "--config c --idle-turns 1000000001",
+    "--config c --idle-turns 1 --idle-turns 2",
+    "--conf c",
+];
+
 #[test]
 fn bad_command_lines(rt: HostRuntime) -> Result<(), Fail> {
-    for line in [
-        "",
-        "--port 1",
-        "--config",
-        "--config c x",
-        "--config c --config c",
-        "--config c --unknown",
-        "--config c --help",
-        "--config c -V",
-        "--config c --users u",
-        "--config c --port 65536",
-        "--config c --port -1",
-        "--config c --port x",
-        "--config c --byte-order Little",
-        "--config c --byte-order middle",
-        "--config c --sessions 1000000001",
-        "--config c --sessions 18446744073709551616",
-        "--config c --idle-turns 0",
-        "--config c --idle-turns 1000000001",
-        "--config c --idle-turns 1 --idle-turns 2",
-        "--conf c",
-    ] {
+    for line in BAD {
         match options(&rt, rt.alloc(), line) {
             Ok(_) => panic!(rt; "taken: {line}"),
             Err(why) => assert!(rt; why == OptionsFault::Bad),
@@ -85,6 +87,15 @@ fn bad_command_lines(rt: HostRuntime) -> Result<(), Fail> {
     }
     Ok(())
 }
+
+const NO_SEEDS: &[&[u8]] = &[
+    b"",
+    b"00",
+    b"000102030405060708090a0b0c0d0e0f101112131415161718191a1b1c1d1e1",
+    b"000102030405060708090a0b0c0d0e0f101112131415161718191a1b1c1d1e1f0",
+    b"000102030405060708090a0b0c0d0e0f101112131415161718191a1b1c1d1e1f00",
+    b"000102030405060708090a0b0c0d0e0f101112131415161718191a1b1c1d1e1g",
+];
 
 #[test]
 fn seeds(rt: HostRuntime) {
@@ -95,14 +106,7 @@ fn seeds(rt: HostRuntime) {
     for (i, byte) in seed.iter().enumerate() {
         assert!(rt; usize::from(*byte) == i);
     }
-    for text in [
-        b"".as_slice(),
-        b"00",
-        b"000102030405060708090a0b0c0d0e0f101112131415161718191a1b1c1d1e1",
-        b"000102030405060708090a0b0c0d0e0f101112131415161718191a1b1c1d1e1f0",
-        b"000102030405060708090a0b0c0d0e0f101112131415161718191a1b1c1d1e1f00",
-        b"000102030405060708090a0b0c0d0e0f101112131415161718191a1b1c1d1e1g",
-    ] {
+    for text in NO_SEEDS {
         assert!(rt; read_seed(text).is_none());
     }
 }
@@ -148,11 +152,14 @@ fn texts_of_endings(rt: HostRuntime) -> Result<(), Fail> {
     Ok(())
 }
 
+/// How much may be read of `abc`, and what is.
+const FRONTS: &[(u64, &[u8])] = &[(0, b""), (2, b"ab"), (3, b"abc"), (9, b"abc")];
+
 #[test]
 fn texts_are_read_to_their_limit(rt: HostRuntime) -> Result<(), Fail> {
-    for (most, wanted) in [(0, b"".as_slice()), (2, b"ab"), (3, b"abc"), (9, b"abc")] {
-        let text = text_of(rt.alloc(), b"abc".as_slice(), most)?;
-        assert!(rt; text.as_slice() == wanted);
+    for (most, wanted) in FRONTS {
+        let text = text_of(rt.alloc(), b"abc".as_slice(), *most)?;
+        assert!(rt; text.as_slice() == *wanted);
     }
     Ok(())
 }

@@ -12,7 +12,6 @@ use saned_core::Daemon;
 use saned_serve::{ServeEnd, serve};
 use std::alloc::Global;
 use std::process::Abort;
-use std::test::Fail;
 
 /// A daemon of one flatbed.
 fn daemon(rt: &impl Abort, alloc: Global) -> Daemon<Flatbed> {
@@ -61,27 +60,37 @@ fn expect_free<R: Abort + Copy + Drop>(
     alloc: Global,
     daemon: &mut Daemon<Flatbed>,
     net: &mut MemoryNet<R>,
-) -> Result<(), Fail> {
+) {
     net.clients
-        .push(client(&rt, alloc, &[INIT, OPEN, START, EXIT]))?;
+        .push(client(&rt, alloc, &[INIT, OPEN, START, EXIT]))
+        .expect(&rt, "memory");
     assert!(rt; serve(alloc, daemon, net, 1, 1000) == ServeEnd::Sessions);
     let Some(last) = net.back.last() else {
         panic!(rt; "nothing came back")
     };
     expect_out(&rt, alloc, last, &[INIT_REPLY, OPEN_REPLY, START_REPLY]);
     assert!(rt; net.accepted == (net.back.len() as u64));
-    Ok(())
+}
+
+/// What a test is done with.
+fn let_go<R: Abort + Copy + Drop>(daemon: Daemon<Flatbed>, net: MemoryNet<R>) {
+    drop(net);
+    drop(daemon);
 }
 
 #[test]
-fn second_open_is_answered_while_a_frame_is_open(rt: HostRuntime) -> Result<(), Fail> {
+fn second_open_is_answered_while_a_frame_is_open(rt: HostRuntime) {
     let alloc = rt.alloc();
     let mut daemon = daemon(&rt, alloc);
     let mut net = MemoryNet::new(rt, alloc);
-    net.clients.push(client(&rt, alloc, &[INIT, OPEN]))?;
-    net.clients.push(client(&rt, alloc, &[INIT, OPEN, START]))?;
+    net.clients
+        .push(client(&rt, alloc, &[INIT, OPEN]))
+        .expect(&rt, "memory");
+    net.clients
+        .push(client(&rt, alloc, &[INIT, OPEN, START]))
+        .expect(&rt, "memory");
     // Of the one record, of 196 lines of 157 bytes, this takes five bytes.
-    net.images.push(image(&rt, alloc, 5))?;
+    net.images.push(image(&rt, alloc, 5)).expect(&rt, "memory");
     let end = serve(alloc, &mut daemon, &mut net, 0, 1000);
     assert!(rt; end == ServeEnd::Idle);
     assert!(rt; net.asked < 10_000);
@@ -92,22 +101,22 @@ fn second_open_is_answered_while_a_frame_is_open(rt: HostRuntime) -> Result<(), 
     assert!(rt; shown.out.as_slice() == b"\0\0\x78\x34\x07".as_slice());
     expect_out(&rt, alloc, first, &[INIT_REPLY, OPEN_REPLY, START_REPLY]);
     expect_out(&rt, alloc, second, &[INIT_REPLY, BUSY_REPLY]);
-    expect_free(rt, alloc, &mut daemon, &mut net)
+    expect_free(rt, alloc, &mut daemon, &mut net);
+    let_go(daemon, net);
 }
 
 /// A whole frame of one sample comes over sockets like these.
-fn expect_sample<R: Abort + Copy + Drop>(
-    rt: R,
-    alloc: Global,
-    piece: usize,
-    deaf: u64,
-) -> Result<(), Fail> {
+fn expect_sample<R: Abort + Copy + Drop>(rt: R, alloc: Global, piece: usize, deaf: u64) {
     let mut daemon = daemon(&rt, alloc);
     let mut net = MemoryNet::new(rt, alloc);
     let first = client(&rt, alloc, &[INIT, OPEN, ONE_SAMPLE, START]);
-    net.clients.push(first.by(piece).deaf(deaf))?;
+    net.clients
+        .push(first.by(piece).deaf(deaf))
+        .expect(&rt, "memory");
     let data = image(&rt, alloc, usize::MAX);
-    net.images.push(data.by(piece).deaf(deaf))?;
+    net.images
+        .push(data.by(piece).deaf(deaf))
+        .expect(&rt, "memory");
     let end = serve(alloc, &mut daemon, &mut net, 0, 200);
     assert!(rt; end == ServeEnd::Idle);
     assert!(rt; net.asked < 10_000);
@@ -121,103 +130,114 @@ fn expect_sample<R: Abort + Copy + Drop>(
         control,
         &[INIT_REPLY, OPEN_REPLY, SET_REPLIES, START_REPLY],
     );
-    expect_free(rt, alloc, &mut daemon, &mut net)
+    expect_free(rt, alloc, &mut daemon, &mut net);
+    let_go(daemon, net);
 }
 
 #[test]
-fn frame_over_sockets_that_move_all(rt: HostRuntime) -> Result<(), Fail> {
+fn frame_over_sockets_that_move_all(rt: HostRuntime) {
     expect_sample(rt, rt.alloc(), 65_540, 0)
 }
 
 #[test]
-fn frame_byte_by_byte(rt: HostRuntime) -> Result<(), Fail> {
+fn frame_byte_by_byte(rt: HostRuntime) {
     expect_sample(rt, rt.alloc(), 1, 0)
 }
 
 #[test]
-fn sockets_that_take_nothing_for_a_hundred_turns(rt: HostRuntime) -> Result<(), Fail> {
+fn sockets_that_take_nothing_for_a_hundred_turns(rt: HostRuntime) {
     expect_sample(rt, rt.alloc(), 65_540, 100)
 }
 
 #[test]
-fn idle_turns_are_counted_in_a_row(rt: HostRuntime) -> Result<(), Fail> {
+fn idle_turns_are_counted_in_a_row(rt: HostRuntime) {
     let alloc = rt.alloc();
     let mut daemon = daemon(&rt, alloc);
     let mut net = MemoryNet::new(rt, alloc);
     // Nothing moves in turns 2 to 51: too long.
-    net.clients.push(client(&rt, alloc, &[INIT]).deaf(100))?;
+    net.clients
+        .push(client(&rt, alloc, &[INIT]).deaf(100))
+        .expect(&rt, "memory");
     assert!(rt; serve(alloc, &mut daemon, &mut net, 0, 50) == ServeEnd::Idle);
     assert!(rt; net.asked == 51);
     let [control] = net.back.as_slice() else {
         panic!(rt; "other connections came back")
     };
     expect_out(&rt, alloc, control, &[]);
-    Ok(())
+    let_go(daemon, net);
 }
 
 #[test]
-fn lost_after_each_byte(rt: HostRuntime) -> Result<(), Fail> {
+fn lost_after_each_byte(rt: HostRuntime) {
     let alloc = rt.alloc();
     let script = joined(&rt, alloc, &[INIT, OPEN, START]);
     for k in 0..=script.len() {
         let mut daemon = daemon(&rt, alloc);
         let mut net = MemoryNet::new(rt, alloc);
         let front = script.get(..k).unwrap_or(b"");
-        net.clients.push(client(&rt, alloc, &[front]).by(1).cut())?;
-        net.images.push(image(&rt, alloc, 5))?;
+        net.clients
+            .push(client(&rt, alloc, &[front]).by(1).cut())
+            .expect(&rt, "memory");
+        net.images.push(image(&rt, alloc, 5)).expect(&rt, "memory");
         let end = serve(alloc, &mut daemon, &mut net, 1, 1000);
         assert!(rt; end == ServeEnd::Sessions);
         net.images.clear();
-        expect_free(rt, alloc, &mut daemon, &mut net)?;
+        expect_free(rt, alloc, &mut daemon, &mut net);
+        let_go(daemon, net);
     }
-    Ok(())
 }
 
 #[test]
-fn data_connection_lost_after_each_byte(rt: HostRuntime) -> Result<(), Fail> {
+fn data_connection_lost_after_each_byte(rt: HostRuntime) {
     let alloc = rt.alloc();
     for k in 0..SAMPLE.len() {
         let mut daemon = daemon(&rt, alloc);
         let mut net = MemoryNet::new(rt, alloc);
         net.clients
-            .push(client(&rt, alloc, &[INIT, OPEN, ONE_SAMPLE, START]))?;
-        net.images.push(image(&rt, alloc, k).cut())?;
+            .push(client(&rt, alloc, &[INIT, OPEN, ONE_SAMPLE, START]))
+            .expect(&rt, "memory");
+        net.images
+            .push(image(&rt, alloc, k).cut())
+            .expect(&rt, "memory");
         let end = serve(alloc, &mut daemon, &mut net, 0, 100);
         assert!(rt; end == ServeEnd::Idle);
         let [shown, _control] = net.back.as_slice() else {
             panic!(rt; "other connections came back")
         };
         assert!(rt; Some(shown.out.as_slice()) == SAMPLE.get(..k));
-        expect_free(rt, alloc, &mut daemon, &mut net)?;
+        expect_free(rt, alloc, &mut daemon, &mut net);
+        let_go(daemon, net);
     }
-    Ok(())
 }
 
 #[test]
-fn data_connection_that_never_comes(rt: HostRuntime) -> Result<(), Fail> {
+fn data_connection_that_never_comes(rt: HostRuntime) {
     let alloc = rt.alloc();
     let mut daemon = daemon(&rt, alloc);
     let mut net = MemoryNet::new(rt, alloc);
     net.clients
-        .push(client(&rt, alloc, &[INIT, OPEN, START, START]))?;
+        .push(client(&rt, alloc, &[INIT, OPEN, START, START]))
+        .expect(&rt, "memory");
     let end = serve(alloc, &mut daemon, &mut net, 0, 1000);
     assert!(rt; end == ServeEnd::Idle);
     assert!(rt; net.accepted == 1);
-    expect_free(rt, alloc, &mut daemon, &mut net)
+    expect_free(rt, alloc, &mut daemon, &mut net);
+    let_go(daemon, net);
 }
 
 /// Of what a client asks that takes no reply no more is read than at once, so its replies stay bounded.
 #[test]
-fn client_that_takes_no_reply_is_not_heard_on(rt: HostRuntime) -> Result<(), Fail> {
+fn client_that_takes_no_reply_is_not_heard_on(rt: HostRuntime) {
     let alloc = rt.alloc();
     let mut daemon = daemon(&rt, alloc);
     let mut net = MemoryNet::new(rt, alloc);
     let mut script = joined(&rt, alloc, &[INIT]);
     for _ in 0..3000 {
-        script.extend_from_slice(LIST)?;
+        script.extend_from_slice(LIST).expect(&rt, "memory");
     }
     net.clients
-        .push(MemorySocket::new(alloc, script.as_slice(), 0)?)?;
+        .push(MemorySocket::new(alloc, script.as_slice(), 0).expect(&rt, "memory"))
+        .expect(&rt, "memory");
     let end = serve(alloc, &mut daemon, &mut net, 0, 1000);
     assert!(rt; end == ServeEnd::Idle);
     let [back] = net.back.as_slice() else {
@@ -225,16 +245,18 @@ fn client_that_takes_no_reply_is_not_heard_on(rt: HostRuntime) -> Result<(), Fai
     };
     assert!(rt; back.heard() == 4096);
     expect_out(&rt, alloc, back, &[]);
-    Ok(())
+    let_go(daemon, net);
 }
 
 #[test]
-fn nine_clients(rt: HostRuntime) -> Result<(), Fail> {
+fn nine_clients(rt: HostRuntime) {
     let alloc = rt.alloc();
     let mut daemon = daemon(&rt, alloc);
     let mut net = MemoryNet::new(rt, alloc);
     for _ in 0..9 {
-        net.clients.push(client(&rt, alloc, &[INIT]))?;
+        net.clients
+            .push(client(&rt, alloc, &[INIT]))
+            .expect(&rt, "memory");
     }
     // The ninth is not taken while eight sessions stand.
     let end = serve(alloc, &mut daemon, &mut net, 0, 100);
@@ -242,18 +264,23 @@ fn nine_clients(rt: HostRuntime) -> Result<(), Fail> {
     assert!(rt; net.accepted == 8);
     assert!(rt; net.back.len() == 8);
     assert!(rt; net.clients.len() == 1);
-    Ok(())
+    let_go(daemon, net);
 }
 
 #[test]
-fn sessions_are_counted_when_they_are_closed(rt: HostRuntime) -> Result<(), Fail> {
+fn sessions_are_counted_when_they_are_closed(rt: HostRuntime) {
     let alloc = rt.alloc();
     let mut daemon = daemon(&rt, alloc);
     let mut net = MemoryNet::new(rt, alloc);
-    net.clients.push(client(&rt, alloc, &[INIT, EXIT]))?;
-    net.clients.push(client(&rt, alloc, &[INIT]))?;
     net.clients
-        .push(client(&rt, alloc, &[b"GET / HTTP/1.0\r\n"]))?;
+        .push(client(&rt, alloc, &[INIT, EXIT]))
+        .expect(&rt, "memory");
+    net.clients
+        .push(client(&rt, alloc, &[INIT]))
+        .expect(&rt, "memory");
+    net.clients
+        .push(client(&rt, alloc, &[b"GET / HTTP/1.0\r\n"]))
+        .expect(&rt, "memory");
     let end = serve(alloc, &mut daemon, &mut net, 2, 1000);
     assert!(rt; end == ServeEnd::Sessions);
     assert!(rt; net.back.len() == 3);
@@ -264,17 +291,21 @@ fn sessions_are_counted_when_they_are_closed(rt: HostRuntime) -> Result<(), Fail
             expect_out(&rt, alloc, conn, &[INIT_REPLY]);
         }
     }
-    Ok(())
+    let_go(daemon, net);
 }
 
 #[test]
-fn connection_without_a_port_is_not_counted(rt: HostRuntime) -> Result<(), Fail> {
+fn connection_without_a_port_is_not_counted(rt: HostRuntime) {
     let alloc = rt.alloc();
     let mut daemon = daemon(&rt, alloc);
     let mut net = MemoryNet::new(rt, alloc);
     net.ports = 1;
-    net.clients.push(client(&rt, alloc, &[INIT, EXIT]))?;
-    net.clients.push(client(&rt, alloc, &[INIT, EXIT]))?;
+    net.clients
+        .push(client(&rt, alloc, &[INIT, EXIT]))
+        .expect(&rt, "memory");
+    net.clients
+        .push(client(&rt, alloc, &[INIT, EXIT]))
+        .expect(&rt, "memory");
     let end = serve(alloc, &mut daemon, &mut net, 2, 10);
     assert!(rt; end == ServeEnd::Idle);
     let [refused, served] = net.back.as_slice() else {
@@ -282,5 +313,5 @@ fn connection_without_a_port_is_not_counted(rt: HostRuntime) -> Result<(), Fail>
     };
     expect_out(&rt, alloc, served, &[INIT_REPLY]);
     expect_out(&rt, alloc, refused, &[]);
-    Ok(())
+    let_go(daemon, net);
 }

@@ -5,7 +5,6 @@ use super::replies::{
 };
 use super::*;
 use constraint::{Range, StringList, WordList};
-use option_desc::Descriptor;
 use sane_fixed::{Cap, Unit};
 use std::process::Abort;
 
