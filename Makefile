@@ -27,8 +27,8 @@ build: need-rt
 layout: need-rt
 	tests/gate --layout
 
-# The gate: rt ci (every proof from nothing, the must-fail edits, the tests, the stored runs) and the built programs case by
-# case. It refuses a text for which make more-edits is due.
+# The gate: rt ci (every proof, the must-fail edits, the tests, the stored runs; what it passed before on this machine is not
+# done again) and the built programs case by case. It refuses a text for which make more-edits is due.
 test: need-rt
 	tests/gate
 
