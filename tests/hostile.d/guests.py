@@ -95,17 +95,20 @@ def data_connections(tally, scale):
                     is_right = read(frame, 10) == SHOWN and is_at_end(frame)
                     tally.saw(fault, "the frame" if is_right else "no frame", is_right)
             elif name == "twice":
-                with connected(port) as frame, connected(port) as second:
-                    is_right = read(frame, 10) == SHOWN and is_at_end(frame)
-                    tally.saw(fault, "the frame to the first" if is_right else "no frame", is_right)
-                    guest.close()
-                    is_right = is_at_end(second)
-                    tally.saw(fault, "the second closed with its session, without a byte" if is_right else "bytes for the second", is_right)
+                with connected(port) as frame:
+                    # Of two that wait the newest is taken, so the second comes behind the first byte.
+                    begun = read(frame, 1)
+                    with connected(port) as second:
+                        is_right = begun + read(frame, 9) == SHOWN and is_at_end(frame)
+                        tally.saw(fault, "the frame to the first" if is_right else "no frame", is_right)
+                        guest.close()
+                        is_right = is_at_end(second)
+                        tally.saw(fault, "the second closed with its session, without a byte" if is_right else "bytes for the second", is_right)
             elif name == "a stranger's":
                 with connected(port) as stranger:
                     stranger.sendall(wire.INIT + wire.opening("hand:0") + b"x" * 1000)
                     is_right = read(stranger, 10) == SHOWN
-                    tally.saw(fault, "what it says is not heard; it has the frame, as whoever comes first" if is_right else "no frame", is_right)
+                    tally.saw(fault, "what it says is not heard; it has the frame, as whoever comes" if is_right else "no frame", is_right)
             served(tally, fault, daemon)
             guest.close()
             is_right = is_free(daemon.port, "flatbed:0") and daemon.rests_at(before)

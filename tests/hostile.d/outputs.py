@@ -1,4 +1,5 @@
 """Outputs that fail after each byte, that are full, closed, or whose reader goes; page files that change as they are used."""
+import itertools
 import os
 import resource
 import signal
@@ -81,25 +82,26 @@ def full_disk(tally, scale):
 def closed(tally, scale):
     """Standard streams that are closed."""
     fault = "standard streams that are closed"
-    with tempfile.TemporaryDirectory() as folder:
+    with tempfile.TemporaryDirectory() as folder, Daemon(FLATBED) as daemon:
         with open(f"{folder}/config", "w", encoding="ascii") as file:
             file.write(FLATBED)
-        for streams in range(1, 8):
+        here, there = ["--config", "config"], ["-d", "net:localhost:flatbed:0", "--port", str(daemon.port)]
+        for streams, place in itertools.product(range(1, 8), (here, there)):
             for words, to_file in (([], False), (["-o", "picture"], True)):
                 gone = [it for it in range(3) if streams >> it & 1]
-                ended = scan(["--config", "config", *WINDOW, *words], cwd=folder, preexec_fn=lambda gone=gone: [os.close(it) for it in gone])
+                ended = scan([*place, *WINDOW, *words], cwd=folder, preexec_fn=lambda gone=gone: [os.close(it) for it in gone])
                 got = kept(f"{folder}/picture") if to_file else ended.out
                 if to_file and got is not None:
                     os.remove(f"{folder}/picture")
                 is_done = ended.status == 0 and got == DOT
                 is_refused = not to_file and 1 in gone and ended.status == 9 and not got and (2 in gone or ended.err == OUTPUT)
                 told = "Done, the file whole" if is_done else "IO_ERROR (output), 9" if is_refused else f"{ended.what()}, {got}"
-                tally.saw(fault, told, is_done or is_refused, f"{gone} closed, {words}")
+                tally.saw(fault, told, is_done or is_refused, f"{gone} closed, {place}, {words}")
                 with open(f"{folder}/config", encoding="ascii") as file:
                     assert file.read() == FLATBED
-        for gone in ([0], [1], [2], [0, 1, 2]):
+        for gone in ([0], [1], [2], [0, 1], [0, 2], [1, 2], [0, 1, 2]):
             more = {} if 1 not in gone else {"stdout": subprocess.DEVNULL}
-            process = start(["--config", f"{folder}/config", "--port", "0", "--idle-turns", "1000"], SANED,
+            process = start(["--config", f"{folder}/config", "--port", "0", "--idle-turns", "100"], SANED,
                             preexec_fn=lambda gone=gone: [os.close(it) for it in gone], **more)
             ended = ending(process)
             tally.saw(fault, f"saned: {ended.what()}", ended.status == 0, f"saned with {gone} closed")

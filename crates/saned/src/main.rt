@@ -11,8 +11,12 @@ use dispatch::Registry;
 use page_picture::DeviceKind;
 use saned_cli::{Ending, LocalNet, Options, ServeEnd, serve};
 use saned_core::Daemon;
+use std::fs::File;
 use std::io::ErrorKind;
 use std::process::ExitCode;
+
+/// A directory can be opened for reading, and neither be read nor written.
+const ROOT: &str = "/";
 
 /// Listens, says where, and serves.
 fn serve_at(rt: &HostRuntime, options: &Options, daemon: &mut Daemon) -> Result<(), Ending> {
@@ -75,6 +79,12 @@ fn run(rt: &HostRuntime) -> Result<(), Ending> {
 }
 
 fn main(rt: HostRuntime) -> ExitCode {
+    // It stands in for each standard descriptor that is closed, so that no socket or file of the job becomes one.
+    let _standing_in = [
+        File::open(&rt, ROOT),
+        File::open(&rt, ROOT),
+        File::open(&rt, ROOT),
+    ];
     match run(&rt) {
         Ok(()) => ExitCode::from(0),
         Err(ending) => {

@@ -15,7 +15,10 @@ use std::time::Clock;
 /// As many data ports as there are sessions.
 const MOST_PORTS: usize = 8;
 
-/// Connections on 127.0.0.1 that never wait for a peer. Where nothing moves for long an accept naps; while bytes move the
+/// At most so many connections are taken at a time of those that wait at a data port.
+const MOST_WAITING: usize = 4096;
+
+/// Connections on 127.0.0.1 that never wait for a peer. Where nothing moves for long each turn naps; while bytes move the
 /// system is asked for a new connection in one accept of sixteen.
 #[derive(Drop)]
 pub struct LocalNet<R: Net + Clock + Drop> {
@@ -29,6 +32,11 @@ pub struct LocalNet<R: Net + Clock + Drop> {
 struct DataPort {
     port: u16,
     listener: TcpListener,
+    /// The newest connection whose peer may still speak.
+    open: Option<TcpStream>,
+    /// The newest of the others: its peer closed it, or only means to read, as SANE's own clients do. Nothing but a write
+    /// tells the two apart.
+    shut: Option<TcpStream>,
 }
 
 #[derive(Drop)]
@@ -39,6 +47,43 @@ pub struct LocalSocket<R: Clock + Drop> {
 
 fn listen(rt: &impl Net, port: u16) -> io::Result<TcpListener> {
     TcpListener::bind(rt, SocketAddr::from((Ipv4Addr::LOCALHOST, port)))
+}
+
+/// Whether a call that failed may be made again.
+fn is_for_now(e: &io::Error) -> bool {
+    matches!(e.kind(), ErrorKind::WouldBlock | ErrorKind::Interrupted)
+}
+
+impl DataPort {
+    /// Keeps a connection by what its peer has done: one that is broken is closed.
+    fn keep(&mut self, stream: TcpStream) {
+        match stream.peek(&mut [0]) {
+            Ok(0) => self.shut = Some(stream),
+            Ok(_) => self.open = Some(stream),
+            Err(e) if is_for_now(&e) => self.open = Some(stream),
+            Err(_) => drop(stream),
+        }
+    }
+
+    /// Takes all connections that wait.
+    fn gather(&mut self) {
+        if let Some(stream) = self.open.take() {
+            self.keep(stream);
+        }
+        for _ in 0..MOST_WAITING {
+            let Ok((stream, _)) = self.listener.accept() else {
+                return;
+            };
+            self.keep(stream);
+        }
+    }
+
+    /// The connection that a frame takes; the others are closed.
+    fn taken(&mut self) -> Option<TcpStream> {
+        self.gather();
+        let shut = self.shut.take();
+        self.open.take().or(shut)
+    }
 }
 
 impl<R: Net + Clock + Drop> LocalNet<R> {
@@ -62,6 +107,11 @@ impl<R: Net + Clock + Drop> LocalNet<R> {
     fn place(&self, port: u16) -> Option<usize> {
         self.data.iter().position(|it| it.port == port)
     }
+
+    fn data_port(&mut self, port: u16) -> Option<&mut DataPort> {
+        let at = self.place(port)?;
+        self.data.get_mut(at)
+    }
 }
 
 /// What a call on a stream came to, which moved at most so many bytes.
@@ -72,17 +122,21 @@ fn how(outcome: io::Result<usize>, most: usize) -> Got
     match outcome {
         Ok(0) => Got::Lost,
         Ok(n) => Got::Moved(n),
-        Err(e) => match e.kind() {
-            ErrorKind::WouldBlock | ErrorKind::Interrupted => Got::Nothing,
-            _ => Got::Lost,
-        },
+        Err(e) if is_for_now(&e) => Got::Nothing,
+        Err(_) => Got::Lost,
     }
+}
+
+/// A call moved nothing. In a turn the listeners make one such call, and each connection: they all share the pace.
+fn rest<R: Clock + Drop>(pace: &Rc<Pace<R>>) {
+    pace.rest(Rc::strong_count(pace));
 }
 
 impl<R: Clock + Drop> LocalSocket<R> {
     fn note(&self, got: Got) {
-        if let Got::Moved(_) = got {
-            self.pace.quicken();
+        match got {
+            Got::Nothing => rest(&self.pace),
+            Got::Moved(_) | Got::Lost => self.pace.quicken(),
         }
     }
 }
@@ -115,7 +169,7 @@ impl<R: Net + Clock + Drop> Listeners for LocalNet<R> {
                 Some(LocalSocket { stream, pace })
             }
             Err(_) => {
-                self.pace.rest();
+                rest(&self.pace);
                 None
             }
         }
@@ -125,15 +179,27 @@ impl<R: Net + Clock + Drop> Listeners for LocalNet<R> {
         let listener = listen(self.pace.runtime(), 0).ok()?;
         let port = listener.local_addr().ok()?.port();
         if self.data.len() < self.data.capacity() {
-            self.data.push_reserved(DataPort { port, listener });
+            self.data.push_reserved(DataPort {
+                port,
+                listener,
+                open: None,
+                shut: None,
+            });
             return Some(port);
         }
         None
     }
 
+    fn forget_ended(&mut self, port: u16) {
+        if let Some(at) = self.data_port(port) {
+            at.gather();
+            at.shut = None;
+        }
+    }
+
     fn accept_data(&mut self, port: u16) -> Option<LocalSocket<R>> {
-        let at = self.place(port)?;
-        let (stream, _) = self.data.get(at)?.listener.accept().ok()?;
+        let stream = self.data_port(port)?.taken()?;
+        self.pace.quicken();
         let pace = Rc::clone(&self.pace).ok()?;
         Some(LocalSocket { stream, pace })
     }

@@ -3,10 +3,13 @@ use std::cell::Cell;
 use std::rc::Rc;
 use std::time::{Clock, Duration};
 
-/// After so many turns in a row in which nothing moved, each further one naps: a quarter of a second.
-const PATIENCE: u32 = 200_000;
+/// So many turns in a row in which nothing moved come before a nap.
+const PATIENCE: usize = 64;
 
-const NAP_MICROS: u64 = 200;
+const FIRST_NAP_MICROS: u64 = 50;
+
+/// Each nap is twice as long as the one before it, up to this.
+const LONGEST_NAP_MICROS: u64 = 5000;
 
 /// While bytes move, so many accepts in a row are left out: the system makes a socket before it finds that nobody waits.
 const LEFT_OUT: u32 = 15;
@@ -15,7 +18,10 @@ const LEFT_OUT: u32 = 15;
 #[derive(Drop)]
 pub struct Pace<R: Drop> {
     rt: R,
-    idle: Cell<u32>,
+    /// How many calls in a row moved nothing, since the last nap.
+    idle: Cell<usize>,
+    /// The next nap.
+    nap_micros: Cell<u64>,
     /// Whether something moved since the last accept.
     has_moved: Cell<bool>,
     left_out: Cell<u32>,
@@ -26,6 +32,7 @@ impl<R: Drop> Pace<R> {
         let pace = Pace {
             rt,
             idle: Cell::new(0),
+            nap_micros: Cell::new(FIRST_NAP_MICROS),
             has_moved: Cell::new(false),
             left_out: Cell::new(0),
         };
@@ -38,6 +45,7 @@ impl<R: Drop> Pace<R> {
 
     /// Something moved.
     pub fn quicken(&self) {
+        self.nap_micros.set(FIRST_NAP_MICROS);
         self.idle.set(0);
         self.has_moved.set(true);
     }
@@ -52,13 +60,22 @@ impl<R: Drop> Pace<R> {
 }
 
 impl<R: Clock + Drop> Pace<R> {
-    /// An accept found nothing.
-    pub fn rest(&self) {
-        let idle = self.idle.get();
-        if idle < PATIENCE {
-            self.idle.set(idle + 1);
+    /// A call moved nothing, one of about so many in a turn.
+    pub fn rest(&self, in_a_turn: usize) {
+        let micros = self.nap_micros.get();
+        let turns = if micros > FIRST_NAP_MICROS {
+            1
         } else {
-            std::thread::sleep(&self.rt, Duration::from_micros(NAP_MICROS));
+            PATIENCE
+        };
+        let idle = self.idle.get().saturating_add(1);
+        if idle < turns.saturating_mul(in_a_turn) {
+            self.idle.set(idle);
+            return;
         }
+        std::thread::sleep(&self.rt, Duration::from_micros(micros));
+        self.idle.set(0);
+        self.nap_micros
+            .set(micros.saturating_mul(2).min(LONGEST_NAP_MICROS));
     }
 }

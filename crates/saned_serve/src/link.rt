@@ -70,6 +70,28 @@ fn listen<D: Device, C: Socket>(alloc: Global, daemon: &mut Daemon<D>, link: &mu
     }
 }
 
+fn is_waiting<D: Device>(daemon: &Daemon<D>, id: SessionId) -> bool {
+    matches!(daemon.frame(id), FrameState::Waiting)
+}
+
+/// What `listen` does. Where a frame begins with that, a connection at its data port that has ended was left behind by an
+/// earlier frame or a stranger: its client knows nothing of the frame before the answer to START is written.
+fn attend<D: Device, L: Listeners>(
+    alloc: Global,
+    daemon: &mut Daemon<D>,
+    net: &mut L,
+    link: &mut Link<L::Conn>,
+) -> bool
+    ensures { Goes L.Conn.history (core D.state daemon.old) (L.ledger net.old) link.old (core D.state daemon.new) (L.ledger net.new) link.new }
+{
+    let was_waiting = is_waiting(daemon, link.id);
+    let has_heard = listen(alloc, daemon, link);
+    if !was_waiting && is_waiting(daemon, link.id) {
+        net.forget_ended(link.port);
+    }
+    has_heard
+}
+
 /// One write of the replies that wait.
 fn send_replies<C: Socket>(link: &mut Link<C>) -> bool
     ensures { (d : Core) (n : Option Ledger) → Goes C.history d n link.old d n link.new }
@@ -194,7 +216,7 @@ pub fn converse<D: Device, L: Listeners>(
 ) -> bool
     ensures { Goes L.Conn.history (core D.state daemon.old) (L.ledger net.old) link.old (core D.state daemon.new) (L.ledger net.new) link.new }
 {
-    let has_heard = listen(alloc, daemon, link);
+    let has_heard = attend(alloc, daemon, net, link);
     let has_spoken = speak(daemon, link);
     let has_dialed = dial(daemon, net, link);
     let has_shown = show(daemon, net, link);

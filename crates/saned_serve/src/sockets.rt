@@ -48,7 +48,12 @@ pub trait Listeners {
     fn open_data(&mut self) -> Option<u16>
         ensures { ledger self.new ≡ ledger self.old };
 
-    /// The next connection at such a port, where one is there.
+    /// A frame begins that will wait at that port, and nobody was told so yet: connections there that their peers have
+    /// ended by now are of no frame.
+    fn forget_ended(&mut self, port: u16)
+        ensures { ledger self.new ≡ ledger self.old };
+
+    /// A connection at such a port, where one is there.
     fn accept_data(&mut self, port: u16) -> Option<Self::Conn>
         ensures told { ledger self.new ≡ after_accept result (ledger self.old) }
         ensures fresh { IfSome result (λ conn. IsFresh (Self.Conn.history conn)) };

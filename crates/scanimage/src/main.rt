@@ -16,7 +16,11 @@ use device_api::Device;
 use dispatch::Registry;
 use page_picture::DeviceKind;
 use scanimage_cli::{Ending, asked_of_net};
+use std::fs::File;
 use std::process::ExitCode;
+
+/// A directory can be opened for reading, and neither be read nor written.
+const ROOT: &str = "/";
 
 /// Reads the command line and the config, makes the devices, and does what is asked for.
 fn run(rt: &HostRuntime) -> Result<(), Ending> {
@@ -61,6 +65,12 @@ fn tell(rt: &HostRuntime, ending: &Ending) {
 }
 
 fn main(rt: HostRuntime) -> ExitCode {
+    // It stands in for each standard descriptor that is closed, so that no socket or file of the job becomes one.
+    let _standing_in = [
+        File::open(&rt, ROOT),
+        File::open(&rt, ROOT),
+        File::open(&rt, ROOT),
+    ];
     match run(&rt) {
         Ok(()) => ExitCode::from(0),
         Err(ending) => {

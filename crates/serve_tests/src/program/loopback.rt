@@ -3,11 +3,11 @@
 use dispatch::Registry;
 use flatbed_dev::Flatbed;
 use md5_auth::Users;
-use saned_cli::{LocalNet, ServeEnd, serve};
+use saned_cli::{Got, Listeners, LocalNet, ServeEnd, Socket, serve};
 use saned_core::Daemon;
 use std::alloc::Global;
 use std::io::{Read, Write};
-use std::net::{Ipv4Addr, SocketAddr, TcpStream};
+use std::net::{Ipv4Addr, Shutdown, SocketAddr, TcpStream};
 use std::process::Abort;
 use std::test::Fail;
 
@@ -43,7 +43,7 @@ fn clients_on_loopback(rt: HostRuntime) -> Result<(), Fail> {
     let mut stranger = TcpStream::connect(&rt, at)?;
     stranger.write_all(b"GET / HTTP/1.0\r\n\r\n")?;
     let mut daemon = daemon(&rt, alloc);
-    let end = serve(alloc, &mut daemon, &mut net, 3, 100_000);
+    let end = serve(alloc, &mut daemon, &mut net, 3, 1000);
     assert!(rt; end == ServeEnd::Sessions);
     let mut replies = Vec::new(alloc);
     first.read_to_end(&mut replies)?;
@@ -56,8 +56,8 @@ fn nobody_comes(rt: HostRuntime) -> Result<(), Fail> {
     let alloc = rt.alloc();
     let mut net = LocalNet::bind(rt, alloc, 0)?;
     let mut daemon = daemon(&rt, alloc);
-    // The naps begin after 200,000 turns.
-    let end = serve(alloc, &mut daemon, &mut net, 0, 200_100);
+    // The naps begin after 64 turns.
+    let end = serve(alloc, &mut daemon, &mut net, 0, 100);
     assert!(rt; end == ServeEnd::Idle);
     Ok(())
 }
@@ -67,5 +67,67 @@ fn port_that_is_taken(rt: HostRuntime) -> Result<(), Fail> {
     let alloc = rt.alloc();
     let net = LocalNet::bind(rt, alloc, 0)?;
     assert!(rt; LocalNet::bind(rt, alloc, net.port()?).is_err());
+    Ok(())
+}
+
+/// The frame's connection at that port takes a byte.
+fn show(rt: &impl Abort, net: &mut LocalNet<HostRuntime>, port: u16) {
+    let Some(mut conn) = net.accept_data(port) else {
+        panic!(rt; "no connection")
+    };
+    assert!(rt; conn.write(b"x") == Got::Moved(1));
+    net.close(conn);
+}
+
+#[test]
+fn connections_that_have_ended(rt: HostRuntime) -> Result<(), Fail> {
+    let alloc = rt.alloc();
+    let mut net = LocalNet::bind(rt, alloc, 0)?;
+    let port = net.open_data().expect(&rt, "a data port");
+    let at = SocketAddr::from((Ipv4Addr::LOCALHOST, port));
+    // It is left behind before a frame begins.
+    drop(TcpStream::connect(&rt, at)?);
+    net.forget_ended(port);
+    assert!(rt; net.accept_data(port).is_none());
+    // One came early and stands, and a stranger's ended behind it.
+    let mut early = TcpStream::connect(&rt, at)?;
+    net.forget_ended(port);
+    drop(TcpStream::connect(&rt, at)?);
+    show(&rt, &mut net, port);
+    let mut bytes = Vec::new(alloc);
+    early.read_to_end(&mut bytes)?;
+    assert!(rt; bytes.as_slice() == b"x".as_slice());
+    Ok(())
+}
+
+#[test]
+fn newest_connection(rt: HostRuntime) -> Result<(), Fail> {
+    let alloc = rt.alloc();
+    let mut net = LocalNet::bind(rt, alloc, 0)?;
+    let port = net.open_data().expect(&rt, "a data port");
+    let at = SocketAddr::from((Ipv4Addr::LOCALHOST, port));
+    let mut older = TcpStream::connect(&rt, at)?;
+    let mut newer = TcpStream::connect(&rt, at)?;
+    show(&rt, &mut net, port);
+    let mut bytes = Vec::new(alloc);
+    older.read_to_end(&mut bytes)?;
+    assert!(rt; bytes.is_empty());
+    newer.read_to_end(&mut bytes)?;
+    assert!(rt; bytes.as_slice() == b"x".as_slice());
+    Ok(())
+}
+
+/// SANE's own clients end their side of a data connection as soon as it is made.
+#[test]
+fn client_that_only_reads(rt: HostRuntime) -> Result<(), Fail> {
+    let alloc = rt.alloc();
+    let mut net = LocalNet::bind(rt, alloc, 0)?;
+    let port = net.open_data().expect(&rt, "a data port");
+    let mut client = TcpStream::connect(&rt, SocketAddr::from((Ipv4Addr::LOCALHOST, port)))?;
+    client.shutdown(Shutdown::Write)?;
+    show(&rt, &mut net, port);
+    let mut bytes = Vec::new(alloc);
+    client.read_to_end(&mut bytes)?;
+    assert!(rt; bytes.as_slice() == b"x".as_slice());
     Ok(())
 }
