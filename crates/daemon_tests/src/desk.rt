@@ -3,7 +3,7 @@ use flatbed_dev::Flatbed;
 use md5_auth::{Challenger, Users};
 use page_picture::{MemoryPage, Source, read_page};
 use sane_fixed::{ByteOrder, Text};
-use saned_desk::{Carriage, Said, Session, answer, let_go, put_back_session};
+use saned_desk::{Carriage, Said, Session, answer, let_go};
 use std::alloc::Global;
 use std::process::Abort;
 use wire_codec::{Decoder, Reply, encode_reply};
@@ -446,5 +446,5 @@ fn one_device_for_two(rt: HostRuntime) {
         users: _users,
         challenger: _challenger,
     } = second;
-    put_back_session(&mut registry, session);
+    let_go(&mut registry, session);
 }

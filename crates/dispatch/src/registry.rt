@@ -1,14 +1,14 @@
 ghost use Rattle.std.specs.Prelude.{◌≡◌, ◌≢◌, ◌≤◌, ◌<◌, length, [], List, map, IfOk, IfErr, OnErr, OnOk, IsOk, IsTrue, is_some};
 ghost use Rattle.device_api.specs.State.{after_reset, DeviceState};
 ghost use Rattle.dispatch.specs.RegistryFault.{HasFault, MayStand};
-ghost use Rattle.dispatch.specs.Table.{fresh_table, table, seen_take, seen_unplug, seen_lease, take_answer, after_take, after_give_back, unplug_answer, after_unplug, listed, with_slot, told_of, load_answer, after_load, find_name};
+ghost use Rattle.dispatch.specs.Table.{fresh_table, table, seen_take, seen_unplug, seen_lease, take_answer, after_take, after_give_back, unplug_answer, after_unplug, listed, told_of, load_answer, after_load, find_name};
 
 use crate::table::fresh::{fill, repeats, vacant};
 use crate::table::listing::listed;
 use crate::table::loading::load_slot;
 use crate::table::place::{Lease, Place, Slot};
 use crate::table::reset::reset_all;
-use crate::table::slot::{awaits, find_name, put_back, put_into, take_from};
+use crate::table::slot::{awaits, find_name, put_into, take_from};
 use device_api::{Device, DeviceInfo};
 use page_picture::{PageSource, Source};
 use sane_fixed::{NoMem, Status};
@@ -127,16 +127,6 @@ impl<D: Device> Registry<D> {
         };
         put_into(&mut self.places, k, Slot::Gone);
         Ok(device)
-    }
-}
-
-impl<D: Drop> Registry<D> {
-    /// The device is in its place again, as it is: for one that is dropped together with its registry.
-    pub fn put_back(&mut self, lease: Lease<D>)
-        ensures { self.new ≡ with_slot self.old lease.place (Slot.In lease.device) }
-    {
-        let Lease { device, place } = lease;
-        put_back(&mut self.places, place, Slot::In(device));
     }
 }
 

@@ -8,6 +8,7 @@ mod options;
 mod pace;
 mod reading;
 mod seed;
+mod words;
 
 pub use ending::Ending;
 pub use local::{LocalNet, LocalSocket};

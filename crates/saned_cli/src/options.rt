@@ -1,6 +1,7 @@
-ghost use Rattle.std.specs.Prelude.{◌≡◌, ◌≤◌, IfOk, IfSome};
-ghost use Rattle.saned_cli.specs.Options.{IsInBounds};
+ghost use Rattle.std.specs.Prelude.{◌≡◌, ◌≤◌, ◌<◌, ◌^◌, ℕ, IfErr, IfOk, option_map};
+ghost use Rattle.saned_cli.specs.Options.{IsInBounds, IsNumberOf};
 
+use crate::words::{joined, plain_number};
 use clap::error::ErrorKind;
 use clap::{Arg, ArgAction, ArgMatches, Command};
 use sane_fixed::ByteOrder;
@@ -26,8 +27,8 @@ pub struct Options {
 /// Why the words of the command line are no options.
 #[derive(Clone, Copy, Debug, PartialEq, Eq, Error)]
 pub enum OptionsFault {
-    /// A word is no option, a value is missing or not within its bounds, an option stands twice, there is no config, or
-    /// there are users and no seed.
+    /// A word is no option, a value is missing, empty or not within its bounds, an option stands twice, there is no config,
+    /// or there are users and no seed.
     #[error("bad command line")]
     Bad = 1,
     #[error("out of memory")]
@@ -39,6 +40,11 @@ const _: () = prove!(OptionsFault::Bad as u32 == 1);
 const _: () = prove!(OptionsFault::NoMem as u32 == 2);
 
 impl From<AllocError> for OptionsFault {
+    ghost use Rattle.std.specs.Prelude.{◌≡◌};
+    ghost use Rattle.saned_cli.specs.declared.options.OptionsFault.TheVariants.{NoMem as Wanting};
+
+    ghost from_gives = { λ _ fault. fault ≡ Wanting };
+
     fn from(_: AllocError) -> Self {
         OptionsFault::NoMem
     }
@@ -55,7 +61,9 @@ impl From<clap::Error> for OptionsFault {
 }
 
 /// The port of SANE's daemon.
-const SANE_PORT: u16 = 6566;
+const SANE_PORT: u64 = 6566;
+
+const MOST_PORT: u64 = 65_535;
 
 const MOST_SESSIONS: u64 = 1_000_000_000;
 
@@ -72,16 +80,28 @@ fn command<'a>(alloc: Global) -> Result<Command<'a>, AllocError> {
         .arg(value(alloc, "config"))?
         .arg(value(alloc, "users"))?
         .arg(value(alloc, "seed"))?
-        .arg(value(alloc, "port").value_parser(clap::value_parser!(u16)))?
+        .arg(value(alloc, "port"))?
         .arg(value(alloc, "byte-order"))?
-        .arg(value(alloc, "sessions").value_parser(clap::value_parser!(u64)))?
-        .arg(value(alloc, "idle-turns").value_parser(clap::value_parser!(u64)))
+        .arg(value(alloc, "sessions"))?
+        .arg(value(alloc, "idle-turns"))
 }
 
 /// What `clap` reads of the words, of which the first is the program's name.
-fn parse<'a>(alloc: Global, words: &'a [String]) -> Result<ArgMatches<'a>, OptionsFault> {
+fn parse<'a>(alloc: Global, words: &'a [&'a str]) -> Result<ArgMatches<'a>, OptionsFault> {
     let found = command(alloc)?.try_get_matches_from(words)?;
     Ok(found)
+}
+
+/// The options as `clap` wants them, the program's name first.
+fn as_strs<'a>(alloc: Global, options: &'a [String]) -> Result<Vec<&'a str>, OptionsFault> {
+    let mut strs = Vec::new(alloc);
+    strs.push("saned").map_err(|_| OptionsFault::NoMem)?;
+    for option in options {
+        strs.push(option.as_str()).map_err(
+            |_| OptionsFault::NoMem,
+        )?;
+    }
+    Ok(strs)
 }
 
 fn text(alloc: Global, found: Option<&str>) -> Result<Option<String>, OptionsFault> {
@@ -99,25 +119,40 @@ fn byte_order(found: Option<&str>) -> Result<ByteOrder, OptionsFault> {
     }
 }
 
-/// A number between two others, where it is told.
-fn number(found: Option<u64>, default: u64, least: u64, most: u64) -> Result<u64, OptionsFault>
+/// The number that a text writes where there is one, and else the default. `Bad` just where the text writes none between
+/// the two.
+fn number(
+    text: Option<&str>,
+    default: u64,
+    least: u64,
+    most: u64,
+) -> Result<u64, OptionsFault>
     requires { (least ≤ default) × (default ≤ most) }
-    ensures { IfOk result (λ n. (least ≤ n) × (n ≤ most)) }
+    ensures ok { IfOk result (IsNumberOf least most default (option_map (λ text. text.now) text.entry)) }
+    ensures err { IfErr result (λ fault. (fault ≡ OptionsFault.Bad) × ((n : ℕ) → n < 2 ^ 64 → ¬ IsNumberOf least most default (option_map (λ text. text.now) text.entry) n)) }
 {
-    match found {
-        None => Ok(default),
+    let Some(text) = text else {
+        return Ok(default);
+    };
+    match plain_number(text) {
         Some(n) if n >= least && n <= most => Ok(n),
-        Some(_) => Err(OptionsFault::Bad),
+        _ => Err(OptionsFault::Bad),
     }
 }
 
-/// The options that the words of the command line give, as `clap` reads them; the first word is the program's name. `Bad`
-/// where `clap` refuses them, where a number is not within its bounds, where there is no config, and where there are users
-/// and no seed; `NoMem` where there is no memory.
+/// The options that the words of the command line give, as `clap` reads them; the first word is the program's name, and the
+/// word behind an option's name is its value, whatever it begins with. `Bad` where a word stands in no option's place, where
+/// a value is missing or empty, where `clap` refuses the options, where a number is not within its bounds or has a sign or a
+/// leading zero, where there is no config, and where there are users and no seed; `NoMem` where there is no memory.
 pub fn read_options(alloc: Global, words: &[String]) -> Result<Options, OptionsFault>
     ensures { IfOk result IsInBounds }
 {
-    let found = parse(alloc, words)?;
+    let Some((_, words)) = words.split_first() else {
+        return Err(OptionsFault::Bad);
+    };
+    let options = joined(alloc, words)?;
+    let strs = as_strs(alloc, options.as_slice())?;
+    let found = parse(alloc, strs.as_slice())?;
     let Some(config) = text(alloc, found.get_str("config"))? else {
         return Err(OptionsFault::Bad);
     };
@@ -126,11 +161,11 @@ pub fn read_options(alloc: Global, words: &[String]) -> Result<Options, OptionsF
     if users.is_some() && seed.is_none() {
         return Err(OptionsFault::Bad);
     }
-    let port = found.get_one::<u16>("port").unwrap_or(SANE_PORT);
+    let port = number(found.get_str("port"), SANE_PORT, 0, MOST_PORT)?;
     let byte_order = byte_order(found.get_str("byte-order"))?;
-    let sessions = number(found.get_one::<u64>("sessions"), 0, 0, MOST_SESSIONS)?;
+    let sessions = number(found.get_str("sessions"), 0, 0, MOST_SESSIONS)?;
     let idle_turns = number(
-        found.get_one::<u64>("idle-turns"),
+        found.get_str("idle-turns"),
         IDLE_TURNS,
         1,
         MOST_IDLE_TURNS,
@@ -139,7 +174,7 @@ pub fn read_options(alloc: Global, words: &[String]) -> Result<Options, OptionsF
         config,
         users,
         seed,
-        port,
+        port: port as u16,
         byte_order,
         sessions,
         idle_turns,

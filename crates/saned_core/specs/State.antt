@@ -11,7 +11,7 @@ use Rattle.saned_core.specs.declared.seat.FrameState.{FrameState}
 use Rattle.saned_core.specs.declared.seat.FrameState.TheVariants as frames
 use Rattle.saned_desk.specs.declared.session.Session.{Session}
 use Rattle.saned_core.specs.declared.seat.Seat.{Seat}
-use Rattle.saned_desk.specs.Holding.{all_in_again, seen_session, with_cancelled, given_back, fresh_session}
+use Rattle.saned_desk.specs.Holding.{seen_session, with_cancelled, given_back, fresh_session}
 
 -- A daemon whose devices are seen as S.
 pub record DaemonState (S : Type 0) : Type 0 where
@@ -61,15 +61,6 @@ IsMissing {S = S} n seats = (k : ℕ) (d : Option (Seat S)) → k < length seats
 abbrev pub session_in : {S : Type 0} → Option (Seat S) → Option (Session S)
 session_in None = None
 session_in (Some seat) = seat.session
-
--- all that sessions hold is in its place again, for a daemon that is dropped
-abbrev pub held_in_again : {D : Type 0} → List (Place D) → Option (Session D) → List (Place D)
-held_in_again ps None = ps
-held_in_again ps (Some session) = all_in_again ps session.held
-
-abbrev pub seats_in_again : {D : Type 0} → List (Place D) → List (Option (Seat D)) → List (Place D)
-seats_in_again ps [] = ps
-seats_in_again ps (seat ∷ seats) = seats_in_again (held_in_again ps (session_in seat)) seats
 
 -- whether the session of a place goes on
 abbrev pub goes_on : {S : Type 0} → Option (Session S) → Bool
@@ -134,6 +125,11 @@ fresh_seat number port = record { number = number; input = record { rest = []; f
 abbrev pub session_let_go : Table → Option (Session DeviceState) → Table
 session_let_go t None = t
 session_let_go t (Some s) = given_back t s.held
+
+-- the table after all sessions of these seats have ended
+abbrev pub all_let_go : Table → List (Option (Seat DeviceState)) → Table
+all_let_go t [] = t
+all_let_go t (seat ∷ seats) = all_let_go (session_let_go t (session_in seat)) seats
 
 -- eight sessions stand, or no number is left
 abbrev pub is_closed : Core → Bool

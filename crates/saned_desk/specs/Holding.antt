@@ -2,9 +2,7 @@
 use Rattle.std.specs.Prelude.{ℕ, zero, suc, Bool, true, false, Option, Some, None, option_map, List, [], ◌∷◌, map, position}
 use Rattle.device_api.specs.State.{DeviceState, after_cancel}
 use Rattle.dispatch.specs.declared.table.place.Lease.{Lease}
-use Rattle.dispatch.specs.declared.table.place.Place.{Place}
-use Rattle.dispatch.specs.declared.table.place.Slot.TheVariants.{In}
-use Rattle.dispatch.specs.Table.{Table, seen_lease, with_slot, after_give_back}
+use Rattle.dispatch.specs.Table.{Table, seen_lease, after_give_back}
 use Rattle.saned_desk.specs.declared.session.Carriage.TheVariants.{Quiet}
 use Rattle.saned_desk.specs.declared.session.Session.{Session}
 
@@ -58,15 +56,6 @@ back t (Some lease) = after_give_back t lease
 abbrev pub given_back : Table → List (Option (Lease DeviceState)) → Table
 given_back t [] = t
 given_back t (lease ∷ held) = given_back (back t lease) held
-
--- every lease is in its place again, its device as it is
-abbrev pub in_again : {D : Type 0} → List (Place D) → Option (Lease D) → List (Place D)
-in_again ps None = ps
-in_again ps (Some lease) = with_slot ps lease.place (In lease.device)
-
-abbrev pub all_in_again : {D : Type 0} → List (Place D) → List (Option (Lease D)) → List (Place D)
-all_in_again ps [] = ps
-all_in_again ps (lease ∷ held) = all_in_again (in_again ps lease) held
 
 -- a session that was just opened
 abbrev pub fresh_session : ℕ → Session DeviceState

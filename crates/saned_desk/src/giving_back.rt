@@ -2,7 +2,7 @@
 
 ghost use Rattle.std.specs.Prelude.{◌≡◌, option_map};
 ghost use Rattle.dispatch.specs.Table.{table, seen_lease};
-ghost use Rattle.saned_desk.specs.Holding.{all_in_again, back, given_back, in_again, seen_held};
+ghost use Rattle.saned_desk.specs.Holding.{back, given_back, seen_held};
 
 use crate::session::Session;
 use device_api::Device;
@@ -41,39 +41,4 @@ pub fn let_go<D: Device>(registry: &mut Registry<D>, session: Session<D>)
         carriage: _,
     } = session;
     give_back_all(registry, held);
-}
-
-/// Puts back what a device word stands for, as it is.
-fn put_back<D: Drop>(registry: &mut Registry<D>, word: Option<Lease<D>>)
-    ensures { registry.new ≡ in_again registry.old word }
-{
-    match word {
-        None => {}
-        Some(lease) => registry.put_back(lease),
-    }
-}
-
-/// Puts back all that a session holds, as it is.
-fn put_back_all<D: Drop>(registry: &mut Registry<D>, held: [Option<Lease<D>>; 4])
-    ensures { registry.new ≡ all_in_again registry.old held }
-{
-    let [a, b, c, d] = held;
-    put_back(registry, a);
-    put_back(registry, b);
-    put_back(registry, c);
-    put_back(registry, d);
-}
-
-/// Ends a session of a daemon that is dropped: its leases go back as they are.
-pub fn put_back_session<D: Drop>(registry: &mut Registry<D>, session: Session<D>)
-    ensures { registry.new ≡ all_in_again registry.old session.held }
-{
-    let Session {
-        port: _,
-        greeted: _,
-        held,
-        awaited: _awaited,
-        carriage: _,
-    } = session;
-    put_back_all(registry, held);
 }

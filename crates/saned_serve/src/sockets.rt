@@ -49,9 +49,11 @@ pub trait Listeners {
         ensures { ledger self.new ≡ ledger self.old };
 
     /// A frame begins that will wait at that port, and nobody was told so yet: connections there that their peers have
-    /// ended by now are of no frame.
-    fn forget_ended(&mut self, port: u16)
-        ensures { ledger self.new ≡ ledger self.old };
+    /// ended by now are of no frame. What takes connections only as they are dialled has none such, and does nothing.
+    fn forget_ended(&mut self, _port: u16)
+        ensures { ledger self.new ≡ ledger self.old }
+    {
+    }
 
     /// A connection at such a port, where one is there.
     fn accept_data(&mut self, port: u16) -> Option<Self::Conn>

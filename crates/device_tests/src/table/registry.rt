@@ -284,7 +284,7 @@ fn pages_and_names(rt: HostRuntime) {
         Call::Load(name, Some(Status::DeviceBusy)),
     ];
     expect_each(&rt, alloc, &mut registry, &leased);
-    registry.put_back(lease);
+    registry.give_back(lease);
     let unplugged = [
         loads,
         Call::Unplug(name, None),

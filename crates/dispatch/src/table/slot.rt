@@ -76,13 +76,3 @@ pub fn put_into<D: Drop>(places: &mut Vec<Place<D>>, k: usize, slot: Slot<D>)
 {
     places[k].slot = slot;
 }
-
-/// Puts something into a place, where there is such a place.
-pub fn put_back<D: Drop>(places: &mut Vec<Place<D>>, k: usize, slot: Slot<D>)
-    ensures items { places.new.items ≡ with_slot places.old.items k slot }
-    ensures count { length places.new.items ≡ length places.old.items }
-{
-    if k < places.len() {
-        put_into(places, k, slot);
-    }
-}

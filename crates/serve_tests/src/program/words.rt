@@ -54,6 +54,26 @@ fn all_options(rt: HostRuntime) -> Result<(), Fail> {
     Ok(())
 }
 
+/// The word behind an option's name is its value, whatever it begins with.
+#[test]
+fn values_with_dashes(rt: HostRuntime) -> Result<(), Fail> {
+    for (line, config) in [
+        ("--config -x", "-x"),
+        ("--config --port", "--port"),
+        ("--config --", "--"),
+        ("--config a=b", "a=b"),
+        ("--config=--x=y --port 0", "--x=y"),
+    ] {
+        let found = options(&rt, rt.alloc(), line)?;
+        assert!(rt; found.config.as_str() == config);
+    }
+    let found = options(&rt, rt.alloc(), "--port 0 --config --users --sessions 0")?;
+    assert!(rt; found.config.as_str() == "--users");
+    assert!(rt; found.users.is_none());
+    assert!(rt; found.port == 0);
+    Ok(())
+}
+
 const BAD: &[&str] = &[
     "",
     "--port 1",
@@ -75,6 +95,21 @@ const BAD: &[&str] = &[
     "--config c --idle-turns 1000000001",
     "--config c --idle-turns 1 --idle-turns 2",
     "--conf c",
+    "--config c --port 00",
+    "--config c --port 06566",
+    "--config c --port +1",
+    "--config c --sessions 007",
+    "--config c --sessions +7",
+    "--config c --sessions=-0",
+    "--config c --idle-turns 01",
+    "--config c --idle-turns=+1",
+    "--config c --",
+    "--config c -- --port 1",
+    "--config=",
+    "--config c --users=",
+    "--config c --=1",
+    "--config c -=1",
+    "--config c port=1",
 ];
 
 #[test]
