@@ -57,7 +57,7 @@ pub trait Device: Drop {
 
     /// Begins the first frame of a scan of the first page, or the next one. Refuses, in this order: `DeviceBusy` where a
     /// frame is being read, and then nothing changes; `NoDocs` where there is no page; `Inval` where the options mean no
-    /// picture on the page; `IoError` where the page's source failed; and `NoMem`. After these four the scanner is at rest.
+    /// picture on the page; `NoMem`; and `IoError` where the page's source failed. After these four the scanner is at rest.
     /// A first start that is refused leaves all pages where they are.
     fn start(&mut self, alloc: Global) -> Result<(), Status>
         ensures { Starts (state self.old) result (state self.new) };

@@ -7,16 +7,22 @@ use sane_fixed::{ByteOrder, Fixed, FrameFormat, Info, Params, Status, Text};
 use std::alloc::Global;
 use std::process::Abort;
 
+/// The number of the option `mode`.
 pub const MODE: u32 = 1;
 
+/// The number of the option `depth`.
 pub const DEPTH: u32 = 2;
 
+/// The number of the option `resolution`.
 pub const RESOLUTION: u32 = 3;
 
+/// The number of the option `br-x`.
 pub const BR_X: u32 = 6;
 
+/// The number of the option `br-y`.
 pub const BR_Y: u32 = 7;
 
+/// One mm as a FIXED word.
 pub const MM: i32 = 65536;
 
 /// The word of a table at place i.
@@ -67,6 +73,7 @@ fn table(alloc: Global, fill: Fill, count: i32) -> Option<Vec<i32>> {
     Some(words)
 }
 
+/// The value of an option that a row tells plainly.
 pub fn value(alloc: Global, plain: Plain) -> Option<Value> {
     Some(match plain {
         Plain::Flag(flag) => Value::Flag(flag),

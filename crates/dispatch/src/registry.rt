@@ -17,6 +17,8 @@ use std::marker::Model;
 use std::mem;
 use thiserror::Error;
 
+/// The devices of a daemon or a program, at most sixteen, each under its own name. A place is kept for each of them: its
+/// device is in, out with a lease, or unplugged for ever.
 #[derive(Drop)]
 pub struct Registry<D = Box<dyn Device>> {
     places: Vec<Place<D>>,
@@ -77,6 +79,8 @@ impl<D: Device> Registry<D> {
 }
 
 impl<D: Device> Registry<D> {
+    /// Leases the device of that name, reset. Refuses: `Inval` where none is listed under it, `DeviceBusy` where it is
+    /// leased; then nothing changes.
     pub fn take(&mut self, name: &[u8]) -> Result<Lease<D>, Status>
         ensures answer { seen_take D.state result ≡ take_answer (table D.state self.old) name.now }
         ensures after { table D.state self.new ≡ after_take (table D.state self.old) name.now }
@@ -115,6 +119,8 @@ impl<D: Device> Registry<D> {
         }
     }
 
+    /// Takes the device of that name out for ever: it is listed no more. Refuses: `Inval` where none is listed under it,
+    /// `DeviceBusy` where it is leased; then nothing changes.
     pub fn unplug(&mut self, name: &[u8]) -> Result<D, Status>
         ensures answer { seen_unplug D.state result ≡ unplug_answer (table D.state self.old) name.now }
         ensures after { table D.state self.new ≡ after_unplug (table D.state self.old) name.now }

@@ -63,7 +63,8 @@ fn places(
 }
 
 impl ColumnMap {
-    /// The columns of a scene on a page of `width` columns and `dpi` dots per inch. Its memory is taken here once.
+    /// The columns of a scene, of a resolution from 1 to 1,200 dots per inch, on a page of `width` columns and at most 1,200
+    /// dots per inch. Its memory is taken here once.
     pub fn new(alloc: Global, scene: &Scene, width: u32, dpi: u32) -> Result<Self, NoMem>
         requires some { 1 ≤ scene.now.resolution }
         requires known { scene.now.resolution ≤ 1200 }

@@ -61,7 +61,8 @@ impl Page {
         self.dpi
     }
 
-    /// The sample of channel `k` (red, green, blue) at column `x` of row `y`, from the top left.
+    /// The sample of channel `k` (0 red, 1 green, 2 blue) at column `x` of row `y`, from the top left, which must lie on the
+    /// page.
     pub fn at(&self, x: u32, y: u32, k: u32) -> u16
         requires column { x < self.now.width }
         requires row { y < self.now.height }

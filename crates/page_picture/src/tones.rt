@@ -100,7 +100,8 @@ pub fn in_channel(scene: &Scene, k: u32, tone: u16) -> u16
     }
 }
 
-/// The sample of the picture at column `x` of row `y` in channel `k`.
+/// The sample of the picture at column `x` of row `y` in channel `k`: 0 in gray, else 0 red, 1 green, 2 blue. The place must
+/// lie in the picture, whose resolution is at most 1,200 dots per inch.
 #[tactic(auto, unfolding(crate::specs::Meaning::sample_of))]
 pub fn sample(page: &Page, scene: &Scene, x: u32, y: u32, k: u32) -> u16
     requires known { scene.now.resolution ≤ 1200 }

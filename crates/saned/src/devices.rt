@@ -41,6 +41,7 @@ fn pages(rt: &HostRuntime, line: &ConfigLine) -> Result<Vec<Source>, Ending> {
     Ok(sources)
 }
 
+/// The flatbed of a config line, on its page.
 pub fn flatbed(
     rt: &HostRuntime,
     line: &ConfigLine,
@@ -53,6 +54,7 @@ pub fn flatbed(
     }
 }
 
+/// The hand scanner of a config line, on its page.
 pub fn hand_scanner(
     rt: &HostRuntime,
     line: &ConfigLine,
@@ -65,6 +67,7 @@ pub fn hand_scanner(
     }
 }
 
+/// The three-pass scanner of a config line, on its page.
 pub fn three_pass(
     rt: &HostRuntime,
     line: &ConfigLine,
@@ -77,6 +80,7 @@ pub fn three_pass(
     }
 }
 
+/// The page feeder of a config line, with its tray of pages.
 pub fn feeder(
     rt: &HostRuntime,
     line: &ConfigLine,

@@ -39,6 +39,7 @@ struct DataPort {
     shut: Option<TcpStream>,
 }
 
+/// A connection on 127.0.0.1 whose calls never wait, but for the naps of a net at rest.
 #[derive(Drop)]
 pub struct LocalSocket<R: Clock + Drop> {
     stream: TcpStream,

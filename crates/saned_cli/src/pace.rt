@@ -28,6 +28,7 @@ pub struct Pace<R: Drop> {
 }
 
 impl<R: Drop> Pace<R> {
+    /// The pace of a net that was just made, shared by all its connections.
     pub fn new(alloc: Global, rt: R) -> Result<Rc<Pace<R>>, AllocError> {
         let pace = Pace {
             rt,
@@ -39,6 +40,7 @@ impl<R: Drop> Pace<R> {
         Ok(Rc::new(alloc, pace)?)
     }
 
+    /// What the naps are made with.
     pub fn runtime(&self) -> &R {
         &self.rt
     }

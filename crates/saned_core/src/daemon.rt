@@ -182,8 +182,9 @@ impl<D: Device> Daemon<D> {
         end_at(&mut self.hall.registry, &mut self.hall.seats, id.number)
     }
 
-    /// Puts another page into the device of that name, also while it is leased. `Inval` where none is listed under
-    /// it, `DeviceBusy` where it is not at rest; then the page comes back.
+    /// Puts another page into the device of that name, also while it is leased; a feeder's tray gets it behind its others.
+    /// `Inval` where none is listed under it, `DeviceBusy` where it is not at rest or has a full tray; then the page comes
+    /// back.
     pub fn load(&mut self, name: &[u8], page: Source) -> Result<(), (Status, Source)>
         ensures answer { told_of result ≡ load_told (core D.state self.old) name.now }
         ensures after { core D.state self.new ≡ loaded (core D.state self.old) name.now (⟦<Source as PageSource>⟧.source page) }

@@ -116,6 +116,7 @@ fn connect<D: Device>(seat: &mut Option<Seat<D>>) -> bool
     false
 }
 
+/// The data connection of the session of that number is made; tells whether a frame waited for it.
 pub fn connect_at<D: Device>(seats: &mut [Option<Seat<D>>], number: u64) -> bool
     ensures answer { result ≡ is_waiting (frame_in (session_in (seat_of (seen_seats D.state seats.old) number))) }
     ensures after { seen_seats D.state seats.new ≡ on_seat (on_session after_connected) number (seen_seats D.state seats.old) }
@@ -137,6 +138,7 @@ fn lose_seat<D: Device>(seat: &mut Option<Seat<D>>)
     }
 }
 
+/// The data connection of the session of that number is lost.
 pub fn lose_at<D: Device>(seats: &mut [Option<Seat<D>>], number: u64)
     ensures { seen_seats D.state seats.new ≡ on_seat (on_session after_lost) number (seen_seats D.state seats.old) }
 {
@@ -158,6 +160,7 @@ fn turn_seat<D: Device>(seat: &mut Option<Seat<D>>, buf: &mut [u8]) -> DataStep
     DataStep::Idle
 }
 
+/// One turn of the data connection of the session of that number.
 pub fn turn_at<D: Device>(seats: &mut [Option<Seat<D>>], number: u64, buf: &mut [u8]) -> DataStep
     requires { 8 ≤ length buf.old }
     ensures { TurnsSeats number (seen_seats D.state seats.old) result (seen_seats D.state seats.new) buf.new }

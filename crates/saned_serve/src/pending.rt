@@ -52,12 +52,14 @@ impl Pending {
         })
     }
 
+    /// Whether none wait.
     pub fn is_empty(&self) -> bool
         ensures { IsTrue result ↔ (self.now ≡ []) }
     {
         self.from == self.to
     }
 
+    /// Drops those that wait.
     pub fn clear(&mut self)
         ensures { self.new ≡ [] }
     {

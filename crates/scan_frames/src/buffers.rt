@@ -245,6 +245,7 @@ impl Buffers {
         self.made == 0
     }
 
+    /// Which pass of the scan the frame is, from 0.
     pub fn pass(&self) -> u32
         ensures { result ≡ self.now.pass }
     {

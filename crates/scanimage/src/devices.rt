@@ -44,6 +44,7 @@ fn pages(rt: &HostRuntime, line: &ConfigLine) -> Result<Vec<Source>, Ending> {
     Ok(sources)
 }
 
+/// The flatbed of a config line, on its page.
 pub fn flatbed(rt: &HostRuntime, line: &ConfigLine) -> Result<Box<Flatbed>, Ending> {
     let (name, source) = parts(rt, line)?;
     match Flatbed::new(rt.alloc(), name, source, ORDER) {
@@ -52,6 +53,7 @@ pub fn flatbed(rt: &HostRuntime, line: &ConfigLine) -> Result<Box<Flatbed>, Endi
     }
 }
 
+/// The hand scanner of a config line, on its page.
 pub fn hand_scanner(rt: &HostRuntime, line: &ConfigLine) -> Result<Box<HandScanner>, Ending> {
     let (name, source) = parts(rt, line)?;
     match HandScanner::new(rt.alloc(), name, source, ORDER) {
@@ -60,6 +62,7 @@ pub fn hand_scanner(rt: &HostRuntime, line: &ConfigLine) -> Result<Box<HandScann
     }
 }
 
+/// The three-pass scanner of a config line, on its page.
 pub fn three_pass(rt: &HostRuntime, line: &ConfigLine) -> Result<Box<ThreePass>, Ending> {
     let (name, source) = parts(rt, line)?;
     match ThreePass::new(rt.alloc(), name, source, ORDER) {
@@ -68,6 +71,7 @@ pub fn three_pass(rt: &HostRuntime, line: &ConfigLine) -> Result<Box<ThreePass>,
     }
 }
 
+/// The page feeder of a config line, with its tray of pages.
 pub fn feeder(rt: &HostRuntime, line: &ConfigLine) -> Result<Box<Feeder>, Ending> {
     let sources = pages(rt, line)?;
     match Feeder::new(rt.alloc(), name(rt, line)?, sources, ORDER) {

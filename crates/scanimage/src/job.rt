@@ -4,6 +4,7 @@ use scanimage_cli::{Ending, Options, Output};
 /// Who asks, where nobody is named.
 const ANYBODY: &[u8] = b"user";
 
+/// A text of these bytes, which hold no NUL.
 pub fn text(rt: &HostRuntime, bytes: &[u8]) -> Result<Text, Ending> {
     Text::new(rt.alloc(), bytes).map_err(|_| Ending::no_memory())
 }

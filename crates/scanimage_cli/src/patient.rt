@@ -9,6 +9,7 @@ pub struct Patient<W> {
 }
 
 impl<W> Patient<W> {
+    /// A writer to another that has made no write again yet.
     pub fn new(to: W) -> Patient<W> {
         Patient {
             to,

@@ -24,6 +24,7 @@ impl Model for ReadRoom {
 }
 
 impl ReadRoom {
+    /// Room for 4,096 bytes, of which none wait.
     pub fn new() -> Self
         ensures { result ≡ [] }
     {

@@ -102,6 +102,7 @@ fn options_of_lease<D: Device>(
     }
 }
 
+/// What the options of a word's device are; none where the word stands for no device.
 pub fn options_at<D: Device>(
     alloc: Global,
     held: &[Option<Lease<D>>],

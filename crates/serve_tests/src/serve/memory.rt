@@ -51,6 +51,7 @@ impl MemorySocket {
         self
     }
 
+    /// It is lost behind its script, and once it has taken all that it takes.
     pub fn cut(mut self) -> MemorySocket {
         self.is_cut = true;
         self
@@ -107,6 +108,7 @@ pub struct MemoryNet<R: Abort + Drop> {
 }
 
 impl<R: Abort + Drop> MemoryNet<R> {
+    /// A net without connections, which aborts where what it hands out or takes back is not as it must be.
     pub fn new(rt: R, alloc: Global) -> MemoryNet<R> {
         MemoryNet {
             rt,

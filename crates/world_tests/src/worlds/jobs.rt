@@ -15,6 +15,7 @@ pub struct Worked<'a> {
 }
 
 impl<'a> Worked<'a> {
+    /// The job that it asks for.
     pub fn asked(&self) -> Asked<'a> {
         Asked {
             device: self.scanner.name,
@@ -41,6 +42,7 @@ pub const ONE_DOT: Worked<'static> = Worked {
     shown: Shown::File(DOT_FILE),
 };
 
+/// A color file of two dots, as `ppl-loss` leaves them.
 pub const LOST_DOTS_FILE: &[u8] = b"P6\n# SANE data follows\n2 1\n255\n\x01\x02\x03\x04\x05\x06";
 
 /// Two dots in color and three lost ones, a byte a read.
@@ -99,6 +101,7 @@ pub const BY_HAND: Worked<'static> = Worked {
     ..ONE_DOT
 };
 
+/// A gray file of two dots.
 pub const PAIR_FILE: &[u8] = b"P5\n# SANE data follows\n2 1\n255\n\xaa\xbb";
 
 /// Two dots in a row.

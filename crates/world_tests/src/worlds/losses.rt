@@ -2,8 +2,10 @@
 
 use super::*;
 
+/// A color page of two dots of 16 bits, whose channels all differ.
 pub const COLORS: &[u8] = b"P6\n2 1\n65535\n\0\x01\0\x02\0\x03\0\x04\0\x05\x01\0";
 
+/// The settings of a whole scan in three passes, blue first.
 pub const PASSES: &[(&[u8], &[u8])] = &[
     (b"mode", b"Color"),
     (b"depth", b"16"),
@@ -13,9 +15,11 @@ pub const PASSES: &[(&[u8], &[u8])] = &[
     (b"br-y", b"1"),
 ];
 
+/// The file of a whole scan.
 pub const WHOLE: &[u8] =
     b"P6\n# SANE data follows\n2 1\n65535\n\0\x01\0\x02\0\x03\0\x04\0\x05\x01\0";
 
+/// The three-pass scanner on that page.
 pub const THREE_PASS: Scanner<'static> = Scanner {
     kind: DeviceKind::ThreePass,
     name: b"threepass:0",
@@ -24,6 +28,7 @@ pub const THREE_PASS: Scanner<'static> = Scanner {
     pages: &[COLORS],
 };
 
+/// The job that scans it whole.
 pub const SCAN: Asked<'static> = Asked {
     device: b"threepass:0",
     settings: PASSES,

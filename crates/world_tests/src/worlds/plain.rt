@@ -64,6 +64,7 @@ pub enum Deed {
     Cancel,
 }
 
+/// The event that is this deed of a job.
 pub fn event_of(i: usize, deed: Deed) -> Event {
     match deed {
         Deed::Connect => Event::Connect(i),
@@ -108,6 +109,7 @@ pub struct Place {
 }
 
 impl Place {
+    /// A scanner at rest, held by nobody.
     pub const fn new(passes: u32, line: usize, tray: [Option<&'static [u8]>; 2]) -> Place {
         Place {
             passes,
@@ -207,6 +209,7 @@ pub struct Party {
 }
 
 impl Party {
+    /// A client that has not connected yet.
     pub const fn new(aim: Aim) -> Party {
         Party {
             aim,
@@ -236,6 +239,7 @@ impl Party {
         self.over == Over::Running
     }
 
+    /// Whether the rules let the deed happen now.
     pub fn can(&self, deed: Deed) -> bool {
         match deed {
             Deed::Connect => self.is_running() && !self.was_connected,

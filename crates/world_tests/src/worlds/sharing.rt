@@ -65,6 +65,7 @@ fn two_clients_want_one_device(rt: HostRuntime) {
 /// Black, and its file.
 pub const BLACK: &[u8] = b"P6\n2 1\n65535\n\0\0\0\0\0\0\0\0\0\0\0\0";
 
+/// A color file of two black dots of 16 bits.
 pub const BLACK_FILE: &[u8] = b"P6\n# SANE data follows\n2 1\n65535\n\0\0\0\0\0\0\0\0\0\0\0\0";
 
 /// The first frame of a scan in three passes is over, and the second not begun.
@@ -114,8 +115,10 @@ fn pages_laid_in_between_frames(rt: HostRuntime) {
     }
 }
 
+/// A gray file of one dot, 7.
 pub const SEVEN: &[u8] = b"P5\n# SANE data follows\n1 1\n255\n\x07";
 
+/// A gray file of one dot, 9.
 pub const NINE: &[u8] = b"P5\n# SANE data follows\n1 1\n255\n\x09";
 
 const FEEDER: Scanner<'static> = Scanner {
