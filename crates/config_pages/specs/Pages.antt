@@ -6,8 +6,8 @@ use Rattle.page_picture.specs.PageFile.{TellsPage, HasFault}
 use Rattle.page_picture.specs.Source.{SourceState}
 use Rattle.page_picture.specs.declared.page_file.PageFault.{PageFault}
 use Rattle.page_picture.specs.declared.page_file.PageFault.TheVariants.{BadMagic, NoMem}
-use Rattle.config_pages.specs.declared.no_page.NoPage.{NoPage}
-use Rattle.config_pages.specs.declared.no_page.NoPage.TheVariants.{CannotRead, Fault}
+use Rattle.config_pages.specs.declared.no_page.SourceFault.{SourceFault}
+use Rattle.config_pages.specs.Texts.{source_fault}
 
 -- the digits of a page that stands in its line; none where a path stands there
 abbrev pub hex_digits : List ℕ → Option (List ℕ)
@@ -27,6 +27,5 @@ HasSpelledFault fault digits dpi =
     ⊎ ((file : List ℕ) × (decode_of digits ≡ Ok file) × HasFault fault file dpi)
 
 -- why a page that stands in its line is not there; it is always read
-abbrev pub IsSpelledFault : NoPage → List ℕ → ℕ → Type 0
-IsSpelledFault CannotRead digits dpi = ⊥
-IsSpelledFault (Fault fault) digits dpi = HasSpelledFault fault digits dpi
+abbrev pub IsSpelledFault : SourceFault → List ℕ → ℕ → Type 0
+IsSpelledFault why digits dpi = (fault : PageFault) × (why ≡ source_fault fault) × HasSpelledFault fault digits dpi

@@ -1,20 +1,27 @@
--- The texts of why a page is not there.
+-- Why a page is not there, and the texts of that.
 use Rattle.std.specs.Prelude.{ℕ, List, codes}
 use Rattle.page_picture.specs.declared.page_file.PageFault.{PageFault}
-use Rattle.page_picture.specs.declared.page_file.PageFault.TheVariants.{BadMagic, BadHeader, SampleTooLarge, Short, Trailing, BadDpi, NoMem}
+use Rattle.page_picture.specs.declared.page_file.PageFault.TheVariants as faults
 use Rattle.config_pages.specs.declared.no_page.NoPage.{NoPage}
-use Rattle.config_pages.specs.declared.no_page.NoPage.TheVariants.{CannotRead, Fault}
+use Rattle.config_pages.specs.declared.no_page.NoPage.TheVariants.{CannotRead, BadMagic, BadHeader, SampleTooLarge, Short, Trailing}
+use Rattle.config_pages.specs.declared.no_page.SourceFault.{SourceFault}
+use Rattle.config_pages.specs.declared.no_page.SourceFault.TheVariants as sources
+
+-- why the page of a file with that fault has no source
+abbrev pub source_fault : PageFault → SourceFault
+source_fault faults.BadMagic = sources.NoPage BadMagic
+source_fault faults.BadHeader = sources.NoPage BadHeader
+source_fault faults.SampleTooLarge = sources.NoPage SampleTooLarge
+source_fault faults.Short = sources.NoPage Short
+source_fault faults.Trailing = sources.NoPage Trailing
+source_fault faults.BadDpi = sources.BadDpi
+source_fault faults.NoMem = sources.NoMem
 
 -- a fault of a page file is told by its number
-abbrev pub fault_text : PageFault → List ℕ
-fault_text BadMagic = codes "page fault 1"
-fault_text BadHeader = codes "page fault 2"
-fault_text SampleTooLarge = codes "page fault 3"
-fault_text Short = codes "page fault 4"
-fault_text Trailing = codes "page fault 5"
-fault_text BadDpi = codes "page fault 6"
-fault_text NoMem = codes "page fault 7"
-
 abbrev pub no_page_text : NoPage → List ℕ
 no_page_text CannotRead = codes "cannot read page"
-no_page_text (Fault fault) = fault_text fault
+no_page_text BadMagic = codes "page fault 1"
+no_page_text BadHeader = codes "page fault 2"
+no_page_text SampleTooLarge = codes "page fault 3"
+no_page_text Short = codes "page fault 4"
+no_page_text Trailing = codes "page fault 5"

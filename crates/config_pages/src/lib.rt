@@ -5,5 +5,5 @@ mod no_page;
 mod opening;
 mod spelled;
 
-pub use no_page::NoPage;
+pub use no_page::{NoPage, SourceFault};
 pub use opening::page_source;

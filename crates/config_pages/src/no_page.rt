@@ -1,3 +1,6 @@
+ghost use Rattle.std.specs.Prelude.{◌≡◌};
+ghost use Rattle.config_pages.specs.Texts.{source_fault};
+
 use page_picture::PageFault;
 use thiserror::Error;
 
@@ -7,8 +10,12 @@ use thiserror::Error;
 pub enum NoPage {
     /// Its file cannot be opened or read.
     CannotRead,
-    /// It is no page file; `NoMem` where there was no memory.
-    Fault(PageFault),
+    /// It is no page file, for one of the five faults that a file can have.
+    BadMagic,
+    BadHeader,
+    SampleTooLarge,
+    Short,
+    Trailing,
 }
 
 impl NoPage {
@@ -21,13 +28,38 @@ impl NoPage {
     {
         match self {
             NoPage::CannotRead => "cannot read page",
-            NoPage::Fault(PageFault::BadMagic) => "page fault 1",
-            NoPage::Fault(PageFault::BadHeader) => "page fault 2",
-            NoPage::Fault(PageFault::SampleTooLarge) => "page fault 3",
-            NoPage::Fault(PageFault::Short) => "page fault 4",
-            NoPage::Fault(PageFault::Trailing) => "page fault 5",
-            NoPage::Fault(PageFault::BadDpi) => "page fault 6",
-            NoPage::Fault(PageFault::NoMem) => "page fault 7",
+            NoPage::BadMagic => "page fault 1",
+            NoPage::BadHeader => "page fault 2",
+            NoPage::SampleTooLarge => "page fault 3",
+            NoPage::Short => "page fault 4",
+            NoPage::Trailing => "page fault 5",
         }
+    }
+}
+
+/// Why a page has no source.
+#[derive(Clone, Copy, Debug, PartialEq, Eq, Error)]
+pub enum SourceFault {
+    #[error("{0}")]
+    NoPage(NoPage),
+    /// The dots per inch are not 1 to 1,200, which those of a config are.
+    #[error("bad dpi")]
+    BadDpi,
+    #[error("out of memory")]
+    NoMem,
+}
+
+/// Why the page of a file with that fault has no source.
+pub fn source_fault(fault: PageFault) -> SourceFault
+    ensures { result ≡ source_fault fault }
+{
+    match fault {
+        PageFault::BadMagic => SourceFault::NoPage(NoPage::BadMagic),
+        PageFault::BadHeader => SourceFault::NoPage(NoPage::BadHeader),
+        PageFault::SampleTooLarge => SourceFault::NoPage(NoPage::SampleTooLarge),
+        PageFault::Short => SourceFault::NoPage(NoPage::Short),
+        PageFault::Trailing => SourceFault::NoPage(NoPage::Trailing),
+        PageFault::BadDpi => SourceFault::BadDpi,
+        PageFault::NoMem => SourceFault::NoMem,
     }
 }

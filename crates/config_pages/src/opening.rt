@@ -2,28 +2,29 @@ ghost use Rattle.std.specs.Prelude.{◌≡◌, Some, IfOk, IfErr, IfSome, OnErr,
 ghost use Rattle.page_picture.specs.Shown.{shown};
 ghost use Rattle.config_pages.specs.Pages.{hex_digits, GivesSpelled, IsSpelledFault};
 
-use crate::no_page::NoPage;
+use crate::no_page::{NoPage, SourceFault, source_fault};
 use crate::spelled::{hex_digits, hex_page};
 use page_picture::{OpenFault, PnmPage, Source};
 use std::fs::File;
 
 /// The page in the file of that path, relative to the current folder.
-fn file_page(rt: &HostRuntime, path: &[u8], dpi: u32) -> Result<PnmPage<File>, NoPage>
+fn file_page(rt: &HostRuntime, path: &[u8], dpi: u32) -> Result<PnmPage<File>, SourceFault>
     ensures dots { IfOk result (λ page. page.shown.page.dpi ≡ dpi) }
 {
-    let path = std::str::from_utf8(path).map_err(|_| NoPage::CannotRead)?;
-    let file = File::open(rt, path).map_err(|_| NoPage::CannotRead)?;
+    let cannot_read = SourceFault::NoPage(NoPage::CannotRead);
+    let path = std::str::from_utf8(path).map_err(|_| cannot_read)?;
+    let file = File::open(rt, path).map_err(|_| cannot_read)?;
     match PnmPage::open(rt.alloc(), file, dpi) {
         Ok(page) => Ok(page),
-        Err((OpenFault::Device, _)) => Err(NoPage::CannotRead),
-        Err((OpenFault::Page(fault), _)) => Err(NoPage::Fault(fault)),
+        Err((OpenFault::Device, _)) => Err(cannot_read),
+        Err((OpenFault::Page(fault), _)) => Err(source_fault(fault)),
     }
 }
 
 /// The page that a config's line names, at so many dots per inch: `hex:` and the bytes of its file in
 /// hexadecimal, of which odd or other digits are no page file, or the path of its file, which is then
 /// read row by row.
-pub fn page_source(rt: &HostRuntime, page: &[u8], dpi: u32) -> Result<Source, NoPage>
+pub fn page_source(rt: &HostRuntime, page: &[u8], dpi: u32) -> Result<Source, SourceFault>
     ensures found { IfOk result (λ source. (digits : List ℕ) → hex_digits page.now ≡ Some digits → GivesSpelled digits dpi (shown source)) }
     ensures fault { IfErr result (λ why. (digits : List ℕ) → hex_digits page.now ≡ Some digits → IsSpelledFault why digits dpi) }
     ensures dots { IfOk result (λ source. (shown source).page.dpi ≡ dpi) }
@@ -31,7 +32,7 @@ pub fn page_source(rt: &HostRuntime, page: &[u8], dpi: u32) -> Result<Source, No
     match hex_digits(page) {
         Some(digits) => match hex_page(rt.alloc(), digits, dpi) {
             Ok(page) => Ok(Source::Memory(page)),
-            Err(fault) => Err(NoPage::Fault(fault)),
+            Err(fault) => Err(source_fault(fault)),
         },
         None => Ok(Source::Pnm(file_page(rt, page, dpi)?)),
     }

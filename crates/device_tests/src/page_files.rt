@@ -1,7 +1,7 @@
 ghost use Rattle.std.specs.Prelude.{◌≡◌};
 
-use config_pages::{NoPage, page_source};
-use page_picture::{PageFault, PageSource};
+use config_pages::{NoPage, SourceFault, page_source};
+use page_picture::PageSource;
 use std::fs;
 use std::test::Fail;
 
@@ -20,7 +20,7 @@ fn only_row<S: PageSource>(source: &mut S) -> Result<[u16; 6], Fail>
     }
 }
 
-fn refusal(rt: &HostRuntime, page: &[u8]) -> Option<NoPage> {
+fn refusal(rt: &HostRuntime, page: &[u8]) -> Option<SourceFault> {
     page_source(rt, page, 26).err()
 }
 
@@ -51,34 +51,22 @@ fn pages_that_are_not_there(rt: HostRuntime) -> Result<(), Fail> {
         (b"none.pgm".as_slice(), NoPage::CannotRead),
         (b".", NoPage::CannotRead),
         (b"HEX:50", NoPage::CannotRead),
-        (b"hex:5", NoPage::Fault(PageFault::BadMagic)),
-        (b"hex:5g", NoPage::Fault(PageFault::BadMagic)),
-        (b"hex:", NoPage::Fault(PageFault::BadMagic)),
-        (b"hex:50340a3120310a80", NoPage::Fault(PageFault::BadMagic)),
-        (
-            b"hex:50350a3020310a3235350a00",
-            NoPage::Fault(PageFault::BadHeader),
-        ),
-        (
-            b"hex:50350a3120310a31300a0b",
-            NoPage::Fault(PageFault::SampleTooLarge),
-        ),
-        (
-            b"hex:50350a3120310a3235350a",
-            NoPage::Fault(PageFault::Short),
-        ),
-        (
-            b"hex:50350a3120310a3235350a0000",
-            NoPage::Fault(PageFault::Trailing),
-        ),
-        (b"short.pgm", NoPage::Fault(PageFault::Short)),
+        (b"hex:5", NoPage::BadMagic),
+        (b"hex:5g", NoPage::BadMagic),
+        (b"hex:", NoPage::BadMagic),
+        (b"hex:50340a3120310a80", NoPage::BadMagic),
+        (b"hex:50350a3020310a3235350a00", NoPage::BadHeader),
+        (b"hex:50350a3120310a31300a0b", NoPage::SampleTooLarge),
+        (b"hex:50350a3120310a3235350a", NoPage::Short),
+        (b"hex:50350a3120310a3235350a0000", NoPage::Trailing),
+        (b"short.pgm", NoPage::Short),
     ] {
-        assert!(rt; refusal(&rt, page) == Some(why));
+        assert!(rt; refusal(&rt, page) == Some(SourceFault::NoPage(why)));
     }
     for dpi in [0, 1201] {
         match page_source(&rt, b"hex:50350a3120310a3235350a00", dpi) {
             Ok(_) => panic!(rt; "not refused"),
-            Err(why) => assert!(rt; why == NoPage::Fault(PageFault::BadDpi)),
+            Err(why) => assert!(rt; why == SourceFault::BadDpi),
         }
     }
     Ok(())
@@ -88,13 +76,11 @@ fn pages_that_are_not_there(rt: HostRuntime) -> Result<(), Fail> {
 fn texts_of_why(rt: HostRuntime) -> Result<(), Fail> {
     for (why, text) in [
         (NoPage::CannotRead, "cannot read page"),
-        (NoPage::Fault(PageFault::BadMagic), "page fault 1"),
-        (NoPage::Fault(PageFault::BadHeader), "page fault 2"),
-        (NoPage::Fault(PageFault::SampleTooLarge), "page fault 3"),
-        (NoPage::Fault(PageFault::Short), "page fault 4"),
-        (NoPage::Fault(PageFault::Trailing), "page fault 5"),
-        (NoPage::Fault(PageFault::BadDpi), "page fault 6"),
-        (NoPage::Fault(PageFault::NoMem), "page fault 7"),
+        (NoPage::BadMagic, "page fault 1"),
+        (NoPage::BadHeader, "page fault 2"),
+        (NoPage::SampleTooLarge, "page fault 3"),
+        (NoPage::Short, "page fault 4"),
+        (NoPage::Trailing, "page fault 5"),
     ] {
         let told = format!(in rt.alloc(); "{why}")?;
         assert!(rt; told.as_str() == text);

@@ -97,9 +97,7 @@ fn as_strs<'a>(alloc: Global, options: &'a [String]) -> Result<Vec<&'a str>, Opt
     let mut strs = Vec::new(alloc);
     strs.push("saned").map_err(|_| OptionsFault::NoMem)?;
     for option in options {
-        strs.push(option.as_str()).map_err(
-            |_| OptionsFault::NoMem,
-        )?;
+        strs.push(option.as_str()).map_err(|_| OptionsFault::NoMem)?;
     }
     Ok(strs)
 }
@@ -121,12 +119,7 @@ fn byte_order(found: Option<&str>) -> Result<ByteOrder, OptionsFault> {
 
 /// The number that a text writes where there is one, and else the default. `Bad` just where the text writes none between
 /// the two.
-fn number(
-    text: Option<&str>,
-    default: u64,
-    least: u64,
-    most: u64,
-) -> Result<u64, OptionsFault>
+fn number(text: Option<&str>, default: u64, least: u64, most: u64) -> Result<u64, OptionsFault>
     requires { (least ≤ default) × (default ≤ most) }
     ensures ok { IfOk result (IsNumberOf least most default (option_map (λ text. text.now) text.entry)) }
     ensures err { IfErr result (λ fault. (fault ≡ OptionsFault.Bad) × ((n : ℕ) → n < 2 ^ 64 → ¬ IsNumberOf least most default (option_map (λ text. text.now) text.entry) n)) }
@@ -164,12 +157,7 @@ pub fn read_options(alloc: Global, words: &[String]) -> Result<Options, OptionsF
     let port = number(found.get_str("port"), SANE_PORT, 0, MOST_PORT)?;
     let byte_order = byte_order(found.get_str("byte-order"))?;
     let sessions = number(found.get_str("sessions"), 0, 0, MOST_SESSIONS)?;
-    let idle_turns = number(
-        found.get_str("idle-turns"),
-        IDLE_TURNS,
-        1,
-        MOST_IDLE_TURNS,
-    )?;
+    let idle_turns = number(found.get_str("idle-turns"), IDLE_TURNS, 1, MOST_IDLE_TURNS)?;
     Ok(Options {
         config,
         users,

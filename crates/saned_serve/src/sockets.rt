@@ -52,8 +52,7 @@ pub trait Listeners {
     /// ended by now are of no frame. What takes connections only as they are dialled has none such, and does nothing.
     fn forget_ended(&mut self, _port: u16)
         ensures { ledger self.new ≡ ledger self.old }
-    {
-    }
+    {}
 
     /// A connection at such a port, where one is there.
     fn accept_data(&mut self, port: u16) -> Option<Self::Conn>

@@ -1,8 +1,8 @@
-use config_pages::{NoPage, page_source};
+use config_pages::{NoPage, SourceFault, page_source};
 use dispatch::ConfigLine;
 use flatbed_dev::{Feeder, Flatbed};
 use hand_dev::HandScanner;
-use page_picture::{PageFault, Source};
+use page_picture::Source;
 use sane_fixed::{ByteOrder, Text};
 use scanimage_cli::Ending;
 use threepass_dev::ThreePass;
@@ -14,8 +14,10 @@ const ORDER: ByteOrder = ByteOrder::Big;
 fn page(rt: &HostRuntime, line: &ConfigLine, text: &Text) -> Result<Source, Ending> {
     match page_source(rt, text.as_bytes(), line.dpi) {
         Ok(source) => Ok(source),
-        Err(NoPage::Fault(PageFault::NoMem)) => Err(Ending::no_memory()),
-        Err(why) => Err(Ending::Page(line.line, why)),
+        Err(SourceFault::NoMem) => Err(Ending::no_memory()),
+        Err(SourceFault::NoPage(why)) => Err(Ending::Page(line.line, why)),
+        // The dots per inch of a config are 1 to 1,200.
+        Err(SourceFault::BadDpi) => Err(Ending::Page(line.line, NoPage::CannotRead)),
     }
 }
 

@@ -4,7 +4,6 @@ use constraint::{Range, StringList, WordList};
 use device_api::DeviceInfo;
 use dispatch::{ConfigFault, ConfigReason};
 use option_desc::{Constraint, Descriptor, Value};
-use page_picture::PageFault;
 use sane_fixed::{Cap, Fixed, Info, Kind, Status, Unit};
 use scan_job::{Report, Why};
 use scanimage_cli::{Ending, device_list, is_any_rounded, options_table, rounded_lines};
@@ -25,7 +24,7 @@ fn unread(rt: &impl Abort, alloc: Global) -> [(Ending, &'static [u8]); 4] {
         line: 2,
         reason: ConfigReason::SameName,
     };
-    let short = NoPage::Fault(PageFault::Short);
+    let short = NoPage::Short;
     [
         (
             Ending::CannotRead(text(rt, alloc, b"a.conf")),

@@ -28,7 +28,7 @@ pub const OPEN_REPLY: &[u8] = b"\0\0\0\0\0\0\0\0\0\0\0\0";
 /// The reply to `OPEN` of a device that is leased.
 pub const BUSY_REPLY: &[u8] = b"\0\0\0\x03\0\0\0\0\0\0\0\0";
 
-/// The replies to `SETS`.
+/// The replies to the three settings of `ONE_SAMPLE`.
 pub const SET_REPLIES: &[u8] =
     b"\0\0\0\0\0\0\0\x04\0\0\0\x01\0\0\0\x04\0\0\0\x01\0\0\0\x1a\0\0\0\0\0\0\0\0\0\0\0\x04\0\0\0\x02\0\0\0\x04\0\0\0\x01\0\x01\0\0\0\0\0\0\0\0\0\0\0\0\0\x04\0\0\0\x02\0\0\0\x04\0\0\0\x01\0\x01\0\0\0\0\0\0";
 
