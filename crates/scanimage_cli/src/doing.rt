@@ -87,9 +87,10 @@ pub fn do_batch<S: Shelf>(
     ensures rest { is_at_rest (state device.new).phase ≡ true }
 {
     match run_local_batch(alloc, device, job, shelf) {
-        Outcome::Done(reports) => {
-            texts_of(alloc, &*device, job.task, &reports).map_err(|_| Ending::no_memory())
-        }
+        Outcome::Done(reports) => match texts_of(alloc, &*device, job.task, &reports) {
+            Ok(printed) => Ok(printed),
+            Err(_) => Err(Ending::no_memory()),
+        },
         Outcome::Ended(status, why) => Err(Ending::Ended(status, why)),
         Outcome::Running => Err(Ending::failed_output()),
     }
