@@ -35,6 +35,12 @@ impl<D> Model for Registry<D> {
     ghost invariant = { λ r. length r.places.items ≤ 16 };
 }
 
+/// A table that is no more. Only what has it drops a lease.
+#[derive(Drop)]
+pub struct Retired {
+    _private: (),
+}
+
 /// Why devices are refused.
 #[derive(Clone, Copy, Debug, PartialEq, Eq, Error)]
 pub enum RegistryFault {
@@ -133,6 +139,24 @@ impl<D: Device> Registry<D> {
         };
         put_into(&mut self.places, k, Slot::Gone);
         Ok(device)
+    }
+}
+
+impl<D: Drop> Registry<D> {
+    /// Drops the table and the devices that are in: for one that goes together with its leases.
+    pub fn retire(self) -> Retired {
+        let Registry { places: _places } = self;
+        Retired { _private: () }
+    }
+}
+
+impl Retired {
+    /// Drops a lease with its device, which no table waits for any more.
+    pub fn drop_lease<D: Drop>(&self, lease: Lease<D>) {
+        let Lease {
+            device: _device,
+            place: _,
+        } = lease;
     }
 }
 

@@ -8,4 +8,3 @@ pub mod Saying
 pub mod Seated
 pub mod Firsts
 pub mod Limits
-pub mod EightSeats

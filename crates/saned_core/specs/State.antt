@@ -126,11 +126,6 @@ abbrev pub session_let_go : Table → Option (Session DeviceState) → Table
 session_let_go t None = t
 session_let_go t (Some s) = given_back t s.held
 
--- the table after all sessions of these seats have ended
-abbrev pub all_let_go : Table → List (Option (Seat DeviceState)) → Table
-all_let_go t [] = t
-all_let_go t (seat ∷ seats) = all_let_go (session_let_go t (session_in seat)) seats
-
 -- eight sessions stand, or no number is left
 abbrev pub is_closed : Core → Bool
 is_closed d = (d.opened == 18446744073709551615) || is_full d.seats

@@ -9,7 +9,7 @@ ghost use Rattle.saned_core.specs.Feeding.{Feeds};
 ghost use Rattle.saned_core.specs.Loading.{load_told, loaded};
 ghost use Rattle.saned_core.specs.Turns.{Turns};
 
-use crate::giving_back::give_back_seats;
+use crate::giving_back::drop_seats;
 use crate::loading::{holder, load_at};
 use crate::seat::{DataStep, Fed, FrameState, OpenFault, Seat, SessionId};
 use crate::seats::{
@@ -24,30 +24,29 @@ use std::alloc::Global;
 use std::marker::Model;
 
 /// The devices, and the sessions that hold leases of them.
-pub struct Hall<D: Device> {
+pub struct Hall<D> {
     registry: Registry<D>,
     seats: [Option<Seat<D>>; 8],
 }
 
-/// All sessions end, so that their leases go back to the table, which is dropped then.
-impl<D: Device> Drop for Hall<D> {
+/// The table is retired, and all leases of it go with it.
+impl<D: Drop> Drop for Hall<D> {
     fn drop(self) {
         let Hall { registry, seats } = self;
-        let mut registry = registry;
-        give_back_seats(&mut registry, seats);
+        drop_seats(&registry.retire(), seats);
     }
 }
 
 /// Sessions over one table of devices. Contracts see it as a `DaemonState`, and its devices by `core`.
 #[derive(Drop)]
-pub struct Daemon<D: Device = Box<dyn Device>> {
+pub struct Daemon<D = Box<dyn Device>> {
     hall: Hall<D>,
     users: Users,
     challenger: Challenger,
     opened: u64,
 }
 
-impl<D: Device> Model for Daemon<D> {
+impl<D> Model for Daemon<D> {
     ghost use Rattle.saned_core.specs.State.{DaemonState};
 
     ghost Value = { DaemonState D };

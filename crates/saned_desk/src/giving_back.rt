@@ -6,7 +6,7 @@ ghost use Rattle.saned_desk.specs.Holding.{back, given_back, seen_held};
 
 use crate::session::Session;
 use device_api::Device;
-use dispatch::{Lease, Registry};
+use dispatch::{Lease, Registry, Retired};
 
 /// Gives back what a device word stands for, if it stands for anything.
 pub fn give_back<D: Device>(registry: &mut Registry<D>, word: Option<Lease<D>>)
@@ -41,4 +41,33 @@ pub fn let_go<D: Device>(registry: &mut Registry<D>, session: Session<D>)
         carriage: _,
     } = session;
     give_back_all(registry, held);
+}
+
+/// Drops what a device word stands for together with the table.
+fn drop_word<D: Drop>(retired: &Retired, word: Option<Lease<D>>) {
+    match word {
+        None => {}
+        Some(lease) => retired.drop_lease(lease),
+    }
+}
+
+/// Drops all that a session holds together with the table.
+fn drop_all<D: Drop>(retired: &Retired, held: [Option<Lease<D>>; 4]) {
+    let [a, b, c, d] = held;
+    drop_word(retired, a);
+    drop_word(retired, b);
+    drop_word(retired, c);
+    drop_word(retired, d);
+}
+
+/// Drops what a session of a daemon that is dropped holds, together with the table.
+pub fn drop_session<D: Drop>(retired: &Retired, session: Session<D>) {
+    let Session {
+        port: _,
+        greeted: _,
+        held,
+        awaited: _awaited,
+        carriage: _,
+    } = session;
+    drop_all(retired, held);
 }

@@ -11,7 +11,7 @@ mod session;
 
 pub use answering::request::answer;
 pub use cancelling::cancel_word;
-pub use giving_back::let_go;
+pub use giving_back::{drop_session, let_go};
 pub use laws::{a_request_keeps_leases, an_end_gives_all_back};
 pub use said::Said;
 pub use session::{Awaited, Carriage, Session};

@@ -22,13 +22,13 @@ const MOST_JOBS: usize = 8;
 
 /// A daemon, and the clients of at most eight jobs.
 #[derive(Drop)]
-pub struct World<D: Device = Box<dyn Device>> {
+pub struct World<D = Box<dyn Device>> {
     pub(crate) alloc: Global,
     pub(crate) daemon: Daemon<D>,
     pub(crate) posts: Vec<Post>,
 }
 
-impl<D: Device> Model for World<D> {
+impl<D> Model for World<D> {
     ghost use Rattle.scan_world.specs.Worlds.{WorldState};
 
     ghost Value = { WorldState D };
