@@ -1,15 +1,18 @@
-# The project's commands. Everything is proved, built and run by `rt`, the command of the Rattle kit.
+# The project's commands; `make help` prints them. Everything is proved, built and run by `rt`, the command of the Rattle kit.
 PREFIX ?= /usr/local
+BIN = $(DESTDIR)$(PREFIX)/bin
+MAN = $(DESTDIR)$(PREFIX)/share/man
 
 # The first line of a scan: a page of one gray sample, 200, at 26 dots per inch.
 DEMO_INPUT := flatbed 0 26 hex:50350a3220310a3235350a0ac8
 DEMO_WORDS := --config - --resolution 26 --br-x 1 --br-y 1
 
-.PHONY: demo build layout test more-edits failing-allocations hostile peer-check bench install need-rt
+.PHONY: demo help build install uninstall check above layout test more-edits failing-allocations hostile peer-check sane-check \
+	bench need-rt need-crate
 
-# One scan from source, before any proof.
+# One scan from source, before any proof: about a minute.
 demo: need-rt
-	@echo 'This run is not proved yet: rt try interprets the source as it is. make build proves it first.'
+	@echo 'This run is not proved yet: rt try interprets the source as it is, in about a minute. make build proves it first.'
 	@echo 'command: scanimage $(DEMO_WORDS)'
 	@echo 'input:   $(DEMO_INPUT)'
 	@echo 'output, byte by byte:'
@@ -17,11 +20,41 @@ demo: need-rt
 	@od -A d -t x1z demo.pgm
 	@rm -f demo.log demo.pgm
 
+# Prints what stands here before each command.
+help:
+	@awk '/^# / { told = told "    " substr($$0, 3) "\n"; next } \
+	/^[a-z-]+:/ && told != "" { split($$0, part, ":"); printf "make %s\n%s", part[1], told } { told = "" }' Makefile
+
 # Proves every crate that the programs stand on, and builds them: crates/scanimage/out/scanimage, crates/saned/out/saned.
-# The run of saned that builds it is one that ends at once, with status 65.
+# Every minute it says how far it is. From nothing it takes tens of minutes; what has not changed is not done again.
 build: need-rt
-	cd crates/scanimage && rt run -- $(DEMO_WORDS) < stdin > /dev/null
-	cd crates/saned && { rt run -- --config - < stdin > /dev/null; [ -x out/saned ]; }
+	tests/build
+
+# Puts the proved programs into PREFIX/bin, and their manual pages where man looks; DESTDIR stands before all of it, for who
+# makes packages. PREFIX is /usr/local by default, and there both programs come before SANE's own scanimage and saned in most
+# shells: `make install PREFIX=/opt/jufteard` puts them where no shell finds them by their bare names, and
+# `make install PREFIX=$HOME/.local` is for one user alone. Programs that are newer than all that they are made of are taken
+# as they are, and nothing is proved again, so that `make build` and then `sudo make install` needs no rt of root's.
+install:
+	@tests/build --where-older
+	install -d $(BIN) $(MAN)/man1 $(MAN)/man8
+	install -m 755 crates/scanimage/out/scanimage $(BIN)/scanimage
+	install -m 755 crates/saned/out/saned $(BIN)/saned
+	install -m 644 docs/scanimage.1 $(MAN)/man1/scanimage.1
+	install -m 644 docs/saned.8 $(MAN)/man8/saned.8
+	@echo 'In a shell whose PATH has $(PREFIX)/bin before the folder of SANE'"'"'s own programs, scanimage and saned are now these.'
+
+# Takes away what install put there, with the same PREFIX and DESTDIR.
+uninstall:
+	rm -f $(BIN)/scanimage $(BIN)/saned $(MAN)/man1/scanimage.1 $(MAN)/man8/saned.8
+
+# Proves one crate: make check CRATE=dispatch. What stands above it is not looked at.
+check: need-rt need-crate
+	cd crates/$(CRATE) && rt check
+
+# Proves every crate that stands on one, the lowest first, and says which they are; in crates of tests it runs the tests too.
+above: need-rt need-crate
+	tests/above $(CRATE)
 
 # Tests that every file is as rt fmt has it, which is where the gate begins.
 layout: need-rt
@@ -51,6 +84,11 @@ hostile: build
 peer-check:
 	tests/peer-check
 
+# Runs SANE's own scanimage against our saned, and ours against SANE's saned, where SANE is installed, and prints a table. The
+# gate leaves it out.
+sane-check:
+	tests/sane-check
+
 # Prints speed and memory beside a peer in the same run. The gate leaves it out.
 bench: need-rt
 	cd crates/bench && rt run -- client Gray 1 1
@@ -59,13 +97,8 @@ bench: need-rt
 	tests/bench-scanimage
 	tests/bench-saned
 
-# Puts the proved programs into $(PREFIX)/bin, and their manual pages where man looks.
-install: build
-	install -d $(PREFIX)/bin $(PREFIX)/share/man/man1
-	install -m 755 crates/scanimage/out/scanimage $(PREFIX)/bin/scanimage
-	install -m 755 crates/saned/out/saned $(PREFIX)/bin/saned
-	install -m 644 docs/scanimage.1 $(PREFIX)/share/man/man1/scanimage.1
-	install -m 644 docs/saned.1 $(PREFIX)/share/man/man1/saned.1
-
 need-rt:
 	@command -v rt > /dev/null || { echo 'jufteard: the command rt of the Rattle kit is not on the PATH' >&2; exit 1; }
+
+need-crate:
+	@[ -n '$(CRATE)' ] && [ -d 'crates/$(CRATE)' ] || { echo 'jufteard: say which crate, as CRATE=dispatch' >&2; exit 1; }
