@@ -1,5 +1,6 @@
 """Clients that say nothing, speak slowly, never read, open the data connection late, twice or never, or are strangers to it;
 more clients than there are seats; a daemon that is stopped and goes on."""
+import socket
 import time
 
 import wire
@@ -71,7 +72,7 @@ def deaf(tally, scale):
         try:
             while time.time() < until:
                 sent += guest.send(wire.asking() * 4096)
-        except TimeoutError:
+        except socket.timeout:
             pass
         grown = daemon.memory() - before
         tally.saw("a client that asks on and on and never reads", "memory within 16 MiB" if grown < 16384 else f"{grown} KiB more after {sent} bytes", grown < 16384)
@@ -106,8 +107,10 @@ def data_connections(tally, scale):
                         tally.saw(fault, "the second closed with its session, without a byte" if is_right else "bytes for the second", is_right)
             elif name == "a stranger's":
                 with connected(port) as stranger:
+                    # Who speaks before the frame is begun is dropped, so he speaks behind its first byte.
+                    begun = read(stranger, 1)
                     stranger.sendall(wire.INIT + wire.opening("hand:0") + b"x" * 1000)
-                    is_right = read(stranger, 10) == SHOWN
+                    is_right = begun + read(stranger, 9) == SHOWN
                     tally.saw(fault, "what it says is not heard; it has the frame, as whoever comes" if is_right else "no frame", is_right)
             served(tally, fault, daemon)
             guest.close()

@@ -85,13 +85,7 @@ SHOWN = (b"\0" + b"\xff" * 323) * 10
 def frame_of(port):
     """The payload of a frame, out of its records; none where it does not end as it must."""
     with connected(port) as frame:
-        text, out = read(frame, 1 << 20), b""
-    while text[:4] != b"\xff\xff\xff\xff":
-        size = int.from_bytes(text[:4], "big")
-        out, text = out + text[4 : 4 + size], text[4 + size :]
-        if len(text) < 5:
-            return None
-    return out if text[4:] == b"\x05" else None
+        return wire.payload(read(frame, 1 << 20))
 
 
 def is_served(port):

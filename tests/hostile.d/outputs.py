@@ -1,12 +1,11 @@
-"""Outputs that fail after each byte, that are full, closed, or whose reader goes; page files that change as they are used."""
-import itertools
+"""Outputs that fail after each byte, that are full, or whose reader goes; page files that change as they are used."""
 import os
 import resource
 import signal
 import subprocess
 import tempfile
 
-from world import OUTPUT, SANED, Daemon, ending, is_whole, netpbm, page, scan, start
+from world import OUTPUT, Daemon, ending, is_whole, netpbm, page, scan, start
 from worked import DOT, WINDOW
 
 FLATBED = f"flatbed 0 26 {page('P5 1 1 255', bytes([10]))}\n"
@@ -79,34 +78,6 @@ def full_disk(tally, scale):
             subprocess.run(["umount", folder], check=True)
 
 
-def closed(tally, scale):
-    """Standard streams that are closed."""
-    fault = "standard streams that are closed"
-    with tempfile.TemporaryDirectory() as folder, Daemon(FLATBED) as daemon:
-        with open(f"{folder}/config", "w", encoding="ascii") as file:
-            file.write(FLATBED)
-        here, there = ["--config", "config"], ["-d", "net:localhost:flatbed:0", "--port", str(daemon.port)]
-        for streams, place in itertools.product(range(1, 8), (here, there)):
-            for words, to_file in (([], False), (["-o", "picture"], True)):
-                gone = [it for it in range(3) if streams >> it & 1]
-                ended = scan([*place, *WINDOW, *words], cwd=folder, preexec_fn=lambda gone=gone: [os.close(it) for it in gone])
-                got = kept(f"{folder}/picture") if to_file else ended.out
-                if to_file and got is not None:
-                    os.remove(f"{folder}/picture")
-                is_done = ended.status == 0 and got == DOT
-                is_refused = not to_file and 1 in gone and ended.status == 9 and not got and (2 in gone or ended.err == OUTPUT)
-                told = "Done, the file whole" if is_done else "IO_ERROR (output), 9" if is_refused else f"{ended.what()}, {got}"
-                tally.saw(fault, told, is_done or is_refused, f"{gone} closed, {place}, {words}")
-                with open(f"{folder}/config", encoding="ascii") as file:
-                    assert file.read() == FLATBED
-        for gone in ([0], [1], [2], [0, 1], [0, 2], [1, 2], [0, 1, 2]):
-            more = {} if 1 not in gone else {"stdout": subprocess.DEVNULL}
-            process = start(["--config", f"{folder}/config", "--port", "0", "--idle-turns", "100"], SANED,
-                            preexec_fn=lambda gone=gone: [os.close(it) for it in gone], **more)
-            ended = ending(process)
-            tally.saw(fault, f"saned: {ended.what()}", ended.status == 0, f"saned with {gone} closed")
-
-
 def readers_gone(tally, scale):
     """A pipe whose reader goes away after so many bytes."""
     fault = "a pipe whose reader goes away"
@@ -140,5 +111,5 @@ def slow_reader(tally, scale):
 
 
 def outputs(tally, scale):
-    for each in (after_bytes, full_disk, closed, readers_gone, slow_reader):
+    for each in (after_bytes, full_disk, readers_gone, slow_reader):
         each(tally, scale)

@@ -127,6 +127,7 @@ class Relay:
         if pair.is_cut:
             return
         way = pair.way(one)
+        self.passes(way, piece)
         if way == "replies":
             piece = self.with_port(piece)
         if self.cut and self.cut.way == way:
@@ -138,6 +139,9 @@ class Relay:
             pass
         if self.is_due(pair, way):
             pair.cut(self.cut.is_reset)
+
+    def passes(self, way, piece):
+        """What is done before a piece goes on: nothing here."""
 
     def count(self, way, size):
         self.counts[way] += size

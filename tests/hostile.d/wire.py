@@ -127,3 +127,14 @@ def is_started(reply, order=0x1234):
     """Whether these 16 bytes answer a START that was granted; its port, then."""
     status, port, told = struct.unpack(">III", reply[:12])
     return port if len(reply) == 16 and status == 0 and told == order and reply[12:] == NULL and 0 < port < 65536 else None
+
+
+def payload(text):
+    """The payload of a frame out of all bytes of its data connection; none where it does not end as it must."""
+    out = b""
+    while text[:4] != b"\xff\xff\xff\xff":
+        size = int.from_bytes(text[:4], "big")
+        out, text = out + text[4 : 4 + size], text[4 + size :]
+        if len(text) < 5:
+            return None
+    return out if text[4:] == b"\x05" else None

@@ -1,5 +1,6 @@
 """The programs that are judged, what they are run with, and the tally of what came."""
 import collections
+import contextlib
 import os
 import re
 import resource
@@ -15,7 +16,7 @@ SCANIMAGE = os.path.abspath(os.environ.get("SCANIMAGE") or f"{ROOT}/crates/scani
 SANED = os.path.abspath(os.environ.get("SANED") or f"{ROOT}/crates/saned/out/saned")
 
 # Nothing that ends by itself takes longer, also on a machine that has much else to do.
-LIMIT = 120
+LIMIT = int(os.environ.get("HOSTILE_LIMIT") or 120)
 PAGE_OF_MEMORY = resource.getpagesize()
 
 NAMES = "GOOD UNSUPPORTED CANCELLED DEVICE_BUSY INVAL EOF JAMMED NO_DOCS COVER_OPEN IO_ERROR NO_MEM ACCESS_DENIED".split()
@@ -143,6 +144,19 @@ class Daemon:
     def descriptors(self):
         return len(os.listdir(f"/proc/{self.process.pid}/fd"))
 
+    def ports(self):
+        """Where it listens, as everybody on this machine can read it."""
+        return listening_ports(self.process.pid)
+
+    def found(self, limit=30):
+        """Its first port, found where it listens, where its line of the port goes to nobody."""
+        until = time.time() + limit
+        while self.is_up() and time.time() < until:
+            for port in self.ports():
+                return port
+            time.sleep(0.01)
+        return None
+
     def rests_at(self, descriptors, limit=30):
         """Whether it comes to have so many descriptors."""
         until = time.time() + limit
@@ -153,10 +167,39 @@ class Daemon:
         return True
 
     def stop(self):
+        """Stops it, and waits until it does nothing."""
         self.process.send_signal(signal.SIGSTOP)
+        until = time.time() + LIMIT
+        while self.is_up() and time.time() < until:
+            with open(f"/proc/{self.process.pid}/stat", encoding="ascii", errors="replace") as file:
+                if file.read().rpartition(")")[2].split()[0] == "T":
+                    return
+            time.sleep(0.0005)
 
     def go_on(self):
         self.process.send_signal(signal.SIGCONT)
+
+    @contextlib.contextmanager
+    def stopped(self):
+        """All that is done within comes to it in one turn."""
+        self.stop()
+        try:
+            yield
+        finally:
+            self.go_on()
+
+
+def listening_ports(pid):
+    """The ports of 127.0.0.1 at which a process listens."""
+    held = set()
+    for each in os.listdir(f"/proc/{pid}/fd"):
+        try:
+            held.add(os.readlink(f"/proc/{pid}/fd/{each}"))
+        except OSError:
+            pass
+    with open(f"/proc/{pid}/net/tcp", encoding="ascii") as file:
+        rows = [line.split() for line in file][1:]
+    return [int(row[1][-4:], 16) for row in rows if row[3] == "0A" and f"socket:[{row[9]}]" in held]
 
 
 def connected(port, source=None):
@@ -211,13 +254,17 @@ class Tally:
             row[2].append(f"{about}: {came}")
 
     def table(self):
-        """Lines of a table, as docs/ARCHITECTURE.md has it."""
+        """Lines of a table, as docs/MEASURED.md has it, whose cells have at most 60 words."""
         yield "| fault | tried | what came | exceptions |"
         yield "|---|---|---|---|"
         for fault, (tried, came, exceptions) in self.rows.items():
-            told = [f"{count:,} {what}" for what, count in came.most_common(8)]
-            rest = sum(came.values()) - sum(count for _, count in came.most_common(8))
-            told += [f"{rest:,} with other endings that are named"] if rest else []
+            told, left = [], sum(came.values())
+            for what, count in came.most_common():
+                line = f"{count:,} {what}"
+                if len(" ".join([*told, line]).split()) > 50:
+                    break
+                told, left = [*told, line], left - count
+            told += [f"{left:,} with other endings that are named"] if left else []
             yield f"| {fault} | {tried:,} | {'; '.join(told)} | {len(exceptions)} |"
 
     def exceptions(self):
