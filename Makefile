@@ -96,6 +96,7 @@ bench: need-rt
 	[ -x crates/scanimage/out/scanimage ] && [ -x crates/saned/out/saned ] || $(MAKE) build
 	tests/bench-scanimage
 	tests/bench-saned
+	tests/bench-rest
 
 need-rt:
 	@command -v rt > /dev/null || { echo 'jufteard: the command rt of the Rattle kit is not on the PATH' >&2; exit 1; }

@@ -8,7 +8,7 @@ use sane_fixed::ByteOrder;
 use std::alloc::{AllocError, Global};
 use thiserror::Error;
 
-/// The options of the program, as saned(1) has them.
+/// The options of the program, as saned(8) has them.
 #[derive(Drop)]
 pub struct Options {
     pub config: String,
