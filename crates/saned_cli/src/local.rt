@@ -32,10 +32,10 @@ pub struct LocalNet<R: Net + Clock + Drop> {
 struct DataPort {
     port: u16,
     listener: TcpListener,
-    /// The newest connection whose peer may still speak.
+    /// The newest connection that stands both ways.
     open: Option<TcpStream>,
-    /// The newest of the others: its peer closed it, or only means to read, as SANE's own clients do. Nothing but a write
-    /// tells the two apart.
+    /// The newest whose peer ended its side: it closed it, or only means to read, as SANE's own clients do. Nothing but a
+    /// write tells the two apart.
     shut: Option<TcpStream>,
 }
 
@@ -56,13 +56,13 @@ fn is_for_now(e: &io::Error) -> bool {
 }
 
 impl DataPort {
-    /// Keeps a connection by what its peer has done: one that is broken is closed.
+    /// Keeps a connection by what its peer has done: one that is broken, or whose peer speaks, is closed.
     fn keep(&mut self, stream: TcpStream) {
         match stream.peek(&mut [0]) {
             Ok(0) => self.shut = Some(stream),
-            Ok(_) => self.open = Some(stream),
             Err(e) if is_for_now(&e) => self.open = Some(stream),
-            Err(_) => drop(stream),
+            // Where only a daemon speaks, a peer that does is no client.
+            Ok(_) | Err(_) => drop(stream),
         }
     }
 

@@ -100,6 +100,28 @@ fn connections_that_have_ended(rt: HostRuntime) -> Result<(), Fail> {
     Ok(())
 }
 
+/// A client never speaks on a data connection, so that who does is none.
+#[test]
+fn connections_that_speak(rt: HostRuntime) -> Result<(), Fail> {
+    let alloc = rt.alloc();
+    let mut net = LocalNet::bind(rt, alloc, 0)?;
+    let port = net.open_data().expect(&rt, "a data port");
+    let at = SocketAddr::from((Ipv4Addr::LOCALHOST, port));
+    let mut client = TcpStream::connect(&rt, at)?;
+    let mut stranger = TcpStream::connect(&rt, at)?;
+    stranger.write_all(b"x")?;
+    net.forget_ended(port);
+    show(&rt, &mut net, port);
+    let mut bytes = Vec::new(alloc);
+    client.read_to_end(&mut bytes)?;
+    assert!(rt; bytes.as_slice() == b"x".as_slice());
+    let mut late = TcpStream::connect(&rt, at)?;
+    late.write_all(b"x")?;
+    drop(late);
+    assert!(rt; net.accept_data(port).is_none());
+    Ok(())
+}
+
 #[test]
 fn newest_connection(rt: HostRuntime) -> Result<(), Fail> {
     let alloc = rt.alloc();
