@@ -96,6 +96,7 @@ bench: need-rt
 	[ -x crates/scanimage/out/scanimage ] && [ -x crates/saned/out/saned ] || $(MAKE) build
 	tests/bench-scanimage
 	tests/bench-saned
+	tests/bench-peer
 	tests/bench-rest
 
 need-rt:

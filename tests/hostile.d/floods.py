@@ -1,10 +1,10 @@
 """A daemon whose lines are a megabyte long for one place of a picture: the frames of a scan that scanimage keeps until the
 picture is whole. The file is right, and the row tells the most memory that a scanimage took. BOUND may be set to what it may
 take at most, in MiB; while it is not set any memory will do."""
-import os
 import threading
 
 import wire
+from gauge import Gauge
 from noise import FAKE_REPLIES, SCAN
 from world import LIMIT, Ended, listening, netpbm, start
 
@@ -22,11 +22,11 @@ def watched(process):
     """How a program ended, and the most memory that it had, in MiB; one that does not end in time is ended."""
     clock = threading.Timer(LIMIT, process.kill)
     clock.start()
-    out, err = process.stdout.read(), process.stderr.read()
-    _, status, used = os.wait4(process.pid, 0)
+    with Gauge(process, "scanimage") as gauge:
+        out, err = process.stdout.read(), process.stderr.read()
+    process.wait()
     clock.cancel()
-    process.returncode = os.waitstatus_to_exitcode(status)
-    return Ended(None if process.returncode == -9 else process.returncode, out, err), used.ru_maxrss / 1024
+    return Ended(None if process.returncode == -9 else process.returncode, out, err), gauge.most / 1024
 
 
 def flood(frames, lines):
@@ -65,6 +65,6 @@ def floods(tally, scale):
         ("three passes", known, netpbm(f"P6 1 {lines} 255", b"\1\2\3" * lines)),
     ):
         ended, most = flood(frames, lines)
-        is_right = (ended.status, ended.out) == (0, wanted) and (BOUND is None or most <= BOUND)
+        is_right = (ended.status, ended.out) == (0, wanted) and (BOUND is None or 0 < most <= BOUND)
         told = f"its picture of {len(wanted):,} bytes, in {most:.0f} MiB of memory" if ended.out == wanted else ended.what()
         tally.saw(f"lines of a megabyte for one place: {name}", told, is_right, f"{len(frames) * lines} lines")
