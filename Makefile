@@ -65,8 +65,8 @@ layout: need-rt
 test: need-rt
 	tests/gate
 
-# Tries the edits of crates/*/more-edits, which the prover must refuse as well, of each crate that changed since
-# tests/edits.record, many in one check. Of all crates it takes more than two hours on four cores.
+# Tries the edits of crates/*/more-edits, which the prover must refuse as well, on which a change since tests/edits.record
+# bears, many in one check. All of them take more than two hours on four cores.
 more-edits: need-rt
 	tests/edits --changed
 

@@ -153,13 +153,13 @@ after_put_asked : (errand : Errand) (task : Task) (notes : Notes) (reloads : Boo
 after_put_asked errand task notes true = tt
 after_put_asked errand task notes false = next_setting_asked errand task notes
 
-given_asked : (errand : Errand) (task : Task) (notes : Notes) (name : List ℕ) (value : Value) (info : Info) (given : Option Value) → TurnAsked errand (given_to task notes name value info given)
-given_asked errand task notes name value info None = tt
-given_asked errand task notes name value info (Some given) = after_put_asked errand task _ (has_cap info.0 2)
+given_asked : (errand : Errand) (task : Task) (notes : Notes) (kind : Kind) (name : List ℕ) (value : Value) (info : Info) (given : Option Value) → TurnAsked errand (given_to task notes kind name value info given)
+given_asked errand task notes kind name value info None = tt
+given_asked errand task notes kind name value info (Some given) = after_put_asked errand task _ (has_cap info.0 2)
 
 put_good_asked : (errand : Errand) (task : Task) (notes : Notes) (kind : Kind) (name : List ℕ) (value : Value) (status : Status) (info : Info) (given : Kind) (found : WireValue)
     → TurnAsked errand (put_good task notes kind name value status info given found)
-put_good_asked errand task notes kind name value statuses.Good info given found = given_asked errand task notes name value info (of_kind kind given (given_like value found))
+put_good_asked errand task notes kind name value statuses.Good info given found = given_asked errand task notes kind name value info (of_kind kind given (given_like value found))
 put_good_asked errand task notes kind name value status info given found = tt
 
 put_asked : (errand : Errand) (task : Task) (notes : Notes) (kind : Kind) (name : List ℕ) (value : Value) (status : Status) (info : Info) (given : Kind) (found : WireValue) (resource : List ℕ)

@@ -1,6 +1,6 @@
 -- What comes of a piece of a data connection, and the file of a page.
 use Rattle.std.proofs.Common.{arith, ◌≡◌, ◌∙◌, ◌≤◌, ◌+◌, ℕ, inl, inr, Option, Some, None, Bool, true, false, List, [], ◌∷◌, ◌++◌, refl, sym, ap, subst, length, length-append, lt-ltb, le-ltb, ltb-true, ltb-false}
-use Rattle.std.specs.Prelude.{if◌then◌else◌, nat_lt}
+use Rattle.std.specs.Prelude.{if◌then◌else◌, nat_lt, option_map}
 use Rattle.sane_fixed.specs.declared.status.Status.TheVariants as statuses
 use Rattle.device_api.specs.declared.device_info.DeviceInfo.{DeviceInfo}
 use Rattle.page_picture.specs.Shows.{Frame}
@@ -10,8 +10,12 @@ use Rattle.frame_join.specs.declared.join_stage.JoinFault.TheVariants as faults
 use Rattle.frame_join.specs.declared.join_stage.Stage.{Stage}
 use Rattle.frame_join.specs.declared.join_stage.Stage.TheVariants as joins
 use Rattle.frame_join.specs.FrameHistory.{Past, no_past, after_pull, failed, after_feed, fed as fed_past}
-use Rattle.frame_join.specs.Joining.{Joining, Stands, StandsAt}
-use Rattle.frame_join.specs.JoinStages.{fault_in}
+use Rattle.frame_join.specs.PixelJoining.{PixelStandsAt}
+use Rattle.frame_join.specs.Pixels.{pixels_of, pixel_past}
+use Rattle.frame_join.specs.Joining.{Joining, Stands, HasCome, IsComing}
+use Rattle.frame_join.specs.JoinStages.{fault_in, is_keeping}
+use Rattle.frame_join.proofs.PixelParams.{pixels_same}
+use Rattle.frame_join.proofs.PixelSteps.{alone_not_kept, some_same, under_alone}
 use Rattle.scan_job.specs.declared.outcome.Outcome.{Outcome}
 use Rattle.scan_job.specs.declared.outcome.Outcome.TheVariants.{Running, Done, Ended}
 use Rattle.scan_job.specs.declared.outcome.Why.TheVariants as whys
@@ -49,25 +53,30 @@ use Rattle.option_desc.specs.declared.descriptor.Descriptor.{Descriptor}
 
 -- ---- a data connection
 
--- what a join keeps of a frame is no more than the frame may have
-short_stage : (s : Stage) (past : Past) (f : Frame) (v : Joining) → StandsAt s past v → past.under ≡ Some f → past.fault ≡ None → ((fault : JoinFault) → s ≡ joins.Failed fault → ⊥) → length f.payload ≤ most_bytes f.params
-short_stage joins.Idle past f v h u c n = absurd (let clash : None ≡ Some f = sym h.1 ∙ u in cc)
-short_stage joins.Under past f v h u c n =
-    let same : h.0 ≡ f = (let e : Some h.0 ≡ Some f = sym h.2 ∙ u in cc) in
-    subst (λ (g : Frame). length g.payload ≤ most_bytes g.params) same h.3.most
-short_stage joins.Keeping past f v h u c n =
-    let same : h.0 ≡ f = (let e : Some h.0 ≡ Some f = sym h.1 ∙ u in cc) in
-    subst (λ (g : Frame). length g.payload ≤ most_bytes g.params) same h.2.most
-short_stage joins.Between past f v h u c n = absurd (let clash : None ≡ Some f = sym h.0 ∙ u in cc)
-short_stage joins.Whole past f v h u c n = absurd (let clash : None ≡ Some f = sym h.2 ∙ u in cc)
-short_stage joins.WholeColors past f v h u c n = absurd (let clash : None ≡ Some f = sym h.4 ∙ u in cc)
-short_stage (joins.Failed fault) past f v h u c n = absurd (n fault refl)
+-- a frame whose rows go straight through has no more than it may have
+short_under : (past : Past) (f : Frame) (v : Joining) → Stands past v → past.under ≡ Some f → past.fault ≡ None → is_keeping v.pixels.stage ≡ false → length f.payload ≤ most_bytes f.params
+short_under past f v s u c through = by v.pixels.stage s.pixels.at_stage through (sym s.pixels.fault ∙ c)
+  where
+    told : option_map pixels_of past.under ≡ Some f
+    told = ap (option_map pixels_of) u ∙ ap (λ (g : Frame). Some g) (pixels_same f (alone_not_kept f.params (under_alone past v s through c f u)))
 
-calm_stage : (past : Past) (v : Joining) → Stands past v → past.fault ≡ None → (fault : JoinFault) → v.stage ≡ joins.Failed fault → ⊥
-calm_stage past v s c fault e = let clash : None ≡ Some fault = sym c ∙ s.fault ∙ ap fault_in e in cc
+    by : (t : Stage) → PixelStandsAt t (pixel_past past) v.pixels → is_keeping t ≡ false → fault_in t ≡ None → length f.payload ≤ most_bytes f.params
+    by joins.Idle h keeps calm = absurd (let clash : None ≡ Some f = sym h.1 ∙ told in cc)
+    by joins.Under h keeps calm = subst (λ (g : Frame). length g.payload ≤ most_bytes g.params) (some_same h.0 f (sym h.2 ∙ told)) h.3.most
+    by joins.Keeping h keeps calm = absurd (let clash : true ≡ false = keeps in cc)
+    by joins.Between h keeps calm = absurd (let clash : None ≡ Some f = sym h.0 ∙ told in cc)
+    by joins.Whole h keeps calm = absurd (let clash : None ≡ Some f = sym h.2 ∙ told in cc)
+    by joins.WholeColors h keeps calm = absurd (let clash : None ≡ Some f = sym h.4 ∙ told in cc)
+    by (joins.Failed fault) h keeps calm = absurd (let clash : Some fault ≡ None = calm in cc)
 
+-- what a join took of a frame is no more than the frame may have
 short_payload : (past : Past) (f : Frame) (v : Joining) → Stands past v → past.under ≡ Some f → past.fault ≡ None → length f.payload ≤ most_bytes f.params
-short_payload past f v s u c = short_stage v.stage past f v s.at_stage u c (calm_stage past v s c)
+short_payload past f v s u c = elim (is_keeping v.pixels.stage) as (λ t. is_keeping v.pixels.stage ≡ t → length f.payload ≤ most_bytes f.params) [
+  | true ↦ λ keeping. (
+      let come : HasCome f v = subst (λ (o : Option Frame). IsComing o v) u (s.coming keeping) in
+      come.most)
+  | false ↦ λ through. short_under past f v s u c through
+] refl
 
 feed_is : (past : Past) (f : Frame) (bytes : List ℕ) (starved b : Bool) → past.fault ≡ None → past.under ≡ Some f → nat_lt (most_bytes f.params) (length f.payload + length bytes) ≡ b
     → after_feed bytes starved past ≡ (if b then failed faults.Long past else (if starved then failed faults.NoMem past else took past f bytes))

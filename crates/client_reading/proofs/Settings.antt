@@ -154,14 +154,14 @@ after_putting : (x : Side) (task : Task) (notes : Notes) (m : rules.Mind) (reloa
 after_putting x task notes m true t f k b = (f, (k, (refl, b)))
 after_putting x task notes m false t f k b = sets x task notes m t f k b
 
-puts_given : (x : Side) (task : Task) (notes : Notes) (m : rules.Mind) (n : ℕ) (name : List ℕ) (asked : Value) (wish : words.Wish) (info : Info) (v : Option Value) → wish.name ≡ name → x.job.task ≡ task_of task → FilesAs x m
-    → KnowsAs task x.pages notes m → Early notes m → Goes x task (given_to task notes name asked info v) (hear_at (rules.Putting n asked wish (map wish_of notes.left)) x.job m (gave v info))
-puts_given x task notes m n name asked wish info None w t f k b = awry_ends x task notes m f
-puts_given x task notes m n name asked wish info (Some given) w t f k b =
-    after_putting x task (record notes { reports = notes.reports ++ record { name = name; asked = asked; given = given; info = info } ∷ [] })
+puts_given : (x : Side) (task : Task) (notes : Notes) (m : rules.Mind) (n : ℕ) (kind : Kind) (name : List ℕ) (asked : Value) (wish : words.Wish) (info : Info) (v : Option Value) → wish.name ≡ name → x.job.task ≡ task_of task → FilesAs x m
+    → KnowsAs task x.pages notes m → Early notes m → Goes x task (given_to task notes kind name asked info v) (hear_at (rules.Putting n asked wish (map wish_of notes.left)) x.job m (gave v info))
+puts_given x task notes m n kind name asked wish info None w t f k b = awry_ends x task notes m f
+puts_given x task notes m n kind name asked wish info (Some given) w t f k b =
+    after_putting x task (record notes { reports = notes.reports ++ record { name = name; kind = kind; asked = asked; given = given; info = info } ∷ [] })
     (record m { reports = m.reports ++ record { wish = wish; asked = asked; given = given; info = info_of info } ∷ [] }) (has_cap info.0 2) t f
     (record {
-      answers = more_answers notes.reports m.reports (record { name = name; asked = asked; given = given; info = info }) (record { wish = wish; asked = asked; given = given; info = info_of info }) k.answers
+      answers = more_answers notes.reports m.reports (record { name = name; kind = kind; asked = asked; given = given; info = info }) (record { wish = wish; asked = asked; given = given; info = info_of info }) k.answers
           (ap (λ (y : List ℕ). record { name = y; asked = asked; given = given; info = info_of info }) w);
       none = k.none;
       descriptors = k.descriptors;
@@ -176,7 +176,7 @@ puts_given x task notes m n name asked wish info (Some given) w t f k b =
 puts_told : (x : Side) (task : Task) (notes : Notes) (m : rules.Mind) (n : ℕ) (kind : Kind) (name : List ℕ) (asked : Value) (wish : words.Wish) (status : Status) (info : Info) (given : Kind) (found : WireValue)
     → wish.name ≡ name → x.job.task ≡ task_of task → FilesAs x m → KnowsAs task x.pages notes m → Early notes m
     → Hears x task (put_good task notes kind name asked status info given found) m (rules.Putting n asked wish (map wish_of notes.left)) (good status (gave (of_kind kind given (given_like asked found)) info))
-puts_told x task notes m n kind name asked wish statuses.Good info given found w t f k b = puts_given x task notes m n name asked wish info (of_kind kind given (given_like asked found)) w t f k b
+puts_told x task notes m n kind name asked wish statuses.Good info given found w t f k b = puts_given x task notes m n kind name asked wish info (of_kind kind given (given_like asked found)) w t f k b
 puts_told x task notes m n kind name asked wish status info given found w t f k b = refused x task notes m (rules.Putting n asked wish (map wish_of notes.left)) status (λ s. refl) f
 
 puts_plain : (x : Side) (task : Task) (notes : Notes) (m : rules.Mind) (n : ℕ) (kind : Kind) (name : List ℕ) (asked : Value) (wish : words.Wish) (status : Status) (info : Info) (given : Kind) (found : WireValue) (resource : List ℕ)

@@ -179,13 +179,13 @@ puts_after : (task : Task) (past : Past) (notes : Notes) (reloads : Bool) → Is
 puts_after task past notes true b = (refl, b)
 puts_after task past notes false b = next_setting_fits task past notes b
 
-puts_given : (task : Task) (past : Past) (notes : Notes) (name : List ℕ) (value : Value) (info : Info) (given : Option Value) → IsBetween past → NextFits task past (given_to task notes name value info given).next
-puts_given task past notes name value info None b = ends task past b
-puts_given task past notes name value info (Some given) b = puts_after task past _ (has_cap info.0 2) b
+puts_given : (task : Task) (past : Past) (notes : Notes) (kind : Kind) (name : List ℕ) (value : Value) (info : Info) (given : Option Value) → IsBetween past → NextFits task past (given_to task notes kind name value info given).next
+puts_given task past notes kind name value info None b = ends task past b
+puts_given task past notes kind name value info (Some given) b = puts_after task past _ (has_cap info.0 2) b
 
 puts_good : (task : Task) (past : Past) (notes : Notes) (kind : Kind) (name : List ℕ) (value : Value) (status : Status) (info : Info) (given : Kind) (found : WireValue) → IsBetween past
     → NextFits task past (put_good task notes kind name value status info given found).next
-puts_good task past notes kind name value statuses.Good info given found b = puts_given task past notes name value info (of_kind kind given (given_like value found)) b
+puts_good task past notes kind name value statuses.Good info given found b = puts_given task past notes kind name value info (of_kind kind given (given_like value found)) b
 puts_good task past notes kind name value status info given found b = ends task past b
 
 puts_told : (task : Task) (past : Past) (notes : Notes) (kind : Kind) (name : List ℕ) (value : Value) (status : Status) (info : Info) (given : Kind) (found : WireValue) (resource : List ℕ) → IsBetween past

@@ -158,10 +158,10 @@ abbrev pub after_put : Task → Notes → Bool → Turn
 after_put task notes true = turn notes (Wait stages.Describing)
 after_put task notes false = next_setting task notes
 
-abbrev pub given_to : Task → Notes → List ℕ → Value → Info → Option Value → Turn
-given_to task notes name asked info None = turn notes malformed
-given_to task notes name asked info (Some given) =
-    after_put task (record notes { reports = notes.reports ++ record { name = name; asked = asked; given = given; info = info } ∷ [] }) (has_cap info.0 2)
+abbrev pub given_to : Task → Notes → Kind → List ℕ → Value → Info → Option Value → Turn
+given_to task notes kind name asked info None = turn notes malformed
+given_to task notes kind name asked info (Some given) =
+    after_put task (record notes { reports = notes.reports ++ record { name = name; kind = kind; asked = asked; given = given; info = info } ∷ [] }) (has_cap info.0 2)
 
 -- a value of a CONTROL_OPTION reply: no resource, a good status, and the kind that was sent, in that order
 abbrev pub of_kind : Kind → Kind → Option Value → Option Value
@@ -172,7 +172,7 @@ of_kind kinds.String kinds.String value = value
 of_kind sent given value = None
 
 abbrev pub put_good : Task → Notes → Kind → List ℕ → Value → Status → Info → Kind → WireValue → Turn
-put_good task notes kind name asked statuses.Good info given value = given_to task notes name asked info (of_kind kind given (given_like asked value))
+put_good task notes kind name asked statuses.Good info given value = given_to task notes kind name asked info (of_kind kind given (given_like asked value))
 put_good task notes kind name asked status info given value = turn notes (answered status)
 
 abbrev pub put_told : Task → Notes → Kind → List ℕ → Value → Status → Info → Kind → WireValue → List ℕ → Turn

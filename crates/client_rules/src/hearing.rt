@@ -297,19 +297,21 @@ fn given_to(
     alloc: Global,
     task: Task,
     notes: &mut Notes,
+    kind: Kind,
     name: Text,
     asked: Value,
     info: Info,
     given: Option<Value>,
 ) -> Result<Next, NoMem>
-    ensures next { IfOk result (λ next. next ≡ (given_to task notes.old name asked info given).next) }
-    ensures notes { OnOk result (notes.new ≡ (given_to task notes.old name asked info given).notes) }
+    ensures next { IfOk result (λ next. next ≡ (given_to task notes.old kind name asked info given).next) }
+    ensures notes { OnOk result (notes.new ≡ (given_to task notes.old kind name asked info given).notes) }
 {
     let Some(given) = given else {
         return Ok(malformed());
     };
     notes.reports.add(Report {
         name,
+        kind,
         asked,
         given,
         info,
@@ -379,7 +381,7 @@ fn put_good(
     match status {
         Status::Good => {
             let found = given_of_kind(alloc, kind, &asked, given, &value)?;
-            Ok(given_to(alloc, task, notes, name, asked, info, found)?)
+            Ok(given_to(alloc, task, notes, kind, name, asked, info, found)?)
         }
         status => Ok(answered(status)),
     }

@@ -30,7 +30,7 @@ depth_true Green d (inr e) = rw e refl
 depth_true Blue d (inl e) = rw e refl
 depth_true Blue d (inr e) = rw e refl
 
-shaped_is : (q : Params) → HasLineShape q → is_shaped q ≡ true
+pub shaped_is : (q : Params) → HasLineShape q → is_shaped q ≡ true
 shaped_is q s =
     let enough = nat_le (row_size q.format q.pixels_per_line q.depth) q.bytes_per_line in
     let line = nat_le q.bytes_per_line 1048576 in

@@ -17,7 +17,7 @@ use Rattle.frame_join.specs.ColorPlanes.{planes_of, side_by_side}
 use Rattle.frame_join.specs.FrameHistory.{Past, after_feed, after_end, fed, closed, is_full, is_joined, is_accepted, frames_of, answer_by, with_last, answer_of, IsJoined}
 use Rattle.frame_join.specs.FrameFile.{file_front, file_of, AllGone, settled, height_of}
 use Rattle.frame_join.specs.JoinStages.{fault_in, is_under}
-use Rattle.frame_join.specs.Joining.{Joining, Stands, AreColors, IsPart}
+use Rattle.frame_join.specs.PixelJoining.{PixelJoining, PixelStands, AreColors, IsPart}
 use Rattle.frame_join.specs.JoinSteps.{value_ended, answer_at}
 use Rattle.frame_join.proofs.AcceptLaws.{alone_is}
 use Rattle.frame_join.proofs.FrameLaws.{denotes_shown}
@@ -34,7 +34,7 @@ answered past o u es a b c =
     ap (λ (o : Option JoinFault). answer_by o past.under past.ended) a
     ∙ (ap (λ (u : Option Frame). answer_by o u past.ended) b ∙ ap (answer_by o u) c)
 
-pub answers : (past : Past) (v : Joining) → Stands past v → answer_of past ≡ answer_at v.stage
+pub answers : (past : Past) (v : PixelJoining) → PixelStands past v → answer_of past ≡ answer_at v.stage
 answers past v stands = by_stage v.stage refl
   where
     told : (s : Stage) (u : Option Frame) (b : Bool) → v.stage ≡ s → fault_in s ≡ None → past.under ≡ u → answer_by None u past.ended ≡ Ok b → answer_at s ≡ Ok b → answer_of past ≡ answer_at v.stage
@@ -71,23 +71,23 @@ stage_joined Whole e = inl refl
 stage_joined WholeColors e = inr refl
 stage_joined (Failed x) e = absurd (cc)
 
-pub joined_stage : (past : Past) (v : Joining) → Stands past v → IsJoined past → (v.stage ≡ Whole) ⊎ (v.stage ≡ WholeColors)
+pub joined_stage : (past : Past) (v : PixelJoining) → PixelStands past v → IsJoined past → (v.stage ≡ Whole) ⊎ (v.stage ≡ WholeColors)
 joined_stage past v stands joined = stage_joined v.stage (sym (answers past v stands) ∙ joined)
 
-pub joined_no_fault : (past : Past) (v : Joining) → Stands past v → IsJoined past → past.fault ≡ None
+pub joined_no_fault : (past : Past) (v : PixelJoining) → PixelStands past v → IsJoined past → past.fault ≡ None
 joined_no_fault past v stands joined = elim (joined_stage past v stands joined) [
   | inl whole ↦ fault_at Whole past v whole stands
   | inr colors ↦ fault_at WholeColors past v colors stands
 ]
 
-pub joined_under : (past : Past) (v : Joining) → Stands past v → IsJoined past → past.under ≡ None
+pub joined_under : (past : Past) (v : PixelJoining) → PixelStands past v → IsJoined past → past.under ≡ None
 joined_under past v stands joined = elim (joined_stage past v stands joined) [
   | inl whole ↦ (at_stage Whole past v whole stands).2
   | inr colors ↦ (at_stage WholeColors past v colors stands).4
 ]
 
 -- what went out before the picture is whole is not whole
-pub not_whole : (past : Past) (v : Joining) → Stands past v → (IsJoined past → ⊥) → IsWhole past.given → ⊥
+pub not_whole : (past : Past) (v : PixelJoining) → PixelStands past v → (IsJoined past → ⊥) → IsWhole past.given → ⊥
 not_whole past v stands unjoined = by_stage v.stage refl
   where
     nothing : past.given ≡ [] → IsWhole past.given → ⊥
@@ -135,7 +135,7 @@ frame_shows f parts small size = record {
 }
 
 -- the frames of a whole picture show one
-pub joined_shows : (past : Past) (v : Joining) → Stands past v → IsJoined past → (p : Picture) × ShowsFrames past.ended p
+pub joined_shows : (past : Past) (v : PixelJoining) → PixelStands past v → IsJoined past → (p : Picture) × ShowsFrames past.ended p
 joined_shows past v stands joined = elim (joined_stage past v stands joined) [
   | inl whole ↦
       let at = at_stage Whole past v whole stands in
@@ -148,7 +148,7 @@ joined_shows past v stands joined = elim (joined_stage past v stands joined) [
 ]
 
 -- once nothing more may go out of a whole picture, what went out denotes what the frames show
-pub gone_denotes : (past : Past) (v : Joining) → Stands past v → IsJoined past → AllGone past.under past.ended past.given → (p : Picture) → ShowsFrames past.ended p → Denotes past.given p
+pub gone_denotes : (past : Past) (v : PixelJoining) → PixelStands past v → IsJoined past → AllGone past.under past.ended past.given → (p : Picture) → ShowsFrames past.ended p → Denotes past.given p
 gone_denotes past v stands joined gone p shows = by_stage (joined_stage past v stands joined)
   where
     all : past.given ≡ file_of past.ended
@@ -172,7 +172,7 @@ gone_denotes past v stands joined gone p shows = by_stage (joined_stage past v s
         subst (λ (l : List ℕ). Denotes l p) (sym (all ∙ ap file_of at.3)) (denotes_shown (side_by_side c (planes_of (a ∷ b ∷ c ∷ []))) p at.5.goes.alone (side_shows a b c p three three_shows))
 
 -- the file of a whole picture is that of one frame
-pub joined_file : (past : Past) (v : Joining) → Stands past v → IsJoined past → (f : Frame) × (is_alone f.params ≡ true) × ((i : ℕ) → slice_index f.payload i < 256) × (file_of past.ended ≡ file_front f (lines_in f.params.lines))
+pub joined_file : (past : Past) (v : PixelJoining) → PixelStands past v → IsJoined past → (f : Frame) × (is_alone f.params ≡ true) × ((i : ℕ) → slice_index f.payload i < 256) × (file_of past.ended ≡ file_front f (lines_in f.params.lines))
 joined_file past v stands joined = elim (joined_stage past v stands joined) [
   | inl whole ↦
       let at = at_stage Whole past v whole stands in
@@ -198,7 +198,7 @@ ends_joined past f fault under full joined =
     let told : after_end past ≡ past_ended true f past = end_under past f fault under ∙ ap (λ (t : Bool). past_ended t f past) full in
     subst IsJoined (sym told) (answered (past_ended true f past) None None (past.ended ++ f ∷ []) fault refl refl ∙ ap (λ (b : Bool). Ok b) joined)
 
-pub shown_joins : (past : Past) (v : Joining) → Stands past v → past.fault ≡ None → (p : Picture) → ShowsFrames (frames_of past) p → IsJoined (after_end past)
+pub shown_joins : (past : Past) (v : PixelJoining) → PixelStands past v → past.fault ≡ None → (p : Picture) → ShowsFrames (frames_of past) p → IsJoined (after_end past)
 shown_joins past v stands fault p shows = by_stage v.stage refl
   where
     frames_at : (u : Option Frame) (es : List Frame) → past.under ≡ u → past.ended ≡ es → ShowsFrames (with_last es u) p
@@ -266,11 +266,11 @@ joined_frames : (past : Past) → IsJoined (after_end past) → (past.fault ≡ 
 unfolding after_end
 joined_frames past joined = joined_frames_at past.fault past.under past refl refl joined
 
-pub end_answer : (past : Past) (v new : Joining) → new ≡ value_ended v → Stands past v → answer_at new.stage ≡ answer_of (after_end past)
+pub end_answer : (past : Past) (v new : PixelJoining) → new ≡ value_ended v → PixelStands past v → answer_at new.stage ≡ answer_of (after_end past)
 end_answer past v new e stands =
-    ap (λ (w : Joining). answer_at w.stage) e ∙ sym (answers (after_end past) (value_ended v) (end_carries past v stands))
+    ap (λ (w : PixelJoining). answer_at w.stage) e ∙ sym (answers (after_end past) (value_ended v) (end_carries past v stands))
 
-pub end_exact : (past : Past) (v new : Joining) → new ≡ value_ended v → Stands past v → (answer_at new.stage ≡ Ok true) ↔ ((past.fault ≡ None) × ((p : Picture) × ShowsFrames (frames_of past) p))
+pub end_exact : (past : Past) (v new : PixelJoining) → new ≡ value_ended v → PixelStands past v → (answer_at new.stage ≡ Ok true) ↔ ((past.fault ≡ None) × ((p : Picture) × ShowsFrames (frames_of past) p))
 end_exact past v new e stands = (there, back)
   where
     there : answer_at new.stage ≡ Ok true → (past.fault ≡ None) × ((p : Picture) × ShowsFrames (frames_of past) p)
@@ -306,5 +306,5 @@ unfolding after_feed
 feed_keeps_joined bytes starved past = keeps_at past.fault past.under bytes starved past refl refl
 
 -- a picture that is whole stays so
-pub end_keeps_joined : (past : Past) (v : Joining) → Stands past v → IsJoined past → IsJoined (after_end past)
+pub end_keeps_joined : (past : Past) (v : PixelJoining) → PixelStands past v → IsJoined past → IsJoined (after_end past)
 end_keeps_joined past v stands joined = subst IsJoined (sym (end_none past (joined_no_fault past v stands joined) (joined_under past v stands joined))) joined

@@ -42,7 +42,7 @@ open_side f open_end full =
     let at : is_full_at None f.params.bytes_per_line (length f.payload) ≡ true = ap (λ (o : Option ℕ). is_full_at o f.params.bytes_per_line (length f.payload)) (sym open_end) ∙ full in
     subst (λ (n : ℕ). (1 ≤ n) × (n ≤ 65536)) (sym (height_open f open_end)) (side_by f.params.bytes_per_line (length f.payload) at)
 
-size_full_by : (o : Option ℕ) (line size height : ℕ) → 1 ≤ line → HasLines o height → 1 ≤ height → height ≤ 65536 → size ≡ height * line → is_full_at o line size ≡ true
+pub size_full_by : (o : Option ℕ) (line size height : ℕ) → 1 ≤ line → HasLines o height → 1 ≤ height → height ≤ 65536 → size ≡ height * line → is_full_at o line size ≡ true
 size_full_by None line size height some has low high e =
     let quotient : size / line ≡ height = ap (λ (n : ℕ). n / line) e ∙ mul-div_cancel height (omega (arith, some)) in
     and_true (is_side (size / line)) (size == size / line * line)
@@ -59,7 +59,7 @@ shown_full f p shows some =
 pub color_full : (f : Frame) (height : ℕ) → f.params.lines ≡ Some height → length f.payload ≡ height * f.params.bytes_per_line → is_full f ≡ true
 color_full f height known size = ap (λ (o : Option ℕ). is_full_at o f.params.bytes_per_line (length f.payload)) known ∙ eq_true (length f.payload) (height * f.params.bytes_per_line) size
 
-height_by : (o : Option ℕ) (line size height : ℕ) → 1 ≤ line → HasLines o height → size ≡ height * line → height_at o line size ≡ height
+pub height_by : (o : Option ℕ) (line size height : ℕ) → 1 ≤ line → HasLines o height → size ≡ height * line → height_at o line size ≡ height
 height_by None line size height some has e = ap (λ (n : ℕ). n / line) e ∙ mul-div_cancel height (omega (arith, some))
 height_by (Some n) line size height some has e = has
 
@@ -118,7 +118,7 @@ settled_shows f p some shows = record {
   samples = shows.samples;
 }
 
-told_by : (o : Option ℕ) (line size height : ℕ) → height_at o line size ≡ height → HasLines o height
+pub told_by : (o : Option ℕ) (line size height : ℕ) → height_at o line size ≡ height → HasLines o height
 told_by None line size height e = tt
 told_by (Some n) line size height e = e
 

@@ -14,3 +14,13 @@ pub mod EndLaws
 pub mod PullLaws
 pub mod GivenLaws
 pub mod WeaveLaws
+pub mod RoomLaws
+pub mod PixelRows
+pub mod PixelParams
+pub mod PixelFrames
+pub mod PixelShows
+pub mod PixelPasts
+pub mod PixelSteps
+pub mod PixelKeeping
+pub mod JoinedLaws
+pub mod EndSteps

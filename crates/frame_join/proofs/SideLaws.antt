@@ -17,7 +17,7 @@ use Rattle.frame_join.specs.KeptFrame.{color_number}
 use Rattle.frame_join.specs.ColorPlanes.{Plane, Planes, plane_in, plane_of, planes_of, nth_plane, side_byte, side_rows, all_colors, side_by_side}
 use Rattle.frame_join.specs.FrameFile.{raster_byte, place_in, trimmed}
 use Rattle.frame_join.specs.FrameHistory.{is_full, is_full_at}
-use Rattle.frame_join.specs.Joining.{AreColors}
+use Rattle.frame_join.specs.PixelJoining.{AreColors}
 use Rattle.frame_join.proofs.TestLemmas.{eq_true, eq_from, not_eq_from}
 use Rattle.frame_join.proofs.FrameLaws.{sample_eight, sample_sixteen}
 use Rattle.frame_join.proofs.StreamLaws.{small_append, frame_picture, frame_sample_small, place_below}
@@ -72,7 +72,7 @@ pub record OneOf (planes : Planes) (c f : Frame) : Type 0 where
   pub depth : f.params.depth ≡ c.params.depth
   pub order : f.order ≡ c.order
 
-two_same : (o : ByteOrder) (s t : List ℕ) (i j : ℕ) → get_or s i 0 ≡ get_or t j 0 → get_or s (i + 1) 0 ≡ get_or t (j + 1) 0 → two_bytes o s i ≡ two_bytes o t j
+pub two_same : (o : ByteOrder) (s t : List ℕ) (i j : ℕ) → get_or s i 0 ≡ get_or t j 0 → get_or s (i + 1) 0 ≡ get_or t (j + 1) 0 → two_bytes o s i ≡ two_bytes o t j
 two_same Little s t i j a b = omega (arith, a, b)
 two_same Big s t i j a b = omega (arith, a, b)
 
@@ -94,10 +94,10 @@ deep_sixteen planes f y x k b plane low less =
     ∙ ap (λ (n : ℕ). get_or f.payload (y * f.params.bytes_per_line + n) 0) place)
 
 -- the bytes of a row of all colors
-row_eight : (p : Params) → p.depth ≡ 8 → row_bytes (all_colors p) ≡ p.pixels_per_line * 3
+pub row_eight : (p : Params) → p.depth ≡ 8 → row_bytes (all_colors p) ≡ p.pixels_per_line * 3
 row_eight p deep = rw deep (omega arith)
 
-row_sixteen : (p : Params) → p.depth ≡ 16 → row_bytes (all_colors p) ≡ p.pixels_per_line * 6
+pub row_sixteen : (p : Params) → p.depth ≡ 16 → row_bytes (all_colors p) ≡ p.pixels_per_line * 6
 row_sixteen p deep = rw deep (omega arith)
 
 eight : (planes : Planes) (c f : Frame) (x y k : ℕ) → OneOf planes c f → c.params.depth ≡ 8 → k ≡ color_number f.params.format → k < 3 → x < c.params.pixels_per_line → y < lines_in c.params.lines → frame_sample 3 (side_by_side c planes) x y k ≡ frame_sample 1 f x y 0
@@ -138,7 +138,7 @@ side_sample planes c f x y k one color low column row = by_depth (pass_depth f.p
 
 -- ---- three colors that came whole
 
-full_pass : (f : Frame) → PassParts f.params → is_full f ≡ true → length f.payload ≡ lines_in f.params.lines * f.params.bytes_per_line
+pub full_pass : (f : Frame) → PassParts f.params → is_full f ≡ true → length f.payload ≡ lines_in f.params.lines * f.params.bytes_per_line
 full_pass f parts full =
     eq_from (length f.payload) (lines_in f.params.lines * f.params.bytes_per_line) (ap (λ (o : Option ℕ). is_full_at o f.params.bytes_per_line (length f.payload)) (sym parts.lines_known) ∙ full)
 

@@ -1,139 +1,49 @@
 -- The value of a join, and which histories it stands for.
-use Rattle.std.specs.Prelude.{ℕ, ◌+◌, ◌*◌, ◌≤◌, ◌<◌, ◌≡◌, Bool, true, false, Some, None, List, [], ◌∷◌, ◌++◌, length, slice_index, take, drop}
-use Rattle.netpbm.specs.Pnm.{IsWhole}
-use Rattle.netpbm.specs.FileText.{header_text}
-use Rattle.sane_fixed.specs.declared.byte_order.ByteOrder.{ByteOrder}
-use Rattle.sane_fixed.specs.declared.params.Params.{Params}
-use Rattle.frame_join.specs.declared.join_stage.Stage.{Stage}
-use Rattle.frame_join.specs.declared.join_stage.Stage.TheVariants.{Idle, Under, Keeping, Between, Whole, WholeColors, Failed}
+use Rattle.std.specs.Prelude.{ℕ, ◌≤◌, ◌≡◌, ◌||◌, Bool, true, Option, Some, None, List, [], ◌∷◌, length}
 use Rattle.page_picture.specs.Shows.{Frame}
-use Rattle.frame_join.specs.AloneFrame.{is_alone, lines_in, AloneParts, row_bytes, most_bytes}
-use Rattle.frame_join.specs.KeptFrame.{is_pass}
-use Rattle.frame_join.specs.ColorPlanes.{Planes, planes_of, side_by_side}
-use Rattle.frame_join.specs.FrameHistory.{Past, is_accepted, is_full}
-use Rattle.frame_join.specs.FrameFile.{header_alone, row_front, rows_front, settled, height_of}
-use Rattle.frame_join.specs.JoinStages.{fault_in, is_starved_at, is_under, is_keeping}
+use Rattle.frame_join.specs.AloneFrame.{is_alone, most_bytes}
+use Rattle.frame_join.specs.FrameHistory.{Past, is_full}
+use Rattle.frame_join.specs.JoinStages.{is_keeping}
+use Rattle.frame_join.specs.PixelJoining.{PixelJoining, PixelStands, is_pixel_starved, IsPixelDrained}
+use Rattle.frame_join.specs.Pixels.{is_kept, pixel_past}
 
--- What a join keeps: how far it is, what was told of the frame, the header and how much of it has gone, the next byte
--- of the raster, the frame's bytes from that byte's line on, and the colors that ended. What has gone is no part of it.
+-- What a join keeps: the bytes that show pixels and how far their picture is, and, of a frame under way that is kept, the bytes
+-- of a line and how many bytes came.
 pub record Joining : Type 0 where
-  pub stage : Stage
-  pub params : Params
-  pub order : ByteOrder
-  pub head : List ℕ
-  pub headed : ℕ
-  pub row : ℕ
-  pub column : ℕ
-  pub held : List ℕ
-  pub planes : Planes
+  pub pixels : PixelJoining
+  pub line : ℕ
+  pub came : ℕ
 
 -- want of memory stands
 abbrev pub is_starved : Joining → Bool
-is_starved v = is_starved_at v.stage
-
--- ---- what went out
-
--- so much of the file of the frame, which is a picture of known height, went out
-pub record Goes (f : Frame) (given : List ℕ) (v : Joining) : Type 0 where
-  pub params : v.params ≡ f.params
-  pub order : v.order ≡ f.order
-  pub alone : AloneParts f.params
-  pub bytes : (i : ℕ) → slice_index f.payload i < 256
-  pub head : v.head ≡ header_text (header_alone f.params)
-  pub headed : v.headed ≤ length v.head
-  pub given_is : given ≡ take v.headed v.head ++ (rows_front f v.row ++ row_front f v.row v.column)
-  pub ahead : v.headed < length v.head → v.row + v.column ≡ 0
-  pub rows : v.row ≤ lines_in f.params.lines
-  pub column : v.column < row_bytes f.params
-  pub row_begun : 0 < v.column → v.row < lines_in f.params.lines
-
--- the frame came so far, and of its lines those that have not gone are held
-pub record Streams (f : Frame) (given : List ℕ) (v : Joining) : Type 0 where
-  pub goes : Goes f given v
-  pub most : length f.payload ≤ most_bytes f.params
-  pub reach : v.row * f.params.bytes_per_line ≤ length f.payload
-  pub held : v.held ≡ drop (v.row * f.params.bytes_per_line) f.payload
-  pub line_begun : 0 < v.column → (v.row + 1) * f.params.bytes_per_line ≤ length f.payload
-  pub line_may_go : 0 < v.column → is_under v.stage ≡ true → v.row + 1 < lines_in f.params.lines
-  pub last_row_waits : is_under v.stage ≡ true → v.row < lines_in f.params.lines
-
--- ---- frames that are kept
-
--- the frame is one color, came after those before it, and has all its bytes
-pub record IsColor (before : List Frame) (f : Frame) : Type 0 where
-  pub accepted : is_accepted before f.params f.order ≡ true
-  pub pass : is_pass f.params ≡ true
-  pub full : is_full f ≡ true
-  pub bytes : (i : ℕ) → slice_index f.payload i < 256
-
--- the frames are at most three colors, one after another
-abbrev pub AreColors : List Frame → Type 0
-AreColors [] = Unit {0}
-AreColors (a ∷ []) = IsColor [] a
-AreColors (a ∷ b ∷ []) = IsColor [] a × IsColor (a ∷ []) b
-AreColors (a ∷ b ∷ c ∷ []) = IsColor [] a × IsColor (a ∷ []) b × IsColor (a ∷ b ∷ []) c
-AreColors (a ∷ b ∷ c ∷ d ∷ rest) = ⊥
-
--- nothing went out, and no header is there
-pub record IsSilent (given : List ℕ) (v : Joining) : Type 0 where
-  pub given_is : given ≡ []
-  pub head : v.head ≡ []
-  pub headed : v.headed ≡ 0
-  pub row : v.row ≡ 0
-  pub column : v.column ≡ 0
-
--- the frame under way is kept, beside the colors that ended
-pub record Keeps (f : Frame) (past : Past) (v : Joining) : Type 0 where
-  pub accepted : is_accepted past.ended f.params f.order ≡ true
-  pub kept : is_alone f.params ≡ false
-  pub colors : AreColors past.ended
-  pub planes : v.planes ≡ planes_of past.ended
-  pub params : v.params ≡ f.params
-  pub order : v.order ≡ f.order
-  pub held : v.held ≡ f.payload
-  pub bytes : (i : ℕ) → slice_index f.payload i < 256
-  pub most : length f.payload ≤ most_bytes f.params
-  pub silent : IsSilent past.given v
-
--- one or two frames ended, the last of them of these parameters
-abbrev pub IsPart : List Frame → Params → ByteOrder → Type 0
-IsPart [] params order = ⊥
-IsPart (a ∷ []) params order = (params ≡ a.params) × (order ≡ a.order)
-IsPart (a ∷ b ∷ []) params order = (params ≡ b.params) × (order ≡ b.order)
-IsPart (a ∷ b ∷ c ∷ rest) params order = ⊥
-
--- colors ended, and further ones are to come
-pub record WaitsFor (past : Past) (v : Joining) : Type 0 where
-  pub part : IsPart past.ended v.params v.order
-  pub colors : AreColors past.ended
-  pub planes : v.planes ≡ planes_of past.ended
-  pub held : v.held ≡ []
-  pub silent : IsSilent past.given v
-
--- the three colors ended, and so much of their file went out
-pub record HasColors (a b c : Frame) (given : List ℕ) (v : Joining) : Type 0 where
-  pub colors : AreColors (a ∷ b ∷ c ∷ [])
-  pub planes : v.planes ≡ planes_of (a ∷ b ∷ c ∷ [])
-  pub goes : Goes (side_by_side c (planes_of (a ∷ b ∷ c ∷ []))) given v
-
--- ---- which histories a value stands for
-
--- what a value at that stage says of the history; after a fault only that no whole text was given
-abbrev pub StandsAt : Stage → Past → Joining → Type 0
-StandsAt Idle past v = (past.ended ≡ []) × (past.under ≡ None) × (past.given ≡ [])
-StandsAt Under past v = (f : Frame) × (past.ended ≡ []) × (past.under ≡ Some f) × Streams f past.given v
-StandsAt Keeping past v = (f : Frame) × (past.under ≡ Some f) × Keeps f past v
-StandsAt Between past v = (past.under ≡ None) × WaitsFor past v
-StandsAt Whole past v = (f : Frame) × (past.ended ≡ f ∷ []) × (past.under ≡ None) × (length f.payload ≡ height_of f * f.params.bytes_per_line) × Streams (settled f) past.given v
-StandsAt WholeColors past v = (a : Frame) × (b : Frame) × (c : Frame) × (past.ended ≡ a ∷ b ∷ c ∷ []) × (past.under ≡ None) × HasColors a b c past.given v
-StandsAt (Failed fault) past v = (IsWhole past.given → ⊥)
-
--- the value stands for the history
-pub record Stands (past : Past) (v : Joining) : Type 0 where
-  pub fault : past.fault ≡ fault_in v.stage
-  pub at_stage : StandsAt v.stage past v
+is_starved v = is_pixel_starved v.pixels
 
 -- no frame is kept, and less than a line is held, or the last line
-pub record IsDrained (v : Joining) : Type 0 where
-  pub through : is_keeping v.stage ≡ false
-  pub little : is_under v.stage ≡ true → length v.held ≤ v.params.bytes_per_line
+abbrev pub IsDrained : Joining → Type 0
+IsDrained v = IsPixelDrained v.pixels
+
+-- so many bytes of the frame came, of which the pixels are kept
+pub record HasCome (f : Frame) (v : Joining) : Type 0 where
+  pub kept : is_kept f.params ≡ true
+  pub line : v.line ≡ f.params.bytes_per_line
+  pub came : v.came ≡ length f.payload
+  pub most : length f.payload ≤ most_bytes f.params
+
+abbrev pub IsComing : Option Frame → Joining → Type 0
+IsComing None v = ⊥
+IsComing (Some f) v = HasCome f v
+
+-- the frame was admitted, and has all its bytes
+pub record IsEnded (f : Frame) : Type 0 where
+  pub admitted : (is_alone f.params || is_kept f.params) ≡ true
+  pub full : is_full f ≡ true
+
+abbrev pub AreEnded : List Frame → Type 0
+AreEnded [] = Unit {0}
+AreEnded (f ∷ frames) = IsEnded f × AreEnded frames
+
+-- the value stands for the history: what it keeps is that of the frames' pixels
+pub record Stands (past : Past) (v : Joining) : Type 0 where
+  pub pixels : PixelStands (pixel_past past) v.pixels
+  pub ended : AreEnded past.ended
+  pub coming : is_keeping v.pixels.stage ≡ true → IsComing past.under v

@@ -1,49 +1,30 @@
-ghost use Rattle.std.specs.Prelude.{◌≡◌, ◌≢◌, [], ◌≤◌, ◌<◌, ◌+◌, ◌-◌, ◌*◌, ◌||◌, ◌↔◌, Ok, IfOk, true, false, None, ℕ, length, slice_index, take, drop};
+ghost use Rattle.std.specs.Prelude.{◌≡◌, ◌≢◌, ◌&&◌, [], ◌≤◌, ◌+◌, ◌-◌, ◌*◌, ◌^◌, ◌↔◌, Ok, not, true, None, length};
 ghost use Rattle.netpbm.specs.Picture.{Picture};
 ghost use Rattle.netpbm.specs.Pnm.{Denotes, IsWhole};
-ghost use Rattle.page_picture.specs.Shows.{ShowsFrames};
-ghost use Rattle.frame_join.specs.AloneFrame.{AloneParts, ShapeParts, most_lines, row_bytes};
-ghost use Rattle.frame_join.specs.KeptFrame.{is_unknown, is_open_ended, is_pass};
+ghost use Rattle.page_picture.specs.Shows.{Frame, ShowsFrames};
 ghost use Rattle.frame_join.specs.FrameFile.{file_of};
-ghost use Rattle.frame_join.specs.FrameHistory.{Past, no_past, after_begin, after_feed, after_end, after_pull, answer_of, frames_of, IsJoined};
-ghost use Rattle.frame_join.specs.declared.join_stage.Stage.TheVariants.{Idle, Under, Keeping, Between};
-ghost use Rattle.frame_join.specs.JoinStages.{is_under, is_colors};
+ghost use Rattle.frame_join.specs.FrameHistory.{Past, no_past, after_begin, after_feed, after_end, answer_of, frames_of, is_full_at, IsJoined};
+ghost use Rattle.frame_join.specs.AloneFrame.{most_lines};
+ghost use Rattle.frame_join.specs.JoinStages.{is_keeping};
 ghost use Rattle.frame_join.specs.Joining.{Stands, is_starved, IsDrained};
-ghost use Rattle.frame_join.specs.JoinSteps.{moves, is_ready, sample_at, may_go, after_samples, value_fed, under_ended, kept_ended, color_ended, value_ended, first_begun, next_begun, value_begun, accepts_next, answer_at, fresh, keeping};
 
-use crate::alone_frame::{
-    header_alone, is_alone, lines_in, most_lines, place_in, put_trimmed, put_turned, row_size,
-    trimmed,
-};
-use crate::header::{HEADER_ROOM, put_header};
-use crate::join_stage::{JoinFault, Stage};
-use crate::kept_frame::{
-    all_colors, height_told, is_alike, is_full, is_open_ended, is_pass_that, is_unknown,
-};
-use crate::planes::Planes;
-use sane_fixed::{ByteOrder, FrameFormat, Params};
-use std::alloc::{AllocError, Global};
+use crate::alone_frame::most_lines;
+use crate::join_stage::JoinFault;
+use crate::kept_frame::{is_full, is_kept, pixel_params};
+use crate::pixel_join::PixelJoin;
+use sane_fixed::{ByteOrder, Params};
+use std::alloc::Global;
 use std::marker::Model;
 
 /// Joins the frames of a picture (SANE Standard 1.06, "sane_read") to its Netpbm file. The rows of one frame of known
-/// height go straight through: of it a line is kept, and the bytes that came after it. A frame of unknown height, and
-/// three frames of a color each, are kept until the picture is whole.
+/// height go straight through: of it a line is kept, and the bytes that came after it. Of a frame of unknown height, and of
+/// three frames of a color each, the bytes that show pixels are kept until the picture is whole.
 #[derive(Drop)]
 pub struct FrameJoin {
-    stage: Stage,
-    params: Params,
-    order: ByteOrder,
-    // The header of the file, and how much of it has gone.
-    head: Vec<u8>,
-    headed: usize,
-    // The next byte of the raster.
-    row: u32,
-    column: usize,
-    // The lines from `row` on stand in `held` from `start` on; what stands before has gone.
-    held: Vec<u8>,
-    start: usize,
-    // The colors that ended.
-    planes: Planes,
+    pub(crate) pixels: PixelJoin,
+    // Of the frame that is kept: the bytes of a line, and how many bytes came.
+    line: usize,
+    came: usize,
 }
 
 impl Model for FrameJoin {
@@ -64,428 +45,9 @@ impl FrameJoin {
         ensures { Stands no_past result }
     {
         FrameJoin {
-            stage: Stage::Idle,
-            params: Params {
-                format: FrameFormat::Gray,
-                last_frame: true,
-                bytes_per_line: 1,
-                pixels_per_line: 1,
-                lines: Some(1),
-                depth: 8,
-            },
-            order: ByteOrder::Little,
-            head: Vec::new(alloc),
-            headed: 0,
-            row: 0,
-            column: 0,
-            held: Vec::new(alloc),
-            start: 0,
-            planes: Planes::new(alloc),
-        }
-    }
-
-    /// Whether a row may go out: its line is held, and it is not the last of a picture that is not whole.
-    fn is_ready(&self) -> bool
-        ensures { result ≡ is_ready self.now }
-    {
-        let lines = lines_in(self.params.lines);
-        let held = self.params.bytes_per_line as usize <= self.held.len() - self.start;
-        self.row < lines
-            && match self.stage {
-                Stage::WholeColors => true,
-                Stage::Whole => held,
-                _ => held && self.row + 1 < lines,
-            }
-    }
-
-    /// Whether bytes may go out at all.
-    fn moves(&self) -> bool
-        ensures { result ≡ moves self.now.stage }
-    {
-        match self.stage {
-            Stage::Under | Stage::Whole | Stage::WholeColors => true,
-            Stage::Idle | Stage::Keeping | Stage::Between | Stage::Failed(_) => false,
-        }
-    }
-
-    /// Whether the picture is whole, of three frames.
-    fn has_colors(&self) -> bool
-        ensures { result ≡ is_colors self.now.stage }
-    {
-        match self.stage {
-            Stage::WholeColors => true,
-            Stage::Idle
-            | Stage::Under
-            | Stage::Keeping
-            | Stage::Between
-            | Stage::Whole
-            | Stage::Failed(_) => false,
-        }
-    }
-
-    /// The byte at a column of the row, which may go out.
-    fn sample_at(&self, column: usize) -> u8
-        requires ready { is_ready self.now ≡ true }
-        requires inside { column < row_bytes self.now.params }
-        ensures { result ≡ sample_at self.now column }
-    {
-        let params = self.params;
-        let place = place_in(self.order, params.depth, column);
-        if self.has_colors() {
-            return self.planes.side_byte(params.depth, self.row, place);
-        }
-        trimmed(
-            params.pixels_per_line,
-            params.depth,
-            column,
-            self.held[self.start + place],
-        )
-    }
-
-    /// Whether a row goes out as its line stands.
-    fn is_straight(&self) -> bool
-        ensures plain { result ≡ true → is_colors self.now.stage ≡ false }
-        ensures same { result ≡ true → (column : ℕ) → sample_at self.now column ≡ slice_index self.now.held column }
-    {
-        if self.has_colors() || self.params.depth == 1 {
-            return false;
-        }
-        match self.order {
-            ByteOrder::Big => true,
-            ByteOrder::Little => self.params.depth != 16,
-        }
-    }
-
-    /// Writes bytes of the row, which may go out, to `buf` between `at` and `end`.
-    fn write_row(&self, buf: &mut [u8], at: usize, end: usize)
-        requires moves { moves self.now.stage ≡ true }
-        requires head { length self.now.head ≤ self.now.headed }
-        requires ready { is_ready self.now ≡ true }
-        requires order { at ≤ end }
-        requires room { end ≤ length buf.old }
-        requires row { self.now.column + (end - at) ≤ row_bytes self.now.params }
-        ensures size { length buf.new ≡ length buf.old }
-        ensures rest { drop end buf.new ≡ drop end buf.old }
-        ensures carried { (past : Past) → Stands (after_pull (take at buf.old) past) self.now → Stands (after_pull (take end buf.new) past) (after_samples (end - at) self.now) }
-    {
-        if self.is_straight() {
-            return self.copy_row(buf, at, end);
-        }
-        if self.has_colors() && self.params.depth == 8 {
-            return self.weave_row(buf, at, end);
-        }
-        if self.is_turned() {
-            return self.turn_row(buf, at, end);
-        }
-        if !self.has_colors() && self.params.depth == 1 {
-            return self.trim_row(buf, at, end);
-        }
-        for i in at..end {
-            buf[i] = self.sample_at(self.column + (i - at));
-        }
-    }
-
-    /// The lines that are held.
-    fn lines(&self) -> &[u8]
-        ensures { result.now ≡ self.now.held }
-    {
-        &self.held[self.start..]
-    }
-
-    /// Writes bytes of the row, which stand in its line as they go out.
-    fn copy_row(&self, buf: &mut [u8], at: usize, end: usize)
-        requires moves { moves self.now.stage ≡ true }
-        requires head { length self.now.head ≤ self.now.headed }
-        requires ready { is_ready self.now ≡ true }
-        requires plain { is_colors self.now.stage ≡ false }
-        requires straight { (column : ℕ) → sample_at self.now column ≡ slice_index self.now.held column }
-        requires order { at ≤ end }
-        requires room { end ≤ length buf.old }
-        requires row { self.now.column + (end - at) ≤ row_bytes self.now.params }
-        ensures size { length buf.new ≡ length buf.old }
-        ensures rest { drop end buf.new ≡ drop end buf.old }
-        ensures carried { (past : Past) → Stands (after_pull (take at buf.old) past) self.now → Stands (after_pull (take end buf.new) past) (after_samples (end - at) self.now) }
-    {
-        let (lines, column) = (self.lines(), self.column);
-        for i in at..end {
-            buf[i] = lines[column + (i - at)];
-        }
-    }
-
-    /// Writes bytes of the row of three colors of a byte each.
-    fn weave_row(&self, buf: &mut [u8], at: usize, end: usize)
-        requires moves { moves self.now.stage ≡ true }
-        requires head { length self.now.head ≤ self.now.headed }
-        requires ready { is_ready self.now ≡ true }
-        requires colors { is_colors self.now.stage ≡ true }
-        requires depth { self.now.params.depth ≡ 8 }
-        requires order { at ≤ end }
-        requires room { end ≤ length buf.old }
-        requires row { self.now.column + (end - at) ≤ row_bytes self.now.params }
-        ensures size { length buf.new ≡ length buf.old }
-        ensures rest { drop end buf.new ≡ drop end buf.old }
-        ensures carried { (past : Past) → Stands (after_pull (take at buf.old) past) self.now → Stands (after_pull (take end buf.new) past) (after_samples (end - at) self.now) }
-    {
-        self.planes
-            .put_side(self.row, self.column, &mut buf[at..end]);
-    }
-
-    /// Whether a row goes out with the two bytes of each sample turned round.
-    fn is_turned(&self) -> bool
-        ensures plain { result ≡ true → is_colors self.now.stage ≡ false }
-        ensures deep { result ≡ true → self.now.params.depth ≡ 16 }
-        ensures little { result ≡ true → self.now.order ≡ ByteOrder.Little }
-    {
-        if self.has_colors() || self.params.depth != 16 {
-            return false;
-        }
-        match self.order {
-            ByteOrder::Big => false,
-            ByteOrder::Little => true,
-        }
-    }
-
-    /// Writes bytes of the row, which stands in its line with the two bytes of each sample turned round.
-    fn turn_row(&self, buf: &mut [u8], at: usize, end: usize)
-        requires moves { moves self.now.stage ≡ true }
-        requires head { length self.now.head ≤ self.now.headed }
-        requires ready { is_ready self.now ≡ true }
-        requires plain { is_colors self.now.stage ≡ false }
-        requires deep { self.now.params.depth ≡ 16 }
-        requires little { self.now.order ≡ ByteOrder.Little }
-        requires order { at ≤ end }
-        requires room { end ≤ length buf.old }
-        requires row { self.now.column + (end - at) ≤ row_bytes self.now.params }
-        ensures size { length buf.new ≡ length buf.old }
-        ensures rest { drop end buf.new ≡ drop end buf.old }
-        ensures carried { (past : Past) → Stands (after_pull (take at buf.old) past) self.now → Stands (after_pull (take end buf.new) past) (after_samples (end - at) self.now) }
-    {
-        let row = &self.lines()[..row_size(&self.params)];
-        put_turned(row, self.column, &mut buf[at..end]);
-    }
-
-    /// Writes bytes of the row of bits, which stand in its line, without the bits past its end.
-    fn trim_row(&self, buf: &mut [u8], at: usize, end: usize)
-        requires moves { moves self.now.stage ≡ true }
-        requires head { length self.now.head ≤ self.now.headed }
-        requires ready { is_ready self.now ≡ true }
-        requires plain { is_colors self.now.stage ≡ false }
-        requires bits { self.now.params.depth ≡ 1 }
-        requires order { at ≤ end }
-        requires room { end ≤ length buf.old }
-        requires row { self.now.column + (end - at) ≤ row_bytes self.now.params }
-        ensures size { length buf.new ≡ length buf.old }
-        ensures rest { drop end buf.new ≡ drop end buf.old }
-        ensures carried { (past : Past) → Stands (after_pull (take at buf.old) past) self.now → Stands (after_pull (take end buf.new) past) (after_samples (end - at) self.now) }
-    {
-        let row = &self.lines()[..row_size(&self.params)];
-        let width = self.params.pixels_per_line;
-        put_trimmed(row, width, self.column, &mut buf[at..end]);
-    }
-
-    /// So many bytes of the row have gone.
-    fn pass_over(&mut self, count: usize)
-        requires moves { moves self.old.stage ≡ true }
-        requires ready { is_ready self.old ≡ true }
-        requires row { self.old.column + count ≤ row_bytes self.old.params }
-        ensures { self.new ≡ after_samples count self.old }
-    {
-        self.column += count;
-        if self.column == row_size(&self.params) {
-            self.column = 0;
-            self.row += 1;
-            if !self.has_colors() {
-                self.start += self.params.bytes_per_line as usize;
-            }
-        }
-    }
-
-    /// Writes bytes that may go out to `buf` from `at` on, of the header one, else some of a row, and says where it
-    /// stopped; that is at `at` only where none may go out.
-    pub(crate) fn next_run(&mut self, buf: &mut [u8], at: usize) -> usize
-        requires { at < length buf.old }
-        ensures low { at ≤ result }
-        ensures high { result ≤ length buf.old }
-        ensures size { length buf.new ≡ length buf.old }
-        ensures rest { drop result buf.new ≡ drop result buf.old }
-        ensures carried { (past : Past) → Stands (after_pull (take at buf.old) past) self.old → Stands (after_pull (take result buf.new) past) self.new }
-        ensures none { result ≡ at → (may_go self.old ≡ false) × (self.new ≡ self.old) }
-        ensures some { at < result → may_go self.old ≡ true }
-    {
-        if !self.moves() {
-            return at;
-        }
-        if self.headed < self.head.len() {
-            buf[at] = self.head[self.headed];
-            self.headed += 1;
-            return at + 1;
-        }
-        if !self.is_ready() {
-            return at;
-        }
-        let more = (row_size(&self.params) - self.column).min(buf.len() - at);
-        self.write_row(buf, at, at + more);
-        self.pass_over(more);
-        at + more
-    }
-
-    /// The most bytes that the lines from the row on may have.
-    fn rest_size(&self) -> usize
-        ensures { result ≡ (most_lines self.now.params.lines - self.now.row) * self.now.params.bytes_per_line }
-    {
-        let lines = most_lines(self.params.lines).saturating_sub(self.row);
-        lines as usize * self.params.bytes_per_line as usize
-    }
-
-    /// Takes the bytes of a frame, or says why not.
-    fn take_in(&mut self, bytes: &[u8])
-        ensures value { self.new ≡ value_fed bytes.now (is_starved self.new) self.old }
-        ensures room { is_under self.old.stage ≡ true → length self.old.held + length bytes.now ≤ self.old.params.bytes_per_line + 4096 → is_starved self.new ≡ false }
-        ensures nothing { length bytes.now ≡ 0 → is_starved self.new ≡ is_starved self.old }
-    {
-        match self.stage {
-            Stage::Idle | Stage::Between | Stage::Whole | Stage::WholeColors | Stage::Failed(_) =>
-                {}
-            Stage::Under | Stage::Keeping => {
-                let room = self
-                    .rest_size()
-                    .saturating_sub(self.held.len() - self.start);
-                if room < bytes.len() {
-                    self.stage = Stage::Failed(JoinFault::Long);
-                } else {
-                    self.held.drain(..self.start);
-                    self.start = 0;
-                    if self.held.extend_from_slice(bytes).is_err() {
-                        self.stage = Stage::Failed(JoinFault::NoMem);
-                    }
-                }
-            }
-        }
-    }
-
-    /// Ends a frame whose rows go straight through.
-    fn close_under(&mut self)
-        requires { self.old.stage ≡ Under }
-        ensures { self.new ≡ under_ended self.old }
-    {
-        if self.held.len() - self.start == self.rest_size() {
-            self.stage = Stage::Whole;
-        } else {
-            self.stage = Stage::Failed(JoinFault::Short);
-        }
-    }
-
-    /// Ends a frame that is kept.
-    fn close_kept(&mut self)
-        requires { self.old.stage ≡ Keeping }
-        ensures { self.new ≡ kept_ended self.old }
-    {
-        let size = self.held.len();
-        if !is_full(&self.params, size) {
-            self.stage = Stage::Failed(JoinFault::Short);
-        } else if is_unknown(self.params.lines) {
-            self.params = height_told(&self.params, size);
-            put_header(&mut self.head, &header_alone(&self.params));
-            self.stage = Stage::Whole;
-        } else {
-            self.close_color();
-        }
-    }
-
-    /// Ends a frame of one color, which has all its bytes.
-    fn close_color(&mut self)
-        requires stage { self.old.stage ≡ Keeping }
-        requires color { is_unknown self.old.params.lines ≡ false }
-        ensures { self.new ≡ color_ended self.old }
-    {
-        let params = self.params;
-        self.planes
-            .put(params.format, params.bytes_per_line, &mut self.held);
-        if params.last_frame {
-            self.params = all_colors(&params);
-            put_header(&mut self.head, &header_alone(&self.params));
-            self.stage = Stage::WholeColors;
-        } else {
-            self.stage = Stage::Between;
-        }
-    }
-
-    /// Ends the frame.
-    fn close(&mut self)
-        ensures { self.new ≡ value_ended self.old }
-    {
-        match self.stage {
-            Stage::Under => self.close_under(),
-            Stage::Keeping => self.close_kept(),
-            Stage::Idle | Stage::Between | Stage::Whole | Stage::WholeColors | Stage::Failed(_) =>
-                {}
-        }
-    }
-
-    /// Whether a further color may begin.
-    fn accepts_next(&self, params: &Params, order: ByteOrder) -> bool
-        ensures { result ≡ accepts_next self.now params.now order }
-    {
-        is_pass_that(self.planes.has_two(), params)
-            && (!self.planes.has(params.format)
-                && is_alike(&self.params, self.order, params, order))
-    }
-
-    /// Begins the first frame, or says why not.
-    #[tactic(auto, using(crate::proofs::KeptLaws::first_is_kept))]
-    fn open_first(&mut self, alloc: Global, params: &Params, order: ByteOrder)
-        ensures { self.new ≡ first_begun params.now order (is_starved self.new) self.old }
-    {
-        let begun = if is_alone(params) {
-            fresh(alloc, params, order)
-        } else if is_open_ended(params) || is_pass_that(false, params) {
-            keeping(alloc, params, order)
-        } else {
-            self.stage = Stage::Failed(JoinFault::Shape);
-            return;
-        };
-        match begun {
-            Ok(join) => *self = join,
-            Err(_) => self.stage = Stage::Failed(JoinFault::NoMem),
-        }
-    }
-
-    /// Begins a further color, or says why not.
-    fn open_next(&mut self, params: &Params, order: ByteOrder)
-        requires { self.old.stage ≡ Between }
-        ensures value { self.new ≡ next_begun params.now order (is_starved self.new) self.old }
-        ensures memory { is_starved self.new ≡ false }
-    {
-        if self.accepts_next(params, order) {
-            self.params = *params;
-            self.order = order;
-            self.stage = Stage::Keeping;
-        } else {
-            self.stage = Stage::Failed(JoinFault::Shape);
-        }
-    }
-
-    /// Begins a frame, or says why not.
-    fn open(&mut self, alloc: Global, params: &Params, order: ByteOrder)
-        ensures value { self.new ≡ value_begun params.now order (is_starved self.new) self.old }
-        ensures later { self.old.stage ≢ Idle → is_starved self.new ≡ is_starved self.old }
-    {
-        match self.stage {
-            Stage::Whole | Stage::WholeColors | Stage::Failed(_) => {}
-            Stage::Under | Stage::Keeping => self.stage = Stage::Failed(JoinFault::Shape),
-            Stage::Idle => self.open_first(alloc, params, order),
-            Stage::Between => self.open_next(params, order),
-        }
-    }
-
-    /// What `end` answers.
-    fn answer(&self) -> Result<bool, JoinFault>
-        ensures { result ≡ answer_at self.now.stage }
-    {
-        match self.stage {
-            Stage::Idle | Stage::Under | Stage::Keeping | Stage::Between => Ok(false),
-            Stage::Whole | Stage::WholeColors => Ok(true),
-            Stage::Failed(fault) => Err(fault),
+            pixels: PixelJoin::new(alloc),
+            line: 1,
+            came: 0,
         }
     }
 
@@ -504,7 +66,43 @@ impl FrameJoin {
         // Only the first frame takes memory here.
         ensures later { (past : Past) → Stands past self.old → past.ended ≢ [] → is_starved self.new ≡ is_starved self.old }
     {
-        self.open(alloc, params, order);
+        self.pixels.begin(alloc, &pixel_params(params), order);
+        if is_kept(params) {
+            self.line = params.bytes_per_line as usize;
+            self.came = 0;
+        }
+    }
+
+    /// How many bytes of the frame that is kept may still come.
+    fn room(&self) -> usize
+        ensures most { result ≡ most_lines self.now.pixels.params.lines * self.now.line - self.now.came }
+        ensures small { result + self.now.came ≤ 2 ^ 52 }
+    {
+        let lines = most_lines(self.pixels.params().lines);
+        (lines as usize * self.line).saturating_sub(self.came)
+    }
+
+    /// Keeps those of the bytes that show pixels.
+    fn keep(&mut self, bytes: &[u8])
+        requires keeping { is_keeping self.old.pixels.stage ≡ true }
+        requires room { length bytes.now ≤ most_lines self.old.pixels.params.lines * self.old.line - self.old.came }
+        requires small { length bytes.now + self.old.came ≤ 2 ^ 52 }
+        ensures carried { (past : Past) → Stands past self.old → Stands (after_feed bytes.now (is_starved self.new) past) self.new }
+        ensures nothing { length bytes.now ≡ 0 → is_starved self.new ≡ is_starved self.old }
+    {
+        let size = self.pixels.params().bytes_per_line as usize;
+        let mut at = 0;
+        while at < bytes.len() {
+            let place = (self.came + at) % self.line;
+            if place < size {
+                let end = bytes.len().min(at + (size - place));
+                self.pixels.feed(&bytes[at..end]);
+                at = end;
+            } else {
+                at = bytes.len().min(at + (self.line - place));
+            }
+        }
+        self.came += bytes.len();
     }
 
     /// Bytes of the frame come. A fault comes to stand: `Long` where they are more than the frame has, or than 65,536
@@ -517,7 +115,31 @@ impl FrameJoin {
         // No bytes take none.
         ensures nothing { length bytes.now ≡ 0 → is_starved self.new ≡ is_starved self.old }
     {
-        self.take_in(bytes);
+        if !self.pixels.is_keeping() {
+            self.pixels.feed(bytes);
+        } else if self.room() < bytes.len() {
+            self.pixels.fail(JoinFault::Long);
+        } else {
+            self.keep(bytes);
+        }
+    }
+
+    /// Whether all bytes of the frame that is kept have come.
+    fn has_all(&self) -> bool
+        ensures { result ≡ is_full_at self.now.pixels.params.lines self.now.line self.now.came }
+    {
+        let params = Params {
+            bytes_per_line: self.line as u32,
+            ..self.pixels.params()
+        };
+        is_full(&params, self.came)
+    }
+
+    /// Whether a frame is under way that is kept, and bytes of it have not come.
+    fn lacks_bytes(&self) -> bool
+        ensures { result ≡ (is_keeping self.now.pixels.stage && not (is_full_at self.now.pixels.params.lines self.now.line self.now.came)) }
+    {
+        self.pixels.is_keeping() && !self.has_all()
     }
 
     /// The frame ends. Says whether the picture is whole, or which fault stands; `Short` comes to stand where the frame
@@ -529,15 +151,11 @@ impl FrameJoin {
         // True exactly where no fault stands and the frames show a picture.
         ensures exact { (past : Past) → Stands past self.old → (result ≡ Ok true) ↔ ((past.fault ≡ None) × ((p : Picture) × ShowsFrames (frames_of past) p)) }
     {
-        self.close();
-        self.answer()
-    }
-
-    /// Whether bytes of the file may go out.
-    fn may_go(&self) -> bool
-        ensures { result ≡ may_go self.now }
-    {
-        self.moves() && (self.headed < self.head.len() || self.is_ready())
+        if self.lacks_bytes() {
+            self.pixels.fail(JoinFault::Short);
+            return Err(JoinFault::Short);
+        }
+        self.pixels.end()
     }
 
     /// Whether the picture is whole and its file has gone to the last byte.
@@ -547,60 +165,13 @@ impl FrameJoin {
         ensures whole { (past : Past) → Stands past self.now → (result ≡ true) ↔ IsWhole past.given }
         ensures denotes { (past : Past) → Stands past self.now → result ≡ true → (p : Picture) → ShowsFrames past.ended p → Denotes past.given p }
     {
-        let Ok(true) = self.answer() else {
-            return false;
-        };
-        !self.may_go()
+        self.pixels.has_given_all()
     }
 
     /// The fault that stands: the first that came to stand since the join was made.
     pub fn fault(&self) -> Option<JoinFault>
         ensures { (past : Past) → Stands past self.now → result ≡ past.fault }
     {
-        match self.stage {
-            Stage::Failed(fault) => Some(fault),
-            _ => None,
-        }
+        self.pixels.fault()
     }
-}
-
-/// A join in which a frame begins whose rows go straight through.
-fn fresh(alloc: Global, params: &Params, order: ByteOrder) -> Result<FrameJoin, AllocError>
-    requires { AloneParts params.now }
-    ensures { IfOk result (λ join. join ≡ fresh params.now order) }
-{
-    let mut head = Vec::with_capacity(alloc, HEADER_ROOM)?;
-    put_header(&mut head, &header_alone(params));
-    let held = Vec::with_capacity(alloc, params.bytes_per_line as usize + 4096)?;
-    Ok(FrameJoin {
-        stage: Stage::Under,
-        params: *params,
-        order,
-        head,
-        headed: 0,
-        row: 0,
-        column: 0,
-        held,
-        start: 0,
-        planes: Planes::new(alloc),
-    })
-}
-
-/// A join in which a frame begins that is kept.
-fn keeping(alloc: Global, params: &Params, order: ByteOrder) -> Result<FrameJoin, AllocError>
-    requires { (is_open_ended params.now || is_pass params.now) ≡ true }
-    ensures { IfOk result (λ join. join ≡ keeping params.now order) }
-{
-    Ok(FrameJoin {
-        stage: Stage::Keeping,
-        params: *params,
-        order,
-        head: Vec::with_capacity(alloc, HEADER_ROOM)?,
-        headed: 0,
-        row: 0,
-        column: 0,
-        held: Vec::new(alloc),
-        start: 0,
-        planes: Planes::new(alloc),
-    })
 }

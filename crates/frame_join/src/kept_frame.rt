@@ -3,6 +3,7 @@ ghost use Rattle.frame_join.specs.AloneFrame.{ShapeParts};
 ghost use Rattle.frame_join.specs.KeptFrame.{is_unknown, is_open_ended, color_number, is_pass, is_pass_that, same_order, is_alike};
 ghost use Rattle.frame_join.specs.ColorPlanes.{all_colors};
 ghost use Rattle.frame_join.specs.FrameHistory.{is_full_at};
+ghost use Rattle.frame_join.specs.Pixels.{is_kept, pixel_params};
 
 use crate::alone_frame::{is_alone_format, is_known, is_shaped, is_side, lines_in, row_size};
 use sane_fixed::{ByteOrder, FrameFormat, Params};
@@ -41,6 +42,26 @@ fn is_pass(params: &Params) -> bool
     ensures { result ≡ is_pass params.now }
 {
     !is_alone_format(params.format) && (is_known(params.lines) && is_shaped(params))
+}
+
+/// Whether frames of these parameters are kept until the picture is whole.
+pub(crate) fn is_kept(params: &Params) -> bool
+    ensures { result ≡ is_kept params.now }
+{
+    is_open_ended(params) || is_pass(params)
+}
+
+/// The parameters of what is kept of a frame: of a line just the bytes that show pixels.
+pub(crate) fn pixel_params(params: &Params) -> Params
+    ensures { result ≡ pixel_params params.now }
+{
+    if !is_kept(params) {
+        return *params;
+    }
+    Params {
+        bytes_per_line: row_size(params) as u32,
+        ..*params
+    }
 }
 
 /// The same, and whether it is the last of the picture's frames or not.

@@ -1,11 +1,14 @@
-ghost use Rattle.std.specs.Prelude.{◌≡◌, ◌≢◌, ◌<◌, ◌++◌, None, true, ◌^◌, ℕ, List, [], ◌∷◌, length, slice_index};
+ghost use Rattle.std.specs.Prelude.{◌≡◌, ◌≢◌, ◌<◌, ◌≤◌, ◌*◌, ◌||◌, ◌++◌, None, Some, true, ◌^◌, ℕ, List, [], ◌∷◌, length, map, slice_index};
 ghost use Rattle.netpbm.specs.Picture.{Picture};
 ghost use Rattle.netpbm.specs.Pnm.{IsWhole};
 ghost use Rattle.netpbm.specs.FileText.{header_text, row_text, joined};
 ghost use Rattle.page_picture.specs.Shows.{Frame, ShowsAlone, ShowsColors, ShowsFrames, frame_sample, channels_within};
-ghost use Rattle.frame_join.specs.AloneFrame.{is_alone, lines_in};
-ghost use Rattle.frame_join.specs.FrameFile.{header_alone, file_front, file_of};
-ghost use Rattle.frame_join.specs.FrameHistory.{Past, IsJoined, is_accepted};
+ghost use Rattle.frame_join.specs.AloneFrame.{is_alone, lines_in, row_bytes};
+ghost use Rattle.frame_join.specs.ColorPlanes.{planes_of};
+ghost use Rattle.frame_join.specs.FrameFile.{header_alone, file_front, file_of, height_of};
+ghost use Rattle.frame_join.specs.FrameHistory.{Past, IsJoined, is_accepted, is_full};
+ghost use Rattle.frame_join.specs.JoinStages.{is_keeping, is_between, is_colors};
+ghost use Rattle.frame_join.specs.Pixels.{is_kept, pixels_of};
 ghost use Rattle.frame_join.specs.Joining.{Joining, Stands};
 
 /// Before the picture is whole, what was given in all is no whole text.
@@ -21,6 +24,15 @@ pub fn no_front_is_whole()
 /// Where no fault stands, what was given in all is less than 2^40 bytes.
 pub fn no_file_is_endless()
     ensures { (past : Past) (join : Joining) → Stands past join → past.fault ≡ None → length past.given < 2 ^ 40 }
+{}
+
+/// Of frames that are kept a join holds the bytes that show pixels, and no others: of the frame under way as many as that many
+/// rows have, and of those that ended, colors each, their rows.
+pub fn only_pixels_are_kept()
+    ensures coming { (past : Past) (join : Joining) (f : Frame) → Stands past join → is_keeping join.pixels.stage ≡ true → past.under ≡ Some f → join.pixels.held ≡ (pixels_of f).payload }
+    ensures most { (past : Past) (join : Joining) (f : Frame) (n : ℕ) → Stands past join → is_keeping join.pixels.stage ≡ true → past.under ≡ Some f → length f.payload ≤ n * f.params.bytes_per_line → length join.pixels.held ≤ n * row_bytes f.params }
+    ensures colors { (past : Past) (join : Joining) → Stands past join → (is_keeping join.pixels.stage || (is_between join.pixels.stage || is_colors join.pixels.stage)) ≡ true → join.pixels.planes ≡ planes_of (map pixels_of past.ended) }
+    ensures size { (f : Frame) → is_kept f.params ≡ true → is_full f ≡ true → length (pixels_of f).payload ≡ height_of f * row_bytes f.params }
 {}
 
 /// A whole picture's frames show one.

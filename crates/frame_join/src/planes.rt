@@ -1,10 +1,12 @@
-ghost use Rattle.std.specs.Prelude.{ℕ, ◌≡◌, ◌≤◌, ◌<◌, ◌+◌, ◌*◌, ◌/◌, ◌%◌, ◌⊎◌, IfSome, false, is_some, length, slice_index};
+ghost use Rattle.std.specs.Prelude.{ℕ, ◌≡◌, ◌≤◌, ◌<◌, ◌+◌, ◌-◌, ◌*◌, ◌/◌, ◌%◌, ◌⊎◌, IfSome, false, is_some, length, slice_index};
 ghost use Rattle.frame_join.specs.KeptFrame.{color_number};
 ghost use Rattle.frame_join.specs.ColorPlanes.{no_plane, no_planes, nth_plane, side_byte};
+ghost use Rattle.frame_join.specs.FrameFile.{place_in};
 ghost use Rattle.frame_join.specs.JoinSteps.{is_there, has_two, put_plane};
 
+use crate::alone_frame::place_in;
 use crate::kept_frame::color_number;
-use sane_fixed::FrameFormat;
+use sane_fixed::{ByteOrder, FrameFormat};
 use std::alloc::Global;
 use std::marker::Model;
 use std::mem::swap;
@@ -41,6 +43,31 @@ fn weave(red: &[u8], green: &[u8], blue: &[u8], first: usize, buf: &mut [u8])
         buf[first + 3 * k] = red[k];
         buf[first + 3 * k + 1] = green[k];
         buf[first + 3 * k + 2] = blue[k];
+    }
+}
+
+/// Puts the samples of a color, two bytes each, into every third place for one, from place `first` on: the first byte of
+/// each `turn` behind that place, and the second one at the place beside it.
+fn spread(color: &[u8], turn: usize, first: usize, buf: &mut [u8])
+    requires turn { turn ≤ 1 }
+    requires even { length color.now % 2 ≡ 0 }
+    requires room { first + 3 * length color.now ≤ length buf.old + 4 }
+    requires few { length buf.old ≤ 1048576 }
+    ensures one { (k : ℕ) → 2 * k < length color.now →
+        slice_index buf.new (first + 6 * k + turn) ≡ slice_index color.now (2 * k) }
+    ensures two { (k : ℕ) → 2 * k < length color.now →
+        slice_index buf.new (first + 6 * k + (1 - turn)) ≡ slice_index color.now (2 * k + 1) }
+    ensures before { (i : ℕ) → i < first → slice_index buf.new i ≡ slice_index buf.old i }
+    ensures between { (i : ℕ) → first ≤ i → 2 ≤ (i - first) % 6 →
+        slice_index buf.new i ≡ slice_index buf.old i }
+    ensures behind { (i : ℕ) → first + 3 * length color.now ≤ i →
+        slice_index buf.new i ≡ slice_index buf.old i }
+{
+    let (one, two) = (first + turn, first + (1 - turn));
+    // Both places are found before the loop, which then moves bytes alone, whatever their order.
+    for k in 0..color.len() / 2 {
+        buf[one + 6 * k] = color[2 * k];
+        buf[two + 6 * k] = color[2 * k + 1];
     }
 }
 
@@ -157,7 +184,7 @@ impl Planes {
     }
 
     /// Byte `place` of row `y` where the three colors of each pixel stand side by side.
-    pub(crate) fn side_byte(&self, depth: u32, y: u32, place: usize) -> u8
+    fn side_byte(&self, depth: u32, y: u32, place: usize) -> u8
         requires place { place < 1048576 }
         requires depth { (depth ≡ 8) ⊎ (depth ≡ 16) }
         ensures { result ≡ side_byte self.now depth y place }
@@ -174,17 +201,28 @@ impl Planes {
         }
     }
 
-    /// The same as `put_side`, byte by byte, between two places of `buf`.
-    fn put_between(&self, y: u32, from: usize, start: usize, end: usize, buf: &mut [u8])
+    /// The same as `put_side` or `put_side_words`, byte by byte, between two places of `buf`.
+    fn put_between(
+        &self,
+        depth: u32,
+        order: ByteOrder,
+        y: u32,
+        from: usize,
+        start: usize,
+        end: usize,
+        buf: &mut [u8],
+    )
+        requires depth { (depth ≡ 8) ⊎ (depth ≡ 16) }
         requires place { from + length buf.old ≤ 1048576 }
         requires order { start ≤ end }
         requires room { end ≤ length buf.old }
-        ensures here { (i : ℕ) → start ≤ i → i < end → slice_index buf.new i ≡ side_byte self.now 8 y (from + i) }
+        ensures here { (i : ℕ) → start ≤ i → i < end →
+            slice_index buf.new i ≡ side_byte self.now depth y (place_in order depth (from + i)) }
         ensures before { (i : ℕ) → i < start → slice_index buf.new i ≡ slice_index buf.old i }
         ensures behind { (i : ℕ) → end ≤ i → slice_index buf.new i ≡ slice_index buf.old i }
     {
         for i in start..end {
-            buf[i] = self.side_byte(8, y, from + i);
+            buf[i] = self.side_byte(depth, y, place_in(order, depth, from + i));
         }
     }
 
@@ -201,10 +239,35 @@ impl Planes {
         let green = self.green.part(y, place, count);
         let blue = self.blue.part(y, place, count);
         let (Some(red), Some(green), Some(blue)) = (red, green, blue) else {
-            return self.put_between(y, from, 0, buf.len(), buf);
+            return self.put_between(8, ByteOrder::Big, y, from, 0, buf.len(), buf);
         };
-        self.put_between(y, from, 0, head, buf);
+        self.put_between(8, ByteOrder::Big, y, from, 0, head, buf);
         weave(red, green, blue, head, buf);
-        self.put_between(y, from, end, buf.len(), buf);
+        self.put_between(8, ByteOrder::Big, y, from, end, buf.len(), buf);
+    }
+
+    /// Puts the bytes of row `y` of the file from place `from` on, where the three colors of each pixel stand side by side,
+    /// two bytes each, which the colors have in that order.
+    pub(crate) fn put_side_words(&self, order: ByteOrder, y: u32, from: usize, buf: &mut [u8])
+        requires place { from + length buf.old ≤ 1048576 }
+        ensures { (i : ℕ) → i < length buf.old →
+            slice_index buf.new i ≡ side_byte self.now 16 y (place_in order 16 (from + i)) }
+    {
+        // What stands before the first whole pixel, and how many of these there are.
+        let head = ((6 - from % 6) % 6).min(buf.len());
+        let count = (buf.len() - head) / 6;
+        let (place, end) = (2 * ((from + head) / 6), head + 6 * count);
+        let red = self.red.part(y, place, 2 * count);
+        let green = self.green.part(y, place, 2 * count);
+        let blue = self.blue.part(y, place, 2 * count);
+        let (Some(red), Some(green), Some(blue)) = (red, green, blue) else {
+            return self.put_between(16, order, y, from, 0, buf.len(), buf);
+        };
+        let turn = place_in(order, 16, 0);
+        self.put_between(16, order, y, from, 0, head, buf);
+        spread(red, turn, head, buf);
+        spread(green, turn, head + 2, buf);
+        spread(blue, turn, head + 4, buf);
+        self.put_between(16, order, y, from, end, buf.len(), buf);
     }
 }

@@ -40,14 +40,6 @@ impl PnmOut {
         // Then, where no frame is kept, the join has room for a further piece.
         ensures drained { (past : Past) → Stands past join.old → GoesThrough past.under → result ≡ 0 → 0 < length buf.old → IsDrained join.new }
     {
-        let mut at = 0;
-        while at < buf.len() {
-            let end = join.next_run(buf, at);
-            if end == at {
-                return at;
-            }
-            at = end;
-        }
-        at
+        join.pixels.pull(buf)
     }
 }

@@ -1,8 +1,10 @@
 -- Settings put one after another are the settings in force.
 use Rattle.std.proofs.Common.{◌≡◌, ◌⊎◌, inl, inr, ◌∙◌, sym, ap, subst, refl, ℕ, Bool, true, false, cond, List, [], ◌∷◌, ◌++◌, Option, Some, None, Result, Ok, Err}
 use Rattle.std.specs.Prelude.{option_map, option_and_then, slice_get}
+use Rattle.std.specs.Option.{option_map_or}
 use Rattle.sane_fixed.specs.DecimalReading.{◌>>=◌}
 use Rattle.sane_fixed.specs.declared.info.Info.{Info}
+use Rattle.sane_fixed.specs.declared.kind.Kind.TheVariants as kinds
 use Rattle.sane_fixed.specs.declared.status.Status.{Status}
 use Rattle.option_desc.specs.declared.descriptor.Descriptor.{Descriptor}
 use Rattle.option_desc.specs.declared.value.Value.{Value}
@@ -42,6 +44,7 @@ one_given s setting n desc asked named at reads got e =
       record {
         puts = record { n = n; named = named; gives = gives; reads = subst (λ (d : Descriptor). Reads d setting.1 asked) same (Reads-read desc setting.1 asked reads); after = refl };
         name = refl;
+        kind = ap (λ (o : Option Descriptor). option_map_or (λ (d : Descriptor). d.kind) o kinds.Group) at ∙ ap (λ (d : Descriptor). d.kind) same;
         asked = refl;
         given = refl;
         set = e;

@@ -13,11 +13,12 @@ use Rattle.local_job.specs.declared.stop.Stop.{Stop}
 use Rattle.local_job.specs.Putting.{asked_of}
 use Rattle.local_job.specs.Stops.{bad_setting, answered}
 
--- The report of a setting: asked is what its text reads as, given is the admitted value nearest to it, the info is the
+-- The report of a setting: its kind is the option's, asked is what its text reads as, given is the admitted value nearest to it, the info is the
 -- set's own, and INEXACT stands in it just where they differ.
 pub record IsReported (s : Setup) (setting : List ℕ × List ℕ) (p : Placed) (report : Report) : Type 0 where
   pub puts : PutsNearest s setting p
   pub name : report.name ≡ setting.0
+  pub kind : report.kind ≡ puts.gives.desc.kind
   pub asked : report.asked ≡ p.asked
   pub given : report.given ≡ p.given
   pub set : option_set s puts.n p.asked ≡ Ok (p.given, report.info)

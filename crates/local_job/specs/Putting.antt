@@ -1,6 +1,9 @@
 -- What becomes of the settings of a job on a scanner: each is put after those before it.
 use Rattle.std.specs.Prelude.{ℕ, Option, Some, None, option_and_then, Result, Ok, Err, List, [], ◌∷◌, ◌++◌, slice_get}
+use Rattle.std.specs.Option.{option_map_or}
 use Rattle.sane_fixed.specs.declared.info.Info.{Info}
+use Rattle.sane_fixed.specs.declared.kind.Kind.{Kind}
+use Rattle.sane_fixed.specs.declared.kind.Kind.TheVariants as kinds
 use Rattle.sane_fixed.specs.declared.status.Status.{Status}
 use Rattle.option_desc.specs.declared.value.Value.{Value}
 use Rattle.option_desc.specs.Reads.{read}
@@ -12,10 +15,14 @@ use Rattle.scan_job.specs.declared.report.Report.{Report}
 use Rattle.local_job.specs.declared.stop.Stop.{Stop}
 use Rattle.local_job.specs.Stops.{bad_setting, answered}
 
+-- the kind of the option of that number; where there is none, none is asked for
+abbrev pub kind_at : Setup → ℕ → Kind
+kind_at s n = option_map_or (λ desc. desc.kind) (slice_get (descriptors_of s) n) kinds.Group
+
 -- a setting put, or what ends the job, want of memory aside
 abbrev pub put_answered : Setup → List ℕ → ℕ → Value → Result (Value × Info) Status → Result (Setup × Report) Stop
 put_answered s name n asked (Err status) = Err (answered status)
-put_answered s name n asked (Ok got) = Ok (setup_after s n got.0, record { name = name; asked = asked; given = got.0; info = got.1 })
+put_answered s name n asked (Ok got) = Ok (setup_after s n got.0, record { name = name; kind = kind_at s n; asked = asked; given = got.0; info = got.1 })
 
 abbrev pub put_read : Setup → List ℕ → ℕ → Option Value → Result (Setup × Report) Stop
 put_read s name n None = Err bad_setting

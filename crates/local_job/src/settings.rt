@@ -87,6 +87,7 @@ fn put_setting(
     let (given, info) = set_option(alloc, device, n, &asked)?;
     Ok(Report {
         name,
+        kind: descriptor.kind,
         asked,
         given,
         info,

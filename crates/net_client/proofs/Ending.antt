@@ -7,7 +7,7 @@ use Rattle.sane_fixed.specs.declared.status.Status.{Status}
 use Rattle.sane_fixed.specs.declared.status.Status.TheVariants as statuses
 use Rattle.netpbm.specs.Picture.{Picture}
 use Rattle.netpbm.specs.Pnm.{Denotes, IsWhole}
-use Rattle.frame_join.proofs.EndLaws.{not_whole}
+use Rattle.frame_join.proofs.EndSteps.{whole_not}
 use Rattle.page_picture.specs.Shows.{Frame, ShowsFrames}
 use Rattle.frame_join.specs.declared.join_stage.JoinFault.{JoinFault}
 use Rattle.frame_join.specs.declared.join_stage.JoinFault.TheVariants as faults
@@ -114,7 +114,7 @@ pub ends_frame : (old new : Talker) (join : Joining) (past : Past) (status : ℕ
     → Settles (record old { join = join }) next new → EndsFrame old past status new
 ends_frame old new join past status next was s w next_is stands settles =
     let e : FrameEnd = frame_ended old.errand.task old.notes.file past status in
-    let fits = ended_fits_by old.errand.task old.notes.file past (status_of status) s w (not_whole past old.join was (within_is_unjoined past w)) in
+    let fits = ended_fits_by old.errand.task old.notes.file past (status_of status) s w (whole_not past old.join was (within_is_unjoined past w)) in
     let same : Settles (between old old.progress old.notes join) e.next new = subst (λ (x : Next). Settles (record old { join = join }) x new) next_is settles in
     let well = settles_well old new old.progress (turn old.notes e.next) join e.past fits stands same in
     record { talk = well.0; serves = well.1; said = same.text; rest = differs old new old.progress (turn old.notes e.next) join same }

@@ -9,12 +9,9 @@ use Rattle.netpbm.specs.Picture.{Picture}
 use Rattle.netpbm.specs.Pnm.{Denotes, IsWhole}
 use Rattle.page_picture.specs.Shows.{Frame, ShowsFrames}
 use Rattle.frame_join.specs.declared.join_stage.JoinFault.{JoinFault}
-use Rattle.frame_join.specs.declared.join_stage.Stage.{Stage as JoinStage}
-use Rattle.frame_join.specs.declared.join_stage.Stage.TheVariants.{Idle, Under, Keeping, Between, Whole, WholeColors, Failed as FailedJoin}
 use Rattle.frame_join.specs.FrameHistory.{Past, IsJoined, is_joined, answer_of, answer_by}
-use Rattle.frame_join.specs.JoinSteps.{answer_at}
-use Rattle.frame_join.specs.Joining.{Joining, Stands, StandsAt}
-use Rattle.frame_join.proofs.EndLaws.{answers}
+use Rattle.frame_join.specs.Joining.{Joining, Stands}
+use Rattle.frame_join.proofs.JoinedLaws.{rests_silent}
 use Rattle.frame_join.proofs.StreamLaws.{nothing_is_not_whole}
 use Rattle.scan_job.specs.JobSize.{HasCount}
 use Rattle.scan_job.specs.Shelves.{Stock, Taken}
@@ -40,22 +37,13 @@ use Rattle.net_jobs.proofs.Shelving.{Laid, Shut, OnShelf, one_file, laid_next, f
 
 -- ---- a join between frames has given nothing, if its picture is not whole
 
-silent_at : (stage : JoinStage) (past : Past) (v : Joining) → answer_at stage ≡ Ok false → StandsAt stage past v → past.under ≡ None → past.given ≡ []
-silent_at Idle past v e at under = at.2
-silent_at Under past v e at under = absurd (let clash : None ≡ Some at.0 = sym under ∙ at.2 in cc)
-silent_at Keeping past v e at under = absurd (let clash : None ≡ Some at.0 = sym under ∙ at.1 in cc)
-silent_at Between past v e at under = at.1.silent.given_is
-silent_at Whole past v e at under = absurd (let clash : Ok true ≡ Ok false = e in cc)
-silent_at WholeColors past v e at under = absurd (let clash : Ok true ≡ Ok false = e in cc)
-silent_at (FailedJoin fault) past v e at under = absurd (let clash : Err fault ≡ Ok false = e in cc)
-
 between_answers : (fault : Option JoinFault) (under : Option Frame) (ended : List Frame) → fault ≡ None → under ≡ None → is_joined ended ≡ false → answer_by fault under ended ≡ Ok false
 between_answers (Some f) under ended a b c = absurd (let clash : Some f ≡ None = a in cc)
 between_answers None (Some f) ended a b c = absurd (let clash : Some f ≡ None = b in cc)
 between_answers None None ended a b c = ap (λ (x : Bool). Ok x) c
 
 between_silent : (past : Past) (v : Joining) → Stands past v → IsBetween past → past.given ≡ []
-between_silent past v s b = silent_at v.stage past v (sym (answers past v s) ∙ between_answers past.fault past.under past.ended b.0 b.1 b.2) s.at_stage b.1
+between_silent past v s b = rests_silent past v s b.1 (between_answers past.fault past.under past.ended b.0 b.1 b.2)
 
 -- ---- a job that is done
 

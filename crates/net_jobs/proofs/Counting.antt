@@ -162,12 +162,12 @@ puts_after : (task : Task) (notes : Notes) (reloads : Bool) → Plain task notes
 puts_after task notes true = (refl, λ e. (let clash : stages.Describing ≡ stages.Turning = e in cc), tt)
 puts_after task notes false = goes_on task notes
 
-puts_given : (task : Task) (notes : Notes) (name : List ℕ) (value : Value) (info : Info) (given : Option Value) → Plain task notes.file (given_to task notes name value info given)
-puts_given task notes name value info None = (refl, over, tt)
-puts_given task notes name value info (Some given) = puts_after task _ (has_cap info.0 2)
+puts_given : (task : Task) (notes : Notes) (kind : Kind) (name : List ℕ) (value : Value) (info : Info) (given : Option Value) → Plain task notes.file (given_to task notes kind name value info given)
+puts_given task notes kind name value info None = (refl, over, tt)
+puts_given task notes kind name value info (Some given) = puts_after task _ (has_cap info.0 2)
 
 puts_good : (task : Task) (notes : Notes) (kind : Kind) (name : List ℕ) (value : Value) (status : Status) (info : Info) (given : Kind) (found : WireValue) → Plain task notes.file (put_good task notes kind name value status info given found)
-puts_good task notes kind name value statuses.Good info given found = puts_given task notes name value info (of_kind kind given (given_like value found))
+puts_good task notes kind name value statuses.Good info given found = puts_given task notes kind name value info (of_kind kind given (given_like value found))
 puts_good task notes kind name value status info given found = (refl, over, tt)
 
 puts_told : (task : Task) (notes : Notes) (kind : Kind) (name : List ℕ) (value : Value) (status : Status) (info : Info) (given : Kind) (found : WireValue) (resource : List ℕ) → Plain task notes.file (put_told task notes kind name value status info given found resource)

@@ -25,12 +25,12 @@ pub(crate) const MOST_READS: u64 = 1 << 40;
 /// More than a file has bytes.
 pub(crate) const MOST_PULLS: u64 = 1 << 40;
 
-/// The most bytes that are read or written at once.
-const PIECE: usize = 65536;
+/// The most bytes that are read or written at once: a record of 65,540 bytes, as saned writes them, comes in one read.
+const PIECE: usize = 131_072;
 
 /// Room for a piece.
 pub(crate) fn piece(alloc: Global) -> Result<Vec<u8>, AllocError>
-    ensures { IfOk result (λ v. length v.items ≡ 65536) }
+    ensures { IfOk result (λ v. length v.items ≡ 131072) }
 {
     vec![in alloc; 0u8; PIECE]
 }

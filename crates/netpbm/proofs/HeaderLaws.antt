@@ -1,8 +1,8 @@
 -- Reading a header from the left finds what the grammar says, and nothing else.
-use Rattle.std.proofs.Common.{◌≡◌, ℕ, ◌<◌, ◌≤◌, ◌==◌, ◌&&◌, Bool, true, false, List, [], ◌∷◌, ◌++◌, length, take, drop, arith, suc, cond, refl, sym, ap, ◌∙◌, MatchBool, append_assoc, subst, Bor, option_map, IfSome, IfNone}
+use Rattle.std.proofs.Common.{◌≡◌, ℕ, ◌<◌, ◌≤◌, ◌==◌, ◌&&◌, Bool, true, false, List, [], ◌∷◌, ◌++◌, length, take, drop, arith, cond, refl, sym, ap, ◌∙◌, append_assoc, subst, Bor, option_map, IfSome, IfNone}
 use Rattle.std.specs.Prelude.{Option, Some, None, nat_le}
 use Rattle.std.specs.Char.{is_ascii_digit, digit_value}
-use Rattle.std.specs.Str.Parse.{digits_value, AllDigits}
+use Rattle.std.specs.Str.Parse.{digits_value}
 use Rattle.std.proofs.lemmas.Bool.Decides.{nat_tests}
 use Rattle.std.proofs.lemmas.List.{take_at, drop_at, take-append-drop, length-take}
 use Rattle.std.proofs.lemmas.Option.{cond_some, option_and_then_some, some_pair_parts}
@@ -13,7 +13,7 @@ use Rattle.netpbm.specs.declared.format.Header.{Header}
 use Rattle.netpbm.specs.Pnm.{is_white, ends_comment, NoneEnds, IsFiller, nothing, white, comment, IsGap, IsNumber, IsField, IsHeader, IsMaxval, magic, Begins}
 use Rattle.netpbm.specs.HeaderReading.{format_of, after_filler, number_at, field_at, end_at, maxval_at, header_at}
 use Rattle.sane_fixed.specs.Digits.{digit_count}
-use Rattle.sane_fixed.proofs.DigitLemmas.{AllDigits-take-digit_count, test_from_digit, digit_count-digits, digit_count-le}
+use Rattle.sane_fixed.proofs.DigitLemmas.{AllDigits-take-digit_count, digit_count-digits, digit_count-le}
 
 -- ---- the filler
 

@@ -1,5 +1,5 @@
 -- How the header of a Netpbm file is read from the left: what it tells, and the bytes after it.
-use Rattle.std.specs.Prelude.{ℕ, suc, Bool, true, false, ◌&&◌, ◌==◌, nat_le, if◌then◌else◌, Option, Some, None, option_and_then, List, [], ◌∷◌, take, drop}
+use Rattle.std.specs.Prelude.{ℕ, Bool, true, false, ◌&&◌, ◌==◌, nat_le, if◌then◌else◌, Option, Some, None, option_and_then, List, [], ◌∷◌, take, drop}
 use Rattle.std.specs.Str.Parse.{digits_value}
 use Rattle.sane_fixed.specs.Digits.{digit_count}
 use Rattle.netpbm.specs.declared.format.Format.{Format}

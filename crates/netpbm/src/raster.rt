@@ -19,21 +19,50 @@ pub fn number_at(maxval: u32, raster: &[u8], i: usize, count: usize) -> u32
     }
 }
 
+/// Whether no byte is above the greatest.
+fn bytes_fit(maxval: u32, raster: &[u8], count: usize) -> bool
+    requires byte { maxval < 256 }
+    requires size { length raster.now ≡ count * sample_bytes maxval }
+    ensures { MatchBool result
+        (NoneAbove maxval raster.now count) (SomeAbove maxval raster.now count) }
+{
+    // It goes on behind the first that does not fit, so that it takes many bytes at once.
+    let most = maxval as u8;
+    let mut fit = true;
+    for i in 0..raster.len() {
+        fit &= raster[i] <= most;
+    }
+    fit
+}
+
+/// Whether no number of two bytes is above the greatest.
+fn words_fit(maxval: u32, raster: &[u8], count: usize) -> bool
+    requires two { 256 ≤ maxval }
+    requires most { maxval < 65536 }
+    requires size { length raster.now ≡ count * sample_bytes maxval }
+    ensures { MatchBool result
+        (NoneAbove maxval raster.now count) (SomeAbove maxval raster.now count) }
+{
+    let most = maxval as u16;
+    let mut fit = true;
+    for i in 0..raster.len() / 2 {
+        let number = 256 * u16::from(raster[2 * i]) + u16::from(raster[2 * i + 1]);
+        fit &= number <= most;
+    }
+    fit
+}
+
 /// Whether no number of the raster is above the greatest.
 pub fn none_above(maxval: u32, raster: &[u8], count: usize) -> bool
     requires { length raster.now ≡ count * sample_bytes maxval }
     ensures { MatchBool result (NoneAbove maxval raster.now count) (SomeAbove maxval raster.now count) }
 {
     // No byte is above 255, and no two bytes are above 65,535.
-    if maxval == 255 || maxval >= 65535 {
-        return true;
+    match maxval {
+        255 | 65535.. => true,
+        0..=254 => bytes_fit(maxval, raster, count),
+        _ => words_fit(maxval, raster, count),
     }
-    for i in 0..count {
-        if number_at(maxval, raster, i, count) > maxval {
-            return false;
-        }
-    }
-    true
 }
 
 /// How many samples a header of grays or colors tells of.

@@ -4,3 +4,4 @@ pub mod ScanLemmas
 pub mod RowLemmas
 pub mod ShownLemmas
 pub mod RunLemmas
+pub mod ScalingLemmas

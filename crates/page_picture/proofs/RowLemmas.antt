@@ -1,8 +1,9 @@
 -- Rows of a raster: reading them one by one agrees with the whole raster.
-use Rattle.std.proofs.Common.{◌≡◌, ℕ, ◌+◌, ◌-◌, ◌*◌, ◌<◌, ◌≤◌, ◌⊎◌, inl, inr, List, ◌++◌, arith, length, take, drop, slice_range, get_or, sym, ap, ◌∙◌, subst, refl, drop_at, length-take-le, take-append-drop, length-append, Bool, true, false, cond, suc}
+use Rattle.std.proofs.Common.{append_assoc, le_refl, ◌≡◌, ℕ, ◌+◌, ◌-◌, ◌*◌, ◌<◌, ◌≤◌, ◌⊎◌, inl, inr, List, ◌++◌, arith, length, take, drop, slice_range, get_or, sym, ap, ◌∙◌, subst, refl, drop_at, length-take-le, take-append-drop, length-append, Bool, true, false, cond, suc}
 use Rattle.std.specs.Prelude.{slice_index, nat_lt, ◌&&◌, MatchBool, IfErr, Result, Ok, Err}
 use Rattle.std.proofs.Math.Seq.{take-add, take-append-le, take-append_seam, drop-append_seam}
 use Rattle.std.proofs.lemmas.List.{drop-drop, length-drop, get_or-drop, get_or_append_left}
+use Rattle.std.proofs.Math.ListN.{drop_of_length-le}
 use Rattle.std.proofs.Math.Nat.{mul-le-mul_right, mul-le-mul_left}
 use Rattle.std.proofs.lemmas.Bool.Decides.{nat_tests}
 use borrow.Rule.Slice.PartMut.{put_mid, post_of}
@@ -15,7 +16,7 @@ use Rattle.netpbm.specs.Raster.{NoneAbove, SomeAbove, raster_size, sample_count}
 use Rattle.page_picture.specs.declared.sources.open_fault.OpenFault.{OpenFault}
 use Rattle.page_picture.specs.declared.sources.open_fault.OpenFault.TheVariants.{Device}
 use Rattle.page_picture.specs.PageFile.{IsPageFormat}
-use Rattle.page_picture.specs.PageRows.{row_size, row_count, HasRow, IsPageHeader, IsRaster, ReadsRaster}
+use Rattle.page_picture.specs.PageRows.{row_size, row_count, GivesRowOf, HasRows, IsPageHeader, IsRaster, ReadsRaster, ShowsRow, unused}
 
 -- what holds wherever the fault is the reader's
 pub of_device : {A : Type 0} (r : Result A OpenFault) (X : Type 0) → X → IfErr r (λ fault. fault ≡ Device → X)
@@ -34,6 +35,48 @@ slice_range-put_mid a k n xs ys within fits =
     let same : (a + n) - a ≡ n = omega arith in
     let after = post_of a k xs in
     ap (take ((a + n) - a)) (drop_at (take a xs) (ys ++ after) a (length-take-le a xs within)) ∙ ap (λ m. take m (ys ++ after)) same ∙ take-append-le n ys after fits
+
+-- ---- the rows that are held
+
+pub unused_none : (size : ℕ) (room left : List ℕ) → unused size 0 room left ≡ left
+unused_none size room left =
+    let place : length room - 0 * size ≡ length room = omega arith in
+    ap (λ n. drop n room ++ left) place ∙ ap (λ l. l ++ left) (drop_of_length-le room (le_refl (length room)))
+
+pub length-unused : (size held : ℕ) (room left : List ℕ) → held * size ≤ length room → length (unused size held room left) ≡ held * size + length left
+length-unused size held room left within =
+    let n = held * size in
+    let back : length room - (length room - n) ≡ n = omega arith in
+    length-append (drop (length room - n) room) left ∙ ap (λ k. k + length left) (length-drop (length room - n) room ∙ back)
+
+-- the first of them, and the others
+pub unused_next : (size held next from : ℕ) (room left : List ℕ) → held ≡ next + 1 → held * size ≤ length room → from ≡ length room - held * size → unused size held room left ≡ slice_range room from (from + size) ++ unused size next room left
+unused_next size held next from room left e within at =
+    let all : held * size ≡ next * size + size = ap (λ k. k * size) e ∙ omega arith in
+    let place : from + size ≡ length room - next * size = omega arith in
+    let same : (from + size) - from ≡ size = omega arith in
+    let row = take size (drop from room) in
+    let rest = drop (length room - next * size) room in
+    let cut : drop from room ≡ row ++ rest = sym (take-append-drop size (drop from room)) ∙ ap (λ l. row ++ l) (drop-drop size from room ∙ ap (λ n. drop n room) place) in
+    ap (λ n. drop n room ++ left) (sym at) ∙ ap (λ l. l ++ left) cut ∙ append_assoc row rest left ∙ ap (λ n. take n (drop from room) ++ (rest ++ left)) (sym same)
+
+pub unused_zero : (size held : ℕ) (room left : List ℕ) → held ≡ 0 → unused size held room left ≡ left
+unused_zero size held room left e = ap (λ k. unused size k room left) e ∙ unused_none size room left
+
+-- what is not used yet stays the same while rows are read into the room, and then begins with the row that is taken
+pub row_taken : (h : Header) (size held0 held1 next : ℕ) (room0 room1 left0 left1 : List ℕ) → size ≡ row_size h → unused size held0 room0 left0 ≡ unused size held1 room1 left1 → held1 ≡ next + 1 → held1 * size ≤ length room1 → unused (row_size h) held0 room0 left0 ≡ slice_range room1 (length room1 - held1 * size) (length room1 - held1 * size + size) ++ unused (row_size h) next room1 left1
+row_taken h size held0 held1 next room0 room1 left0 left1 same e one within =
+    let from = length room1 - held1 * size in
+    subst (λ s. unused s held0 room0 left0 ≡ slice_range room1 from (from + size) ++ unused s next room1 left1) same (e ∙ unused_next size held1 next from room1 left1 one within refl)
+
+pub length-row_taken : (size held next : ℕ) (room : List ℕ) → held ≡ next + 1 → held * size ≤ length room → length (slice_range room (length room - held * size) (length room - held * size + size)) ≡ size
+length-row_taken size held next room e within =
+    let from = length room - held * size in
+    let all : held * size ≡ next * size + size = ap (λ k. k * size) e ∙ omega arith in
+    let same : (from + size) - from ≡ size = omega arith in
+    let rest = length-drop from room in
+    let fits : (from + size) - from ≤ length (drop from room) = omega arith in
+    length-take-le ((from + size) - from) (drop from room) fits ∙ same
 
 -- ---- one row on
 
@@ -129,9 +172,9 @@ pub record RowsRead (h : Header) (raster left : List ℕ) (y : ℕ) : Type 0 whe
 pub rows_left : (h : Header) (raster left : List ℕ) (y : ℕ) → RowsRead h raster left y → length left + y * row_size h ≡ length raster
 rows_left h raster left y r = let size = length-drop (y * row_size h) raster in let same = ap length r.left_is in let low = r.within in omega arith
 
-pub rows_short : (h : Header) (raster left : List ℕ) (y : ℕ) → RowsRead h raster left y → y < h.height → length left < row_size h → length raster < raster_size h
-rows_short h raster left y r less short =
-    let up : suc y * row_size h ≤ h.height * row_size h = mul-le-mul_right (row_size h) less in
+pub rows_short : (h : Header) (raster left : List ℕ) (y rows : ℕ) → RowsRead h raster left y → rows + y ≡ h.height → length left < rows * row_size h → length raster < raster_size h
+rows_short h raster left y rows r all short =
+    let both : (rows + y) * row_size h ≡ h.height * row_size h = ap (λ k. k * row_size h) all in
     omega (arith, rows_left h raster left y r, raster_size-rows h r.page)
 
 pub rows_next : (h : Header) (raster left bytes more : List ℕ) (y : ℕ) → RowsRead h raster left y → left ≡ bytes ++ more → length bytes ≡ row_size h → RowsRead h raster more (y + 1)
@@ -174,15 +217,25 @@ rows_fit h raster y fit all none some =
     by_fit false none some count = subst (SomeAbove h.maxval raster) count (some refl)
 
 -- a row that stands at the front is the one that is read, and no number of it is above the greatest
-pub row_fits : (h : Header) (left bytes more : List ℕ) → HasRow h left → left ≡ bytes ++ more → length bytes ≡ row_size h → SomeAbove h.maxval bytes (row_count h) → ⊥
-row_fits h left bytes more row e size (i, inside, above) =
+pub row_fits : (h : Header) (rows : ℕ) (left bytes more : List ℕ) → HasRows h rows left → left ≡ bytes ++ more → length bytes ≡ row_size h → SomeAbove h.maxval bytes (row_count h) → ⊥
+row_fits h rows left bytes more row e size (i, inside, above) =
     let front : take (row_size h) left ≡ bytes = ap (take (row_size h)) e ∙ ap (λ n. take n (bytes ++ more)) (sym size) ∙ take-append_seam bytes more in
     let below : number_in h.maxval bytes i ≤ h.maxval = subst (λ l. number_in h.maxval l i ≤ h.maxval) front (row.none_above i inside) in
     omega arith
 
--- the next row of a whole raster stands at the front of what is left
-pub has_row : (h : Header) (raster left : List ℕ) (y : ℕ) → IsPageHeader h → IsRaster h raster → y < h.height → left ≡ drop (y * row_size h) raster → HasRow h left
-has_row h raster left y page is less e =
+-- the row at the front was used
+pub gives_row : (h : Header) (left bytes more row : List ℕ) → left ≡ bytes ++ more → length bytes ≡ row_size h → ShowsRow h bytes row → GivesRowOf h left more row
+gives_row h left bytes more row e size shows =
+    let front : take (row_size h) left ≡ bytes = ap (take (row_size h)) e ∙ ap (λ n. take n (bytes ++ more)) (sym size) ∙ take-append_seam bytes more in
+    record {
+      size = let both = ap length e ∙ length-append bytes more in omega arith;
+      after_is = sym (ap (drop (row_size h)) e ∙ ap (λ n. drop n (bytes ++ more)) (sym size) ∙ drop-append_seam bytes more);
+      shows = subst (λ l. ShowsRow h l row) (sym front) shows;
+    }
+
+-- the next rows of a whole raster stand at the front of what is left
+pub has_rows : (h : Header) (raster left : List ℕ) (y rows : ℕ) → IsPageHeader h → IsRaster h raster → y < h.height → rows ≡ h.height - y → left ≡ drop (y * row_size h) raster → HasRows h rows left
+has_rows h raster left y rows page is less count_is e =
     let n = row_size h in
     let all : length raster ≡ h.height * n = is.size ∙ raster_size-rows h page.format in
     let rest : length left ≡ length raster - y * n = ap length e ∙ length-drop (y * n) raster in
@@ -193,8 +246,9 @@ has_row h raster left y page is less e =
     let whole : drop (y * n) raster ≡ take n left ++ drop n left = sym e ∙ sym (take-append-drop n left) in
     let size : length (take n left) ≡ n = length-take-le n left within in
     let count = row_size-count h page.format in
+    let both : (rows + y) * n ≡ h.height * n = ap (λ k. k * n) (omega arith) in
     record {
-      size = within;
+      size = omega arith;
       few = omega arith;
       none_above = λ i inside.
           let number = number_in_row h.maxval y (row_count h) (y * n) i raster (take n left) (drop n left) whole (row_place h y page.format) (size ∙ count) inside in

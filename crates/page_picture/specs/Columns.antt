@@ -1,5 +1,5 @@
 -- Which column of the page each column of a picture shows.
-use Rattle.std.specs.Prelude.{ℕ, ◌+◌, ◌*◌, ◌/◌, ◌≤◌, ◌<◌, ◌≡◌, nat_lt, if◌then◌else◌, Option, Some, None}
+use Rattle.std.specs.Prelude.{ℕ, ◌+◌, ◌*◌, ◌/◌, ◌≤◌, ◌≡◌, nat_lt, if◌then◌else◌, Option, Some, None}
 use Rattle.page_picture.specs.Extent.{left_of, across}
 use Rattle.page_picture.specs.declared.scene.Scene.{Scene}
 

@@ -1,5 +1,5 @@
 -- The rows of a page file: what its raster has for each row of the page.
-use Rattle.std.specs.Prelude.{ℕ, ◌*◌, ◌^◌, ◌<◌, ◌≤◌, ◌≡◌, Some, List, [], ◌∷◌, length, take, drop, slice_index}
+use Rattle.std.specs.Prelude.{ℕ, ◌-◌, ◌*◌, ◌++◌, ◌^◌, ◌<◌, ◌≤◌, ◌≡◌, Some, List, [], ◌∷◌, length, take, drop, slice_index}
 use Rattle.netpbm.specs.declared.format.Header.{Header}
 use Rattle.netpbm.specs.Raster.{raster_size, sample_count, NoneAbove}
 use Rattle.netpbm.specs.FileText.{joined}
@@ -32,9 +32,19 @@ pub record IsPageHeader (h : Header) : Type 0 where
 pub record ShowsRow (h : Header) (bytes row : List ℕ) : Type 0 where
   pub each : (j : ℕ) → j < 3 * h.width → slice_index row j ≡ page_number h bytes j
 
--- a row stands at the front of these bytes, fewer than 2^40, and no number of it is above the greatest
-pub record HasRow (h : Header) (bytes : List ℕ) : Type 0 where
-  pub size : row_size h ≤ length bytes
+-- the bytes that are not used yet, where the last rows of a room are held and those of the reader are left
+abbrev pub unused : ℕ → ℕ → List ℕ → List ℕ → List ℕ
+unused size held room left = drop (length room - held * size) room ++ left
+
+-- of the bytes that were not used yet those of one row were, and these are the samples that they show
+pub record GivesRowOf (h : Header) (before after row : List ℕ) : Type 0 where
+  pub size : row_size h ≤ length before
+  pub after_is : after ≡ drop (row_size h) before
+  pub shows : ShowsRow h (take (row_size h) before) row
+
+-- so many rows stand at the front of these bytes, fewer than 2^40, and no number of the first is above the greatest
+pub record HasRows (h : Header) (rows : ℕ) (bytes : List ℕ) : Type 0 where
+  pub size : rows * row_size h ≤ length bytes
   pub few : length bytes < 2 ^ 40
   pub none_above : NoneAbove h.maxval (take (row_size h) bytes) (row_count h)
 

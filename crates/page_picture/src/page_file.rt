@@ -73,7 +73,7 @@ fn source(format: Format, j: usize) -> usize
 }
 
 /// A number up to `maxval` as one up to 65,535. The usual greatest values need no division.
-fn scaled(number: u32, maxval: u32) -> u16
+pub fn scaled(number: u32, maxval: u32) -> u16
     requires maxval { 1 ≤ maxval }
     requires limit { number ≤ maxval }
     requires most { number < 2 ^ 16 }

@@ -13,6 +13,7 @@ mod pnm_page;
 mod raster_rows;
 mod read_fault;
 mod read_room;
+mod scaling;
 
 pub use failing_page::FailingPage;
 pub use kinds::Source;

@@ -263,8 +263,8 @@ fn each_call_of_the_reader_fails_in_turn(rt: HostRuntime) -> Result<(), Fail> {
                 *count = count.saturating_add(1);
             }
         }
-        // Opening: to the start, four reads of the header, to the raster, two reads for its rows (two bytes each), one
-        // at its end, and to the raster again. Then a read for each row, and a rewind.
+        // Opening: to the start, four reads of the header, to the raster, two reads for its four bytes, of which this reader
+        // gives three at once, one at its end, and to the raster again. Then two reads for its rows, and a rewind.
         assert!(rt; places == [10, 2, 1, 0]);
     }
     Ok(())

@@ -7,3 +7,4 @@ pub mod Shown
 pub mod Zeros
 pub mod Passes
 pub mod Grays
+pub mod Eights

@@ -33,9 +33,13 @@ HasZeros Bits i line = Unit {0}
 HasZeros Bytes i line = IsZeroFrom i line
 HasZeros Words i line = IsZeroFrom (2 * i) line
 
+-- the weighted sum of the three samples from there on
+abbrev pub sum_from : List ℕ → ℕ → ℕ
+sum_from row i = 299 * slice_index row i + 587 * slice_index row (i + 1) + 114 * slice_index row (i + 2)
+
 -- the gray of a place in a row
 abbrev pub gray_in : List ℕ → ℕ → ℕ
-gray_in row place = (299 * slice_index row (3 * place) + 587 * slice_index row (3 * place + 1) + 114 * slice_index row (3 * place + 2)) / 1000
+gray_in row place = sum_from row (3 * place) / 1000
 
 -- the three samples of a dot of a row are the same
 abbrev pub IsGrayDot : List ℕ → ℕ → Type 0
@@ -53,6 +57,14 @@ value_in scene row place k =
 -- the sample that stands as number k at column x of a frame's line
 abbrev pub value_at : Scene → FrameFormat → List ℕ → Columns → ℕ → ℕ → ℕ
 value_at scene format row columns x k = value_in scene row (place_at columns x) (channel_in format k)
+
+-- one of a sample below half of the greatest, and zero of any other
+abbrev pub dark : ℕ → ℕ
+dark v = if nat_lt v 32768 then 1 else 0
+
+-- the byte of every third of the samples from there on, eight of them
+abbrev pub darks_from : List ℕ → ℕ → ℕ
+darks_from row i = binary (λ j. dark (slice_index row (i + 3 * j))) 8
 
 -- the bit of a column, zero behind the last
 unfoldable pub bit_in : Scene → List ℕ → List ℕ → ℕ → ℕ → ℕ

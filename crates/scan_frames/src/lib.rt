@@ -5,12 +5,14 @@ mod buffers;
 mod faults;
 mod frame_rows;
 mod gray_rows;
+mod lanes;
 mod laws;
 mod line;
 mod pass;
 mod rows;
 mod setup;
 mod tables;
+mod words;
 
 pub use faults::{BeginFault, ReadEnd};
 pub use frame_rows::FrameRows;

@@ -10,8 +10,10 @@ ghost use Rattle.scan_frames.specs.Tables.{AreComposed, IsPlain, IsSame};
 ghost use Rattle.scan_frames.specs.Samples.{HasSample, HasZeros, IsGrayRow, bit_in, bits_in, end_of, gray_in, value_at, value_in};
 
 use crate::gray_rows::is_gray;
+use crate::lanes::{eights, put_darks, put_eights, put_sum_eights};
 use crate::pass::{channel_in, channels_within, format_at};
 use crate::setup::{Packing, Setup, packing_of};
+use crate::words::{put_channel_words, put_samples, put_word};
 use page_picture::{ColumnMap, Mode, Scene, in_channel, toned};
 use sane_fixed::{ByteOrder, FrameFormat};
 
@@ -60,14 +62,7 @@ fn put(layout: Layout, line: &mut [u8], i: usize, v: u16)
         Packing::Bytes => {
             line[i] = v as u8;
         }
-        Packing::Words => {
-            let (first, second) = match layout.order {
-                ByteOrder::Little => (v % 256, v / 256),
-                ByteOrder::Big => (v / 256, v % 256),
-            };
-            line[2 * i] = first as u8;
-            line[2 * i + 1] = second as u8;
-        }
+        Packing::Words => put_word(layout.order, line, i, v),
     }
 }
 
@@ -187,7 +182,13 @@ fn put_run_upper(k: u32, row: &[u16], first: usize, places: &[u32], line: &mut [
     ensures here { (x : ℕ) → x < length places.now → slice_index line.new x ≡ slice_index row.now (3 * slice_index places.now x + k) / 256 }
     ensures behind { (j : ℕ) → length places.now ≤ j → slice_index line.new j ≡ slice_index line.old j }
 {
-    for x in 0..places.len() {
+    if places.is_empty() {
+        return;
+    }
+    let at = 3 * first + k as usize;
+    let eights = eights(row, at, places.len());
+    put_eights(row, at, eights, line);
+    for x in 8 * eights..places.len() {
         line[x] = (row[3 * (first + x) + k as usize] / 256) as u8;
     }
 }
@@ -249,30 +250,6 @@ fn put_words(layout: Layout, row: &[u16], places: &[u32], line: &mut [u8])
     }
 }
 
-/// Puts samples as they are, two bytes each.
-fn put_samples(order: ByteOrder, samples: &[u16], line: &mut [u8])
-    requires few { length samples.now ≤ 262144 }
-    requires room { 2 * length samples.now ≤ length line.old }
-    ensures here { (i : ℕ) → i < length samples.now → HasSample Packing.Words order line.new i (slice_index samples.now i) }
-    ensures behind { (j : ℕ) → 2 * length samples.now ≤ j → slice_index line.new j ≡ slice_index line.old j }
-{
-    // The order is asked outside of the loops, so that each is one of many bytes at once.
-    match order {
-        ByteOrder::Little => {
-            for (i, sample) in samples.iter().enumerate() {
-                line[2 * i] = (*sample % 256) as u8;
-                line[2 * i + 1] = (*sample / 256) as u8;
-            }
-        }
-        ByteOrder::Big => {
-            for (i, sample) in samples.iter().enumerate() {
-                line[2 * i] = (*sample / 256) as u8;
-                line[2 * i + 1] = (*sample % 256) as u8;
-            }
-        }
-    }
-}
-
 /// The same as `put_words`, without a look-up where there is a `first` from which on the places lie one beside the other.
 fn put_row_words(layout: Layout, first: Option<u32>, row: &[u16], places: &[u32], line: &mut [u8])
     requires packing { layout.packing ≡ Packing.Words }
@@ -291,6 +268,33 @@ fn put_row_words(layout: Layout, first: Option<u32>, row: &[u16], places: &[u32]
         }
     }
     put_words(layout, row, places, line)
+}
+
+/// Puts the grays of all places, two bytes each; of a gray row they are the samples of its first channel, without a sum.
+#[tactic(auto, using(crate::proofs::Grays::gray_of_even))]
+fn put_gray_words(
+    order: ByteOrder,
+    first: Option<u32>,
+    row: &[u16],
+    places: &[u32],
+    line: &mut [u8],
+)
+    requires run { IfSome first (λ f. (x : ℕ) → x < length places.now
+        → slice_index places.now x ≡ f + x) }
+    requires places { (x : ℕ) → x < length places.now
+        → 3 * slice_index places.now x + 2 < length row.now }
+    requires room { 2 * length places.now ≤ length line.old }
+    ensures here { (x : ℕ) → x < length places.now
+        → HasSample Packing.Words order line.new x (gray_in row.now (slice_index places.now x)) }
+    ensures behind { (j : ℕ) → 2 * length places.now ≤ j
+        → slice_index line.new j ≡ slice_index line.old j }
+{
+    if is_gray(row) {
+        return put_channel_words(order, 0, first, row, places, line);
+    }
+    for (x, place) in places.iter().enumerate() {
+        put_word(order, line, x, gray(row, *place));
+    }
 }
 
 /// Puts the samples of all places in color, a byte each.
@@ -360,6 +364,14 @@ fn put_all(
         (Packing::Words, FrameFormat::Rgb, Mode::Color) => {
             put_row_words(layout, first, row, places, line)
         }
+        (Packing::Words, FrameFormat::Gray, Mode::Gray) => {
+            put_gray_words(layout.order, first, row, places, line)
+        }
+        (Packing::Words, FrameFormat::Red | FrameFormat::Green | FrameFormat::Blue, Mode::Color) =>
+            {
+                let k = channel_in(layout.format, 0);
+                put_channel_words(layout.order, k, first, row, places, line)
+            }
         _ => put_each(scene, layout, row, places, line),
     }
 }
@@ -376,6 +388,47 @@ fn put_sums(table: &[u8; 256], row: &[u16], places: &[u32], line: &mut [u8])
     }
 }
 
+/// Puts the upper bytes of the grays of all places, which lie one beside the other from `first` on.
+fn put_upper_sums(row: &[u16], first: usize, places: &[u32], line: &mut [u8])
+    requires run { (x : ℕ) → x < length places.now → slice_index places.now x ≡ first + x }
+    requires places { (x : ℕ) → x < length places.now
+        → 3 * slice_index places.now x + 2 < length row.now }
+    requires room { length places.now ≤ length line.old }
+    ensures here { (x : ℕ) → x < length places.now
+        → slice_index line.new x ≡ gray_in row.now (slice_index places.now x) / 256 }
+    ensures behind { (j : ℕ) → length places.now ≤ j
+        → slice_index line.new j ≡ slice_index line.old j }
+{
+    if places.is_empty() {
+        return;
+    }
+    let at = 3 * first;
+    let eights = eights(row, at + 2, places.len());
+    put_sum_eights(row, at, eights, line);
+    for x in 8 * eights..places.len() {
+        line[x] = (gray(row, places[x]) / 256) as u8;
+    }
+}
+
+/// The same as `put_sums`, eight dots at once where the table changes nothing and the places lie one beside the other.
+fn put_row_sums(table: &[u8; 256], first: Option<u32>, row: &[u16], places: &[u32], line: &mut [u8])
+    requires run { IfSome first (λ f. (x : ℕ) → x < length places.now
+        → slice_index places.now x ≡ f + x) }
+    requires places { (x : ℕ) → x < length places.now
+        → 3 * slice_index places.now x + 2 < length row.now }
+    requires room { length places.now ≤ length line.old }
+    ensures here { (x : ℕ) → x < length places.now
+        → slice_index line.new x
+        ≡ slice_index table.now (gray_in row.now (slice_index places.now x) / 256) }
+    ensures behind { (j : ℕ) → length places.now ≤ j
+        → slice_index line.new j ≡ slice_index line.old j }
+{
+    match first {
+        Some(first) if is_same(table) => put_upper_sums(row, first as usize, places, line),
+        _ => put_sums(table, row, places, line),
+    }
+}
+
 /// Puts the samples of all places in gray, a byte each; of a gray row they are those of its first channel, without a sum.
 #[tactic(auto, using(crate::proofs::Grays::gray_of_even))]
 fn put_grays(table: &[u8; 256], first: Option<u32>, row: &[u16], places: &[u32], line: &mut [u8])
@@ -389,7 +442,7 @@ fn put_grays(table: &[u8; 256], first: Option<u32>, row: &[u16], places: &[u32],
     if is_gray(row) {
         put_channel(table, 0, first, row, places, line)
     } else {
-        put_sums(table, row, places, line)
+        put_row_sums(table, first, row, places, line)
     }
 }
 
@@ -520,51 +573,33 @@ fn packed_run(
     byte
 }
 
-/// The bit of a column in gray, of such a row, where the gamma table leaves each byte as it is.
-#[tactic(auto, using(crate::proofs::Grays::gray_of_even), unfolding(crate::specs::Samples::bit_in))]
-fn same_bit(scene: &Scene, row: &[u16], first: usize, places: &[u32], channel: u32, x: usize) -> u8
-    requires depth { packing_of scene.now.depth ≡ Packing.Bits }
-    requires gray { scene.now.mode ≡ Mode.Gray }
-    requires same { IsSame scene.now.gamma }
-    requires even { IsGrayRow row.now }
-    requires run { (x : ℕ) → x < length places.now → slice_index places.now x ≡ first + x }
-    requires places { (x : ℕ) → x < length places.now → 3 * slice_index places.now x + 2 < length row.now }
-    requires inside { x < length places.now }
-    ensures value { result ≡ bit_in scene.now row.now places.now channel x }
-    ensures limit { result ≤ 1 }
-{
-    if row[3 * (first + x)] / 256 < 128 {
-        1
-    } else {
-        0
-    }
-}
-
-/// The byte of eight such columns, the leftmost as its most significant bit.
-#[tactic(auto, unfolding(crate::specs::Samples::bits_in))]
-fn packed_same(
+/// Puts the bits of eights of such places where the gamma table leaves each byte as it is, and tells how many bytes.
+fn put_same_eights(
     scene: &Scene,
     row: &[u16],
     first: usize,
     places: &[u32],
     channel: u32,
-    b: usize,
-) -> u8
+    line: &mut [u8],
+) -> usize
     requires depth { packing_of scene.now.depth ≡ Packing.Bits }
     requires gray { scene.now.mode ≡ Mode.Gray }
-    requires same { IsSame scene.now.gamma }
     requires even { IsGrayRow row.now }
     requires run { (x : ℕ) → x < length places.now → slice_index places.now x ≡ first + x }
-    requires places { (x : ℕ) → x < length places.now → 3 * slice_index places.now x + 2 < length row.now }
-    requires few { b ≤ 65536 }
-    requires inside { 8 * b + 8 ≤ length places.now }
-    ensures { result ≡ bits_in scene.now row.now places.now channel b }
+    requires places { (x : ℕ) → x < length places.now
+        → 3 * slice_index places.now x + 2 < length row.now }
+    ensures line { result ≤ length line.old }
+    ensures dots { 8 * result ≤ length places.now }
+    ensures here { (b : ℕ) → b < result
+        → slice_index line.new b ≡ bits_in scene.now row.now places.now channel b }
 {
-    let mut byte = 0u8;
-    for j in 0..8 {
-        byte = 2 * byte + same_bit(scene, row, first, places, channel, 8 * b + j);
+    if places.is_empty() || !is_same(&scene.gamma) {
+        return 0;
     }
-    byte
+    let dots = eights(row, 3 * first, places.len());
+    let bytes = dots.min(line.len());
+    put_darks(row, 3 * first, bytes, line);
+    bytes
 }
 
 /// Puts the bits of all such places, and zeros behind them.
@@ -586,14 +621,12 @@ fn put_run_bits(
     ensures { (b : ℕ) → b < length line.old → slice_index line.new b ≡ bits_in scene.now row.now places.now channel b }
 {
     let whole = places.len() / 8;
-    let same = is_same(&scene.gamma);
-    for b in 0..line.len() {
-        line[b] = if b >= whole {
-            packed(scene, row, places, channel, b)
-        } else if same {
-            packed_same(scene, row, first, places, channel, b)
-        } else {
+    let eights = put_same_eights(scene, row, first, places, channel, line);
+    for b in eights..line.len() {
+        line[b] = if b < whole {
             packed_run(scene, row, first, places, channel, b)
+        } else {
+            packed(scene, row, places, channel, b)
         };
     }
 }

@@ -12,7 +12,7 @@ use Rattle.device_api.specs.Allowed.{IsAllowed}
 use Rattle.frame_join.specs.FrameFile.{AllGone}
 use Rattle.frame_join.specs.FrameHistory.{Past, IsJoined, answer_by, is_joined}
 use Rattle.frame_join.specs.Joining.{Joining, Stands}
-use Rattle.frame_join.proofs.EndLaws.{gone_denotes}
+use Rattle.frame_join.proofs.EndSteps.{all_denotes}
 use Rattle.scan_laws.proofs.Takes.{joined_frames}
 
 pub nothing_meant : (s : Setup) (page : Sheet) → has_picture s page ≡ false → meaning_of page s.scene ≡ None
@@ -43,4 +43,4 @@ file_means s page past join p a is e stands ended under fault gone =
     let whole : is_joined past.ended ≡ true = ap is_joined ended ∙ joined_frames s page in
     let joined : IsJoined past =
     ap (λ (o : Option Frame). answer_by past.fault o past.ended) under ∙ (ap (λ f. answer_by f None past.ended) fault ∙ ap (λ (b : Bool). Ok b) whole) in
-    gone_denotes past join stands joined gone p shown
+    all_denotes past join stands joined gone p shown

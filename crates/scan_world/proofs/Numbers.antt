@@ -136,13 +136,13 @@ after_put_calm : (task : Task) (notes : Notes) (again : Bool) → IsCalm notes.f
 after_put_calm task notes true = record { file_is = refl; next = refl }
 after_put_calm task notes false = setting_calm task notes
 
-given_to_calm : (task : Task) (notes : Notes) (name : List ℕ) (asked : Value) (info : Info) (given : Option Value) → IsCalm notes.file (given_to task notes name asked info given)
-given_to_calm task notes name asked info None = calm notes malformed tt
-given_to_calm task notes name asked info (Some given) = after_put_calm task (record notes { reports = notes.reports ++ record { name = name; asked = asked; given = given; info = info } ∷ [] }) (has_cap info.0 2)
+given_to_calm : (task : Task) (notes : Notes) (kind : Kind) (name : List ℕ) (asked : Value) (info : Info) (given : Option Value) → IsCalm notes.file (given_to task notes kind name asked info given)
+given_to_calm task notes kind name asked info None = calm notes malformed tt
+given_to_calm task notes kind name asked info (Some given) = after_put_calm task (record notes { reports = notes.reports ++ record { name = name; kind = kind; asked = asked; given = given; info = info } ∷ [] }) (has_cap info.0 2)
 
 put_good_calm : (task : Task) (notes : Notes) (kind : Kind) (name : List ℕ) (asked : Value) (status : Status) (info : Info) (given : Kind) (value : WireValue)
     → IsCalm notes.file (put_good task notes kind name asked status info given value)
-put_good_calm task notes kind name asked statuses.Good info given value = given_to_calm task notes name asked info (of_kind kind given (given_like asked value))
+put_good_calm task notes kind name asked statuses.Good info given value = given_to_calm task notes kind name asked info (of_kind kind given (given_like asked value))
 put_good_calm task notes kind name asked status info given value = record { file_is = refl; next = tt }
 
 put_told_calm : (task : Task) (notes : Notes) (kind : Kind) (name : List ℕ) (asked : Value) (status : Status) (info : Info) (given : Kind) (value : WireValue) (resource : List ℕ)

@@ -3,7 +3,7 @@ use Rattle.std.proofs.Common.{◌≡◌, ◌∙◌, ℕ, ◌+◌, ◌<◌, ◌�
 use Rattle.std.specs.Prelude.{◌&&◌}
 use Rattle.std.proofs.lemmas.Bool.Decides.{nat_tests}
 use Rattle.frame_join.specs.FrameHistory.{Past, IsJoined, no_past, after_pull}
-use Rattle.frame_join.proofs.EndLaws.{joined_shows}
+use Rattle.frame_join.proofs.EndSteps.{whole_shows}
 use Rattle.scan_job.specs.declared.job.Task.{Task}
 use Rattle.scan_job.specs.declared.job.Task.TheVariants as tasks
 use Rattle.scan_job.specs.declared.outcome.Outcome.{Outcome}
@@ -215,7 +215,7 @@ drained past pages p q c u t d =
 
 pub last_page : (past : Past) (pages : List Past) (p : Post) → IsUnderWay past pages p → is_done p.client.outcome ≡ true → IsJoined past → IsPage past
 last_page past pages p u done joined =
-    let shown = joined_shows past p.client.join u.holds.serves.stands joined in
+    let shown = whole_shows past p.client.join u.holds.serves.stands joined in
     let denotes = u.done done joined in
     record { whole = (shown.0, denotes shown.0 shown.1); denotes = denotes }
 

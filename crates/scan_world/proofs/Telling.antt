@@ -6,7 +6,7 @@ use Rattle.std.proofs.lemmas.Option.{get_or_from_slice_get, slice_get-get_or}
 use Rattle.netpbm.specs.Pnm.{IsWhole}
 use Rattle.frame_join.specs.FrameHistory.{Past, IsJoined, no_past}
 use Rattle.frame_join.specs.Joining.{Joining, Stands}
-use Rattle.frame_join.proofs.EndLaws.{not_whole}
+use Rattle.frame_join.proofs.EndSteps.{whole_not}
 use Rattle.scan_job.specs.declared.job.Task.{Task}
 use Rattle.scan_job.specs.declared.job.Task.TheVariants as tasks
 use Rattle.scan_job.specs.declared.outcome.Outcome.{Outcome}
@@ -89,11 +89,11 @@ ends_as task (Done reports) progress past d f = absurd (let clash : true ≡ fal
 ends_as task (Ended status why) progress past d f = f
 
 short_yet : (task : Task) (past : Past) (join : Joining) → Stands past join → FitsEnded task past → IsWhole past.given → ⊥
-short_yet (tasks.Batch count) past join stands ended whole = not_whole past join stands (λ joined. ended joined whole) whole
-short_yet tasks.List past join stands ended whole = not_whole past join stands ended whole
-short_yet tasks.Show past join stands ended whole = not_whole past join stands ended whole
-short_yet tasks.SetOnly past join stands ended whole = not_whole past join stands ended whole
-short_yet tasks.Scan past join stands ended whole = not_whole past join stands ended whole
+short_yet (tasks.Batch count) past join stands ended whole = whole_not past join stands (λ joined. ended joined whole) whole
+short_yet tasks.List past join stands ended whole = whole_not past join stands ended whole
+short_yet tasks.Show past join stands ended whole = whole_not past join stands ended whole
+short_yet tasks.SetOnly past join stands ended whole = whole_not past join stands ended whole
+short_yet tasks.Scan past join stands ended whole = whole_not past join stands ended whole
 
 pub short_tells : (p : Post) (file : List ℕ) → FilesStand p → is_done p.client.outcome ≡ false → p.file ≡ Some file → IsWhole file → ⊥
 short_tells p file (Underway past pages u) not_done e whole =

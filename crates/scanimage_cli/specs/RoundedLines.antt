@@ -2,13 +2,9 @@
 use Rattle.std.specs.Prelude.{ℕ, ◌∷◌, [], if◌then◌else◌, Option, Some, None, List, map, find, codes}
 use Rattle.std.specs.List.{concat}
 use Rattle.std.specs.Str.{bytes_eq}
-use Rattle.sane_fixed.specs.declared.kind.Kind.{Kind}
-use Rattle.sane_fixed.specs.declared.kind.Kind.TheVariants as kinds
 use Rattle.sane_fixed.specs.declared.unit.Unit.TheVariants as units
 use Rattle.option_desc.specs.declared.descriptor.Constraint.TheVariants.{Free}
 use Rattle.option_desc.specs.declared.descriptor.Descriptor.{Descriptor}
-use Rattle.option_desc.specs.declared.value.Value.{Value}
-use Rattle.option_desc.specs.declared.value.Value.TheVariants.{Flag, Int, Fixed, Words, Text}
 use Rattle.option_desc.specs.Shown.{shown}
 use Rattle.scan_job.specs.declared.report.Report.{Report}
 use Rattle.scanimage_cli.specs.Rounding.{is_rounded}
@@ -29,17 +25,9 @@ line_by report (Some desc) = rounded_line report desc
 abbrev pub report_line : List Descriptor → Report → List ℕ
 report_line options report = if is_rounded report then line_by report (option_of report options) else []
 
--- the kind of an option that has this value; the words of a table are told as whole numbers
-abbrev pub kind_of : Value → Kind
-kind_of (Flag flag) = kinds.Bool
-kind_of (Int word) = kinds.Int
-kind_of (Fixed fixed) = kinds.Fixed
-kind_of (Words words) = kinds.Int
-kind_of (Text text) = kinds.String
-
 -- an option that has the name and the kind of what a report is of, and no more
 abbrev pub reported : Report → Descriptor
-reported report = record { name = report.name; title = []; about = []; kind = kind_of report.given; unit = units.None; size = 4; caps = record { 0 = 1 }; constraint = Free }
+reported report = record { name = report.name; title = []; about = []; kind = report.kind; unit = units.None; size = 4; caps = record { 0 = 1 }; constraint = Free }
 
 -- the line of a report by itself
 abbrev pub own_line : Report → List ℕ

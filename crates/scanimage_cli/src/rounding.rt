@@ -1,10 +1,10 @@
 ghost use Rattle.std.specs.Prelude.{◌≡◌, ◌++◌, [], IfOk, OnOk, option_map};
 ghost use Rattle.scanimage_cli.specs.Rounding.{is_rounded, is_any_rounded};
-ghost use Rattle.scanimage_cli.specs.RoundedLines.{rounded_line, option_of, line_by, report_line, kind_of, reported, own_line, rounded_text, reported_text};
+ghost use Rattle.scanimage_cli.specs.RoundedLines.{rounded_line, option_of, line_by, report_line, reported, own_line, rounded_text, reported_text};
 
 use crate::pieces::add_all;
-use option_desc::{Constraint, Descriptor, Value, show_text};
-use sane_fixed::{Cap, Info, Kind, NoMem, Text, Unit};
+use option_desc::{Constraint, Descriptor, show_text};
+use sane_fixed::{Cap, Info, NoMem, Text, Unit};
 use scan_job::Report;
 use std::alloc::Global;
 
@@ -93,19 +93,6 @@ pub fn rounded_lines(
     Ok(lines)
 }
 
-/// The kind of an option that has this value. Which kind the words of a table have a value does not tell: they are told as
-/// whole numbers.
-fn kind_of(value: &Value) -> Kind
-    ensures { result ≡ kind_of value.now }
-{
-    match value {
-        Value::Flag(_) => Kind::Bool,
-        Value::Int(_) | Value::Words(_) => Kind::Int,
-        Value::Fixed(_) => Kind::Fixed,
-        Value::Text(_) => Kind::String,
-    }
-}
-
 /// An option that has the name and the kind of what a report is of, and no more.
 fn reported(alloc: Global, report: &Report) -> Result<Descriptor, NoMem>
     ensures { IfOk result (λ desc. desc ≡ reported report.now) }
@@ -114,7 +101,7 @@ fn reported(alloc: Global, report: &Report) -> Result<Descriptor, NoMem>
         name: report.name.try_clone(alloc)?,
         title: no_text(alloc)?,
         about: no_text(alloc)?,
-        kind: kind_of(&report.given),
+        kind: report.kind,
         unit: Unit::None,
         size: 4,
         caps: Cap(Cap::SOFT_SELECT),

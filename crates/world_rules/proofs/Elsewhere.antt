@@ -119,12 +119,12 @@ put_else : (task : Task) (notes : Notes) (again : Bool) → Elsewhere (after_put
 put_else task notes true = tt
 put_else task notes false = setting_else task notes
 
-given_else : (task : Task) (notes : Notes) (name : List ℕ) (asked : Value) (info : Info) (value : Option Value) → Elsewhere (given_to task notes name asked info value).next
-given_else task notes name asked info None = tt
-given_else task notes name asked info (Some given) = put_else task _ _
+given_else : (task : Task) (notes : Notes) (kind : Kind) (name : List ℕ) (asked : Value) (info : Info) (value : Option Value) → Elsewhere (given_to task notes kind name asked info value).next
+given_else task notes kind name asked info None = tt
+given_else task notes kind name asked info (Some given) = put_else task _ _
 
 good_put_else : (task : Task) (notes : Notes) (kind : Kind) (name : List ℕ) (asked : Value) (status : Status) (info : Info) (given : Kind) (value : WireValue) → Elsewhere (put_good task notes kind name asked status info given value).next
-good_put_else task notes kind name asked statuses.Good info given value = given_else task notes name asked info (of_kind kind given (given_like asked value))
+good_put_else task notes kind name asked statuses.Good info given value = given_else task notes kind name asked info (of_kind kind given (given_like asked value))
 good_put_else task notes kind name asked status info given value = tt
 
 told_put_else : (task : Task) (notes : Notes) (kind : Kind) (name : List ℕ) (asked : Value) (status : Status) (info : Info) (given : Kind) (value : WireValue) (resource : List ℕ) → Elsewhere (put_told task notes kind name asked status info given value resource).next

@@ -63,12 +63,12 @@ put_word : (task : Task) (notes : Notes) (again : Bool) → (after_put task note
 put_word task notes true = refl
 put_word task notes false = setting_word task notes
 
-given_word : (task : Task) (notes : Notes) (name : List ℕ) (asked : Value) (info : Info) (value : Option Value) → (given_to task notes name asked info value).notes.word ≡ notes.word
-given_word task notes name asked info None = refl
-given_word task notes name asked info (Some given) = put_word task _ _
+given_word : (task : Task) (notes : Notes) (kind : Kind) (name : List ℕ) (asked : Value) (info : Info) (value : Option Value) → (given_to task notes kind name asked info value).notes.word ≡ notes.word
+given_word task notes kind name asked info None = refl
+given_word task notes kind name asked info (Some given) = put_word task _ _
 
 good_word : (task : Task) (notes : Notes) (kind : Kind) (name : List ℕ) (asked : Value) (status : Status) (info : Info) (given : Kind) (value : WireValue) → (put_good task notes kind name asked status info given value).notes.word ≡ notes.word
-good_word task notes kind name asked statuses.Good info given value = given_word task notes name asked info (of_kind kind given (given_like asked value))
+good_word task notes kind name asked statuses.Good info given value = given_word task notes kind name asked info (of_kind kind given (given_like asked value))
 good_word task notes kind name asked status info given value = refl
 
 told_word : (task : Task) (notes : Notes) (kind : Kind) (name : List ℕ) (asked : Value) (status : Status) (info : Info) (given : Kind) (value : WireValue) (resource : List ℕ) → (put_told task notes kind name asked status info given value resource).notes.word ≡ notes.word

@@ -3,10 +3,12 @@ use config_pages::NoPage;
 use constraint::{Range, StringList, WordList};
 use device_api::DeviceInfo;
 use dispatch::{ConfigFault, ConfigReason};
-use option_desc::{Constraint, Descriptor, Value};
+use option_desc::{Constraint, Descriptor, Value, Words};
 use sane_fixed::{Cap, Fixed, Info, Kind, Status, Unit};
 use scan_job::{Report, Why};
-use scanimage_cli::{Ending, device_list, is_any_rounded, options_table, rounded_lines};
+use scanimage_cli::{
+    Ending, device_list, is_any_rounded, options_table, reported_lines, rounded_lines,
+};
 use std::alloc::Global;
 use std::process::Abort;
 
@@ -208,6 +210,7 @@ fn lines_of_lists_of_texts(rt: HostRuntime) {
 fn report(rt: &impl Abort, alloc: Global, asked: i32, given: i32, info: u32) -> Report {
     Report {
         name: text(rt, alloc, b"name"),
+        kind: Kind::Fixed,
         asked: Value::Fixed(Fixed(asked)),
         given: Value::Fixed(Fixed(given)),
         info: Info(info),
@@ -231,4 +234,26 @@ fn rounded_values(rt: HostRuntime) {
     assert!(&rt; lines.as_slice() == wanted.as_slice());
     drop(reports);
     drop(options);
+}
+
+/// A value of two words.
+fn two_words(rt: &impl Abort, alloc: Global, first: i32, second: i32) -> Value {
+    let words = vec![in alloc; first, second].expect(rt, "memory");
+    Value::Words(Words::from_vec(words))
+}
+
+#[test]
+fn a_rounded_vector_of_fixed_numbers(rt: HostRuntime) {
+    let alloc = rt.alloc();
+    let reports = [Report {
+        name: text(&rt, alloc, b"name"),
+        kind: Kind::Fixed,
+        asked: two_words(&rt, alloc, 98304, -32768),
+        given: two_words(&rt, alloc, 65536, -65536),
+        info: Info(1),
+    }];
+    let lines = reported_lines(alloc, &reports).expect(&rt, "lines");
+    let wanted = b"scanimage: rounded value of name from 1.5,-0.5 to 1,-1\n";
+    assert!(&rt; lines.as_slice() == wanted.as_slice());
+    drop(reports);
 }

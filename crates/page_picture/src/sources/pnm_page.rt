@@ -9,13 +9,13 @@ use crate::page_file::PageFault;
 use crate::rereadable::Rereadable;
 use crate::sources::header_scan::HeaderScan;
 use crate::sources::open_fault::OpenFault;
-use crate::sources::raster_rows::{check_raster, read_row, row_header};
+use crate::sources::raster_rows::{check_raster, read_row, room_size};
 use crate::sources::{PageSource, SourceFault};
-use netpbm::{Header, raster_size};
+use netpbm::Header;
 use std::alloc::Global;
 use std::marker::Model;
 
-/// A page file (`P5` or `P6`), of which one row at a time is in memory.
+/// A page file (`P5` or `P6`), of which one row, or as many as 65,536 bytes hold, are in memory.
 #[derive(Drop)]
 pub struct PnmPage<R: Rereadable> {
     reader: R,
@@ -27,14 +27,16 @@ pub struct PnmPage<R: Rereadable> {
     // After a fault it is not known where the reader stands.
     is_lost: bool,
     failures: u64,
-    // Room for the bytes of one row.
+    // How many rows were read and are not given yet: the last of the room.
+    held: u32,
+    // Room for the bytes of one row or some.
     bytes: Vec<u8>,
 }
 
 impl<R: Rereadable> Model for PnmPage<R> {
-    ghost use Rattle.std.specs.Prelude.{◌≡◌, ◌≤◌, ◌*◌, true, false, drop, length};
+    ghost use Rattle.std.specs.Prelude.{◌≡◌, ◌≤◌, ◌+◌, ◌*◌, true, false, drop, length};
     ghost use Rattle.page_picture.specs.PageFile.{IsDpi};
-    ghost use Rattle.page_picture.specs.PageRows.{IsPageHeader, IsRaster, page_shown, row_size};
+    ghost use Rattle.page_picture.specs.PageRows.{IsPageHeader, IsRaster, page_shown, row_size, unused};
     ghost use Rattle.page_picture.specs.PnmState.{PnmState};
 
     ghost Value = { PnmState };
@@ -51,15 +53,20 @@ impl<R: Rereadable> Model for PnmPage<R> {
       faults = R.faults p.reader;
     } };
 
-    ghost invariant = { λ p. IsPageHeader p.header × IsDpi p.dpi × (p.given ≤ p.header.height) × (length p.bytes.items ≡ row_size p.header)
-        × (R.is_kept p.reader ≡ true → p.is_lost ≡ false → R.left p.reader ≡ drop (p.given * row_size p.header) (drop p.start (R.text p.reader)))
+    ghost invariant = { λ p. IsPageHeader p.header × IsDpi p.dpi
+        × (p.given + p.held ≤ p.header.height)
+        × (row_size p.header ≤ length p.bytes.items)
+        × (p.held * row_size p.header ≤ length p.bytes.items)
+        × (R.is_kept p.reader ≡ true → p.is_lost ≡ false
+        → unused (row_size p.header) p.held p.bytes.items (R.left p.reader)
+        ≡ drop (p.given * row_size p.header) (drop p.start (R.text p.reader)))
         × (R.is_kept p.reader ≡ true → IsRaster p.header (drop p.start (R.text p.reader))) };
 }
 
 /// No row of a page has more bytes: 16,384 places of three samples of two bytes.
 const MOST_ROW: usize = 16384 * 3 * 2;
 
-/// Reads the raster once through and goes back to its first byte. It gives room for one row.
+/// Reads the raster once through and goes back to its first byte. It gives room for one row or some.
 fn check_file<R: Rereadable>(
     alloc: Global,
     reader: &mut R,
@@ -70,7 +77,7 @@ fn check_file<R: Rereadable>(
     requires { IsPageHeader header.now }
     ensures kept { R.is_kept reader.new ≡ R.is_kept reader.old }
     ensures text { R.text reader.new ≡ R.text reader.old }
-    ensures room { IfOk result (λ bytes. length bytes.items ≡ row_size header.now) }
+    ensures room { IfOk result (λ bytes. row_size header.now ≤ length bytes.items) }
     ensures start { IfOk result (λ _. R.is_kept reader.old ≡ true → R.left reader.new ≡ drop start (R.text reader.old)) }
     ensures raster { IfOk result (λ _. R.is_kept reader.old ≡ true → IsRaster header.now (drop start (R.text reader.old))) }
     ensures worked { IfOk result (λ _. R.is_kept reader.old ≡ true → R.faults reader.new ≡ R.faults reader.old) }
@@ -78,18 +85,17 @@ fn check_file<R: Rereadable>(
     ensures file { IfErr result (λ fault. IsOfFile fault) }
     ensures fault { IfErr result (λ fault. R.is_kept reader.old ≡ true → HasOpenFaultAfter fault header.now (drop start (R.text reader.old))) }
 {
-    let size = raster_size(&row_header(header));
     let mut room = [0u8; MOST_ROW];
     if reader.start_from(start).is_err() {
         return Err(OpenFault::Device);
     }
     let mut reads = reads;
-    check_raster(reader, header, &mut room[..size], &mut reads)?;
+    check_raster(reader, header, &mut room, &mut reads)?;
     if reader.start_from(start).is_err() {
         return Err(OpenFault::Device);
     }
     // Memory is asked for last, so that its want stands in place of no other refusal.
-    vec![in alloc; 0u8; size].map_err(|_| OpenFault::Page(PageFault::NoMem))
+    vec![in alloc; 0u8; room_size(header)].map_err(|_| OpenFault::Page(PageFault::NoMem))
 }
 
 impl<R: Rereadable> PnmPage<R> {
@@ -97,7 +103,7 @@ impl<R: Rereadable> PnmPage<R> {
     ghost use Rattle.page_picture.specs.PageFile.{TellsPage, IsDpi};
     ghost use Rattle.page_picture.specs.Opening.{HasOpenFault};
 
-    /// Reads a page file once through, from its start, with room for one row, and takes it as a page of `dpi` dots per
+    /// Reads a page file once through, from its start, with room for one row or some, and takes it as a page of `dpi` dots per
     /// inch. It refuses as `read_page` does, or with `Device` where the reader failed or 2^40 reads were made, and then
     /// gives the reader back.
     pub fn open(alloc: Global, reader: R, dpi: u32) -> Result<Self, (OpenFault, R)>
@@ -136,6 +142,7 @@ impl<R: Rereadable> PnmPage<R> {
                 given: 0,
                 is_lost: false,
                 failures: 0,
+                held: 0,
                 bytes,
             }),
             Err(fault) => Err((fault, reader)),
@@ -187,7 +194,15 @@ impl<R: Rereadable + Drop> PageSource for PnmPage<R> {
             return Ok(false);
         }
         self.is_lost = true;
-        match read_row(&mut self.reader, &self.header, &mut self.bytes, row) {
+        let rows = self.header.height - self.given;
+        match read_row(
+            &mut self.reader,
+            &self.header,
+            rows,
+            &mut self.held,
+            &mut self.bytes,
+            row,
+        ) {
             Ok(()) => {
                 self.is_lost = false;
                 self.given += 1;
@@ -208,6 +223,7 @@ impl<R: Rereadable + Drop> PageSource for PnmPage<R> {
         }
         self.is_lost = false;
         self.given = 0;
+        self.held = 0;
         Ok(())
     }
 }

@@ -1,14 +1,15 @@
-ghost use Rattle.std.specs.Prelude.{ℕ, ◌≡◌, ◌≤◌, ◌<◌, ◌+◌, ◌*◌, ◌/◌, ◌^◌, ◌++◌, length, slice_index, true, false, Ok, take, IfOk, IfErr, MatchBool, OnOk, OnErr};
+ghost use Rattle.std.specs.Prelude.{ℕ, ◌≡◌, ◌≤◌, ◌<◌, ◌+◌, ◌*◌, ◌/◌, ◌^◌, ◌++◌, length, slice_index, true, false, Ok, min, max, IfOk, IfErr, MatchBool, OnOk, OnErr};
 ghost use Rattle.netpbm.specs.Raster.{NoneAbove, SomeAbove, sample_count};
 ghost use Rattle.page_picture.specs.Kept.{FailsWithin};
-ghost use Rattle.page_picture.specs.PageRows.{IsPageHeader, IsRaster, ReadsRaster, ShowsRow, HasRow, row_count, row_header, row_size};
+ghost use Rattle.page_picture.specs.PageRows.{IsPageHeader, IsRaster, ReadsRaster, ShowsRow, GivesRowOf, HasRows, unused, row_count, row_header, row_size};
 ghost use Rattle.page_picture.specs.Opening.{HasOpenFaultAfter, IsOfFile};
 
-use crate::page_file::{PageFault, page_number};
+use crate::page_file::{PageFault, scaled};
 use crate::rereadable::Rereadable;
 use crate::sources::open_fault::OpenFault;
 use crate::sources::read_fault::{MOST_READS, ReadFault};
-use netpbm::{Format, Header, none_above, sample_count};
+use crate::sources::scaling::Scaling;
+use netpbm::{Format, Header, none_above, raster_size, sample_count};
 
 /// The header of one row of a page alone.
 pub fn row_header(header: &Header) -> Header
@@ -45,6 +46,75 @@ fn fill<R: Rereadable>(reader: &mut R, bytes: &mut [u8], reads: &mut u64) -> Res
     Err(ReadFault)
 }
 
+/// The bytes of as many rows as 65,536 bytes hold, at least of one, at most of all.
+pub fn room_size(header: &Header) -> usize
+    requires { IsPageHeader header.now }
+    ensures value { result
+        ≡ min (max (65536 / row_size header.now) 1) header.now.height * row_size header.now }
+    ensures row { row_size header.now ≤ result }
+{
+    let size = raster_size(&row_header(header));
+    let rows = (65536 / size).max(1).min(header.height as usize);
+    rows * size
+}
+
+/// Sees to it that of the `rows` that are not used yet one is held, as the last `held` of `bytes` are. Where none is, it
+/// reads as many as there is room for; false where the reader ends before.
+fn hold_rows<R: Rereadable>(
+    reader: &mut R,
+    size: usize,
+    rows: u32,
+    held: &mut u32,
+    bytes: &mut [u8],
+    reads: &mut u64,
+) -> Result<bool, ReadFault>
+    requires size { 1 ≤ size }
+    requires room { size ≤ length bytes.old }
+    requires rows { 1 ≤ rows }
+    requires held { held.old ≤ rows }
+    requires within { held.old * size ≤ length bytes.old }
+    ensures kept { R.is_kept reader.new ≡ R.is_kept reader.old }
+    ensures text { R.text reader.new ≡ R.text reader.old }
+    ensures some { result ≡ Ok true → 1 ≤ held.new }
+    ensures most { held.new ≤ rows }
+    ensures within { held.new * size ≤ length bytes.new }
+    ensures same { result ≡ Ok true → R.is_kept reader.old ≡ true
+        → unused size held.old bytes.old (R.left reader.old)
+        ≡ unused size held.new bytes.new (R.left reader.new) }
+    ensures few { result ≡ Ok true → reads.new + held.old * size ≤ reads.old + held.new * size }
+    ensures worked { OnOk result
+        (R.is_kept reader.old ≡ true → R.faults reader.new ≡ R.faults reader.old) }
+    ensures none_held { OnErr result (held.old ≡ 0) }
+    ensures failed { OnErr result
+        (FailsWithin (R.is_kept reader.old) reads.old (R.left reader.old)
+        (R.faults reader.old) (R.faults reader.new)) }
+    ensures ended { result ≡ Ok false → R.is_kept reader.old ≡ true
+        → length (unused size held.old bytes.old (R.left reader.old)) < rows * size }
+{
+    if *held > 0 {
+        return Ok(true);
+    }
+    let count = (bytes.len() / size).min(rows as usize);
+    let from = bytes.len() - count * size;
+    if !fill(reader, &mut bytes[from..], reads)? {
+        return Ok(false);
+    }
+    *held = count as u32;
+    Ok(true)
+}
+
+/// Writes one gray as the three samples of its place.
+fn put_gray(gray: u16, x: usize, row: &mut [u16])
+    requires { 3 * x + 2 < length row.old }
+    ensures before { (j : ℕ) → j < 3 * x → slice_index row.new j ≡ slice_index row.old j }
+    ensures here { (j : ℕ) → 3 * x ≤ j → j < 3 * x + 3 → slice_index row.new j ≡ gray }
+    ensures behind { (j : ℕ) → 3 * x + 3 ≤ j → slice_index row.new j ≡ slice_index row.old j }
+{
+    row[3 * x] = gray;
+    row[3 * x + 1] = gray;
+    row[3 * x + 2] = gray;
+}
+
 /// Writes the samples of a row of grays of a byte each, of which 255 is the greatest.
 fn write_grays(bytes: &[u8], row: &mut [u16])
     requires { length row.old ≡ 3 * length bytes.now }
@@ -52,9 +122,7 @@ fn write_grays(bytes: &[u8], row: &mut [u16])
 {
     for x in 0..bytes.len() {
         let gray = 257 * u16::from(bytes[x]);
-        row[3 * x] = gray;
-        row[3 * x + 1] = gray;
-        row[3 * x + 2] = gray;
+        put_gray(gray, x, row);
     }
 }
 
@@ -78,6 +146,84 @@ fn write_words(bytes: &[u8], row: &mut [u16])
     }
 }
 
+/// Writes the samples of a row of grays of two bytes each, of which 65,535 is the greatest.
+fn write_wide_grays(bytes: &[u8], row: &mut [u16])
+    requires { 3 * length bytes.now ≡ 2 * length row.old }
+    ensures { (j : ℕ) → j < length row.old → slice_index row.new j
+        ≡ 256 * slice_index bytes.now (2 * (j / 3)) + slice_index bytes.now (2 * (j / 3) + 1) }
+{
+    // The greatest value is not asked for in the loop, so that a dot costs a load, a turn of its bytes and the stores.
+    for x in 0..bytes.len() / 2 {
+        let gray = 256 * u16::from(bytes[2 * x]) + u16::from(bytes[2 * x + 1]);
+        put_gray(gray, x, row);
+    }
+}
+
+/// Writes the samples of a row of grays of two bytes each.
+fn write_gray_words(maxval: u32, bytes: &[u8], row: &mut [u16])
+    requires maxval { 1 ≤ maxval }
+    requires most { maxval ≤ 65535 }
+    requires size { 3 * length bytes.now ≡ 2 * length row.old }
+    requires limit { (x : ℕ) → 2 * x < length bytes.now → 256 * slice_index bytes.now (2 * x) + slice_index bytes.now (2 * x + 1) ≤ maxval }
+    ensures { (j : ℕ) → j < length row.old → slice_index row.new j ≡ (256 * slice_index bytes.now (2 * (j / 3)) + slice_index bytes.now (2 * (j / 3) + 1)) * 65535 / maxval }
+{
+    let scaling = Scaling::new(maxval);
+    for x in 0..bytes.len() / 2 {
+        let number = 256 * u32::from(bytes[2 * x]) + u32::from(bytes[2 * x + 1]);
+        let gray = scaling.apply(number);
+        put_gray(gray, x, row);
+    }
+}
+
+/// Writes the samples of a row of colors of two bytes each.
+fn write_color_words(maxval: u32, bytes: &[u8], row: &mut [u16])
+    requires maxval { 1 ≤ maxval }
+    requires most { maxval ≤ 65535 }
+    requires size { length bytes.now ≡ 2 * length row.old }
+    requires limit { (j : ℕ) → j < length row.old → 256 * slice_index bytes.now (2 * j) + slice_index bytes.now (2 * j + 1) ≤ maxval }
+    ensures { (j : ℕ) → j < length row.old → slice_index row.new j ≡ (256 * slice_index bytes.now (2 * j) + slice_index bytes.now (2 * j + 1)) * 65535 / maxval }
+{
+    let scaling = Scaling::new(maxval);
+    for j in 0..row.len() {
+        let number = 256 * u32::from(bytes[2 * j]) + u32::from(bytes[2 * j + 1]);
+        row[j] = scaling.apply(number);
+    }
+}
+
+/// What each byte up to `maxval` becomes.
+fn scale(maxval: u32) -> [u16; 256]
+    requires maxval { 1 ≤ maxval }
+    requires byte { maxval < 256 }
+    ensures { (v : ℕ) → v ≤ maxval → slice_index result v ≡ v * 65535 / maxval }
+{
+    let mut scale = [0u16; 256];
+    for v in 0..maxval + 1 {
+        scale[v as usize] = scaled(v, maxval);
+    }
+    scale
+}
+
+/// Writes the samples of a row of grays of a byte each.
+fn write_scaled_grays(scale: &[u16; 256], bytes: &[u8], row: &mut [u16])
+    requires { length row.old ≡ 3 * length bytes.now }
+    ensures { (j : ℕ) → j < 3 * length bytes.now → slice_index row.new j ≡ slice_index scale.now (slice_index bytes.now (j / 3)) }
+{
+    for x in 0..bytes.len() {
+        let gray = scale[usize::from(bytes[x])];
+        put_gray(gray, x, row);
+    }
+}
+
+/// Writes the samples of a row of colors of a byte each.
+fn write_scaled_colors(scale: &[u16; 256], bytes: &[u8], row: &mut [u16])
+    requires { length row.old ≡ length bytes.now }
+    ensures { (j : ℕ) → j < length bytes.now → slice_index row.new j ≡ slice_index scale.now (slice_index bytes.now j) }
+{
+    for j in 0..bytes.len() {
+        row[j] = scale[usize::from(bytes[j])];
+    }
+}
+
 /// Writes the samples that the bytes of one row show.
 fn write_row(header: &Header, bytes: &[u8], row: &mut [u16])
     requires page { IsPageHeader header.now }
@@ -86,44 +232,60 @@ fn write_row(header: &Header, bytes: &[u8], row: &mut [u16])
     requires places { length row.old ≡ 3 * header.now.width }
     ensures { ShowsRow header.now bytes.now row.new }
 {
-    match (header.format, header.maxval) {
-        (Format::Ppm, 255) => return write_colors(bytes, row),
-        (Format::Ppm, 65535) => return write_words(bytes, row),
-        (Format::Pgm, 255) => return write_grays(bytes, row),
-        _ => {}
-    }
-    let count = sample_count(&row_header(header));
-    for j in 0..row.len() {
-        row[j] = page_number(header, bytes, j, count);
+    let maxval = header.maxval;
+    match (header.format, maxval) {
+        (Format::Ppm, 255) => write_colors(bytes, row),
+        (Format::Ppm, 65535) => write_words(bytes, row),
+        (Format::Ppm, 0..=254) => write_scaled_colors(&scale(maxval), bytes, row),
+        (Format::Ppm, _) => write_color_words(maxval, bytes, row),
+        (Format::Pbm | Format::Pgm, 255) => write_grays(bytes, row),
+        (Format::Pbm | Format::Pgm, 65535) => write_wide_grays(bytes, row),
+        (Format::Pbm | Format::Pgm, 0..=254) => write_scaled_grays(&scale(maxval), bytes, row),
+        (Format::Pbm | Format::Pgm, _) => write_gray_words(maxval, bytes, row),
     }
 }
 
-/// Reads the next row into `bytes` and writes its samples. It fails where the file has no such row or a sample in it is
-/// above the greatest value.
+/// Writes the samples of the next of the `rows` that are not used yet, of which the last `held` of `bytes` are held. It
+/// fails where the file has no such row or a sample in it is above the greatest value.
 pub fn read_row<R: Rereadable>(
     reader: &mut R,
     header: &Header,
+    rows: u32,
+    held: &mut u32,
     bytes: &mut [u8],
     row: &mut [u16],
 ) -> Result<(), ReadFault>
     requires page { IsPageHeader header.now }
-    requires bytes { length bytes.old ≡ row_size header.now }
+    requires room { row_size header.now ≤ length bytes.old }
+    requires rows { 1 ≤ rows }
+    requires held { held.old ≤ rows }
+    requires within { held.old * row_size header.now ≤ length bytes.old }
     requires places { length row.old ≡ 3 * header.now.width }
     ensures kept { R.is_kept reader.new ≡ R.is_kept reader.old }
     ensures text { R.text reader.new ≡ R.text reader.old }
-    ensures read { OnOk result (R.is_kept reader.old ≡ true → R.left reader.old ≡ bytes.new ++ R.left reader.new) }
-    ensures row { OnOk result (ShowsRow header.now bytes.new row.new) }
-    ensures failed { OnErr result (R.is_kept reader.old ≡ true → HasRow header.now (R.left reader.old) → R.faults reader.old < R.faults reader.new) }
+    ensures held { held.new ≤ rows }
+    ensures next { OnOk result (held.new + 1 ≤ rows) }
+    ensures within { held.new * row_size header.now ≤ length bytes.new }
+    ensures read { OnOk result (R.is_kept reader.old ≡ true → GivesRowOf header.now
+        (unused (row_size header.now) held.old bytes.old (R.left reader.old))
+        (unused (row_size header.now) held.new bytes.new (R.left reader.new)) row.new) }
+    ensures failed { OnErr result (R.is_kept reader.old ≡ true
+        → HasRows header.now rows
+        (unused (row_size header.now) held.old bytes.old (R.left reader.old))
+        → R.faults reader.old < R.faults reader.new) }
 {
+    let size = raster_size(&row_header(header));
     let mut reads = 0;
-    if !fill(reader, bytes, &mut reads)? {
+    if !hold_rows(reader, size, rows, held, bytes, &mut reads)? {
         return Err(ReadFault);
     }
-    let count = sample_count(&row_header(header));
-    if !none_above(header.maxval, bytes, count) {
+    let from = bytes.len() - *held as usize * size;
+    *held -= 1;
+    let shown = &bytes[from..from + size];
+    if !none_above(header.maxval, shown, sample_count(&row_header(header))) {
         return Err(ReadFault);
     }
-    write_row(header, bytes, row);
+    write_row(header, shown, row);
     Ok(())
 }
 
@@ -135,7 +297,7 @@ fn check_rows<R: Rereadable>(
     reads: &mut u64,
 ) -> Result<bool, OpenFault>
     requires page { IsPageHeader header.now }
-    requires bytes { length bytes.old ≡ row_size header.now }
+    requires room { row_size header.now ≤ length bytes.old }
     ensures kept { R.is_kept reader.new ≡ R.is_kept reader.old }
     ensures text { R.text reader.new ≡ R.text reader.old }
     ensures read { IfOk result (λ _. R.is_kept reader.old ≡ true → ReadsRaster header.now (R.left reader.old) (R.left reader.new)) }
@@ -146,13 +308,18 @@ fn check_rows<R: Rereadable>(
     ensures file { IfErr result (λ fault. IsOfFile fault) }
     ensures fault { IfErr result (λ fault. R.is_kept reader.old ≡ true → HasOpenFaultAfter fault header.now (R.left reader.old)) }
 {
+    let size = raster_size(&row_header(header));
     let count = sample_count(&row_header(header));
     let mut all_fit = true;
-    for _y in 0..header.height {
-        if !fill(reader, bytes, reads)? {
+    let mut held = 0;
+    // A read fills the room, so that the rows of a narrow page need few.
+    for y in 0..header.height {
+        if !hold_rows(reader, size, header.height - y, &mut held, bytes, reads)? {
             return Err(OpenFault::Page(PageFault::Short));
         }
-        all_fit &= none_above(header.maxval, bytes, count);
+        let from = bytes.len() - held as usize * size;
+        all_fit &= none_above(header.maxval, &bytes[from..from + size], count);
+        held -= 1;
     }
     Ok(all_fit)
 }
@@ -165,7 +332,7 @@ pub fn check_raster<R: Rereadable>(
     reads: &mut u64,
 ) -> Result<(), OpenFault>
     requires page { IsPageHeader header.now }
-    requires bytes { length bytes.old ≡ row_size header.now }
+    requires room { row_size header.now ≤ length bytes.old }
     ensures kept { R.is_kept reader.new ≡ R.is_kept reader.old }
     ensures text { R.text reader.new ≡ R.text reader.old }
     ensures worked { OnOk result (R.is_kept reader.old ≡ true → R.faults reader.new ≡ R.faults reader.old) }

@@ -1,5 +1,5 @@
-use Rattle.frame_join.proofs.EndLaws.{joined_shows}
+use Rattle.frame_join.proofs.EndSteps.{whole_shows}
 use Rattle.frame_join.proofs.laws.whole_shows.Goals as goal
 
 pub returns : goal.returns
-returns c = joined_shows
+returns c = whole_shows

@@ -1,14 +1,34 @@
-use Rattle.std.proofs.Common.{◌∙◌}
-use Rattle.frame_join.proofs.JoinLaws.{end_carried}
-use Rattle.frame_join.proofs.EndLaws.{end_answer, end_exact}
+use Rattle.std.proofs.Common.{◌≡◌, ◌∙◌, sym, ap, subst, true, false}
+use Rattle.frame_join.specs.Pixels.{pixel_past}
+use Rattle.frame_join.specs.Joining.{Joining, Stands}
+use Rattle.frame_join.specs.JoinInside.{seen}
+use Rattle.frame_join.proofs.EndSteps.{lacks, ends_short, short_answer, short_exact, ends_all, ends_answer, ends_exact}
 use Rattle.frame_join.proofs.frame_join.FrameJoin.end.Goals as goal
 
+pub returns-then-lacks_bytes-clause-carried : goal.returns-then-lacks_bytes-clause-carried
+returns-then-lacks_bytes-clause-carried c = λ past stands.
+    let s : Stands past (seen c.self.inside) = subst (λ (v : Joining). Stands past v) (sym c.self.view_is) stands in
+    let short : lacks (seen c.self.inside) ≡ true = ap lacks c.self.view_is ∙ (sym c.lacks_bytes.ensures ∙ c.if-lacks_bytes.true) in
+    ends_short past (seen c.self.inside) c.fail.new.self s short c.fail.ensures
+
+pub returns-then-lacks_bytes-clause-answer : goal.returns-then-lacks_bytes-clause-answer
+returns-then-lacks_bytes-clause-answer c = λ past stands. short_answer past c.args.self.now stands (sym c.lacks_bytes.ensures ∙ c.if-lacks_bytes.true)
+
+pub returns-then-lacks_bytes-clause-exact : goal.returns-then-lacks_bytes-clause-exact
+returns-then-lacks_bytes-clause-exact c = λ past stands. short_exact past c.args.self.now stands (sym c.lacks_bytes.ensures ∙ c.if-lacks_bytes.true)
+
 pub returns-clause-carried : goal.returns-clause-carried
-returns-clause-carried c = λ past stands. end_carried past c.args.self.now c.close.new.self c.close.ensures stands
+returns-clause-carried c = λ past stands.
+    let s : Stands past (seen c.self.inside) = subst (λ (v : Joining). Stands past v) (sym c.self.view_is) stands in
+    let all : lacks (seen c.self.inside) ≡ false = ap lacks c.self.view_is ∙ (sym c.lacks_bytes.ensures ∙ c.if-lacks_bytes.false) in
+    ends_all past (seen c.self.inside) c.end.new.self s all (c.end.ensures.carried (pixel_past past) s.pixels)
 
 pub returns-clause-answer : goal.returns-clause-answer
-returns-clause-answer c = λ past stands. c.answer.ensures ∙ end_answer past c.args.self.now c.close.new.self c.close.ensures stands
+returns-clause-answer c = λ past stands.
+    let s : Stands past (seen c.self.inside) = subst (λ (v : Joining). Stands past v) (sym c.self.view_is) stands in
+    c.end.ensures.answer (pixel_past past) s.pixels ∙ ends_answer past c.args.self.now stands (sym c.lacks_bytes.ensures ∙ c.if-lacks_bytes.false)
 
 pub returns-clause-exact : goal.returns-clause-exact
 returns-clause-exact c = λ past stands.
-    rw c.answer.ensures (end_exact past c.args.self.now c.close.new.self c.close.ensures stands)
+    let s : Stands past (seen c.self.inside) = subst (λ (v : Joining). Stands past v) (sym c.self.view_is) stands in
+    ends_exact past c.args.self.now c.end.result stands (sym c.lacks_bytes.ensures ∙ c.if-lacks_bytes.false) (c.end.ensures.exact (pixel_past past) s.pixels)

@@ -1,10 +1,29 @@
-use Rattle.std.proofs.Common.{ℕ, ◌<◌, arith}
-use Rattle.std.specs.Prelude.{slice_index}
-use Rattle.frame_join.specs.Joining.{is_starved}
-use Rattle.frame_join.proofs.JoinLaws.{feed_carried}
+use Rattle.std.proofs.Common.{◌≡◌, ◌∙◌, sym, ap, subst, true, false, rules, arith}
+use Rattle.frame_join.specs.declared.join_stage.JoinFault.TheVariants.{Long}
+use Rattle.frame_join.specs.FrameHistory.{failed}
+use Rattle.frame_join.specs.JoinStages.{is_keeping}
+use Rattle.frame_join.specs.PixelJoining.{PixelJoining, PixelStands, is_pixel_starved}
+use Rattle.frame_join.specs.Pixels.{pixel_past}
+use Rattle.frame_join.specs.Joining.{Joining, Stands}
+use Rattle.frame_join.specs.JoinInside.{seen}
+use Rattle.frame_join.proofs.PixelSteps.{feed_stands, fails_kept}
+use Rattle.frame_join.proofs.PixelKeeping.{is_in, too_long, long_stands}
 use Rattle.frame_join.proofs.frame_join.FrameJoin.feed.Goals as goal
 
-pub returns-clause-carried : goal.returns-clause-carried
-returns-clause-carried c = λ past stands.
-    let small : (i : ℕ) → slice_index c.args.bytes.now i < 256 = λ i. omega (arith, c.type_inv.bytes i) in
-    feed_carried c.args.bytes.now (is_starved c.take_in.new.self) past c.args.self.now c.take_in.new.self small c.take_in.ensures.value stands
+pub returns-then-not-is_keeping-clause-carried : goal.returns-then-not-is_keeping-clause-carried
+returns-then-not-is_keeping-clause-carried c = λ past stands.
+    let s : Stands past (seen c.self.inside) = subst (λ (v : Joining). Stands past v) (sym c.self.view_is) stands in
+    let through : is_keeping c.self.inside.pixels.stage ≡ false = search rules in
+    let new : Joining = record { pixels = c.feed.new.self; line = c.self.inside.line; came = c.self.inside.came } in
+    feed_stands c.args.bytes.now (is_pixel_starved c.feed.new.self) past (seen c.self.inside) new s through (c.feed.ensures.carried (pixel_past past) s.pixels)
+
+pub returns-then-room-bytes-clause-carried : goal.returns-then-room-bytes-clause-carried
+returns-then-room-bytes-clause-carried c = λ past stands.
+    let s : Stands past (seen c.self.inside) = subst (λ (v : Joining). Stands past v) (sym c.self.view_is) stands in
+    let keeping : is_keeping c.self.inside.pixels.stage ≡ true = search rules in
+    let told : is_keeping c.args.self.now.pixels.stage ≡ true = ap (λ (v : Joining). is_keeping v.pixels.stage) (sym c.self.view_is) ∙ keeping in
+    let i = is_in past c.args.self.now stands told in
+    let new : Joining = record { pixels = c.fail.new.self; line = c.self.inside.line; came = c.self.inside.came } in
+    let long = too_long past c.args.self.now i c.args.bytes.now (omega (arith, c.if-room-bytes.true, c.room.ensures.most)) in
+    long_stands c.args.bytes.now (is_pixel_starved c.fail.new.self) past c.args.self.now new stands i long
+    (subst (λ (w : PixelJoining). PixelStands (failed Long (pixel_past past)) w) (sym c.fail.ensures) (fails_kept Long (pixel_past past) c.self.inside.pixels s.pixels keeping))

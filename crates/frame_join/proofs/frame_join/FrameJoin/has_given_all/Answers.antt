@@ -1,22 +1,16 @@
-use Rattle.std.proofs.Common.{◌≡◌, Ok, true, rules}
-use Rattle.frame_join.specs.JoinSteps.{answer_at}
-use Rattle.frame_join.proofs.GivenLaws.{given_exactly, given_shown, given_whole, never_whole}
+use Rattle.std.proofs.Common.{sym, subst}
+use Rattle.frame_join.specs.Pixels.{pixel_past}
+use Rattle.frame_join.specs.Joining.{Joining, Stands}
+use Rattle.frame_join.specs.JoinInside.{seen}
+use Rattle.frame_join.proofs.EndSteps.{given_exactly, shown_less}
 use Rattle.frame_join.proofs.frame_join.FrameJoin.has_given_all.Goals as goal
-
-pub returns-in_default-clause-whole : goal.returns-in_default-clause-whole
-returns-in_default-clause-whole c = λ past stands. never_whole past c.args.self.now stands (search rules)
 
 pub returns-clause-exact : goal.returns-clause-exact
 returns-clause-exact c = λ past stands.
-    let whole : answer_at c.args.self.now.stage ≡ Ok true = search rules in
-    given_exactly past c.args.self.now c.may_go.result stands whole c.may_go.ensures
-
-pub returns-clause-whole : goal.returns-clause-whole
-returns-clause-whole c = λ past stands.
-    let whole : answer_at c.args.self.now.stage ≡ Ok true = search rules in
-    given_whole past c.args.self.now c.may_go.result stands whole c.may_go.ensures
+    let s : Stands past (seen c.self.inside) = subst (λ (v : Joining). Stands past v) (sym c.self.view_is) stands in
+    given_exactly past c.args.self.now c.has_given_all.result stands (c.has_given_all.ensures.exact (pixel_past past) s.pixels)
 
 pub returns-clause-denotes : goal.returns-clause-denotes
-returns-clause-denotes c = λ past stands.
-    let whole : answer_at c.args.self.now.stage ≡ Ok true = search rules in
-    given_shown past c.args.self.now c.may_go.result stands whole c.may_go.ensures
+returns-clause-denotes c = λ past stands done p shows.
+    let s : Stands past (seen c.self.inside) = subst (λ (v : Joining). Stands past v) (sym c.self.view_is) stands in
+    c.has_given_all.ensures.denotes (pixel_past past) s.pixels done p (shown_less past c.args.self.now stands p shows)

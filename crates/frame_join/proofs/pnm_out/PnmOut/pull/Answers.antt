@@ -1,46 +1,32 @@
-use Rattle.std.proofs.Common.{ℕ, ◌≡◌, ◌∙◌, arith, rules, sym, subst, take, false}
-use Rattle.frame_join.specs.FrameHistory.{after_pull}
-use Rattle.frame_join.specs.Joining.{Stands, IsDrained}
-use Rattle.frame_join.specs.JoinSteps.{may_go}
-use Rattle.frame_join.proofs.PullLaws.{run_on, went_on, spent, drained}
-use Rattle.frame_join.proofs.EndLaws.{gone_denotes, joined_no_fault, not_whole}
+use Rattle.std.proofs.Common.{sym, subst, take}
+use Rattle.frame_join.specs.Pixels.{pixel_past}
+use Rattle.frame_join.specs.Joining.{Joining, Stands}
+use Rattle.frame_join.specs.JoinInside.{seen}
+use Rattle.frame_join.proofs.JoinedLaws.{pull_stands, all_gone, joined_less, joined_more, goes_less}
+use Rattle.frame_join.proofs.EndSteps.{shown_less}
 use Rattle.frame_join.proofs.pnm_out.PnmOut.pull.Goals as goal
 
-pub returns-then-end-at-clause-gone : goal.returns-then-end-at-clause-gone
-returns-then-end-at-clause-gone c = λ past stands fault none some.
-    let same = c.loop-at.invariant.first none in
-    let stop : may_go c.args.join.now ≡ false = rw same at (c.next_run-end.ensures.none (search rules)).0 in
-    spent past c.args.join.now stands stop fault
+pub returns-clause-carried : goal.returns-clause-carried
+returns-clause-carried c = λ past stands.
+    let s : Stands past (seen c.join.inside) = subst (λ (v : Joining). Stands past v) (sym c.join.view_is) stands in
+    pull_stands past (seen c.join.inside) (take c.pull.result c.pull.new.buf) c.pull.new.self s (c.pull.ensures.carried (pixel_past past) s.pixels)
 
-pub returns-then-end-at-clause-denotes : goal.returns-then-end-at-clause-denotes
-returns-then-end-at-clause-denotes c = λ past stands joined none some p shows.
-    let same = c.loop-at.invariant.first none in
-    let stop : may_go c.args.join.now ≡ false = rw same at (c.next_run-end.ensures.none (search rules)).0 in
-    gone_denotes past c.args.join.now stands joined (spent past c.args.join.now stands stop (joined_no_fault past c.args.join.now stands joined)) p shows
+pub returns-clause-gone : goal.returns-clause-gone
+returns-clause-gone c = λ past stands calm none room.
+    let s : Stands past (seen c.join.inside) = subst (λ (v : Joining). Stands past v) (sym c.join.view_is) stands in
+    all_gone past (seen c.join.inside) s calm (c.pull.ensures.gone (pixel_past past) s.pixels calm none room)
 
-pub returns-then-end-at-clause-drained : goal.returns-then-end-at-clause-drained
-returns-then-end-at-clause-drained c = λ past stands through none some.
-    let same = c.loop-at.invariant.first none in
-    let still = c.next_run-end.ensures.none (search rules) in
-    let stop : may_go c.args.join.now ≡ false = rw same at still.0 in
-    subst IsDrained (sym (still.1 ∙ same)) (drained past c.args.join.now stands through stop)
-
-pub returns-then-end-at-clause-whole : goal.returns-then-end-at-clause-whole
-returns-then-end-at-clause-whole c = λ past stands unjoined.
-    let same : c.next_run-end.result ≡ c.loop-at.at = search rules in
-    let carried = subst (λ (n : ℕ). Stands (after_pull (take n c.next_run-end.new.buf) past) c.next_run-end.new.self) same (c.next_run-end.ensures.carried past (c.loop-at.invariant.carried past stands)) in
-    not_whole (after_pull (take c.loop-at.at c.next_run-end.new.buf) past) c.next_run-end.new.self carried unjoined
-
-pub loop-at-preserved : goal.loop-at-preserved
-loop-at-preserved c = record {
-  within = omega (arith, c.next_run-end.ensures.high, c.next_run-end.ensures.size);
-  size = omega (arith, c.next_run-end.ensures.size, c.loop-at.invariant.size);
-  carried = λ past stands. c.next_run-end.ensures.carried past (c.loop-at.invariant.carried past stands);
-  rest = run_on c.loop-at.at c.next_run-end.result c.next_run-end.new.buf c.loop-at.buf c.args.buf.now c.next_run-end.ensures.low c.next_run-end.ensures.rest c.loop-at.invariant.rest;
-  first = λ e. search rules;
-  went = λ _. went_on c.loop-at.at c.args.join.now c.loop-at.join c.loop-at.invariant.first c.loop-at.invariant.went (c.next_run-end.ensures.some (search rules));
-}
+pub returns-clause-denotes : goal.returns-clause-denotes
+returns-clause-denotes c = λ past stands joined none room p shows.
+    let s : Stands past (seen c.join.inside) = subst (λ (v : Joining). Stands past v) (sym c.join.view_is) stands in
+    c.pull.ensures.denotes (pixel_past past) s.pixels (joined_less past joined) none room p (shown_less past (seen c.join.inside) s p shows)
 
 pub returns-clause-whole : goal.returns-clause-whole
 returns-clause-whole c = λ past stands unjoined.
-    not_whole (after_pull (take c.loop-at.at c.loop-at.buf) past) c.loop-at.join (c.loop-at.invariant.carried past stands) unjoined
+    let s : Stands past (seen c.join.inside) = subst (λ (v : Joining). Stands past v) (sym c.join.view_is) stands in
+    c.pull.ensures.whole (pixel_past past) s.pixels (λ j. unjoined (joined_more past j))
+
+pub returns-clause-drained : goal.returns-clause-drained
+returns-clause-drained c = λ past stands through none room.
+    let s : Stands past (seen c.join.inside) = subst (λ (v : Joining). Stands past v) (sym c.join.view_is) stands in
+    c.pull.ensures.drained (pixel_past past) s.pixels (goes_less past.under through) none room

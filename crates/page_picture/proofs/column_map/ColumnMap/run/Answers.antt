@@ -1,4 +1,4 @@
-use Rattle.std.proofs.Common.{◌+◌, sym, ap, ◌∙◌, arith, rules}
+use Rattle.std.proofs.Common.{◌+◌, sym, ap, ◌∙◌, rules}
 use Rattle.page_picture.specs.Columns.{Columns}
 use Rattle.page_picture.proofs.RunLemmas.{place_in_run}
 use Rattle.page_picture.proofs.column_map.ColumnMap.run.Goals as goal

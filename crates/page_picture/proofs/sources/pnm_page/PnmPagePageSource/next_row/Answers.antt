@@ -1,6 +1,6 @@
-use Rattle.std.proofs.Common.{◌≡◌, ◌++◌, ◌+◌, ◌*◌, rules, arith, sym, ap, ◌∙◌, drop, take, length}
-use Rattle.page_picture.specs.PageRows.{row_size}
-use Rattle.page_picture.proofs.RowLemmas.{has_row}
+use Rattle.std.proofs.Common.{◌≡◌, ◌≤◌, ◌++◌, ◌+◌, ◌-◌, ◌*◌, rules, arith, refl, sym, ap, ◌∙◌, subst, drop, take, length, length-take-le, take-append-drop}
+use Rattle.page_picture.specs.PageRows.{row_size, unused}
+use Rattle.page_picture.proofs.RowLemmas.{has_rows}
 use Rattle.page_picture.proofs.ShownLemmas.{put_back, rest_after_row, shown_row}
 use Rattle.page_picture.proofs.sources.pnm_page.PnmPagePageSource.next_row.Goals as goal
 
@@ -8,41 +8,58 @@ pub returns-in-Ok-clause-row : goal.returns-in-Ok-clause-row
 returns-in-Ok-clause-row g c =
     let inside = c.self.inside in
     let before = c.self.invariant in
-    let bytes = c.read_row.new.bytes in
-    let same : length bytes ≡ length inside.bytes.items = search rules in
+    let n = row_size inside.header in
+    let raster = drop inside.start (g.R.Rereadable.text inside.reader) in
+    let left = unused n inside.held c.deref_mut.result.now (g.R.Rereadable.left inside.reader) in
+    let whole : c.deref_mut.result.now ≡ inside.bytes.items = search rules in
     rw (← c.self.view_is) record {
       more = omega arith;
       after = search rules;
       is_row = λ kept.
-          shown_row inside.header inside.dpi inside.given (drop inside.start (g.R.Rereadable.text inside.reader)) bytes (g.R.Rereadable.left c.read_row.new.reader) c.read_row.new.row
-          before.0 (omega arith) (sym (before.4 kept (search rules)) ∙ c.in-Ok.ensures.read kept) (same ∙ before.3) c.in-Ok.ensures.row;
+          let is : left ≡ drop (inside.given * n) raster = ap (λ room. unused n inside.held room (g.R.Rereadable.left inside.reader)) whole ∙ before.5 kept (search rules) in
+          let gives = c.in-Ok.ensures.read kept in
+          shown_row inside.header inside.dpi inside.given raster (take n left) (drop n left) c.read_row.new.row
+          before.0 (omega arith) (sym is ∙ sym (take-append-drop n left)) (length-take-le n left gives.size) gives.shows;
     }
 
 pub invariant_of-self : goal.invariant_of-self
 invariant_of-self g c =
     let inside = c.self.inside in
     let before = c.self.invariant in
+    let n = row_size inside.header in
+    let raster = drop inside.start (g.R.Rereadable.text inside.reader) in
+    let left = unused n inside.held c.deref_mut.result.now (g.R.Rereadable.left inside.reader) in
+    let whole : c.deref_mut.result.now ≡ inside.bytes.items = search rules in
     let bytes = c.read_row.new.bytes in
+    let held = c.read_row.new.held in
     let same : length bytes ≡ length inside.bytes.items = search rules in
     let back : take inside.bytes.len (bytes ++ drop (length bytes) inside.bytes.items) ≡ bytes = put_back inside.bytes.len inside.bytes.items bytes (search rules) same in
-    let size : length bytes ≡ row_size inside.header = same ∙ before.3 in
-    let raster = drop inside.start (g.R.Rereadable.text inside.reader) in
-    let left = g.R.Rereadable.left c.read_row.new.reader in (
+    let next = c.in-Ok.ensures.next in
+    let room = before.3 in (
       before.0,
       before.1,
       omega arith,
-      ap length back ∙ size,
+      subst (λ items. n ≤ length items) (sym back) (omega arith),
+      subst (λ items. held * n ≤ length items) (sym back) c.in-Ok.ensures.within,
       λ kept found.
           let was = sym c.in-Ok.ensures.kept ∙ kept in
-          let read : drop (inside.given * row_size inside.header) raster ≡ bytes ++ left = sym (before.4 was (search rules)) ∙ c.in-Ok.ensures.read was in
-          rest_after_row inside.given (row_size inside.header) raster bytes left read size ∙ ap (λ text. drop ((inside.given + 1) * row_size inside.header) (drop inside.start text)) (sym c.in-Ok.ensures.text),
-      λ kept. rw c.in-Ok.ensures.text (before.5 (sym c.in-Ok.ensures.kept ∙ kept)),
+          let is : left ≡ drop (inside.given * n) raster = ap (λ room. unused n inside.held room (g.R.Rereadable.left inside.reader)) whole ∙ before.5 was (search rules) in
+          let gives = c.in-Ok.ensures.read was in
+          ap (λ items. unused n held items (g.R.Rereadable.left c.read_row.new.reader)) back ∙ gives.after_is
+          ∙ rest_after_row inside.given n raster (take n left) (drop n left) (sym is ∙ sym (take-append-drop n left)) (length-take-le n left gives.size)
+          ∙ ap (λ text. drop ((inside.given + 1) * n) (drop inside.start text)) (sym c.in-Ok.ensures.text),
+      λ kept. rw c.in-Ok.ensures.text (before.6 (sym c.in-Ok.ensures.kept ∙ kept)),
     )
 
 pub returns-in-Err-clause-failed : goal.returns-in-Err-clause-failed
 returns-in-Err-clause-failed g c =
     let inside = c.self.inside in
     let before = c.self.invariant in
+    let n = row_size inside.header in
+    let raster = drop inside.start (g.R.Rereadable.text inside.reader) in
+    let left = unused n inside.held c.deref_mut.result.now (g.R.Rereadable.left inside.reader) in
+    let whole : c.deref_mut.result.now ≡ inside.bytes.items = search rules in
     rw (← c.self.view_is) (λ kept found.
-    let row = has_row inside.header (drop inside.start (g.R.Rereadable.text inside.reader)) (g.R.Rereadable.left inside.reader) inside.given before.0 (before.5 kept) (omega arith) (before.4 kept found) in
-    rw c.fail-in-Err.ensures.faults (c.in-Err.ensures.failed kept row))
+    let is : left ≡ drop (inside.given * n) raster = ap (λ room. unused n inside.held room (g.R.Rereadable.left inside.reader)) whole ∙ before.5 kept (found) in
+    let rows = has_rows inside.header raster left inside.given (inside.header.height - inside.given) before.0 (before.6 kept) (omega arith) refl is in
+    rw c.fail-in-Err.ensures.faults (c.in-Err.ensures.failed kept rows))

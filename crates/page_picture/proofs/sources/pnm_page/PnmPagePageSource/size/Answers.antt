@@ -7,4 +7,4 @@ returns-clause-limits g c = rw (← c.self.view_is) (shown_shaped c.self.inside.
 
 pub returns-clause-sheet : goal.returns-clause-sheet
 returns-clause-sheet g c = rw (← c.self.view_is)
-    (λ kept. shown_sheet c.self.inside.header c.self.inside.dpi (drop c.self.inside.start (g.R.Rereadable.text c.self.inside.reader)) c.self.invariant.0 c.self.invariant.1 (c.self.invariant.5 kept))
+    (λ kept. shown_sheet c.self.inside.header c.self.inside.dpi (drop c.self.inside.start (g.R.Rereadable.text c.self.inside.reader)) c.self.invariant.0 c.self.invariant.1 (c.self.invariant.6 kept))
