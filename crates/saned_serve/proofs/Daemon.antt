@@ -1,5 +1,5 @@
 -- What a daemon's contract says of replies and of records, as calls.
-use Rattle.std.proofs.Common.{◌≡◌, ◌≤◌, ◌⊎◌, ℕ, suc, ◌+◌, ◌-◌, List, ◌++◌, Option, Some, None, Result, Ok, Err, take, drop, length, slice_range, sym, ap, ◌∙◌, subst, arith}
+use Rattle.std.proofs.Common.{◌≡◌, ◌≢◌, true, false, [], ◌≤◌, ◌⊎◌, ℕ, suc, ◌+◌, ◌-◌, List, ◌++◌, Option, Some, None, Result, Ok, Err, take, drop, length, slice_range, refl, sym, ap, ◌∙◌, subst, arith}
 use Rattle.std.proofs.lemmas.List.{length-take}
 use Rattle.std.specs.Int.{w32, to_be_bytes}
 use Rattle.sane_fixed.specs.declared.status.Status.{Status}
@@ -12,10 +12,10 @@ use Rattle.saned_desk.specs.declared.session.Session.{Session}
 use Rattle.saned_desk.specs.Holding.{held_by}
 use Rattle.saned_core.specs.declared.seat.Seat.{Seat}
 use Rattle.saned_core.specs.declared.seat.DataStep.{DataStep}
-use Rattle.saned_core.specs.declared.seat.DataStep.TheVariants.{Idle}
+use Rattle.saned_core.specs.declared.seat.DataStep.TheVariants.{Idle, Bytes}
 use Rattle.saned_core.specs.State.{Core, replies_of, after_taken, on_seat, seat_of, session_in}
 use Rattle.saned_core.specs.Turns.{Turns, TurnsSessions, StreamsIn, StreamsFrom, Records}
-use Rattle.saned_serve.specs.Calls.{IsTaken, IsTurned, written_by}
+use Rattle.saned_serve.specs.Acts.{IsTaken, IsTurned, written_by, is_last}
 use Rattle.saned_serve.proofs.Seating.{take_front}
 
 from_start : (n : ℕ) (xs : List ℕ) → slice_range xs 0 n ≡ take n xs
@@ -82,5 +82,36 @@ turns_fit (Some s) n old step new buf h turns = streams_fit s.carriage s step tu
 pub turn_fits : (d e : Core) (number : ℕ) (step : DataStep) (buf : List ℕ) → 8 ≤ length buf → Turns number d step e buf → written_by step ≤ length buf
 turn_fits d e number step buf h turns = turns_fit (session_in (seat_of d.seats number)) number d.seats step e.seats buf h turns.seats
 
-pub is_turned : (d e : Core) (number : ℕ) (step : DataStep) (buf : List ℕ) → 8 ≤ length buf → Turns number d step e buf → IsTurned d number step (slice_range buf 0 (written_by step)) e
-is_turned d e number step buf h turns = record { buffer = buf; turns = turns; fits = turn_fits d e number step buf h turns; front = from_start (written_by step) buf }
+pub is_turned : (d e : Core) (number room : ℕ) (step : DataStep) (buf : List ℕ) → length buf ≡ room → 8 ≤ length buf → Turns number d step e buf → IsTurned d number room step (slice_range buf 0 (written_by step)) e
+is_turned d e number room step buf size h turns = record { buffer = buf; size = size; turns = turns; fits = turn_fits d e number step buf h turns; front = from_start (written_by step) buf }
+
+-- ---- the end record has five bytes
+
+no_end : (step other : DataStep) → step ≡ other → is_last other ≡ false → is_last step ≡ true → written_by step ≡ 5
+no_end step other e off last = absurd (let wrong : true ≡ false = sym last ∙ ap is_last e ∙ off in cc)
+
+records_end : (answer : Result ℕ Status) (window : List ℕ) (step : DataStep) (buf : List ℕ) → is_last step ≡ true → Records answer window step buf → written_by step ≡ 5
+records_end (Ok n) window step buf last records = no_end step (Bytes (4 + n)) records.0 refl last
+records_end (Err status) window step buf last records = ap written_by records.0
+
+from_end : (lease : Option (Lease DeviceState)) (word : ℕ) (old : Session DeviceState) (step : DataStep) (new : Session DeviceState) (buf : List ℕ) → is_last step ≡ true → StreamsFrom lease word old step new buf → written_by step ≡ 5
+from_end None word old step new buf last streams = no_end step Idle streams.0 refl last
+from_end (Some lease) word old step new buf last streams = records_end streams.answer streams.window step buf last streams.written
+
+streams_end : (c : Carriage) (old : Session DeviceState) (step : DataStep) (new : Session DeviceState) (buf : List ℕ) → is_last step ≡ true → StreamsIn c old step new buf → written_by step ≡ 5
+streams_end Quiet old step new buf last streams = no_end step Idle streams.0 refl last
+streams_end (Waiting word) old step new buf last streams = no_end step Idle streams.0 refl last
+streams_end (Streaming word) old step new buf last streams = from_end (held_by old.held word) word old step new buf last streams
+streams_end Ending old step new buf last streams = ap written_by streams.0.0
+
+turns_end : (o : Option (Session DeviceState)) (n : ℕ) (old : List (Option (Seat DeviceState))) (step : DataStep) (new : List (Option (Seat DeviceState))) (buf : List ℕ) → is_last step ≡ true → TurnsSessions o n old step new buf → written_by step ≡ 5
+turns_end None n old step new buf last turns = no_end step Idle turns.0 refl last
+turns_end (Some s) n old step new buf last turns = streams_end s.carriage s step turns.0 buf last turns.1
+
+pub end_some : (d e : Core) (number room : ℕ) (step : DataStep) (bytes : List ℕ) → IsTurned d number room step bytes e → is_last step ≡ true → bytes ≢ []
+end_some d e number room step bytes turned last none =
+    let five = turns_end (session_in (seat_of d.seats number)) number d.seats step e.seats turned.buffer last turned.turns.seats in
+    let empty : length bytes ≡ 0 = ap length none in
+    let len = ap length turned.front in
+    let fits = turned.fits in
+    omega (arith, len, length-take (written_by step) turned.buffer, five, fits, empty)

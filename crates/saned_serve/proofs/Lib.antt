@@ -3,4 +3,3 @@ pub mod Daemon
 pub mod Ranges
 pub mod Seating
 pub mod Greeting
-pub mod Closed

@@ -1,20 +1,23 @@
 -- Single deeds of a session that stands.
-use Rattle.std.proofs.Common.{◌≡◌, ◌≢◌, ◌≤◌, ℕ, ◌+◌, Bool, true, false, cond, Option, None, Some, List, [], ◌∷◌, ◌++◌, take, drop, refl, sym, ap, ◌∙◌, subst, append_assoc, append-nil, IsSome}
+use Rattle.std.proofs.Common.{◌≡◌, ◌≢◌, ◌≤◌, ◌⊎◌, inl, inr, ℕ, ◌+◌, Bool, true, false, ◌||◌, cond, Option, None, Some, List, [], ◌∷◌, ◌++◌, take, drop, refl, sym, ap, ◌∙◌, subst, append_assoc, append-nil, IsSome, arith}
 use Rattle.std.proofs.lemmas.List.{take-append-drop}
 use Rattle.std.proofs.Math.Dec.{eqb}
-use Rattle.std.proofs.lemmas.Bool.{eq-eqb, eqb-true}
+use Rattle.std.proofs.lemmas.Bool.{eq-eqb, eqb-true, or_left, or_right, or_from}
 use Rattle.saned_core.specs.State.{Core}
 use Rattle.saned_core.specs.declared.seat.Fed.{Fed}
 use Rattle.saned_core.specs.declared.seat.DataStep.{DataStep}
-use Rattle.saned_serve.specs.Calls.{Call, Steps, Runs, opened_after}
-use Rattle.saned_serve.specs.Calls.Call.{Open, Feed, Take, Connect, Turn, Lose, End}
-use Rattle.saned_serve.specs.Talk.{Talk, after_write, has_read, has_written, IsFresh, moved}
-use Rattle.saned_serve.specs.Ledger.{Ledger, counted, after_close}
-use Rattle.saned_serve.specs.Story.{Deed, Life, no_life, number_of, is_of, after_call, after_deed, life_of, MayCall, May, calls_of, noted, noted_call, Extends, AreEnds, Closing, Leads, left_in, Spoke, Showed}
-use Rattle.saned_serve.specs.Story.Deed.{Makes, Refuses, Leaves, HangsUp}
-use Rattle.saned_serve.specs.Goes.{Speaks, Shows, ShowsIn, Tells, Went, Goes, hung_up, Ended, Parts}
 use Rattle.saned_serve.specs.declared.sockets.Got.{Got}
 use Rattle.saned_serve.specs.declared.sockets.Got.TheVariants.{Moved, Nothing, Lost}
+use Rattle.saned_serve.specs.Talk.{Talk, IsTold, after_read, after_write, moved, stirs, is_lost, read_in, taken_in, lost_in}
+use Rattle.saned_serve.specs.Talk.Move.{Read, Write}
+use Rattle.saned_serve.specs.Ledger.{Ledger, noticed}
+use Rattle.saned_serve.specs.Ledger.Notice.{Dialed, Shut, Back}
+use Rattle.saned_serve.specs.Acts.{Act, Does, moves, leaves, opens, is_last, is_over}
+use Rattle.saned_serve.specs.Acts.Act.{Opens, Hears, Feed, Forgets, Take, Says, Misses, Connect, Turn, Shows, Lose, HangsUp, Leaves}
+use Rattle.saned_serve.specs.Story.{Deed, Life, no_life, no_bytes, is_of, after_act, after_deed, life_of, MayDo, noted_act, Extends, AreEnds, Closing, Leads, Tally, tally_of, after_tally, counted, has_stopped, IsDone, IsShown}
+use Rattle.saned_serve.specs.Story.Deed.{Of}
+use Rattle.saned_serve.specs.Goes.{Phase, IsAt, Carries, CarriesIn, Tells, Went, Goes, Attends, forgotten, SendsTo, SendsIn, hung_up, Ended, Parts}
+use Rattle.saned_serve.specs.Goes.Phase.{Fresh, Filled, Heard, Ready, Spoken}
 use Rattle.saned_serve.specs.declared.link.Link.{Link}
 
 pub extends_then : (past mid story : List Deed) → Extends past mid → Extends mid story → Extends past story
@@ -35,393 +38,719 @@ eqb_same a b false e h = refl
 pub eqb_off : (a b : ℕ) → a ≢ b → eqb a b ≡ false
 eqb_off a b h = eqb_same a b (eqb a b) refl h
 
--- a call that does not open
-abbrev pub plain : Call → Bool
-plain (Open port number) = false
-plain (Feed number piece fed) = true
-plain (Take number room bytes) = true
-plain (Connect number) = true
-plain (Turn number step bytes) = true
-plain (Lose number) = true
-plain (End number) = true
+pub or_false : (b : Bool) → (b || false) ≡ b
+or_false true = refl
+or_false false = refl
 
--- what a call does to the count of sessions
-pub opened_by : (d : Core) (call : Call) (e : Core) → Steps d call e → e.opened ≡ opened_after call d.opened
-opened_by d (Open port number) e steps = ap (λ (c : Core). c.opened) steps.after
-opened_by d (Feed number piece fed) e steps = ap (λ (c : Core). c.opened) steps.others
-opened_by d (Take number room bytes) e steps = ap (λ (c : Core). c.opened) steps.after
-opened_by d (Connect number) e steps = ap (λ (c : Core). c.opened) steps.after
-opened_by d (Turn number step bytes) e steps = ap (λ (c : Core). c.opened) steps.turns.others
-opened_by d (Lose number) e steps = ap (λ (c : Core). c.opened) steps
-opened_by d (End number) e steps = ap (λ (c : Core). c.opened) steps
+or_assoc : (a b c : Bool) → ((a || b) || c) ≡ (a || (b || c))
+or_assoc true b c = refl
+or_assoc false b c = refl
 
-opened_plain : (call : Call) (n : ℕ) → plain call ≡ true → opened_after call n ≡ n
-opened_plain (Open port number) n e = cc
-opened_plain (Feed number piece fed) n e = refl
-opened_plain (Take number room bytes) n e = refl
-opened_plain (Connect number) n e = refl
-opened_plain (Turn number step bytes) n e = refl
-opened_plain (Lose number) n e = refl
-opened_plain (End number) n e = refl
+pub not_both : {b : Bool} → b ≡ true → b ≡ false → ⊥
+not_both t f = let wrong : true ≡ false = sym t ∙ f in cc
 
-standing_plain : (call : Call) (life : Life) → plain call ≡ true → MayCall call life → life.standing ≡ true
-standing_plain (Open port number) life e may = cc
-standing_plain (Feed number piece fed) life e may = may
-standing_plain (Take number room bytes) life e may = may
-standing_plain (Connect number) life e may = may.0
-standing_plain (Turn number step bytes) life e may = may.0
-standing_plain (Lose number) life e may = may
-standing_plain (End number) life e may = may
+pub counted_then : (a b : ℕ) (x y : Bool) (t : Tally) → counted b y (counted a x t) ≡ counted (a + b) (x || y) t
+counted_then a b x y t =
+    let sum : t.left + a + b ≡ t.left + (a + b) = omega arith in
+    ap (λ n. record t { left = n; stir = (t.stir || x) || y }) sum ∙ ap (λ v. record t { left = t.left + (a + b); stir = v }) (or_assoc t.stir x y)
 
-unused_plain : (call : Call) (past : List Deed) (id : ℕ) (v : Bool) → eqb (number_of call) id ≡ v → plain call ≡ true → MayCall call (life_of (number_of call) past) → life_of id past ≡ no_life → life_of id (Makes call ∷ past) ≡ no_life
-unused_plain call past id false e p may none = life_off id (Makes call) past e ∙ none
-unused_plain call past id true e p may none =
-    let same = eqb-true (number_of call) id e in
-    let standing = standing_plain call (life_of (number_of call) past) p may in
-    let at = subst (λ j. (life_of j past).standing ≡ true) same standing in
-    let never = ap (λ life. life.standing) none in
-    absurd (let wrong : true ≡ false = sym at ∙ never in cc)
+pub counted_none : (t : Tally) → t ≡ counted 0 false t
+counted_none t =
+    let sum : t.left ≡ t.left + 0 = omega arith in
+    ap (λ n. record t { left = n }) sum ∙ ap (λ v. record t { left = t.left + 0; stir = v }) (sym (or_false t.stir))
 
-pub leads_call : (call : Call) (d0 : Core) (n0 : Option Ledger) (past : List Deed) (d : Core) (n : Option Ledger) (e : Core) → plain call ≡ true → Leads d0 n0 past d n → Steps d call e → MayCall call (life_of (number_of call) past) → Leads d0 n0 (Makes call ∷ past) e (noted_call call n)
-leads_call call d0 n0 past d n e p leads steps may = record {
+-- ---- one act
+
+-- what an act does to the count of sessions
+opened_by : (act : Act) (d e : Core) (id : ℕ) → opens act ≡ false → Does id d act e → e.opened ≡ d.opened
+opened_by (Opens port) d e id plain does = cc
+opened_by (Hears got bytes) d e id plain does = ap (λ (c : Core). c.opened) does
+opened_by (Feed piece fed begins) d e id plain does = ap (λ (c : Core). c.opened) does.0.others
+opened_by (Forgets port) d e id plain does = ap (λ (c : Core). c.opened) does
+opened_by (Take room bytes) d e id plain does = ap (λ (c : Core). c.opened) does.after
+opened_by (Says got bytes) d e id plain does = ap (λ (c : Core). c.opened) does
+opened_by (Misses port) d e id plain does = ap (λ (c : Core). c.opened) does
+opened_by (Connect port) d e id plain does = ap (λ (c : Core). c.opened) does.after
+opened_by (Turn room step bytes) d e id plain does = ap (λ (c : Core). c.opened) does.turns.others
+opened_by (Shows got bytes) d e id plain does = ap (λ (c : Core). c.opened) does
+opened_by Lose d e id plain does = ap (λ (c : Core). c.opened) does
+opened_by (HangsUp talk) d e id plain does = ap (λ (c : Core). c.opened) does
+opened_by (Leaves port talk) d e id plain does = ap (λ (c : Core). c.opened) does
+
+stands_for : (act : Act) (life : Life) (stopped : Bool) → opens act ≡ false → MayDo act life stopped → life.standing ≡ true
+stands_for (Opens port) life stopped plain may = cc
+stands_for (Hears got bytes) life stopped plain may = may.0
+stands_for (Feed piece fed begins) life stopped plain may = may.0
+stands_for (Forgets port) life stopped plain may = may.0
+stands_for (Take room bytes) life stopped plain may = may.0
+stands_for (Says got bytes) life stopped plain may = may.0
+stands_for (Misses port) life stopped plain may = may.0
+stands_for (Connect port) life stopped plain may = may.0
+stands_for (Turn room step bytes) life stopped plain may = may.0
+stands_for (Shows got bytes) life stopped plain may = may.0
+stands_for Lose life stopped plain may = may.0
+stands_for (HangsUp talk) life stopped plain may = may.0
+stands_for (Leaves port talk) life stopped plain may = may.0
+
+unused_act : (act : Act) (past : List Deed) (id j : ℕ) (v : Bool) → eqb id j ≡ v → (life_of id past).standing ≡ true → life_of j past ≡ no_life → life_of j (Of id act ∷ past) ≡ no_life
+unused_act act past id j false e standing none = life_off j (Of id act) past e ∙ none
+unused_act act past id j true e standing none =
+    let at = subst (λ k. (life_of k past).standing ≡ true) (eqb-true id j e) standing in
+    absurd (not_both at (ap (λ life. life.standing) none))
+
+pub leads_act : (act : Act) (d0 : Core) (n0 : Option Ledger) (past : List Deed) (d : Core) (n : Option Ledger) (e : Core) (id : ℕ) → opens act ≡ false → Leads d0 n0 past d n → Does id d act e → MayDo act (life_of id past) (has_stopped past) → Leads d0 n0 (Of id act ∷ past) e (noted_act act n)
+leads_act act d0 n0 past d n e id plain leads does may = record {
   legal = (leads.legal, may);
-  run = (d, leads.run, steps);
-  net = ap (noted_call call) leads.net;
-  unused = λ id h. unused_plain call past id (eqb (number_of call) id) refl p may
-      (leads.unused id (subst (λ k. k ≤ id) (opened_by d call e steps ∙ opened_plain call d.opened p) h));
+  run = (d, leads.run, does);
+  net = ap (noted_act act) leads.net;
+  unused = λ j h. unused_act act past id j (eqb id j) refl (stands_for act (life_of id past) (has_stopped past) plain may)
+      (leads.unused j (subst (λ k. k ≤ j) (opened_by act d e id plain does) h));
 }
 
-pub others_off : (deed : Deed) (past : List Deed) (id : ℕ) → ((j : ℕ) → j ≢ id → is_of deed j ≡ false) → (j : ℕ) → j ≢ id → life_of j (deed ∷ past) ≡ life_of j past
-others_off deed past id h j off = life_off j deed past (h j off)
+-- acts of one session, one after another
+pub record Trail (d0 : Core) (n0 : Option Ledger) (past : List Deed) (id left : ℕ) (stir : Bool) (e : Core) (m : Option Ledger) (life : Life) : Type 0 where
+  pub story : List Deed
+  pub more : Extends past story
+  pub leads : Leads d0 n0 story e m
+  pub at : life_of id story ≡ life
+  pub others : (j : ℕ) → j ≢ id → life_of j story ≡ life_of j past
+  pub tally : tally_of story ≡ counted left stir (tally_of past)
+  pub stopped : has_stopped story ≡ has_stopped past
 
-pub flip : (j id : ℕ) → j ≢ id → id ≢ j
-flip j id h e = h (sym e)
-
--- a call of this session that the listeners do not see
-pub went_call : {C : Type 0} (history : C → Option Talk) (call : Call) (d0 : Core) (n0 : Option Ledger) (past : List Deed) (d : Core) (n : Option Ledger) (e : Core) (id : ℕ) (l : Link C) → plain call ≡ true → number_of call ≡ id → Leads d0 n0 past d n → Steps d call e → MayCall call (life_of id past) → Tells history (after_call call (life_of id past)) l → Went history d0 n0 past id e (noted_call call n) l
-went_call history call d0 n0 past d n e id l p same leads steps may tells = record {
-  story = Makes call ∷ past;
-  more = (Makes call ∷ [], refl);
-  leads = leads_call call d0 n0 past d n e p leads steps (subst (λ j. MayCall call (life_of j past)) (sym same) may);
-  tells = subst (λ life. Tells history life l) (sym (life_at id (Makes call) past (eq-eqb (number_of call) id same))) tells;
-  others = λ j off. life_off j (Makes call) past (eqb_off (number_of call) j (λ e. off (sym e ∙ same)));
-  left = refl;
-}
-
-hears : (talk : Option Talk) (piece replies : List ℕ) (life : Life) → Speaks talk replies life → Speaks (has_read piece talk) replies (record life { heard = life.heard ++ piece })
-hears None piece replies life speaks = tt
-hears (Some t) piece replies life speaks = (ap (λ xs. xs ++ piece) speaks.0, speaks.1)
-
-moves_image : {C : Type 0} (history : C → Option Talk) (image : Option C) (records : List ℕ) (a b : Life) → b.imaging ≡ a.imaging → b.shown ≡ a.shown → ShowsIn history image records a → ShowsIn history image records b
-moves_image history None records a b e f shows = e ∙ shows
-moves_image history (Some conn) records a b e f shows = (e ∙ shows.0, moves_shows (history conn) records a b f shows.1)
-  where
-    moves_shows : (talk : Option Talk) (records : List ℕ) (a b : Life) → b.shown ≡ a.shown → Shows talk records a → Shows talk records b
-    moves_shows None records a b f shows = tt
-    moves_shows (Some t) records a b f shows = (shows.0, shows.1 ∙ sym f)
-
--- what was read is fed
-pub goes_hears : {C : Type 0} (history : C → Option Talk) (d : Core) (n : Option Ledger) (l : Link C) (e : Core) (k : Link C) (piece : List ℕ) (fed : Fed) → k.id ≡ l.id → k.replies ≡ l.replies → k.image ≡ l.image → k.records ≡ l.records → history k.conn ≡ has_read piece (history l.conn) → Steps d (Feed l.id.number piece fed) e → Goes history d n l e n k
-goes_hears history d n l e k piece fed same replies image records told steps = record {
-  same = same;
-  goes = λ d0 n0 past leads tells. went_call history (Feed l.id.number piece fed) d0 n0 past d n e l.id.number k refl refl leads steps tells.standing (record {
-    standing = tells.standing;
-    speaks = subst (λ t. Speaks t k.replies (after_call (Feed l.id.number piece fed) (life_of l.id.number past))) (sym told)
-        (subst (λ r. Speaks (has_read piece (history l.conn)) r (after_call (Feed l.id.number piece fed) (life_of l.id.number past))) (sym replies)
-        (hears (history l.conn) piece l.replies (life_of l.id.number past) tells.speaks));
-    shows = subst (λ i. ShowsIn history i k.records (after_call (Feed l.id.number piece fed) (life_of l.id.number past))) (sym image)
-        (subst (λ r. ShowsIn history l.image r (after_call (Feed l.id.number piece fed) (life_of l.id.number past))) (sym records)
-        (moves_image history l.image l.records (life_of l.id.number past) (after_call (Feed l.id.number piece fed) (life_of l.id.number past)) refl refl tells.shows));
-  });
-}
-
--- nothing was done
-pub goes_same : {C : Type 0} (history : C → Option Talk) (d : Core) (n : Option Ledger) (l k : Link C) → k.id ≡ l.id → k.replies ≡ l.replies → k.image ≡ l.image → k.records ≡ l.records → history k.conn ≡ history l.conn → Goes history d n l d n k
-goes_same history d n l k same replies image records told = record {
-  same = same;
-  goes = λ d0 n0 past leads tells. record {
-    story = past;
-    more = ([], refl);
-    leads = leads;
-    tells = record {
-      standing = tells.standing;
-      speaks = subst (λ t. Speaks t k.replies (life_of l.id.number past)) (sym told) (subst (λ r. Speaks (history l.conn) r (life_of l.id.number past)) (sym replies) tells.speaks);
-      shows = subst (λ i. ShowsIn history i k.records (life_of l.id.number past)) (sym image) (subst (λ r. ShowsIn history l.image r (life_of l.id.number past)) (sym records) tells.shows);
-    };
-    others = λ j off. refl;
-    left = refl;
-  };
-}
-
--- a piece of what waits was written
-pub goes_writes : {C : Type 0} (history : C → Option Talk) (d : Core) (n : Option Ledger) (l k : Link C) (got : Got) → k.id ≡ l.id → k.replies ≡ drop (moved got) l.replies → k.image ≡ l.image → k.records ≡ l.records → history k.conn ≡ after_write got l.replies (history l.conn) → Goes history d n l d n k
-goes_writes history d n l k got same replies image records told = record {
-  same = same;
-  goes = λ d0 n0 past leads tells. record {
-    story = past;
-    more = ([], refl);
-    leads = leads;
-    tells = record {
-      standing = tells.standing;
-      speaks = subst (λ t. Speaks t k.replies (life_of l.id.number past)) (sym told) (subst (λ r. Speaks (after_write got l.replies (history l.conn)) r (life_of l.id.number past)) (sym replies) (writes got (history l.conn) l.replies (life_of l.id.number past) tells.speaks));
-      shows = subst (λ i. ShowsIn history i k.records (life_of l.id.number past)) (sym image) (subst (λ r. ShowsIn history l.image r (life_of l.id.number past)) (sym records) tells.shows);
-    };
-    others = λ j off. refl;
-    left = refl;
-  };
-}
-  where
-    writes_some : (n : ℕ) (talk : Option Talk) (replies : List ℕ) (life : Life) → Speaks talk replies life → Speaks (has_written (take n replies) talk) (drop n replies) life
-    writes_some n None replies life speaks = tt
-    writes_some n (Some t) replies life speaks = (speaks.0, append_assoc t.written (take n replies) (drop n replies) ∙ ap (λ xs. t.written ++ xs) (take-append-drop n replies) ∙ speaks.1)
-
-    writes : (got : Got) (talk : Option Talk) (replies : List ℕ) (life : Life) → Speaks talk replies life → Speaks (after_write got replies talk) (drop (moved got) replies) life
-    writes (Moved n) talk replies life speaks = writes_some n talk replies life speaks
-    writes Nothing talk replies life speaks = speaks
-    writes Lost talk replies life speaks = speaks
-
--- replies were taken where none waited
-pub goes_takes : {C : Type 0} (history : C → Option Talk) (d : Core) (n : Option Ledger) (l : Link C) (e : Core) (k : Link C) (room : ℕ) → l.replies ≡ [] → k.id ≡ l.id → k.image ≡ l.image → k.records ≡ l.records → history k.conn ≡ history l.conn → Steps d (Take l.id.number room k.replies) e → Goes history d n l e n k
-goes_takes history d n l e k room none same image records told steps = record {
-  same = same;
-  goes = λ d0 n0 past leads tells. went_call history (Take l.id.number room k.replies) d0 n0 past d n e l.id.number k refl refl leads steps tells.standing (record {
-    standing = tells.standing;
-    speaks = subst (λ t. Speaks t k.replies (after_call (Take l.id.number room k.replies) (life_of l.id.number past))) (sym told)
-        (takes (history l.conn) l.replies k.replies (life_of l.id.number past) none tells.speaks);
-    shows = subst (λ i. ShowsIn history i k.records (after_call (Take l.id.number room k.replies) (life_of l.id.number past))) (sym image)
-        (subst (λ r. ShowsIn history l.image r (after_call (Take l.id.number room k.replies) (life_of l.id.number past))) (sym records)
-        (moves_image history l.image l.records (life_of l.id.number past) (after_call (Take l.id.number room k.replies) (life_of l.id.number past)) refl refl tells.shows));
-  });
-}
-  where
-    takes : (talk : Option Talk) (before replies : List ℕ) (life : Life) → before ≡ [] → Speaks talk before life → Speaks talk replies (record life { said = life.said ++ replies })
-    takes None before replies life none speaks = tt
-    takes (Some t) before replies life none speaks = (speaks.0, ap (λ xs. xs ++ replies) (sym (append_none t.written before none) ∙ speaks.1))
-      where
-        append_none : (xs ys : List ℕ) → ys ≡ [] → xs ++ ys ≡ xs
-        append_none xs ys e = ap (λ zs. xs ++ zs) e ∙ append-nil xs
-
--- one after the other
-pub goes_then : {C : Type 0} {history : C → Option Talk} {d : Core} {n : Option Ledger} {l : Link C} {e : Core} {m : Option Ledger} {k : Link C} {f : Core} {o : Option Ledger} {j : Link C} → Goes history d n l e m k → Goes history e m k f o j → Goes history d n l f o j
-goes_then {C} {history} {d} {n} {l} {e} {m} {k} {f} {o} {j} a b = record {
-  same = b.same ∙ a.same;
-  goes = λ d0 n0 past leads tells.
-      let w = a.goes d0 n0 past leads tells in
-      let tells_k = subst (λ id. Tells history (life_of id.number w.story) k) (sym a.same) w.tells in
-      went_after history d0 n0 past l.id.number k.id.number f o j (ap (λ id. id.number) a.same) w.story w.more w.others w.left (b.goes d0 n0 w.story w.leads tells_k);
-}
-  where
-    went_after : {C : Type 0} (history : C → Option Talk) (d0 : Core) (n0 : Option Ledger) (past : List Deed) (id other : ℕ) (f : Core) (o : Option Ledger) (j : Link C) → other ≡ id → (mid : List Deed) → Extends past mid → ((i : ℕ) → i ≢ id → life_of i mid ≡ life_of i past) → left_in mid ≡ left_in past → Went history d0 n0 mid other f o j → Went history d0 n0 past id f o j
-    went_after history d0 n0 past id other f o j same mid more first count w = record {
-      story = w.story;
-      more = extends_then past mid w.story more w.more;
-      leads = w.leads;
-      tells = subst (λ i. Tells history (life_of i w.story) j) same w.tells;
-      others = λ i off. w.others i (λ e. off (e ∙ same)) ∙ first i off;
-      left = w.left ∙ count;
-    }
-
--- a deed that is no call
-abbrev pub is_call : Deed → Bool
-is_call (Makes call) = true
-is_call (Refuses talk) = false
-is_call (Leaves number talk) = false
-is_call (HangsUp number talk) = false
-
-never_lived : (life : Life) → life ≡ no_life → life.standing ≡ true → ⊥
-never_lived life none standing = let wrong : true ≡ false = sym standing ∙ ap (λ l. l.standing) none in cc
-
-never_imaged : (life : Life) → life ≡ no_life → life.imaging ≡ true → ⊥
-never_imaged life none imaging = let wrong : true ≡ false = sym imaging ∙ ap (λ l. l.imaging) none in cc
-
-unused_leaves : (number : ℕ) (talk : Option Talk) (past : List Deed) (id : ℕ) (v : Bool) → eqb number id ≡ v → (life_of number past).standing ≡ true → life_of id past ≡ no_life → life_of id (Leaves number talk ∷ past) ≡ no_life
-unused_leaves number talk past id false e standing none = life_off id (Leaves number talk) past e ∙ none
-unused_leaves number talk past id true e standing none = absurd (never_lived (life_of id past) none (subst (λ j. (life_of j past).standing ≡ true) (eqb-true number id e) standing))
-
-unused_hangs_up : (number : ℕ) (talk : Option Talk) (past : List Deed) (id : ℕ) (v : Bool) → eqb number id ≡ v → (life_of number past).imaging ≡ true → life_of id past ≡ no_life → life_of id (HangsUp number talk ∷ past) ≡ no_life
-unused_hangs_up number talk past id false e imaging none = life_off id (HangsUp number talk) past e ∙ none
-unused_hangs_up number talk past id true e imaging none = absurd (never_imaged (life_of id past) none (subst (λ j. (life_of j past).imaging ≡ true) (eqb-true number id e) imaging))
-
-unused_deed : (deed : Deed) (past : List Deed) (id : ℕ) → is_call deed ≡ false → May deed past → life_of id past ≡ no_life → life_of id (deed ∷ past) ≡ no_life
-unused_deed (Makes call) past id c may none = cc
-unused_deed (Refuses talk) past id c may none = life_off id (Refuses talk) past refl ∙ none
-unused_deed (Leaves number talk) past id c may none = unused_leaves number talk past id (eqb number id) refl may.0 none
-unused_deed (HangsUp number talk) past id c may none = unused_hangs_up number talk past id (eqb number id) refl may.0 none
-
-calls_same : (deed : Deed) (past : List Deed) → is_call deed ≡ false → calls_of (deed ∷ past) ≡ calls_of past
-calls_same (Makes call) past c = cc
-calls_same (Refuses talk) past c = refl
-calls_same (Leaves number talk) past c = refl
-calls_same (HangsUp number talk) past c = refl
-
-pub leads_deed : (deed : Deed) (d0 : Core) (n0 : Option Ledger) (past : List Deed) (d : Core) (n : Option Ledger) → is_call deed ≡ false → Leads d0 n0 past d n → May deed past → Leads d0 n0 (deed ∷ past) d (noted deed n)
-leads_deed deed d0 n0 past d n c leads may = record {
-  legal = (leads.legal, may);
-  run = subst (λ calls. Runs d0 calls d) (sym (calls_same deed past c)) leads.run;
-  net = ap (noted deed) leads.net;
-  unused = λ id h. unused_deed deed past id c may (leads.unused id h);
-}
-
-shows_front : (talk : Option Talk) (records : List ℕ) (life : Life) → Shows talk records life → Showed talk life
-shows_front None records life shows = tt
-shows_front (Some t) records life shows = (shows.0, (records, sym shows.1))
-
-speaks_on : (talk : Option Talk) (replies : List ℕ) (a b : Life) → b.heard ≡ a.heard → b.said ≡ a.said → Speaks talk replies a → Speaks talk replies b
-speaks_on None replies a b e f speaks = tt
-speaks_on (Some t) replies a b e f speaks = (speaks.0 ∙ sym e, speaks.1 ∙ sym f)
-
--- the data connection, where there is one, is handed back, and that alone
-hangs_up : {C : Type 0} (history : C → Option Talk) (d : Core) (n : Option Ledger) (l : Link C) (i : Option C) → l.image ≡ i → (d0 : Core) (n0 : Option Ledger) (past : List Deed) → Leads d0 n0 past d n → Tells history (life_of l.id.number past) l
-    → (w : Went history d0 n0 past l.id.number d (hung_up history i n) (record l { image = None })) × Closing past w.story
-hangs_up history d n l None was d0 n0 past leads tells = (
+pub trail_begin : (d0 : Core) (n0 : Option Ledger) (past : List Deed) (d : Core) (n : Option Ledger) (id : ℕ) → Leads d0 n0 past d n → (t : Trail d0 n0 past id 0 false d n (life_of id past)) × (t.story ≡ past)
+trail_begin d0 n0 past d n id leads = (
   record {
     story = past;
     more = ([], refl);
     leads = leads;
-    tells = record { standing = tells.standing; speaks = tells.speaks; shows = subst (λ i. ShowsIn history i l.records (life_of l.id.number past)) was tells.shows };
+    at = refl;
     others = λ j off. refl;
-    left = refl;
+    tally = counted_none (tally_of past);
+    stopped = refl;
   },
-  ([], tt, refl),
+  refl,
 )
-hangs_up history d n l (Some conn) was d0 n0 past leads tells =
-    let life = life_of l.id.number past in
-    let deed = HangsUp l.id.number (history conn) in
-    let had = subst (λ i. ShowsIn history i l.records life) was tells.shows in
-    let at = life_at l.id.number deed past (eq-eqb l.id.number l.id.number refl) in (
+
+pub trail : (d0 : Core) (n0 : Option Ledger) (past : List Deed) (d : Core) (n : Option Ledger) (id : ℕ) → Leads d0 n0 past d n → Trail d0 n0 past id 0 false d n (life_of id past)
+trail d0 n0 past d n id leads = (trail_begin d0 n0 past d n id leads).0
+
+pub trail_next : {d0 : Core} {n0 : Option Ledger} {past : List Deed} {id left : ℕ} {stir : Bool} {e : Core} {m : Option Ledger} {life : Life} → (t : Trail d0 n0 past id left stir e m life)
+    → (act : Act) (f : Core) → opens act ≡ false → Does id e act f → MayDo act life (has_stopped past) → (u : Trail d0 n0 past id (left + leaves act) (stir || moves act) f (noted_act act m) (after_act act life)) × (u.story ≡ Of id act ∷ t.story)
+trail_next {d0} {n0} {past} {id} {left} {stir} {e} {m} {life} t act f plain does may =
+    let may1 = subst (λ v. MayDo act life v) (sym t.stopped) may in
+    let may2 = subst (λ v. MayDo act v (has_stopped t.story)) (sym t.at) may1 in (
       record {
-        story = deed ∷ past;
-        more = (deed ∷ [], refl);
-        leads = leads_deed deed d0 n0 past d n refl leads (had.0, shows_front (history conn) l.records life had.1);
-        tells = subst (λ v. Tells history v (record l { image = None })) (sym at) (record {
-          standing = tells.standing;
-          speaks = speaks_on (history l.conn) l.replies life (after_deed deed life) refl refl tells.speaks;
-          shows = refl;
-        });
-        others = λ j off. life_off j deed past (eqb_off l.id.number j (λ e. off (sym e)));
-        left = refl;
+        story = Of id act ∷ t.story;
+        more = (Of id act ∷ t.more.0, ap (λ xs. Of id act ∷ xs) t.more.1);
+        leads = leads_act act d0 n0 t.story e m f id plain t.leads does may2;
+        at = life_at id (Of id act) t.story (eq-eqb id id refl) ∙ ap (after_act act) t.at;
+        others = λ j off. life_off j (Of id act) t.story (eqb_off id j (λ same. off (sym same))) ∙ t.others j off;
+        tally = ap (after_tally (Of id act)) t.tally ∙ counted_then left (leaves act) stir (moves act) (tally_of past);
+        stopped = t.stopped;
       },
-      (deed ∷ [], (tt, tt), refl),
+      refl,
     )
 
-pub goes_hung : {C : Type 0} (history : C → Option Talk) (d : Core) (n : Option Ledger) (l : Link C) (m : Option Ledger) (k : Link C) → k ≡ record l { image = None } → m ≡ hung_up history l.image n → Goes history d n l d m k
-goes_hung history d n l m k same net =
-    subst (λ o. Goes history d n l d o k) (sym net) (subst (λ x. Goes history d n l d (hung_up history l.image n) x) (sym same) (record {
-      same = refl;
-      goes = λ d0 n0 past leads tells. (hangs_up history d n l l.image refl d0 n0 past leads tells).0;
-    }))
+pub trail_on : {d0 : Core} {n0 : Option Ledger} {past : List Deed} {id left : ℕ} {stir : Bool} {e : Core} {m : Option Ledger} {life : Life} → Trail d0 n0 past id left stir e m life
+    → (act : Act) (f : Core) → opens act ≡ false → Does id e act f → MayDo act life (has_stopped past) → Trail d0 n0 past id (left + leaves act) (stir || moves act) f (noted_act act m) (after_act act life)
+trail_on t act f plain does may = (trail_next t act f plain does may).0
 
--- a connection that is not wanted is handed back
-pub goes_refuses : {C : Type 0} (history : C → Option Talk) (d : Core) (n : Option Ledger) (l : Link C) (m : Option Ledger) (conn : C) → IsFresh (history conn) → m ≡ after_close (history conn) (counted n) → Goes history d n l d m l
-goes_refuses history d n l m conn fresh net = record {
+went : {C : Type 0} {history : C → Option Talk} {d0 : Core} {n0 : Option Ledger} {past : List Deed} {id : ℕ} {stir : Bool} {e : Core} {m : Option Ledger} {life : Life} (to : Phase) (k : Link C) → Trail d0 n0 past id 0 stir e m life → Tells history to life k → Went history to d0 n0 past id stir e m k
+went {C} {history} to k t tells = record {
+  story = t.story;
+  more = t.more;
+  leads = t.leads;
+  tells = subst (λ v. Tells history to v k) (sym t.at) tells;
+  others = t.others;
+  tally = t.tally;
+  stopped = t.stopped;
+}
+
+-- ---- what connections tell
+
+told_read : (got : Got) (buf : List ℕ) (talk after : Option Talk) (calls : Talk) → after ≡ after_read got buf talk → IsTold talk calls → IsTold after (Read got (take (moved got) buf) ∷ calls)
+told_read got buf None after calls e told = subst (λ t. IsTold t (Read got (take (moved got) buf) ∷ calls)) (sym e) tt
+told_read got buf (Some talk) after calls e told = subst (λ t. IsTold t (Read got (take (moved got) buf) ∷ calls)) (sym e) (ap (λ cs. Read got (take (moved got) buf) ∷ cs) told)
+
+told_write : (got : Got) (buf : List ℕ) (talk after : Option Talk) (calls : Talk) → after ≡ after_write got buf talk → IsTold talk calls → IsTold after (Write got buf ∷ calls)
+told_write got buf None after calls e told = subst (λ t. IsTold t (Write got buf ∷ calls)) (sym e) tt
+told_write got buf (Some talk) after calls e told = subst (λ t. IsTold t (Write got buf ∷ calls)) (sym e) (ap (λ cs. Write got buf ∷ cs) told)
+
+-- what waits goes on behind what was taken
+rest_after : (xs rest said : List ℕ) (n : ℕ) → xs ++ rest ≡ said → (xs ++ take n rest) ++ drop n rest ≡ said
+rest_after xs rest said n e = append_assoc xs (take n rest) (drop n rest) ∙ ap (λ ys. xs ++ ys) (take-append-drop n rest) ∙ e
+
+-- where nothing waits, all was taken
+all_taken : (xs rest said : List ℕ) → rest ≡ [] → xs ++ rest ≡ said → xs ≡ said
+all_taken xs rest said none e = sym (append-nil xs) ∙ ap (λ ys. xs ++ ys) (sym none) ∙ e
+
+abbrev behind : List ℕ → List ℕ
+behind [] = []
+behind (x ∷ xs) = xs
+
+append_self : (xs rest : List ℕ) → xs ++ rest ≡ xs → rest ≡ []
+append_self [] rest e = e
+append_self (x ∷ xs) rest e = append_self xs rest (ap behind e)
+
+pub append_front : (xs rest said : List ℕ) → xs ++ rest ≡ said → xs ≡ said → rest ≡ []
+append_front xs rest said e all = append_self xs rest (e ∙ sym all)
+
+none_on : (xs ys said : List ℕ) → xs ≡ said → xs ++ ys ≡ said ++ ys
+none_on xs ys said e = ap (λ zs. zs ++ ys) e
+
+some_left : (bytes : List ℕ) → bytes ≢ [] → no_bytes bytes ≡ false
+some_left [] some = absurd (some refl)
+some_left (b ∷ bytes) some = refl
+
+-- a data connection is not touched
+carries_on : {C : Type 0} (history : C → Option Talk) (image : Option C) (last : Bool) (records : List ℕ) (a b : Life) → b.imaging ≡ a.imaging → b.image ≡ a.image → b.shown ≡ a.shown → b.last ≡ a.last → CarriesIn history image last records a → CarriesIn history image last records b
+carries_on history None last records a b imaging image shown ended carries = imaging ∙ carries
+carries_on history (Some conn) last records a b imaging image shown ended carries = record {
+  imaging = imaging ∙ carries.imaging;
+  told = subst (λ t. IsTold (history conn) t) (sym image) carries.told;
+  shown = ap (λ t. taken_in t ++ records) image ∙ carries.shown ∙ sym shown;
+  last = carries.last ∙ sym ended;
+  more = carries.more;
+  held = ap lost_in image ∙ carries.held;
+}
+
+-- the same link is in another phase
+pub tells_at : {C : Type 0} {history : C → Option Talk} {from to : Phase} {life : Life} {l : Link C} → Tells history from life l → IsAt to life l → Tells history to life l
+tells_at tells at = record {
+  standing = tells.standing;
+  port = tells.port;
+  over = tells.over;
+  told = tells.told;
+  heard = tells.heard;
+  said = tells.said;
+  waits = tells.waits;
+  quiet = tells.quiet;
+  held = tells.held;
+  carries = tells.carries;
+  at = at;
+}
+
+-- ---- nothing is done
+
+goes_rests : {C : Type 0} (history : C → Option Talk) (from to : Phase) (d : Core) (n : Option Ledger) (l k : Link C) → k.id ≡ l.id → ((life : Life) → Tells history from life l → Tells history to life k) → Goes history from to d n l false d n k
+goes_rests history from to d n l k same tells = record {
+  same = same;
+  goes = λ d0 n0 past leads was. went to k (trail d0 n0 past d n l.id.number leads) (tells (life_of l.id.number past) was);
+}
+
+pub goes_same : {C : Type 0} (history : C → Option Talk) (phase : Phase) (d : Core) (n : Option Ledger) (l : Link C) → Goes history phase phase d n l false d n l
+goes_same history phase d n l = goes_rests history phase phase d n l l refl (λ life tells. tells)
+
+-- replies wait
+pub goes_fresh : {C : Type 0} (history : C → Option Talk) (d : Core) (n : Option Ledger) (l : Link C) → l.replies ≢ [] → Goes history Fresh Filled d n l false d n l
+goes_fresh history d n l some = goes_rests history Fresh Filled d n l l refl (λ life tells. tells_at tells (tells.at, λ none. absurd (some none)))
+
+pub goes_waits : {C : Type 0} (history : C → Option Talk) (d : Core) (n : Option Ledger) (l : Link C) → l.replies ≢ [] → Goes history Filled Heard d n l false d n l
+goes_waits history d n l some = goes_rests history Filled Heard d n l l refl (λ life tells. tells_at tells ((λ done. absurd (not_both done tells.at.0)), inr some))
+
+pub goes_ready : {C : Type 0} (history : C → Option Talk) (d : Core) (n : Option Ledger) (l : Link C) → l.replies ≢ [] → Goes history Heard Ready d n l false d n l
+goes_ready history d n l some = goes_rests history Heard Ready d n l l refl (λ life tells. tells_at tells (tells.at.0, tells.at.1, λ none. absurd (some none)))
+
+-- ---- the control connection
+
+may_hear : {C : Type 0} (history : C → Option Talk) (life : Life) (l : Link C) (got : Got) (bytes : List ℕ) (stopped : Bool) → l.replies ≡ [] → Tells history Filled life l → MayDo (Hears got bytes) life stopped
+may_hear history life l got bytes stopped none tells = (tells.standing, tells.at.1 none, all_taken (taken_in life.control) l.replies life.said none tells.said, tells.heard)
+
+-- what was read is fed
+heard_some : {C : Type 0} (history : C → Option Talk) (life : Life) (l : Link C) (c : C) (over : Bool) (count : ℕ) (buf : List ℕ) (fed : Fed) → history c ≡ after_read (Moved count) buf (history l.conn) → over ≡ (l.is_over || is_over fed)
+    → Tells history Filled life l → Tells history Heard (after_act (Feed (take count buf) fed false) (after_act (Hears (Moved count) (take count buf)) life)) (record l { conn = c; is_over = over })
+heard_some history life l c over count buf fed told was tells =
+    let piece = take count buf in
+    record {
+      standing = tells.standing;
+      port = tells.port;
+      over = was ∙ ap (λ b. b || is_over fed) tells.over;
+      told = told_read (Moved count) buf (history l.conn) (history c) life.control told tells.told;
+      heard = none_on (read_in life.control) piece life.heard tells.heard;
+      said = tells.said;
+      waits = λ some. refl;
+      quiet = refl;
+      held = λ alive. or_from (lost_in life.control) false (tells.held alive) refl;
+      carries = carries_on history l.image l.is_last l.records life (after_act (Feed piece fed false) (after_act (Hears (Moved count) piece) life)) refl refl refl refl tells.carries;
+      at = ((λ done. absurd (not_both done tells.at.0)), inl refl);
+    }
+
+-- and where a frame begins with that, the port is cleared
+fed_on : {C : Type 0} (history : C → Option Talk) {d0 : Core} {n0 : Option Ledger} {past : List Deed} {id : ℕ} {d : Core} {n : Option Ledger} {life : Life} (port : ℕ) (k : Link C) (piece : List ℕ) (fed : Fed) (begins : Bool) (e : Core) (m : Option Ledger)
+    → Trail d0 n0 past id 0 true d n life → life.standing ≡ true → life.heard ++ piece ≡ read_in life.control → port ≡ life.port → Does id d (Feed piece fed begins) e → m ≡ forgotten begins port n
+    → Tells history Heard (after_act (Feed piece fed false) life) k → Went history Heard d0 n0 past id true e m k
+fed_on history {d0} {n0} {past} {id} {d} {n} {life} port k piece fed false e m t standing all at does net tells =
+    let first = trail_on t (Feed piece fed false) e refl does (standing, all) in
+    subst (λ o. Went history Heard d0 n0 past id true e o k) (sym net) (went Heard k first tells)
+fed_on history {d0} {n0} {past} {id} {d} {n} {life} port k piece fed true e m t standing all at does net tells =
+    let first = trail_on t (Feed piece fed true) e refl does (standing, all) in
+    let then = trail_on first (Forgets port) e refl refl (standing, refl, at) in
+    subst (λ o. Went history Heard d0 n0 past id true e o k) (sym net) (went Heard k then tells)
+
+pub goes_hears : {C : Type 0} (history : C → Option Talk) (d : Core) (n : Option Ledger) (l k : Link C) (e : Core) (m : Option Ledger) (c : C) (count : ℕ) (buf : List ℕ)
+    → l.replies ≡ [] → history c ≡ after_read (Moved count) buf (history l.conn) → k ≡ record l { conn = c; is_over = k.is_over } → Attends l.id.number l.port (take count buf) d n l.is_over k.is_over e m
+    → Goes history Filled Heard d n l true e m k
+goes_hears history d n l k e m c count buf none told same attends = record {
+  same = ap (λ x. x.id) same;
+  goes = λ d0 n0 past leads tells.
+      let life = life_of l.id.number past in
+      let piece = take count buf in
+      let first = trail_on (trail d0 n0 past d n l.id.number leads) (Hears (Moved count) piece) d refl refl (may_hear history life l (Moved count) piece (has_stopped past) none tells) in
+      let now = heard_some history life l c k.is_over count buf attends.fed told attends.is tells in
+      let fed = after_act (Feed piece attends.fed false) (after_act (Hears (Moved count) piece) life) in
+      fed_on history l.port k piece attends.fed attends.begins e m first tells.standing (none_on life.heard piece (read_in life.control) (sym tells.heard)) tells.port attends.does attends.net
+      (subst (λ x. Tells history Heard fed x) (sym same) now);
+}
+
+-- a read that brings nothing
+heard_none : {C : Type 0} (history : C → Option Talk) (got : Got) (buf : List ℕ) (life : Life) (l : Link C) (c : C) (done : Bool) → take (moved got) buf ≡ [] → history c ≡ after_read got buf (history l.conn) → Tells history Filled life l
+    → (done ≡ false → lost_in (Read got (take (moved got) buf) ∷ life.control) ≡ false) → (done ≡ true → lost_in (Read got (take (moved got) buf) ∷ life.control) ≡ true)
+    → Tells history Heard (after_act (Hears got (take (moved got) buf)) life) (record l { conn = c; is_done = done })
+heard_none history got buf life l c done none told tells alive lost = record {
+  standing = tells.standing;
+  port = tells.port;
+  over = tells.over;
+  told = told_read got buf (history l.conn) (history c) life.control told tells.told;
+  heard = ap (λ xs. read_in life.control ++ xs) none ∙ append-nil (read_in life.control) ∙ tells.heard;
+  said = tells.said;
+  waits = tells.waits;
+  quiet = tells.quiet;
+  held = alive;
+  carries = carries_on history l.image l.is_last l.records life (after_act (Hears got (take (moved got) buf)) life) refl refl refl refl tells.carries;
+  at = (lost, inl refl);
+}
+
+pub goes_silent : {C : Type 0} (history : C → Option Talk) (d : Core) (n : Option Ledger) (l : Link C) (c : C) (buf : List ℕ) → l.replies ≡ [] → history c ≡ after_read Nothing buf (history l.conn) → Goes history Filled Heard d n l false d n (record l { conn = c })
+goes_silent history d n l c buf none told = record {
   same = refl;
   goes = λ d0 n0 past leads tells.
-      let deed = Refuses (history conn) in
-      record {
-        story = deed ∷ past;
-        more = (deed ∷ [], refl);
-        leads = subst (λ o. Leads d0 n0 (deed ∷ past) d o) (sym net) (leads_deed deed d0 n0 past d n refl leads fresh);
-        tells = subst (λ v. Tells history v l) (sym (life_off l.id.number deed past refl)) tells;
-        others = λ j off. life_off j deed past refl;
-        left = refl;
-      };
+      let life = life_of l.id.number past in
+      let first = trail_on (trail d0 n0 past d n l.id.number leads) (Hears Nothing (take 0 buf)) d refl refl (may_hear history life l Nothing (take 0 buf) (has_stopped past) none tells) in
+      went Heard (record l { conn = c }) first
+      (heard_none history Nothing buf life l c l.is_done refl told tells (λ alive. or_from (lost_in life.control) false (tells.held alive) refl) (λ done. absurd (not_both done tells.at.0)));
 }
 
-fresh_shows : (talk : Option Talk) (records : List ℕ) (life : Life) → IsFresh talk → records ≡ [] → life.shown ≡ [] → Shows talk records life
-fresh_shows None records life fresh none shown = tt
-fresh_shows (Some t) records life fresh none shown = (fresh.0, ap (λ xs. xs ++ records) fresh.1 ∙ (none ∙ sym shown))
-
--- a frame's data connection came
-pub goes_dials : {C : Type 0} (history : C → Option Talk) (d : Core) (n : Option Ledger) (l : Link C) (e : Core) (m : Option Ledger) (k : Link C) (conn : C) → l.image ≡ None → k.image ≡ Some conn → k.records ≡ [] → k.id ≡ l.id → k.replies ≡ l.replies → history k.conn ≡ history l.conn → IsFresh (history conn) → Steps d (Connect l.id.number) e → m ≡ counted n → Goes history d n l e m k
-goes_dials history d n l e m k conn was now none same replies told fresh steps net = record {
-  same = same;
+pub goes_cut : {C : Type 0} (history : C → Option Talk) (d : Core) (n : Option Ledger) (l : Link C) (c : C) (buf : List ℕ) → l.replies ≡ [] → history c ≡ after_read Lost buf (history l.conn) → Goes history Filled Heard d n l true d n (record l { conn = c; is_done = true })
+goes_cut history d n l c buf none told = record {
+  same = refl;
   goes = λ d0 n0 past leads tells.
       let life = life_of l.id.number past in
-      let call = Connect l.id.number in
-      let had = subst (λ i. ShowsIn history i l.records life) was tells.shows in
-      subst (λ o. Went history d0 n0 past l.id.number e o k) (sym net)
-      (went_call history call d0 n0 past d n e l.id.number k refl refl leads steps (tells.standing, had) (record {
-        standing = tells.standing;
-        speaks = subst (λ t. Speaks t k.replies (after_call call life)) (sym told)
-            (subst (λ r. Speaks (history l.conn) r (after_call call life)) (sym replies)
-            (speaks_on (history l.conn) l.replies life (after_call call life) refl refl tells.speaks));
-        shows = subst (λ i. ShowsIn history i k.records (after_call call life)) (sym now)
-            (refl, fresh_shows (history conn) k.records (after_call call life) fresh none refl);
-      }));
+      let first = trail_on (trail d0 n0 past d n l.id.number leads) (Hears Lost (take 0 buf)) d refl refl (may_hear history life l Lost (take 0 buf) (has_stopped past) none tells) in
+      went Heard (record l { conn = c; is_done = true }) first
+      (heard_none history Lost buf life l c true refl told tells (λ alive. absurd (let wrong : true ≡ false = alive in cc)) (λ done. or_right (lost_in life.control) true refl));
 }
-  where
-    speaks_on : (talk : Option Talk) (replies : List ℕ) (a b : Life) → b.heard ≡ a.heard → b.said ≡ a.said → Speaks talk replies a → Speaks talk replies b
-    speaks_on None replies a b e f speaks = tt
-    speaks_on (Some t) replies a b e f speaks = (speaks.0 ∙ sym e, speaks.1 ∙ sym f)
 
--- a record was taken where none waited
-pub goes_turns : {C : Type 0} (history : C → Option Talk) (d : Core) (n : Option Ledger) (l : Link C) (e : Core) (k : Link C) (step : DataStep) (conn : C) → l.image ≡ Some conn → l.records ≡ [] → k.image ≡ l.image → k.id ≡ l.id → k.replies ≡ l.replies → history k.conn ≡ history l.conn → Steps d (Turn l.id.number step k.records) e → Goes history d n l e n k
-goes_turns history d n l e k step conn was none image same replies told steps = record {
-  same = same;
+-- replies are asked for where none waited
+goes_takes : {C : Type 0} (history : C → Option Talk) (from to : Phase) (d : Core) (n : Option Ledger) (l : Link C) (e : Core) (replies : List ℕ) → l.replies ≡ [] → Does l.id.number d (Take 4096 replies) e
+    → ((life : Life) → IsAt from life l → IsAt to (after_act (Take 4096 replies) life) (record l { replies = replies }))
+    → Goes history from to d n l false e n (record l { replies = replies })
+goes_takes history from to d n l e replies none does at = record {
+  same = refl;
   goes = λ d0 n0 past leads tells.
       let life = life_of l.id.number past in
-      let call = Turn l.id.number step k.records in
-      let had = subst (λ i. ShowsIn history i l.records life) was tells.shows in
-      went_call history call d0 n0 past d n e l.id.number k refl refl leads steps (tells.standing, had.0) (record {
+      let all = all_taken (taken_in life.control) l.replies life.said none tells.said in
+      let first = trail_on (trail d0 n0 past d n l.id.number leads) (Take 4096 replies) e refl does (tells.standing, tells.quiet, refl, all) in
+      went to (record l { replies = replies }) first (record {
         standing = tells.standing;
-        speaks = subst (λ t. Speaks t k.replies (after_call call life)) (sym told)
-            (subst (λ r. Speaks (history l.conn) r (after_call call life)) (sym replies)
-            (speaks_on (history l.conn) l.replies life (after_call call life) refl refl tells.speaks));
-        shows = subst (λ i. ShowsIn history i k.records (after_call call life)) (sym (image ∙ was))
-            (had.0, turned (history conn) l.records k.records life none had.1);
+        port = tells.port;
+        over = tells.over;
+        told = tells.told;
+        heard = tells.heard;
+        said = none_on (taken_in life.control) replies life.said all;
+        waits = λ some. some_left replies some;
+        quiet = tells.quiet;
+        held = tells.held;
+        carries = carries_on history l.image l.is_last l.records life (after_act (Take 4096 replies) life) refl refl refl refl tells.carries;
+        at = at life tells.at;
       });
 }
+
+pub goes_fills : {C : Type 0} (history : C → Option Talk) (d : Core) (n : Option Ledger) (l : Link C) (e : Core) (replies : List ℕ) → l.replies ≡ [] → Does l.id.number d (Take 4096 replies) e → Goes history Fresh Filled d n l false e n (record l { replies = replies })
+goes_fills history d n l e replies none does = goes_takes history Fresh Filled d n l e replies none does (λ life at. (at, λ empty. ap no_bytes empty))
+
+pub goes_fills_again : {C : Type 0} (history : C → Option Talk) (d : Core) (n : Option Ledger) (l : Link C) (e : Core) (replies : List ℕ) → l.replies ≡ [] → Does l.id.number d (Take 4096 replies) e → Goes history Heard Ready d n l false e n (record l { replies = replies })
+goes_fills_again history d n l e replies none does =
+    goes_takes history Heard Ready d n l e replies none does (λ life at. (at.0, inl (visited life at.1), λ empty. ap no_bytes empty))
   where
-    speaks_on : (talk : Option Talk) (replies : List ℕ) (a b : Life) → b.heard ≡ a.heard → b.said ≡ a.said → Speaks talk replies a → Speaks talk replies b
-    speaks_on None replies a b e f speaks = tt
-    speaks_on (Some t) replies a b e f speaks = (speaks.0 ∙ sym e, speaks.1 ∙ sym f)
+    visited : (life : Life) → (life.visited ≡ true) ⊎ (l.replies ≢ []) → life.visited ≡ true
+    visited life (inl seen) = seen
+    visited life (inr some) = absurd (some none)
 
-    turned : (talk : Option Talk) (before records : List ℕ) (life : Life) → before ≡ [] → Shows talk before life → Shows talk records (record life { shown = life.shown ++ records })
-    turned None before records life none shows = tt
-    turned (Some t) before records life none shows = (shows.0, ap (λ xs. xs ++ records) (sym (ap (λ zs. t.written ++ zs) none ∙ append-nil t.written) ∙ shows.1))
+-- no replies wait: a session that is over is done
+pub goes_finishes : {C : Type 0} (history : C → Option Talk) (d : Core) (n : Option Ledger) (l : Link C) → l.replies ≡ [] → Goes history Ready Spoken d n l false d n (record l { is_done = l.is_done || l.is_over })
+goes_finishes {C} history d n l none = goes_rests history Ready Spoken d n l (record l { is_done = l.is_done || l.is_over }) refl (λ life tells. finished life tells)
+  where
+    visited : (life : Life) → (life.visited ≡ true) ⊎ (l.replies ≢ []) → life.visited ≡ true
+    visited life (inl seen) = seen
+    visited life (inr some) = absurd (some none)
 
--- the daemon was told that the data connection is lost
-pub goes_drops : {C : Type 0} (history : C → Option Talk) (d : Core) (n : Option Ledger) (l : Link C) (e : Core) → Steps d (Lose l.id.number) e → Goes history d n l e n l
-goes_drops history d n l e steps = record {
+    why : (life : Life) → Tells history Ready life l → (done over : Bool) → l.is_done ≡ done → l.is_over ≡ over → (done || over) ≡ true → IsDone life
+    why life tells true over d o e = inl (tells.at.0 d)
+    why life tells false true d o e = inr (sym tells.over ∙ o, tells.at.2 none, all_taken (taken_in life.control) l.replies life.said none tells.said)
+    why life tells false false d o e = absurd (let wrong : false ≡ true = e in cc)
+
+    finished : (life : Life) → Tells history Ready life l → Tells history Spoken life (record l { is_done = l.is_done || l.is_over })
+    finished life tells = record {
+      standing = tells.standing;
+      port = tells.port;
+      over = tells.over;
+      told = tells.told;
+      heard = tells.heard;
+      said = tells.said;
+      waits = tells.waits;
+      quiet = tells.quiet;
+      held = λ alive. tells.held (or_false_left l.is_done l.is_over alive);
+      carries = tells.carries;
+      at = (why life tells l.is_done l.is_over refl refl, visited life tells.at.1, λ over. inl (or_right l.is_done l.is_over (tells.over ∙ over)));
+    }
+      where
+        or_false_left : (a b : Bool) → (a || b) ≡ false → a ≡ false
+        or_false_left true b e = e
+        or_false_left false b e = refl
+
+-- a piece of what waits was written
+said_on : {C : Type 0} (history : C → Option Talk) (got : Got) (life : Life) (l : Link C) (c : C) (done : Bool) → l.replies ≢ [] → history c ≡ after_write got l.replies (history l.conn) → Tells history Ready life l
+    → (done ≡ false → lost_in (Write got l.replies ∷ life.control) ≡ false) → (done ≡ true → lost_in (Write got l.replies ∷ life.control) ≡ true)
+    → Tells history Spoken (after_act (Says got l.replies) life) (record l { conn = c; replies = drop (moved got) l.replies; is_done = done })
+said_on history got life l c done some told tells alive lost = record {
+  standing = tells.standing;
+  port = tells.port;
+  over = tells.over;
+  told = told_write got l.replies (history l.conn) (history c) life.control told tells.told;
+  heard = tells.heard;
+  said = rest_after (taken_in life.control) l.replies life.said (moved got) tells.said;
+  waits = λ left. tells.waits some;
+  quiet = tells.quiet;
+  held = alive;
+  carries = carries_on history l.image l.is_last l.records life (after_act (Says got l.replies) life) refl refl refl refl tells.carries;
+  at = ((λ is. inl (lost is)), refl, λ over. inr (tells.waits some));
+}
+
+pub goes_says : {C : Type 0} (history : C → Option Talk) (d : Core) (n : Option Ledger) (l : Link C) (c : C) (count : ℕ) → l.replies ≢ [] → history c ≡ after_write (Moved count) l.replies (history l.conn)
+    → Goes history Ready Spoken d n l true d n (record l { conn = c; replies = drop count l.replies })
+goes_says history d n l c count some told = record {
   same = refl;
-  goes = λ d0 n0 past leads tells. went_call history (Lose l.id.number) d0 n0 past d n e l.id.number l refl refl leads steps tells.standing tells;
-}
-
--- the same, where there is a data connection
-pub goes_records : {C : Type 0} (history : C → Option Talk) (d : Core) (n : Option Ledger) (l : Link C) (e : Core) (k : Link C) (step : DataStep) (i : Option C) → l.image ≡ i → IsSome i → l.records ≡ [] → k.image ≡ l.image → k.id ≡ l.id → k.replies ≡ l.replies → history k.conn ≡ history l.conn → Steps d (Turn l.id.number step k.records) e → Goes history d n l e n k
-goes_records history d n l e k step None was some none image same replies told steps = cc
-goes_records history d n l e k step (Some conn) was some none image same replies told steps =
-    goes_turns history d n l e k step conn was none image same replies told steps
-
-speaks_front : (talk : Option Talk) (replies : List ℕ) (life : Life) → Speaks talk replies life → Spoke talk life
-speaks_front None replies life speaks = tt
-speaks_front (Some t) replies life speaks = (speaks.0, (replies, sym speaks.1))
-
--- the session is ended, and its control connection is handed back
-parts_here : {C : Type 0} (history : C → Option Talk) (d : Core) (n : Option Ledger) (l : Link C) (e : Core) (m : Option Ledger) → l.image ≡ None → Steps d (End l.id.number) e → m ≡ after_close (history l.conn) n → Parts history d n l e m
-parts_here history d n l e m none steps net = record {
   goes = λ d0 n0 past leads tells.
-      let id = l.id.number in
-      let life = life_of id past in
-      let call = End id in
-      let mid = Makes call ∷ past in
-      let deed = Leaves id (history l.conn) in
-      let dark = subst (λ i. ShowsIn history i l.records life) none tells.shows in
-      let at = life_at id (Makes call) past (eq-eqb id id refl) in
-      let at2 = life_at id deed mid (eq-eqb id id refl) in
-      let leads1 = leads_call call d0 n0 past d n e refl leads steps tells.standing in
-      let may = subst (λ v. (v.standing ≡ true) × (v.imaging ≡ false) × (v.ended ≡ true) × Spoke (history l.conn) v) (sym at)
-      (tells.standing, dark, refl, speaks_front (history l.conn) l.replies life tells.speaks) in
-      record {
-        story = deed ∷ mid;
-        closing = (deed ∷ Makes call ∷ [], (tt, (tt, tt)), refl);
-        leads = subst (λ o. Leads d0 n0 (deed ∷ mid) e o) (sym net) (leads_deed deed d0 n0 mid e n refl leads1 may);
-        gone = ap (λ v. v.standing) at2;
-        dark = ap (λ v. v.imaging) at2 ∙ ap (λ v. v.imaging) at ∙ dark;
-        others = λ j off. life_off j deed mid (eqb_off id j (λ e. off (sym e))) ∙ life_off j (Makes call) past (eqb_off id j (λ e. off (sym e)));
-        left = refl;
-      };
+      let life = life_of l.id.number past in
+      let first = trail_on (trail d0 n0 past d n l.id.number leads) (Says (Moved count) l.replies) d refl refl (tells.standing, some, tells.said) in
+      went Spoken (record l { conn = c; replies = drop count l.replies }) first
+      (said_on history (Moved count) life l c l.is_done some told tells (λ alive. or_from (lost_in life.control) false (tells.held alive) refl) (λ done. or_left (lost_in life.control) false (tells.at.0 done)));
 }
+
+pub goes_unsaid : {C : Type 0} (history : C → Option Talk) (d : Core) (n : Option Ledger) (l : Link C) (c : C) → l.replies ≢ [] → history c ≡ after_write Nothing l.replies (history l.conn)
+    → Goes history Ready Spoken d n l false d n (record l { conn = c; replies = drop 0 l.replies })
+goes_unsaid history d n l c some told = record {
+  same = refl;
+  goes = λ d0 n0 past leads tells.
+      let life = life_of l.id.number past in
+      let first = trail_on (trail d0 n0 past d n l.id.number leads) (Says Nothing l.replies) d refl refl (tells.standing, some, tells.said) in
+      went Spoken (record l { conn = c; replies = drop 0 l.replies }) first
+      (said_on history Nothing life l c l.is_done some told tells (λ alive. or_from (lost_in life.control) false (tells.held alive) refl) (λ done. or_left (lost_in life.control) false (tells.at.0 done)));
+}
+
+pub goes_dies : {C : Type 0} (history : C → Option Talk) (d : Core) (n : Option Ledger) (l : Link C) (c : C) → l.replies ≢ [] → history c ≡ after_write Lost l.replies (history l.conn)
+    → Goes history Ready Spoken d n l true d n (record l { conn = c; replies = drop 0 l.replies; is_done = true })
+goes_dies history d n l c some told = record {
+  same = refl;
+  goes = λ d0 n0 past leads tells.
+      let life = life_of l.id.number past in
+      let first = trail_on (trail d0 n0 past d n l.id.number leads) (Says Lost l.replies) d refl refl (tells.standing, some, tells.said) in
+      went Spoken (record l { conn = c; replies = drop 0 l.replies; is_done = true }) first
+      (said_on history Lost life l c true some told tells (λ alive. absurd (let wrong : true ≡ false = alive in cc)) (λ done. or_right (lost_in life.control) true refl));
+}
+
+-- ---- one after the other
+
+pub goes_then : {C : Type 0} {history : C → Option Talk} {p q r : Phase} {d : Core} {n : Option Ledger} {l : Link C} {x : Bool} {e : Core} {m : Option Ledger} {k : Link C} {y : Bool} {f : Core} {o : Option Ledger} {j : Link C} → Goes history p q d n l x e m k → Goes history q r e m k y f o j → Goes history p r d n l (x || y) f o j
+goes_then {C} {history} {p} {q} {r} {d} {n} {l} {x} {e} {m} {k} {y} {f} {o} {j} a b = record {
+  same = b.same ∙ a.same;
+  goes = λ d0 n0 past leads tells.
+      let w = a.goes d0 n0 past leads tells in
+      let tells_k = subst (λ id. Tells history q (life_of id.number w.story) k) (sym a.same) w.tells in
+      went_after d0 n0 past l.id.number k.id.number (ap (λ id. id.number) a.same) w (b.goes d0 n0 w.story w.leads tells_k);
+}
+  where
+    went_after : (d0 : Core) (n0 : Option Ledger) (past : List Deed) (id other : ℕ) → other ≡ id → (w : Went history q d0 n0 past id x e m k) → Went history r d0 n0 w.story other y f o j → Went history r d0 n0 past id (x || y) f o j
+    went_after d0 n0 past id other same w v = record {
+      story = v.story;
+      more = extends_then past w.story v.story w.more v.more;
+      leads = v.leads;
+      tells = subst (λ i. Tells history r (life_of i v.story) j) same v.tells;
+      others = λ i off. v.others i (λ e. off (e ∙ same)) ∙ w.others i off;
+      tally = v.tally ∙ ap (counted 0 y) w.tally ∙ counted_then 0 0 x y (tally_of past);
+      stopped = v.stopped ∙ w.stopped;
+    }
+
+-- ---- the data connection
+
+none_waits : (b : Bool) → (b ≡ true → ⊥) → b ≡ false
+none_waits true h = absurd (h refl)
+none_waits false h = refl
+
+-- none came
+pub goes_misses : {C : Type 0} (history : C → Option Talk) (d : Core) (n : Option Ledger) (l : Link C) (m : Option Ledger) → l.image ≡ None → m ≡ noticed (Dialed l.port false) n → Goes history Spoken Spoken d n l false d m l
+goes_misses history d n l m was net = record {
+  same = refl;
+  goes = λ d0 n0 past leads tells.
+      let life = life_of l.id.number past in
+      let dark = subst (λ i. CarriesIn history i l.is_last l.records life) was tells.carries in
+      let first = trail_on (trail d0 n0 past d n l.id.number leads) (Misses l.port) d refl refl (tells.standing, dark, tells.port) in
+      subst (λ o. Went history Spoken d0 n0 past l.id.number false d o l) (sym net) (went Spoken l first tells);
+}
+
+-- one came
+pub goes_dials : {C : Type 0} (history : C → Option Talk) (d : Core) (n : Option Ledger) (l : Link C) (e : Core) (m : Option Ledger) (image : Option C) (records : List ℕ) (conn : C) → l.image ≡ None → image ≡ Some conn → records ≡ [] → IsTold (history conn) [] → Does l.id.number d (Connect l.port) e → m ≡ noticed (Dialed l.port true) n
+    → Goes history Spoken Spoken d n l true e m (record l { image = image; records = records; is_last = false })
+goes_dials {C} history d n l e m image records conn was now none fresh does net = record {
+  same = refl;
+  goes = λ d0 n0 past leads tells.
+      let life = life_of l.id.number past in
+      let dark = subst (λ i. CarriesIn history i l.is_last l.records life) was tells.carries in
+      let first = trail_on (trail d0 n0 past d n l.id.number leads) (Connect l.port) e refl does (tells.standing, dark, tells.port) in
+      let after = after_act (Connect l.port) life in
+      let carries : Carries (history conn) false records after = record { imaging = refl; told = fresh; shown = none; last = refl; more = λ wrong. absurd (let w : false ≡ true = wrong in cc); held = refl } in
+      subst (λ o. Went history Spoken d0 n0 past l.id.number true e o (record l { image = image; records = records; is_last = false })) (sym net)
+      (went Spoken (record l { image = image; records = records; is_last = false }) first (record {
+        standing = tells.standing;
+        port = tells.port;
+        over = tells.over;
+        told = tells.told;
+        heard = tells.heard;
+        said = tells.said;
+        waits = tells.waits;
+        quiet = tells.quiet;
+        held = tells.held;
+        carries = subst (λ i. CarriesIn history i false records after) (sym now) carries;
+        at = tells.at;
+      }));
+}
+
+-- a record is taken where none waits
+pub goes_turns : {C : Type 0} (history : C → Option Talk) (d : Core) (n : Option Ledger) (l : Link C) (e : Core) (records : List ℕ) (last : Bool) (step : DataStep) (conn : C) → l.image ≡ Some conn → l.records ≡ [] → last ≡ is_last step → (is_last step ≡ true → records ≢ []) → Does l.id.number d (Turn 65540 step records) e
+    → Goes history Spoken Spoken d n l false e n (record l { records = records; is_last = last })
+goes_turns history d n l e records last step conn was none ended some does = record {
+  same = refl;
+  goes = λ d0 n0 past leads tells.
+      let life = life_of l.id.number past in
+      let had : Carries (history conn) l.is_last l.records life = subst (λ i. CarriesIn history i l.is_last l.records life) was tells.carries in
+      let alive = sym had.last ∙ none_waits l.is_last (λ b. had.more b none) in
+      let all = all_taken (taken_in life.image) l.records life.shown none had.shown in
+      let act = Turn 65540 step records in
+      let first = trail_on (trail d0 n0 past d n l.id.number leads) act e refl does (tells.standing, had.imaging, refl, alive, all) in
+      let after = after_act act life in
+      let carries : Carries (history conn) last records after = record {
+        imaging = had.imaging;
+        told = had.told;
+        shown = none_on (taken_in life.image) records life.shown all;
+        last = ended ∙ sym (ap (λ b. b || is_last step) alive);
+        more = λ b. some (sym ended ∙ b);
+        held = had.held;
+      } in
+      went Spoken (record l { records = records; is_last = last }) first (record {
+        standing = tells.standing;
+        port = tells.port;
+        over = tells.over;
+        told = tells.told;
+        heard = tells.heard;
+        said = tells.said;
+        waits = tells.waits;
+        quiet = tells.quiet;
+        held = tells.held;
+        carries = subst (λ i. CarriesIn history i last records after) (sym was) carries;
+        at = tells.at;
+      });
+}
+
+pub goes_records : {C : Type 0} (history : C → Option Talk) (d : Core) (n : Option Ledger) (l : Link C) (e : Core) (records : List ℕ) (last : Bool) (step : DataStep) (image : Option C) → l.image ≡ image → IsSome image → l.records ≡ [] → last ≡ is_last step → (is_last step ≡ true → records ≢ []) → Does l.id.number d (Turn 65540 step records) e
+    → Goes history Spoken Spoken d n l false e n (record l { records = records; is_last = last })
+goes_records history d n l e records last step None was some none ended more does = cc
+goes_records history d n l e records last step (Some conn) was some none ended more does = goes_turns history d n l e records last step conn was none ended more does
+
+-- what is the same once the calls of the data connection, and what waits for it, are others
+with_image : {C : Type 0} (history : C → Option Talk) (life after : Life) (l : Link C) (image : Option C) (records : List ℕ) → Tells history Spoken life l
+    → after ≡ record life { image = after.image; imaging = after.imaging; dropped = after.dropped } → CarriesIn history image l.is_last records after → Tells history Spoken after (record l { image = image; records = records })
+with_image {C} history life after l image records tells same carries =
+    let v = record life { image = after.image; imaging = after.imaging; dropped = after.dropped } in
+    subst (λ w. Tells history Spoken w (record l { image = image; records = records })) (sym same) (record {
+      standing = tells.standing;
+      port = tells.port;
+      over = tells.over;
+      told = tells.told;
+      heard = tells.heard;
+      said = tells.said;
+      waits = tells.waits;
+      quiet = tells.quiet;
+      held = tells.held;
+      carries = subst (λ w. CarriesIn history image l.is_last records w) same carries;
+      at = tells.at;
+    })
+
+-- a write of a record, where there is a connection and a record
+pub record Sent {C : Type 0} (history : C → Option Talk) (got : Got) (l k : Link C) : Type 0 where
+  pub conn : C
+  pub was : l.image ≡ Some conn
+  pub some : l.records ≢ []
+  pub now : C
+  pub image : k.image ≡ Some now
+  pub told : history now ≡ after_write got l.records (history conn)
+  pub rest : k.records ≡ drop (moved got) l.records
+
+sent_to : {C : Type 0} (history : C → Option Talk) (got : Got) (l k : Link C) (conn : C) → l.image ≡ Some conn → (got ≡ Nothing → ⊥) → SendsTo history got conn l.records k.image k.records → Sent history got l k
+sent_to history got l k conn was off (inl none) = absurd (off none.1)
+sent_to history got l k conn was off (inr some) = record { conn = conn; was = was; some = some.0; now = some.1; image = some.2; told = some.3; rest = some.4 }
+
+sent : {C : Type 0} (history : C → Option Talk) (got : Got) (l k : Link C) (image : Option C) → l.image ≡ image → (got ≡ Nothing → ⊥) → SendsIn history got image l.records k.image k.records → Sent history got l k
+sent history got l k None was off sends = absurd (off sends.0)
+sent history got l k (Some conn) was off sends = sent_to history got l k conn was off sends
+
+-- after it
+carries_sent : {C : Type 0} (history : C → Option Talk) (got : Got) (l k : Link C) (life : Life) → (s : Sent history got l k) → Carries (history s.conn) l.is_last l.records life → (l.is_last ≡ true → k.records ≢ []) → lost_in (Write got l.records ∷ life.image) ≡ false
+    → Carries (history s.now) l.is_last k.records (after_act (Shows got l.records) life)
+carries_sent history got l k life s had more held = record {
+  imaging = had.imaging;
+  told = told_write got l.records (history s.conn) (history s.now) life.image s.told had.told;
+  shown = ap (λ xs. taken_in (Write got l.records ∷ life.image) ++ xs) s.rest ∙ rest_after (taken_in life.image) l.records life.shown (moved got) had.shown;
+  last = had.last;
+  more = more;
+  held = held;
+}
+
+goes_sent : {C : Type 0} (history : C → Option Talk) (got : Got) (d : Core) (n : Option Ledger) (l k : Link C) → k ≡ record l { image = k.image; records = k.records } → Sent history got l k → (l.is_last ≡ true → k.records ≢ []) → ((b : Bool) → b ≡ false → (b || is_lost got) ≡ false)
+    → Goes history Spoken Spoken d n l (stirs got) d n k
+goes_sent history got d n l k link s more held = record {
+  same = ap (λ x. x.id) link;
+  goes = λ d0 n0 past leads tells.
+      let life = life_of l.id.number past in
+      let had : Carries (history s.conn) l.is_last l.records life = subst (λ i. CarriesIn history i l.is_last l.records life) s.was tells.carries in
+      let act = Shows got l.records in
+      let first = trail_on (trail d0 n0 past d n l.id.number leads) act d refl refl (tells.standing, had.imaging, s.some, had.shown) in
+      let carries = carries_sent history got l k life s had more (held (lost_in life.image) had.held) in
+      let now = with_image history life (after_act act life) l k.image k.records tells refl (subst (λ i. CarriesIn history i l.is_last k.records (after_act act life)) (sym s.image) carries) in
+      went Spoken k first (subst (λ x. Tells history Spoken (after_act act life) x) (sym link) now);
+}
+
+-- nothing was written
+pub goes_shows_none : {C : Type 0} (history : C → Option Talk) (d : Core) (n : Option Ledger) (l k : Link C) → k ≡ record l { image = k.image; records = k.records } → SendsIn history Nothing l.image l.records k.image k.records → Goes history Spoken Spoken d n l false d n k
+goes_shows_none {C} history d n l k link sends = by_image l.image refl sends
+  where
+    same : k.image ≡ l.image → k.records ≡ l.records → Goes history Spoken Spoken d n l false d n k
+    same image records =
+        let whole = link ∙ ap (λ i. record l { image = i; records = k.records }) image ∙ ap (λ r. record l { image = l.image; records = r }) records in
+        subst (λ x. Goes history Spoken Spoken d n l false d n x) (sym whole) (goes_same history Spoken d n l)
+
+    by_case : (conn : C) → l.image ≡ Some conn → SendsTo history Nothing conn l.records k.image k.records → Goes history Spoken Spoken d n l false d n k
+    by_case conn was (inl none) = same (none.2 ∙ sym was) none.3
+    by_case conn was (inr some) =
+        goes_sent history Nothing d n l k link (record { conn = conn; was = was; some = some.0; now = some.1; image = some.2; told = some.3; rest = some.4 })
+        (λ last. λ none. some.0 (sym some.4 ∙ none)) (λ b e. or_from b false e refl)
+
+    by_image : (image : Option C) → l.image ≡ image → SendsIn history Nothing image l.records k.image k.records → Goes history Spoken Spoken d n l false d n k
+    by_image None was sends = same (sends.1 ∙ sym was) sends.2
+    by_image (Some conn) was sends = by_case conn was sends
+
+-- a piece was, and not all of the end record
+pub goes_shows : {C : Type 0} (history : C → Option Talk) (d : Core) (n : Option Ledger) (l k : Link C) (count : ℕ) → k ≡ record l { image = k.image; records = k.records } → SendsIn history (Moved count) l.image l.records k.image k.records → (l.is_last ≡ true → k.records ≢ []) → Goes history Spoken Spoken d n l true d n k
+goes_shows history d n l k count link sends more =
+    goes_sent history (Moved count) d n l k link (sent history (Moved count) l k l.image refl (λ e. let wrong : Moved count ≡ Nothing = e in cc) sends) more (λ b e. or_from b false e refl)
+
+-- what the listeners are told of the connection
+hung : {C : Type 0} (history : C → Option Talk) (k : Link C) (now : C) (n : Option Ledger) → k.image ≡ Some now → hung_up history k.image n ≡ noticed (Back (history now)) n
+hung history k now n e = ap (λ i. hung_up history i n) e
+
+-- the end record is written, and the connection handed back
+pub goes_shows_last : {C : Type 0} (history : C → Option Talk) (d : Core) (n : Option Ledger) (l k j : Link C) (m : Option Ledger) (count : ℕ) → k ≡ record l { image = k.image; records = k.records } → SendsIn history (Moved count) l.image l.records k.image k.records
+    → l.is_last ≡ true → k.records ≡ [] → j ≡ record k { image = None } → m ≡ hung_up history k.image n → Goes history Spoken Spoken d n l true d m j
+goes_shows_last {C} history d n l k j m count link sends last none gone net =
+    let s = sent history (Moved count) l k l.image refl (λ e. let wrong : Moved count ≡ Nothing = e in cc) sends in
+    let whole = gone ∙ ap (λ (x : Link C). record x { image = None }) link in
+    record {
+      same = ap (λ x. x.id) whole;
+      goes = λ d0 n0 past leads tells.
+          let life = life_of l.id.number past in
+          let had : Carries (history s.conn) l.is_last l.records life = subst (λ i. CarriesIn history i l.is_last l.records life) s.was tells.carries in
+          let act = Shows (Moved count) l.records in
+          let life1 = after_act act life in
+          let first = trail_on (trail d0 n0 past d n l.id.number leads) act d refl refl (tells.standing, had.imaging, s.some, had.shown) in
+          let rest = rest_after (taken_in life.image) l.records life.shown count had.shown in
+          let all = all_taken (taken_in life1.image) (drop count l.records) life.shown (sym s.rest ∙ none) rest in
+          let told = told_write (Moved count) l.records (history s.conn) (history s.now) life.image s.told had.told in
+          let then = trail_on first (HangsUp (history s.now)) d refl refl (tells.standing, had.imaging, told, (drop count l.records, sym rest), inl (inl (sym had.last ∙ last, all))) in
+          let now = with_image history life (after_act (HangsUp (history s.now)) life1) l None k.records tells refl refl in
+          subst (λ o. Went history Spoken d0 n0 past l.id.number true d o j) (sym (net ∙ hung history k s.now n s.image))
+          (went Spoken j then (subst (λ x. Tells history Spoken (after_act (HangsUp (history s.now)) life1) x) (sym whole) now));
+    }
+
+-- the connection is found lost
+pub goes_shows_lost : {C : Type 0} (history : C → Option Talk) (d : Core) (n : Option Ledger) (l k j : Link C) (e : Core) (m : Option Ledger) → k ≡ record l { image = k.image; records = k.records } → SendsIn history Lost l.image l.records k.image k.records
+    → Does l.id.number d Lose e → j ≡ record k { image = None } → m ≡ hung_up history k.image n → Goes history Spoken Spoken d n l true e m j
+goes_shows_lost {C} history d n l k j e m link sends does gone net =
+    let s = sent history Lost l k l.image refl (λ e. let wrong : Lost ≡ Nothing = e in cc) sends in
+    let whole = gone ∙ ap (λ (x : Link C). record x { image = None }) link in
+    record {
+      same = ap (λ x. x.id) whole;
+      goes = λ d0 n0 past leads tells.
+          let life = life_of l.id.number past in
+          let had : Carries (history s.conn) l.is_last l.records life = subst (λ i. CarriesIn history i l.is_last l.records life) s.was tells.carries in
+          let act = Shows Lost l.records in
+          let life1 = after_act act life in
+          let life2 = after_act Lose life1 in
+          let first = trail_on (trail d0 n0 past d n l.id.number leads) act d refl refl (tells.standing, had.imaging, s.some, had.shown) in
+          let then = trail_on first Lose e refl does (tells.standing, had.imaging, or_right (lost_in life.image) true refl) in
+          let told = told_write Lost l.records (history s.conn) (history s.now) life.image s.told had.told in
+          let last = trail_on then (HangsUp (history s.now)) e refl refl (tells.standing, had.imaging, told, (drop 0 l.records, sym (rest_after (taken_in life.image) l.records life.shown 0 had.shown)), inl (inr (inl refl))) in
+          let now = with_image history life (after_act (HangsUp (history s.now)) life2) l None k.records tells refl refl in
+          subst (λ o. Went history Spoken d0 n0 past l.id.number true e o j) (sym (net ∙ hung history k s.now n s.image))
+          (went Spoken j last (subst (λ x. Tells history Spoken (after_act (HangsUp (history s.now)) life2) x) (sym whole) now));
+    }
+
+-- ---- a session is left
+
+pub parts_hung : {C : Type 0} (history : C → Option Talk) (d : Core) (n : Option Ledger) (l : Link C) (m : Option Ledger) (e : Core) (o : Option Ledger) → m ≡ hung_up history l.image n → Does l.id.number d (Leaves l.port (history l.conn)) e → o ≡ noticed (Back (history l.conn)) (noticed (Shut l.port) m) → Parts history d n l e o
+parts_hung {C} history d n l m e o net does back = record {
+  goes = λ phase d0 n0 past leads tells why. by_image phase d0 n0 past leads tells why l.image refl (back ∙ ap (λ x. noticed (Back (history l.conn)) (noticed (Shut l.port) x)) net);
+}
+  where
+    ended : (id : ℕ) (d0 : Core) (n0 : Option Ledger) (past since : List Deed) → AreEnds since → (q : Option Ledger) (life : Life) → (t : Trail d0 n0 past id 1 false e q life) → t.story ≡ since ++ past → life.standing ≡ false → life.imaging ≡ false → o ≡ q
+        → (w : Ended d0 n0 past id false e o) × Closing past w.story
+    ended id d0 n0 past since ends q life t is gone dark same = (
+      record {
+        story = t.story;
+        more = (since, is);
+        leads = subst (λ x. Leads d0 n0 t.story e x) (sym same) t.leads;
+        gone = ap (λ v. v.standing) t.at ∙ gone;
+        dark = ap (λ v. v.imaging) t.at ∙ dark;
+        others = t.others;
+        tally = t.tally;
+        stopped = t.stopped;
+      },
+      (since, ends, is),
+    )
+
+    by_image : (phase : Phase) (d0 : Core) (n0 : Option Ledger) (past : List Deed) → Leads d0 n0 past d n → Tells history phase (life_of l.id.number past) l → IsDone (life_of l.id.number past) ⊎ (has_stopped past ≡ true)
+        → (image : Option C) → l.image ≡ image → o ≡ noticed (Back (history l.conn)) (noticed (Shut l.port) (hung_up history image n)) → (w : Ended d0 n0 past l.id.number false e o) × Closing past w.story
+    by_image phase d0 n0 past leads tells why None was same =
+        let id = l.id.number in
+        let life = life_of id past in
+        let dark = subst (λ i. CarriesIn history i l.is_last l.records life) was tells.carries in
+        let act = Leaves l.port (history l.conn) in
+        let begin = trail_begin d0 n0 past d n id leads in
+        let next = trail_next begin.0 act e refl does (tells.standing, dark, tells.port, tells.told, tells.heard, (l.replies, sym tells.said), why) in
+        ended id d0 n0 past (Of id act ∷ []) (tt, tt) (noted_act act n) (after_act act life) next.0 (next.1 ∙ ap (λ xs. Of id act ∷ xs) begin.1) refl dark same
+    by_image phase d0 n0 past leads tells why (Some conn) was same =
+        let id = l.id.number in
+        let life = life_of id past in
+        let had : Carries (history conn) l.is_last l.records life = subst (λ i. CarriesIn history i l.is_last l.records life) was tells.carries in
+        let act1 = HangsUp (history conn) in
+        let act = Leaves l.port (history l.conn) in
+        let begin = trail_begin d0 n0 past d n id leads in
+        let first = trail_next begin.0 act1 d refl refl (tells.standing, had.imaging, had.told, (l.records, sym had.shown), reason life why) in
+        let next = trail_next first.0 act e refl does (tells.standing, refl, tells.port, tells.told, tells.heard, (l.replies, sym tells.said), why) in
+        ended id d0 n0 past (Of id act ∷ Of id act1 ∷ []) (tt, (tt, tt)) (noted_act act (noted_act act1 n)) (after_act act (after_act act1 life)) next.0
+        (next.1 ∙ ap (λ xs. Of id act ∷ xs) (first.1 ∙ ap (λ xs. Of id act1 ∷ xs) begin.1)) refl refl same
+      where
+        reason : (life : Life) → IsDone life ⊎ (has_stopped past ≡ true) → IsShown life ⊎ (has_stopped past ≡ true)
+        reason life (inl done) = inl (inr (inr done))
+        reason life (inr stopped) = inr stopped
 
 ends_append : (xs ys : List Deed) → AreEnds xs → AreEnds ys → AreEnds (xs ++ ys)
 ends_append [] ys a b = b
@@ -433,23 +762,3 @@ closing_then past mid story first then = (
   ends_append then.0 first.0 then.1 first.1,
   then.2 ∙ ap (λ xs. then.0 ++ xs) first.2 ∙ sym (append_assoc then.0 first.0 past),
 )
-
--- all connections of a session are handed back
-pub parts_hung : {C : Type 0} (history : C → Option Talk) (d : Core) (n : Option Ledger) (l : Link C) (m : Option Ledger) (e : Core) (o : Option Ledger) → m ≡ hung_up history l.image n → Steps d (End l.id.number) e → o ≡ after_close (history l.conn) m → Parts history d n l e o
-parts_hung {C} history d n l m e o net steps back = record {
-  goes = λ d0 n0 past leads tells.
-      let first = hangs_up history d n l l.image refl d0 n0 past leads tells in
-      let parts = parts_here history d (hung_up history l.image n) (record l { image = None }) e o refl steps (back ∙ ap (after_close (history l.conn)) net) in
-      ended_after d0 n0 past l.id.number e o first.0.story first.1 first.0.others first.0.left (parts.goes d0 n0 first.0.story first.0.leads first.0.tells);
-}
-  where
-    ended_after : (d0 : Core) (n0 : Option Ledger) (past : List Deed) (id : ℕ) (e : Core) (o : Option Ledger) (mid : List Deed) → Closing past mid → ((i : ℕ) → i ≢ id → life_of i mid ≡ life_of i past) → left_in mid ≡ left_in past → Ended d0 n0 mid id e o → Ended d0 n0 past id e o
-    ended_after d0 n0 past id e o mid closing first count w = record {
-      story = w.story;
-      closing = closing_then past mid w.story closing w.closing;
-      leads = w.leads;
-      gone = w.gone;
-      dark = w.dark;
-      others = λ i off. w.others i off ∙ first i off;
-      left = w.left ∙ ap (λ k. k + 1) count;
-    }

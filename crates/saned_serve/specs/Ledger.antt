@@ -1,20 +1,25 @@
--- What a set of listeners keeps of the connections that it handed out.
-use Rattle.std.specs.Prelude.{ℕ, ◌+◌, Option, None, Some, List, [], ◌∷◌, ◌++◌}
+-- What a set of listeners keeps of what it was asked.
+use Rattle.std.specs.Prelude.{ℕ, Bool, Option, None, Some, List, ◌∷◌}
 use Rattle.saned_serve.specs.Talk.{Talk}
 
--- how many were handed out, and what those that came back had told, in order
-pub record Ledger : Type 0 where
-  pub accepted : ℕ
-  pub back : List (Option Talk)
+pub data Notice : Type 0 where
+  -- a control connection was asked for, and came or did not
+  Asked : (came : Bool) → Notice
+  -- a data port was asked for
+  Port : (port : Option ℕ) → Notice
+  -- a frame begins that will wait at that port: connections there that had ended were to be forgotten
+  Forgot : (port : ℕ) → Notice
+  -- a data connection at that port was asked for, and came or did not
+  Dialed : (port : ℕ) (came : Bool) → Notice
+  -- that port was closed
+  Shut : (port : ℕ) → Notice
+  -- a connection was handed back, and had told this
+  Back : (talk : Option Talk) → Notice
 
-abbrev pub counted : Option Ledger → Option Ledger
-counted None = None
-counted (Some ledger) = Some (record ledger { accepted = ledger.accepted + 1 })
+-- all of it, the newest first
+abbrev pub Ledger : Type 0
+Ledger = List Notice
 
-abbrev pub after_accept : {C : Type 0} → Option C → Option Ledger → Option Ledger
-after_accept None ledger = ledger
-after_accept (Some conn) ledger = counted ledger
-
-abbrev pub after_close : Option Talk → Option Ledger → Option Ledger
-after_close talk None = None
-after_close talk (Some ledger) = Some (record ledger { back = ledger.back ++ talk ∷ [] })
+abbrev pub noticed : Notice → Option Ledger → Option Ledger
+noticed notice None = None
+noticed notice (Some ledger) = Some (notice ∷ ledger)

@@ -1,6 +1,6 @@
 pub mod Talk
 pub mod Ledger
-pub mod Calls
+pub mod Acts
 pub mod Story
 pub mod Goes
 pub mod Stands

@@ -1,10 +1,13 @@
 -- What stands while a server takes its turns.
-use Rattle.std.specs.Prelude.{◌≡◌, ◌≢◌, ℕ, ◌+◌, ◌≤◌, ◌<◌, zero, suc, Bool, true, false, Option, None, Some, List, [], ◌∷◌, ◌++◌}
+use Rattle.std.specs.Prelude.{◌≡◌, ◌≢◌, ℕ, ◌+◌, ◌≤◌, ◌<◌, zero, suc, Bool, true, false, Option, None, Some, List, [], ◌∷◌}
 use Rattle.saned_core.specs.State.{Core}
+use Rattle.saned_core.specs.declared.seat.SessionId.{SessionId}
 use Rattle.saned_serve.specs.Talk.{Talk}
 use Rattle.saned_serve.specs.Ledger.{Ledger}
-use Rattle.saned_serve.specs.Story.{Deed, life_of, Extends, Closing, Leads, left_in, no_life, Closed}
+use Rattle.saned_serve.specs.Story.{Deed, life_of, Extends, Closing, Leads, tally_of, counted, no_life, has_stopped}
+use Rattle.saned_serve.specs.Story.Deed.{Turned, Stops}
 use Rattle.saned_serve.specs.Goes.{Tells, Goes, Parts}
+use Rattle.saned_serve.specs.Goes.Phase.{Fresh, Spoken}
 use Rattle.saned_serve.specs.declared.link.Link.{Link}
 use Rattle.saned_serve.specs.declared.seats.Seat.{Seat}
 use Rattle.saned_serve.specs.declared.serving.ServeEnd.{ServeEnd}
@@ -23,75 +26,107 @@ one_if false = 0
 abbrev pub most_sessions : ℕ
 most_sessions = 8
 
--- what the sessions that were counted have to do with the end: as many as were to be served (0: no such end), and fewer
--- than a turn's seats more, or not yet as many
-abbrev pub EndsBy : ServeEnd → ℕ → ℕ → Type 0
-EndsBy Sessions sessions count = (0 < sessions) × (sessions ≤ count) × (count < sessions + most_sessions)
-EndsBy Idle sessions count = 0 < sessions → count < sessions
-EndsBy Turns sessions count = 0 < sessions → count < sessions
-EndsBy NoMem sessions count = count ≡ 0
+abbrev pub most_turns : ℕ
+most_turns = 1099511627776
 
--- at most one session a seat, each session in one, and each one's connections tell its life
-pub record Stands {C : Type 0} (history : C → Option Talk) (d0 : Core) (n0 : Option Ledger) (story : List Deed) (d : Core) (n : Option Ledger) (seats : List (Seat C)) : Type 0 where
+-- why the turns ended: as many sessions left as were to be served (0: no such end), and fewer than a turn's seats more; or
+-- not yet as many, and nothing moved in as many turns in a row as were to be waited; or not that either, and all turns were
+-- taken; or there was no memory, and no turn
+abbrev pub EndsBy : ServeEnd → ℕ → ℕ → List Deed → Type 0
+EndsBy Sessions sessions waits turns = (0 < sessions) × (sessions ≤ (tally_of turns).left) × ((tally_of turns).left < sessions + most_sessions)
+EndsBy Idle sessions waits turns = (0 < sessions → (tally_of turns).left < sessions) × (waits ≤ (tally_of turns).idle)
+EndsBy Turns sessions waits turns = (0 < sessions → (tally_of turns).left < sessions) × ((tally_of turns).idle < waits) × ((tally_of turns).turns ≡ most_turns)
+EndsBy NoMem sessions waits turns = turns ≡ []
+
+-- a session had its turn, and is not to be left
+abbrev pub HadTurn : {C : Type 0} → List Deed → Link C → Type 0
+HadTurn story l = ((life_of l.id.number story).visited ≡ true) × ((life_of l.id.number story).over ≡ true → (life_of l.id.number story).drained ≡ false)
+
+-- at most one session a seat, each session in one, each one's connections tell its life, and those of the first seats had
+-- their turn
+pub record Stands {C : Type 0} (history : C → Option Talk) (d0 : Core) (n0 : Option Ledger) (story : List Deed) (d : Core) (n : Option Ledger) (had : ℕ) (seats : List (Seat C)) : Type 0 where
   pub leads : Leads d0 n0 story d n
   pub place : ℕ → ℕ
-  pub each : (i : ℕ) (l : Link C) → link_at seats i ≡ Some l → (place l.id.number ≡ i) × Tells history (life_of l.id.number story) l
+  pub each : (i : ℕ) (l : Link C) → link_at seats i ≡ Some l → (place l.id.number ≡ i) × Tells history Fresh (life_of l.id.number story) l
   pub all : (id : ℕ) → (life_of id story).standing ≡ true → (l : Link C) × (link_at seats (place id) ≡ Some l) × (l.id.number ≡ id)
   pub dark : (id : ℕ) → (life_of id story).standing ≡ false → (life_of id story).imaging ≡ false
+  pub turned : (i : ℕ) (l : Link C) → link_at seats i ≡ Some l → i < had → HadTurn story l
 
--- the story went on, and so many sessions left
-pub record WentOn {C : Type 0} (history : C → Option Talk) (d0 : Core) (n0 : Option Ledger) (past : List Deed) (left : ℕ) (e : Core) (m : Option Ledger) (seats : List (Seat C)) : Type 0 where
+-- the story went on, so many sessions left, and something moved or not
+pub record WentOn {C : Type 0} (history : C → Option Talk) (d0 : Core) (n0 : Option Ledger) (past : List Deed) (left : ℕ) (stir : Bool) (e : Core) (m : Option Ledger) (had : ℕ) (seats : List (Seat C)) : Type 0 where
   pub story : List Deed
   pub more : Extends past story
-  pub stands : Stands history d0 n0 story e m seats
-  pub count : left_in story ≡ left_in past + left
+  pub stands : Stands history d0 n0 story e m had seats
+  pub tally : tally_of story ≡ counted left stir (tally_of past)
+
+-- the story went on by a whole turn
+pub record TookTurn {C : Type 0} (history : C → Option Talk) (d0 : Core) (n0 : Option Ledger) (past : List Deed) (left : ℕ) (stir : Bool) (e : Core) (m : Option Ledger) (seats : List (Seat C)) : Type 0 where
+  pub story : List Deed
+  pub more : Extends past story
+  pub stands : Stands history d0 n0 (Turned ∷ story) e m 0 seats
+  pub tally : tally_of story ≡ counted left stir (tally_of past)
+
+-- so many turns were taken, nothing moved in so many at last, and so many sessions left
+pub record Took {C : Type 0} (history : C → Option Talk) (d0 : Core) (n0 : Option Ledger) (left turns idle : ℕ) (e : Core) (m : Option Ledger) (seats : List (Seat C)) : Type 0 where
+  pub story : List Deed
+  pub stands : Stands history d0 n0 story e m 0 seats
+  pub tally : tally_of story ≡ record { left = left; turns = turns; idle = idle; stir = false }
 
 -- the story went on by ends alone, and these seats are left
 pub record Shuts {C : Type 0} (history : C → Option Talk) (d0 : Core) (n0 : Option Ledger) (past : List Deed) (e : Core) (m : Option Ledger) (seats : List (Seat C)) : Type 0 where
   pub story : List Deed
   pub closing : Closing past story
-  pub stands : Stands history d0 n0 story e m seats
+  pub stands : Stands history d0 n0 story e m 0 seats
+  pub stopped : has_stopped story ≡ true
 
--- all turns were taken
-pub record Ran {C : Type 0} (history : C → Option Talk) (d0 : Core) (n0 : Option Ledger) (end : ServeEnd) (sessions : ℕ) (e : Core) (m : Option Ledger) (seats : List (Seat C)) : Type 0 where
+-- turns were taken, and so many of them
+pub record Ran {C : Type 0} (history : C → Option Talk) (d0 : Core) (n0 : Option Ledger) (end : ServeEnd) (sessions waits : ℕ) (e : Core) (m : Option Ledger) (seats : List (Seat C)) : Type 0 where
   pub story : List Deed
-  pub stands : Stands history d0 n0 story e m seats
-  pub ends : EndsBy end sessions (left_in story)
+  pub stands : Stands history d0 n0 story e m 0 seats
+  pub ends : EndsBy end sessions waits story
 
 -- a seat's session goes on, or the seat is empty and nothing is done
-abbrev pub Keeps : {C : Type 0} → (C → Option Talk) → Core → Option Ledger → Option (Link C) → Core → Option Ledger → Option (Link C) → Type 0
-Keeps history d n None e m None = (e ≡ d) × (m ≡ n)
-Keeps history d n None e m (Some k) = ⊥
-Keeps history d n (Some l) e m None = ⊥
-Keeps history d n (Some l) e m (Some k) = Goes history d n l e m k
+abbrev pub Keeps : {C : Type 0} → (C → Option Talk) → Core → Option Ledger → Option (Link C) → Bool → Core → Option Ledger → Option (Link C) → Type 0
+Keeps history d n None stir e m None = (e ≡ d) × (m ≡ n) × (stir ≡ false)
+Keeps history d n None stir e m (Some k) = ⊥
+Keeps history d n (Some l) stir e m None = ⊥
+Keeps history d n (Some l) stir e m (Some k) = Goes history Fresh Spoken d n l stir e m k
 
 -- a seat is empty afterwards
 abbrev pub Empties : {C : Type 0} → (C → Option Talk) → Core → Option Ledger → Option (Link C) → Core → Option Ledger → Type 0
 Empties history d n None e m = (e ≡ d) × (m ≡ n)
 Empties history d n (Some l) e m = Parts history d n l e m
 
+-- the session of a seat is to be left just where it is done
+abbrev pub IsLeft : {C : Type 0} → Bool → Option (Link C) → Type 0
+IsLeft has_left None = has_left ≡ false
+IsLeft has_left (Some l) = has_left ≡ l.is_done
+
+-- a new session's link
+abbrev pub IsSeated : {C : Type 0} → C → SessionId → ℕ → Option (Link C) → Type 0
+IsSeated conn id port None = ⊥
+IsSeated conn id port (Some l) = (l.conn ≡ conn) × (l.id ≡ id) × (l.port ≡ port) × (l.replies ≡ []) × (l.image ≡ None) × (l.is_over ≡ false) × (l.is_done ≡ false)
+
 abbrev pub IsMet : {C : Type 0} → (C → Option Talk) → List Deed → List Deed → ℕ → Option (Link C) → Type 0
 IsMet history past story id None = life_of id story ≡ life_of id past
-IsMet history past story id (Some l) = (l.id.number ≡ id) × (life_of id past ≡ no_life) × Tells history (life_of id story) l
+IsMet history past story id (Some l) = (l.id.number ≡ id) × (life_of id past ≡ no_life) × Tells history Fresh (life_of id story) l
 
 -- a new session's link, or none: a connection may have been refused
-pub record Met {C : Type 0} (history : C → Option Talk) (d0 : Core) (n0 : Option Ledger) (past : List Deed) (e : Core) (m : Option Ledger) (id : ℕ) (link : Option (Link C)) : Type 0 where
+pub record Met {C : Type 0} (history : C → Option Talk) (d0 : Core) (n0 : Option Ledger) (past : List Deed) (stir : Bool) (e : Core) (m : Option Ledger) (id : ℕ) (link : Option (Link C)) : Type 0 where
   pub story : List Deed
   pub more : Extends past story
   pub leads : Leads d0 n0 story e m
   pub others : (j : ℕ) → j ≢ id → life_of j story ≡ life_of j past
   pub met : IsMet history past story id link
-  pub left : left_in story ≡ left_in past
+  pub tally : tally_of story ≡ counted 0 stir (tally_of past)
 
-pub record Greets {C : Type 0} (history : C → Option Talk) (d : Core) (n : Option Ledger) (e : Core) (m : Option Ledger) (link : Option (Link C)) : Type 0 where
-  pub greets : (d0 : Core) (n0 : Option Ledger) (past : List Deed) → Leads d0 n0 past d n → Met history d0 n0 past e m d.opened link
+pub record Greets {C : Type 0} (history : C → Option Talk) (d : Core) (n : Option Ledger) (stir : Bool) (e : Core) (m : Option Ledger) (link : Option (Link C)) : Type 0 where
+  pub greets : (d0 : Core) (n0 : Option Ledger) (past : List Deed) → Leads d0 n0 past d n → Met history d0 n0 past stir e m d.opened link
 
--- nothing stands at the end of a story, and each session that was opened had one control connection, which read just what
--- it was fed
+-- nothing stands at the end of a story
 pub record IsOver (story : List Deed) : Type 0 where
   pub gone : (id : ℕ) → (life_of id story).standing ≡ false
   pub dark : (id : ℕ) → (life_of id story).imaging ≡ false
-  pub each : (id : ℕ) → (life_of id story).opened ≡ true → Closed id story
 
 -- what still stood was ended, and nothing else was done
 pub record Closes (d0 : Core) (n0 : Option Ledger) (past : List Deed) (e : Core) (m : Option Ledger) : Type 0 where
@@ -100,12 +135,12 @@ pub record Closes (d0 : Core) (n0 : Option Ledger) (past : List Deed) (e : Core)
   pub leads : Leads d0 n0 story e m
   pub over : IsOver story
 
--- what a server's whole run did: its turns, and then nothing but the end of all that still stood. Where among the ends
--- that stand last the turns ended is not to be seen behind them: that they are this front of the story is what `Ran` says
-pub record Served (d : Core) (before : Option Ledger) (e : Core) (after : Option Ledger) (end : ServeEnd) (sessions : ℕ) : Type 0 where
+-- what a server's whole run did: its turns, and then nothing but the end of all that still stood; nothing where there was
+-- no memory
+pub record Served (d : Core) (before : Option Ledger) (e : Core) (after : Option Ledger) (end : ServeEnd) (sessions waits : ℕ) : Type 0 where
   pub turns : List Deed
   pub story : List Deed
-  pub closing : Closing turns story
+  pub closing : Closing (Stops ∷ turns) story
   pub leads : Leads d before story e after
   pub over : IsOver story
-  pub ends : EndsBy end sessions (left_in turns)
+  pub ends : EndsBy end sessions waits turns

@@ -1,153 +1,271 @@
--- What a server does, as one list: the daemon's calls that it makes and the connections that it hands back.
-use Rattle.std.specs.Prelude.{◌≡◌, ℕ, ◌+◌, ◌≤◌, Bool, true, false, cond, eqb, Option, IfSome, List, [], ◌∷◌, ◌++◌, ◌⊎◌}
-use Rattle.saned_core.specs.State.{Core}
-use Rattle.saned_serve.specs.Calls.{Call, Runs}
-use Rattle.saned_serve.specs.Calls.Call.{Open, Feed, Take, Connect, Turn, Lose, End}
-use Rattle.saned_serve.specs.Talk.{Talk, IsFresh}
-use Rattle.saned_serve.specs.Ledger.{Ledger, counted, after_close}
+-- What a server does, as one list: each call of the daemon, of a connection and of the listeners, in order.
+use Rattle.std.specs.Prelude.{◌≡◌, ◌≢◌, ℕ, ◌+◌, ◌≤◌, Bool, true, false, ◌||◌, cond, eqb, Option, None, Some, List, [], ◌∷◌, ◌++◌, ◌⊎◌}
+use Rattle.saned_core.specs.State.{Core, is_closed}
+use Rattle.saned_serve.specs.Talk.{Talk, read_in, taken_in, lost_in, IsTold}
+use Rattle.saned_serve.specs.Talk.Move.{Read, Write}
+use Rattle.saned_serve.specs.Ledger.{Ledger, noticed}
+use Rattle.saned_serve.specs.Ledger.Notice.{Asked, Port, Forgot, Dialed, Shut, Back}
+use Rattle.saned_serve.specs.Acts.{Act, Does, moves, leaves, is_last, is_over}
+use Rattle.saned_serve.specs.Acts.Act.{Opens, Hears, Feed, Forgets, Take, Says, Misses, Connect, Turn, Shows, Lose, HangsUp, Leaves}
 
 pub data Deed : Type 0 where
-  -- a call of the daemon
-  Makes : (call : Call) → Deed
-  -- a connection that got no session is handed back
-  Refuses : (talk : Option Talk) → Deed
-  -- the control connection of a session is handed back
-  Leaves : (number : ℕ) (talk : Option Talk) → Deed
-  -- a data connection of a session is handed back
-  HangsUp : (number : ℕ) (talk : Option Talk) → Deed
+  -- an act for the session of that number
+  Of : (number : ℕ) (act : Act) → Deed
+  -- no control connection came
+  Waits : Deed
+  -- one came and is handed back: it got no data port, or no session, and then its port is closed
+  Refuses : (port : Option ℕ) (talk : Option Talk) → Deed
+  -- a turn is over
+  Turned : Deed
+  -- all turns are over
+  Stops : Deed
 
--- a session's life in a story
+-- ---- the life of a session
+
 pub record Life : Type 0 where
-  pub opened : Bool
-  -- its control connection, and its data connection, are not handed back
+  -- its control connection is not handed back, and its data port is this
   pub standing : Bool
-  pub imaging : Bool
-  -- the daemon was told its end
-  pub ended : Bool
-  -- all that was fed, all replies taken, and all that the records of its last data connection had
+  pub port : ℕ
+  -- its control connection was read or written in this turn
+  pub visited : Bool
+  -- the daemon told that it is over; and no replies were left when they were last asked for, behind the last feed
+  pub over : Bool
+  pub drained : Bool
+  -- a frame began with the last piece that was fed, and the listeners were not told yet
+  pub begun : Bool
+  -- all that was fed, all replies taken, and the calls of its control connection
   pub heard : List ℕ
   pub said : List ℕ
+  pub control : Talk
+  -- its data connection is not handed back
+  pub imaging : Bool
+  -- all records taken for that, the end record is among them, the calls of it, and the daemon was told its loss
   pub shown : List ℕ
+  pub last : Bool
+  pub image : Talk
+  pub dropped : Bool
 
 abbrev pub no_life : Life
-no_life = record { opened = false; standing = false; imaging = false; ended = false; heard = []; said = []; shown = [] }
+no_life = record { standing = false; port = 0; visited = false; over = false; drained = false; begun = false; heard = []; said = []; control = []; imaging = false; shown = []; last = false; image = []; dropped = false }
 
-abbrev pub number_of : Call → ℕ
-number_of (Open port number) = number
-number_of (Feed number piece fed) = number
-number_of (Take number room bytes) = number
-number_of (Connect number) = number
-number_of (Turn number step bytes) = number
-number_of (Lose number) = number
-number_of (End number) = number
+abbrev pub no_bytes : List ℕ → Bool
+no_bytes [] = true
+no_bytes (byte ∷ bytes) = false
+
+abbrev pub after_act : Act → Life → Life
+after_act (Opens port) life = record no_life { standing = true; port = port }
+after_act (Hears got bytes) life = record life { visited = true; control = Read got bytes ∷ life.control }
+after_act (Feed piece fed begins) life = record life { heard = life.heard ++ piece; over = life.over || is_over fed; drained = false; begun = begins }
+after_act (Forgets port) life = record life { begun = false }
+after_act (Take room bytes) life = record life { said = life.said ++ bytes; drained = no_bytes bytes }
+after_act (Says got bytes) life = record life { visited = true; control = Write got bytes ∷ life.control }
+after_act (Misses port) life = life
+after_act (Connect port) life = record life { imaging = true; shown = []; last = false; image = []; dropped = false }
+after_act (Turn room step bytes) life = record life { shown = life.shown ++ bytes; last = life.last || is_last step }
+after_act (Shows got bytes) life = record life { image = Write got bytes ∷ life.image }
+after_act Lose life = record life { dropped = true }
+after_act (HangsUp talk) life = record life { imaging = false }
+after_act (Leaves port talk) life = record life { standing = false }
 
 abbrev pub is_of : Deed → ℕ → Bool
-is_of (Makes call) id = eqb (number_of call) id
-is_of (Refuses talk) id = false
-is_of (Leaves number talk) id = eqb number id
-is_of (HangsUp number talk) id = eqb number id
-
-abbrev pub after_call : Call → Life → Life
-after_call (Open port number) life = record no_life { opened = true; standing = true }
-after_call (Feed number piece fed) life = record life { heard = life.heard ++ piece }
-after_call (Take number room bytes) life = record life { said = life.said ++ bytes }
-after_call (Connect number) life = record life { imaging = true; shown = [] }
-after_call (Turn number step bytes) life = record life { shown = life.shown ++ bytes }
-after_call (Lose number) life = life
-after_call (End number) life = record life { ended = true }
+is_of (Of number act) id = eqb number id
+is_of Waits id = false
+is_of (Refuses port talk) id = false
+is_of Turned id = true
+is_of Stops id = false
 
 abbrev pub after_deed : Deed → Life → Life
-after_deed (Makes call) life = after_call call life
-after_deed (Refuses talk) life = life
-after_deed (Leaves number talk) life = record life { standing = false }
-after_deed (HangsUp number talk) life = record life { imaging = false }
+after_deed (Of number act) life = after_act act life
+after_deed Waits life = life
+after_deed (Refuses port talk) life = life
+after_deed Turned life = record life { visited = false }
+after_deed Stops life = life
 
 -- the life of a session in a story, which has its newest deed first
 unfoldable pub life_of : ℕ → List Deed → Life
 life_of id [] = no_life
 life_of id (deed ∷ past) = cond (is_of deed id) (after_deed deed (life_of id past)) (life_of id past)
 
+-- ---- what may be done
+
+-- why a session may be left: its control connection was found lost, or it is over and all its replies are written
+abbrev pub IsDone : Life → Type 0
+IsDone life = (lost_in life.control ≡ true) ⊎ ((life.over ≡ true) × (life.drained ≡ true) × (taken_in life.control ≡ life.said))
+
+-- why a data connection may be handed back: its end record is written, the daemon was told that it is lost, or the
+-- session may be left
+abbrev pub IsShown : Life → Type 0
+IsShown life = ((life.last ≡ true) × (taken_in life.image ≡ life.shown)) ⊎ ((life.dropped ≡ true) ⊎ IsDone life)
+
+-- the room for replies, and for a record and its length
+abbrev pub most_reply : ℕ
+most_reply = 4096
+
+abbrev pub most_record : ℕ
+most_record = 65540
+
 -- the one text begins the other
 abbrev pub IsFront : List ℕ → List ℕ → Type 0
 IsFront front text = (rest : List ℕ) × (text ≡ front ++ rest)
 
--- it read what the session was fed, and was written a front of the replies
-abbrev pub Spoke : Option Talk → Life → Type 0
-Spoke talk life = IfSome talk (λ t. (t.read ≡ life.heard) × IsFront t.written life.said)
+-- each act has its place: a control connection is read only where the daemon has no reply for it that is not written, and
+-- what it brought is fed at once; where a frame begins with that, the session's data port is cleared of connections that have
+-- ended before any reply is taken, and else never; what is taken of the daemon is written whole before more is taken; and a data
+-- connection is awaited at the session's own port. What a connection that is handed back was written is a front of the
+-- session's replies, or of its records
+abbrev pub MayDo : Act → Life → Bool → Type 0
+MayDo (Opens port) life stopped = life ≡ no_life
+MayDo (Hears got bytes) life stopped = (life.standing ≡ true) × (life.drained ≡ true) × (taken_in life.control ≡ life.said) × (read_in life.control ≡ life.heard)
+MayDo (Feed piece fed begins) life stopped = (life.standing ≡ true) × (life.heard ++ piece ≡ read_in life.control)
+MayDo (Forgets port) life stopped = (life.standing ≡ true) × (life.begun ≡ true) × (port ≡ life.port)
+MayDo (Take room bytes) life stopped = (life.standing ≡ true) × (life.begun ≡ false) × (room ≡ most_reply) × (taken_in life.control ≡ life.said)
+MayDo (Says got bytes) life stopped = (life.standing ≡ true) × (bytes ≢ []) × (taken_in life.control ++ bytes ≡ life.said)
+MayDo (Misses port) life stopped = (life.standing ≡ true) × (life.imaging ≡ false) × (port ≡ life.port)
+MayDo (Connect port) life stopped = (life.standing ≡ true) × (life.imaging ≡ false) × (port ≡ life.port)
+MayDo (Turn room step bytes) life stopped = (life.standing ≡ true) × (life.imaging ≡ true) × (room ≡ most_record) × (life.last ≡ false) × (taken_in life.image ≡ life.shown)
+MayDo (Shows got bytes) life stopped = (life.standing ≡ true) × (life.imaging ≡ true) × (bytes ≢ []) × (taken_in life.image ++ bytes ≡ life.shown)
+MayDo Lose life stopped = (life.standing ≡ true) × (life.imaging ≡ true) × (lost_in life.image ≡ true)
+MayDo (HangsUp talk) life stopped = (life.standing ≡ true) × (life.imaging ≡ true) × IsTold talk life.image × IsFront (taken_in life.image) life.shown × (IsShown life ⊎ (stopped ≡ true))
+MayDo (Leaves port talk) life stopped = (life.standing ≡ true) × (life.imaging ≡ false) × (port ≡ life.port) × IsTold talk life.control × (read_in life.control ≡ life.heard) × IsFront (taken_in life.control) life.said × (IsDone life ⊎ (stopped ≡ true))
 
--- it read nothing, and was written a front of the records
-abbrev pub Showed : Option Talk → Life → Type 0
-Showed talk life = IfSome talk (λ t. (t.read ≡ []) × IsFront t.written life.shown)
+-- what a turn leaves of a session that stands: it had its turn, its connection is not known to be lost, and where it is over
+-- some of its replies may still wait; and its data connection is not lost, and its end record not wholly written
+pub record IsSettled (life : Life) : Type 0 where
+  pub visited : life.visited ≡ true
+  pub held : lost_in life.control ≡ false
+  pub replies : life.over ≡ true → life.drained ≡ false
+  pub shows : life.imaging ≡ true → (lost_in life.image ≡ false) × (life.last ≡ true → taken_in life.image ≢ life.shown)
 
-abbrev pub MayCall : Call → Life → Type 0
-MayCall (Open port number) life = life ≡ no_life
-MayCall (Feed number piece fed) life = life.standing ≡ true
-MayCall (Take number room bytes) life = life.standing ≡ true
-MayCall (Connect number) life = (life.standing ≡ true) × (life.imaging ≡ false)
-MayCall (Turn number step bytes) life = (life.standing ≡ true) × (life.imaging ≡ true)
-MayCall (Lose number) life = life.standing ≡ true
-MayCall (End number) life = life.standing ≡ true
+-- all turns are over
+abbrev pub has_stopped : List Deed → Bool
+has_stopped [] = false
+has_stopped (Of number act ∷ past) = has_stopped past
+has_stopped (Waits ∷ past) = has_stopped past
+has_stopped (Refuses port talk ∷ past) = has_stopped past
+has_stopped (Turned ∷ past) = has_stopped past
+has_stopped (Stops ∷ past) = true
 
--- each deed has its place: a session is opened once, fed what its connection read, and nobody calls it after that
--- connection is handed back
 abbrev pub May : Deed → List Deed → Type 0
-May (Makes call) past = MayCall call (life_of (number_of call) past)
-May (Refuses talk) past = IsFresh talk
-May (Leaves number talk) past =
-    ((life_of number past).standing ≡ true) × ((life_of number past).imaging ≡ false) × ((life_of number past).ended ≡ true) × Spoke talk (life_of number past)
-May (HangsUp number talk) past = ((life_of number past).imaging ≡ true) × Showed talk (life_of number past)
+May (Of number act) past = MayDo act (life_of number past) (has_stopped past)
+May Waits past = Unit {0}
+May (Refuses port talk) past = IsTold talk []
+May Turned past = (id : ℕ) → (life_of id past).standing ≡ true → IsSettled (life_of id past)
+May Stops past = Unit {0}
 
 abbrev pub IsStory : List Deed → Type 0
 IsStory [] = Unit {0}
 IsStory (deed ∷ past) = IsStory past × May deed past
 
--- the daemon's calls
-abbrev pub calls_of : List Deed → List Call
-calls_of [] = []
-calls_of (Makes call ∷ past) = call ∷ calls_of past
-calls_of (Refuses talk ∷ past) = calls_of past
-calls_of (Leaves number talk ∷ past) = calls_of past
-calls_of (HangsUp number talk ∷ past) = calls_of past
+-- ---- what a story does to the daemon, and how it shows with the listeners
 
--- how a deed shows with the listeners: each session, each data connection and each refusal was one accept
-abbrev pub noted_call : Call → Option Ledger → Option Ledger
-noted_call (Open port number) ledger = counted ledger
-noted_call (Feed number piece fed) ledger = ledger
-noted_call (Take number room bytes) ledger = ledger
-noted_call (Connect number) ledger = counted ledger
-noted_call (Turn number step bytes) ledger = ledger
-noted_call (Lose number) ledger = ledger
-noted_call (End number) ledger = ledger
+abbrev pub IsRefused : Option ℕ → Core → Type 0
+IsRefused None d = Unit {0}
+IsRefused (Some port) d = is_closed d ≡ true
+
+abbrev pub Steps : Core → Deed → Core → Type 0
+Steps d (Of number act) e = Does number d act e
+Steps d Waits e = e ≡ d
+Steps d (Refuses port talk) e = IsRefused port d × (e ≡ d)
+Steps d Turned e = e ≡ d
+Steps d Stops e = e ≡ d
+
+-- the daemon behind a story is what its deeds make of the one before it
+abbrev pub Runs : Core → List Deed → Core → Type 0
+Runs d [] e = e ≡ d
+Runs d (deed ∷ past) e = (mid : Core) × Runs d past mid × Steps mid deed e
+
+abbrev pub noted_act : Act → Option Ledger → Option Ledger
+noted_act (Opens port) ledger = noticed (Port (Some port)) (noticed (Asked true) ledger)
+noted_act (Hears got bytes) ledger = ledger
+noted_act (Feed piece fed begins) ledger = ledger
+noted_act (Forgets port) ledger = noticed (Forgot port) ledger
+noted_act (Take room bytes) ledger = ledger
+noted_act (Says got bytes) ledger = ledger
+noted_act (Misses port) ledger = noticed (Dialed port false) ledger
+noted_act (Connect port) ledger = noticed (Dialed port true) ledger
+noted_act (Turn room step bytes) ledger = ledger
+noted_act (Shows got bytes) ledger = ledger
+noted_act Lose ledger = ledger
+noted_act (HangsUp talk) ledger = noticed (Back talk) ledger
+noted_act (Leaves port talk) ledger = noticed (Back talk) (noticed (Shut port) ledger)
+
+abbrev pub noted_port : Option ℕ → Option Ledger → Option Ledger
+noted_port None ledger = noticed (Port None) ledger
+noted_port (Some port) ledger = noticed (Shut port) (noticed (Port (Some port)) ledger)
 
 abbrev pub noted : Deed → Option Ledger → Option Ledger
-noted (Makes call) ledger = noted_call call ledger
-noted (Refuses talk) ledger = after_close talk (counted ledger)
-noted (Leaves number talk) ledger = after_close talk ledger
-noted (HangsUp number talk) ledger = after_close talk ledger
+noted (Of number act) ledger = noted_act act ledger
+noted Waits ledger = noticed (Asked false) ledger
+noted (Refuses port talk) ledger = noticed (Back talk) (noted_port port (noticed (Asked true) ledger))
+noted Turned ledger = ledger
+noted Stops ledger = ledger
 
 abbrev pub ledger_after : List Deed → Option Ledger → Option Ledger
 ledger_after [] ledger = ledger
 ledger_after (deed ∷ past) ledger = noted deed (ledger_after past ledger)
 
--- the story went on: what was done before it still tells
+-- a story leads from one daemon and ledger to others
+pub record Leads (d : Core) (before : Option Ledger) (story : List Deed) (e : Core) (after : Option Ledger) : Type 0 where
+  pub legal : IsStory story
+  pub run : Runs d story e
+  pub net : after ≡ ledger_after story before
+  -- the numbers of sessions still to come are unused
+  pub unused : (id : ℕ) → e.opened ≤ id → life_of id story ≡ no_life
+
+-- ---- what is counted
+
+pub record Tally : Type 0 where
+  -- sessions that left
+  pub left : ℕ
+  -- turns, and how many of them, in a row to the last one, nothing moved in
+  pub turns : ℕ
+  pub idle : ℕ
+  -- something moved in the turn that is not over
+  pub stir : Bool
+
+abbrev pub after_tally : Deed → Tally → Tally
+after_tally (Of number act) t = record t { left = t.left + leaves act; stir = t.stir || moves act }
+after_tally Waits t = t
+after_tally (Refuses port talk) t = record t { stir = t.stir || true }
+after_tally Turned t = record { left = t.left; turns = t.turns + 1; idle = cond t.stir 0 (t.idle + 1); stir = false }
+after_tally Stops t = t
+
+abbrev pub tally_of : List Deed → Tally
+tally_of [] = record { left = 0; turns = 0; idle = 0; stir = false }
+tally_of (deed ∷ past) = after_tally deed (tally_of past)
+
+-- so many sessions left more, and something moved or not
+abbrev pub counted : ℕ → Bool → Tally → Tally
+counted left stir t = record t { left = t.left + left; stir = t.stir || stir }
+
+-- ---- a story that goes on
+
+-- what was done before it still tells
 abbrev pub Extends : List Deed → List Deed → Type 0
 Extends past story = (since : List Deed) × (story ≡ since ++ past)
 
--- a session is ended, or a connection of one is handed back
-abbrev pub EndsCall : Call → Type 0
-EndsCall (Open port number) = ⊥
-EndsCall (Feed number piece fed) = ⊥
-EndsCall (Take number room bytes) = ⊥
-EndsCall (Connect number) = ⊥
-EndsCall (Turn number step bytes) = ⊥
-EndsCall (Lose number) = ⊥
-EndsCall (End number) = Unit {0}
+-- a session is left, or its data connection before
+abbrev pub IsEndAct : Act → Type 0
+IsEndAct (Opens port) = ⊥
+IsEndAct (Hears got bytes) = ⊥
+IsEndAct (Feed piece fed begins) = ⊥
+IsEndAct (Forgets port) = ⊥
+IsEndAct (Take room bytes) = ⊥
+IsEndAct (Says got bytes) = ⊥
+IsEndAct (Misses port) = ⊥
+IsEndAct (Connect port) = ⊥
+IsEndAct (Turn room step bytes) = ⊥
+IsEndAct (Shows got bytes) = ⊥
+IsEndAct Lose = ⊥
+IsEndAct (HangsUp talk) = Unit {0}
+IsEndAct (Leaves port talk) = Unit {0}
 
 abbrev pub IsEnd : Deed → Type 0
-IsEnd (Makes call) = EndsCall call
-IsEnd (Refuses talk) = ⊥
-IsEnd (Leaves number talk) = Unit {0}
-IsEnd (HangsUp number talk) = Unit {0}
+IsEnd (Of number act) = IsEndAct act
+IsEnd Waits = ⊥
+IsEnd (Refuses port talk) = ⊥
+IsEnd Turned = ⊥
+IsEnd Stops = ⊥
 
 abbrev pub AreEnds : List Deed → Type 0
 AreEnds [] = Unit {0}
@@ -156,31 +274,3 @@ AreEnds (deed ∷ past) = IsEnd deed × AreEnds past
 -- the story went on by ends alone
 abbrev pub Closing : List Deed → List Deed → Type 0
 Closing past story = (since : List Deed) × AreEnds since × (story ≡ since ++ past)
-
--- a deed is in the story
-abbrev pub Holds : Deed → List Deed → Type 0
-Holds deed [] = ⊥
-Holds deed (first ∷ past) = (first ≡ deed) ⊎ Holds deed past
-
--- a session's control connection was handed back: it read just what the session was fed in all, and was written a front
--- of all its replies
-pub record Closed (id : ℕ) (story : List Deed) : Type 0 where
-  pub talk : Option Talk
-  pub held : Holds (Leaves id talk) story
-  pub spoke : Spoke talk (life_of id story)
-
--- how many control connections were handed back after a session
-abbrev pub left_in : List Deed → ℕ
-left_in [] = 0
-left_in (Makes call ∷ past) = left_in past
-left_in (Refuses talk ∷ past) = left_in past
-left_in (Leaves number talk ∷ past) = left_in past + 1
-left_in (HangsUp number talk ∷ past) = left_in past
-
--- a story leads from one daemon and ledger to others
-pub record Leads (d : Core) (before : Option Ledger) (story : List Deed) (e : Core) (after : Option Ledger) : Type 0 where
-  pub legal : IsStory story
-  pub run : Runs d (calls_of story) e
-  pub net : after ≡ ledger_after story before
-  -- the numbers of sessions still to come are unused
-  pub unused : (id : ℕ) → e.opened ≤ id → life_of id story ≡ no_life

@@ -1,15 +1,24 @@
 //! One session's connections, and one turn of them.
 
-ghost use Rattle.std.specs.Prelude.{◌≡◌, ◌≤◌, ℕ, Option, None, Some, IsSome};
-ghost use Rattle.saned_core.specs.State.{Core, core};
-ghost use Rattle.saned_serve.specs.Ledger.{Ledger, after_close};
-ghost use Rattle.saned_serve.specs.Goes.{Goes, Parts, hung_up};
+ghost use Rattle.std.specs.Prelude.{◌≡◌, ◌≤◌, ℕ, Bool, true, false, not, ◌||◌, ◌&&◌, Option, None, Some, [], length, IsSome};
+ghost use Rattle.saned_core.specs.State.{Core, core, frame_in, session_of, is_waiting as waits};
+ghost use Rattle.saned_serve.specs.Ledger.{Ledger, noticed};
+ghost use Rattle.saned_serve.specs.Ledger.Notice.{Back};
+ghost use Rattle.saned_serve.specs.Acts.{is_over};
+ghost use Rattle.saned_serve.specs.Goes.{Goes, Attends, Sends, Parts, hung_up};
+ghost use Rattle.saned_serve.specs.Goes.Phase.{Fresh, Filled, Heard, Ready, Spoken};
 
-use crate::pending::Pending;
+use crate::pending::{Pending, is_end};
 use crate::{Got, Listeners, Socket};
 use device_api::Device;
-use saned_core::{Daemon, DataStep, Fed, FrameState, SessionId};
+use saned_core::{Daemon, Fed, FrameState, SessionId};
 use std::alloc::Global;
+
+/// The most bytes of replies that are taken at once.
+pub const MOST_REPLY: usize = 4096;
+
+/// The most bytes of a record, its length among them.
+pub const MOST_RECORD: usize = 65_540;
 
 /// A session with its control connection, its data port and the data connection of its frame.
 pub struct Link<C> {
@@ -19,8 +28,8 @@ pub struct Link<C> {
     pub is_over: bool,
     /// Its control connection is lost, or its session is over and all its replies are written.
     pub is_done: bool,
-    pub replies: Pending,
-    pub records: Pending,
+    pub replies: Pending<MOST_REPLY>,
+    pub records: Pending<MOST_RECORD>,
     pub image: Option<C>,
     /// The end record was taken.
     pub is_last: bool,
@@ -29,15 +38,67 @@ pub struct Link<C> {
 /// The most that is read and fed in a turn.
 const PIECE: usize = 4096;
 
+/// Whether a session is over once a piece was fed to it.
+fn over_after(was_over: bool, fed: Fed) -> bool
+    ensures { result ≡ (was_over || is_over fed) }
+{
+    match fed {
+        Fed::Standing => was_over,
+        Fed::Over | Fed::Starved => true,
+    }
+}
+
+fn is_waiting<D: Device>(daemon: &Daemon<D>, id: SessionId) -> bool
+    ensures { result ≡ waits (frame_in (session_of (core D.state daemon.now) id.number)) }
+{
+    match daemon.frame(id) {
+        FrameState::Waiting => true,
+        FrameState::Quiet | FrameState::Streaming | FrameState::Ending => false,
+    }
+}
+
+/// Whether a frame waits that did not.
+fn has_begun(was_waiting: bool, is_waiting: bool) -> bool
+    ensures { result ≡ (not was_waiting && is_waiting) }
+{
+    !was_waiting && is_waiting
+}
+
+/// Feeds a piece to the session. Where a frame begins with that, a connection at its data port that has ended was left
+/// behind by an earlier frame or a stranger: its client knows nothing of the frame before the answer to START is written.
+fn attend<D: Device, L: Listeners>(
+    alloc: Global,
+    daemon: &mut Daemon<D>,
+    net: &mut L,
+    link: &mut Link<L::Conn>,
+    piece: &[u8],
+)
+    requires { length piece.now ≤ 4096 }
+    ensures link { link.new ≡ record link.old { is_over = link.new.is_over } }
+    ensures attends { Attends link.old.id.number link.old.port piece.now (core D.state daemon.old) (L.ledger net.old) link.old.is_over link.new.is_over (core D.state daemon.new) (L.ledger net.new) }
+{
+    let was_waiting = is_waiting(daemon, link.id);
+    let fed = daemon.feed(alloc, link.id, piece);
+    link.is_over = over_after(link.is_over, fed);
+    if has_begun(was_waiting, is_waiting(daemon, link.id)) {
+        net.forget_ended(link.port);
+    }
+}
+
 /// One read of the control connection, fed to the session. Tells whether something moved.
-fn hear<D: Device, C: Socket>(alloc: Global, daemon: &mut Daemon<D>, link: &mut Link<C>) -> bool
-    ensures { (n : Option Ledger) → Goes C.history (core D.state daemon.old) n link.old (core D.state daemon.new) n link.new }
+fn hear<D: Device, L: Listeners>(
+    alloc: Global,
+    daemon: &mut Daemon<D>,
+    net: &mut L,
+    link: &mut Link<L::Conn>,
+) -> bool
+    requires { link.old.replies ≡ [] }
+    ensures { Goes L.Conn.history Filled Heard (core D.state daemon.old) (L.ledger net.old) link.old result (core D.state daemon.new) (L.ledger net.new) link.new }
 {
     let mut room = [0u8; PIECE];
     match link.conn.read(&mut room) {
         Got::Moved(n) => {
-            let fed = daemon.feed(alloc, link.id, &room[..n]);
-            link.is_over |= fed != Fed::Standing;
+            attend(alloc, daemon, net, link, &room[..n]);
             true
         }
         Got::Nothing => false,
@@ -50,7 +111,8 @@ fn hear<D: Device, C: Socket>(alloc: Global, daemon: &mut Daemon<D>, link: &mut 
 
 /// Takes replies where none wait.
 fn fill_replies<D: Device, C: Socket>(daemon: &mut Daemon<D>, link: &mut Link<C>)
-    ensures { (n : Option Ledger) → Goes C.history (core D.state daemon.old) n link.old (core D.state daemon.new) n link.new }
+    ensures first { (n : Option Ledger) → Goes C.history Fresh Filled (core D.state daemon.old) n link.old false (core D.state daemon.new) n link.new }
+    ensures again { (n : Option Ledger) → Goes C.history Heard Ready (core D.state daemon.old) n link.old false (core D.state daemon.new) n link.new }
 {
     if link.replies.is_empty() {
         link.replies.take_reply(daemon, link.id);
@@ -59,45 +121,37 @@ fn fill_replies<D: Device, C: Socket>(daemon: &mut Daemon<D>, link: &mut Link<C>
 
 /// One read of the control connection where no replies wait: those of a client that asks on and on and reads none would
 /// pile up without end. Tells whether something moved.
-fn listen<D: Device, C: Socket>(alloc: Global, daemon: &mut Daemon<D>, link: &mut Link<C>) -> bool
-    ensures { (n : Option Ledger) → Goes C.history (core D.state daemon.old) n link.old (core D.state daemon.new) n link.new }
-{
-    fill_replies(daemon, link);
-    if link.replies.is_empty() {
-        hear(alloc, daemon, link)
-    } else {
-        false
-    }
-}
-
-fn is_waiting<D: Device>(daemon: &Daemon<D>, id: SessionId) -> bool {
-    matches!(daemon.frame(id), FrameState::Waiting)
-}
-
-/// What `listen` does. Where a frame begins with that, a connection at its data port that has ended was left behind by an
-/// earlier frame or a stranger: its client knows nothing of the frame before the answer to START is written.
-fn attend<D: Device, L: Listeners>(
+fn listen<D: Device, L: Listeners>(
     alloc: Global,
     daemon: &mut Daemon<D>,
     net: &mut L,
     link: &mut Link<L::Conn>,
 ) -> bool
-    ensures { Goes L.Conn.history (core D.state daemon.old) (L.ledger net.old) link.old (core D.state daemon.new) (L.ledger net.new) link.new }
+    ensures { Goes L.Conn.history Fresh Heard (core D.state daemon.old) (L.ledger net.old) link.old result (core D.state daemon.new) (L.ledger net.new) link.new }
 {
-    let was_waiting = is_waiting(daemon, link.id);
-    let has_heard = listen(alloc, daemon, link);
-    if !was_waiting && is_waiting(daemon, link.id) {
-        net.forget_ended(link.port);
+    fill_replies(daemon, link);
+    if link.replies.is_empty() {
+        hear(alloc, daemon, net, link)
+    } else {
+        false
     }
-    has_heard
+}
+
+/// A session that is over is done once none of its replies wait.
+fn finish<C>(link: &mut Link<C>)
+    ensures { link.new ≡ record link.old { is_done = link.old.is_done || link.old.is_over } }
+{
+    if link.is_over {
+        link.is_done = true;
+    }
 }
 
 /// One write of the replies that wait.
 fn send_replies<C: Socket>(link: &mut Link<C>) -> bool
-    ensures { (d : Core) (n : Option Ledger) → Goes C.history d n link.old d n link.new }
+    ensures { (d : Core) (n : Option Ledger) → Goes C.history Ready Spoken d n link.old result d n link.new }
 {
     if link.replies.is_empty() {
-        link.is_done |= link.is_over;
+        finish(link);
         return false;
     }
     match link.replies.write_to(&mut link.conn) {
@@ -112,7 +166,7 @@ fn send_replies<C: Socket>(link: &mut Link<C>) -> bool
 
 /// One write of replies, which are taken from the daemon where none wait.
 fn speak<D: Device, C: Socket>(daemon: &mut Daemon<D>, link: &mut Link<C>) -> bool
-    ensures { (n : Option Ledger) → Goes C.history (core D.state daemon.old) n link.old (core D.state daemon.new) n link.new }
+    ensures { (n : Option Ledger) → Goes C.history Heard Spoken (core D.state daemon.old) n link.old result (core D.state daemon.new) n link.new }
 {
     fill_replies(daemon, link);
     send_replies(link)
@@ -134,7 +188,7 @@ fn dial<D: Device, L: Listeners>(
     net: &mut L,
     link: &mut Link<L::Conn>,
 ) -> bool
-    ensures { Goes L.Conn.history (core D.state daemon.old) (L.ledger net.old) link.old (core D.state daemon.new) (L.ledger net.new) link.new }
+    ensures { Goes L.Conn.history Spoken Spoken (core D.state daemon.old) (L.ledger net.old) link.old result (core D.state daemon.new) (L.ledger net.new) link.new }
 {
     if link.image.is_some() {
         return false;
@@ -161,17 +215,17 @@ fn dial<D: Device, L: Listeners>(
 /// Takes a record where none waits.
 fn fill_records<D: Device, C: Socket>(daemon: &mut Daemon<D>, link: &mut Link<C>)
     requires { IsSome link.old.image }
-    ensures { (n : Option Ledger) → Goes C.history (core D.state daemon.old) n link.old (core D.state daemon.new) n link.new }
+    ensures { (n : Option Ledger) → Goes C.history Spoken Spoken (core D.state daemon.old) n link.old false (core D.state daemon.new) n link.new }
 {
-    if link.records.is_empty() && !link.is_last {
+    if link.records.is_empty() {
         let step = link.records.take_record(daemon, link.id);
-        link.is_last = matches!(step, DataStep::Last(_));
+        link.is_last = is_end(step);
     }
 }
 
 /// One write of the record that waits.
 fn send_records<C: Socket>(link: &mut Link<C>) -> Got
-    ensures { (d : Core) (n : Option Ledger) → Goes C.history d n link.old d n link.new }
+    ensures { Sends C.history result link.old link.new }
 {
     match &mut link.image {
         Some(conn) if !link.records.is_empty() => link.records.write_to(conn),
@@ -185,7 +239,7 @@ fn show<D: Device, L: Listeners>(
     net: &mut L,
     link: &mut Link<L::Conn>,
 ) -> bool
-    ensures { Goes L.Conn.history (core D.state daemon.old) (L.ledger net.old) link.old (core D.state daemon.new) (L.ledger net.new) link.new }
+    ensures { Goes L.Conn.history Spoken Spoken (core D.state daemon.old) (L.ledger net.old) link.old result (core D.state daemon.new) (L.ledger net.new) link.new }
 {
     if link.image.is_none() {
         return false;
@@ -214,9 +268,9 @@ pub fn converse<D: Device, L: Listeners>(
     net: &mut L,
     link: &mut Link<L::Conn>,
 ) -> bool
-    ensures { Goes L.Conn.history (core D.state daemon.old) (L.ledger net.old) link.old (core D.state daemon.new) (L.ledger net.new) link.new }
+    ensures { Goes L.Conn.history Fresh Spoken (core D.state daemon.old) (L.ledger net.old) link.old result (core D.state daemon.new) (L.ledger net.new) link.new }
 {
-    let has_heard = attend(alloc, daemon, net, link);
+    let has_heard = listen(alloc, daemon, net, link);
     let has_spoken = speak(daemon, link);
     let has_dialed = dial(daemon, net, link);
     let has_shown = show(daemon, net, link);
@@ -226,14 +280,14 @@ pub fn converse<D: Device, L: Listeners>(
 /// Room for what waits on a session's two connections.
 #[derive(Drop)]
 pub struct Rooms {
-    pub replies: Pending,
-    pub records: Pending,
+    pub replies: Pending<MOST_REPLY>,
+    pub records: Pending<MOST_RECORD>,
 }
 
 /// Hands the control connection back.
 pub fn part<L: Listeners>(net: &mut L, link: Link<L::Conn>) -> Rooms
     requires { link.image ≡ None }
-    ensures { L.ledger net.new ≡ after_close (L.Conn.history link.conn) (L.ledger net.old) }
+    ensures { L.ledger net.new ≡ noticed (Back (L.Conn.history link.conn)) (L.ledger net.old) }
 {
     let Link {
         conn,

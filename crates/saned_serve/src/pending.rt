@@ -3,8 +3,8 @@
 ghost use Rattle.std.specs.Prelude.{◌≡◌, ◌≤◌, ℕ, List, [], length, drop, slice_range, vec_len, IfOk, IsTrue, ◌↔◌};
 ghost use Rattle.saned_core.specs.State.{core};
 ghost use Rattle.saned_serve.specs.Talk.{moved, MovesWithin, after_write};
-ghost use Rattle.saned_serve.specs.Calls.{Steps, written_by};
-ghost use Rattle.saned_serve.specs.Calls.Call.{Take, Turn};
+ghost use Rattle.saned_serve.specs.Acts.{Does, written_by, is_last};
+ghost use Rattle.saned_serve.specs.Acts.Act.{Take, Turn};
 
 use crate::{Got, Socket};
 use device_api::Device;
@@ -14,18 +14,18 @@ use std::marker::Model;
 
 /// Contracts see the list of the bytes that wait.
 #[derive(Drop)]
-pub struct Pending {
+pub struct Pending<const ROOM: usize> {
     room: Vec<u8>,
     from: usize,
     to: usize,
 }
 
-impl Model for Pending {
+impl<const ROOM: usize> Model for Pending<ROOM> {
     ghost Value = { List ℕ };
 
     ghost view = { λ p. slice_range p.room.items p.from p.to };
 
-    ghost invariant = { λ p. (p.from ≤ p.to) × (p.to ≤ vec_len p.room) × (8 ≤ vec_len p.room) };
+    ghost invariant = { λ p. (p.from ≤ p.to) × (p.to ≤ vec_len p.room) × (vec_len p.room ≡ ROOM) × (8 ≤ ROOM) };
 }
 
 /// How many bytes a turn wrote.
@@ -38,13 +38,23 @@ fn written(step: DataStep) -> usize
     }
 }
 
-impl Pending {
-    /// Room for so many bytes, of which none wait.
-    pub fn with_room(alloc: Global, size: usize) -> Result<Pending, AllocError>
-        requires { 8 ≤ size }
+/// Whether a turn wrote the end record.
+pub fn is_end(step: DataStep) -> bool
+    ensures { result ≡ is_last step }
+{
+    match step {
+        DataStep::Idle | DataStep::Bytes(_) => false,
+        DataStep::Last(_) => true,
+    }
+}
+
+impl<const ROOM: usize> Pending<ROOM> {
+    /// Room of which no bytes wait.
+    pub fn new(alloc: Global) -> Result<Pending<ROOM>, AllocError>
+        requires { 8 ≤ ROOM }
         ensures { IfOk result (λ p. p ≡ []) }
     {
-        let room = vec![in alloc; 0u8; size]?;
+        let room = vec![in alloc; 0u8; ROOM]?;
         Ok(Pending {
             room,
             from: 0,
@@ -82,7 +92,7 @@ impl Pending {
 
     /// Takes replies of a session, in place of what waits.
     pub fn take_reply<D: Device>(&mut self, daemon: &mut Daemon<D>, id: SessionId)
-        ensures { (room : ℕ) × Steps (core D.state daemon.old) (Take id.number room self.new) (core D.state daemon.new) }
+        ensures { Does id.number (core D.state daemon.old) (Take ROOM self.new) (core D.state daemon.new) }
     {
         let n = daemon.take_reply(id, self.room.as_mut_slice());
         self.from = 0;
@@ -91,7 +101,7 @@ impl Pending {
 
     /// Takes a record of a session, in place of what waits.
     pub fn take_record<D: Device>(&mut self, daemon: &mut Daemon<D>, id: SessionId) -> DataStep
-        ensures { Steps (core D.state daemon.old) (Turn id.number result self.new) (core D.state daemon.new) }
+        ensures { Does id.number (core D.state daemon.old) (Turn ROOM result self.new) (core D.state daemon.new) }
     {
         let step = daemon.data_turn(id, self.room.as_mut_slice());
         self.from = 0;

@@ -1,10 +1,10 @@
 //! The seats of sessions: who comes, who goes, and one turn of each.
 
-ghost use Rattle.std.specs.Prelude.{◌≡◌, ◌≤◌, ◌<◌, ℕ, List, Option, None, Some, length, IsSome, IsTrue, IfSome, IfOk, []};
+ghost use Rattle.std.specs.Prelude.{◌≡◌, ◌≤◌, ◌<◌, ◌+◌, ℕ, Bool, true, false, List, Option, None, Some, length, IsSome, IsTrue, IfSome, IfOk, []};
 ghost use Rattle.saned_core.specs.State.{Core, core};
 ghost use Rattle.saned_serve.specs.Ledger.{Ledger};
-ghost use Rattle.saned_serve.specs.Stands.{Stands, WentOn, Keeps, Empties, Greets, Closes, most_sessions, one_if, link_at};
-ghost use Rattle.saned_serve.specs.Story.{Deed};
+ghost use Rattle.saned_serve.specs.Stands.{Stands, WentOn, Keeps, Empties, IsLeft, IsSeated, Greets, Closes, most_sessions, one_if, link_at};
+ghost use Rattle.saned_serve.specs.Story.{Deed, has_stopped};
 
 use crate::Listeners;
 use crate::link::{Link, Rooms, converse, leave, part};
@@ -29,21 +29,12 @@ pub struct Visit {
 /// As many sessions as a daemon takes.
 const MOST_SESSIONS: usize = 8;
 
-/// The most bytes of replies that are taken at once.
-const MOST_REPLY: usize = 4096;
-
-/// The most bytes of a record, its length among them.
-const MOST_RECORD: usize = 65_540;
-
-fn rooms_for(alloc: Global, replies: usize, records: usize) -> Result<Vec<Rooms>, AllocError>
-    requires replies { 8 ≤ replies }
-    requires records { 8 ≤ records }
-{
+fn rooms_for(alloc: Global) -> Result<Vec<Rooms>, AllocError> {
     let mut all = Vec::with_capacity(alloc, MOST_SESSIONS)?;
     for _ in 0..MOST_SESSIONS {
         all.push(Rooms {
-            replies: Pending::with_room(alloc, replies)?,
-            records: Pending::with_room(alloc, records)?,
+            replies: Pending::new(alloc)?,
+            records: Pending::new(alloc)?,
         })?;
     }
     Ok(all)
@@ -54,7 +45,7 @@ pub fn seats_for<C>(alloc: Global) -> Result<Vec<Seat<C>>, AllocError>
     ensures empty { IfOk result (λ seats. (i : ℕ) → link_at seats.items i ≡ None) }
     ensures len { IfOk result (λ seats. length seats.items ≡ most_sessions) }
 {
-    let mut rooms = rooms_for(alloc, MOST_REPLY, MOST_RECORD)?;
+    let mut rooms = rooms_for(alloc)?;
     let mut seats = Vec::with_capacity(alloc, MOST_SESSIONS)?;
     for _i in 0..MOST_SESSIONS {
         seats.push_reserved(Seat {
@@ -71,8 +62,8 @@ fn talk_at<D: Device, L: Listeners>(
     net: &mut L,
     seat: &mut Seat<L::Conn>,
 ) -> Visit
-    ensures keeps { Keeps L.Conn.history (core D.state daemon.old) (L.ledger net.old) seat.old.link (core D.state daemon.new) (L.ledger net.new) seat.new.link }
-    ensures some { IsTrue result.has_left → IsSome seat.new.link }
+    ensures keeps { Keeps L.Conn.history (core D.state daemon.old) (L.ledger net.old) seat.old.link result.has_moved (core D.state daemon.new) (L.ledger net.new) seat.new.link }
+    ensures left { IsLeft result.has_left seat.new.link }
 {
     match &mut seat.link {
         None => Visit {
@@ -108,8 +99,8 @@ pub fn turn_at<D: Device, L: Listeners>(
     i: usize,
 ) -> Visit
     requires { i < length seats.old }
-    ensures { (d0 : Core) (n0 : Option Ledger) (past : List Deed) → Stands L.Conn.history d0 n0 past (core D.state daemon.old) (L.ledger net.old) seats.old
-        → WentOn L.Conn.history d0 n0 past (one_if result.has_left) (core D.state daemon.new) (L.ledger net.new) seats.new }
+    ensures { (d0 : Core) (n0 : Option Ledger) (past : List Deed) → Stands L.Conn.history d0 n0 past (core D.state daemon.old) (L.ledger net.old) i seats.old
+        → WentOn L.Conn.history d0 n0 past (one_if result.has_left) result.has_moved (core D.state daemon.new) (L.ledger net.new) (i + 1) seats.new }
 {
     let seat = &mut seats[i];
     let visit = talk_at(alloc, daemon, net, seat);
@@ -127,7 +118,7 @@ fn greet<D: Device, L: Listeners>(
     seat: &mut Seat<L::Conn>,
 ) -> bool
     requires { seat.old.link ≡ None }
-    ensures { Greets L.Conn.history (core D.state daemon.old) (L.ledger net.old) (core D.state daemon.new) (L.ledger net.new) seat.new.link }
+    ensures { Greets L.Conn.history (core D.state daemon.old) (L.ledger net.old) result (core D.state daemon.new) (L.ledger net.new) seat.new.link }
 {
     let Some(rooms) = seat.rooms.take() else {
         return false;
@@ -161,8 +152,7 @@ fn sit<L: Listeners>(
     port: u16,
 )
     requires { seat.old.link ≡ None }
-    ensures sits { IfSome seat.new.link (λ l. (l.conn ≡ conn) × (l.id ≡ id) × (l.replies ≡ []) × (l.image ≡ None)) }
-    ensures some { IsSome seat.new.link }
+    ensures sits { IsSeated conn id port seat.new.link }
     ensures net { L.ledger net.new ≡ L.ledger net.old }
 {
     let Rooms {
@@ -196,8 +186,8 @@ fn greet_at<D: Device, L: Listeners>(
 ) -> bool
     requires inside { i < length seats.old }
     requires none { link_at seats.old i ≡ None }
-    ensures { (d0 : Core) (n0 : Option Ledger) (past : List Deed) → Stands L.Conn.history d0 n0 past (core D.state daemon.old) (L.ledger net.old) seats.old
-        → WentOn L.Conn.history d0 n0 past 0 (core D.state daemon.new) (L.ledger net.new) seats.new }
+    ensures { (d0 : Core) (n0 : Option Ledger) (past : List Deed) → Stands L.Conn.history d0 n0 past (core D.state daemon.old) (L.ledger net.old) 0 seats.old
+        → WentOn L.Conn.history d0 n0 past 0 result (core D.state daemon.new) (L.ledger net.new) 0 seats.new }
 {
     let seat = &mut seats[i];
     greet(alloc, daemon, net, seat)
@@ -210,8 +200,8 @@ pub fn welcome<D: Device, L: Listeners>(
     net: &mut L,
     seats: &mut [Seat<L::Conn>],
 ) -> bool
-    ensures { (d0 : Core) (n0 : Option Ledger) (past : List Deed) → Stands L.Conn.history d0 n0 past (core D.state daemon.old) (L.ledger net.old) seats.old
-        → WentOn L.Conn.history d0 n0 past 0 (core D.state daemon.new) (L.ledger net.new) seats.new }
+    ensures { (d0 : Core) (n0 : Option Ledger) (past : List Deed) → Stands L.Conn.history d0 n0 past (core D.state daemon.old) (L.ledger net.old) 0 seats.old
+        → WentOn L.Conn.history d0 n0 past 0 result (core D.state daemon.new) (L.ledger net.new) 0 seats.new }
 {
     for i in 0..seats.len() {
         if seats[i].link.is_none() {
@@ -238,7 +228,7 @@ pub fn close_all<D: Device, L: Listeners>(
     net: &mut L,
     mut seats: Vec<Seat<L::Conn>>,
 )
-    ensures { (d0 : Core) (n0 : Option Ledger) (past : List Deed) → Stands L.Conn.history d0 n0 past (core D.state daemon.old) (L.ledger net.old) seats.items
+    ensures { (d0 : Core) (n0 : Option Ledger) (past : List Deed) → has_stopped past ≡ true → Stands L.Conn.history d0 n0 past (core D.state daemon.old) (L.ledger net.old) 0 seats.items
         → Closes d0 n0 past (core D.state daemon.new) (L.ledger net.new) }
 {
     while let Some(mut seat) = seats.pop() {

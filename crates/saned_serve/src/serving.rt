@@ -1,9 +1,9 @@
 //! Turn after turn, until enough sessions left or nothing moves.
 
-ghost use Rattle.std.specs.Prelude.{◌≡◌, ◌≢◌, ◌≤◌, List, [], Option, length};
+ghost use Rattle.std.specs.Prelude.{◌≡◌, ◌≢◌, ◌≤◌, ◌<◌, ◌+◌, cond, List, [], Option, length};
 ghost use Rattle.saned_core.specs.State.{Core, core};
 ghost use Rattle.saned_serve.specs.Ledger.{Ledger};
-ghost use Rattle.saned_serve.specs.Stands.{Stands, WentOn, Ran, Served, most_sessions};
+ghost use Rattle.saned_serve.specs.Stands.{Stands, TookTurn, Ran, Served, most_sessions, most_turns};
 ghost use Rattle.saned_serve.specs.Story.{Deed};
 
 use crate::Listeners;
@@ -26,8 +26,8 @@ fn take_turn<D: Device, L: Listeners>(
     net: &mut L,
     seats: &mut [Seat<L::Conn>],
 ) -> Turned
-    ensures turned { (d0 : Core) (n0 : Option Ledger) (past : List Deed) → Stands L.Conn.history d0 n0 past (core D.state daemon.old) (L.ledger net.old) seats.old
-        → WentOn L.Conn.history d0 n0 past result.left (core D.state daemon.new) (L.ledger net.new) seats.new }
+    ensures turned { (d0 : Core) (n0 : Option Ledger) (past : List Deed) → Stands L.Conn.history d0 n0 past (core D.state daemon.old) (L.ledger net.old) 0 seats.old
+        → TookTurn L.Conn.history d0 n0 past result.left result.has_moved (core D.state daemon.new) (L.ledger net.new) seats.new }
     ensures few { result.left ≤ length seats.old }
 {
     let mut has_moved = welcome(alloc, daemon, net, seats);
@@ -53,7 +53,15 @@ pub enum ServeEnd {
     NoMem,
 }
 
-const MOST_TURNS: u64 = 1 << 40;
+const MOST_TURNS: u64 = 1_099_511_627_776;
+
+/// How many turns in a row nothing moved in, once one more was taken.
+fn idle_after(idle: u64, has_moved: bool) -> u64
+    requires { idle < most_turns }
+    ensures { result ≡ cond has_moved 0 (idle + 1) }
+{
+    if has_moved { 0 } else { idle + 1 }
+}
 
 fn take_turns<D: Device, L: Listeners>(
     alloc: Global,
@@ -64,8 +72,8 @@ fn take_turns<D: Device, L: Listeners>(
     idle_turns: u64,
 ) -> ServeEnd
     requires { length seats.old ≡ most_sessions }
-    ensures ran { (d0 : Core) (n0 : Option Ledger) → Stands L.Conn.history d0 n0 [] (core D.state daemon.old) (L.ledger net.old) seats.old
-        → Ran L.Conn.history d0 n0 result sessions (core D.state daemon.new) (L.ledger net.new) seats.new }
+    ensures ran { (d0 : Core) (n0 : Option Ledger) → Stands L.Conn.history d0 n0 [] (core D.state daemon.old) (L.ledger net.old) 0 seats.old
+        → Ran L.Conn.history d0 n0 result sessions idle_turns (core D.state daemon.new) (L.ledger net.new) seats.new }
     ensures memory { result ≢ ServeEnd.NoMem }
 {
     let mut all_left = 0u64;
@@ -76,11 +84,7 @@ fn take_turns<D: Device, L: Listeners>(
         if sessions > 0 && all_left >= sessions {
             return ServeEnd::Sessions;
         }
-        idle = if turned.has_moved {
-            0
-        } else {
-            idle.saturating_add(1)
-        };
+        idle = idle_after(idle, turned.has_moved);
         if idle >= idle_turns {
             return ServeEnd::Idle;
         }
@@ -103,7 +107,7 @@ pub fn serve<D: Device, L: Listeners>(
     sessions: u64,
     idle_turns: u64,
 ) -> ServeEnd
-    ensures served { Served (core D.state daemon.old) (L.ledger net.old) (core D.state daemon.new) (L.ledger net.new) result sessions }
+    ensures served { Served (core D.state daemon.old) (L.ledger net.old) (core D.state daemon.new) (L.ledger net.new) result sessions idle_turns }
     ensures memory { result ≡ ServeEnd.NoMem → (daemon.new ≡ daemon.old) × (L.ledger net.new ≡ L.ledger net.old) }
 {
     let mut seats: Vec<Seat<L::Conn>> = match seats_for(alloc) {

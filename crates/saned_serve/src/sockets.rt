@@ -1,8 +1,9 @@
 //! Connections that never wait, and whence they come.
 
-ghost use Rattle.std.specs.Prelude.{◌≡◌, ◌≤◌, ◌<◌, ℕ, Option, None, Some, IfSome, length};
-ghost use Rattle.saned_serve.specs.Talk.{Talk, MovesWithin, after_read, after_write, IsFresh};
-ghost use Rattle.saned_serve.specs.Ledger.{Ledger, after_accept, after_close};
+ghost use Rattle.std.specs.Prelude.{◌≡◌, ◌≤◌, ◌<◌, ℕ, Option, None, Some, IfSome, is_some, [], length};
+ghost use Rattle.saned_serve.specs.Talk.{Talk, MovesWithin, after_read, after_write, IsTold};
+ghost use Rattle.saned_serve.specs.Ledger.{Ledger, noticed};
+ghost use Rattle.saned_serve.specs.Ledger.Notice.{Asked, Port, Forgot, Dialed, Shut, Back};
 
 /// What a call on a socket came to.
 #[derive(Clone, Copy, Debug, PartialEq, Eq)]
@@ -17,7 +18,7 @@ pub enum Got {
 
 /// A connection whose calls come back at once.
 pub trait Socket {
-    /// The bytes read from it and written to it so far, where it tells them.
+    /// All calls of it so far with what they came to, the newest first, where it tells them.
     ghost history: { Self → Option Talk } = { λ _. None };
 
     /// Reads to the start of the buffer, at most as many bytes as it has.
@@ -36,34 +37,33 @@ pub trait Socket {
 pub trait Listeners {
     type Conn: Socket;
 
-    /// How many connections were handed out, and what those handed back had told, where it tells them.
+    /// All that it was asked, the newest first, where it tells it.
     ghost ledger: { Self → Option Ledger } = { λ _. None };
 
     /// The next control connection, where one is there.
     fn accept(&mut self) -> Option<Self::Conn>
-        ensures told { ledger self.new ≡ after_accept result (ledger self.old) }
-        ensures fresh { IfSome result (λ conn. IsFresh (Self.Conn.history conn)) };
+        ensures told { ledger self.new ≡ noticed (Asked (is_some result)) (ledger self.old) }
+        ensures fresh { IfSome result (λ conn. IsTold (Self.Conn.history conn) []) };
 
     /// A new port that waits for data connections.
     fn open_data(&mut self) -> Option<u16>
-        ensures { ledger self.new ≡ ledger self.old };
+        ensures { ledger self.new ≡ noticed (Port result) (ledger self.old) };
 
     /// A frame begins that will wait at that port, and nobody was told so yet: connections there that their peers have
     /// ended by now are of no frame. What takes connections only as they are dialled has none such, and does nothing.
-    fn forget_ended(&mut self, _port: u16)
-        ensures { ledger self.new ≡ ledger self.old }
-    {}
+    fn forget_ended(&mut self, port: u16)
+        ensures { ledger self.new ≡ noticed (Forgot port) (ledger self.old) };
 
     /// A connection at such a port, where one is there.
     fn accept_data(&mut self, port: u16) -> Option<Self::Conn>
-        ensures told { ledger self.new ≡ after_accept result (ledger self.old) }
-        ensures fresh { IfSome result (λ conn. IsFresh (Self.Conn.history conn)) };
+        ensures told { ledger self.new ≡ noticed (Dialed port (is_some result)) (ledger self.old) }
+        ensures fresh { IfSome result (λ conn. IsTold (Self.Conn.history conn) []) };
 
     /// No further connection is awaited at that port.
     fn close_data(&mut self, port: u16)
-        ensures { ledger self.new ≡ ledger self.old };
+        ensures { ledger self.new ≡ noticed (Shut port) (ledger self.old) };
 
     /// Takes a connection back, and closes it.
     fn close(&mut self, conn: Self::Conn)
-        ensures { ledger self.new ≡ after_close (Self.Conn.history conn) (ledger self.old) };
+        ensures { ledger self.new ≡ noticed (Back (Self.Conn.history conn)) (ledger self.old) };
 }

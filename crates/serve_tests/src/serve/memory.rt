@@ -1,6 +1,6 @@
 //! Connections in memory, and listeners that keep what they are handed back.
 
-ghost use Rattle.std.specs.Prelude.{◌≤◌, ◌≡◌, ◌+◌, Some, take, map, vec_len};
+ghost use Rattle.std.specs.Prelude.{◌≤◌, ◌≡◌, ◌+◌, vec_len};
 
 use saned_serve::{Got, Listeners, Socket};
 use std::alloc::{AllocError, Global};
@@ -64,8 +64,6 @@ impl MemorySocket {
 }
 
 impl Socket for MemorySocket {
-    ghost history = { λ s. Some (record { read = take s.at s.script.items; written = s.out.items }) };
-
     fn read(&mut self, buf: &mut [u8]) -> Got {
         let n = self.piece.min(buf.len()).min(self.script.len() - self.at);
         if n == 0 {
@@ -134,8 +132,6 @@ impl<R: Abort + Drop> MemoryNet<R> {
 
 impl<R: Abort + Drop> Listeners for MemoryNet<R> {
     type Conn = MemorySocket;
-
-    ghost ledger = { λ n. Some (record { accepted = n.accepted; back = map ⟦<MemorySocket as Socket>⟧.history n.back.items }) };
 
     fn accept(&mut self) -> Option<MemorySocket> {
         self.asked = self.asked.saturating_add(1);

@@ -2,5 +2,5 @@ use Rattle.saned_serve.proofs.Steps.{goes_then}
 use Rattle.saned_serve.proofs.link.converse.Goals as goal
 
 pub returns : goal.returns
-returns g c = let n = g.L.Listeners.ledger c.attend-has_heard.new.net in
-    goes_then (goes_then (goes_then c.attend-has_heard.ensures (c.speak-has_spoken.ensures n)) c.dial-has_dialed.ensures) c.show-has_shown.ensures
+returns g c = let n = g.L.Listeners.ledger c.listen-has_heard.new.net in
+    goes_then (goes_then (goes_then c.listen-has_heard.ensures (c.speak-has_spoken.ensures n)) c.dial-has_dialed.ensures) c.show-has_shown.ensures

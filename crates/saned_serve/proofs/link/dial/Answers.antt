@@ -1,7 +1,11 @@
-use Rattle.std.proofs.Common.{◌≡◌, true, false, refl, rules, ◌∙◌, ap, sym}
+use Rattle.std.proofs.Common.{◌≡◌, true, false, refl, rules, ◌∙◌, ap, sym, Option, None, Some, is_some}
 use Rattle.saned_core.specs.State.{core, is_waiting}
-use Rattle.saned_serve.proofs.Steps.{goes_dials}
+use Rattle.saned_serve.proofs.Steps.{goes_dials, goes_misses}
 use Rattle.saned_serve.proofs.link.dial.Goals as goal
+
+none_of : {A : Type 0} (o : Option A) → is_some o ≡ false → o ≡ None
+none_of None e = refl
+none_of (Some x) e = cc
 
 pub returns-then-not-data_connected : goal.returns-then-not-data_connected
 returns-then-not-data_connected g c =
@@ -10,5 +14,9 @@ returns-then-not-data_connected g c =
 
 pub returns-in_default-replace : goal.returns-in_default-replace
 returns-in_default-replace g c =
-    goes_dials g.L.Conn.Socket.history (core g.D.Device.state c.args.daemon.now) (g.L.Listeners.ledger c.args.net.now) c.args.link.now (core g.D.Device.state c.data_connected.new.self) (g.L.Listeners.ledger c.accept_data.new.self) _ c.in-Some.conn
-    (search rules) (search rules) c.clear.ensures refl refl refl c.in-Some.ensures.fresh (record { waits = sym c.data_connected.ensures.answer ∙ c.if-not-data_connected.false; after = c.data_connected.ensures.after }) c.in-Some.ensures.told
+    goes_dials g.L.Conn.Socket.history (core g.D.Device.state c.args.daemon.now) (g.L.Listeners.ledger c.args.net.now) c.args.link.now (core g.D.Device.state c.data_connected.new.self) (g.L.Listeners.ledger c.accept_data.new.self) _ _ c.in-Some.conn
+    (search rules) (search rules) c.clear.ensures c.in-Some.ensures.fresh (record { waits = sym c.data_connected.ensures.answer ∙ c.if-not-data_connected.false; after = c.data_connected.ensures.after }) c.in-Some.ensures.told
+
+pub returns-in_default-accept_data : goal.returns-in_default-accept_data
+returns-in_default-accept_data g c =
+    goes_misses g.L.Conn.Socket.history (core g.D.Device.state c.args.daemon.now) (g.L.Listeners.ledger c.args.net.now) c.args.link.now (g.L.Listeners.ledger c.accept_data.new.self) (none_of c.args.link.now.image (sym c.if-is_some.ensures)) c.in_default-accept_data.ensures.told

@@ -1,21 +1,31 @@
+use Rattle.std.proofs.Common.{◌≡◌, ◌≢◌, true, false, [], refl, sym, ap, ◌∙◌, subst}
 use Rattle.saned_core.specs.State.{core}
-use Rattle.saned_serve.proofs.Steps.{goes_then, goes_drops, goes_hung}
+use Rattle.saned_serve.specs.Acts.{Does}
+use Rattle.saned_serve.specs.Acts.Act.{Lose}
+use Rattle.saned_serve.specs.declared.link.Link.{Link}
+use Rattle.saned_serve.proofs.Steps.{goes_then, goes_shows_none, goes_shows, goes_shows_last, goes_shows_lost}
 use Rattle.saned_serve.proofs.link.show.Goals as goal
+use Rattle.saned_serve.proofs.link.show.Goals.{else-link-via-then-link+else-is_empty, else-link-via-else-link}
 
 pub returns-in-Nothing : goal.returns-in-Nothing
 returns-in-Nothing g c = let n = g.L.Listeners.ledger c.args.net.now in
-    goes_then (c.fill_records.ensures n) (c.send_records.ensures (core g.D.Device.state c.fill_records.new.daemon) n)
-
-pub returns-then-is_empty : goal.returns-then-is_empty
-returns-then-is_empty g c = let n = g.L.Listeners.ledger c.args.net.now in
-    goes_then (goes_then (c.fill_records.ensures n) (c.send_records.ensures (core g.D.Device.state c.fill_records.new.daemon) n)) (goes_hung g.L.Conn.Socket.history (core g.D.Device.state c.fill_records.new.daemon) n c.send_records.new.link (g.L.Listeners.ledger c.hang_up.new.net) c.hang_up.new.link c.hang_up.ensures.link c.hang_up.ensures.net)
-
-pub returns-else-link : goal.returns-else-link
-returns-else-link g c = let n = g.L.Listeners.ledger c.args.net.now in
-    goes_then (c.fill_records.ensures n) (c.send_records.ensures (core g.D.Device.state c.fill_records.new.daemon) n)
+    goes_then (c.fill_records.ensures n) (goes_shows_none g.L.Conn.Socket.history (core g.D.Device.state c.fill_records.new.daemon) n c.fill_records.new.link c.send_records.new.link c.in-Nothing.ensures.link c.in-Nothing.ensures.sends)
 
 pub returns-in-Lost : goal.returns-in-Lost
 returns-in-Lost g c = let n = g.L.Listeners.ledger c.args.net.now in
-    goes_then (goes_then (goes_then (c.fill_records.ensures n) (c.send_records.ensures (core g.D.Device.state c.fill_records.new.daemon) n))
-    (goes_drops g.L.Conn.Socket.history (core g.D.Device.state c.fill_records.new.daemon) n c.send_records.new.link (core g.D.Device.state c.data_lost.new.self) c.data_lost.ensures))
-    (goes_hung g.L.Conn.Socket.history (core g.D.Device.state c.data_lost.new.self) n c.send_records.new.link (g.L.Listeners.ledger c.hang_up-in-Lost.new.net) c.hang_up-in-Lost.new.link c.hang_up-in-Lost.ensures.link c.hang_up-in-Lost.ensures.net)
+    goes_then (c.fill_records.ensures n) (goes_shows_lost g.L.Conn.Socket.history (core g.D.Device.state c.fill_records.new.daemon) n c.fill_records.new.link c.send_records.new.link c.hang_up-in-Lost.new.link (core g.D.Device.state c.data_lost.new.self) (g.L.Listeners.ledger c.hang_up-in-Lost.new.net) c.in-Lost.ensures.link c.in-Lost.ensures.sends (subst (λ i. Does i (core g.D.Device.state c.fill_records.new.daemon) Lose (core g.D.Device.state c.data_lost.new.self)) (ap (λ (l : Link g.row.L-Conn.Denot). l.id.number) c.in-Lost.ensures.link) c.data_lost.ensures) c.hang_up-in-Lost.ensures.link c.hang_up-in-Lost.ensures.net)
+
+pub returns-then-is_empty : goal.returns-then-is_empty
+returns-then-is_empty g c = let n = g.L.Listeners.ledger c.args.net.now in
+    goes_then (c.fill_records.ensures n) (goes_shows_last g.L.Conn.Socket.history (core g.D.Device.state c.fill_records.new.daemon) n c.fill_records.new.link c.send_records.new.link c.hang_up.new.link (g.L.Listeners.ledger c.hang_up.new.net) c.in-Moved.field-0 c.in-Moved.ensures.link c.in-Moved.ensures.sends
+    (sym (ap (λ (l : Link g.row.L-Conn.Denot). l.is_last) c.in-Moved.ensures.link) ∙ c.if-link.true) (c.if-is_empty.ensures.0 refl) c.hang_up.ensures.link c.hang_up.ensures.net)
+
+pub returns-else-link : goal.returns-else-link
+returns-else-link g c =
+    let n = g.L.Listeners.ledger c.args.net.now in
+    let same = ap (λ (l : Link g.row.L-Conn.Denot). l.is_last) c.in-Moved.ensures.link in
+    let more : c.fill_records.new.link.is_last ≡ true → c.send_records.new.link.records ≢ [] = λ last. elim c.else-link.branch [
+      | else-link-via-then-link+else-is_empty w ↦ λ none. (let wrong : false ≡ true = w.if-is_empty.ensures.1 none in cc)
+      | else-link-via-else-link w ↦ λ none. (let wrong : false ≡ true = sym w.if-link.false ∙ same ∙ last in cc)
+    ] in
+    goes_then (c.fill_records.ensures n) (goes_shows g.L.Conn.Socket.history (core g.D.Device.state c.fill_records.new.daemon) n c.fill_records.new.link c.send_records.new.link c.in-Moved.field-0 c.in-Moved.ensures.link c.in-Moved.ensures.sends more)

@@ -11,5 +11,5 @@ returns g c = λ d0 n0 past was.
     let seats = c.args.seats.now in
     let i = c.args.i in
     let seat = c.greet.new.seat in
-    stands_greets g.L.Conn.Socket.history d0 n0 past (core g.D.Device.state c.args.daemon.now) (g.L.Listeners.ledger c.args.net.now) seats was (core g.D.Device.state c.greet.new.daemon) (g.L.Listeners.ledger c.greet.new.net) (slice_set seats i seat) i seat.link
+    stands_greets g.L.Conn.Socket.history d0 n0 past (core g.D.Device.state c.args.daemon.now) (g.L.Listeners.ledger c.args.net.now) seats was c.greet.result (core g.D.Device.state c.greet.new.daemon) (g.L.Listeners.ledger c.greet.new.net) (slice_set seats i seat) i seat.link
     c.requires.none c.greet.ensures (link_at_set seats i seat c.requires.inside) (link_at_off seats i seat)

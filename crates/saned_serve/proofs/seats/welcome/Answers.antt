@@ -20,4 +20,4 @@ returns-then-is_none g c = λ d0 n0 past was. c.greet_at.ensures d0 n0 past (c.l
 
 pub returns : goal.returns
 returns g c = λ d0 n0 past was.
-    stays g.L.Conn.Socket.history d0 n0 past (core g.D.Device.state c.loop-i.daemon) (g.L.Listeners.ledger c.loop-i.net) c.loop-i.seats (c.loop-i.invariant d0 n0 past was)
+    stays g.L.Conn.Socket.history d0 n0 past (core g.D.Device.state c.loop-i.daemon) (g.L.Listeners.ledger c.loop-i.net) 0 c.loop-i.seats (c.loop-i.invariant d0 n0 past was)

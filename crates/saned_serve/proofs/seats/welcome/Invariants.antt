@@ -6,5 +6,5 @@ use Rattle.saned_serve.specs.Stands.{Stands}
 use Rattle.saned_serve.proofs.seats.welcome.Given as goal
 
 abbrev pub invariant-loop-i : goal.invariant-loop-i
-invariant-loop-i g l = (d0 : Core) (n0 : Option Ledger) (past : List Deed) → Stands g.L.Conn.Socket.history d0 n0 past (core g.D.Device.state l.fn.daemon) (g.L.Listeners.ledger l.fn.net) l.fn.seats
-    → Stands g.L.Conn.Socket.history d0 n0 past (core g.D.Device.state l.daemon) (g.L.Listeners.ledger l.net) l.seats
+invariant-loop-i g l = (d0 : Core) (n0 : Option Ledger) (past : List Deed) → Stands g.L.Conn.Socket.history d0 n0 past (core g.D.Device.state l.fn.daemon) (g.L.Listeners.ledger l.fn.net) 0 l.fn.seats
+    → Stands g.L.Conn.Socket.history d0 n0 past (core g.D.Device.state l.daemon) (g.L.Listeners.ledger l.net) 0 l.seats

@@ -1,8 +1,8 @@
-use Rattle.std.proofs.Common.{◌≡◌, ◌≤◌, ◌+◌, ◌∙◌, refl, sym, subst, Bool, true, false, arith}
+use Rattle.std.proofs.Common.{◌≡◌, ◌≤◌, ◌+◌, ◌||◌, ◌∙◌, refl, sym, subst, Bool, true, false, arith, rules}
 use mir.Val.{bool_byte}
 use Rattle.saned_core.specs.State.{core}
 use Rattle.saned_serve.specs.Stands.{WentOn, one_if}
-use Rattle.saned_serve.proofs.Seating.{then_on}
+use Rattle.saned_serve.proofs.Seating.{then_on, took_turn}
 use Rattle.saned_serve.proofs.serving.take_turn.Goals as goal
 
 same_byte : (b : Bool) → bool_byte b ≡ one_if b
@@ -21,8 +21,16 @@ loop-i-preserved g c =
           let history = g.L.Conn.Socket.history in
           let e = core g.D.Device.state c.turn_at-visit.new.daemon in
           let m = g.L.Listeners.ledger c.turn_at-visit.new.net in
-          let next = then_on history d0 n0 past c.loop-i.left (one_if c.turn_at-visit.result.has_left) (core g.D.Device.state c.loop-i.daemon) (g.L.Listeners.ledger c.loop-i.net) c.loop-i.seats e m c.turn_at-visit.new.seats
+          let next = then_on history d0 n0 past c.loop-i.left (one_if c.turn_at-visit.result.has_left) c.loop-i.has_moved c.turn_at-visit.result.has_moved (core g.D.Device.state c.loop-i.daemon) (g.L.Listeners.ledger c.loop-i.net) c.loop-i.i c.loop-i.seats e m (c.loop-i.i + 1) c.turn_at-visit.new.seats
           (c.loop-i.invariant.turned d0 n0 past was) (λ story stands. c.turn_at-visit.ensures d0 n0 story stands) in
-          subst (λ k. WentOn history d0 n0 past (c.loop-i.left + k) e m c.turn_at-visit.new.seats) (sym one) next;
+          subst (λ k. WentOn history d0 n0 past (c.loop-i.left + k) (c.loop-i.has_moved || c.turn_at-visit.result.has_moved) e m (c.loop-i.i + 1) c.turn_at-visit.new.seats) (sym one) next;
       few = (let most = at_most_one c.turn_at-visit.result.has_left in let few = c.loop-i.invariant.few in omega (arith, one, most, few));
     }
+
+pub loop-i-init : goal.loop-i-init
+loop-i-init g c = record { turned = c.welcome-has_moved.ensures; few = omega arith }
+
+pub returns-clause-turned : goal.returns-clause-turned
+returns-clause-turned g c = λ d0 n0 past was.
+    took_turn g.L.Conn.Socket.history d0 n0 past c.loop-i.left c.loop-i.has_moved (core g.D.Device.state c.loop-i.daemon) (g.L.Listeners.ledger c.loop-i.net) c.loop-i.i c.loop-i.seats
+    (search rules) (c.loop-i.invariant.turned d0 n0 past was)

@@ -1,6 +1,6 @@
-use Rattle.std.proofs.Common.{◌∙◌, ℕ, List, length, slice_range, sym, subst}
+use Rattle.std.proofs.Common.{◌∙◌, ℕ, List, slice_range, sym, subst}
 use Rattle.saned_core.specs.State.{core}
-use Rattle.saned_serve.specs.Calls.{IsTaken}
+use Rattle.saned_serve.specs.Acts.{IsTaken}
 use Rattle.saned_serve.proofs.Daemon.{is_taken, written_back}
 use Rattle.saned_serve.proofs.pending.Pending.take_reply.Goals as goal
 
@@ -10,8 +10,8 @@ returns g c =
     let new = core g.D.Device.state c.take_reply-n.new.self in
     let n = c.take_reply-n.result in
     let buf = c.take_reply-n.new.buf in
-    let same = written_back buf c.self.inside.room.items c.self.inside.room.len (c.take_reply-n.auto.buf ∙ c.as_mut_slice.ensures.len) in (
-      length c.as_mut_slice.result.now,
-      subst (λ (xs : List ℕ). IsTaken old c.args.id.number (length c.as_mut_slice.result.now) (slice_range xs 0 n) new) (sym same)
-          (is_taken old new c.args.id.number n c.as_mut_slice.result.now buf c.take_reply-n.ensures.within c.take_reply-n.ensures.all c.take_reply-n.ensures.most c.take_reply-n.ensures.bytes c.take_reply-n.ensures.after),
-    )
+    let same = written_back buf c.self.inside.room.items c.self.inside.room.len (c.take_reply-n.auto.buf ∙ c.as_mut_slice.ensures.len) in
+    let size = c.as_mut_slice.ensures.len ∙ c.self.invariant.2 in
+    subst (λ (xs : List ℕ). IsTaken old c.args.id.number g.row.ROOM (slice_range xs 0 n) new) (sym same)
+    (subst (λ (k : ℕ). IsTaken old c.args.id.number k (slice_range buf 0 n) new) size
+    (is_taken old new c.args.id.number n c.as_mut_slice.result.now buf c.take_reply-n.ensures.within c.take_reply-n.ensures.all c.take_reply-n.ensures.most c.take_reply-n.ensures.bytes c.take_reply-n.ensures.after))
