@@ -1,7 +1,7 @@
 ghost use Rattle.std.specs.Prelude.{◌≡◌, ◌≤◌, ◌<◌, length, is_some, [], IfOk};
 ghost use Rattle.saned_serve.specs.Talk.{MovesWithin, after_read, after_write, IsTold};
 ghost use Rattle.saned_serve.specs.Ledger.{noticed};
-ghost use Rattle.saned_serve.specs.Ledger.Notice.{Asked, Port, Dialed, Shut, Back};
+ghost use Rattle.saned_serve.specs.Ledger.Notice.{Asked, Port, Forgot, Dialed, Shut, Back};
 
 use crate::pace::Pace;
 use mio::net::{TcpListener, TcpStream};

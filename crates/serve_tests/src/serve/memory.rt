@@ -148,6 +148,8 @@ impl<R: Abort + Drop> Listeners for MemoryNet<R> {
         Some(40_001)
     }
 
+    fn forget_ended(&mut self, _port: u16) {}
+
     fn accept_data(&mut self, _port: u16) -> Option<MemorySocket> {
         let conn = self.images.pop()?;
         if conn.at > 0 || conn.out.len() > 0 {
