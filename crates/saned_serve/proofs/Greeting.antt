@@ -1,6 +1,6 @@
 -- A connection comes.
-use Rattle.std.proofs.Common.{◌≡◌, ◌≤◌, ℕ, true, false, ◌||◌, ◌+◌, Option, None, Some, List, [], ◌∷◌, refl, sym, ap, ◌∙◌, subst, arith}
-use Rattle.std.proofs.lemmas.Bool.{eq-eqb}
+use Rattle.std.proofs.Common.{◌≡◌, ◌≤◌, ℕ, true, false, ◌||◌, ◌+◌, ◌-◌, Option, None, Some, List, [], ◌∷◌, refl, sym, ap, ◌∙◌, subst, arith}
+use Rattle.std.proofs.lemmas.Bool.{eq-eqb, or_right}
 use Rattle.saned_core.specs.State.{Core}
 use Rattle.saned_core.specs.declared.seat.SessionId.{SessionId}
 use Rattle.saned_serve.specs.Talk.{Talk, IsTold}
@@ -8,26 +8,13 @@ use Rattle.saned_serve.specs.Ledger.{Ledger, noticed}
 use Rattle.saned_serve.specs.Ledger.Notice.{Asked, Port}
 use Rattle.saned_serve.specs.Acts.{Does}
 use Rattle.saned_serve.specs.Acts.Act.{Opens}
-use Rattle.saned_serve.specs.Story.{Deed, no_life, after_act, life_of, IsRefused, noted, Leads, Steps, May, tally_of, is_of}
+use Rattle.saned_serve.specs.Story.{Deed, no_life, after_act, life_of, IsRefused, noted, Leads, Steps, May, tally_of, is_of, has_asked, seated}
 use Rattle.saned_serve.specs.Story.Deed.{Of, Waits, Refuses}
 use Rattle.saned_serve.specs.Goes.{CarriesIn, Tells}
 use Rattle.saned_serve.specs.Goes.Phase.{Fresh}
-use Rattle.saned_serve.specs.Stands.{IsMet, IsSeated, Greets}
+use Rattle.saned_serve.specs.Stands.{one_link, IsMet, IsSeated, Greets}
 use Rattle.saned_serve.specs.declared.link.Link.{Link}
 use Rattle.saned_serve.proofs.Steps.{life_at, life_off, eqb_off, counted_none}
-
--- nobody was asked
-pub greets_nobody : {C : Type 0} (history : C → Option Talk) (d : Core) (n m : Option Ledger) (link : Option (Link C)) → link ≡ None → m ≡ n → Greets history d n false d m link
-greets_nobody history d n m link none net = record {
-  greets = λ d0 n0 past leads. record {
-    story = past;
-    more = ([], refl);
-    leads = subst (λ o. Leads d0 n0 past d o) (sym net) leads;
-    others = λ j off. refl;
-    met = subst (λ p. IsMet history past past d.opened p) (sym none) refl;
-    tally = counted_none (tally_of past);
-  };
-}
 
 leads_deed : (deed : Deed) (d0 : Core) (n0 : Option Ledger) (past : List Deed) (d : Core) (n : Option Ledger) → ((j : ℕ) → is_of deed j ≡ false) → Leads d0 n0 past d n → Steps d deed d → May deed past → Leads d0 n0 (deed ∷ past) d (noted deed n)
 leads_deed deed d0 n0 past d n off leads steps may = record {
@@ -37,31 +24,42 @@ leads_deed deed d0 n0 past d n off leads steps may = record {
   unused = λ j h. life_off j deed past (off j) ∙ leads.unused j h;
 }
 
+none_more : {C : Type 0} (n : ℕ) (link : Option (Link C)) → link ≡ None → n ≡ n + one_link link
+none_more n link none = let zero_links = ap one_link none in omega (arith, zero_links)
+
+one_more : {C : Type 0} (n : ℕ) (conn : C) (id : SessionId) (port : ℕ) (link : Option (Link C)) → IsSeated conn id port link → n + 1 - 0 ≡ n + one_link link
+one_more n conn id port None sits = absurd sits
+one_more n conn id port (Some l) sits = omega arith
+
 -- nobody came
 pub greets_none : {C : Type 0} (history : C → Option Talk) (d : Core) (n m : Option Ledger) (link : Option (Link C)) → link ≡ None → m ≡ noticed (Asked false) n → Greets history d n false d m link
 greets_none history d n m link none net = record {
-  greets = λ d0 n0 past leads. record {
+  greets = λ d0 n0 past leads ask. record {
     story = Waits ∷ past;
     more = (Waits ∷ [], refl);
-    leads = subst (λ o. Leads d0 n0 (Waits ∷ past) d o) (sym net) (leads_deed Waits d0 n0 past d n (λ j. refl) leads refl tt);
+    leads = subst (λ o. Leads d0 n0 (Waits ∷ past) d o) (sym net) (leads_deed Waits d0 n0 past d n (λ j. refl) leads refl ask);
     others = λ j off. life_off j Waits past refl;
     met = subst (λ p. IsMet history past (Waits ∷ past) d.opened p) (sym none) (life_off d.opened Waits past refl);
     tally = counted_none (tally_of past);
+    asked = refl;
+    crowd = none_more (seated past) link none;
   };
 }
 
 -- a connection came that gets no session
 pub greets_refuses : {C : Type 0} (history : C → Option Talk) (d : Core) (n : Option Ledger) (m : Option Ledger) (port : Option ℕ) (conn : C) (link : Option (Link C)) → link ≡ None → IsTold (history conn) [] → IsRefused port d → m ≡ noted (Refuses port (history conn)) n → Greets history d n true d m link
 greets_refuses history d n m port conn link none fresh refused net = record {
-  greets = λ d0 n0 past leads.
+  greets = λ d0 n0 past leads ask.
       let deed = Refuses port (history conn) in
       record {
         story = deed ∷ past;
         more = (deed ∷ [], refl);
-        leads = subst (λ o. Leads d0 n0 (deed ∷ past) d o) (sym net) (leads_deed deed d0 n0 past d n (λ j. refl) leads (refused, refl) fresh);
+        leads = subst (λ o. Leads d0 n0 (deed ∷ past) d o) (sym net) (leads_deed deed d0 n0 past d n (λ j. refl) leads (refused, refl) (ask, fresh));
         others = λ j off. life_off j deed past refl;
         met = subst (λ p. IsMet history past (deed ∷ past) d.opened p) (sym none) (life_off d.opened deed past refl);
         tally = (let t = tally_of past in let sum : t.left ≡ t.left + 0 = omega arith in ap (λ k. record t { left = k; stir = t.stir || true }) sum);
+        asked = refl;
+        crowd = none_more (seated past) link none;
       };
 }
 
@@ -96,14 +94,14 @@ met_new history past d e port id conn (Some l) does none fresh sits =
 
 pub greets_opens : {C : Type 0} (history : C → Option Talk) (d : Core) (n : Option Ledger) (e : Core) (m : Option Ledger) (port : ℕ) (id : SessionId) (conn : C) (p : Option (Link C)) → Does id.number d (Opens port) e → m ≡ noticed (Port (Some port)) (noticed (Asked true) n) → IsTold (history conn) [] → IsSeated conn id port p → Greets history d n true e m p
 greets_opens history d n e m port id conn p does net fresh sits = record {
-  greets = λ d0 n0 past leads.
+  greets = λ d0 n0 past leads ask.
       let deed = Of id.number (Opens port) in
       let none = leads.unused d.opened (omega arith) in
       record {
         story = deed ∷ past;
         more = (deed ∷ [], refl);
         leads = record {
-          legal = (leads.legal, subst (λ k. life_of k past ≡ no_life) (sym does.numbered) none);
+          legal = (leads.legal, (subst (λ k. life_of k past ≡ no_life) (sym does.numbered) none, (λ comes. ask)));
           run = (d, leads.run, does);
           net = net ∙ ap (λ o. noticed (Port (Some port)) (noticed (Asked true) o)) leads.net;
           unused = unused_opens past d e port id.number does leads.unused;
@@ -111,5 +109,7 @@ greets_opens history d n e m port id conn p does net fresh sits = record {
         others = λ j off. life_off j deed past (eqb_off id.number j (λ same. off (sym same ∙ does.numbered)));
         met = met_new history past d e port id conn p does none fresh sits;
         tally = refl;
+        asked = or_right (has_asked past) true refl;
+        crowd = one_more (seated past) conn id port p sits;
       };
 }

@@ -1,26 +1,20 @@
 -- Seats one by one.
-use Rattle.std.proofs.Common.{◌≡◌, ◌≢◌, ◌≤◌, ◌<◌, ◌⊎◌, inl, inr, ℕ, zero, suc, ◌+◌, Bool, true, false, ◌||◌, cond, Option, None, Some, unwrap_or, List, [], ◌∷◌, ◌++◌, length, take, get_or, slice_set, refl, sym, ap, ◌∙◌, subst, arith}
+use Rattle.std.proofs.Common.{◌≡◌, ◌≢◌, ◌≤◌, ◌<◌, ◌⊎◌, inl, inr, ℕ, zero, suc, ◌+◌, ◌-◌, Bool, true, false, ◌||◌, cond, Option, None, Some, unwrap_or, List, [], ◌∷◌, ◌++◌, length, take, get_or, slice_set, refl, sym, ap, ◌∙◌, subst, arith}
 use Rattle.std.proofs.Math.Dec.{eqb}
-use Rattle.std.proofs.lemmas.Bool.{eq-eqb, eqb-true}
+use Rattle.std.proofs.lemmas.Bool.{eq-eqb}
 use Rattle.saned_core.specs.State.{Core}
 use Rattle.saned_serve.specs.Talk.{Talk, lost_in, taken_in}
 use Rattle.saned_serve.specs.Ledger.{Ledger}
-use Rattle.saned_serve.specs.Story.{Deed, Life, life_of, Leads, tally_of, after_tally, counted, no_life, has_stopped, IsSettled}
-use Rattle.saned_serve.specs.Story.Deed.{Turned, Stops}
+use Rattle.saned_serve.specs.Story.{Deed, Life, life_of, Leads, tally_of, after_tally, counted, no_life, has_stopped, has_asked, seated, MayAsk, most_sessions, IsSettled}
+use Rattle.saned_serve.specs.Story.Deed.{Full, Turned, Stops}
 use Rattle.saned_serve.specs.Goes.{CarriesIn, Tells, Went, Goes, Parts, Ended}
 use Rattle.saned_serve.specs.Goes.Phase.{Fresh, Spoken}
-use Rattle.saned_serve.specs.Stands.{link_at, HadTurn, Stands, WentOn, TookTurn, Took, Ran, most_sessions, most_turns, Shuts, Keeps, IsLeft, Empties, Met, Greets, Closes, Served}
+use Rattle.saned_serve.specs.Stands.{link_at, one_link, links_below, HadTurn, Stands, WentOn, TookTurn, Took, Ran, most_turns, Shuts, Keeps, IsLeft, Empties, Met, Greets, Closes, Served}
 use Rattle.saned_serve.specs.declared.link.Link.{Link}
 use Rattle.saned_serve.specs.declared.seats.Seat.{Seat}
 use Rattle.saned_serve.specs.declared.serving.ServeEnd.TheVariants.{Sessions, Idle, Turns, NoMem}
+use Rattle.saned_serve.proofs.Counting.{decide, links_same, links_change, links_all, links_fewer, links_empty}
 use Rattle.saned_serve.proofs.Steps.{eqb_off, extends_then, counted_then, counted_none, or_false, not_both, tells_at, life_at, life_off, append_front}
-
-decided : (a b : ℕ) (v : Bool) → eqb a b ≡ v → (a ≡ b) ⊎ (a ≢ b)
-decided a b true e = inl (eqb-true a b e)
-decided a b false e = inr (λ same. let wrong : true ≡ false = sym (eq-eqb a b same) ∙ e in cc)
-
-pub decide : (a b : ℕ) → (a ≡ b) ⊎ (a ≢ b)
-decide a b = decided a b (eqb a b) refl
 
 pub same_some : {A : Type 0} (a b : A) → Some a ≡ Some b → a ≡ b
 same_some a b e = ap (λ o. unwrap_or o a) e
@@ -75,16 +69,24 @@ pub stands_change : {C : Type 0} (history : C → Option Talk) (d0 : Core) (n0 :
     → New history place i id (life_of id story) p
     → ((j : ℕ) → j ≢ i → j < h' → j < h)
     → ((k : Link C) → p ≡ Some k → i < h' → HadTurn story k)
+    → ((k : Link C) → p ≡ Some k → i < most_sessions)
+    → seated story ≡ links_below most_sessions seats'
     → Stands history d0 n0 story e m h' seats'
-stands_change {C} history d0 n0 past d n h seats was e m h' seats' story id i p place leads others at off placed own only new below mine = record {
+stands_change {C} history d0 n0 past d n h seats was e m h' seats' story id i p place leads others at off placed own only new below mine room count = record {
   leads = leads;
   place = place;
   each = λ j x f. each j x f (decide j i);
   all = λ j f. all j f (decide j id);
   dark = λ j f. dark j f (decide j id);
   turned = λ j x f few. turned j x f few (decide j i);
+  inside = λ j x f. inside j x f (decide j i);
+  count = count;
 }
   where
+    inside : (j : ℕ) (x : Link C) → link_at seats' j ≡ Some x → (j ≡ i) ⊎ (j ≢ i) → j < most_sessions
+    inside j x f (inl same) = subst (λ k. k < most_sessions) (sym same) (room x (sym at ∙ subst (λ k. link_at seats' k ≡ Some x) same f))
+    inside j x f (inr differ) = was.inside j x (sym (off j differ) ∙ f)
+
     each : (j : ℕ) (x : Link C) → link_at seats' j ≡ Some x → (j ≡ i) ⊎ (j ≢ i) → (place x.id.number ≡ j) × Tells history Fresh (life_of x.id.number story) x
     each j x f (inl same) =
         let found = new_each history place i id story p x (sym at ∙ subst (λ k. link_at seats' k ≡ Some x) same f) new in
@@ -127,22 +129,25 @@ stands_same history d0 n0 past d n h seats was e m h' seats' same net off below 
   all = λ j f. let found = was.all j f in (found.0, off (was.place j) ∙ found.1, found.2);
   dark = was.dark;
   turned = λ j x f few. was.turned j x (sym (off j) ∙ f) (below j x (sym (off j) ∙ f) few);
+  inside = λ j x f. was.inside j x (sym (off j) ∙ f);
+  count = was.count ∙ sym (links_same most_sessions seats seats' (λ j. ap one_link (off j)));
 }
 
 -- the story did not go on
-pub stays : {C : Type 0} (history : C → Option Talk) (d0 : Core) (n0 : Option Ledger) (past : List Deed) (e : Core) (m : Option Ledger) (h : ℕ) (seats : List (Seat C)) → Stands history d0 n0 past e m h seats → WentOn history d0 n0 past 0 false e m h seats
-stays history d0 n0 past e m h seats stands = record { story = past; more = ([], refl); stands = stands; tally = counted_none (tally_of past) }
+pub stays : {C : Type 0} (history : C → Option Talk) (d0 : Core) (n0 : Option Ledger) (past : List Deed) (e : Core) (m : Option Ledger) (h : ℕ) (seats : List (Seat C)) → has_asked past ≡ true → Stands history d0 n0 past e m h seats → WentOn history d0 n0 past 0 false e m h seats
+stays history d0 n0 past e m h seats asked stands = record { story = past; more = ([], refl); stands = stands; tally = counted_none (tally_of past); asked = asked }
 
 -- one after the other
 pub then_on : {C : Type 0} (history : C → Option Talk) (d0 : Core) (n0 : Option Ledger) (past : List Deed) (left more : ℕ) (x y : Bool) (e : Core) (m : Option Ledger) (h : ℕ) (seats : List (Seat C)) (f : Core) (o : Option Ledger) (h' : ℕ) (seats' : List (Seat C))
-    → WentOn history d0 n0 past left x e m h seats → ((story : List Deed) → Stands history d0 n0 story e m h seats → WentOn history d0 n0 story more y f o h' seats') → WentOn history d0 n0 past (left + more) (x || y) f o h' seats'
+    → WentOn history d0 n0 past left x e m h seats → ((story : List Deed) → has_asked story ≡ true → Stands history d0 n0 story e m h seats → WentOn history d0 n0 story more y f o h' seats') → WentOn history d0 n0 past (left + more) (x || y) f o h' seats'
 then_on history d0 n0 past left more x y e m h seats f o h' seats' first then =
-    let next = then first.story first.stands in
+    let next = then first.story first.asked first.stands in
     record {
       story = next.story;
       more = extends_then past first.story next.story first.more next.more;
       stands = next.stands;
       tally = next.tally ∙ ap (counted more y) first.tally ∙ counted_then left more x y (tally_of past);
+      asked = next.asked;
     }
 
 nobody : (id : ℕ) → life_of id [] ≡ no_life
@@ -163,18 +168,23 @@ below_next : (i j : ℕ) → j ≢ i → j < i + 1 → j < i
 below_next i j off few = omega (arith, off, few)
 
 -- a session had its turn, and stays
-pub stands_goes : {C : Type 0} (history : C → Option Talk) (d0 : Core) (n0 : Option Ledger) (past : List Deed) (d : Core) (n : Option Ledger) (seats : List (Seat C)) (i : ℕ) → Stands history d0 n0 past d n i seats
+pub stands_goes : {C : Type 0} (history : C → Option Talk) (d0 : Core) (n0 : Option Ledger) (past : List Deed) (d : Core) (n : Option Ledger) (seats : List (Seat C)) (i : ℕ) → has_asked past ≡ true → Stands history d0 n0 past d n i seats
     → (stir : Bool) (e : Core) (m : Option Ledger) (seats' : List (Seat C)) (l k : Link C) → link_at seats i ≡ Some l → Goes history Fresh Spoken d n l stir e m k → k.is_done ≡ false → link_at seats' i ≡ Some k → ((j : ℕ) → j ≢ i → link_at seats' j ≡ link_at seats j) → WentOn history d0 n0 past 0 stir e m (i + 1) seats'
-stands_goes {C} history d0 n0 past d n seats i was stir e m seats' l k at goes alive now off =
+stands_goes {C} history d0 n0 past d n seats i asked was stir e m seats' l k at goes alive now off =
     let had = was.each i l at in
     let w = goes.goes d0 n0 past was.leads had.1 in
     let fresh = tells_at {from = Spoken} {to = Fresh} w.tells alive in
     let number = ap (λ x. x.number) goes.same in
     let stands = stands_change history d0 n0 past d n i seats was e m (i + 1) seats' w.story l.id.number i (Some k) was.place w.leads w.others now off (λ j differ. refl)
     (own_at history d0 n0 past d n i seats was i l at) (only_at history d0 n0 past d n i seats was i l at)
-    (number, had.0, fresh) (λ j differ few. below_next i j differ few) (λ x same few. mine w x (same_some k x same) number) in
-    record { story = w.story; more = w.more; stands = stands; tally = w.tally }
+    (number, had.0, fresh) (λ j differ few. below_next i j differ few) (λ x same few. mine w x (same_some k x same) number)
+    (λ x same. was.inside i l at) (w.crowd ∙ was.count ∙ sym (links_same most_sessions seats seats' (λ j. one j (decide j i)))) in
+    record { story = w.story; more = w.more; stands = stands; tally = w.tally; asked = w.asked ∙ asked }
   where
+    one : (j : ℕ) → (j ≡ i) ⊎ (j ≢ i) → one_link (link_at seats' j) ≡ one_link (link_at seats j)
+    one j (inl same) = ap one_link (ap (link_at seats') same ∙ now) ∙ sym (ap one_link (ap (link_at seats) same ∙ at))
+    one j (inr differ) = ap one_link (off j differ)
+
     drained : (life : Life) → (k.is_done ≡ true) ⊎ (life.drained ≡ false) → life.drained ≡ false
     drained life (inl done) = absurd (not_both done alive)
     drained life (inr left) = left
@@ -192,19 +202,28 @@ stands_ended : {C : Type 0} (history : C → Option Talk) (d0 : Core) (n0 : Opti
 stands_ended history d0 n0 past d n h seats was stir e m h' seats' i l at w now off below =
     stands_change history d0 n0 past d n h seats was e m h' seats' w.story l.id.number i None was.place w.leads w.others now off (λ j differ. refl)
     (own_at history d0 n0 past d n h seats was i l at) (only_at history d0 n0 past d n h seats was i l at)
-    (w.gone, w.dark) below (λ k e. absurd (let wrong : None ≡ Some k = e in cc))
+    (w.gone, w.dark) below (λ k e. absurd (let wrong : None ≡ Some k = e in cc)) (λ k e. absurd (let wrong : None ≡ Some k = e in cc)) fewer
+  where
+    fewer : seated w.story ≡ links_below most_sessions seats'
+    fewer =
+        let change = links_change most_sessions i seats seats' (was.inside i l at) off in
+        let before = ap one_link at in
+        let after = ap one_link now in
+        let left = w.crowd in
+        let count = was.count in
+        omega (arith, change, before, after, left, count)
 
 -- a session had its turn, and is left
-pub stands_leaves : {C : Type 0} (history : C → Option Talk) (d0 : Core) (n0 : Option Ledger) (past : List Deed) (d : Core) (n : Option Ledger) (seats : List (Seat C)) (i : ℕ) → Stands history d0 n0 past d n i seats
+pub stands_leaves : {C : Type 0} (history : C → Option Talk) (d0 : Core) (n0 : Option Ledger) (past : List Deed) (d : Core) (n : Option Ledger) (seats : List (Seat C)) (i : ℕ) → has_asked past ≡ true → Stands history d0 n0 past d n i seats
     → (stir : Bool) (e : Core) (m : Option Ledger) (f : Core) (o : Option Ledger) (seats' : List (Seat C)) (l k : Link C) → link_at seats i ≡ Some l → Goes history Fresh Spoken d n l stir e m k → k.is_done ≡ true → Parts history e m k f o → link_at seats' i ≡ None → ((j : ℕ) → j ≢ i → link_at seats' j ≡ link_at seats j) → WentOn history d0 n0 past 1 stir f o (i + 1) seats'
-stands_leaves {C} history d0 n0 past d n seats i was stir e m f o seats' l k at goes done parts now off =
+stands_leaves {C} history d0 n0 past d n seats i asked was stir e m f o seats' l k at goes done parts now off =
     let had = was.each i l at in
     let w = goes.goes d0 n0 past was.leads had.1 in
     let number = ap (λ x. x.number) goes.same in
     let tells = subst (λ j. Tells history Spoken (life_of j w.story) k) (sym number) w.tells in
     let v = parts.goes Spoken d0 n0 w.story w.leads tells (inl (tells.at.0 done)) in
     let ended = after w k.id.number number v.0 in
-    record { story = ended.story; more = ended.more; stands = stands_ended history d0 n0 past d n i seats was stir f o (i + 1) seats' i l at ended now off (λ j differ few. below_next i j differ few); tally = ended.tally }
+    record { story = ended.story; more = ended.more; stands = stands_ended history d0 n0 past d n i seats was stir f o (i + 1) seats' i l at ended now off (λ j differ few. below_next i j differ few); tally = ended.tally; asked = ended.asked ∙ asked }
   where
     after : (w : Went history Spoken d0 n0 past l.id.number stir e m k) (id : ℕ) → id ≡ l.id.number → Ended d0 n0 w.story id false f o → Ended d0 n0 past l.id.number stir f o
     after w id same v = record {
@@ -216,14 +235,16 @@ stands_leaves {C} history d0 n0 past d n seats i was stir e m f o seats' l k at 
       others = λ j off. v.others j (λ x. off (x ∙ same)) ∙ w.others j off;
       tally = v.tally ∙ ap (counted 1 false) w.tally ∙ counted_then 0 1 stir false (tally_of past) ∙ ap (λ b. counted 1 b (tally_of past)) (or_false stir);
       stopped = v.stopped ∙ w.stopped;
+      asked = v.asked ∙ w.asked;
+      crowd = v.crowd ∙ ap (λ k. k - 1) w.crowd;
     }
 
 -- the seat at i had its turn, and nobody leaves
-pub stands_keeps : {C : Type 0} (history : C → Option Talk) (d0 : Core) (n0 : Option Ledger) (past : List Deed) (d : Core) (n : Option Ledger) (seats : List (Seat C)) (i : ℕ) → Stands history d0 n0 past d n i seats
+pub stands_keeps : {C : Type 0} (history : C → Option Talk) (d0 : Core) (n0 : Option Ledger) (past : List Deed) (d : Core) (n : Option Ledger) (seats : List (Seat C)) (i : ℕ) → has_asked past ≡ true → Stands history d0 n0 past d n i seats
     → (stir : Bool) (e : Core) (m : Option Ledger) (seats' : List (Seat C)) (o p : Option (Link C)) → link_at seats i ≡ o → Keeps history d n o stir e m p → IsLeft false p → link_at seats' i ≡ p → ((j : ℕ) → j ≢ i → link_at seats' j ≡ link_at seats j) → WentOn history d0 n0 past 0 stir e m (i + 1) seats'
-stands_keeps {C} history d0 n0 past d n seats i was stir e m seats' None None at keeps left now off =
+stands_keeps {C} history d0 n0 past d n seats i asked was stir e m seats' None None at keeps left now off =
     subst (λ b. WentOn history d0 n0 past 0 b e m (i + 1) seats') (sym keeps.2)
-    (stays history d0 n0 past e m (i + 1) seats' (stands_same history d0 n0 past d n i seats was e m (i + 1) seats' keeps.0 keeps.1 (λ j. each_off j (decide j i)) (λ j x f few. below j x f few (decide j i))))
+    (stays history d0 n0 past e m (i + 1) seats' asked (stands_same history d0 n0 past d n i seats was e m (i + 1) seats' keeps.0 keeps.1 (λ j. each_off j (decide j i)) (λ j x f few. below j x f few (decide j i))))
   where
     each_off : (j : ℕ) → (j ≡ i) ⊎ (j ≢ i) → link_at seats' j ≡ link_at seats j
     each_off j (inl same) = ap (link_at seats') same ∙ (now ∙ sym at) ∙ sym (ap (link_at seats) same)
@@ -232,24 +253,24 @@ stands_keeps {C} history d0 n0 past d n seats i was stir e m seats' None None at
     below : (j : ℕ) (x : Link C) → link_at seats j ≡ Some x → j < i + 1 → (j ≡ i) ⊎ (j ≢ i) → j < i
     below j x f few (inl same) = absurd (let wrong : None ≡ Some x = sym at ∙ sym (ap (link_at seats) same) ∙ f in cc)
     below j x f few (inr differ) = below_next i j differ few
-stands_keeps history d0 n0 past d n seats i was stir e m seats' None (Some k) at keeps left now off = absurd keeps
-stands_keeps history d0 n0 past d n seats i was stir e m seats' (Some l) None at keeps left now off = absurd keeps
-stands_keeps history d0 n0 past d n seats i was stir e m seats' (Some l) (Some k) at keeps left now off =
-    stands_goes history d0 n0 past d n seats i was stir e m seats' l k at keeps (sym left) now off
+stands_keeps history d0 n0 past d n seats i asked was stir e m seats' None (Some k) at keeps left now off = absurd keeps
+stands_keeps history d0 n0 past d n seats i asked was stir e m seats' (Some l) None at keeps left now off = absurd keeps
+stands_keeps history d0 n0 past d n seats i asked was stir e m seats' (Some l) (Some k) at keeps left now off =
+    stands_goes history d0 n0 past d n seats i asked was stir e m seats' l k at keeps (sym left) now off
 
 -- the seat at i had its turn, and its session is left
-pub stands_empties : {C : Type 0} (history : C → Option Talk) (d0 : Core) (n0 : Option Ledger) (past : List Deed) (d : Core) (n : Option Ledger) (seats : List (Seat C)) (i : ℕ) → Stands history d0 n0 past d n i seats
+pub stands_empties : {C : Type 0} (history : C → Option Talk) (d0 : Core) (n0 : Option Ledger) (past : List Deed) (d : Core) (n : Option Ledger) (seats : List (Seat C)) (i : ℕ) → has_asked past ≡ true → Stands history d0 n0 past d n i seats
     → (stir : Bool) (e : Core) (m : Option Ledger) (f : Core) (q : Option Ledger) (seats' : List (Seat C)) (o p : Option (Link C)) → link_at seats i ≡ o → Keeps history d n o stir e m p → IsLeft true p → Empties history e m p f q → link_at seats' i ≡ None → ((j : ℕ) → j ≢ i → link_at seats' j ≡ link_at seats j) → WentOn history d0 n0 past 1 stir f q (i + 1) seats'
-stands_empties history d0 n0 past d n seats i was stir e m f q seats' o None at keeps left empties now off = absurd (let wrong : true ≡ false = left in cc)
-stands_empties history d0 n0 past d n seats i was stir e m f q seats' None (Some k) at keeps left empties now off = absurd keeps
-stands_empties history d0 n0 past d n seats i was stir e m f q seats' (Some l) (Some k) at keeps left empties now off =
-    stands_leaves history d0 n0 past d n seats i was stir e m f q seats' l k at keeps (sym left) empties now off
+stands_empties history d0 n0 past d n seats i asked was stir e m f q seats' o None at keeps left empties now off = absurd (let wrong : true ≡ false = left in cc)
+stands_empties history d0 n0 past d n seats i asked was stir e m f q seats' None (Some k) at keeps left empties now off = absurd keeps
+stands_empties history d0 n0 past d n seats i asked was stir e m f q seats' (Some l) (Some k) at keeps left empties now off =
+    stands_leaves history d0 n0 past d n seats i asked was stir e m f q seats' l k at keeps (sym left) empties now off
 
-pub stands_greets : {C : Type 0} (history : C → Option Talk) (d0 : Core) (n0 : Option Ledger) (past : List Deed) (d : Core) (n : Option Ledger) (seats : List (Seat C)) → Stands history d0 n0 past d n 0 seats
-    → (stir : Bool) (e : Core) (m : Option Ledger) (seats' : List (Seat C)) (i : ℕ) (p : Option (Link C)) → link_at seats i ≡ None → Greets history d n stir e m p → link_at seats' i ≡ p → ((j : ℕ) → j ≢ i → link_at seats' j ≡ link_at seats j) → WentOn history d0 n0 past 0 stir e m 0 seats'
-stands_greets {C} history d0 n0 past d n seats was stir e m seats' i p at greets now off =
-    let met = greets.greets d0 n0 past was.leads in
-    record { story = met.story; more = met.more; stands = by_link p met now; tally = met.tally }
+pub stands_greets : {C : Type 0} (history : C → Option Talk) (d0 : Core) (n0 : Option Ledger) (past : List Deed) (d : Core) (n : Option Ledger) (seats : List (Seat C)) → has_asked past ≡ false → Stands history d0 n0 past d n 0 seats
+    → (stir : Bool) (e : Core) (m : Option Ledger) (seats' : List (Seat C)) (i : ℕ) (p : Option (Link C)) → i < most_sessions → link_at seats i ≡ None → Greets history d n stir e m p → link_at seats' i ≡ p → ((j : ℕ) → j ≢ i → link_at seats' j ≡ link_at seats j) → WentOn history d0 n0 past 0 stir e m 0 seats'
+stands_greets {C} history d0 n0 past d n seats anew was stir e m seats' i p room at greets now off =
+    let met = greets.greets d0 n0 past was.leads (anew, subst (λ k. k < most_sessions) (sym was.count) (links_fewer most_sessions i seats room at)) in
+    record { story = met.story; more = met.more; stands = by_link p met now; tally = met.tally; asked = met.asked }
   where
     none_below : {A : Type 0} (j : ℕ) → j < 0 → A
     none_below j few = absurd (omega (arith, few))
@@ -259,6 +280,12 @@ stands_greets {C} history d0 n0 past d n seats was stir e m seats' i p at greets
         let standing = (was.each j l f).1.standing in
         let here = subst (λ k. (life_of k past).standing ≡ true) same standing in
         not_both here (ap (λ v. v.standing) none)
+
+    same_count : {a : ℕ} → a ≡ seated past + 0 → links_below most_sessions seats' ≡ links_below most_sessions seats → a ≡ links_below most_sessions seats'
+    same_count crowd same = let count = was.count in omega (arith, crowd, same, count)
+
+    more_count : {a b : ℕ} → a ≡ seated past + 1 → links_below most_sessions seats' + one_link (link_at seats i) ≡ links_below most_sessions seats + b → b ≡ 1 → a ≡ links_below most_sessions seats'
+    more_count crowd change one = let count = was.count in let before = ap one_link at in omega (arith, crowd, change, one, count, before)
 
     by_link : (p : Option (Link C)) (met : Met history d0 n0 past stir e m d.opened p) → link_at seats' i ≡ p → Stands history d0 n0 met.story e m 0 seats'
     by_link None met now =
@@ -271,6 +298,8 @@ stands_greets {C} history d0 n0 past d n seats was stir e m seats' i p at greets
           all = λ j f. let found = was.all j (sym (ap (λ v. v.standing) (lives j)) ∙ f) in (found.0, links (was.place j) ∙ found.1, found.2);
           dark = λ j f. ap (λ v. v.imaging) (lives j) ∙ was.dark j (sym (ap (λ v. v.standing) (lives j)) ∙ f);
           turned = λ j x f few. none_below j few;
+          inside = λ j x f. was.inside j x (sym (links j) ∙ f);
+          count = same_count met.crowd (links_same most_sessions seats seats' (λ j. ap one_link (links j)));
         }
     by_link (Some l) met now =
         stands_change history d0 n0 past d n 0 seats was e m 0 seats' met.story d.opened i (Some l) (λ j. cond (eqb j d.opened) i (was.place j)) met.leads met.others now off
@@ -279,6 +308,7 @@ stands_greets {C} history d0 n0 past d n seats was stir e m seats' i p at greets
         (λ j k differ f. number_new j k f met.met.1)
         (met.met.0, ap (λ b. cond b i (was.place d.opened)) (eq-eqb d.opened d.opened refl), met.met.2)
         (λ j differ few. few) (λ k same few. none_below i few)
+        (λ k same. room) (more_count met.crowd (links_change most_sessions i seats seats' room off) (ap one_link now))
 
 -- ---- a turn ends
 
@@ -295,10 +325,10 @@ settled {C} history life l tells turned = record {
     shows imaging None was carries = absurd (not_both imaging carries)
     shows imaging (Some conn) was carries = (carries.held, λ last. λ all. carries.more (carries.last ∙ last) (append_front (taken_in life.image) l.records life.shown carries.shown all))
 
-pub stands_turned : {C : Type 0} (history : C → Option Talk) (d0 : Core) (n0 : Option Ledger) (past : List Deed) (d : Core) (n : Option Ledger) (h : ℕ) (seats : List (Seat C)) → Stands history d0 n0 past d n h seats → ((j : ℕ) (l : Link C) → link_at seats j ≡ Some l → j < h) → Stands history d0 n0 (Turned ∷ past) d n 0 seats
-stands_turned {C} history d0 n0 past d n h seats was full = record {
+pub stands_turned : {C : Type 0} (history : C → Option Talk) (d0 : Core) (n0 : Option Ledger) (past : List Deed) (d : Core) (n : Option Ledger) (h : ℕ) (seats : List (Seat C)) → has_asked past ≡ true → Stands history d0 n0 past d n h seats → ((j : ℕ) (l : Link C) → link_at seats j ≡ Some l → j < h) → Stands history d0 n0 (Turned ∷ past) d n 0 seats
+stands_turned {C} history d0 n0 past d n h seats asked was full = record {
   leads = record {
-    legal = (was.leads.legal, λ id standing. by_link id (was.all id standing));
+    legal = (was.leads.legal, (asked, λ id standing. by_link id (was.all id standing)));
     run = (d, was.leads.run, refl);
     net = was.leads.net;
     unused = λ id f. life_at id Turned past refl ∙ ap (λ (v : Life). record v { visited = false }) (was.leads.unused id f);
@@ -308,6 +338,8 @@ stands_turned {C} history d0 n0 past d n h seats was full = record {
   all = λ id f. was.all id (sym (ap (λ (v : Life). v.standing) (life_at id Turned past refl)) ∙ f);
   dark = λ id f. ap (λ (v : Life). v.imaging) (life_at id Turned past refl) ∙ was.dark id (sym (ap (λ (v : Life). v.standing) (life_at id Turned past refl)) ∙ f);
   turned = λ j l f few. absurd (omega (arith, few));
+  inside = was.inside;
+  count = was.count;
 }
   where
     by_link : (id : ℕ) → (l : Link C) × (link_at seats (was.place id) ≡ Some l) × (l.id.number ≡ id) → IsSettled (life_of id past)
@@ -384,6 +416,8 @@ stands_begins history d n seats none = record {
   all = λ j h. absurd (let wrong : true ≡ false = sym h ∙ ap (λ v. v.standing) (nobody j) in cc);
   dark = λ j h. ap (λ v. v.imaging) (nobody j);
   turned = λ j l f few. absurd (omega (arith, few));
+  inside = λ j l h. absurd (let wrong : None ≡ Some l = sym (none j) ∙ h in cc);
+  count = sym (links_empty most_sessions seats none);
 }
 
 -- all turns are over
@@ -400,6 +434,33 @@ stands_stops history d0 n0 past d n seats was = record {
   all = λ id f. was.all id (sym (ap (λ (v : Life). v.standing) (life_off id Stops past refl)) ∙ f);
   dark = λ id f. ap (λ (v : Life). v.imaging) (life_off id Stops past refl) ∙ was.dark id (sym (ap (λ (v : Life). v.standing) (life_off id Stops past refl)) ∙ f);
   turned = λ j l f few. absurd (omega (arith, few));
+  inside = was.inside;
+  count = was.count;
+}
+
+-- all seats have a session
+pub stands_full : {C : Type 0} (history : C → Option Talk) (d0 : Core) (n0 : Option Ledger) (past : List Deed) (d : Core) (n : Option Ledger) (seats : List (Seat C)) → has_asked past ≡ false → Stands history d0 n0 past d n 0 seats
+    → ((j : ℕ) → j < most_sessions → one_link (link_at seats j) ≡ 1) → WentOn history d0 n0 past 0 false d n 0 seats
+stands_full history d0 n0 past d n seats anew was all = record {
+  story = Full ∷ past;
+  more = (Full ∷ [], refl);
+  stands = record {
+    leads = record {
+      legal = (was.leads.legal, (anew, was.count ∙ links_all most_sessions seats all));
+      run = (d, was.leads.run, refl);
+      net = was.leads.net;
+      unused = λ id f. life_off id Full past refl ∙ was.leads.unused id f;
+    };
+    place = was.place;
+    each = λ j l f. let before = was.each j l f in (before.0, subst (λ v. Tells history Fresh v l) (sym (life_off l.id.number Full past refl)) before.1);
+    all = λ id f. was.all id (sym (ap (λ (v : Life). v.standing) (life_off id Full past refl)) ∙ f);
+    dark = λ id f. ap (λ (v : Life). v.imaging) (life_off id Full past refl) ∙ was.dark id (sym (ap (λ (v : Life). v.standing) (life_off id Full past refl)) ∙ f);
+    turned = λ j l f few. absurd (omega (arith, few));
+    inside = was.inside;
+    count = was.count;
+  };
+  tally = counted_none (tally_of past);
+  asked = refl;
 }
 
 -- no seat is left
@@ -428,19 +489,19 @@ pub took_turn : {C : Type 0} (history : C → Option Talk) (d0 : Core) (n0 : Opt
 took_turn history d0 n0 past left stir e m h seats all on = record {
   story = on.story;
   more = on.more;
-  stands = stands_turned history d0 n0 on.story e m h seats on.stands (λ j l f. let inside = link_inside seats j l f in omega (arith, inside, all));
+  stands = stands_turned history d0 n0 on.story e m h seats on.asked on.stands (λ j l f. let inside = link_inside seats j l f in omega (arith, inside, all));
   tally = on.tally;
 }
 
 -- one turn more
 pub took_next : {C : Type 0} (history : C → Option Talk) (d0 : Core) (n0 : Option Ledger) (left turns idle more : ℕ) (stir : Bool) (d : Core) (n : Option Ledger) (seats : List (Seat C)) (e : Core) (m : Option Ledger) (seats' : List (Seat C)) → Took history d0 n0 left turns idle d n seats
-    → ((past : List Deed) → Stands history d0 n0 past d n 0 seats → TookTurn history d0 n0 past more stir e m seats') → Took history d0 n0 (left + more) (turns + 1) (cond stir 0 (idle + 1)) e m seats'
+    → ((past : List Deed) → has_asked past ≡ false → Stands history d0 n0 past d n 0 seats → TookTurn history d0 n0 past more stir e m seats') → Took history d0 n0 (left + more) (turns + 1) (cond stir 0 (idle + 1)) e m seats'
 took_next history d0 n0 left turns idle more stir d n seats e m seats' took turn =
-    let next = turn took.story took.stands in
-    record { story = Turned ∷ next.story; stands = next.stands; tally = ap (after_tally Turned) (next.tally ∙ ap (counted more stir) took.tally) }
+    let next = turn took.story took.anew took.stands in
+    record { story = Turned ∷ next.story; stands = next.stands; anew = refl; tally = ap (after_tally Turned) (next.tally ∙ ap (counted more stir) took.tally) }
 
 pub took_none : {C : Type 0} (history : C → Option Talk) (d0 : Core) (n0 : Option Ledger) (d : Core) (n : Option Ledger) (seats : List (Seat C)) → Stands history d0 n0 [] d n 0 seats → Took history d0 n0 0 0 0 d n seats
-took_none history d0 n0 d n seats stands = record { story = []; stands = stands; tally = refl }
+took_none history d0 n0 d n seats stands = record { story = []; stands = stands; tally = refl; anew = refl }
 
 pub ran_sessions : {C : Type 0} (history : C → Option Talk) (d0 : Core) (n0 : Option Ledger) (left turns idle sessions waits : ℕ) (e : Core) (m : Option Ledger) (seats : List (Seat C)) → Took history d0 n0 left turns idle e m seats → 0 < sessions → sessions ≤ left → left < sessions + most_sessions → Ran history d0 n0 Sessions sessions waits e m seats
 ran_sessions history d0 n0 left turns idle sessions waits e m seats took some most few =

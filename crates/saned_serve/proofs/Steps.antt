@@ -1,5 +1,5 @@
 -- Single deeds of a session that stands.
-use Rattle.std.proofs.Common.{◌≡◌, ◌≢◌, ◌≤◌, ◌⊎◌, inl, inr, ℕ, ◌+◌, Bool, true, false, ◌||◌, cond, Option, None, Some, List, [], ◌∷◌, ◌++◌, take, drop, refl, sym, ap, ◌∙◌, subst, append_assoc, append-nil, IsSome, arith}
+use Rattle.std.proofs.Common.{◌≡◌, ◌≢◌, ◌≤◌, ◌⊎◌, inl, inr, ℕ, ◌+◌, ◌-◌, Bool, true, false, ◌||◌, cond, Option, None, Some, List, [], ◌∷◌, ◌++◌, take, drop, refl, sym, ap, ◌∙◌, subst, append_assoc, append-nil, IsSome, arith}
 use Rattle.std.proofs.lemmas.List.{take-append-drop}
 use Rattle.std.proofs.Math.Dec.{eqb}
 use Rattle.std.proofs.lemmas.Bool.{eq-eqb, eqb-true, or_left, or_right, or_from}
@@ -14,7 +14,7 @@ use Rattle.saned_serve.specs.Ledger.{Ledger, noticed}
 use Rattle.saned_serve.specs.Ledger.Notice.{Dialed, Shut, Back}
 use Rattle.saned_serve.specs.Acts.{Act, Does, moves, leaves, opens, is_last, is_over}
 use Rattle.saned_serve.specs.Acts.Act.{Opens, Hears, Feed, Forgets, Take, Says, Misses, Connect, Turn, Shows, Lose, HangsUp, Leaves}
-use Rattle.saned_serve.specs.Story.{Deed, Life, no_life, no_bytes, is_of, after_act, after_deed, life_of, MayDo, noted_act, Extends, AreEnds, Closing, Leads, Tally, tally_of, after_tally, counted, has_stopped, IsDone, IsShown}
+use Rattle.saned_serve.specs.Story.{Deed, Life, no_life, no_bytes, is_of, after_act, after_deed, life_of, MayDo, noted_act, Extends, AreEnds, Closing, Leads, Tally, tally_of, after_tally, counted, has_stopped, has_asked, seated, IsDone, IsShown}
 use Rattle.saned_serve.specs.Story.Deed.{Of}
 use Rattle.saned_serve.specs.Goes.{Phase, IsAt, Carries, CarriesIn, Tells, Went, Goes, Attends, forgotten, SendsTo, SendsIn, hung_up, Ended, Parts}
 use Rattle.saned_serve.specs.Goes.Phase.{Fresh, Filled, Heard, Ready, Spoken}
@@ -53,6 +53,14 @@ pub counted_then : (a b : ℕ) (x y : Bool) (t : Tally) → counted b y (counted
 counted_then a b x y t =
     let sum : t.left + a + b ≡ t.left + (a + b) = omega arith in
     ap (λ n. record t { left = n; stir = (t.stir || x) || y }) sum ∙ ap (λ v. record t { left = t.left + (a + b); stir = v }) (or_assoc t.stir x y)
+
+-- a session that does not come
+not_come : {A : Type 0} (act : Act) → opens act ≡ false → opens act ≡ true → A
+not_come act plain comes = absurd (not_both comes plain)
+
+-- who stands, once sessions left
+pub fewer_then : (n a b : ℕ) → (n - a) - b ≡ n - (a + b)
+fewer_then n a b = omega arith
 
 pub counted_none : (t : Tally) → t ≡ counted 0 false t
 counted_none t =
@@ -100,7 +108,7 @@ unused_act act past id j true e standing none =
 
 pub leads_act : (act : Act) (d0 : Core) (n0 : Option Ledger) (past : List Deed) (d : Core) (n : Option Ledger) (e : Core) (id : ℕ) → opens act ≡ false → Leads d0 n0 past d n → Does id d act e → MayDo act (life_of id past) (has_stopped past) → Leads d0 n0 (Of id act ∷ past) e (noted_act act n)
 leads_act act d0 n0 past d n e id plain leads does may = record {
-  legal = (leads.legal, may);
+  legal = (leads.legal, (may, not_come act plain));
   run = (d, leads.run, does);
   net = ap (noted_act act) leads.net;
   unused = λ j h. unused_act act past id j (eqb id j) refl (stands_for act (life_of id past) (has_stopped past) plain may)
@@ -116,6 +124,8 @@ pub record Trail (d0 : Core) (n0 : Option Ledger) (past : List Deed) (id left : 
   pub others : (j : ℕ) → j ≢ id → life_of j story ≡ life_of j past
   pub tally : tally_of story ≡ counted left stir (tally_of past)
   pub stopped : has_stopped story ≡ has_stopped past
+  pub asked : has_asked story ≡ has_asked past
+  pub crowd : seated story ≡ seated past - left
 
 pub trail_begin : (d0 : Core) (n0 : Option Ledger) (past : List Deed) (d : Core) (n : Option Ledger) (id : ℕ) → Leads d0 n0 past d n → (t : Trail d0 n0 past id 0 false d n (life_of id past)) × (t.story ≡ past)
 trail_begin d0 n0 past d n id leads = (
@@ -127,6 +137,8 @@ trail_begin d0 n0 past d n id leads = (
     others = λ j off. refl;
     tally = counted_none (tally_of past);
     stopped = refl;
+    asked = refl;
+    crowd = (let same : seated past ≡ seated past - 0 = omega arith in same);
   },
   refl,
 )
@@ -147,6 +159,8 @@ trail_next {d0} {n0} {past} {id} {left} {stir} {e} {m} {life} t act f plain does
         others = λ j off. life_off j (Of id act) t.story (eqb_off id j (λ same. off (sym same))) ∙ t.others j off;
         tally = ap (after_tally (Of id act)) t.tally ∙ counted_then left (leaves act) stir (moves act) (tally_of past);
         stopped = t.stopped;
+        asked = ap (λ b. has_asked t.story || b) plain ∙ or_false (has_asked t.story) ∙ t.asked;
+        crowd = ap (λ b. cond b (seated t.story + 1) (seated t.story) - leaves act) plain ∙ ap (λ k. k - leaves act) t.crowd ∙ fewer_then (seated past) left (leaves act);
       },
       refl,
     )
@@ -156,7 +170,7 @@ pub trail_on : {d0 : Core} {n0 : Option Ledger} {past : List Deed} {id left : �
 trail_on t act f plain does may = (trail_next t act f plain does may).0
 
 went : {C : Type 0} {history : C → Option Talk} {d0 : Core} {n0 : Option Ledger} {past : List Deed} {id : ℕ} {stir : Bool} {e : Core} {m : Option Ledger} {life : Life} (to : Phase) (k : Link C) → Trail d0 n0 past id 0 stir e m life → Tells history to life k → Went history to d0 n0 past id stir e m k
-went {C} {history} to k t tells = record {
+went {C} {history} {d0} {n0} {past} to k t tells = record {
   story = t.story;
   more = t.more;
   leads = t.leads;
@@ -164,6 +178,8 @@ went {C} {history} to k t tells = record {
   others = t.others;
   tally = t.tally;
   stopped = t.stopped;
+  asked = t.asked;
+  crowd = (let same : seated past - 0 ≡ seated past = omega arith in t.crowd ∙ same);
 }
 
 -- ---- what connections tell
@@ -479,6 +495,8 @@ goes_then {C} {history} {p} {q} {r} {d} {n} {l} {x} {e} {m} {k} {y} {f} {o} {j} 
       others = λ i off. v.others i (λ e. off (e ∙ same)) ∙ w.others i off;
       tally = v.tally ∙ ap (counted 0 y) w.tally ∙ counted_then 0 0 x y (tally_of past);
       stopped = v.stopped ∙ w.stopped;
+      asked = v.asked ∙ w.asked;
+      crowd = v.crowd ∙ w.crowd;
     }
 
 -- ---- the data connection
@@ -722,6 +740,8 @@ parts_hung {C} history d n l m e o net does back = record {
         others = t.others;
         tally = t.tally;
         stopped = t.stopped;
+        asked = t.asked;
+        crowd = t.crowd;
       },
       (since, ends, is),
     )

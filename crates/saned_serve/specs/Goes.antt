@@ -1,5 +1,5 @@
 -- What a turn of one session's connections adds to a story.
-use Rattle.std.specs.Prelude.{◌≡◌, ◌≢◌, ℕ, Bool, true, false, ◌||◌, cond, ◌⊎◌, Option, None, Some, List, [], ◌++◌, drop}
+use Rattle.std.specs.Prelude.{◌≡◌, ◌≢◌, ℕ, Bool, true, false, ◌||◌, cond, ◌⊎◌, ◌-◌, Option, None, Some, List, [], ◌++◌, drop}
 use Rattle.saned_core.specs.declared.seat.Fed.{Fed}
 use Rattle.saned_core.specs.State.{Core}
 use Rattle.saned_serve.specs.declared.sockets.Got.{Got}
@@ -9,7 +9,7 @@ use Rattle.saned_serve.specs.Ledger.{Ledger, noticed}
 use Rattle.saned_serve.specs.Ledger.Notice.{Forgot, Back}
 use Rattle.saned_serve.specs.Acts.{Does, is_over}
 use Rattle.saned_serve.specs.Acts.Act.{Feed}
-use Rattle.saned_serve.specs.Story.{Deed, Life, life_of, Extends, Closing, Leads, tally_of, counted, has_stopped, IsDone}
+use Rattle.saned_serve.specs.Story.{Deed, Life, life_of, Extends, Closing, Leads, tally_of, counted, has_stopped, has_asked, seated, IsDone}
 use Rattle.saned_serve.specs.declared.link.Link.{Link}
 
 -- how far a turn of a session is
@@ -68,6 +68,8 @@ pub record Went {C : Type 0} (history : C → Option Talk) (phase : Phase) (d0 :
   pub others : (j : ℕ) → j ≢ id → life_of j story ≡ life_of j past
   pub tally : tally_of story ≡ counted 0 stir (tally_of past)
   pub stopped : has_stopped story ≡ has_stopped past
+  pub asked : has_asked story ≡ has_asked past
+  pub crowd : seated story ≡ seated past
 
 -- whatever came before, the story goes on from the one daemon, ledger and link to the others
 pub record Goes {C : Type 0} (history : C → Option Talk) (from to : Phase) (d : Core) (n : Option Ledger) (l : Link C) (stir : Bool) (e : Core) (m : Option Ledger) (k : Link C) : Type 0 where
@@ -114,6 +116,8 @@ pub record Ended (d0 : Core) (n0 : Option Ledger) (past : List Deed) (id : ℕ) 
   pub others : (j : ℕ) → j ≢ id → life_of j story ≡ life_of j past
   pub tally : tally_of story ≡ counted 1 stir (tally_of past)
   pub stopped : has_stopped story ≡ has_stopped past
+  pub asked : has_asked story ≡ has_asked past
+  pub crowd : seated story ≡ seated past - 1
 
 -- whatever came before, where the session may be left or all turns are over, all connections of the link are handed back, and
 -- that alone is done

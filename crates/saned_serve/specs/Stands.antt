@@ -1,10 +1,10 @@
 -- What stands while a server takes its turns.
-use Rattle.std.specs.Prelude.{◌≡◌, ◌≢◌, ℕ, ◌+◌, ◌≤◌, ◌<◌, zero, suc, Bool, true, false, Option, None, Some, List, [], ◌∷◌}
+use Rattle.std.specs.Prelude.{◌≡◌, ◌≢◌, ℕ, ◌+◌, ◌≤◌, ◌<◌, zero, suc, Bool, true, false, Option, None, Some, IsSome, List, [], ◌∷◌}
 use Rattle.saned_core.specs.State.{Core}
 use Rattle.saned_core.specs.declared.seat.SessionId.{SessionId}
 use Rattle.saned_serve.specs.Talk.{Talk}
 use Rattle.saned_serve.specs.Ledger.{Ledger}
-use Rattle.saned_serve.specs.Story.{Deed, life_of, Extends, Closing, Leads, tally_of, counted, no_life, has_stopped}
+use Rattle.saned_serve.specs.Story.{Deed, life_of, Extends, Closing, Leads, tally_of, counted, no_life, has_stopped, has_asked, seated, MayAsk, most_sessions}
 use Rattle.saned_serve.specs.Story.Deed.{Turned, Stops}
 use Rattle.saned_serve.specs.Goes.{Tells, Goes, Parts}
 use Rattle.saned_serve.specs.Goes.Phase.{Fresh, Spoken}
@@ -22,9 +22,18 @@ abbrev pub one_if : Bool → ℕ
 one_if true = 1
 one_if false = 0
 
--- as many as a daemon takes
-abbrev pub most_sessions : ℕ
-most_sessions = 8
+-- an empty seat has the room for a session
+abbrev pub IsRoomed : {C : Type 0} → Seat C → Type 0
+IsRoomed seat = seat.link ≡ None → IsSome seat.rooms
+
+-- how many of the first seats have a session
+abbrev pub one_link : {C : Type 0} → Option (Link C) → ℕ
+one_link None = 0
+one_link (Some l) = 1
+
+unfoldable pub links_below : {C : Type 0} → ℕ → List (Seat C) → ℕ
+links_below zero seats = 0
+links_below (suc n) seats = one_link (link_at seats n) + links_below n seats
 
 abbrev pub most_turns : ℕ
 most_turns = 1099511627776
@@ -51,13 +60,17 @@ pub record Stands {C : Type 0} (history : C → Option Talk) (d0 : Core) (n0 : O
   pub all : (id : ℕ) → (life_of id story).standing ≡ true → (l : Link C) × (link_at seats (place id) ≡ Some l) × (l.id.number ≡ id)
   pub dark : (id : ℕ) → (life_of id story).standing ≡ false → (life_of id story).imaging ≡ false
   pub turned : (i : ℕ) (l : Link C) → link_at seats i ≡ Some l → i < had → HadTurn story l
+  pub inside : (i : ℕ) (l : Link C) → link_at seats i ≡ Some l → i < most_sessions
+  pub count : seated story ≡ links_below most_sessions seats
 
--- the story went on, so many sessions left, and something moved or not
+-- the story went on in a turn in which a control connection was asked for, or eight sessions stood; so many left, and
+-- something moved or not
 pub record WentOn {C : Type 0} (history : C → Option Talk) (d0 : Core) (n0 : Option Ledger) (past : List Deed) (left : ℕ) (stir : Bool) (e : Core) (m : Option Ledger) (had : ℕ) (seats : List (Seat C)) : Type 0 where
   pub story : List Deed
   pub more : Extends past story
   pub stands : Stands history d0 n0 story e m had seats
   pub tally : tally_of story ≡ counted left stir (tally_of past)
+  pub asked : has_asked story ≡ true
 
 -- the story went on by a whole turn
 pub record TookTurn {C : Type 0} (history : C → Option Talk) (d0 : Core) (n0 : Option Ledger) (past : List Deed) (left : ℕ) (stir : Bool) (e : Core) (m : Option Ledger) (seats : List (Seat C)) : Type 0 where
@@ -71,6 +84,7 @@ pub record Took {C : Type 0} (history : C → Option Talk) (d0 : Core) (n0 : Opt
   pub story : List Deed
   pub stands : Stands history d0 n0 story e m 0 seats
   pub tally : tally_of story ≡ record { left = left; turns = turns; idle = idle; stir = false }
+  pub anew : has_asked story ≡ false
 
 -- the story went on by ends alone, and these seats are left
 pub record Shuts {C : Type 0} (history : C → Option Talk) (d0 : Core) (n0 : Option Ledger) (past : List Deed) (e : Core) (m : Option Ledger) (seats : List (Seat C)) : Type 0 where
@@ -119,9 +133,11 @@ pub record Met {C : Type 0} (history : C → Option Talk) (d0 : Core) (n0 : Opti
   pub others : (j : ℕ) → j ≢ id → life_of j story ≡ life_of j past
   pub met : IsMet history past story id link
   pub tally : tally_of story ≡ counted 0 stir (tally_of past)
+  pub asked : has_asked story ≡ true
+  pub crowd : seated story ≡ seated past + one_link link
 
 pub record Greets {C : Type 0} (history : C → Option Talk) (d : Core) (n : Option Ledger) (stir : Bool) (e : Core) (m : Option Ledger) (link : Option (Link C)) : Type 0 where
-  pub greets : (d0 : Core) (n0 : Option Ledger) (past : List Deed) → Leads d0 n0 past d n → Met history d0 n0 past stir e m d.opened link
+  pub greets : (d0 : Core) (n0 : Option Ledger) (past : List Deed) → Leads d0 n0 past d n → MayAsk past → Met history d0 n0 past stir e m d.opened link
 
 -- nothing stands at the end of a story
 pub record IsOver (story : List Deed) : Type 0 where

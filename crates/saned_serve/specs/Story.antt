@@ -1,17 +1,19 @@
 -- What a server does, as one list: each call of the daemon, of a connection and of the listeners, in order.
-use Rattle.std.specs.Prelude.{◌≡◌, ◌≢◌, ℕ, ◌+◌, ◌≤◌, Bool, true, false, ◌||◌, cond, eqb, Option, None, Some, List, [], ◌∷◌, ◌++◌, ◌⊎◌}
+use Rattle.std.specs.Prelude.{◌≡◌, ◌≢◌, ℕ, ◌+◌, ◌-◌, ◌≤◌, ◌<◌, Bool, true, false, ◌||◌, cond, eqb, Option, None, Some, List, [], ◌∷◌, ◌++◌, ◌⊎◌}
 use Rattle.saned_core.specs.State.{Core, is_closed}
 use Rattle.saned_serve.specs.Talk.{Talk, read_in, taken_in, lost_in, IsTold}
 use Rattle.saned_serve.specs.Talk.Move.{Read, Write}
 use Rattle.saned_serve.specs.Ledger.{Ledger, noticed}
 use Rattle.saned_serve.specs.Ledger.Notice.{Asked, Port, Forgot, Dialed, Shut, Back}
-use Rattle.saned_serve.specs.Acts.{Act, Does, moves, leaves, is_last, is_over}
+use Rattle.saned_serve.specs.Acts.{Act, Does, moves, leaves, opens, is_last, is_over}
 use Rattle.saned_serve.specs.Acts.Act.{Opens, Hears, Feed, Forgets, Take, Says, Misses, Connect, Turn, Shows, Lose, HangsUp, Leaves}
 
 pub data Deed : Type 0 where
   -- an act for the session of that number
   Of : (number : ℕ) (act : Act) → Deed
-  -- no control connection came
+  -- eight sessions stand, and no control connection is asked for
+  Full : Deed
+  -- one was asked for, and none came
   Waits : Deed
   -- one came and is handed back: it got no data port, or no session, and then its port is closed
   Refuses : (port : Option ℕ) (talk : Option Talk) → Deed
@@ -69,6 +71,7 @@ after_act (Leaves port talk) life = record life { standing = false }
 
 abbrev pub is_of : Deed → ℕ → Bool
 is_of (Of number act) id = eqb number id
+is_of Full id = false
 is_of Waits id = false
 is_of (Refuses port talk) id = false
 is_of Turned id = true
@@ -76,6 +79,7 @@ is_of Stops id = false
 
 abbrev pub after_deed : Deed → Life → Life
 after_deed (Of number act) life = after_act act life
+after_deed Full life = life
 after_deed Waits life = life
 after_deed (Refuses port talk) life = life
 after_deed Turned life = record life { visited = false }
@@ -140,16 +144,47 @@ pub record IsSettled (life : Life) : Type 0 where
 abbrev pub has_stopped : List Deed → Bool
 has_stopped [] = false
 has_stopped (Of number act ∷ past) = has_stopped past
+has_stopped (Full ∷ past) = has_stopped past
 has_stopped (Waits ∷ past) = has_stopped past
 has_stopped (Refuses port talk ∷ past) = has_stopped past
 has_stopped (Turned ∷ past) = has_stopped past
 has_stopped (Stops ∷ past) = true
 
+-- as many sessions as are served at once
+abbrev pub most_sessions : ℕ
+most_sessions = 8
+
+-- in the turn that is not over a control connection was asked for, or eight sessions stood
+abbrev pub has_asked : List Deed → Bool
+has_asked [] = false
+has_asked (Of number act ∷ past) = has_asked past || opens act
+has_asked (Full ∷ past) = true
+has_asked (Waits ∷ past) = true
+has_asked (Refuses port talk ∷ past) = true
+has_asked (Turned ∷ past) = false
+has_asked (Stops ∷ past) = has_asked past
+
+-- how many sessions stand: those that were opened, less those that left
+abbrev pub seated : List Deed → ℕ
+seated [] = 0
+seated (Of number act ∷ past) = cond (opens act) (seated past + 1) (seated past) - leaves act
+seated (Full ∷ past) = seated past
+seated (Waits ∷ past) = seated past
+seated (Refuses port talk ∷ past) = seated past
+seated (Turned ∷ past) = seated past
+seated (Stops ∷ past) = seated past
+
+-- a control connection is asked for once a turn, and only while fewer than eight sessions stand
+abbrev pub MayAsk : List Deed → Type 0
+MayAsk past = (has_asked past ≡ false) × (seated past < most_sessions)
+
+-- a turn ends only where one was asked for in it, or eight sessions stood, and where each session that stands is settled
 abbrev pub May : Deed → List Deed → Type 0
-May (Of number act) past = MayDo act (life_of number past) (has_stopped past)
-May Waits past = Unit {0}
-May (Refuses port talk) past = IsTold talk []
-May Turned past = (id : ℕ) → (life_of id past).standing ≡ true → IsSettled (life_of id past)
+May (Of number act) past = MayDo act (life_of number past) (has_stopped past) × (opens act ≡ true → MayAsk past)
+May Full past = (has_asked past ≡ false) × (seated past ≡ most_sessions)
+May Waits past = MayAsk past
+May (Refuses port talk) past = MayAsk past × IsTold talk []
+May Turned past = (has_asked past ≡ true) × ((id : ℕ) → (life_of id past).standing ≡ true → IsSettled (life_of id past))
 May Stops past = Unit {0}
 
 abbrev pub IsStory : List Deed → Type 0
@@ -164,6 +199,7 @@ IsRefused (Some port) d = is_closed d ≡ true
 
 abbrev pub Steps : Core → Deed → Core → Type 0
 Steps d (Of number act) e = Does number d act e
+Steps d Full e = e ≡ d
 Steps d Waits e = e ≡ d
 Steps d (Refuses port talk) e = IsRefused port d × (e ≡ d)
 Steps d Turned e = e ≡ d
@@ -195,6 +231,7 @@ noted_port (Some port) ledger = noticed (Shut port) (noticed (Port (Some port)) 
 
 abbrev pub noted : Deed → Option Ledger → Option Ledger
 noted (Of number act) ledger = noted_act act ledger
+noted Full ledger = ledger
 noted Waits ledger = noticed (Asked false) ledger
 noted (Refuses port talk) ledger = noticed (Back talk) (noted_port port (noticed (Asked true) ledger))
 noted Turned ledger = ledger
@@ -225,6 +262,7 @@ pub record Tally : Type 0 where
 
 abbrev pub after_tally : Deed → Tally → Tally
 after_tally (Of number act) t = record t { left = t.left + leaves act; stir = t.stir || moves act }
+after_tally Full t = t
 after_tally Waits t = t
 after_tally (Refuses port talk) t = record t { stir = t.stir || true }
 after_tally Turned t = record { left = t.left; turns = t.turns + 1; idle = cond t.stir 0 (t.idle + 1); stir = false }
@@ -262,6 +300,7 @@ IsEndAct (Leaves port talk) = Unit {0}
 
 abbrev pub IsEnd : Deed → Type 0
 IsEnd (Of number act) = IsEndAct act
+IsEnd Full = ⊥
 IsEnd Waits = ⊥
 IsEnd (Refuses port talk) = ⊥
 IsEnd Turned = ⊥

@@ -1,10 +1,10 @@
 //! The seats of sessions: who comes, who goes, and one turn of each.
 
-ghost use Rattle.std.specs.Prelude.{◌≡◌, ◌≤◌, ◌<◌, ◌+◌, ℕ, Bool, true, false, List, Option, None, Some, length, IsSome, IsTrue, IfSome, IfOk, []};
+ghost use Rattle.std.specs.Prelude.{◌≡◌, ◌≤◌, ◌<◌, ◌+◌, ℕ, Bool, true, false, List, Option, None, Some, length, IsSome, IsTrue, IfSome, IfOk, All, []};
 ghost use Rattle.saned_core.specs.State.{Core, core};
 ghost use Rattle.saned_serve.specs.Ledger.{Ledger};
-ghost use Rattle.saned_serve.specs.Stands.{Stands, WentOn, Keeps, Empties, IsLeft, IsSeated, Greets, Closes, most_sessions, one_if, link_at};
-ghost use Rattle.saned_serve.specs.Story.{Deed, has_stopped};
+ghost use Rattle.saned_serve.specs.Stands.{Stands, WentOn, Keeps, Empties, IsLeft, IsSeated, Greets, Closes, IsRoomed, one_if, link_at};
+ghost use Rattle.saned_serve.specs.Story.{Deed, has_stopped, has_asked, most_sessions};
 
 use crate::Listeners;
 use crate::link::{Link, Rooms, converse, leave, part};
@@ -29,7 +29,9 @@ pub struct Visit {
 /// As many sessions as a daemon takes.
 const MOST_SESSIONS: usize = 8;
 
-fn rooms_for(alloc: Global) -> Result<Vec<Rooms>, AllocError> {
+fn rooms_for(alloc: Global) -> Result<Vec<Rooms>, AllocError>
+    ensures { IfOk result (λ all. length all.items ≡ most_sessions) }
+{
     let mut all = Vec::with_capacity(alloc, MOST_SESSIONS)?;
     for _ in 0..MOST_SESSIONS {
         all.push(Rooms {
@@ -44,6 +46,7 @@ fn rooms_for(alloc: Global) -> Result<Vec<Rooms>, AllocError> {
 pub fn seats_for<C>(alloc: Global) -> Result<Vec<Seat<C>>, AllocError>
     ensures empty { IfOk result (λ seats. (i : ℕ) → link_at seats.items i ≡ None) }
     ensures len { IfOk result (λ seats. length seats.items ≡ most_sessions) }
+    ensures roomed { IfOk result (λ seats. All IsRoomed seats.items) }
 {
     let mut rooms = rooms_for(alloc)?;
     let mut seats = Vec::with_capacity(alloc, MOST_SESSIONS)?;
@@ -64,6 +67,7 @@ fn talk_at<D: Device, L: Listeners>(
 ) -> Visit
     ensures keeps { Keeps L.Conn.history (core D.state daemon.old) (L.ledger net.old) seat.old.link result.has_moved (core D.state daemon.new) (L.ledger net.new) seat.new.link }
     ensures left { IsLeft result.has_left seat.new.link }
+    ensures roomed { IsRoomed seat.old → IsRoomed seat.new }
 {
     match &mut seat.link {
         None => Visit {
@@ -82,6 +86,7 @@ fn talk_at<D: Device, L: Listeners>(
 
 fn vacate<D: Device, L: Listeners>(daemon: &mut Daemon<D>, net: &mut L, seat: &mut Seat<L::Conn>)
     ensures none { seat.new.link ≡ None }
+    ensures roomed { IsRoomed seat.old → IsRoomed seat.new }
     ensures empties { Empties L.Conn.history (core D.state daemon.old) (L.ledger net.old) seat.old.link (core D.state daemon.new) (L.ledger net.new) }
 {
     if let Some(link) = seat.link.take() {
@@ -98,9 +103,11 @@ pub fn turn_at<D: Device, L: Listeners>(
     seats: &mut [Seat<L::Conn>],
     i: usize,
 ) -> Visit
-    requires { i < length seats.old }
-    ensures { (d0 : Core) (n0 : Option Ledger) (past : List Deed) → Stands L.Conn.history d0 n0 past (core D.state daemon.old) (L.ledger net.old) i seats.old
+    requires inside { i < length seats.old }
+    requires roomed { All IsRoomed seats.old }
+    ensures went { (d0 : Core) (n0 : Option Ledger) (past : List Deed) → has_asked past ≡ true → Stands L.Conn.history d0 n0 past (core D.state daemon.old) (L.ledger net.old) i seats.old
         → WentOn L.Conn.history d0 n0 past (one_if result.has_left) result.has_moved (core D.state daemon.new) (L.ledger net.new) (i + 1) seats.new }
+    ensures roomed { All IsRoomed seats.new }
 {
     let seat = &mut seats[i];
     let visit = talk_at(alloc, daemon, net, seat);
@@ -117,8 +124,10 @@ fn greet<D: Device, L: Listeners>(
     net: &mut L,
     seat: &mut Seat<L::Conn>,
 ) -> bool
-    requires { seat.old.link ≡ None }
-    ensures { Greets L.Conn.history (core D.state daemon.old) (L.ledger net.old) result (core D.state daemon.new) (L.ledger net.new) seat.new.link }
+    requires none { seat.old.link ≡ None }
+    requires roomed { IsRoomed seat.old }
+    ensures roomed { IsRoomed seat.new }
+    ensures greets { Greets L.Conn.history (core D.state daemon.old) (L.ledger net.old) result (core D.state daemon.new) (L.ledger net.new) seat.new.link }
 {
     let Some(rooms) = seat.rooms.take() else {
         return false;
@@ -138,21 +147,21 @@ fn greet<D: Device, L: Listeners>(
         seat.rooms = Some(rooms);
         return true;
     };
-    sit(net, seat, rooms, conn, id, port);
+    sit(net, &mut seat.link, rooms, conn, id, port);
     true
 }
 
 /// Puts a new session onto an empty seat.
 fn sit<L: Listeners>(
     net: &mut L,
-    seat: &mut Seat<L::Conn>,
+    place: &mut Option<Link<L::Conn>>,
     rooms: Rooms,
     conn: L::Conn,
     id: SessionId,
     port: u16,
 )
-    requires { seat.old.link ≡ None }
-    ensures sits { IsSeated conn id port seat.new.link }
+    requires { place.old ≡ None }
+    ensures sits { IsSeated conn id port place.new }
     ensures net { L.ledger net.new ≡ L.ledger net.old }
 {
     let Rooms {
@@ -172,7 +181,7 @@ fn sit<L: Listeners>(
         image: None,
         is_last: false,
     };
-    if let Some(other) = seat.link.replace(link) {
+    if let Some(other) = place.replace(link) {
         let _ = part(net, other);
     }
 }
@@ -186,7 +195,10 @@ fn greet_at<D: Device, L: Listeners>(
 ) -> bool
     requires inside { i < length seats.old }
     requires none { link_at seats.old i ≡ None }
-    ensures { (d0 : Core) (n0 : Option Ledger) (past : List Deed) → Stands L.Conn.history d0 n0 past (core D.state daemon.old) (L.ledger net.old) 0 seats.old
+    requires len { length seats.old ≡ most_sessions }
+    requires roomed { All IsRoomed seats.old }
+    ensures roomed { All IsRoomed seats.new }
+    ensures went { (d0 : Core) (n0 : Option Ledger) (past : List Deed) → has_asked past ≡ false → Stands L.Conn.history d0 n0 past (core D.state daemon.old) (L.ledger net.old) 0 seats.old
         → WentOn L.Conn.history d0 n0 past 0 result (core D.state daemon.new) (L.ledger net.new) 0 seats.new }
 {
     let seat = &mut seats[i];
@@ -200,7 +212,10 @@ pub fn welcome<D: Device, L: Listeners>(
     net: &mut L,
     seats: &mut [Seat<L::Conn>],
 ) -> bool
-    ensures { (d0 : Core) (n0 : Option Ledger) (past : List Deed) → Stands L.Conn.history d0 n0 past (core D.state daemon.old) (L.ledger net.old) 0 seats.old
+    requires len { length seats.old ≡ most_sessions }
+    requires roomed { All IsRoomed seats.old }
+    ensures roomed { All IsRoomed seats.new }
+    ensures went { (d0 : Core) (n0 : Option Ledger) (past : List Deed) → has_asked past ≡ false → Stands L.Conn.history d0 n0 past (core D.state daemon.old) (L.ledger net.old) 0 seats.old
         → WentOn L.Conn.history d0 n0 past 0 result (core D.state daemon.new) (L.ledger net.new) 0 seats.new }
 {
     for i in 0..seats.len() {

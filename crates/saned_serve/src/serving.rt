@@ -1,10 +1,10 @@
 //! Turn after turn, until enough sessions left or nothing moves.
 
-ghost use Rattle.std.specs.Prelude.{◌≡◌, ◌≢◌, ◌≤◌, ◌<◌, ◌+◌, cond, List, [], Option, length};
+ghost use Rattle.std.specs.Prelude.{◌≡◌, ◌≢◌, ◌≤◌, ◌<◌, ◌+◌, cond, Bool, true, false, List, [], Option, All, length};
 ghost use Rattle.saned_core.specs.State.{Core, core};
 ghost use Rattle.saned_serve.specs.Ledger.{Ledger};
-ghost use Rattle.saned_serve.specs.Stands.{Stands, TookTurn, Ran, Served, most_sessions, most_turns};
-ghost use Rattle.saned_serve.specs.Story.{Deed};
+ghost use Rattle.saned_serve.specs.Stands.{Stands, IsRoomed, TookTurn, Ran, Served, most_turns};
+ghost use Rattle.saned_serve.specs.Story.{Deed, has_asked, most_sessions};
 
 use crate::Listeners;
 use crate::seats::{Seat, close_all, seats_for, turn_at, welcome};
@@ -26,7 +26,10 @@ fn take_turn<D: Device, L: Listeners>(
     net: &mut L,
     seats: &mut [Seat<L::Conn>],
 ) -> Turned
-    ensures turned { (d0 : Core) (n0 : Option Ledger) (past : List Deed) → Stands L.Conn.history d0 n0 past (core D.state daemon.old) (L.ledger net.old) 0 seats.old
+    requires len { length seats.old ≡ most_sessions }
+    requires roomed { All IsRoomed seats.old }
+    ensures roomed { All IsRoomed seats.new }
+    ensures turned { (d0 : Core) (n0 : Option Ledger) (past : List Deed) → has_asked past ≡ false → Stands L.Conn.history d0 n0 past (core D.state daemon.old) (L.ledger net.old) 0 seats.old
         → TookTurn L.Conn.history d0 n0 past result.left result.has_moved (core D.state daemon.new) (L.ledger net.new) seats.new }
     ensures few { result.left ≤ length seats.old }
 {
@@ -71,7 +74,8 @@ fn take_turns<D: Device, L: Listeners>(
     sessions: u64,
     idle_turns: u64,
 ) -> ServeEnd
-    requires { length seats.old ≡ most_sessions }
+    requires len { length seats.old ≡ most_sessions }
+    requires roomed { All IsRoomed seats.old }
     ensures ran { (d0 : Core) (n0 : Option Ledger) → Stands L.Conn.history d0 n0 [] (core D.state daemon.old) (L.ledger net.old) 0 seats.old
         → Ran L.Conn.history d0 n0 result sessions idle_turns (core D.state daemon.new) (L.ledger net.new) seats.new }
     ensures memory { result ≢ ServeEnd.NoMem }

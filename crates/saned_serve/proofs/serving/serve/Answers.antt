@@ -1,7 +1,7 @@
-use Rattle.std.proofs.Common.{◌++◌, take, drop, length, refl, sym, ◌∙◌, ap, subst, [], ◌∷◌}
+use Rattle.std.proofs.Common.{◌++◌, take, drop, length, refl, sym, ◌∙◌, ap, subst, All, [], ◌∷◌, rules}
 use Rattle.saned_core.specs.State.{core}
 use Rattle.saned_serve.specs.Story.Deed.{Stops}
-use Rattle.saned_serve.specs.Stands.{Stands}
+use Rattle.saned_serve.specs.Stands.{Stands, IsRoomed}
 use Rattle.saned_serve.proofs.Seating.{stands_begins, stands_stops, served_none, take_front}
 use Rattle.saned_serve.proofs.serving.serve.Goals as goal
 
@@ -22,3 +22,6 @@ returns-clause-served g c =
     let closed = c.close_all.ensures d0 n0 (Stops ∷ ran.story) refl (subst (λ xs. Stands history d0 n0 (Stops ∷ ran.story) d1 n1 0 xs)
     (sym (ap (λ k. take k (c.take_turns-end.new.seats ++ drop (length c.take_turns-end.new.seats) c.in-Ok.seats.items)) (sym len) ∙ take_front c.take_turns-end.new.seats (drop (length c.take_turns-end.new.seats) c.in-Ok.seats.items))) stopped) in
     record { turns = ran.story; story = closed.story; closing = closed.closing; leads = closed.leads; over = closed.over; ends = ran.ends }
+
+pub take_turns-end-requires : goal.take_turns-end-requires
+take_turns-end-requires g c = (search rules, (ap length c.as_mut_slice.ensures.value ∙ c.in-Ok.ensures.len, subst (λ xs. All IsRoomed xs) (sym c.as_mut_slice.ensures.value) c.in-Ok.ensures.roomed))

@@ -17,20 +17,31 @@ pub loop-i-preserved : goal.loop-i-preserved
 loop-i-preserved g c =
     let one = c.from-left.ensures ∙ same_byte c.turn_at-visit.result.has_left in
     record {
-      turned = λ d0 n0 past was.
+      turned = λ d0 n0 past anew was.
           let history = g.L.Conn.Socket.history in
           let e = core g.D.Device.state c.turn_at-visit.new.daemon in
           let m = g.L.Listeners.ledger c.turn_at-visit.new.net in
           let next = then_on history d0 n0 past c.loop-i.left (one_if c.turn_at-visit.result.has_left) c.loop-i.has_moved c.turn_at-visit.result.has_moved (core g.D.Device.state c.loop-i.daemon) (g.L.Listeners.ledger c.loop-i.net) c.loop-i.i c.loop-i.seats e m (c.loop-i.i + 1) c.turn_at-visit.new.seats
-          (c.loop-i.invariant.turned d0 n0 past was) (λ story stands. c.turn_at-visit.ensures d0 n0 story stands) in
+          (c.loop-i.invariant.turned d0 n0 past anew was) (λ story asked stands. c.turn_at-visit.ensures.went d0 n0 story asked stands) in
           subst (λ k. WentOn history d0 n0 past (c.loop-i.left + k) (c.loop-i.has_moved || c.turn_at-visit.result.has_moved) e m (c.loop-i.i + 1) c.turn_at-visit.new.seats) (sym one) next;
+      roomed = c.turn_at-visit.ensures.roomed;
       few = (let most = at_most_one c.turn_at-visit.result.has_left in let few = c.loop-i.invariant.few in omega (arith, one, most, few));
     }
 
 pub loop-i-init : goal.loop-i-init
-loop-i-init g c = record { turned = c.welcome-has_moved.ensures; few = omega arith }
+loop-i-init g c = record { turned = c.welcome-has_moved.ensures.went; few = omega arith; roomed = c.welcome-has_moved.ensures.roomed }
 
 pub returns-clause-turned : goal.returns-clause-turned
-returns-clause-turned g c = λ d0 n0 past was.
+returns-clause-turned g c = λ d0 n0 past anew was.
     took_turn g.L.Conn.Socket.history d0 n0 past c.loop-i.left c.loop-i.has_moved (core g.D.Device.state c.loop-i.daemon) (g.L.Listeners.ledger c.loop-i.net) c.loop-i.i c.loop-i.seats
-    (search rules) (c.loop-i.invariant.turned d0 n0 past was)
+    (search rules) (c.loop-i.invariant.turned d0 n0 past anew was)
+
+pub overflow_add-left : goal.overflow_add-left
+overflow_add-left g c =
+    let few = c.loop-i.invariant.few in
+    let at = c.loop-i-test.true in
+    let same = c.welcome-has_moved.auto.seats in
+    let len = c.requires.len in
+    let one = c.from-left.ensures ∙ same_byte c.turn_at-visit.result.has_left in
+    let most = at_most_one c.turn_at-visit.result.has_left in
+    omega (arith, few, at, same, len, one, most)

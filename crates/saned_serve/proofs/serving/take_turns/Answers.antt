@@ -12,6 +12,7 @@ slower false idle turn slow = omega (arith, slow)
 pub loop-turn-init : goal.loop-turn-init
 loop-turn-init g c = record {
   turned = λ d0 n0 was. took_none g.L.Conn.Socket.history d0 n0 (core g.D.Device.state c.args.daemon.now) (g.L.Listeners.ledger c.args.net.now) c.args.seats.now was;
+  roomed = c.requires.roomed;
   few = omega arith;
   below = λ some. some;
   slow = omega arith;
@@ -24,11 +25,11 @@ returns-then-all_left-sessions-clause-ran g c = λ d0 n0 was.
     let e = core g.D.Device.state c.take_turn-turned.new.daemon in
     let m = g.L.Listeners.ledger c.take_turn-turned.new.net in
     let next = took_next history d0 n0 c.loop-turn.all_left c.loop-turn._turn c.loop-turn.idle c.take_turn-turned.result.left c.take_turn-turned.result.has_moved (core g.D.Device.state c.loop-turn.daemon) (g.L.Listeners.ledger c.loop-turn.net) c.loop-turn.seats e m c.take_turn-turned.new.seats
-    (c.loop-turn.invariant.turned d0 n0 was) (λ story stands. c.take_turn-turned.ensures.turned d0 n0 story stands) in
+    (c.loop-turn.invariant.turned d0 n0 was) (λ story anew stands. c.take_turn-turned.ensures.turned d0 n0 story anew stands) in
     let some : 0 < c.args.sessions = search rules in
     let before = c.loop-turn.invariant.below some in
     let fits = c.take_turn-turned.ensures.few in
-    let long = c.loop-turn.auto.seats ∙ c.requires in
+    let long = c.loop-turn.auto.seats ∙ c.requires.len in
     ran_sessions history d0 n0 (c.loop-turn.all_left + c.take_turn-turned.result.left) (c.loop-turn._turn + 1) (cond c.take_turn-turned.result.has_moved 0 (c.loop-turn.idle + 1)) c.args.sessions c.args.idle_turns e m c.take_turn-turned.new.seats next some (search rules) (omega (arith, before, fits, long))
 
 pub returns-then-idle-idle_turns-clause-ran : goal.returns-then-idle-idle_turns-clause-ran
@@ -37,7 +38,7 @@ returns-then-idle-idle_turns-clause-ran g c = λ d0 n0 was.
     let e = core g.D.Device.state c.take_turn-turned.new.daemon in
     let m = g.L.Listeners.ledger c.take_turn-turned.new.net in
     let next = took_next history d0 n0 c.loop-turn.all_left c.loop-turn._turn c.loop-turn.idle c.take_turn-turned.result.left c.take_turn-turned.result.has_moved (core g.D.Device.state c.loop-turn.daemon) (g.L.Listeners.ledger c.loop-turn.net) c.loop-turn.seats e m c.take_turn-turned.new.seats
-    (c.loop-turn.invariant.turned d0 n0 was) (λ story stands. c.take_turn-turned.ensures.turned d0 n0 story stands) in
+    (c.loop-turn.invariant.turned d0 n0 was) (λ story anew stands. c.take_turn-turned.ensures.turned d0 n0 story anew stands) in
     let fewer : 0 < c.args.sessions → c.loop-turn.all_left + c.take_turn-turned.result.left < c.args.sessions = elim c.else-sessions-gt0.branch [
       | else-sessions-gt0-via-then-sessions-gt0+else-all_left-sessions w ↦ λ some. (let off = w.if-all_left-sessions.false in omega (arith, off))
       | else-sessions-gt0-via-else-sessions-gt0 w ↦ λ some. (let off = w.if-sessions-gt0.false in absurd (omega (arith, off, some)))
@@ -58,8 +59,9 @@ loop-turn-preserved g c =
     record {
       turned = λ d0 n0 was.
           let next = took_next history d0 n0 c.loop-turn.all_left c.loop-turn._turn c.loop-turn.idle c.take_turn-turned.result.left c.take_turn-turned.result.has_moved (core g.D.Device.state c.loop-turn.daemon) (g.L.Listeners.ledger c.loop-turn.net) c.loop-turn.seats e m c.take_turn-turned.new.seats
-          (c.loop-turn.invariant.turned d0 n0 was) (λ story stands. c.take_turn-turned.ensures.turned d0 n0 story stands) in
+          (c.loop-turn.invariant.turned d0 n0 was) (λ story anew stands. c.take_turn-turned.ensures.turned d0 n0 story anew stands) in
           subst (λ k. Took history d0 n0 (c.loop-turn.all_left + c.take_turn-turned.result.left) (c.loop-turn._turn + 1) k e m c.take_turn-turned.new.seats) (sym same) next;
+      roomed = c.take_turn-turned.ensures.roomed;
       few = search rules;
       below = fewer;
       slow = subst (λ k. k ≤ c.loop-turn._turn + 1) (sym same) (slower c.take_turn-turned.result.has_moved c.loop-turn.idle c.loop-turn._turn c.loop-turn.invariant.slow);
