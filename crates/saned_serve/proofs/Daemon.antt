@@ -15,7 +15,7 @@ use Rattle.saned_core.specs.declared.seat.DataStep.{DataStep}
 use Rattle.saned_core.specs.declared.seat.DataStep.TheVariants.{Idle, Bytes}
 use Rattle.saned_core.specs.State.{Core, replies_of, after_taken, on_seat, seat_of, session_in}
 use Rattle.saned_core.specs.Turns.{Turns, TurnsSessions, StreamsIn, StreamsFrom, Records}
-use Rattle.saned_serve.specs.Acts.{IsTaken, IsTurned, written_by, is_last}
+use Rattle.saned_serve.specs.Acts.{IsTaken, IsTurned, written_by, is_idle}
 use Rattle.saned_serve.proofs.Seating.{take_front}
 
 from_start : (n : ℕ) (xs : List ℕ) → slice_range xs 0 n ≡ take n xs
@@ -85,33 +85,33 @@ turn_fits d e number step buf h turns = turns_fit (session_in (seat_of d.seats n
 pub is_turned : (d e : Core) (number room : ℕ) (step : DataStep) (buf : List ℕ) → length buf ≡ room → 8 ≤ length buf → Turns number d step e buf → IsTurned d number room step (slice_range buf 0 (written_by step)) e
 is_turned d e number room step buf size h turns = record { buffer = buf; size = size; turns = turns; fits = turn_fits d e number step buf h turns; front = from_start (written_by step) buf }
 
--- ---- the end record has five bytes
+-- ---- a record has four bytes or more
 
-no_end : (step other : DataStep) → step ≡ other → is_last other ≡ false → is_last step ≡ true → written_by step ≡ 5
-no_end step other e off last = absurd (let wrong : true ≡ false = sym last ∙ ap is_last e ∙ off in cc)
+no_record : (step : DataStep) → step ≡ Idle → is_idle step ≡ false → 4 ≤ written_by step
+no_record step e some = absurd (let wrong : true ≡ false = sym (ap is_idle e) ∙ some in cc)
 
-records_end : (answer : Result ℕ Status) (window : List ℕ) (step : DataStep) (buf : List ℕ) → is_last step ≡ true → Records answer window step buf → written_by step ≡ 5
-records_end (Ok n) window step buf last records = no_end step (Bytes (4 + n)) records.0 refl last
-records_end (Err status) window step buf last records = ap written_by records.0
+records_some : (answer : Result ℕ Status) (window : List ℕ) (step : DataStep) (buf : List ℕ) → Records answer window step buf → 4 ≤ written_by step
+records_some (Ok n) window step buf records = subst (λ (s : DataStep). 4 ≤ written_by s) (sym records.0) (let most : 4 ≤ 4 + n = omega arith in most)
+records_some (Err status) window step buf records = subst (λ (s : DataStep). 4 ≤ written_by s) (sym records.0) (let most : 4 ≤ 5 = omega arith in most)
 
-from_end : (lease : Option (Lease DeviceState)) (word : ℕ) (old : Session DeviceState) (step : DataStep) (new : Session DeviceState) (buf : List ℕ) → is_last step ≡ true → StreamsFrom lease word old step new buf → written_by step ≡ 5
-from_end None word old step new buf last streams = no_end step Idle streams.0 refl last
-from_end (Some lease) word old step new buf last streams = records_end streams.answer streams.window step buf last streams.written
+from_some : (lease : Option (Lease DeviceState)) (word : ℕ) (old : Session DeviceState) (step : DataStep) (new : Session DeviceState) (buf : List ℕ) → is_idle step ≡ false → StreamsFrom lease word old step new buf → 4 ≤ written_by step
+from_some None word old step new buf some streams = no_record step streams.0 some
+from_some (Some lease) word old step new buf some streams = records_some streams.answer streams.window step buf streams.written
 
-streams_end : (c : Carriage) (old : Session DeviceState) (step : DataStep) (new : Session DeviceState) (buf : List ℕ) → is_last step ≡ true → StreamsIn c old step new buf → written_by step ≡ 5
-streams_end Quiet old step new buf last streams = no_end step Idle streams.0 refl last
-streams_end (Waiting word) old step new buf last streams = no_end step Idle streams.0 refl last
-streams_end (Streaming word) old step new buf last streams = from_end (held_by old.held word) word old step new buf last streams
-streams_end Ending old step new buf last streams = ap written_by streams.0.0
+streams_some : (c : Carriage) (old : Session DeviceState) (step : DataStep) (new : Session DeviceState) (buf : List ℕ) → is_idle step ≡ false → StreamsIn c old step new buf → 4 ≤ written_by step
+streams_some Quiet old step new buf some streams = no_record step streams.0 some
+streams_some (Waiting word) old step new buf some streams = no_record step streams.0 some
+streams_some (Streaming word) old step new buf some streams = from_some (held_by old.held word) word old step new buf some streams
+streams_some Ending old step new buf some streams = subst (λ (s : DataStep). 4 ≤ written_by s) (sym streams.0.0) (let most : 4 ≤ 5 = omega arith in most)
 
-turns_end : (o : Option (Session DeviceState)) (n : ℕ) (old : List (Option (Seat DeviceState))) (step : DataStep) (new : List (Option (Seat DeviceState))) (buf : List ℕ) → is_last step ≡ true → TurnsSessions o n old step new buf → written_by step ≡ 5
-turns_end None n old step new buf last turns = no_end step Idle turns.0 refl last
-turns_end (Some s) n old step new buf last turns = streams_end s.carriage s step turns.0 buf last turns.1
+turns_some : (o : Option (Session DeviceState)) (n : ℕ) (old : List (Option (Seat DeviceState))) (step : DataStep) (new : List (Option (Seat DeviceState))) (buf : List ℕ) → is_idle step ≡ false → TurnsSessions o n old step new buf → 4 ≤ written_by step
+turns_some None n old step new buf some turns = no_record step turns.0 some
+turns_some (Some s) n old step new buf some turns = streams_some s.carriage s step turns.0 buf some turns.1
 
-pub end_some : (d e : Core) (number room : ℕ) (step : DataStep) (bytes : List ℕ) → IsTurned d number room step bytes e → is_last step ≡ true → bytes ≢ []
-end_some d e number room step bytes turned last none =
-    let five = turns_end (session_in (seat_of d.seats number)) number d.seats step e.seats turned.buffer last turned.turns.seats in
+pub record_some : (d e : Core) (number room : ℕ) (step : DataStep) (bytes : List ℕ) → IsTurned d number room step bytes e → is_idle step ≡ false → bytes ≢ []
+record_some d e number room step bytes turned some none =
+    let four = turns_some (session_in (seat_of d.seats number)) number d.seats step e.seats turned.buffer some turned.turns.seats in
     let empty : length bytes ≡ 0 = ap length none in
     let len = ap length turned.front in
     let fits = turned.fits in
-    omega (arith, len, length-take (written_by step) turned.buffer, five, fits, empty)
+    omega (arith, len, length-take (written_by step) turned.buffer, four, fits, empty)

@@ -8,7 +8,7 @@ use Rattle.saned_serve.specs.Ledger.{Ledger}
 use Rattle.saned_serve.specs.Story.{Deed, Life, life_of, Leads, tally_of, after_tally, counted, no_life, has_stopped, has_asked, seated, MayAsk, most_sessions, IsSettled}
 use Rattle.saned_serve.specs.Story.Deed.{Full, Turned, Stops}
 use Rattle.saned_serve.specs.Goes.{CarriesIn, Tells, Went, Goes, Parts, Ended}
-use Rattle.saned_serve.specs.Goes.Phase.{Fresh, Spoken}
+use Rattle.saned_serve.specs.Goes.Phase.{Fresh, Shown}
 use Rattle.saned_serve.specs.Stands.{link_at, one_link, links_below, HadTurn, Stands, WentOn, TookTurn, Took, Ran, most_turns, Shuts, Keeps, IsLeft, Empties, Met, Greets, Closes, Served}
 use Rattle.saned_serve.specs.declared.link.Link.{Link}
 use Rattle.saned_serve.specs.declared.seats.Seat.{Seat}
@@ -118,7 +118,7 @@ stands_change {C} history d0 n0 past d n h seats was e m h' seats' story id i p 
         let f2 = sym (off j differ) ∙ f in
         let life = others x.id.number (only j x differ f2) in
         let before = was.turned j x f2 (below j differ few) in
-        (ap (λ v. v.visited) life ∙ before.0, λ over. ap (λ v. v.drained) life ∙ before.1 (sym (ap (λ v. v.over) life) ∙ over))
+        (ap (λ v. v.visited) life ∙ before.0, (λ over. ap (λ v. v.drained) life ∙ before.1 (sym (ap (λ v. v.over) life) ∙ over)), ap (λ v. v.tended) life ∙ before.2)
 
 pub stands_same : {C : Type 0} (history : C → Option Talk) (d0 : Core) (n0 : Option Ledger) (past : List Deed) (d : Core) (n : Option Ledger) (h : ℕ) (seats : List (Seat C)) → Stands history d0 n0 past d n h seats
     → (e : Core) (m : Option Ledger) (h' : ℕ) (seats' : List (Seat C)) → e ≡ d → m ≡ n → ((j : ℕ) → link_at seats' j ≡ link_at seats j) → ((j : ℕ) (x : Link C) → link_at seats j ≡ Some x → j < h' → j < h) → Stands history d0 n0 past e m h' seats'
@@ -169,11 +169,11 @@ below_next i j off few = omega (arith, off, few)
 
 -- a session had its turn, and stays
 pub stands_goes : {C : Type 0} (history : C → Option Talk) (d0 : Core) (n0 : Option Ledger) (past : List Deed) (d : Core) (n : Option Ledger) (seats : List (Seat C)) (i : ℕ) → has_asked past ≡ true → Stands history d0 n0 past d n i seats
-    → (stir : Bool) (e : Core) (m : Option Ledger) (seats' : List (Seat C)) (l k : Link C) → link_at seats i ≡ Some l → Goes history Fresh Spoken d n l stir e m k → k.is_done ≡ false → link_at seats' i ≡ Some k → ((j : ℕ) → j ≢ i → link_at seats' j ≡ link_at seats j) → WentOn history d0 n0 past 0 stir e m (i + 1) seats'
+    → (stir : Bool) (e : Core) (m : Option Ledger) (seats' : List (Seat C)) (l k : Link C) → link_at seats i ≡ Some l → Goes history Fresh Shown d n l stir e m k → k.is_done ≡ false → link_at seats' i ≡ Some k → ((j : ℕ) → j ≢ i → link_at seats' j ≡ link_at seats j) → WentOn history d0 n0 past 0 stir e m (i + 1) seats'
 stands_goes {C} history d0 n0 past d n seats i asked was stir e m seats' l k at goes alive now off =
     let had = was.each i l at in
     let w = goes.goes d0 n0 past was.leads had.1 in
-    let fresh = tells_at {from = Spoken} {to = Fresh} w.tells alive in
+    let fresh = tells_at {from = Shown} {to = Fresh} w.tells alive in
     let number = ap (λ x. x.number) goes.same in
     let stands = stands_change history d0 n0 past d n i seats was e m (i + 1) seats' w.story l.id.number i (Some k) was.place w.leads w.others now off (λ j differ. refl)
     (own_at history d0 n0 past d n i seats was i l at) (only_at history d0 n0 past d n i seats was i l at)
@@ -189,11 +189,11 @@ stands_goes {C} history d0 n0 past d n seats i asked was stir e m seats' l k at 
     drained life (inl done) = absurd (not_both done alive)
     drained life (inr left) = left
 
-    turn : (life : Life) → Tells history Spoken life k → (life.visited ≡ true) × (life.over ≡ true → life.drained ≡ false)
-    turn life tells = (tells.at.1, λ over. drained life (tells.at.2 over))
+    turn : (life : Life) → Tells history Shown life k → (life.visited ≡ true) × (life.over ≡ true → life.drained ≡ false) × (life.tended ≡ true)
+    turn life tells = (tells.at.0.1, (λ over. drained life (tells.at.0.2 over)), tells.at.1)
 
-    mine : (w : Went history Spoken d0 n0 past l.id.number stir e m k) (x : Link C) → k ≡ x → k.id.number ≡ l.id.number → HadTurn w.story x
-    mine w x same number = subst (λ y. HadTurn w.story y) same (turn (life_of k.id.number w.story) (subst (λ j. Tells history Spoken (life_of j w.story) k) (sym number) w.tells))
+    mine : (w : Went history Shown d0 n0 past l.id.number stir e m k) (x : Link C) → k ≡ x → k.id.number ≡ l.id.number → HadTurn w.story x
+    mine w x same number = subst (λ y. HadTurn w.story y) same (turn (life_of k.id.number w.story) (subst (λ j. Tells history Shown (life_of j w.story) k) (sym number) w.tells))
 
 -- a session is gone from its seat
 stands_ended : {C : Type 0} (history : C → Option Talk) (d0 : Core) (n0 : Option Ledger) (past : List Deed) (d : Core) (n : Option Ledger) (h : ℕ) (seats : List (Seat C)) (was : Stands history d0 n0 past d n h seats)
@@ -215,17 +215,17 @@ stands_ended history d0 n0 past d n h seats was stir e m h' seats' i l at w now 
 
 -- a session had its turn, and is left
 pub stands_leaves : {C : Type 0} (history : C → Option Talk) (d0 : Core) (n0 : Option Ledger) (past : List Deed) (d : Core) (n : Option Ledger) (seats : List (Seat C)) (i : ℕ) → has_asked past ≡ true → Stands history d0 n0 past d n i seats
-    → (stir : Bool) (e : Core) (m : Option Ledger) (f : Core) (o : Option Ledger) (seats' : List (Seat C)) (l k : Link C) → link_at seats i ≡ Some l → Goes history Fresh Spoken d n l stir e m k → k.is_done ≡ true → Parts history e m k f o → link_at seats' i ≡ None → ((j : ℕ) → j ≢ i → link_at seats' j ≡ link_at seats j) → WentOn history d0 n0 past 1 stir f o (i + 1) seats'
+    → (stir : Bool) (e : Core) (m : Option Ledger) (f : Core) (o : Option Ledger) (seats' : List (Seat C)) (l k : Link C) → link_at seats i ≡ Some l → Goes history Fresh Shown d n l stir e m k → k.is_done ≡ true → Parts history e m k f o → link_at seats' i ≡ None → ((j : ℕ) → j ≢ i → link_at seats' j ≡ link_at seats j) → WentOn history d0 n0 past 1 stir f o (i + 1) seats'
 stands_leaves {C} history d0 n0 past d n seats i asked was stir e m f o seats' l k at goes done parts now off =
     let had = was.each i l at in
     let w = goes.goes d0 n0 past was.leads had.1 in
     let number = ap (λ x. x.number) goes.same in
-    let tells = subst (λ j. Tells history Spoken (life_of j w.story) k) (sym number) w.tells in
-    let v = parts.goes Spoken d0 n0 w.story w.leads tells (inl (tells.at.0 done)) in
+    let tells = subst (λ j. Tells history Shown (life_of j w.story) k) (sym number) w.tells in
+    let v = parts.goes Shown d0 n0 w.story w.leads tells (inl (tells.at.0.0 done)) in
     let ended = after w k.id.number number v.0 in
     record { story = ended.story; more = ended.more; stands = stands_ended history d0 n0 past d n i seats was stir f o (i + 1) seats' i l at ended now off (λ j differ few. below_next i j differ few); tally = ended.tally; asked = ended.asked ∙ asked }
   where
-    after : (w : Went history Spoken d0 n0 past l.id.number stir e m k) (id : ℕ) → id ≡ l.id.number → Ended d0 n0 w.story id false f o → Ended d0 n0 past l.id.number stir f o
+    after : (w : Went history Shown d0 n0 past l.id.number stir e m k) (id : ℕ) → id ≡ l.id.number → Ended d0 n0 w.story id false f o → Ended d0 n0 past l.id.number stir f o
     after w id same v = record {
       story = v.story;
       more = extends_then past w.story v.story w.more v.more;
@@ -313,11 +313,12 @@ stands_greets {C} history d0 n0 past d n seats anew was stir e m seats' i p room
 -- ---- a turn ends
 
 -- the life of each that stands is settled where all seats had their turn
-settled : {C : Type 0} (history : C → Option Talk) (life : Life) (l : Link C) → Tells history Fresh life l → (life.visited ≡ true) × (life.over ≡ true → life.drained ≡ false) → IsSettled life
+settled : {C : Type 0} (history : C → Option Talk) (life : Life) (l : Link C) → Tells history Fresh life l → (life.visited ≡ true) × (life.over ≡ true → life.drained ≡ false) × (life.tended ≡ true) → IsSettled life
 settled {C} history life l tells turned = record {
   visited = turned.0;
   held = tells.held tells.at;
   replies = turned.1;
+  tended = turned.2;
   shows = λ imaging. shows imaging l.image refl tells.carries;
 }
   where
@@ -331,7 +332,7 @@ stands_turned {C} history d0 n0 past d n h seats asked was full = record {
     legal = (was.leads.legal, (asked, λ id standing. by_link id (was.all id standing)));
     run = (d, was.leads.run, refl);
     net = was.leads.net;
-    unused = λ id f. life_at id Turned past refl ∙ ap (λ (v : Life). record v { visited = false }) (was.leads.unused id f);
+    unused = λ id f. life_at id Turned past refl ∙ ap (λ (v : Life). record v { visited = false; tended = false }) (was.leads.unused id f);
   };
   place = was.place;
   each = λ j l f. let before = was.each j l f in (before.0, subst (λ v. Tells history Fresh v l) (sym (life_at l.id.number Turned past refl)) (anew (life_of l.id.number past) l before.1));
@@ -349,11 +350,11 @@ stands_turned {C} history d0 n0 past d n h seats asked was full = record {
         let had = was.turned (was.place id) l found.1 (full (was.place id) l found.1) in
         subst (λ j. IsSettled (life_of j past)) found.2 (settled history (life_of l.id.number past) l tells had)
 
-    carries : (life : Life) (image : Option C) (last : Bool) (records : List ℕ) → CarriesIn history image last records life → CarriesIn history image last records (record life { visited = false })
+    carries : (life : Life) (image : Option C) (last : Bool) (records : List ℕ) → CarriesIn history image last records life → CarriesIn history image last records (record life { visited = false; tended = false })
     carries life None last records c = c
     carries life (Some conn) last records c = record { imaging = c.imaging; told = c.told; shown = c.shown; last = c.last; more = c.more; held = c.held }
 
-    anew : (life : Life) (l : Link C) → Tells history Fresh life l → Tells history Fresh (record life { visited = false }) l
+    anew : (life : Life) (l : Link C) → Tells history Fresh life l → Tells history Fresh (record life { visited = false; tended = false }) l
     anew life l tells = record {
       standing = tells.standing;
       port = tells.port;

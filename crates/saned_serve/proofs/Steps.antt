@@ -1,9 +1,11 @@
 -- Single deeds of a session that stands.
-use Rattle.std.proofs.Common.{◌≡◌, ◌≢◌, ◌≤◌, ◌⊎◌, inl, inr, ℕ, ◌+◌, ◌-◌, Bool, true, false, ◌||◌, cond, Option, None, Some, List, [], ◌∷◌, ◌++◌, take, drop, refl, sym, ap, ◌∙◌, subst, append_assoc, append-nil, IsSome, arith}
+use Rattle.std.proofs.Common.{◌≡◌, ◌≢◌, ◌≤◌, ◌⊎◌, inl, inr, ℕ, ◌+◌, ◌-◌, Bool, true, false, not, ◌||◌, cond, Option, None, Some, is_some, List, [], ◌∷◌, ◌++◌, take, drop, refl, sym, ap, ◌∙◌, subst, append_assoc, append-nil, IsSome, arith}
 use Rattle.std.proofs.lemmas.List.{take-append-drop}
 use Rattle.std.proofs.Math.Dec.{eqb}
 use Rattle.std.proofs.lemmas.Bool.{eq-eqb, eqb-true, or_left, or_right, or_from}
-use Rattle.saned_core.specs.State.{Core}
+use Rattle.saned_core.specs.State.{Core, frame_in, session_of, is_waiting}
+use Rattle.saned_core.specs.declared.seat.FrameState.{FrameState}
+use Rattle.saned_core.specs.declared.seat.DataStep.TheVariants.{Idle, Bytes, Last}
 use Rattle.saned_core.specs.declared.seat.Fed.{Fed}
 use Rattle.saned_core.specs.declared.seat.DataStep.{DataStep}
 use Rattle.saned_serve.specs.declared.sockets.Got.{Got}
@@ -11,13 +13,13 @@ use Rattle.saned_serve.specs.declared.sockets.Got.TheVariants.{Moved, Nothing, L
 use Rattle.saned_serve.specs.Talk.{Talk, IsTold, after_read, after_write, moved, stirs, is_lost, read_in, taken_in, lost_in}
 use Rattle.saned_serve.specs.Talk.Move.{Read, Write}
 use Rattle.saned_serve.specs.Ledger.{Ledger, noticed}
-use Rattle.saned_serve.specs.Ledger.Notice.{Dialed, Shut, Back}
-use Rattle.saned_serve.specs.Acts.{Act, Does, moves, leaves, opens, is_last, is_over}
-use Rattle.saned_serve.specs.Acts.Act.{Opens, Hears, Feed, Forgets, Take, Says, Misses, Connect, Turn, Shows, Lose, HangsUp, Leaves}
+use Rattle.saned_serve.specs.Ledger.Notice.{Dialed as Dials, Shut, Back}
+use Rattle.saned_serve.specs.Acts.{Act, Does, moves, leaves, opens, is_last, is_idle, is_over}
+use Rattle.saned_serve.specs.Acts.Act.{Opens, Hears, Feed, Forgets, Take, Says, Looks, Misses, Connect, Turn, Shows, Lose, HangsUp, Leaves}
 use Rattle.saned_serve.specs.Story.{Deed, Life, no_life, no_bytes, is_of, after_act, after_deed, life_of, MayDo, noted_act, Extends, AreEnds, Closing, Leads, Tally, tally_of, after_tally, counted, has_stopped, has_asked, seated, IsDone, IsShown}
 use Rattle.saned_serve.specs.Story.Deed.{Of}
 use Rattle.saned_serve.specs.Goes.{Phase, IsAt, Carries, CarriesIn, Tells, Went, Goes, Attends, forgotten, SendsTo, SendsIn, hung_up, Ended, Parts}
-use Rattle.saned_serve.specs.Goes.Phase.{Fresh, Filled, Heard, Ready, Spoken}
+use Rattle.saned_serve.specs.Goes.Phase.{Fresh, Filled, Heard, Ready, Spoken, Dialed, Loaded, Shown}
 use Rattle.saned_serve.specs.declared.link.Link.{Link}
 
 pub extends_then : (past mid story : List Deed) → Extends past mid → Extends mid story → Extends past story
@@ -77,7 +79,8 @@ opened_by (Feed piece fed begins) d e id plain does = ap (λ (c : Core). c.opene
 opened_by (Forgets port) d e id plain does = ap (λ (c : Core). c.opened) does
 opened_by (Take room bytes) d e id plain does = ap (λ (c : Core). c.opened) does.after
 opened_by (Says got bytes) d e id plain does = ap (λ (c : Core). c.opened) does
-opened_by (Misses port) d e id plain does = ap (λ (c : Core). c.opened) does
+opened_by (Looks frame) d e id plain does = ap (λ (c : Core). c.opened) does.1
+opened_by (Misses port) d e id plain does = ap (λ (c : Core). c.opened) does.1
 opened_by (Connect port) d e id plain does = ap (λ (c : Core). c.opened) does.after
 opened_by (Turn room step bytes) d e id plain does = ap (λ (c : Core). c.opened) does.turns.others
 opened_by (Shows got bytes) d e id plain does = ap (λ (c : Core). c.opened) does
@@ -92,6 +95,7 @@ stands_for (Feed piece fed begins) life stopped plain may = may.0
 stands_for (Forgets port) life stopped plain may = may.0
 stands_for (Take room bytes) life stopped plain may = may.0
 stands_for (Says got bytes) life stopped plain may = may.0
+stands_for (Looks frame) life stopped plain may = may.0
 stands_for (Misses port) life stopped plain may = may.0
 stands_for (Connect port) life stopped plain may = may.0
 stands_for (Turn room step bytes) life stopped plain may = may.0
@@ -505,30 +509,63 @@ none_waits : (b : Bool) → (b ≡ true → ⊥) → b ≡ false
 none_waits true h = absurd (h refl)
 none_waits false h = refl
 
--- none came
-pub goes_misses : {C : Type 0} (history : C → Option Talk) (d : Core) (n : Option Ledger) (l : Link C) (m : Option Ledger) → l.image ≡ None → m ≡ noticed (Dialed l.port false) n → Goes history Spoken Spoken d n l false d m l
-goes_misses history d n l m was net = record {
+-- whether the data had their part is told anew
+tells_dialed : {C : Type 0} {history : C → Option Talk} {life : Life} {l : Link C} (tended : Bool) → Tells history Spoken life l → (l.image ≡ None → tended ≡ true) → Tells history Dialed (record life { tended = tended }) l
+tells_dialed {C} {history} {life} {l} tended tells had = record {
+  standing = tells.standing;
+  port = tells.port;
+  over = tells.over;
+  told = tells.told;
+  heard = tells.heard;
+  said = tells.said;
+  waits = tells.waits;
+  quiet = tells.quiet;
+  held = tells.held;
+  carries = carries_on history l.image l.is_last l.records life (record life { tended = tended }) refl refl refl refl tells.carries;
+  at = (tells.at, had);
+}
+
+-- there is one
+pub goes_images : {C : Type 0} (history : C → Option Talk) (d : Core) (n : Option Ledger) (l : Link C) → is_some l.image ≡ true → Goes history Spoken Dialed d n l false d n l
+goes_images history d n l some = goes_rests history Spoken Dialed d n l l refl (λ life tells. tells_at tells (tells.at, λ none. let wrong : false ≡ true = sym (ap is_some none) ∙ some in absurd (let no = wrong in cc)))
+
+-- no frame waits
+pub goes_looks : {C : Type 0} (history : C → Option Talk) (d : Core) (n : Option Ledger) (l : Link C) (frame : FrameState) → l.image ≡ None → frame ≡ frame_in (session_of d l.id.number) → is_waiting frame ≡ false → Goes history Spoken Dialed d n l false d n l
+goes_looks history d n l frame was is rests = record {
   same = refl;
   goes = λ d0 n0 past leads tells.
       let life = life_of l.id.number past in
       let dark = subst (λ i. CarriesIn history i l.is_last l.records life) was tells.carries in
-      let first = trail_on (trail d0 n0 past d n l.id.number leads) (Misses l.port) d refl refl (tells.standing, dark, tells.port) in
-      subst (λ o. Went history Spoken d0 n0 past l.id.number false d o l) (sym net) (went Spoken l first tells);
+      let first = trail_on (trail d0 n0 past d n l.id.number leads) (Looks frame) d refl (is, refl) (tells.standing, dark) in
+      went Dialed l first (tells_dialed (not (is_waiting frame)) tells (λ none. ap not rests));
+}
+
+-- one does, and none came
+pub goes_misses : {C : Type 0} (history : C → Option Talk) (d : Core) (n : Option Ledger) (l : Link C) (m : Option Ledger) (frame : FrameState) → l.image ≡ None → frame ≡ frame_in (session_of d l.id.number) → is_waiting frame ≡ true → m ≡ noticed (Dials l.port false) n → Goes history Spoken Dialed d n l false d m l
+goes_misses history d n l m frame was is waits net = record {
+  same = refl;
+  goes = λ d0 n0 past leads tells.
+      let life = life_of l.id.number past in
+      let dark = subst (λ i. CarriesIn history i l.is_last l.records life) was tells.carries in
+      let first = trail_on (trail d0 n0 past d n l.id.number leads) (Looks frame) d refl (is, refl) (tells.standing, dark) in
+      let then = trail_on first (Misses l.port) d refl (sym (ap is_waiting is) ∙ waits, refl) (tells.standing, dark, tells.port) in
+      subst (λ o. Went history Dialed d0 n0 past l.id.number false d o l) (sym net) (went Dialed l then (tells_dialed true tells (λ none. refl)));
 }
 
 -- one came
-pub goes_dials : {C : Type 0} (history : C → Option Talk) (d : Core) (n : Option Ledger) (l : Link C) (e : Core) (m : Option Ledger) (image : Option C) (records : List ℕ) (conn : C) → l.image ≡ None → image ≡ Some conn → records ≡ [] → IsTold (history conn) [] → Does l.id.number d (Connect l.port) e → m ≡ noticed (Dialed l.port true) n
-    → Goes history Spoken Spoken d n l true e m (record l { image = image; records = records; is_last = false })
-goes_dials {C} history d n l e m image records conn was now none fresh does net = record {
+pub goes_dials : {C : Type 0} (history : C → Option Talk) (d : Core) (n : Option Ledger) (l : Link C) (e : Core) (m : Option Ledger) (frame : FrameState) (image : Option C) (records : List ℕ) (conn : C) → l.image ≡ None → frame ≡ frame_in (session_of d l.id.number) → image ≡ Some conn → records ≡ [] → IsTold (history conn) [] → Does l.id.number d (Connect l.port) e → m ≡ noticed (Dials l.port true) n
+    → Goes history Spoken Dialed d n l true e m (record l { image = image; records = records; is_last = false })
+goes_dials {C} history d n l e m frame image records conn was is now none fresh does net = record {
   same = refl;
   goes = λ d0 n0 past leads tells.
       let life = life_of l.id.number past in
       let dark = subst (λ i. CarriesIn history i l.is_last l.records life) was tells.carries in
-      let first = trail_on (trail d0 n0 past d n l.id.number leads) (Connect l.port) e refl does (tells.standing, dark, tells.port) in
-      let after = after_act (Connect l.port) life in
+      let first = trail_on (trail d0 n0 past d n l.id.number leads) (Looks frame) d refl (is, refl) (tells.standing, dark) in
+      let then = trail_on first (Connect l.port) e refl does (tells.standing, dark, tells.port) in
+      let after = after_act (Connect l.port) (after_act (Looks frame) life) in
       let carries : Carries (history conn) false records after = record { imaging = refl; told = fresh; shown = none; last = refl; more = λ wrong. absurd (let w : false ≡ true = wrong in cc); held = refl } in
-      subst (λ o. Went history Spoken d0 n0 past l.id.number true e o (record l { image = image; records = records; is_last = false })) (sym net)
-      (went Spoken (record l { image = image; records = records; is_last = false }) first (record {
+      subst (λ o. Went history Dialed d0 n0 past l.id.number true e o (record l { image = image; records = records; is_last = false })) (sym net)
+      (went Dialed (record l { image = image; records = records; is_last = false }) then (record {
         standing = tells.standing;
         port = tells.port;
         over = tells.over;
@@ -539,13 +576,22 @@ goes_dials {C} history d n l e m image records conn was now none fresh does net 
         quiet = tells.quiet;
         held = tells.held;
         carries = subst (λ i. CarriesIn history i false records after) (sym now) carries;
-        at = tells.at;
+        at = (tells.at, λ off. absurd (let wrong : Some conn ≡ None = sym now ∙ off in cc));
       }));
 }
 
+last_some : (step : DataStep) → is_last step ≡ true → is_idle step ≡ false
+last_some Idle e = cc
+last_some (Bytes n) e = refl
+last_some (Last n) e = refl
+
+only_idle : (b : Bool) → (b ≡ false → ⊥) → b ≡ true
+only_idle true h = refl
+only_idle false h = absurd (h refl)
+
 -- a record is taken where none waits
-pub goes_turns : {C : Type 0} (history : C → Option Talk) (d : Core) (n : Option Ledger) (l : Link C) (e : Core) (records : List ℕ) (last : Bool) (step : DataStep) (conn : C) → l.image ≡ Some conn → l.records ≡ [] → last ≡ is_last step → (is_last step ≡ true → records ≢ []) → Does l.id.number d (Turn 65540 step records) e
-    → Goes history Spoken Spoken d n l false e n (record l { records = records; is_last = last })
+goes_turns : {C : Type 0} (history : C → Option Talk) (d : Core) (n : Option Ledger) (l : Link C) (e : Core) (records : List ℕ) (last : Bool) (step : DataStep) (conn : C) → l.image ≡ Some conn → l.records ≡ [] → last ≡ is_last step → (is_idle step ≡ false → records ≢ []) → Does l.id.number d (Turn 65540 step records) e
+    → Goes history Dialed Loaded d n l false e n (record l { records = records; is_last = last })
 goes_turns history d n l e records last step conn was none ended some does = record {
   same = refl;
   goes = λ d0 n0 past leads tells.
@@ -561,10 +607,10 @@ goes_turns history d n l e records last step conn was none ended some does = rec
         told = had.told;
         shown = none_on (taken_in life.image) records life.shown all;
         last = ended ∙ sym (ap (λ b. b || is_last step) alive);
-        more = λ b. some (sym ended ∙ b);
+        more = λ b. some (last_some step (sym ended ∙ b));
         held = had.held;
       } in
-      went Spoken (record l { records = records; is_last = last }) first (record {
+      went Loaded (record l { records = records; is_last = last }) first (record {
         standing = tells.standing;
         port = tells.port;
         over = tells.over;
@@ -575,21 +621,29 @@ goes_turns history d n l e records last step conn was none ended some does = rec
         quiet = tells.quiet;
         held = tells.held;
         carries = subst (λ i. CarriesIn history i last records after) (sym was) carries;
-        at = tells.at;
+        at = (tells.at.0, (λ off. absurd (let wrong : Some conn ≡ None = sym was ∙ off in cc)), λ empty. only_idle (is_idle step) (λ off. some off empty));
       });
 }
 
-pub goes_records : {C : Type 0} (history : C → Option Talk) (d : Core) (n : Option Ledger) (l : Link C) (e : Core) (records : List ℕ) (last : Bool) (step : DataStep) (image : Option C) → l.image ≡ image → IsSome image → l.records ≡ [] → last ≡ is_last step → (is_last step ≡ true → records ≢ []) → Does l.id.number d (Turn 65540 step records) e
-    → Goes history Spoken Spoken d n l false e n (record l { records = records; is_last = last })
+pub goes_records : {C : Type 0} (history : C → Option Talk) (d : Core) (n : Option Ledger) (l : Link C) (e : Core) (records : List ℕ) (last : Bool) (step : DataStep) (image : Option C) → l.image ≡ image → IsSome image → l.records ≡ [] → last ≡ is_last step → (is_idle step ≡ false → records ≢ []) → Does l.id.number d (Turn 65540 step records) e
+    → Goes history Dialed Loaded d n l false e n (record l { records = records; is_last = last })
 goes_records history d n l e records last step None was some none ended more does = cc
 goes_records history d n l e records last step (Some conn) was some none ended more does = goes_turns history d n l e records last step conn was none ended more does
 
+-- one waits
+pub goes_loaded : {C : Type 0} (history : C → Option Talk) (d : Core) (n : Option Ledger) (l : Link C) → l.records ≢ [] → Goes history Dialed Loaded d n l false d n l
+goes_loaded history d n l some = goes_rests history Dialed Loaded d n l l refl (λ life tells. tells_at tells (tells.at.0, tells.at.1, λ empty. absurd (some empty)))
+
+-- there is no data connection
+pub goes_dark : {C : Type 0} (history : C → Option Talk) (d : Core) (n : Option Ledger) (l : Link C) → l.image ≡ None → Goes history Dialed Shown d n l false d n l
+goes_dark history d n l none = goes_rests history Dialed Shown d n l l refl (λ life tells. tells_at tells (tells.at.0, tells.at.1 none))
+
 -- what is the same once the calls of the data connection, and what waits for it, are others
-with_image : {C : Type 0} (history : C → Option Talk) (life after : Life) (l : Link C) (image : Option C) (records : List ℕ) → Tells history Spoken life l
-    → after ≡ record life { image = after.image; imaging = after.imaging; dropped = after.dropped } → CarriesIn history image l.is_last records after → Tells history Spoken after (record l { image = image; records = records })
-with_image {C} history life after l image records tells same carries =
-    let v = record life { image = after.image; imaging = after.imaging; dropped = after.dropped } in
-    subst (λ w. Tells history Spoken w (record l { image = image; records = records })) (sym same) (record {
+with_image : {C : Type 0} (history : C → Option Talk) (life after : Life) (l : Link C) (image : Option C) (records : List ℕ) → Tells history Loaded life l
+    → after ≡ record life { image = after.image; imaging = after.imaging; dropped = after.dropped; tended = after.tended } → after.tended ≡ true → CarriesIn history image l.is_last records after → Tells history Shown after (record l { image = image; records = records })
+with_image {C} history life after l image records tells same tended carries =
+    let v = record life { image = after.image; imaging = after.imaging; dropped = after.dropped; tended = after.tended } in
+    subst (λ w. Tells history Shown w (record l { image = image; records = records })) (sym same) (record {
       standing = tells.standing;
       port = tells.port;
       over = tells.over;
@@ -600,7 +654,7 @@ with_image {C} history life after l image records tells same carries =
       quiet = tells.quiet;
       held = tells.held;
       carries = subst (λ w. CarriesIn history image l.is_last records w) same carries;
-      at = tells.at;
+      at = (tells.at.0, tended);
     })
 
 -- a write of a record, where there is a connection and a record
@@ -634,7 +688,7 @@ carries_sent history got l k life s had more held = record {
 }
 
 goes_sent : {C : Type 0} (history : C → Option Talk) (got : Got) (d : Core) (n : Option Ledger) (l k : Link C) → k ≡ record l { image = k.image; records = k.records } → Sent history got l k → (l.is_last ≡ true → k.records ≢ []) → ((b : Bool) → b ≡ false → (b || is_lost got) ≡ false)
-    → Goes history Spoken Spoken d n l (stirs got) d n k
+    → Goes history Loaded Shown d n l (stirs got) d n k
 goes_sent history got d n l k link s more held = record {
   same = ap (λ x. x.id) link;
   goes = λ d0 n0 past leads tells.
@@ -643,31 +697,31 @@ goes_sent history got d n l k link s more held = record {
       let act = Shows got l.records in
       let first = trail_on (trail d0 n0 past d n l.id.number leads) act d refl refl (tells.standing, had.imaging, s.some, had.shown) in
       let carries = carries_sent history got l k life s had more (held (lost_in life.image) had.held) in
-      let now = with_image history life (after_act act life) l k.image k.records tells refl (subst (λ i. CarriesIn history i l.is_last k.records (after_act act life)) (sym s.image) carries) in
-      went Spoken k first (subst (λ x. Tells history Spoken (after_act act life) x) (sym link) now);
+      let now = with_image history life (after_act act life) l k.image k.records tells refl refl (subst (λ i. CarriesIn history i l.is_last k.records (after_act act life)) (sym s.image) carries) in
+      went Shown k first (subst (λ x. Tells history Shown (after_act act life) x) (sym link) now);
 }
 
 -- nothing was written
-pub goes_shows_none : {C : Type 0} (history : C → Option Talk) (d : Core) (n : Option Ledger) (l k : Link C) → k ≡ record l { image = k.image; records = k.records } → SendsIn history Nothing l.image l.records k.image k.records → Goes history Spoken Spoken d n l false d n k
+pub goes_shows_none : {C : Type 0} (history : C → Option Talk) (d : Core) (n : Option Ledger) (l k : Link C) → k ≡ record l { image = k.image; records = k.records } → SendsIn history Nothing l.image l.records k.image k.records → Goes history Loaded Shown d n l false d n k
 goes_shows_none {C} history d n l k link sends = by_image l.image refl sends
   where
-    same : k.image ≡ l.image → k.records ≡ l.records → Goes history Spoken Spoken d n l false d n k
-    same image records =
+    same : k.image ≡ l.image → k.records ≡ l.records → ((life : Life) → IsAt Loaded life l → life.tended ≡ true) → Goes history Loaded Shown d n l false d n k
+    same image records tended =
         let whole = link ∙ ap (λ i. record l { image = i; records = k.records }) image ∙ ap (λ r. record l { image = l.image; records = r }) records in
-        subst (λ x. Goes history Spoken Spoken d n l false d n x) (sym whole) (goes_same history Spoken d n l)
+        subst (λ x. Goes history Loaded Shown d n l false d n x) (sym whole) (goes_rests history Loaded Shown d n l l refl (λ life tells. tells_at tells (tells.at.0, tended life tells.at)))
 
-    by_case : (conn : C) → l.image ≡ Some conn → SendsTo history Nothing conn l.records k.image k.records → Goes history Spoken Spoken d n l false d n k
-    by_case conn was (inl none) = same (none.2 ∙ sym was) none.3
+    by_case : (conn : C) → l.image ≡ Some conn → SendsTo history Nothing conn l.records k.image k.records → Goes history Loaded Shown d n l false d n k
+    by_case conn was (inl none) = same (none.2 ∙ sym was) none.3 (λ life at. at.2 none.0)
     by_case conn was (inr some) =
         goes_sent history Nothing d n l k link (record { conn = conn; was = was; some = some.0; now = some.1; image = some.2; told = some.3; rest = some.4 })
         (λ last. λ none. some.0 (sym some.4 ∙ none)) (λ b e. or_from b false e refl)
 
-    by_image : (image : Option C) → l.image ≡ image → SendsIn history Nothing image l.records k.image k.records → Goes history Spoken Spoken d n l false d n k
-    by_image None was sends = same (sends.1 ∙ sym was) sends.2
+    by_image : (image : Option C) → l.image ≡ image → SendsIn history Nothing image l.records k.image k.records → Goes history Loaded Shown d n l false d n k
+    by_image None was sends = same (sends.1 ∙ sym was) sends.2 (λ life at. at.1 was)
     by_image (Some conn) was sends = by_case conn was sends
 
 -- a piece was, and not all of the end record
-pub goes_shows : {C : Type 0} (history : C → Option Talk) (d : Core) (n : Option Ledger) (l k : Link C) (count : ℕ) → k ≡ record l { image = k.image; records = k.records } → SendsIn history (Moved count) l.image l.records k.image k.records → (l.is_last ≡ true → k.records ≢ []) → Goes history Spoken Spoken d n l true d n k
+pub goes_shows : {C : Type 0} (history : C → Option Talk) (d : Core) (n : Option Ledger) (l k : Link C) (count : ℕ) → k ≡ record l { image = k.image; records = k.records } → SendsIn history (Moved count) l.image l.records k.image k.records → (l.is_last ≡ true → k.records ≢ []) → Goes history Loaded Shown d n l true d n k
 goes_shows history d n l k count link sends more =
     goes_sent history (Moved count) d n l k link (sent history (Moved count) l k l.image refl (λ e. let wrong : Moved count ≡ Nothing = e in cc) sends) more (λ b e. or_from b false e refl)
 
@@ -677,7 +731,7 @@ hung history k now n e = ap (λ i. hung_up history i n) e
 
 -- the end record is written, and the connection handed back
 pub goes_shows_last : {C : Type 0} (history : C → Option Talk) (d : Core) (n : Option Ledger) (l k j : Link C) (m : Option Ledger) (count : ℕ) → k ≡ record l { image = k.image; records = k.records } → SendsIn history (Moved count) l.image l.records k.image k.records
-    → l.is_last ≡ true → k.records ≡ [] → j ≡ record k { image = None } → m ≡ hung_up history k.image n → Goes history Spoken Spoken d n l true d m j
+    → l.is_last ≡ true → k.records ≡ [] → j ≡ record k { image = None } → m ≡ hung_up history k.image n → Goes history Loaded Shown d n l true d m j
 goes_shows_last {C} history d n l k j m count link sends last none gone net =
     let s = sent history (Moved count) l k l.image refl (λ e. let wrong : Moved count ≡ Nothing = e in cc) sends in
     let whole = gone ∙ ap (λ (x : Link C). record x { image = None }) link in
@@ -693,14 +747,14 @@ goes_shows_last {C} history d n l k j m count link sends last none gone net =
           let all = all_taken (taken_in life1.image) (drop count l.records) life.shown (sym s.rest ∙ none) rest in
           let told = told_write (Moved count) l.records (history s.conn) (history s.now) life.image s.told had.told in
           let then = trail_on first (HangsUp (history s.now)) d refl refl (tells.standing, had.imaging, told, (drop count l.records, sym rest), inl (inl (sym had.last ∙ last, all))) in
-          let now = with_image history life (after_act (HangsUp (history s.now)) life1) l None k.records tells refl refl in
-          subst (λ o. Went history Spoken d0 n0 past l.id.number true d o j) (sym (net ∙ hung history k s.now n s.image))
-          (went Spoken j then (subst (λ x. Tells history Spoken (after_act (HangsUp (history s.now)) life1) x) (sym whole) now));
+          let now = with_image history life (after_act (HangsUp (history s.now)) life1) l None k.records tells refl refl refl in
+          subst (λ o. Went history Shown d0 n0 past l.id.number true d o j) (sym (net ∙ hung history k s.now n s.image))
+          (went Shown j then (subst (λ x. Tells history Shown (after_act (HangsUp (history s.now)) life1) x) (sym whole) now));
     }
 
 -- the connection is found lost
 pub goes_shows_lost : {C : Type 0} (history : C → Option Talk) (d : Core) (n : Option Ledger) (l k j : Link C) (e : Core) (m : Option Ledger) → k ≡ record l { image = k.image; records = k.records } → SendsIn history Lost l.image l.records k.image k.records
-    → Does l.id.number d Lose e → j ≡ record k { image = None } → m ≡ hung_up history k.image n → Goes history Spoken Spoken d n l true e m j
+    → Does l.id.number d Lose e → j ≡ record k { image = None } → m ≡ hung_up history k.image n → Goes history Loaded Shown d n l true e m j
 goes_shows_lost {C} history d n l k j e m link sends does gone net =
     let s = sent history Lost l k l.image refl (λ e. let wrong : Lost ≡ Nothing = e in cc) sends in
     let whole = gone ∙ ap (λ (x : Link C). record x { image = None }) link in
@@ -716,9 +770,9 @@ goes_shows_lost {C} history d n l k j e m link sends does gone net =
           let then = trail_on first Lose e refl does (tells.standing, had.imaging, or_right (lost_in life.image) true refl) in
           let told = told_write Lost l.records (history s.conn) (history s.now) life.image s.told had.told in
           let last = trail_on then (HangsUp (history s.now)) e refl refl (tells.standing, had.imaging, told, (drop 0 l.records, sym (rest_after (taken_in life.image) l.records life.shown 0 had.shown)), inl (inr (inl refl))) in
-          let now = with_image history life (after_act (HangsUp (history s.now)) life2) l None k.records tells refl refl in
-          subst (λ o. Went history Spoken d0 n0 past l.id.number true e o j) (sym (net ∙ hung history k s.now n s.image))
-          (went Spoken j last (subst (λ x. Tells history Spoken (after_act (HangsUp (history s.now)) life2) x) (sym whole) now));
+          let now = with_image history life (after_act (HangsUp (history s.now)) life2) l None k.records tells refl refl refl in
+          subst (λ o. Went history Shown d0 n0 past l.id.number true e o j) (sym (net ∙ hung history k s.now n s.image))
+          (went Shown j last (subst (λ x. Tells history Shown (after_act (HangsUp (history s.now)) life2) x) (sym whole) now));
     }
 
 -- ---- a session is left

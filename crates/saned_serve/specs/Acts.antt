@@ -3,6 +3,7 @@ use Rattle.std.specs.Prelude.{◌≡◌, ℕ, ◌≤◌, ◌⊎◌, Bool, true, 
 use Rattle.saned_core.specs.declared.seat.Fed.{Fed}
 use Rattle.saned_core.specs.declared.seat.Fed.TheVariants.{Standing, Over, Starved}
 use Rattle.saned_core.specs.declared.seat.DataStep.{DataStep}
+use Rattle.saned_core.specs.declared.seat.FrameState.{FrameState}
 use Rattle.saned_core.specs.declared.seat.DataStep.TheVariants.{Idle, Bytes, Last}
 use Rattle.saned_core.specs.State.{Core, opened, is_closed, ended, session_of, replies_of, after_taken, on_seat, on_session, frame_in, is_waiting, after_connected, after_lost}
 use Rattle.saned_core.specs.Feeding.{Feeds}
@@ -23,6 +24,8 @@ pub data Act : Type 0 where
   Take : (room : ℕ) (bytes : List ℕ) → Act
   -- one write of these bytes to the control connection
   Says : (got : Got) (bytes : List ℕ) → Act
+  -- where its frame is was looked up
+  Looks : (frame : FrameState) → Act
   -- no data connection came at that port
   Misses : (port : ℕ) → Act
   -- one came, and the daemon was told
@@ -49,6 +52,12 @@ abbrev pub is_last : DataStep → Bool
 is_last Idle = false
 is_last (Bytes n) = false
 is_last (Last n) = true
+
+-- there was no record to be had
+abbrev pub is_idle : DataStep → Bool
+is_idle Idle = true
+is_idle (Bytes n) = false
+is_idle (Last n) = false
 
 -- the session is over
 abbrev pub is_over : Fed → Bool
@@ -93,7 +102,8 @@ Does number d (Feed piece fed begins) e = Feeds number d piece fed e × (begins 
 Does number d (Forgets port) e = e ≡ d
 Does number d (Take room bytes) e = IsTaken d number room bytes e
 Does number d (Says got bytes) e = e ≡ d
-Does number d (Misses port) e = e ≡ d
+Does number d (Looks frame) e = (frame ≡ frame_in (session_of d number)) × (e ≡ d)
+Does number d (Misses port) e = (is_waiting (frame_in (session_of d number)) ≡ true) × (e ≡ d)
 Does number d (Connect port) e = IsConnected d number e
 Does number d (Turn room step bytes) e = IsTurned d number room step bytes e
 Does number d (Shows got bytes) e = e ≡ d
@@ -109,6 +119,7 @@ moves (Feed piece fed begins) = false
 moves (Forgets port) = false
 moves (Take room bytes) = false
 moves (Says got bytes) = stirs got
+moves (Looks frame) = false
 moves (Misses port) = false
 moves (Connect port) = true
 moves (Turn room step bytes) = false
@@ -125,6 +136,7 @@ leaves (Feed piece fed begins) = 0
 leaves (Forgets port) = 0
 leaves (Take room bytes) = 0
 leaves (Says got bytes) = 0
+leaves (Looks frame) = 0
 leaves (Misses port) = 0
 leaves (Connect port) = 0
 leaves (Turn room step bytes) = 0
@@ -141,6 +153,7 @@ opens (Feed piece fed begins) = false
 opens (Forgets port) = false
 opens (Take room bytes) = false
 opens (Says got bytes) = false
+opens (Looks frame) = false
 opens (Misses port) = false
 opens (Connect port) = false
 opens (Turn room step bytes) = false

@@ -24,13 +24,25 @@ pub data Phase : Type 0 where
   Ready : Phase
   -- they were written once
   Spoken : Phase
+  -- its data connection was awaited, where there is none and a frame waits
+  Dialed : Phase
+  -- a record was asked for, where there is one and none waited
+  Loaded : Phase
+  -- it was written once
+  Shown : Phase
+
+abbrev pub IsSpoken : {C : Type 0} → Life → Link C → Type 0
+IsSpoken life l = (l.is_done ≡ true → IsDone life) × (life.visited ≡ true) × (life.over ≡ true → l.is_done ≡ true ⊎ (life.drained ≡ false))
 
 abbrev pub IsAt : {C : Type 0} → Phase → Life → Link C → Type 0
 IsAt Fresh life l = l.is_done ≡ false
 IsAt Filled life l = (l.is_done ≡ false) × (l.replies ≡ [] → life.drained ≡ true)
 IsAt Heard life l = (l.is_done ≡ true → lost_in life.control ≡ true) × ((life.visited ≡ true) ⊎ (l.replies ≢ []))
 IsAt Ready life l = (l.is_done ≡ true → lost_in life.control ≡ true) × ((life.visited ≡ true) ⊎ (l.replies ≢ [])) × (l.replies ≡ [] → life.drained ≡ true)
-IsAt Spoken life l = (l.is_done ≡ true → IsDone life) × (life.visited ≡ true) × (life.over ≡ true → l.is_done ≡ true ⊎ (life.drained ≡ false))
+IsAt Spoken life l = IsSpoken life l
+IsAt Dialed life l = IsSpoken life l × (l.image ≡ None → life.tended ≡ true)
+IsAt Loaded life l = IsSpoken life l × (l.image ≡ None → life.tended ≡ true) × (l.records ≡ [] → life.tended ≡ true)
+IsAt Shown life l = IsSpoken life l × (life.tended ≡ true)
 
 -- a data connection was shown what its records had, but for those that wait, and is not lost
 pub record Carries (talk : Option Talk) (is_last : Bool) (records : List ℕ) (life : Life) : Type 0 where

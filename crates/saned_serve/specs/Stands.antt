@@ -7,7 +7,7 @@ use Rattle.saned_serve.specs.Ledger.{Ledger}
 use Rattle.saned_serve.specs.Story.{Deed, life_of, Extends, Closing, Leads, tally_of, counted, no_life, has_stopped, has_asked, seated, MayAsk, most_sessions}
 use Rattle.saned_serve.specs.Story.Deed.{Turned, Stops}
 use Rattle.saned_serve.specs.Goes.{Tells, Goes, Parts}
-use Rattle.saned_serve.specs.Goes.Phase.{Fresh, Spoken}
+use Rattle.saned_serve.specs.Goes.Phase.{Fresh, Shown}
 use Rattle.saned_serve.specs.declared.link.Link.{Link}
 use Rattle.saned_serve.specs.declared.seats.Seat.{Seat}
 use Rattle.saned_serve.specs.declared.serving.ServeEnd.{ServeEnd}
@@ -49,7 +49,7 @@ EndsBy NoMem sessions waits turns = turns ≡ []
 
 -- a session had its turn, and is not to be left
 abbrev pub HadTurn : {C : Type 0} → List Deed → Link C → Type 0
-HadTurn story l = ((life_of l.id.number story).visited ≡ true) × ((life_of l.id.number story).over ≡ true → (life_of l.id.number story).drained ≡ false)
+HadTurn story l = ((life_of l.id.number story).visited ≡ true) × ((life_of l.id.number story).over ≡ true → (life_of l.id.number story).drained ≡ false) × ((life_of l.id.number story).tended ≡ true)
 
 -- at most one session a seat, each session in one, each one's connections tell its life, and those of the first seats had
 -- their turn
@@ -104,7 +104,7 @@ abbrev pub Keeps : {C : Type 0} → (C → Option Talk) → Core → Option Ledg
 Keeps history d n None stir e m None = (e ≡ d) × (m ≡ n) × (stir ≡ false)
 Keeps history d n None stir e m (Some k) = ⊥
 Keeps history d n (Some l) stir e m None = ⊥
-Keeps history d n (Some l) stir e m (Some k) = Goes history Fresh Spoken d n l stir e m k
+Keeps history d n (Some l) stir e m (Some k) = Goes history Fresh Shown d n l stir e m k
 
 -- a seat is empty afterwards
 abbrev pub Empties : {C : Type 0} → (C → Option Talk) → Core → Option Ledger → Option (Link C) → Core → Option Ledger → Type 0

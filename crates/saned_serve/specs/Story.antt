@@ -1,12 +1,12 @@
 -- What a server does, as one list: each call of the daemon, of a connection and of the listeners, in order.
-use Rattle.std.specs.Prelude.{◌≡◌, ◌≢◌, ℕ, ◌+◌, ◌-◌, ◌≤◌, ◌<◌, Bool, true, false, ◌||◌, cond, eqb, Option, None, Some, List, [], ◌∷◌, ◌++◌, ◌⊎◌}
-use Rattle.saned_core.specs.State.{Core, is_closed}
+use Rattle.std.specs.Prelude.{◌≡◌, ◌≢◌, ℕ, ◌+◌, ◌-◌, ◌≤◌, ◌<◌, Bool, true, false, not, ◌||◌, cond, eqb, Option, None, Some, List, [], ◌∷◌, ◌++◌, ◌⊎◌}
+use Rattle.saned_core.specs.State.{Core, is_closed, is_waiting}
 use Rattle.saned_serve.specs.Talk.{Talk, read_in, taken_in, lost_in, IsTold}
 use Rattle.saned_serve.specs.Talk.Move.{Read, Write}
 use Rattle.saned_serve.specs.Ledger.{Ledger, noticed}
 use Rattle.saned_serve.specs.Ledger.Notice.{Asked, Port, Forgot, Dialed, Shut, Back}
-use Rattle.saned_serve.specs.Acts.{Act, Does, moves, leaves, opens, is_last, is_over}
-use Rattle.saned_serve.specs.Acts.Act.{Opens, Hears, Feed, Forgets, Take, Says, Misses, Connect, Turn, Shows, Lose, HangsUp, Leaves}
+use Rattle.saned_serve.specs.Acts.{Act, Does, moves, leaves, opens, is_last, is_idle, is_over}
+use Rattle.saned_serve.specs.Acts.Act.{Opens, Hears, Feed, Forgets, Take, Says, Looks, Misses, Connect, Turn, Shows, Lose, HangsUp, Leaves}
 
 pub data Deed : Type 0 where
   -- an act for the session of that number
@@ -46,9 +46,12 @@ pub record Life : Type 0 where
   pub last : Bool
   pub image : Talk
   pub dropped : Bool
+  -- behind what was fed last in this turn the data had their part of it: of a data connection, a record was offered or there
+  -- was none; else none was awaited, or none came
+  pub tended : Bool
 
 abbrev pub no_life : Life
-no_life = record { standing = false; port = 0; visited = false; over = false; drained = false; begun = false; heard = []; said = []; control = []; imaging = false; shown = []; last = false; image = []; dropped = false }
+no_life = record { standing = false; port = 0; visited = false; over = false; drained = false; begun = false; heard = []; said = []; control = []; imaging = false; shown = []; last = false; image = []; dropped = false; tended = false }
 
 abbrev pub no_bytes : List ℕ → Bool
 no_bytes [] = true
@@ -57,14 +60,15 @@ no_bytes (byte ∷ bytes) = false
 abbrev pub after_act : Act → Life → Life
 after_act (Opens port) life = record no_life { standing = true; port = port }
 after_act (Hears got bytes) life = record life { visited = true; control = Read got bytes ∷ life.control }
-after_act (Feed piece fed begins) life = record life { heard = life.heard ++ piece; over = life.over || is_over fed; drained = false; begun = begins }
+after_act (Feed piece fed begins) life = record life { heard = life.heard ++ piece; over = life.over || is_over fed; drained = false; begun = begins; tended = false }
 after_act (Forgets port) life = record life { begun = false }
 after_act (Take room bytes) life = record life { said = life.said ++ bytes; drained = no_bytes bytes }
 after_act (Says got bytes) life = record life { visited = true; control = Write got bytes ∷ life.control }
-after_act (Misses port) life = life
-after_act (Connect port) life = record life { imaging = true; shown = []; last = false; image = []; dropped = false }
-after_act (Turn room step bytes) life = record life { shown = life.shown ++ bytes; last = life.last || is_last step }
-after_act (Shows got bytes) life = record life { image = Write got bytes ∷ life.image }
+after_act (Looks frame) life = record life { tended = not (is_waiting frame) }
+after_act (Misses port) life = record life { tended = true }
+after_act (Connect port) life = record life { imaging = true; shown = []; last = false; image = []; dropped = false; tended = false }
+after_act (Turn room step bytes) life = record life { shown = life.shown ++ bytes; last = life.last || is_last step; tended = is_idle step }
+after_act (Shows got bytes) life = record life { image = Write got bytes ∷ life.image; tended = true }
 after_act Lose life = record life { dropped = true }
 after_act (HangsUp talk) life = record life { imaging = false }
 after_act (Leaves port talk) life = record life { standing = false }
@@ -82,7 +86,7 @@ after_deed (Of number act) life = after_act act life
 after_deed Full life = life
 after_deed Waits life = life
 after_deed (Refuses port talk) life = life
-after_deed Turned life = record life { visited = false }
+after_deed Turned life = record life { visited = false; tended = false }
 after_deed Stops life = life
 
 -- the life of a session in a story, which has its newest deed first
@@ -124,6 +128,7 @@ MayDo (Feed piece fed begins) life stopped = (life.standing ≡ true) × (life.h
 MayDo (Forgets port) life stopped = (life.standing ≡ true) × (life.begun ≡ true) × (port ≡ life.port)
 MayDo (Take room bytes) life stopped = (life.standing ≡ true) × (life.begun ≡ false) × (room ≡ most_reply) × (taken_in life.control ≡ life.said)
 MayDo (Says got bytes) life stopped = (life.standing ≡ true) × (bytes ≢ []) × (taken_in life.control ++ bytes ≡ life.said)
+MayDo (Looks frame) life stopped = (life.standing ≡ true) × (life.imaging ≡ false)
 MayDo (Misses port) life stopped = (life.standing ≡ true) × (life.imaging ≡ false) × (port ≡ life.port)
 MayDo (Connect port) life stopped = (life.standing ≡ true) × (life.imaging ≡ false) × (port ≡ life.port)
 MayDo (Turn room step bytes) life stopped = (life.standing ≡ true) × (life.imaging ≡ true) × (room ≡ most_record) × (life.last ≡ false) × (taken_in life.image ≡ life.shown)
@@ -132,12 +137,13 @@ MayDo Lose life stopped = (life.standing ≡ true) × (life.imaging ≡ true) ×
 MayDo (HangsUp talk) life stopped = (life.standing ≡ true) × (life.imaging ≡ true) × IsTold talk life.image × IsFront (taken_in life.image) life.shown × (IsShown life ⊎ (stopped ≡ true))
 MayDo (Leaves port talk) life stopped = (life.standing ≡ true) × (life.imaging ≡ false) × (port ≡ life.port) × IsTold talk life.control × (read_in life.control ≡ life.heard) × IsFront (taken_in life.control) life.said × (IsDone life ⊎ (stopped ≡ true))
 
--- what a turn leaves of a session that stands: it had its turn, its connection is not known to be lost, and where it is over
+-- what a turn leaves of a session that stands: it had its turn, and its data theirs; its connection is not known to be lost, and where it is over
 -- some of its replies may still wait; and its data connection is not lost, and its end record not wholly written
 pub record IsSettled (life : Life) : Type 0 where
   pub visited : life.visited ≡ true
   pub held : lost_in life.control ≡ false
   pub replies : life.over ≡ true → life.drained ≡ false
+  pub tended : life.tended ≡ true
   pub shows : life.imaging ≡ true → (lost_in life.image ≡ false) × (life.last ≡ true → taken_in life.image ≢ life.shown)
 
 -- all turns are over
@@ -217,6 +223,7 @@ noted_act (Feed piece fed begins) ledger = ledger
 noted_act (Forgets port) ledger = noticed (Forgot port) ledger
 noted_act (Take room bytes) ledger = ledger
 noted_act (Says got bytes) ledger = ledger
+noted_act (Looks frame) ledger = ledger
 noted_act (Misses port) ledger = noticed (Dialed port false) ledger
 noted_act (Connect port) ledger = noticed (Dialed port true) ledger
 noted_act (Turn room step bytes) ledger = ledger
@@ -290,6 +297,7 @@ IsEndAct (Feed piece fed begins) = ⊥
 IsEndAct (Forgets port) = ⊥
 IsEndAct (Take room bytes) = ⊥
 IsEndAct (Says got bytes) = ⊥
+IsEndAct (Looks frame) = ⊥
 IsEndAct (Misses port) = ⊥
 IsEndAct (Connect port) = ⊥
 IsEndAct (Turn room step bytes) = ⊥

@@ -6,7 +6,7 @@ ghost use Rattle.saned_serve.specs.Ledger.{Ledger, noticed};
 ghost use Rattle.saned_serve.specs.Ledger.Notice.{Back};
 ghost use Rattle.saned_serve.specs.Acts.{is_over};
 ghost use Rattle.saned_serve.specs.Goes.{Goes, Attends, Sends, Parts, hung_up};
-ghost use Rattle.saned_serve.specs.Goes.Phase.{Fresh, Filled, Heard, Ready, Spoken};
+ghost use Rattle.saned_serve.specs.Goes.Phase.{Fresh, Filled, Heard, Ready, Spoken, Dialed, Loaded, Shown};
 
 use crate::pending::{Pending, is_end};
 use crate::{Got, Listeners, Socket};
@@ -188,7 +188,7 @@ fn dial<D: Device, L: Listeners>(
     net: &mut L,
     link: &mut Link<L::Conn>,
 ) -> bool
-    ensures { Goes L.Conn.history Spoken Spoken (core D.state daemon.old) (L.ledger net.old) link.old result (core D.state daemon.new) (L.ledger net.new) link.new }
+    ensures { Goes L.Conn.history Spoken Dialed (core D.state daemon.old) (L.ledger net.old) link.old result (core D.state daemon.new) (L.ledger net.new) link.new }
 {
     if link.image.is_some() {
         return false;
@@ -215,7 +215,7 @@ fn dial<D: Device, L: Listeners>(
 /// Takes a record where none waits.
 fn fill_records<D: Device, C: Socket>(daemon: &mut Daemon<D>, link: &mut Link<C>)
     requires { IsSome link.old.image }
-    ensures { (n : Option Ledger) → Goes C.history Spoken Spoken (core D.state daemon.old) n link.old false (core D.state daemon.new) n link.new }
+    ensures { (n : Option Ledger) → Goes C.history Dialed Loaded (core D.state daemon.old) n link.old false (core D.state daemon.new) n link.new }
 {
     if link.records.is_empty() {
         let step = link.records.take_record(daemon, link.id);
@@ -239,7 +239,7 @@ fn show<D: Device, L: Listeners>(
     net: &mut L,
     link: &mut Link<L::Conn>,
 ) -> bool
-    ensures { Goes L.Conn.history Spoken Spoken (core D.state daemon.old) (L.ledger net.old) link.old result (core D.state daemon.new) (L.ledger net.new) link.new }
+    ensures { Goes L.Conn.history Dialed Shown (core D.state daemon.old) (L.ledger net.old) link.old result (core D.state daemon.new) (L.ledger net.new) link.new }
 {
     if link.image.is_none() {
         return false;
@@ -268,7 +268,7 @@ pub fn converse<D: Device, L: Listeners>(
     net: &mut L,
     link: &mut Link<L::Conn>,
 ) -> bool
-    ensures { Goes L.Conn.history Fresh Spoken (core D.state daemon.old) (L.ledger net.old) link.old result (core D.state daemon.new) (L.ledger net.new) link.new }
+    ensures { Goes L.Conn.history Fresh Shown (core D.state daemon.old) (L.ledger net.old) link.old result (core D.state daemon.new) (L.ledger net.new) link.new }
 {
     let has_heard = listen(alloc, daemon, net, link);
     let has_spoken = speak(daemon, link);

@@ -1,11 +1,15 @@
-use Rattle.std.proofs.Common.{◌≡◌, ◌≢◌, true, false, [], refl, sym, ap, ◌∙◌, subst}
+use Rattle.std.proofs.Common.{◌≡◌, ◌≢◌, true, false, Option, None, Some, is_some, [], refl, sym, ap, ◌∙◌, subst}
 use Rattle.saned_core.specs.State.{core}
 use Rattle.saned_serve.specs.Acts.{Does}
 use Rattle.saned_serve.specs.Acts.Act.{Lose}
 use Rattle.saned_serve.specs.declared.link.Link.{Link}
-use Rattle.saned_serve.proofs.Steps.{goes_then, goes_shows_none, goes_shows, goes_shows_last, goes_shows_lost}
+use Rattle.saned_serve.proofs.Steps.{goes_then, goes_dark, goes_shows_none, goes_shows, goes_shows_last, goes_shows_lost}
 use Rattle.saned_serve.proofs.link.show.Goals as goal
 use Rattle.saned_serve.proofs.link.show.Goals.{else-link-via-then-link+else-is_empty, else-link-via-else-link}
+
+none_of : {A : Type 0} (o : Option A) → is_some o ≡ false → o ≡ None
+none_of None e = refl
+none_of (Some x) e = cc
 
 pub returns-in-Nothing : goal.returns-in-Nothing
 returns-in-Nothing g c = let n = g.L.Listeners.ledger c.args.net.now in
@@ -29,3 +33,6 @@ returns-else-link g c =
       | else-link-via-else-link w ↦ λ none. (let wrong : false ≡ true = sym w.if-link.false ∙ same ∙ last in cc)
     ] in
     goes_then (c.fill_records.ensures n) (goes_shows g.L.Conn.Socket.history (core g.D.Device.state c.fill_records.new.daemon) n c.fill_records.new.link c.send_records.new.link c.in-Moved.field-0 c.in-Moved.ensures.link c.in-Moved.ensures.sends more)
+
+pub returns-then-is_none : goal.returns-then-is_none
+returns-then-is_none g c = goes_dark g.L.Conn.Socket.history (core g.D.Device.state c.args.daemon.now) (g.L.Listeners.ledger c.args.net.now) c.args.link.now (none_of c.args.link.now.image c.if-is_none.ensures)
