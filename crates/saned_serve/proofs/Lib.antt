@@ -4,3 +4,4 @@ pub mod Daemon
 pub mod Ranges
 pub mod Seating
 pub mod Greeting
+pub mod Summing

@@ -197,7 +197,7 @@ told_write got buf None after calls e told = subst (λ t. IsTold t (Write got bu
 told_write got buf (Some talk) after calls e told = subst (λ t. IsTold t (Write got buf ∷ calls)) (sym e) (ap (λ cs. Write got buf ∷ cs) told)
 
 -- what waits goes on behind what was taken
-rest_after : (xs rest said : List ℕ) (n : ℕ) → xs ++ rest ≡ said → (xs ++ take n rest) ++ drop n rest ≡ said
+pub rest_after : (xs rest said : List ℕ) (n : ℕ) → xs ++ rest ≡ said → (xs ++ take n rest) ++ drop n rest ≡ said
 rest_after xs rest said n e = append_assoc xs (take n rest) (drop n rest) ∙ ap (λ ys. xs ++ ys) (take-append-drop n rest) ∙ e
 
 -- where nothing waits, all was taken

@@ -4,3 +4,4 @@ pub mod Acts
 pub mod Story
 pub mod Goes
 pub mod Stands
+pub mod Summary

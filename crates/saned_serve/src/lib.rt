@@ -1,11 +1,13 @@
 //! The loop of the scanner daemon: its sessions over connections that never wait, in turns.
 #![tactic(auto)]
 
+mod laws;
 mod link;
 mod pending;
 mod seats;
 mod serving;
 mod sockets;
 
+pub use laws::connections_tell_their_sessions;
 pub use serving::{ServeEnd, serve};
 pub use sockets::{Got, Listeners, Socket};

@@ -1,0 +1,20 @@
+//! Laws of a story.
+
+ghost use Rattle.std.specs.Prelude.{◌≡◌, ℕ, List, false};
+ghost use Rattle.saned_serve.specs.Talk.{read_in, taken_in};
+ghost use Rattle.saned_serve.specs.Acts.Act.{Opens};
+ghost use Rattle.saned_serve.specs.Story.{Deed, IsStory, IsFront, life_of};
+ghost use Rattle.saned_serve.specs.Story.Deed.{Of};
+ghost use Rattle.saned_serve.specs.Summary.{Holds, WasLeft};
+
+/// What the places of the deeds come to, for each session of a story: it was fed nothing but what its control connection
+/// read, and once it is left all of that; what that connection was rid of is a front of the session's replies; what its
+/// data connection was rid of is a front of that one's records; and each session that was opened and does not stand was
+/// left, its control connection handed back with just those calls.
+pub fn connections_tell_their_sessions()
+    ensures fed { (story : List Deed) (id : ℕ) → IsStory story → IsFront (life_of id story).heard (read_in (life_of id story).control) }
+    ensures all_fed { (story : List Deed) (id : ℕ) → IsStory story → (life_of id story).standing ≡ false → read_in (life_of id story).control ≡ (life_of id story).heard }
+    ensures said { (story : List Deed) (id : ℕ) → IsStory story → IsFront (taken_in (life_of id story).control) (life_of id story).said }
+    ensures shown { (story : List Deed) (id : ℕ) → IsStory story → IsFront (taken_in (life_of id story).image) (life_of id story).shown }
+    ensures left { (story : List Deed) (id port : ℕ) → IsStory story → Holds (Of id (Opens port)) story → (life_of id story).standing ≡ false → WasLeft id story }
+{}
