@@ -5,3 +5,4 @@ pub mod Ranges
 pub mod Seating
 pub mod Greeting
 pub mod Summing
+pub mod Holding

@@ -5,3 +5,4 @@ pub mod Story
 pub mod Goes
 pub mod Stands
 pub mod Summary
+pub mod Held

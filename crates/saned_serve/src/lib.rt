@@ -8,6 +8,6 @@ mod seats;
 mod serving;
 mod sockets;
 
-pub use laws::connections_tell_their_sessions;
+pub use laws::{connections_tell_their_sessions, no_device_is_held_twice};
 pub use serving::{ServeEnd, serve};
 pub use sockets::{Got, Listeners, Socket};
