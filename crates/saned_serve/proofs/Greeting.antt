@@ -10,7 +10,7 @@ use Rattle.saned_serve.specs.Acts.{Does}
 use Rattle.saned_serve.specs.Acts.Act.{Opens}
 use Rattle.saned_serve.specs.Story.{Deed, no_life, after_act, life_of, IsRefused, noted, Leads, Steps, May, tally_of, is_of, has_asked, seated}
 use Rattle.saned_serve.specs.Story.Deed.{Of, Waits, Refuses}
-use Rattle.saned_serve.specs.Goes.{CarriesIn, Tells}
+use Rattle.saned_serve.specs.Goes.{CarriesIn, Tells, IsDue}
 use Rattle.saned_serve.specs.Goes.Phase.{Fresh}
 use Rattle.saned_serve.specs.Stands.{one_link, IsMet, IsSeated, Greets}
 use Rattle.saned_serve.specs.declared.link.Link.{Link}
@@ -90,6 +90,7 @@ met_new history past d e port id conn (Some l) does none fresh sits =
         carries = subst (λ i. CarriesIn history i l.is_last l.records life) (sym sits.4) refl;
         at = sits.6;
       }),
+      subst (λ v. IsDue v) (sym at) (refl, refl, refl),
     )
 
 pub greets_opens : {C : Type 0} (history : C → Option Talk) (d : Core) (n : Option Ledger) (e : Core) (m : Option Ledger) (port : ℕ) (id : SessionId) (conn : C) (p : Option (Link C)) → Does id.number d (Opens port) e → m ≡ noticed (Port (Some port)) (noticed (Asked true) n) → IsTold (history conn) [] → IsSeated conn id port p → Greets history d n true e m p

@@ -7,8 +7,8 @@ use Rattle.saned_serve.specs.Talk.{Talk, lost_in, taken_in}
 use Rattle.saned_serve.specs.Ledger.{Ledger}
 use Rattle.saned_serve.specs.Story.{Deed, Life, life_of, Leads, tally_of, after_tally, counted, no_life, has_stopped, has_asked, seated, MayAsk, most_sessions, IsSettled}
 use Rattle.saned_serve.specs.Story.Deed.{Full, Turned, Stops}
-use Rattle.saned_serve.specs.Goes.{CarriesIn, Tells, Went, Goes, Parts, Ended}
-use Rattle.saned_serve.specs.Goes.Phase.{Fresh, Shown}
+use Rattle.saned_serve.specs.Goes.{CarriesIn, Tells, Went, Goes, Parts, Ended, IsDue}
+use Rattle.saned_serve.specs.Goes.Phase.{Fresh, Due, Shown}
 use Rattle.saned_serve.specs.Stands.{link_at, one_link, links_below, HadTurn, Stands, WentOn, TookTurn, Took, Ran, most_turns, Shuts, Keeps, IsLeft, Empties, Met, Greets, Closes, Served}
 use Rattle.saned_serve.specs.declared.link.Link.{Link}
 use Rattle.saned_serve.specs.declared.seats.Seat.{Seat}
@@ -68,21 +68,30 @@ pub stands_change : {C : Type 0} (history : C → Option Talk) (d0 : Core) (n0 :
     → ((j : ℕ) (l : Link C) → j ≢ i → link_at seats j ≡ Some l → l.id.number ≢ id)
     → New history place i id (life_of id story) p
     → ((j : ℕ) → j ≢ i → j < h' → j < h)
+    → ((j : ℕ) → j ≢ i → h' ≤ j → h ≤ j)
     → ((k : Link C) → p ≡ Some k → i < h' → HadTurn story k)
+    → ((k : Link C) → p ≡ Some k → h' ≤ i → IsDue (life_of k.id.number story))
     → ((k : Link C) → p ≡ Some k → i < most_sessions)
     → seated story ≡ links_below most_sessions seats'
     → Stands history d0 n0 story e m h' seats'
-stands_change {C} history d0 n0 past d n h seats was e m h' seats' story id i p place leads others at off placed own only new below mine room count = record {
+stands_change {C} history d0 n0 past d n h seats was e m h' seats' story id i p place leads others at off placed own only new below above mine fresh room count = record {
   leads = leads;
   place = place;
   each = λ j x f. each j x f (decide j i);
   all = λ j f. all j f (decide j id);
   dark = λ j f. dark j f (decide j id);
   turned = λ j x f few. turned j x f few (decide j i);
+  due = λ j x f much. due j x f much (decide j i);
   inside = λ j x f. inside j x f (decide j i);
   count = count;
 }
   where
+    due : (j : ℕ) (x : Link C) → link_at seats' j ≡ Some x → h' ≤ j → (j ≡ i) ⊎ (j ≢ i) → IsDue (life_of x.id.number story)
+    due j x f much (inl same) = fresh x (sym at ∙ subst (λ k. link_at seats' k ≡ Some x) same f) (subst (λ k. h' ≤ k) same much)
+    due j x f much (inr differ) =
+        let f2 = sym (off j differ) ∙ f in
+        subst (λ v. IsDue v) (sym (others x.id.number (only j x differ f2))) (was.due j x f2 (above j differ much))
+
     inside : (j : ℕ) (x : Link C) → link_at seats' j ≡ Some x → (j ≡ i) ⊎ (j ≢ i) → j < most_sessions
     inside j x f (inl same) = subst (λ k. k < most_sessions) (sym same) (room x (sym at ∙ subst (λ k. link_at seats' k ≡ Some x) same f))
     inside j x f (inr differ) = was.inside j x (sym (off j differ) ∙ f)
@@ -121,14 +130,15 @@ stands_change {C} history d0 n0 past d n h seats was e m h' seats' story id i p 
         (ap (λ v. v.visited) life ∙ before.0, (λ over. ap (λ v. v.drained) life ∙ before.1 (sym (ap (λ v. v.over) life) ∙ over)), ap (λ v. v.tended) life ∙ before.2)
 
 pub stands_same : {C : Type 0} (history : C → Option Talk) (d0 : Core) (n0 : Option Ledger) (past : List Deed) (d : Core) (n : Option Ledger) (h : ℕ) (seats : List (Seat C)) → Stands history d0 n0 past d n h seats
-    → (e : Core) (m : Option Ledger) (h' : ℕ) (seats' : List (Seat C)) → e ≡ d → m ≡ n → ((j : ℕ) → link_at seats' j ≡ link_at seats j) → ((j : ℕ) (x : Link C) → link_at seats j ≡ Some x → j < h' → j < h) → Stands history d0 n0 past e m h' seats'
-stands_same history d0 n0 past d n h seats was e m h' seats' same net off below = record {
+    → (e : Core) (m : Option Ledger) (h' : ℕ) (seats' : List (Seat C)) → e ≡ d → m ≡ n → ((j : ℕ) → link_at seats' j ≡ link_at seats j) → ((j : ℕ) (x : Link C) → link_at seats j ≡ Some x → j < h' → j < h) → ((j : ℕ) → h' ≤ j → h ≤ j) → Stands history d0 n0 past e m h' seats'
+stands_same history d0 n0 past d n h seats was e m h' seats' same net off below above = record {
   leads = subst (λ x. Leads d0 n0 past x m) (sym same) (subst (λ x. Leads d0 n0 past d x) (sym net) was.leads);
   place = was.place;
   each = λ j x f. was.each j x (sym (off j) ∙ f);
   all = λ j f. let found = was.all j f in (found.0, off (was.place j) ∙ found.1, found.2);
   dark = was.dark;
   turned = λ j x f few. was.turned j x (sym (off j) ∙ f) (below j x (sym (off j) ∙ f) few);
+  due = λ j x f much. was.due j x (sym (off j) ∙ f) (above j much);
   inside = λ j x f. was.inside j x (sym (off j) ∙ f);
   count = was.count ∙ sym (links_same most_sessions seats seats' (λ j. ap one_link (off j)));
 }
@@ -167,17 +177,27 @@ only_at history d0 n0 past d n h seats was i l at j k differ f same =
 below_next : (i j : ℕ) → j ≢ i → j < i + 1 → j < i
 below_next i j off few = omega (arith, off, few)
 
+above_next : (i j : ℕ) → i + 1 ≤ j → i ≤ j
+above_next i j much = omega (arith, much)
+
+none_past : {A : Type 0} (i : ℕ) → i + 1 ≤ i → A
+none_past i much = absurd (omega (arith, much))
+
+-- a turn that begins
+begins : {C : Type 0} {history : C → Option Talk} {life : Life} {l : Link C} → Tells history Fresh life l → IsDue life → Tells history Due life l
+begins tells due = tells_at tells (tells.at, due)
+
 -- a session had its turn, and stays
 pub stands_goes : {C : Type 0} (history : C → Option Talk) (d0 : Core) (n0 : Option Ledger) (past : List Deed) (d : Core) (n : Option Ledger) (seats : List (Seat C)) (i : ℕ) → has_asked past ≡ true → Stands history d0 n0 past d n i seats
-    → (stir : Bool) (e : Core) (m : Option Ledger) (seats' : List (Seat C)) (l k : Link C) → link_at seats i ≡ Some l → Goes history Fresh Shown d n l stir e m k → k.is_done ≡ false → link_at seats' i ≡ Some k → ((j : ℕ) → j ≢ i → link_at seats' j ≡ link_at seats j) → WentOn history d0 n0 past 0 stir e m (i + 1) seats'
+    → (stir : Bool) (e : Core) (m : Option Ledger) (seats' : List (Seat C)) (l k : Link C) → link_at seats i ≡ Some l → Goes history Due Shown d n l stir e m k → k.is_done ≡ false → link_at seats' i ≡ Some k → ((j : ℕ) → j ≢ i → link_at seats' j ≡ link_at seats j) → WentOn history d0 n0 past 0 stir e m (i + 1) seats'
 stands_goes {C} history d0 n0 past d n seats i asked was stir e m seats' l k at goes alive now off =
     let had = was.each i l at in
-    let w = goes.goes d0 n0 past was.leads had.1 in
+    let w = goes.goes d0 n0 past was.leads (begins had.1 (was.due i l at (omega arith))) in
     let fresh = tells_at {from = Shown} {to = Fresh} w.tells alive in
     let number = ap (λ x. x.number) goes.same in
     let stands = stands_change history d0 n0 past d n i seats was e m (i + 1) seats' w.story l.id.number i (Some k) was.place w.leads w.others now off (λ j differ. refl)
     (own_at history d0 n0 past d n i seats was i l at) (only_at history d0 n0 past d n i seats was i l at)
-    (number, had.0, fresh) (λ j differ few. below_next i j differ few) (λ x same few. mine w x (same_some k x same) number)
+    (number, had.0, fresh) (λ j differ few. below_next i j differ few) (λ j differ much. above_next i j much) (λ x same few. mine w x (same_some k x same) number) (λ x same much. none_past i much)
     (λ x same. was.inside i l at) (w.crowd ∙ was.count ∙ sym (links_same most_sessions seats seats' (λ j. one j (decide j i)))) in
     record { story = w.story; more = w.more; stands = stands; tally = w.tally; asked = w.asked ∙ asked }
   where
@@ -197,12 +217,12 @@ stands_goes {C} history d0 n0 past d n seats i asked was stir e m seats' l k at 
 
 -- a session is gone from its seat
 stands_ended : {C : Type 0} (history : C → Option Talk) (d0 : Core) (n0 : Option Ledger) (past : List Deed) (d : Core) (n : Option Ledger) (h : ℕ) (seats : List (Seat C)) (was : Stands history d0 n0 past d n h seats)
-    → (stir : Bool) (e : Core) (m : Option Ledger) (h' : ℕ) (seats' : List (Seat C)) (i : ℕ) (l : Link C) → link_at seats i ≡ Some l → (w : Ended d0 n0 past l.id.number stir e m) → link_at seats' i ≡ None → ((j : ℕ) → j ≢ i → link_at seats' j ≡ link_at seats j) → ((j : ℕ) → j ≢ i → j < h' → j < h)
+    → (stir : Bool) (e : Core) (m : Option Ledger) (h' : ℕ) (seats' : List (Seat C)) (i : ℕ) (l : Link C) → link_at seats i ≡ Some l → (w : Ended d0 n0 past l.id.number stir e m) → link_at seats' i ≡ None → ((j : ℕ) → j ≢ i → link_at seats' j ≡ link_at seats j) → ((j : ℕ) → j ≢ i → j < h' → j < h) → ((j : ℕ) → j ≢ i → h' ≤ j → h ≤ j)
     → Stands history d0 n0 w.story e m h' seats'
-stands_ended history d0 n0 past d n h seats was stir e m h' seats' i l at w now off below =
+stands_ended history d0 n0 past d n h seats was stir e m h' seats' i l at w now off below above =
     stands_change history d0 n0 past d n h seats was e m h' seats' w.story l.id.number i None was.place w.leads w.others now off (λ j differ. refl)
     (own_at history d0 n0 past d n h seats was i l at) (only_at history d0 n0 past d n h seats was i l at)
-    (w.gone, w.dark) below (λ k e. absurd (let wrong : None ≡ Some k = e in cc)) (λ k e. absurd (let wrong : None ≡ Some k = e in cc)) fewer
+    (w.gone, w.dark) below above (λ k e. absurd (let wrong : None ≡ Some k = e in cc)) (λ k e. absurd (let wrong : None ≡ Some k = e in cc)) (λ k e. absurd (let wrong : None ≡ Some k = e in cc)) fewer
   where
     fewer : seated w.story ≡ links_below most_sessions seats'
     fewer =
@@ -215,15 +235,15 @@ stands_ended history d0 n0 past d n h seats was stir e m h' seats' i l at w now 
 
 -- a session had its turn, and is left
 pub stands_leaves : {C : Type 0} (history : C → Option Talk) (d0 : Core) (n0 : Option Ledger) (past : List Deed) (d : Core) (n : Option Ledger) (seats : List (Seat C)) (i : ℕ) → has_asked past ≡ true → Stands history d0 n0 past d n i seats
-    → (stir : Bool) (e : Core) (m : Option Ledger) (f : Core) (o : Option Ledger) (seats' : List (Seat C)) (l k : Link C) → link_at seats i ≡ Some l → Goes history Fresh Shown d n l stir e m k → k.is_done ≡ true → Parts history e m k f o → link_at seats' i ≡ None → ((j : ℕ) → j ≢ i → link_at seats' j ≡ link_at seats j) → WentOn history d0 n0 past 1 stir f o (i + 1) seats'
+    → (stir : Bool) (e : Core) (m : Option Ledger) (f : Core) (o : Option Ledger) (seats' : List (Seat C)) (l k : Link C) → link_at seats i ≡ Some l → Goes history Due Shown d n l stir e m k → k.is_done ≡ true → Parts history e m k f o → link_at seats' i ≡ None → ((j : ℕ) → j ≢ i → link_at seats' j ≡ link_at seats j) → WentOn history d0 n0 past 1 stir f o (i + 1) seats'
 stands_leaves {C} history d0 n0 past d n seats i asked was stir e m f o seats' l k at goes done parts now off =
     let had = was.each i l at in
-    let w = goes.goes d0 n0 past was.leads had.1 in
+    let w = goes.goes d0 n0 past was.leads (begins had.1 (was.due i l at (omega arith))) in
     let number = ap (λ x. x.number) goes.same in
     let tells = subst (λ j. Tells history Shown (life_of j w.story) k) (sym number) w.tells in
     let v = parts.goes Shown d0 n0 w.story w.leads tells (inl (tells.at.0.0 done)) in
     let ended = after w k.id.number number v.0 in
-    record { story = ended.story; more = ended.more; stands = stands_ended history d0 n0 past d n i seats was stir f o (i + 1) seats' i l at ended now off (λ j differ few. below_next i j differ few); tally = ended.tally; asked = ended.asked ∙ asked }
+    record { story = ended.story; more = ended.more; stands = stands_ended history d0 n0 past d n i seats was stir f o (i + 1) seats' i l at ended now off (λ j differ few. below_next i j differ few) (λ j differ much. above_next i j much); tally = ended.tally; asked = ended.asked ∙ asked }
   where
     after : (w : Went history Shown d0 n0 past l.id.number stir e m k) (id : ℕ) → id ≡ l.id.number → Ended d0 n0 w.story id false f o → Ended d0 n0 past l.id.number stir f o
     after w id same v = record {
@@ -244,7 +264,7 @@ pub stands_keeps : {C : Type 0} (history : C → Option Talk) (d0 : Core) (n0 : 
     → (stir : Bool) (e : Core) (m : Option Ledger) (seats' : List (Seat C)) (o p : Option (Link C)) → link_at seats i ≡ o → Keeps history d n o stir e m p → IsLeft false p → link_at seats' i ≡ p → ((j : ℕ) → j ≢ i → link_at seats' j ≡ link_at seats j) → WentOn history d0 n0 past 0 stir e m (i + 1) seats'
 stands_keeps {C} history d0 n0 past d n seats i asked was stir e m seats' None None at keeps left now off =
     subst (λ b. WentOn history d0 n0 past 0 b e m (i + 1) seats') (sym keeps.2)
-    (stays history d0 n0 past e m (i + 1) seats' asked (stands_same history d0 n0 past d n i seats was e m (i + 1) seats' keeps.0 keeps.1 (λ j. each_off j (decide j i)) (λ j x f few. below j x f few (decide j i))))
+    (stays history d0 n0 past e m (i + 1) seats' asked (stands_same history d0 n0 past d n i seats was e m (i + 1) seats' keeps.0 keeps.1 (λ j. each_off j (decide j i)) (λ j x f few. below j x f few (decide j i)) (λ j much. above_next i j much)))
   where
     each_off : (j : ℕ) → (j ≡ i) ⊎ (j ≢ i) → link_at seats' j ≡ link_at seats j
     each_off j (inl same) = ap (link_at seats') same ∙ (now ∙ sym at) ∙ sym (ap (link_at seats) same)
@@ -281,6 +301,9 @@ stands_greets {C} history d0 n0 past d n seats anew was stir e m seats' i p room
         let here = subst (λ k. (life_of k past).standing ≡ true) same standing in
         not_both here (ap (λ v. v.standing) none)
 
+    new_due : (l k : Link C) (met : Met history d0 n0 past stir e m d.opened (Some l)) → Some l ≡ Some k → IsDue (life_of k.id.number met.story)
+    new_due l k met same = subst (λ x. IsDue (life_of x.id.number met.story)) (same_some l k same) (subst (λ j. IsDue (life_of j met.story)) (sym met.met.0) met.met.3)
+
     same_count : {a : ℕ} → a ≡ seated past + 0 → links_below most_sessions seats' ≡ links_below most_sessions seats → a ≡ links_below most_sessions seats'
     same_count crowd same = let count = was.count in omega (arith, crowd, same, count)
 
@@ -298,6 +321,7 @@ stands_greets {C} history d0 n0 past d n seats anew was stir e m seats' i p room
           all = λ j f. let found = was.all j (sym (ap (λ v. v.standing) (lives j)) ∙ f) in (found.0, links (was.place j) ∙ found.1, found.2);
           dark = λ j f. ap (λ v. v.imaging) (lives j) ∙ was.dark j (sym (ap (λ v. v.standing) (lives j)) ∙ f);
           turned = λ j x f few. none_below j few;
+          due = λ j x f much. let before = was.due j x (sym (links j) ∙ f) much in subst (λ v. IsDue v) (sym (lives x.id.number)) before;
           inside = λ j x f. was.inside j x (sym (links j) ∙ f);
           count = same_count met.crowd (links_same most_sessions seats seats' (λ j. ap one_link (links j)));
         }
@@ -307,7 +331,7 @@ stands_greets {C} history d0 n0 past d n seats anew was stir e m seats' i p room
         (λ k f. absurd (let wrong : None ≡ Some k = sym at ∙ f in cc))
         (λ j k differ f. number_new j k f met.met.1)
         (met.met.0, ap (λ b. cond b i (was.place d.opened)) (eq-eqb d.opened d.opened refl), met.met.2)
-        (λ j differ few. few) (λ k same few. none_below i few)
+        (λ j differ few. few) (λ j differ much. much) (λ k same few. none_below i few) (λ k same much. new_due l k met same)
         (λ k same. room) (more_count met.crowd (links_change most_sessions i seats seats' room off) (ap one_link now))
 
 -- ---- a turn ends
@@ -332,13 +356,14 @@ stands_turned {C} history d0 n0 past d n h seats asked was full = record {
     legal = (was.leads.legal, (asked, λ id standing. by_link id (was.all id standing)));
     run = (d, was.leads.run, refl);
     net = was.leads.net;
-    unused = λ id f. life_at id Turned past refl ∙ ap (λ (v : Life). record v { visited = false; tended = false }) (was.leads.unused id f);
+    unused = λ id f. life_at id Turned past refl ∙ ap (λ (v : Life). record v { visited = false; spoken = false; tended = false }) (was.leads.unused id f);
   };
   place = was.place;
   each = λ j l f. let before = was.each j l f in (before.0, subst (λ v. Tells history Fresh v l) (sym (life_at l.id.number Turned past refl)) (anew (life_of l.id.number past) l before.1));
   all = λ id f. was.all id (sym (ap (λ (v : Life). v.standing) (life_at id Turned past refl)) ∙ f);
   dark = λ id f. ap (λ (v : Life). v.imaging) (life_at id Turned past refl) ∙ was.dark id (sym (ap (λ (v : Life). v.standing) (life_at id Turned past refl)) ∙ f);
   turned = λ j l f few. absurd (omega (arith, few));
+  due = λ j l f much. subst (λ (v : Life). IsDue v) (sym (life_at l.id.number Turned past refl)) (refl, refl, refl);
   inside = was.inside;
   count = was.count;
 }
@@ -350,11 +375,11 @@ stands_turned {C} history d0 n0 past d n h seats asked was full = record {
         let had = was.turned (was.place id) l found.1 (full (was.place id) l found.1) in
         subst (λ j. IsSettled (life_of j past)) found.2 (settled history (life_of l.id.number past) l tells had)
 
-    carries : (life : Life) (image : Option C) (last : Bool) (records : List ℕ) → CarriesIn history image last records life → CarriesIn history image last records (record life { visited = false; tended = false })
+    carries : (life : Life) (image : Option C) (last : Bool) (records : List ℕ) → CarriesIn history image last records life → CarriesIn history image last records (record life { visited = false; spoken = false; tended = false })
     carries life None last records c = c
     carries life (Some conn) last records c = record { imaging = c.imaging; told = c.told; shown = c.shown; last = c.last; more = c.more; held = c.held }
 
-    anew : (life : Life) (l : Link C) → Tells history Fresh life l → Tells history Fresh (record life { visited = false; tended = false }) l
+    anew : (life : Life) (l : Link C) → Tells history Fresh life l → Tells history Fresh (record life { visited = false; spoken = false; tended = false }) l
     anew life l tells = record {
       standing = tells.standing;
       port = tells.port;
@@ -397,14 +422,14 @@ pub stands_pops : {C : Type 0} (history : C → Option Talk) (d0 : Core) (n0 : O
     → (e : Core) (m : Option Ledger) (o : Option (Link C)) → seat.link ≡ o → Empties history d n o e m → Shuts history d0 n0 past e m seats
 stands_pops history d0 n0 past d n seats seat stopped was e m None at empties =
     shuts_here history d0 n0 past e m seats stopped (stands_same history d0 n0 past d n 0 (seats ++ seat ∷ []) was e m 0 seats empties.0 empties.1
-    (λ j. elim (decide j (length seats)) [ inl same ↦ ap (link_at seats) same ∙ link_at_end seats ∙ sym (ap (link_at (seats ++ seat ∷ [])) same ∙ link_at_last seats seat ∙ at) | inr differ ↦ link_at_before seats seat j differ ]) (λ j x f few. few))
+    (λ j. elim (decide j (length seats)) [ inl same ↦ ap (link_at seats) same ∙ link_at_end seats ∙ sym (ap (link_at (seats ++ seat ∷ [])) same ∙ link_at_last seats seat ∙ at) | inr differ ↦ link_at_before seats seat j differ ]) (λ j x f few. few) (λ j much. much))
 stands_pops history d0 n0 past d n seats seat stopped was e m (Some l) at empties =
     let link = link_at_last seats seat ∙ at in
     let left = empties.goes Fresh d0 n0 past was.leads (was.each (length seats) l link).1 (inr stopped) in
     record {
       story = left.0.story;
       closing = left.1;
-      stands = stands_ended history d0 n0 past d n 0 (seats ++ seat ∷ []) was false e m 0 seats (length seats) l link left.0 (link_at_end seats) (link_at_before seats seat) (λ j differ few. few);
+      stands = stands_ended history d0 n0 past d n 0 (seats ++ seat ∷ []) was false e m 0 seats (length seats) l link left.0 (link_at_end seats) (link_at_before seats seat) (λ j differ few. few) (λ j differ much. much);
       stopped = left.0.stopped ∙ stopped;
     }
 
@@ -417,6 +442,7 @@ stands_begins history d n seats none = record {
   all = λ j h. absurd (let wrong : true ≡ false = sym h ∙ ap (λ v. v.standing) (nobody j) in cc);
   dark = λ j h. ap (λ v. v.imaging) (nobody j);
   turned = λ j l f few. absurd (omega (arith, few));
+  due = λ j l h much. absurd (let wrong : None ≡ Some l = sym (none j) ∙ h in cc);
   inside = λ j l h. absurd (let wrong : None ≡ Some l = sym (none j) ∙ h in cc);
   count = sym (links_empty most_sessions seats none);
 }
@@ -435,6 +461,7 @@ stands_stops history d0 n0 past d n seats was = record {
   all = λ id f. was.all id (sym (ap (λ (v : Life). v.standing) (life_off id Stops past refl)) ∙ f);
   dark = λ id f. ap (λ (v : Life). v.imaging) (life_off id Stops past refl) ∙ was.dark id (sym (ap (λ (v : Life). v.standing) (life_off id Stops past refl)) ∙ f);
   turned = λ j l f few. absurd (omega (arith, few));
+  due = λ j l f much. subst (λ (v : Life). IsDue v) (sym (life_off l.id.number Stops past refl)) (was.due j l f much);
   inside = was.inside;
   count = was.count;
 }
@@ -457,6 +484,7 @@ stands_full history d0 n0 past d n seats anew was all = record {
     all = λ id f. was.all id (sym (ap (λ (v : Life). v.standing) (life_off id Full past refl)) ∙ f);
     dark = λ id f. ap (λ (v : Life). v.imaging) (life_off id Full past refl) ∙ was.dark id (sym (ap (λ (v : Life). v.standing) (life_off id Full past refl)) ∙ f);
     turned = λ j l f few. absurd (omega (arith, few));
+    due = λ j l f much. subst (λ (v : Life). IsDue v) (sym (life_off l.id.number Full past refl)) (was.due j l f much);
     inside = was.inside;
     count = was.count;
   };

@@ -14,12 +14,12 @@ use Rattle.saned_serve.specs.Talk.{Talk, IsTold, after_read, after_write, moved,
 use Rattle.saned_serve.specs.Talk.Move.{Read, Write}
 use Rattle.saned_serve.specs.Ledger.{Ledger, noticed}
 use Rattle.saned_serve.specs.Ledger.Notice.{Dialed as Dials, Shut, Back}
-use Rattle.saned_serve.specs.Acts.{Act, Does, moves, leaves, opens, is_last, is_idle, is_over}
+use Rattle.saned_serve.specs.Acts.{Act, Does, IsTurned, written_by, moves, leaves, opens, is_last, is_idle, is_over}
 use Rattle.saned_serve.specs.Acts.Act.{Opens, Hears, Feed, Forgets, Take, Says, Looks, Misses, Connect, Turn, Shows, Lose, HangsUp, Leaves}
 use Rattle.saned_serve.specs.Story.{Deed, Life, no_life, no_bytes, is_of, after_act, after_deed, life_of, MayDo, noted_act, Extends, AreEnds, Closing, Leads, Tally, tally_of, after_tally, counted, has_stopped, has_asked, seated, IsDone, IsShown}
 use Rattle.saned_serve.specs.Story.Deed.{Of}
 use Rattle.saned_serve.specs.Goes.{Phase, IsAt, Carries, CarriesIn, Tells, Went, Goes, Attends, forgotten, SendsTo, SendsIn, hung_up, Ended, Parts}
-use Rattle.saned_serve.specs.Goes.Phase.{Fresh, Filled, Heard, Ready, Spoken, Dialed, Loaded, Shown}
+use Rattle.saned_serve.specs.Goes.Phase.{Fresh, Due, Filled, Heard, Ready, Spoken, Dialed, Loaded, Shown}
 use Rattle.saned_serve.specs.declared.link.Link.{Link}
 
 pub extends_then : (past mid story : List Deed) → Extends past mid → Extends mid story → Extends past story
@@ -262,19 +262,19 @@ pub goes_same : {C : Type 0} (history : C → Option Talk) (phase : Phase) (d : 
 goes_same history phase d n l = goes_rests history phase phase d n l l refl (λ life tells. tells)
 
 -- replies wait
-pub goes_fresh : {C : Type 0} (history : C → Option Talk) (d : Core) (n : Option Ledger) (l : Link C) → l.replies ≢ [] → Goes history Fresh Filled d n l false d n l
-goes_fresh history d n l some = goes_rests history Fresh Filled d n l l refl (λ life tells. tells_at tells (tells.at, λ none. absurd (some none)))
+pub goes_fresh : {C : Type 0} (history : C → Option Talk) (d : Core) (n : Option Ledger) (l : Link C) → l.replies ≢ [] → Goes history Due Filled d n l false d n l
+goes_fresh history d n l some = goes_rests history Due Filled d n l l refl (λ life tells. tells_at tells (tells.at.0, (λ none. absurd (some none)), tells.at.1))
 
 pub goes_waits : {C : Type 0} (history : C → Option Talk) (d : Core) (n : Option Ledger) (l : Link C) → l.replies ≢ [] → Goes history Filled Heard d n l false d n l
-goes_waits history d n l some = goes_rests history Filled Heard d n l l refl (λ life tells. tells_at tells ((λ done. absurd (not_both done tells.at.0)), inr some))
+goes_waits history d n l some = goes_rests history Filled Heard d n l l refl (λ life tells. tells_at tells ((λ done. absurd (not_both done tells.at.0)), inr some, tells.at.2.1, tells.at.2.2))
 
 pub goes_ready : {C : Type 0} (history : C → Option Talk) (d : Core) (n : Option Ledger) (l : Link C) → l.replies ≢ [] → Goes history Heard Ready d n l false d n l
-goes_ready history d n l some = goes_rests history Heard Ready d n l l refl (λ life tells. tells_at tells (tells.at.0, tells.at.1, λ none. absurd (some none)))
+goes_ready history d n l some = goes_rests history Heard Ready d n l l refl (λ life tells. tells_at tells (tells.at.0, tells.at.1, (λ none. absurd (some none)), tells.at.2, tells.at.3))
 
 -- ---- the control connection
 
 may_hear : {C : Type 0} (history : C → Option Talk) (life : Life) (l : Link C) (got : Got) (bytes : List ℕ) (stopped : Bool) → l.replies ≡ [] → Tells history Filled life l → MayDo (Hears got bytes) life stopped
-may_hear history life l got bytes stopped none tells = (tells.standing, tells.at.1 none, all_taken (taken_in life.control) l.replies life.said none tells.said, tells.heard)
+may_hear history life l got bytes stopped none tells = (tells.standing, tells.at.1 none, all_taken (taken_in life.control) l.replies life.said none tells.said, tells.heard, tells.at.2.0)
 
 -- what was read is fed
 heard_some : {C : Type 0} (history : C → Option Talk) (life : Life) (l : Link C) (c : C) (over : Bool) (count : ℕ) (buf : List ℕ) (fed : Fed) → history c ≡ after_read (Moved count) buf (history l.conn) → over ≡ (l.is_over || is_over fed)
@@ -292,7 +292,7 @@ heard_some history life l c over count buf fed told was tells =
       quiet = refl;
       held = λ alive. or_from (lost_in life.control) false (tells.held alive) refl;
       carries = carries_on history l.image l.is_last l.records life (after_act (Feed piece fed false) (after_act (Hears (Moved count) piece) life)) refl refl refl refl tells.carries;
-      at = ((λ done. absurd (not_both done tells.at.0)), inl refl);
+      at = ((λ done. absurd (not_both done tells.at.0)), inl refl, tells.at.2.1, refl);
     }
 
 -- and where a frame begins with that, the port is cleared
@@ -337,7 +337,7 @@ heard_none history got buf life l c done none told tells alive lost = record {
   quiet = tells.quiet;
   held = alive;
   carries = carries_on history l.image l.is_last l.records life (after_act (Hears got (take (moved got) buf)) life) refl refl refl refl tells.carries;
-  at = (lost, inl refl);
+  at = (lost, inl refl, tells.at.2.1, tells.at.2.2);
 }
 
 pub goes_silent : {C : Type 0} (history : C → Option Talk) (d : Core) (n : Option Ledger) (l : Link C) (c : C) (buf : List ℕ) → l.replies ≡ [] → history c ≡ after_read Nothing buf (history l.conn) → Goes history Filled Heard d n l false d n (record l { conn = c })
@@ -385,12 +385,12 @@ goes_takes history from to d n l e replies none does at = record {
       });
 }
 
-pub goes_fills : {C : Type 0} (history : C → Option Talk) (d : Core) (n : Option Ledger) (l : Link C) (e : Core) (replies : List ℕ) → l.replies ≡ [] → Does l.id.number d (Take 4096 replies) e → Goes history Fresh Filled d n l false e n (record l { replies = replies })
-goes_fills history d n l e replies none does = goes_takes history Fresh Filled d n l e replies none does (λ life at. (at, λ empty. ap no_bytes empty))
+pub goes_fills : {C : Type 0} (history : C → Option Talk) (d : Core) (n : Option Ledger) (l : Link C) (e : Core) (replies : List ℕ) → l.replies ≡ [] → Does l.id.number d (Take 4096 replies) e → Goes history Due Filled d n l false e n (record l { replies = replies })
+goes_fills history d n l e replies none does = goes_takes history Due Filled d n l e replies none does (λ life at. (at.0, (λ empty. ap no_bytes empty), at.1))
 
 pub goes_fills_again : {C : Type 0} (history : C → Option Talk) (d : Core) (n : Option Ledger) (l : Link C) (e : Core) (replies : List ℕ) → l.replies ≡ [] → Does l.id.number d (Take 4096 replies) e → Goes history Heard Ready d n l false e n (record l { replies = replies })
 goes_fills_again history d n l e replies none does =
-    goes_takes history Heard Ready d n l e replies none does (λ life at. (at.0, inl (visited life at.1), λ empty. ap no_bytes empty))
+    goes_takes history Heard Ready d n l e replies none does (λ life at. (at.0, inl (visited life at.1), (λ empty. ap no_bytes empty), at.2, at.3))
   where
     visited : (life : Life) → (life.visited ≡ true) ⊎ (l.replies ≢ []) → life.visited ≡ true
     visited life (inl seen) = seen
@@ -421,7 +421,7 @@ goes_finishes {C} history d n l none = goes_rests history Ready Spoken d n l (re
       quiet = tells.quiet;
       held = λ alive. tells.held (or_false_left l.is_done l.is_over alive);
       carries = tells.carries;
-      at = (why life tells l.is_done l.is_over refl refl, visited life tells.at.1, λ over. inl (or_right l.is_done l.is_over (tells.over ∙ over)));
+      at = ((why life tells l.is_done l.is_over refl refl, visited life tells.at.1, λ over. inl (or_right l.is_done l.is_over (tells.over ∙ over))), tells.at.4);
     }
       where
         or_false_left : (a b : Bool) → (a || b) ≡ false → a ≡ false
@@ -443,7 +443,7 @@ said_on history got life l c done some told tells alive lost = record {
   quiet = tells.quiet;
   held = alive;
   carries = carries_on history l.image l.is_last l.records life (after_act (Says got l.replies) life) refl refl refl refl tells.carries;
-  at = ((λ is. inl (lost is)), refl, λ over. inr (tells.waits some));
+  at = (((λ is. inl (lost is)), refl, λ over. inr (tells.waits some)), tells.at.4);
 }
 
 pub goes_says : {C : Type 0} (history : C → Option Talk) (d : Core) (n : Option Ledger) (l : Link C) (c : C) (count : ℕ) → l.replies ≢ [] → history c ≡ after_write (Moved count) l.replies (history l.conn)
@@ -452,7 +452,7 @@ goes_says history d n l c count some told = record {
   same = refl;
   goes = λ d0 n0 past leads tells.
       let life = life_of l.id.number past in
-      let first = trail_on (trail d0 n0 past d n l.id.number leads) (Says (Moved count) l.replies) d refl refl (tells.standing, some, tells.said) in
+      let first = trail_on (trail d0 n0 past d n l.id.number leads) (Says (Moved count) l.replies) d refl refl (tells.standing, some, tells.said, tells.at.3) in
       went Spoken (record l { conn = c; replies = drop count l.replies }) first
       (said_on history (Moved count) life l c l.is_done some told tells (λ alive. or_from (lost_in life.control) false (tells.held alive) refl) (λ done. or_left (lost_in life.control) false (tells.at.0 done)));
 }
@@ -463,7 +463,7 @@ goes_unsaid history d n l c some told = record {
   same = refl;
   goes = λ d0 n0 past leads tells.
       let life = life_of l.id.number past in
-      let first = trail_on (trail d0 n0 past d n l.id.number leads) (Says Nothing l.replies) d refl refl (tells.standing, some, tells.said) in
+      let first = trail_on (trail d0 n0 past d n l.id.number leads) (Says Nothing l.replies) d refl refl (tells.standing, some, tells.said, tells.at.3) in
       went Spoken (record l { conn = c; replies = drop 0 l.replies }) first
       (said_on history Nothing life l c l.is_done some told tells (λ alive. or_from (lost_in life.control) false (tells.held alive) refl) (λ done. or_left (lost_in life.control) false (tells.at.0 done)));
 }
@@ -474,7 +474,7 @@ goes_dies history d n l c some told = record {
   same = refl;
   goes = λ d0 n0 past leads tells.
       let life = life_of l.id.number past in
-      let first = trail_on (trail d0 n0 past d n l.id.number leads) (Says Lost l.replies) d refl refl (tells.standing, some, tells.said) in
+      let first = trail_on (trail d0 n0 past d n l.id.number leads) (Says Lost l.replies) d refl refl (tells.standing, some, tells.said, tells.at.3) in
       went Spoken (record l { conn = c; replies = drop 0 l.replies; is_done = true }) first
       (said_on history Lost life l c true some told tells (λ alive. absurd (let wrong : true ≡ false = alive in cc)) (λ done. or_right (lost_in life.control) true refl));
 }
@@ -510,8 +510,8 @@ none_waits true h = absurd (h refl)
 none_waits false h = refl
 
 -- whether the data had their part is told anew
-tells_dialed : {C : Type 0} {history : C → Option Talk} {life : Life} {l : Link C} (tended : Bool) → Tells history Spoken life l → (l.image ≡ None → tended ≡ true) → Tells history Dialed (record life { tended = tended }) l
-tells_dialed {C} {history} {life} {l} tended tells had = record {
+tells_dialed : {C : Type 0} {history : C → Option Talk} {life : Life} {l : Link C} (tended : Bool) → Tells history Spoken life l → l.image ≡ None → tended ≡ true → Tells history Dialed (record life { tended = tended }) l
+tells_dialed {C} {history} {life} {l} tended tells none had = record {
   standing = tells.standing;
   port = tells.port;
   over = tells.over;
@@ -522,12 +522,12 @@ tells_dialed {C} {history} {life} {l} tended tells had = record {
   quiet = tells.quiet;
   held = tells.held;
   carries = carries_on history l.image l.is_last l.records life (record life { tended = tended }) refl refl refl refl tells.carries;
-  at = (tells.at, had);
+  at = (tells.at.0, (λ off. had), λ some. let wrong : false ≡ true = sym (ap is_some none) ∙ some in absurd (let no = wrong in cc));
 }
 
 -- there is one
 pub goes_images : {C : Type 0} (history : C → Option Talk) (d : Core) (n : Option Ledger) (l : Link C) → is_some l.image ≡ true → Goes history Spoken Dialed d n l false d n l
-goes_images history d n l some = goes_rests history Spoken Dialed d n l l refl (λ life tells. tells_at tells (tells.at, λ none. let wrong : false ≡ true = sym (ap is_some none) ∙ some in absurd (let no = wrong in cc)))
+goes_images history d n l some = goes_rests history Spoken Dialed d n l l refl (λ life tells. tells_at tells (tells.at.0, (λ none. let wrong : false ≡ true = sym (ap is_some none) ∙ some in absurd (let no = wrong in cc)), λ is. tells.at.1))
 
 -- no frame waits
 pub goes_looks : {C : Type 0} (history : C → Option Talk) (d : Core) (n : Option Ledger) (l : Link C) (frame : FrameState) → l.image ≡ None → frame ≡ frame_in (session_of d l.id.number) → is_waiting frame ≡ false → Goes history Spoken Dialed d n l false d n l
@@ -536,8 +536,8 @@ goes_looks history d n l frame was is rests = record {
   goes = λ d0 n0 past leads tells.
       let life = life_of l.id.number past in
       let dark = subst (λ i. CarriesIn history i l.is_last l.records life) was tells.carries in
-      let first = trail_on (trail d0 n0 past d n l.id.number leads) (Looks frame) d refl (is, refl) (tells.standing, dark) in
-      went Dialed l first (tells_dialed (not (is_waiting frame)) tells (λ none. ap not rests));
+      let first = trail_on (trail d0 n0 past d n l.id.number leads) (Looks frame) d refl (is, refl) (tells.standing, dark, (tells.at.0.1, tells.at.1)) in
+      went Dialed l first (tells_dialed (not (is_waiting frame)) tells was (ap not rests));
 }
 
 -- one does, and none came
@@ -547,9 +547,9 @@ goes_misses history d n l m frame was is waits net = record {
   goes = λ d0 n0 past leads tells.
       let life = life_of l.id.number past in
       let dark = subst (λ i. CarriesIn history i l.is_last l.records life) was tells.carries in
-      let first = trail_on (trail d0 n0 past d n l.id.number leads) (Looks frame) d refl (is, refl) (tells.standing, dark) in
-      let then = trail_on first (Misses l.port) d refl (sym (ap is_waiting is) ∙ waits, refl) (tells.standing, dark, tells.port) in
-      subst (λ o. Went history Dialed d0 n0 past l.id.number false d o l) (sym net) (went Dialed l then (tells_dialed true tells (λ none. refl)));
+      let first = trail_on (trail d0 n0 past d n l.id.number leads) (Looks frame) d refl (is, refl) (tells.standing, dark, (tells.at.0.1, tells.at.1)) in
+      let then = trail_on first (Misses l.port) d refl (sym (ap is_waiting is) ∙ waits, refl) (tells.standing, dark, tells.port, (tells.at.0.1, ap not waits)) in
+      subst (λ o. Went history Dialed d0 n0 past l.id.number false d o l) (sym net) (went Dialed l then (tells_dialed true tells was refl));
 }
 
 -- one came
@@ -560,8 +560,8 @@ goes_dials {C} history d n l e m frame image records conn was is now none fresh 
   goes = λ d0 n0 past leads tells.
       let life = life_of l.id.number past in
       let dark = subst (λ i. CarriesIn history i l.is_last l.records life) was tells.carries in
-      let first = trail_on (trail d0 n0 past d n l.id.number leads) (Looks frame) d refl (is, refl) (tells.standing, dark) in
-      let then = trail_on first (Connect l.port) e refl does (tells.standing, dark, tells.port) in
+      let first = trail_on (trail d0 n0 past d n l.id.number leads) (Looks frame) d refl (is, refl) (tells.standing, dark, (tells.at.0.1, tells.at.1)) in
+      let then = trail_on first (Connect l.port) e refl does (tells.standing, dark, tells.port, (tells.at.0.1, ap not (ap is_waiting is ∙ does.waits))) in
       let after = after_act (Connect l.port) (after_act (Looks frame) life) in
       let carries : Carries (history conn) false records after = record { imaging = refl; told = fresh; shown = none; last = refl; more = λ wrong. absurd (let w : false ≡ true = wrong in cc); held = refl } in
       subst (λ o. Went history Dialed d0 n0 past l.id.number true e o (record l { image = image; records = records; is_last = false })) (sym net)
@@ -576,7 +576,7 @@ goes_dials {C} history d n l e m frame image records conn was is now none fresh 
         quiet = tells.quiet;
         held = tells.held;
         carries = subst (λ i. CarriesIn history i false records after) (sym now) carries;
-        at = (tells.at, λ off. absurd (let wrong : Some conn ≡ None = sym now ∙ off in cc));
+        at = (tells.at.0, (λ off. absurd (let wrong : Some conn ≡ None = sym now ∙ off in cc)), λ some. refl);
       }));
 }
 
@@ -589,6 +589,18 @@ only_idle : (b : Bool) → (b ≡ false → ⊥) → b ≡ true
 only_idle true h = refl
 only_idle false h = absurd (h refl)
 
+idle_none : (step : DataStep) (buffer : List ℕ) → is_idle step ≡ true → take (written_by step) buffer ≡ []
+idle_none Idle buffer e = refl
+idle_none (Bytes n) buffer e = cc
+idle_none (Last n) buffer e = cc
+
+never : (b : Bool) → (b ≡ true → ⊥) → b ≡ false
+never true h = absurd (h refl)
+never false h = refl
+
+not_idle : (step : DataStep) (records : List ℕ) {d e : Core} {number room : ℕ} → records ≢ [] → IsTurned d number room step records e → is_idle step ≡ false
+not_idle step records some turned = never (is_idle step) (λ idle. some (turned.front ∙ idle_none step turned.buffer idle))
+
 -- a record is taken where none waits
 goes_turns : {C : Type 0} (history : C → Option Talk) (d : Core) (n : Option Ledger) (l : Link C) (e : Core) (records : List ℕ) (last : Bool) (step : DataStep) (conn : C) → l.image ≡ Some conn → l.records ≡ [] → last ≡ is_last step → (is_idle step ≡ false → records ≢ []) → Does l.id.number d (Turn 65540 step records) e
     → Goes history Dialed Loaded d n l false e n (record l { records = records; is_last = last })
@@ -600,7 +612,7 @@ goes_turns history d n l e records last step conn was none ended some does = rec
       let alive = sym had.last ∙ none_waits l.is_last (λ b. had.more b none) in
       let all = all_taken (taken_in life.image) l.records life.shown none had.shown in
       let act = Turn 65540 step records in
-      let first = trail_on (trail d0 n0 past d n l.id.number leads) act e refl does (tells.standing, had.imaging, refl, alive, all) in
+      let first = trail_on (trail d0 n0 past d n l.id.number leads) act e refl does (tells.standing, had.imaging, refl, alive, all, (tells.at.0.1, tells.at.2 (ap is_some was))) in
       let after = after_act act life in
       let carries : Carries (history conn) last records after = record {
         imaging = had.imaging;
@@ -621,7 +633,7 @@ goes_turns history d n l e records last step conn was none ended some does = rec
         quiet = tells.quiet;
         held = tells.held;
         carries = subst (λ i. CarriesIn history i last records after) (sym was) carries;
-        at = (tells.at.0, (λ off. absurd (let wrong : Some conn ≡ None = sym was ∙ off in cc)), λ empty. only_idle (is_idle step) (λ off. some off empty));
+        at = (tells.at.0, (λ off. absurd (let wrong : Some conn ≡ None = sym was ∙ off in cc)), (λ empty. only_idle (is_idle step) (λ off. some off empty)), λ is. λ more. not_idle step records more does);
       });
 }
 
@@ -632,7 +644,7 @@ goes_records history d n l e records last step (Some conn) was some none ended m
 
 -- one waits
 pub goes_loaded : {C : Type 0} (history : C → Option Talk) (d : Core) (n : Option Ledger) (l : Link C) → l.records ≢ [] → Goes history Dialed Loaded d n l false d n l
-goes_loaded history d n l some = goes_rests history Dialed Loaded d n l l refl (λ life tells. tells_at tells (tells.at.0, tells.at.1, λ empty. absurd (some empty)))
+goes_loaded history d n l some = goes_rests history Dialed Loaded d n l l refl (λ life tells. tells_at tells (tells.at.0, tells.at.1, (λ empty. absurd (some empty)), λ is. λ more. tells.at.2 is))
 
 -- there is no data connection
 pub goes_dark : {C : Type 0} (history : C → Option Talk) (d : Core) (n : Option Ledger) (l : Link C) → l.image ≡ None → Goes history Dialed Shown d n l false d n l
@@ -695,7 +707,7 @@ goes_sent history got d n l k link s more held = record {
       let life = life_of l.id.number past in
       let had : Carries (history s.conn) l.is_last l.records life = subst (λ i. CarriesIn history i l.is_last l.records life) s.was tells.carries in
       let act = Shows got l.records in
-      let first = trail_on (trail d0 n0 past d n l.id.number leads) act d refl refl (tells.standing, had.imaging, s.some, had.shown) in
+      let first = trail_on (trail d0 n0 past d n l.id.number leads) act d refl refl (tells.standing, had.imaging, s.some, had.shown, (tells.at.0.1, tells.at.3 (ap is_some s.was) s.some)) in
       let carries = carries_sent history got l k life s had more (held (lost_in life.image) had.held) in
       let now = with_image history life (after_act act life) l k.image k.records tells refl refl (subst (λ i. CarriesIn history i l.is_last k.records (after_act act life)) (sym s.image) carries) in
       went Shown k first (subst (λ x. Tells history Shown (after_act act life) x) (sym link) now);
@@ -742,7 +754,7 @@ goes_shows_last {C} history d n l k j m count link sends last none gone net =
           let had : Carries (history s.conn) l.is_last l.records life = subst (λ i. CarriesIn history i l.is_last l.records life) s.was tells.carries in
           let act = Shows (Moved count) l.records in
           let life1 = after_act act life in
-          let first = trail_on (trail d0 n0 past d n l.id.number leads) act d refl refl (tells.standing, had.imaging, s.some, had.shown) in
+          let first = trail_on (trail d0 n0 past d n l.id.number leads) act d refl refl (tells.standing, had.imaging, s.some, had.shown, (tells.at.0.1, tells.at.3 (ap is_some s.was) s.some)) in
           let rest = rest_after (taken_in life.image) l.records life.shown count had.shown in
           let all = all_taken (taken_in life1.image) (drop count l.records) life.shown (sym s.rest ∙ none) rest in
           let told = told_write (Moved count) l.records (history s.conn) (history s.now) life.image s.told had.told in
@@ -766,7 +778,7 @@ goes_shows_lost {C} history d n l k j e m link sends does gone net =
           let act = Shows Lost l.records in
           let life1 = after_act act life in
           let life2 = after_act Lose life1 in
-          let first = trail_on (trail d0 n0 past d n l.id.number leads) act d refl refl (tells.standing, had.imaging, s.some, had.shown) in
+          let first = trail_on (trail d0 n0 past d n l.id.number leads) act d refl refl (tells.standing, had.imaging, s.some, had.shown, (tells.at.0.1, tells.at.3 (ap is_some s.was) s.some)) in
           let then = trail_on first Lose e refl does (tells.standing, had.imaging, or_right (lost_in life.image) true refl) in
           let told = told_write Lost l.records (history s.conn) (history s.now) life.image s.told had.told in
           let last = trail_on then (HangsUp (history s.now)) e refl refl (tells.standing, had.imaging, told, (drop 0 l.records, sym (rest_after (taken_in life.image) l.records life.shown 0 had.shown)), inl (inr (inl refl))) in

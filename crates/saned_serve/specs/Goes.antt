@@ -1,5 +1,5 @@
 -- What a turn of one session's connections adds to a story.
-use Rattle.std.specs.Prelude.{◌≡◌, ◌≢◌, ℕ, Bool, true, false, ◌||◌, cond, ◌⊎◌, ◌-◌, Option, None, Some, List, [], ◌++◌, drop}
+use Rattle.std.specs.Prelude.{◌≡◌, ◌≢◌, ℕ, Bool, true, false, ◌||◌, cond, ◌⊎◌, ◌-◌, Option, None, Some, is_some, List, [], ◌++◌, drop}
 use Rattle.saned_core.specs.declared.seat.Fed.{Fed}
 use Rattle.saned_core.specs.State.{Core}
 use Rattle.saned_serve.specs.declared.sockets.Got.{Got}
@@ -14,8 +14,10 @@ use Rattle.saned_serve.specs.declared.link.Link.{Link}
 
 -- how far a turn of a session is
 pub data Phase : Type 0 where
-  -- it begins
+  -- it is over, or did not begin
   Fresh : Phase
+  -- it begins
+  Due : Phase
   -- replies were asked for, where none waited
   Filled : Phase
   -- the control connection was read, or replies wait
@@ -34,14 +36,19 @@ pub data Phase : Type 0 where
 abbrev pub IsSpoken : {C : Type 0} → Life → Link C → Type 0
 IsSpoken life l = (l.is_done ≡ true → IsDone life) × (life.visited ≡ true) × (life.over ≡ true → l.is_done ≡ true ⊎ (life.drained ≡ false))
 
+-- it had no part of the turn
+abbrev pub IsDue : Life → Type 0
+IsDue life = (life.visited ≡ false) × (life.spoken ≡ false) × (life.tended ≡ false)
+
 abbrev pub IsAt : {C : Type 0} → Phase → Life → Link C → Type 0
 IsAt Fresh life l = l.is_done ≡ false
-IsAt Filled life l = (l.is_done ≡ false) × (l.replies ≡ [] → life.drained ≡ true)
-IsAt Heard life l = (l.is_done ≡ true → lost_in life.control ≡ true) × ((life.visited ≡ true) ⊎ (l.replies ≢ []))
-IsAt Ready life l = (l.is_done ≡ true → lost_in life.control ≡ true) × ((life.visited ≡ true) ⊎ (l.replies ≢ [])) × (l.replies ≡ [] → life.drained ≡ true)
-IsAt Spoken life l = IsSpoken life l
-IsAt Dialed life l = IsSpoken life l × (l.image ≡ None → life.tended ≡ true)
-IsAt Loaded life l = IsSpoken life l × (l.image ≡ None → life.tended ≡ true) × (l.records ≡ [] → life.tended ≡ true)
+IsAt Due life l = (l.is_done ≡ false) × IsDue life
+IsAt Filled life l = (l.is_done ≡ false) × (l.replies ≡ [] → life.drained ≡ true) × IsDue life
+IsAt Heard life l = (l.is_done ≡ true → lost_in life.control ≡ true) × ((life.visited ≡ true) ⊎ (l.replies ≢ [])) × (life.spoken ≡ false) × (life.tended ≡ false)
+IsAt Ready life l = (l.is_done ≡ true → lost_in life.control ≡ true) × ((life.visited ≡ true) ⊎ (l.replies ≢ [])) × (l.replies ≡ [] → life.drained ≡ true) × (life.spoken ≡ false) × (life.tended ≡ false)
+IsAt Spoken life l = IsSpoken life l × (life.tended ≡ false)
+IsAt Dialed life l = IsSpoken life l × (l.image ≡ None → life.tended ≡ true) × (is_some l.image ≡ true → life.tended ≡ false)
+IsAt Loaded life l = IsSpoken life l × (l.image ≡ None → life.tended ≡ true) × (l.records ≡ [] → life.tended ≡ true) × (is_some l.image ≡ true → l.records ≢ [] → life.tended ≡ false)
 IsAt Shown life l = IsSpoken life l × (life.tended ≡ true)
 
 -- a data connection was shown what its records had, but for those that wait, and is not lost

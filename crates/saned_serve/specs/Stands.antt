@@ -6,8 +6,8 @@ use Rattle.saned_serve.specs.Talk.{Talk}
 use Rattle.saned_serve.specs.Ledger.{Ledger}
 use Rattle.saned_serve.specs.Story.{Deed, life_of, Extends, Closing, Leads, tally_of, counted, no_life, has_stopped, has_asked, seated, MayAsk, most_sessions}
 use Rattle.saned_serve.specs.Story.Deed.{Turned, Stops}
-use Rattle.saned_serve.specs.Goes.{Tells, Goes, Parts}
-use Rattle.saned_serve.specs.Goes.Phase.{Fresh, Shown}
+use Rattle.saned_serve.specs.Goes.{Tells, Goes, Parts, IsDue}
+use Rattle.saned_serve.specs.Goes.Phase.{Fresh, Due, Shown}
 use Rattle.saned_serve.specs.declared.link.Link.{Link}
 use Rattle.saned_serve.specs.declared.seats.Seat.{Seat}
 use Rattle.saned_serve.specs.declared.serving.ServeEnd.{ServeEnd}
@@ -52,7 +52,7 @@ abbrev pub HadTurn : {C : Type 0} → List Deed → Link C → Type 0
 HadTurn story l = ((life_of l.id.number story).visited ≡ true) × ((life_of l.id.number story).over ≡ true → (life_of l.id.number story).drained ≡ false) × ((life_of l.id.number story).tended ≡ true)
 
 -- at most one session a seat, each session in one, each one's connections tell its life, and those of the first seats had
--- their turn
+-- their turn, and the others not
 pub record Stands {C : Type 0} (history : C → Option Talk) (d0 : Core) (n0 : Option Ledger) (story : List Deed) (d : Core) (n : Option Ledger) (had : ℕ) (seats : List (Seat C)) : Type 0 where
   pub leads : Leads d0 n0 story d n
   pub place : ℕ → ℕ
@@ -60,6 +60,7 @@ pub record Stands {C : Type 0} (history : C → Option Talk) (d0 : Core) (n0 : O
   pub all : (id : ℕ) → (life_of id story).standing ≡ true → (l : Link C) × (link_at seats (place id) ≡ Some l) × (l.id.number ≡ id)
   pub dark : (id : ℕ) → (life_of id story).standing ≡ false → (life_of id story).imaging ≡ false
   pub turned : (i : ℕ) (l : Link C) → link_at seats i ≡ Some l → i < had → HadTurn story l
+  pub due : (i : ℕ) (l : Link C) → link_at seats i ≡ Some l → had ≤ i → IsDue (life_of l.id.number story)
   pub inside : (i : ℕ) (l : Link C) → link_at seats i ≡ Some l → i < most_sessions
   pub count : seated story ≡ links_below most_sessions seats
 
@@ -104,7 +105,7 @@ abbrev pub Keeps : {C : Type 0} → (C → Option Talk) → Core → Option Ledg
 Keeps history d n None stir e m None = (e ≡ d) × (m ≡ n) × (stir ≡ false)
 Keeps history d n None stir e m (Some k) = ⊥
 Keeps history d n (Some l) stir e m None = ⊥
-Keeps history d n (Some l) stir e m (Some k) = Goes history Fresh Shown d n l stir e m k
+Keeps history d n (Some l) stir e m (Some k) = Goes history Due Shown d n l stir e m k
 
 -- a seat is empty afterwards
 abbrev pub Empties : {C : Type 0} → (C → Option Talk) → Core → Option Ledger → Option (Link C) → Core → Option Ledger → Type 0
@@ -123,7 +124,7 @@ IsSeated conn id port (Some l) = (l.conn ≡ conn) × (l.id ≡ id) × (l.port �
 
 abbrev pub IsMet : {C : Type 0} → (C → Option Talk) → List Deed → List Deed → ℕ → Option (Link C) → Type 0
 IsMet history past story id None = life_of id story ≡ life_of id past
-IsMet history past story id (Some l) = (l.id.number ≡ id) × (life_of id past ≡ no_life) × Tells history Fresh (life_of id story) l
+IsMet history past story id (Some l) = (l.id.number ≡ id) × (life_of id past ≡ no_life) × Tells history Fresh (life_of id story) l × IsDue (life_of id story)
 
 -- a new session's link, or none: a connection may have been refused
 pub record Met {C : Type 0} (history : C → Option Talk) (d0 : Core) (n0 : Option Ledger) (past : List Deed) (stir : Bool) (e : Core) (m : Option Ledger) (id : ℕ) (link : Option (Link C)) : Type 0 where

@@ -28,8 +28,9 @@ pub record Life : Type 0 where
   -- its control connection is not handed back, and its data port is this
   pub standing : Bool
   pub port : ℕ
-  -- its control connection was read or written in this turn
+  -- its control connection was read or written in this turn, and it was written
   pub visited : Bool
+  pub spoken : Bool
   -- the daemon told that it is over; and no replies were left when they were last asked for, behind the last feed
   pub over : Bool
   pub drained : Bool
@@ -51,7 +52,7 @@ pub record Life : Type 0 where
   pub tended : Bool
 
 abbrev pub no_life : Life
-no_life = record { standing = false; port = 0; visited = false; over = false; drained = false; begun = false; heard = []; said = []; control = []; imaging = false; shown = []; last = false; image = []; dropped = false; tended = false }
+no_life = record { standing = false; port = 0; visited = false; spoken = false; over = false; drained = false; begun = false; heard = []; said = []; control = []; imaging = false; shown = []; last = false; image = []; dropped = false; tended = false }
 
 abbrev pub no_bytes : List ℕ → Bool
 no_bytes [] = true
@@ -63,7 +64,7 @@ after_act (Hears got bytes) life = record life { visited = true; control = Read 
 after_act (Feed piece fed begins) life = record life { heard = life.heard ++ piece; over = life.over || is_over fed; drained = false; begun = begins; tended = false }
 after_act (Forgets port) life = record life { begun = false }
 after_act (Take room bytes) life = record life { said = life.said ++ bytes; drained = no_bytes bytes }
-after_act (Says got bytes) life = record life { visited = true; control = Write got bytes ∷ life.control }
+after_act (Says got bytes) life = record life { visited = true; spoken = true; control = Write got bytes ∷ life.control }
 after_act (Looks frame) life = record life { tended = not (is_waiting frame) }
 after_act (Misses port) life = record life { tended = true }
 after_act (Connect port) life = record life { imaging = true; shown = []; last = false; image = []; dropped = false; tended = false }
@@ -86,7 +87,7 @@ after_deed (Of number act) life = after_act act life
 after_deed Full life = life
 after_deed Waits life = life
 after_deed (Refuses port talk) life = life
-after_deed Turned life = record life { visited = false; tended = false }
+after_deed Turned life = record life { visited = false; spoken = false; tended = false }
 after_deed Stops life = life
 
 -- the life of a session in a story, which has its newest deed first
@@ -116,23 +117,28 @@ most_record = 65540
 abbrev pub IsFront : List ℕ → List ℕ → Type 0
 IsFront front text = (rest : List ℕ) × (text ≡ front ++ rest)
 
--- each act has its place: a control connection is read only where the daemon has no reply for it that is not written, and
+-- in this turn its control connection had its part, and its data not yet theirs
+abbrev pub IsNext : Life → Type 0
+IsNext life = (life.visited ≡ true) × (life.tended ≡ false)
+
+-- each act has its place: in a turn a control connection is read at most once and then written at most once, and then at most
+-- one record is offered to the data connection, or one is awaited; a control connection is read only where the daemon has no reply for it that is not written, and
 -- what it brought is fed at once; where a frame begins with that, the session's data port is cleared of connections that have
 -- ended before any reply is taken, and else never; what is taken of the daemon is written whole before more is taken; and a data
 -- connection is awaited at the session's own port. What a connection that is handed back was written is a front of the
 -- session's replies, or of its records
 abbrev pub MayDo : Act → Life → Bool → Type 0
 MayDo (Opens port) life stopped = life ≡ no_life
-MayDo (Hears got bytes) life stopped = (life.standing ≡ true) × (life.drained ≡ true) × (taken_in life.control ≡ life.said) × (read_in life.control ≡ life.heard)
+MayDo (Hears got bytes) life stopped = (life.standing ≡ true) × (life.drained ≡ true) × (taken_in life.control ≡ life.said) × (read_in life.control ≡ life.heard) × (life.visited ≡ false)
 MayDo (Feed piece fed begins) life stopped = (life.standing ≡ true) × (life.heard ++ piece ≡ read_in life.control)
 MayDo (Forgets port) life stopped = (life.standing ≡ true) × (life.begun ≡ true) × (port ≡ life.port)
 MayDo (Take room bytes) life stopped = (life.standing ≡ true) × (life.begun ≡ false) × (room ≡ most_reply) × (taken_in life.control ≡ life.said)
-MayDo (Says got bytes) life stopped = (life.standing ≡ true) × (bytes ≢ []) × (taken_in life.control ++ bytes ≡ life.said)
-MayDo (Looks frame) life stopped = (life.standing ≡ true) × (life.imaging ≡ false)
-MayDo (Misses port) life stopped = (life.standing ≡ true) × (life.imaging ≡ false) × (port ≡ life.port)
-MayDo (Connect port) life stopped = (life.standing ≡ true) × (life.imaging ≡ false) × (port ≡ life.port)
-MayDo (Turn room step bytes) life stopped = (life.standing ≡ true) × (life.imaging ≡ true) × (room ≡ most_record) × (life.last ≡ false) × (taken_in life.image ≡ life.shown)
-MayDo (Shows got bytes) life stopped = (life.standing ≡ true) × (life.imaging ≡ true) × (bytes ≢ []) × (taken_in life.image ++ bytes ≡ life.shown)
+MayDo (Says got bytes) life stopped = (life.standing ≡ true) × (bytes ≢ []) × (taken_in life.control ++ bytes ≡ life.said) × (life.spoken ≡ false)
+MayDo (Looks frame) life stopped = (life.standing ≡ true) × (life.imaging ≡ false) × IsNext life
+MayDo (Misses port) life stopped = (life.standing ≡ true) × (life.imaging ≡ false) × (port ≡ life.port) × IsNext life
+MayDo (Connect port) life stopped = (life.standing ≡ true) × (life.imaging ≡ false) × (port ≡ life.port) × IsNext life
+MayDo (Turn room step bytes) life stopped = (life.standing ≡ true) × (life.imaging ≡ true) × (room ≡ most_record) × (life.last ≡ false) × (taken_in life.image ≡ life.shown) × IsNext life
+MayDo (Shows got bytes) life stopped = (life.standing ≡ true) × (life.imaging ≡ true) × (bytes ≢ []) × (taken_in life.image ++ bytes ≡ life.shown) × IsNext life
 MayDo Lose life stopped = (life.standing ≡ true) × (life.imaging ≡ true) × (lost_in life.image ≡ true)
 MayDo (HangsUp talk) life stopped = (life.standing ≡ true) × (life.imaging ≡ true) × IsTold talk life.image × IsFront (taken_in life.image) life.shown × (IsShown life ⊎ (stopped ≡ true))
 MayDo (Leaves port talk) life stopped = (life.standing ≡ true) × (life.imaging ≡ false) × (port ≡ life.port) × IsTold talk life.control × (read_in life.control ≡ life.heard) × IsFront (taken_in life.control) life.said × (IsDone life ⊎ (stopped ≡ true))

@@ -6,7 +6,7 @@ ghost use Rattle.saned_serve.specs.Ledger.{Ledger, noticed};
 ghost use Rattle.saned_serve.specs.Ledger.Notice.{Back};
 ghost use Rattle.saned_serve.specs.Acts.{is_over};
 ghost use Rattle.saned_serve.specs.Goes.{Goes, Attends, Sends, Parts, hung_up};
-ghost use Rattle.saned_serve.specs.Goes.Phase.{Fresh, Filled, Heard, Ready, Spoken, Dialed, Loaded, Shown};
+ghost use Rattle.saned_serve.specs.Goes.Phase.{Due, Filled, Heard, Ready, Spoken, Dialed, Loaded, Shown};
 
 use crate::pending::{Pending, is_end};
 use crate::{Got, Listeners, Socket};
@@ -111,7 +111,7 @@ fn hear<D: Device, L: Listeners>(
 
 /// Takes replies where none wait.
 fn fill_replies<D: Device, C: Socket>(daemon: &mut Daemon<D>, link: &mut Link<C>)
-    ensures first { (n : Option Ledger) → Goes C.history Fresh Filled (core D.state daemon.old) n link.old false (core D.state daemon.new) n link.new }
+    ensures first { (n : Option Ledger) → Goes C.history Due Filled (core D.state daemon.old) n link.old false (core D.state daemon.new) n link.new }
     ensures again { (n : Option Ledger) → Goes C.history Heard Ready (core D.state daemon.old) n link.old false (core D.state daemon.new) n link.new }
 {
     if link.replies.is_empty() {
@@ -127,7 +127,7 @@ fn listen<D: Device, L: Listeners>(
     net: &mut L,
     link: &mut Link<L::Conn>,
 ) -> bool
-    ensures { Goes L.Conn.history Fresh Heard (core D.state daemon.old) (L.ledger net.old) link.old result (core D.state daemon.new) (L.ledger net.new) link.new }
+    ensures { Goes L.Conn.history Due Heard (core D.state daemon.old) (L.ledger net.old) link.old result (core D.state daemon.new) (L.ledger net.new) link.new }
 {
     fill_replies(daemon, link);
     if link.replies.is_empty() {
@@ -268,7 +268,7 @@ pub fn converse<D: Device, L: Listeners>(
     net: &mut L,
     link: &mut Link<L::Conn>,
 ) -> bool
-    ensures { Goes L.Conn.history Fresh Shown (core D.state daemon.old) (L.ledger net.old) link.old result (core D.state daemon.new) (L.ledger net.new) link.new }
+    ensures { Goes L.Conn.history Due Shown (core D.state daemon.old) (L.ledger net.old) link.old result (core D.state daemon.new) (L.ledger net.new) link.new }
 {
     let has_heard = listen(alloc, daemon, net, link);
     let has_spoken = speak(daemon, link);
