@@ -16,7 +16,8 @@ pub data Act : Type 0 where
   Opens : (port : ℕ) → Act
   -- one read of the control connection
   Hears : (got : Got) (bytes : List ℕ) → Act
-  -- a piece is fed, this became of the session, and a frame that waits for its data connection began with it, or none
+  -- a piece is fed, this became of the session, and a frame that waits for its data connection
+  -- began with it, or none
   Feed : (piece : List ℕ) (fed : Fed) (begins : Bool) → Act
   -- connections at that data port that have ended are forgotten
   Forgets : (port : ℕ) → Act
@@ -86,7 +87,8 @@ pub record IsConnected (d : Core) (number : ℕ) (e : Core) : Type 0 where
   pub waits : is_waiting (frame_in (session_of d number)) ≡ true
   pub after : e ≡ record d { seats = on_seat (on_session after_connected) number d.seats }
 
--- one record of what the device read, or the end record, stands at the start of a buffer of so many bytes
+-- one record of what the device read, or the end record, stands at the start of a buffer of so
+-- many bytes
 pub record IsTurned (d : Core) (number room : ℕ) (step : DataStep) (bytes : List ℕ) (e : Core) : Type 0 where
   pub buffer : List ℕ
   pub size : length buffer ≡ room

@@ -34,7 +34,10 @@ pub data Phase : Type 0 where
   Shown : Phase
 
 abbrev pub IsSpoken : {C : Type 0} → Life → Link C → Type 0
-IsSpoken life l = (l.is_done ≡ true → IsDone life) × (life.visited ≡ true) × (life.over ≡ true → l.is_done ≡ true ⊎ (life.drained ≡ false))
+IsSpoken life l =
+    (l.is_done ≡ true → IsDone life)
+    × (life.visited ≡ true)
+    × (life.over ≡ true → l.is_done ≡ true ⊎ (life.drained ≡ false))
 
 -- it had no part of the turn
 abbrev pub IsDue : Life → Type 0
@@ -44,11 +47,27 @@ abbrev pub IsAt : {C : Type 0} → Phase → Life → Link C → Type 0
 IsAt Fresh life l = l.is_done ≡ false
 IsAt Due life l = (l.is_done ≡ false) × IsDue life
 IsAt Filled life l = (l.is_done ≡ false) × (l.replies ≡ [] → life.drained ≡ true) × IsDue life
-IsAt Heard life l = (l.is_done ≡ true → lost_in life.control ≡ true) × ((life.visited ≡ true) ⊎ (l.replies ≢ [])) × (life.spoken ≡ false) × (life.tended ≡ false)
-IsAt Ready life l = (l.is_done ≡ true → lost_in life.control ≡ true) × ((life.visited ≡ true) ⊎ (l.replies ≢ [])) × (l.replies ≡ [] → life.drained ≡ true) × (life.spoken ≡ false) × (life.tended ≡ false)
+IsAt Heard life l =
+    (l.is_done ≡ true → lost_in life.control ≡ true)
+    × ((life.visited ≡ true) ⊎ (l.replies ≢ []))
+    × (life.spoken ≡ false)
+    × (life.tended ≡ false)
+IsAt Ready life l =
+    (l.is_done ≡ true → lost_in life.control ≡ true)
+    × ((life.visited ≡ true) ⊎ (l.replies ≢ []))
+    × (l.replies ≡ [] → life.drained ≡ true)
+    × (life.spoken ≡ false)
+    × (life.tended ≡ false)
 IsAt Spoken life l = IsSpoken life l × (life.tended ≡ false)
-IsAt Dialed life l = IsSpoken life l × (l.image ≡ None → life.tended ≡ true) × (is_some l.image ≡ true → life.tended ≡ false)
-IsAt Loaded life l = IsSpoken life l × (l.image ≡ None → life.tended ≡ true) × (l.records ≡ [] → life.tended ≡ true) × (is_some l.image ≡ true → l.records ≢ [] → life.tended ≡ false)
+IsAt Dialed life l =
+    IsSpoken life l
+    × (l.image ≡ None → life.tended ≡ true)
+    × (is_some l.image ≡ true → life.tended ≡ false)
+IsAt Loaded life l =
+    IsSpoken life l
+    × (l.image ≡ None → life.tended ≡ true)
+    × (l.records ≡ [] → life.tended ≡ true)
+    × (is_some l.image ≡ true → l.records ≢ [] → life.tended ≡ false)
 IsAt Shown life l = IsSpoken life l × (life.tended ≡ true)
 
 -- a data connection was shown what its records had, but for those that wait, and is not lost
@@ -138,8 +157,8 @@ pub record Ended (d0 : Core) (n0 : Option Ledger) (past : List Deed) (id : ℕ) 
   pub asked : has_asked story ≡ has_asked past
   pub crowd : seated story ≡ seated past - 1
 
--- whatever came before, where the session may be left or all turns are over, all connections of the link are handed back, and
--- that alone is done
+-- whatever came before, where the session may be left or all turns are over, all connections of
+-- the link are handed back, and that alone is done
 pub record Parts {C : Type 0} (history : C → Option Talk) (d : Core) (n : Option Ledger) (l : Link C) (e : Core) (m : Option Ledger) : Type 0 where
   pub goes : (phase : Phase) (d0 : Core) (n0 : Option Ledger) (past : List Deed) → Leads d0 n0 past d n → Tells history phase (life_of l.id.number past) l
       → IsDone (life_of l.id.number past) ⊎ (has_stopped past ≡ true)

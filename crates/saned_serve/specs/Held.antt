@@ -23,7 +23,8 @@ held_at [] k = []
 held_at (seat ∷ seats) zero = held_in seat
 held_at (seat ∷ seats) (suc k) = held_at seats k
 
--- what a session's words stand for are leases of the table, of devices of their own, and no other session has one of these
+-- what a session's words stand for are leases of the table, of devices of their own, and no other
+-- session has one of these
 pub record AreHeldApart (t : Table) (seats : List (Option (Seat DeviceState))) : Type 0 where
   pub sound : IsSound t
   pub own : (k : ℕ) → HoldsWell t (held_at seats k)

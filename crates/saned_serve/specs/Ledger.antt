@@ -7,7 +7,8 @@ pub data Notice : Type 0 where
   Asked : (came : Bool) → Notice
   -- a data port was asked for
   Port : (port : Option ℕ) → Notice
-  -- a frame begins that will wait at that port: connections there that had ended were to be forgotten
+  -- a frame begins that will wait at that port: connections there that had ended were to be
+  -- forgotten
   Forgot : (port : ℕ) → Notice
   -- a data connection at that port was asked for, and came or did not
   Dialed : (port : ℕ) (came : Bool) → Notice

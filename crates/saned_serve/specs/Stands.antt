@@ -38,21 +38,32 @@ links_below (suc n) seats = one_link (link_at seats n) + links_below n seats
 abbrev pub most_turns : ℕ
 most_turns = 1099511627776
 
--- why the turns ended: as many sessions left as were to be served (0: no such end), and fewer than a turn's seats more; or
--- not yet as many, and nothing moved in as many turns in a row as were to be waited; or not that either, and all turns were
--- taken; or there was no memory, and no turn
+-- why the turns ended: as many sessions left as were to be served (0: no such end), and fewer than
+-- a turn's seats more; or not yet as many, and nothing moved in as many turns in a row as were to
+-- be waited; or not that either, and all turns were taken; or there was no memory, and no turn
 abbrev pub EndsBy : ServeEnd → ℕ → ℕ → List Deed → Type 0
-EndsBy Sessions sessions waits turns = (0 < sessions) × (sessions ≤ (tally_of turns).left) × ((tally_of turns).left < sessions + most_sessions)
-EndsBy Idle sessions waits turns = (0 < sessions → (tally_of turns).left < sessions) × (waits ≤ (tally_of turns).idle)
-EndsBy Turns sessions waits turns = (0 < sessions → (tally_of turns).left < sessions) × ((tally_of turns).idle < waits) × ((tally_of turns).turns ≡ most_turns)
+EndsBy Sessions sessions waits turns =
+    (0 < sessions)
+    × (sessions ≤ (tally_of turns).left)
+    × ((tally_of turns).left < sessions + most_sessions)
+EndsBy Idle sessions waits turns =
+    (0 < sessions → (tally_of turns).left < sessions)
+    × (waits ≤ (tally_of turns).idle)
+EndsBy Turns sessions waits turns =
+    (0 < sessions → (tally_of turns).left < sessions)
+    × ((tally_of turns).idle < waits)
+    × ((tally_of turns).turns ≡ most_turns)
 EndsBy NoMem sessions waits turns = turns ≡ []
 
 -- a session had its turn, and is not to be left
 abbrev pub HadTurn : {C : Type 0} → List Deed → Link C → Type 0
-HadTurn story l = ((life_of l.id.number story).visited ≡ true) × ((life_of l.id.number story).over ≡ true → (life_of l.id.number story).drained ≡ false) × ((life_of l.id.number story).tended ≡ true)
+HadTurn story l =
+    ((life_of l.id.number story).visited ≡ true)
+    × ((life_of l.id.number story).over ≡ true → (life_of l.id.number story).drained ≡ false)
+    × ((life_of l.id.number story).tended ≡ true)
 
--- at most one session a seat, each session in one, each one's connections tell its life, and those of the first seats had
--- their turn, and the others not
+-- at most one session a seat, each session in one, each one's connections tell its life, and those
+-- of the first seats had their turn, and the others not
 pub record Stands {C : Type 0} (history : C → Option Talk) (d0 : Core) (n0 : Option Ledger) (story : List Deed) (d : Core) (n : Option Ledger) (had : ℕ) (seats : List (Seat C)) : Type 0 where
   pub leads : Leads d0 n0 story d n
   pub place : ℕ → ℕ
@@ -64,8 +75,8 @@ pub record Stands {C : Type 0} (history : C → Option Talk) (d0 : Core) (n0 : O
   pub inside : (i : ℕ) (l : Link C) → link_at seats i ≡ Some l → i < most_sessions
   pub count : seated story ≡ links_below most_sessions seats
 
--- the story went on in a turn in which a control connection was asked for, or eight sessions stood; so many left, and
--- something moved or not
+-- the story went on in a turn in which a control connection was asked for, or eight sessions
+-- stood; so many left, and something moved or not
 pub record WentOn {C : Type 0} (history : C → Option Talk) (d0 : Core) (n0 : Option Ledger) (past : List Deed) (left : ℕ) (stir : Bool) (e : Core) (m : Option Ledger) (had : ℕ) (seats : List (Seat C)) : Type 0 where
   pub story : List Deed
   pub more : Extends past story
@@ -120,11 +131,22 @@ IsLeft has_left (Some l) = has_left ≡ l.is_done
 -- a new session's link
 abbrev pub IsSeated : {C : Type 0} → C → SessionId → ℕ → Option (Link C) → Type 0
 IsSeated conn id port None = ⊥
-IsSeated conn id port (Some l) = (l.conn ≡ conn) × (l.id ≡ id) × (l.port ≡ port) × (l.replies ≡ []) × (l.image ≡ None) × (l.is_over ≡ false) × (l.is_done ≡ false)
+IsSeated conn id port (Some l) =
+    (l.conn ≡ conn)
+    × (l.id ≡ id)
+    × (l.port ≡ port)
+    × (l.replies ≡ [])
+    × (l.image ≡ None)
+    × (l.is_over ≡ false)
+    × (l.is_done ≡ false)
 
 abbrev pub IsMet : {C : Type 0} → (C → Option Talk) → List Deed → List Deed → ℕ → Option (Link C) → Type 0
 IsMet history past story id None = life_of id story ≡ life_of id past
-IsMet history past story id (Some l) = (l.id.number ≡ id) × (life_of id past ≡ no_life) × Tells history Fresh (life_of id story) l × IsDue (life_of id story)
+IsMet history past story id (Some l) =
+    (l.id.number ≡ id)
+    × (life_of id past ≡ no_life)
+    × Tells history Fresh (life_of id story) l
+    × IsDue (life_of id story)
 
 -- a new session's link, or none: a connection may have been refused
 pub record Met {C : Type 0} (history : C → Option Talk) (d0 : Core) (n0 : Option Ledger) (past : List Deed) (stir : Bool) (e : Core) (m : Option Ledger) (id : ℕ) (link : Option (Link C)) : Type 0 where
@@ -152,8 +174,8 @@ pub record Closes (d0 : Core) (n0 : Option Ledger) (past : List Deed) (e : Core)
   pub leads : Leads d0 n0 story e m
   pub over : IsOver story
 
--- what a server's whole run did: its turns, and then nothing but the end of all that still stood; nothing where there was
--- no memory
+-- what a server's whole run did: its turns, and then nothing but the end of all that still stood;
+-- nothing where there was no memory
 pub record Served (d : Core) (before : Option Ledger) (e : Core) (after : Option Ledger) (end : ServeEnd) (sessions waits : ℕ) : Type 0 where
   pub turns : List Deed
   pub story : List Deed

@@ -1,4 +1,5 @@
--- What a server does, as one list: each call of the daemon, of a connection and of the listeners, in order.
+-- What a server does, as one list: each call of the daemon, of a connection and of the listeners,
+-- in order.
 use Rattle.std.specs.Prelude.{◌≡◌, ◌≢◌, ℕ, ◌+◌, ◌-◌, ◌≤◌, ◌<◌, Bool, true, false, not, ◌||◌, cond, eqb, Option, None, Some, List, [], ◌∷◌, ◌++◌, ◌⊎◌}
 use Rattle.saned_core.specs.State.{Core, is_closed, is_waiting}
 use Rattle.saned_serve.specs.Talk.{Talk, read_in, taken_in, lost_in, IsTold}
@@ -31,7 +32,8 @@ pub record Life : Type 0 where
   -- its control connection was read or written in this turn, and it was written
   pub visited : Bool
   pub spoken : Bool
-  -- the daemon told that it is over; and no replies were left when they were last asked for, behind the last feed
+  -- the daemon told that it is over; and no replies were left when they were last asked for,
+  -- behind the last feed
   pub over : Bool
   pub drained : Bool
   -- a frame began with the last piece that was fed, and the listeners were not told yet
@@ -42,17 +44,35 @@ pub record Life : Type 0 where
   pub control : Talk
   -- its data connection is not handed back
   pub imaging : Bool
-  -- all records taken for that, the end record is among them, the calls of it, and the daemon was told its loss
+  -- all records taken for that, the end record is among them, the calls of it, and the daemon was
+  -- told its loss
   pub shown : List ℕ
   pub last : Bool
   pub image : Talk
   pub dropped : Bool
-  -- behind what was fed last in this turn the data had their part of it: of a data connection, a record was offered or there
-  -- was none; else none was awaited, or none came
+  -- behind what was fed last in this turn the data had their part of it: of a data connection, a
+  -- record was offered or there was none; else none was awaited, or none came
   pub tended : Bool
 
 abbrev pub no_life : Life
-no_life = record { standing = false; port = 0; visited = false; spoken = false; over = false; drained = false; begun = false; heard = []; said = []; control = []; imaging = false; shown = []; last = false; image = []; dropped = false; tended = false }
+no_life = record {
+  standing = false;
+  port = 0;
+  visited = false;
+  spoken = false;
+  over = false;
+  drained = false;
+  begun = false;
+  heard = [];
+  said = [];
+  control = [];
+  imaging = false;
+  shown = [];
+  last = false;
+  image = [];
+  dropped = false;
+  tended = false;
+}
 
 abbrev pub no_bytes : List ℕ → Bool
 no_bytes [] = true
@@ -60,16 +80,46 @@ no_bytes (byte ∷ bytes) = false
 
 abbrev pub after_act : Act → Life → Life
 after_act (Opens port) life = record no_life { standing = true; port = port }
-after_act (Hears got bytes) life = record life { visited = true; control = Read got bytes ∷ life.control }
-after_act (Feed piece fed begins) life = record life { heard = life.heard ++ piece; over = life.over || is_over fed; drained = false; begun = begins; tended = false }
+after_act (Hears got bytes) life = record life {
+  visited = true;
+  control = Read got bytes ∷ life.control;
+}
+after_act (Feed piece fed begins) life = record life {
+  heard = life.heard ++ piece;
+  over = life.over || is_over fed;
+  drained = false;
+  begun = begins;
+  tended = false;
+}
 after_act (Forgets port) life = record life { begun = false }
-after_act (Take room bytes) life = record life { said = life.said ++ bytes; drained = no_bytes bytes }
-after_act (Says got bytes) life = record life { visited = true; spoken = true; control = Write got bytes ∷ life.control }
+after_act (Take room bytes) life = record life {
+  said = life.said ++ bytes;
+  drained = no_bytes bytes;
+}
+after_act (Says got bytes) life = record life {
+  visited = true;
+  spoken = true;
+  control = Write got bytes ∷ life.control;
+}
 after_act (Looks frame) life = record life { tended = not (is_waiting frame) }
 after_act (Misses port) life = record life { tended = true }
-after_act (Connect port) life = record life { imaging = true; shown = []; last = false; image = []; dropped = false; tended = false }
-after_act (Turn room step bytes) life = record life { shown = life.shown ++ bytes; last = life.last || is_last step; tended = is_idle step }
-after_act (Shows got bytes) life = record life { image = Write got bytes ∷ life.image; tended = true }
+after_act (Connect port) life = record life {
+  imaging = true;
+  shown = [];
+  last = false;
+  image = [];
+  dropped = false;
+  tended = false;
+}
+after_act (Turn room step bytes) life = record life {
+  shown = life.shown ++ bytes;
+  last = life.last || is_last step;
+  tended = is_idle step;
+}
+after_act (Shows got bytes) life = record life {
+  image = Write got bytes ∷ life.image;
+  tended = true;
+}
 after_act Lose life = record life { dropped = true }
 after_act (HangsUp talk) life = record life { imaging = false }
 after_act (Leaves port talk) life = record life { standing = false }
@@ -97,14 +147,19 @@ life_of id (deed ∷ past) = cond (is_of deed id) (after_deed deed (life_of id p
 
 -- ---- what may be done
 
--- why a session may be left: its control connection was found lost, or it is over and all its replies are written
+-- why a session may be left: its control connection was found lost, or it is over and all its
+-- replies are written
 abbrev pub IsDone : Life → Type 0
-IsDone life = (lost_in life.control ≡ true) ⊎ ((life.over ≡ true) × (life.drained ≡ true) × (taken_in life.control ≡ life.said))
+IsDone life =
+    (lost_in life.control ≡ true)
+    ⊎ ((life.over ≡ true) × (life.drained ≡ true) × (taken_in life.control ≡ life.said))
 
--- why a data connection may be handed back: its end record is written, the daemon was told that it is lost, or the
--- session may be left
+-- why a data connection may be handed back: its end record is written, the daemon was told that it
+-- is lost, or the session may be left
 abbrev pub IsShown : Life → Type 0
-IsShown life = ((life.last ≡ true) × (taken_in life.image ≡ life.shown)) ⊎ ((life.dropped ≡ true) ⊎ IsDone life)
+IsShown life =
+    ((life.last ≡ true) × (taken_in life.image ≡ life.shown))
+    ⊎ ((life.dropped ≡ true) ⊎ IsDone life)
 
 -- the room for replies, and for a record and its length
 abbrev pub most_reply : ℕ
@@ -121,30 +176,85 @@ IsFront front text = (rest : List ℕ) × (text ≡ front ++ rest)
 abbrev pub IsNext : Life → Type 0
 IsNext life = (life.visited ≡ true) × (life.tended ≡ false)
 
--- each act has its place: in a turn a control connection is read at most once and then written at most once, and then at most
--- one record is offered to the data connection, or one is awaited; a control connection is read only where the daemon has no reply for it that is not written, and
--- what it brought is fed at once; where a frame begins with that, the session's data port is cleared of connections that have
--- ended before any reply is taken, and else never; what is taken of the daemon is written whole before more is taken; and a data
--- connection is awaited at the session's own port. What a connection that is handed back was written is a front of the
+-- each act has its place: in a turn a control connection is read at most once and then written at
+-- most once, and then at most one record is offered to the data connection, or one is awaited; a
+-- control connection is read only where the daemon has no reply for it that is not written, and
+-- what it brought is fed at once; where a frame begins with that, the session's data port is
+-- cleared of connections that have ended before any reply is taken, and else never; what is taken
+-- of the daemon is written whole before more is taken; and a data connection is awaited at the
+-- session's own port. What a connection that is handed back was written is a front of the
 -- session's replies, or of its records
 abbrev pub MayDo : Act → Life → Bool → Type 0
 MayDo (Opens port) life stopped = life ≡ no_life
-MayDo (Hears got bytes) life stopped = (life.standing ≡ true) × (life.drained ≡ true) × (taken_in life.control ≡ life.said) × (read_in life.control ≡ life.heard) × (life.visited ≡ false)
-MayDo (Feed piece fed begins) life stopped = (life.standing ≡ true) × (life.heard ++ piece ≡ read_in life.control)
-MayDo (Forgets port) life stopped = (life.standing ≡ true) × (life.begun ≡ true) × (port ≡ life.port)
-MayDo (Take room bytes) life stopped = (life.standing ≡ true) × (life.begun ≡ false) × (room ≡ most_reply) × (taken_in life.control ≡ life.said)
-MayDo (Says got bytes) life stopped = (life.standing ≡ true) × (bytes ≢ []) × (taken_in life.control ++ bytes ≡ life.said) × (life.spoken ≡ false)
+MayDo (Hears got bytes) life stopped =
+    (life.standing ≡ true)
+    × (life.drained ≡ true)
+    × (taken_in life.control ≡ life.said)
+    × (read_in life.control ≡ life.heard)
+    × (life.visited ≡ false)
+MayDo (Feed piece fed begins) life stopped =
+    (life.standing ≡ true)
+    × (life.heard ++ piece ≡ read_in life.control)
+MayDo (Forgets port) life stopped =
+    (life.standing ≡ true)
+    × (life.begun ≡ true)
+    × (port ≡ life.port)
+MayDo (Take room bytes) life stopped =
+    (life.standing ≡ true)
+    × (life.begun ≡ false)
+    × (room ≡ most_reply)
+    × (taken_in life.control ≡ life.said)
+MayDo (Says got bytes) life stopped =
+    (life.standing ≡ true)
+    × (bytes ≢ [])
+    × (taken_in life.control ++ bytes ≡ life.said)
+    × (life.spoken ≡ false)
 MayDo (Looks frame) life stopped = (life.standing ≡ true) × (life.imaging ≡ false) × IsNext life
-MayDo (Misses port) life stopped = (life.standing ≡ true) × (life.imaging ≡ false) × (port ≡ life.port) × IsNext life
-MayDo (Connect port) life stopped = (life.standing ≡ true) × (life.imaging ≡ false) × (port ≡ life.port) × IsNext life
-MayDo (Turn room step bytes) life stopped = (life.standing ≡ true) × (life.imaging ≡ true) × (room ≡ most_record) × (life.last ≡ false) × (taken_in life.image ≡ life.shown) × IsNext life
-MayDo (Shows got bytes) life stopped = (life.standing ≡ true) × (life.imaging ≡ true) × (bytes ≢ []) × (taken_in life.image ++ bytes ≡ life.shown) × IsNext life
-MayDo Lose life stopped = (life.standing ≡ true) × (life.imaging ≡ true) × (lost_in life.image ≡ true)
-MayDo (HangsUp talk) life stopped = (life.standing ≡ true) × (life.imaging ≡ true) × IsTold talk life.image × IsFront (taken_in life.image) life.shown × (IsShown life ⊎ (stopped ≡ true))
-MayDo (Leaves port talk) life stopped = (life.standing ≡ true) × (life.imaging ≡ false) × (port ≡ life.port) × IsTold talk life.control × (read_in life.control ≡ life.heard) × IsFront (taken_in life.control) life.said × (IsDone life ⊎ (stopped ≡ true))
+MayDo (Misses port) life stopped =
+    (life.standing ≡ true)
+    × (life.imaging ≡ false)
+    × (port ≡ life.port)
+    × IsNext life
+MayDo (Connect port) life stopped =
+    (life.standing ≡ true)
+    × (life.imaging ≡ false)
+    × (port ≡ life.port)
+    × IsNext life
+MayDo (Turn room step bytes) life stopped =
+    (life.standing ≡ true)
+    × (life.imaging ≡ true)
+    × (room ≡ most_record)
+    × (life.last ≡ false)
+    × (taken_in life.image ≡ life.shown)
+    × IsNext life
+MayDo (Shows got bytes) life stopped =
+    (life.standing ≡ true)
+    × (life.imaging ≡ true)
+    × (bytes ≢ [])
+    × (taken_in life.image ++ bytes ≡ life.shown)
+    × IsNext life
+MayDo Lose life stopped =
+    (life.standing ≡ true)
+    × (life.imaging ≡ true)
+    × (lost_in life.image ≡ true)
+MayDo (HangsUp talk) life stopped =
+    (life.standing ≡ true)
+    × (life.imaging ≡ true)
+    × IsTold talk life.image
+    × IsFront (taken_in life.image) life.shown
+    × (IsShown life ⊎ (stopped ≡ true))
+MayDo (Leaves port talk) life stopped =
+    (life.standing ≡ true)
+    × (life.imaging ≡ false)
+    × (port ≡ life.port)
+    × IsTold talk life.control
+    × (read_in life.control ≡ life.heard)
+    × IsFront (taken_in life.control) life.said
+    × (IsDone life ⊎ (stopped ≡ true))
 
--- what a turn leaves of a session that stands: it had its turn, and its data theirs; its connection is not known to be lost, and where it is over
--- some of its replies may still wait; and its data connection is not lost, and its end record not wholly written
+-- what a turn leaves of a session that stands: it had its turn, and its data theirs; its
+-- connection is not known to be lost, and where it is over some of its replies may still wait; and
+-- its data connection is not lost, and its end record not wholly written
 pub record IsSettled (life : Life) : Type 0 where
   pub visited : life.visited ≡ true
   pub held : lost_in life.control ≡ false
@@ -190,13 +300,18 @@ seated (Stops ∷ past) = seated past
 abbrev pub MayAsk : List Deed → Type 0
 MayAsk past = (has_asked past ≡ false) × (seated past < most_sessions)
 
--- a turn ends only where one was asked for in it, or eight sessions stood, and where each session that stands is settled
+-- a turn ends only where one was asked for in it, or eight sessions stood, and where each session
+-- that stands is settled
 abbrev pub May : Deed → List Deed → Type 0
-May (Of number act) past = MayDo act (life_of number past) (has_stopped past) × (opens act ≡ true → MayAsk past)
+May (Of number act) past =
+    MayDo act (life_of number past) (has_stopped past)
+    × (opens act ≡ true → MayAsk past)
 May Full past = (has_asked past ≡ false) × (seated past ≡ most_sessions)
 May Waits past = MayAsk past
 May (Refuses port talk) past = MayAsk past × IsTold talk []
-May Turned past = (has_asked past ≡ true) × ((id : ℕ) → (life_of id past).standing ≡ true → IsSettled (life_of id past))
+May Turned past =
+    (has_asked past ≡ true)
+    × ((id : ℕ) → (life_of id past).standing ≡ true → IsSettled (life_of id past))
 May Stops past = Unit {0}
 
 abbrev pub IsStory : List Deed → Type 0
@@ -278,7 +393,12 @@ after_tally (Of number act) t = record t { left = t.left + leaves act; stir = t.
 after_tally Full t = t
 after_tally Waits t = t
 after_tally (Refuses port talk) t = record t { stir = t.stir || true }
-after_tally Turned t = record { left = t.left; turns = t.turns + 1; idle = cond t.stir 0 (t.idle + 1); stir = false }
+after_tally Turned t = record {
+  left = t.left;
+  turns = t.turns + 1;
+  idle = cond t.stir 0 (t.idle + 1);
+  stir = false;
+}
 after_tally Stops t = t
 
 abbrev pub tally_of : List Deed → Tally

@@ -10,7 +10,8 @@ abbrev pub Holds : Deed → List Deed → Type 0
 Holds deed [] = ⊥
 Holds deed (first ∷ past) = (first ≡ deed) ⊎ Holds deed past
 
--- a session was left, and its control connection, as it was handed back, had told the calls that the story has of it
+-- a session was left, and its control connection, as it was handed back, had told the calls that
+-- the story has of it
 pub record WasLeft (id : ℕ) (story : List Deed) : Type 0 where
   pub port : ℕ
   pub talk : Option Talk

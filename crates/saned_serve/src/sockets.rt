@@ -32,8 +32,8 @@ pub trait Socket {
         ensures told { history self.new ≡ after_write result buf.now (history self.old) };
 }
 
-/// Whence a daemon's connections come, and where they go back to. A connection that is not handed back is an error
-/// of its owner, so `Conn` has no `Drop`.
+/// Whence a daemon's connections come, and where they go back to. A connection that is not handed
+/// back is an error of its owner, so `Conn` has no `Drop`.
 pub trait Listeners {
     type Conn: Socket;
 
@@ -49,8 +49,9 @@ pub trait Listeners {
     fn open_data(&mut self) -> Option<u16>
         ensures { ledger self.new ≡ noticed (Port result) (ledger self.old) };
 
-    /// A frame begins that will wait at that port, and nobody was told so yet: connections there that their peers have
-    /// ended by now are of no frame. What takes connections only as they are dialled has none such, and does nothing.
+    /// A frame begins that will wait at that port, and nobody was told so yet: connections there
+    /// that their peers have ended by now are of no frame. What takes connections only as they are
+    /// dialled has none such, and does nothing.
     fn forget_ended(&mut self, port: u16)
         ensures { ledger self.new ≡ noticed (Forgot port) (ledger self.old) };
 

@@ -91,7 +91,8 @@ impl Socket for MemorySocket {
     }
 }
 
-/// Clients that connect one after the other, from the last, the data connections that come, and what was handed back.
+/// Clients that connect one after the other, from the last, the data connections that come, and what was handed back. A call
+/// at a port that is not open is no call of the loop's, and aborts.
 #[derive(Drop)]
 pub struct MemoryNet<R: Abort + Drop> {
     rt: R,
@@ -102,6 +103,8 @@ pub struct MemoryNet<R: Abort + Drop> {
     pub asked: u64,
     /// How many data ports it has left.
     pub ports: u16,
+    /// Those that are open.
+    open: Vec<u16>,
     pub back: Vec<MemorySocket>,
 }
 
@@ -115,7 +118,19 @@ impl<R: Abort + Drop> MemoryNet<R> {
             accepted: 0,
             asked: 0,
             ports: 100,
+            open: Vec::new(alloc),
             back: Vec::new(alloc),
+        }
+    }
+
+    /// Whether every data port was closed.
+    pub fn has_closed_all(&self) -> bool {
+        self.open.is_empty()
+    }
+
+    fn expect_open(&self, port: u16) {
+        if !self.open.contains(&port) {
+            self.rt.abort()
         }
     }
 
@@ -143,14 +158,20 @@ impl<R: Abort + Drop> Listeners for MemoryNet<R> {
         Some(conn)
     }
 
+    /// The first port that is not open.
     fn open_data(&mut self) -> Option<u16> {
         self.ports = self.ports.checked_sub(1)?;
-        Some(40_001)
+        let port = (40_001..40_101).find(|port| !self.open.contains(port))?;
+        self.open.push(port).ok()?;
+        Some(port)
     }
 
-    fn forget_ended(&mut self, _port: u16) {}
+    fn forget_ended(&mut self, port: u16) {
+        self.expect_open(port);
+    }
 
-    fn accept_data(&mut self, _port: u16) -> Option<MemorySocket> {
+    fn accept_data(&mut self, port: u16) -> Option<MemorySocket> {
+        self.expect_open(port);
         let conn = self.images.pop()?;
         if conn.at > 0 || conn.out.len() > 0 {
             self.rt.abort()
@@ -159,7 +180,14 @@ impl<R: Abort + Drop> Listeners for MemoryNet<R> {
         Some(conn)
     }
 
-    fn close_data(&mut self, _port: u16) {}
+    fn close_data(&mut self, port: u16) {
+        let Some(at) = self.open.iter().position(|open| *open == port) else {
+            self.rt.abort()
+        };
+        if at < self.open.len() {
+            let _ = self.open.swap_remove(at);
+        }
+    }
 
     fn close(&mut self, conn: MemorySocket) {
         if self.back.push(conn).is_err() {

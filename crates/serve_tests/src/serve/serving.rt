@@ -72,8 +72,9 @@ fn expect_free<R: Abort + Copy + Drop>(
     assert!(rt; net.accepted == (net.back.len() as u64));
 }
 
-/// What a test is done with.
-fn let_go<R: Abort + Copy + Drop>(daemon: Daemon<Flatbed>, net: MemoryNet<R>) {
+/// What a test is done with: each data port was closed.
+fn let_go<R: Abort + Copy + Drop>(rt: R, daemon: Daemon<Flatbed>, net: MemoryNet<R>) {
+    assert!(rt; net.has_closed_all());
     drop(net);
     drop(daemon);
 }
@@ -102,7 +103,7 @@ fn second_open_is_answered_while_a_frame_is_open(rt: HostRuntime) {
     expect_out(&rt, alloc, first, &[INIT_REPLY, OPEN_REPLY, START_REPLY]);
     expect_out(&rt, alloc, second, &[INIT_REPLY, BUSY_REPLY]);
     expect_free(rt, alloc, &mut daemon, &mut net);
-    let_go(daemon, net);
+    let_go(rt, daemon, net);
 }
 
 /// A whole frame of one sample comes over sockets like these.
@@ -131,7 +132,7 @@ fn expect_sample<R: Abort + Copy + Drop>(rt: R, alloc: Global, piece: usize, dea
         &[INIT_REPLY, OPEN_REPLY, SET_REPLIES, START_REPLY],
     );
     expect_free(rt, alloc, &mut daemon, &mut net);
-    let_go(daemon, net);
+    let_go(rt, daemon, net);
 }
 
 #[test]
@@ -164,7 +165,7 @@ fn idle_turns_are_counted_in_a_row(rt: HostRuntime) {
         panic!(rt; "other connections came back")
     };
     expect_out(&rt, alloc, control, &[]);
-    let_go(daemon, net);
+    let_go(rt, daemon, net);
 }
 
 #[test]
@@ -183,7 +184,7 @@ fn lost_after_each_byte(rt: HostRuntime) {
         assert!(rt; end == ServeEnd::Sessions);
         net.images.clear();
         expect_free(rt, alloc, &mut daemon, &mut net);
-        let_go(daemon, net);
+        let_go(rt, daemon, net);
     }
 }
 
@@ -206,7 +207,7 @@ fn data_connection_lost_after_each_byte(rt: HostRuntime) {
         };
         assert!(rt; Some(shown.out.as_slice()) == SAMPLE.get(..k));
         expect_free(rt, alloc, &mut daemon, &mut net);
-        let_go(daemon, net);
+        let_go(rt, daemon, net);
     }
 }
 
@@ -222,7 +223,7 @@ fn data_connection_that_never_comes(rt: HostRuntime) {
     assert!(rt; end == ServeEnd::Idle);
     assert!(rt; net.accepted == 1);
     expect_free(rt, alloc, &mut daemon, &mut net);
-    let_go(daemon, net);
+    let_go(rt, daemon, net);
 }
 
 /// Of what a client asks that takes no reply no more is read than at once, so its replies stay bounded.
@@ -245,7 +246,7 @@ fn client_that_takes_no_reply_is_not_heard_on(rt: HostRuntime) {
     };
     assert!(rt; back.heard() == 4096);
     expect_out(&rt, alloc, back, &[]);
-    let_go(daemon, net);
+    let_go(rt, daemon, net);
 }
 
 #[test]
@@ -264,7 +265,7 @@ fn nine_clients(rt: HostRuntime) {
     assert!(rt; net.accepted == 8);
     assert!(rt; net.back.len() == 8);
     assert!(rt; net.clients.len() == 1);
-    let_go(daemon, net);
+    let_go(rt, daemon, net);
 }
 
 #[test]
@@ -291,7 +292,7 @@ fn sessions_are_counted_when_they_are_closed(rt: HostRuntime) {
             expect_out(&rt, alloc, conn, &[INIT_REPLY]);
         }
     }
-    let_go(daemon, net);
+    let_go(rt, daemon, net);
 }
 
 #[test]
@@ -313,5 +314,5 @@ fn connection_without_a_port_is_not_counted(rt: HostRuntime) {
     };
     expect_out(&rt, alloc, served, &[INIT_REPLY]);
     expect_out(&rt, alloc, refused, &[]);
-    let_go(daemon, net);
+    let_go(rt, daemon, net);
 }
