@@ -100,10 +100,10 @@ fn take_turns<D: Device, L: Listeners>(
 /// eight sessions stand, and then, for each session, reads once and feeds that, but only where none of its replies wait,
 /// writes replies once, takes the data connection where a frame waits for one, and writes of one record; what a write did
 /// not take goes first in the next turn.
-/// A connection is closed once it is lost, or once its session is over and its replies are written, and its session counted
-/// then. It ends with the first turn after which so many sessions are counted (0: no such end), after so many turns in a row in which nothing moved, or after 2^40
-/// turns, and hands every connection back. All memory of its own is taken before the first accept; `NoMem` comes only there,
-/// and then nothing was done.
+/// A connection is closed once it is lost, or once its session is over and its replies are written, and its session
+/// counted then. It ends with the first turn after which so many sessions are counted (0: no such end), after so many turns
+/// in a row in which nothing moved, or after 2^40 turns, and hands every connection back. All memory of its own is taken
+/// before the first accept; `NoMem` comes only there, and then nothing was done.
 pub fn serve<D: Device, L: Listeners>(
     alloc: Global,
     daemon: &mut Daemon<D>,
