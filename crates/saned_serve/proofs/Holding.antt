@@ -333,7 +333,7 @@ ended_by (Some s) d n is was =
 
 does_apart : (act : Act) (id : ℕ) (d e : Core) → Does id d act e → HoldsApart d → HoldsApart e
 does_apart (Opens port) id d e does was = subst (λ x. HoldsApart x) (sym does.after) (opened_apart d port was)
-does_apart (Hears got bytes) id d e does was = subst (λ x. HoldsApart x) (sym does) was
+does_apart (Hears got room bytes) id d e does was = subst (λ x. HoldsApart x) (sym does) was
 does_apart (Feed piece fed begins) id d e does was = fed_if (session_in (seat_of d.seats id)) d id piece fed e refl does.0.session was
 does_apart (Forgets port) id d e does was = subst (λ x. HoldsApart x) (sym does) was
 does_apart (Take room bytes) id d e does was = subst (λ x. HoldsApart x) (sym does.after) (same_apart d (after_taken (length bytes)) id (taken_same (length bytes)) was)

@@ -1,5 +1,5 @@
 -- Single deeds of a session that stands.
-use Rattle.std.proofs.Common.{◌≡◌, ◌≢◌, ◌≤◌, ◌⊎◌, inl, inr, ℕ, ◌+◌, ◌-◌, Bool, true, false, not, ◌||◌, cond, Option, None, Some, is_some, List, [], ◌∷◌, ◌++◌, take, drop, refl, sym, ap, ◌∙◌, subst, append_assoc, append-nil, IsSome, arith}
+use Rattle.std.proofs.Common.{◌≡◌, ◌≢◌, ◌≤◌, ◌⊎◌, inl, inr, ℕ, ◌+◌, ◌-◌, Bool, true, false, not, ◌||◌, cond, Option, None, Some, is_some, List, [], ◌∷◌, ◌++◌, length, take, drop, refl, sym, ap, ◌∙◌, subst, append_assoc, append-nil, IsSome, arith}
 use Rattle.std.proofs.lemmas.List.{take-append-drop}
 use Rattle.std.proofs.Math.Dec.{eqb}
 use Rattle.std.proofs.lemmas.Bool.{eq-eqb, eqb-true, or_left, or_right, or_from}
@@ -74,7 +74,7 @@ counted_none t =
 -- what an act does to the count of sessions
 opened_by : (act : Act) (d e : Core) (id : ℕ) → opens act ≡ false → Does id d act e → e.opened ≡ d.opened
 opened_by (Opens port) d e id plain does = cc
-opened_by (Hears got bytes) d e id plain does = ap (λ (c : Core). c.opened) does
+opened_by (Hears got room bytes) d e id plain does = ap (λ (c : Core). c.opened) does
 opened_by (Feed piece fed begins) d e id plain does = ap (λ (c : Core). c.opened) does.0.others
 opened_by (Forgets port) d e id plain does = ap (λ (c : Core). c.opened) does
 opened_by (Take room bytes) d e id plain does = ap (λ (c : Core). c.opened) does.after
@@ -90,7 +90,7 @@ opened_by (Leaves port talk) d e id plain does = ap (λ (c : Core). c.opened) do
 
 stands_for : (act : Act) (life : Life) (stopped : Bool) → opens act ≡ false → MayDo act life stopped → life.standing ≡ true
 stands_for (Opens port) life stopped plain may = cc
-stands_for (Hears got bytes) life stopped plain may = may.0
+stands_for (Hears got room bytes) life stopped plain may = may.0
 stands_for (Feed piece fed begins) life stopped plain may = may.0
 stands_for (Forgets port) life stopped plain may = may.0
 stands_for (Take room bytes) life stopped plain may = may.0
@@ -188,9 +188,9 @@ went {C} {history} {d0} {n0} {past} to k t tells = record {
 
 -- ---- what connections tell
 
-told_read : (got : Got) (buf : List ℕ) (talk after : Option Talk) (calls : Talk) → after ≡ after_read got buf talk → IsTold talk calls → IsTold after (Read got (take (moved got) buf) ∷ calls)
-told_read got buf None after calls e told = subst (λ t. IsTold t (Read got (take (moved got) buf) ∷ calls)) (sym e) tt
-told_read got buf (Some talk) after calls e told = subst (λ t. IsTold t (Read got (take (moved got) buf) ∷ calls)) (sym e) (ap (λ cs. Read got (take (moved got) buf) ∷ cs) told)
+told_read : (got : Got) (buf : List ℕ) (talk after : Option Talk) (calls : Talk) → after ≡ after_read got buf talk → IsTold talk calls → IsTold after (Read got (length buf) (take (moved got) buf) ∷ calls)
+told_read got buf None after calls e told = subst (λ t. IsTold t (Read got (length buf) (take (moved got) buf) ∷ calls)) (sym e) tt
+told_read got buf (Some talk) after calls e told = subst (λ t. IsTold t (Read got (length buf) (take (moved got) buf) ∷ calls)) (sym e) (ap (λ cs. Read got (length buf) (take (moved got) buf) ∷ cs) told)
 
 told_write : (got : Got) (buf : List ℕ) (talk after : Option Talk) (calls : Talk) → after ≡ after_write got buf talk → IsTold talk calls → IsTold after (Write got buf ∷ calls)
 told_write got buf None after calls e told = subst (λ t. IsTold t (Write got buf ∷ calls)) (sym e) tt
@@ -273,12 +273,12 @@ goes_ready history d n l some = goes_rests history Heard Ready d n l l refl (λ 
 
 -- ---- the control connection
 
-may_hear : {C : Type 0} (history : C → Option Talk) (life : Life) (l : Link C) (got : Got) (bytes : List ℕ) (stopped : Bool) → l.replies ≡ [] → Tells history Filled life l → MayDo (Hears got bytes) life stopped
-may_hear history life l got bytes stopped none tells = (tells.standing, tells.at.1 none, all_taken (taken_in life.control) l.replies life.said none tells.said, tells.heard, tells.at.2.0)
+may_hear : {C : Type 0} (history : C → Option Talk) (life : Life) (l : Link C) (got : Got) (room : ℕ) (bytes : List ℕ) (stopped : Bool) → room ≡ 4096 → l.replies ≡ [] → Tells history Filled life l → MayDo (Hears got room bytes) life stopped
+may_hear history life l got room bytes stopped size none tells = (tells.standing, tells.at.1 none, all_taken (taken_in life.control) l.replies life.said none tells.said, tells.heard, tells.at.2.0, size)
 
 -- what was read is fed
 heard_some : {C : Type 0} (history : C → Option Talk) (life : Life) (l : Link C) (c : C) (over : Bool) (count : ℕ) (buf : List ℕ) (fed : Fed) → history c ≡ after_read (Moved count) buf (history l.conn) → over ≡ (l.is_over || is_over fed)
-    → Tells history Filled life l → Tells history Heard (after_act (Feed (take count buf) fed false) (after_act (Hears (Moved count) (take count buf)) life)) (record l { conn = c; is_over = over })
+    → Tells history Filled life l → Tells history Heard (after_act (Feed (take count buf) fed false) (after_act (Hears (Moved count) (length buf) (take count buf)) life)) (record l { conn = c; is_over = over })
 heard_some history life l c over count buf fed told was tells =
     let piece = take count buf in
     record {
@@ -291,7 +291,7 @@ heard_some history life l c over count buf fed told was tells =
       waits = λ some. refl;
       quiet = refl;
       held = λ alive. or_from (lost_in life.control) false (tells.held alive) refl;
-      carries = carries_on history l.image l.is_last l.records life (after_act (Feed piece fed false) (after_act (Hears (Moved count) piece) life)) refl refl refl refl tells.carries;
+      carries = carries_on history l.image l.is_last l.records life (after_act (Feed piece fed false) (after_act (Hears (Moved count) (length buf) piece) life)) refl refl refl refl tells.carries;
       at = ((λ done. absurd (not_both done tells.at.0)), inl refl, tells.at.2.1, refl);
     }
 
@@ -308,24 +308,24 @@ fed_on history {d0} {n0} {past} {id} {d} {n} {life} port k piece fed true e m t 
     subst (λ o. Went history Heard d0 n0 past id true e o k) (sym net) (went Heard k then tells)
 
 pub goes_hears : {C : Type 0} (history : C → Option Talk) (d : Core) (n : Option Ledger) (l k : Link C) (e : Core) (m : Option Ledger) (c : C) (count : ℕ) (buf : List ℕ)
-    → l.replies ≡ [] → history c ≡ after_read (Moved count) buf (history l.conn) → k ≡ record l { conn = c; is_over = k.is_over } → Attends l.id.number l.port (take count buf) d n l.is_over k.is_over e m
+    → length buf ≡ 4096 → l.replies ≡ [] → history c ≡ after_read (Moved count) buf (history l.conn) → k ≡ record l { conn = c; is_over = k.is_over } → Attends l.id.number l.port (take count buf) d n l.is_over k.is_over e m
     → Goes history Filled Heard d n l true e m k
-goes_hears history d n l k e m c count buf none told same attends = record {
+goes_hears history d n l k e m c count buf size none told same attends = record {
   same = ap (λ x. x.id) same;
   goes = λ d0 n0 past leads tells.
       let life = life_of l.id.number past in
       let piece = take count buf in
-      let first = trail_on (trail d0 n0 past d n l.id.number leads) (Hears (Moved count) piece) d refl refl (may_hear history life l (Moved count) piece (has_stopped past) none tells) in
+      let first = trail_on (trail d0 n0 past d n l.id.number leads) (Hears (Moved count) (length buf) piece) d refl refl (may_hear history life l (Moved count) (length buf) piece (has_stopped past) size none tells) in
       let now = heard_some history life l c k.is_over count buf attends.fed told attends.is tells in
-      let fed = after_act (Feed piece attends.fed false) (after_act (Hears (Moved count) piece) life) in
+      let fed = after_act (Feed piece attends.fed false) (after_act (Hears (Moved count) (length buf) piece) life) in
       fed_on history l.port k piece attends.fed attends.begins e m first tells.standing (none_on life.heard piece (read_in life.control) (sym tells.heard)) tells.port attends.does attends.net
       (subst (λ x. Tells history Heard fed x) (sym same) now);
 }
 
 -- a read that brings nothing
 heard_none : {C : Type 0} (history : C → Option Talk) (got : Got) (buf : List ℕ) (life : Life) (l : Link C) (c : C) (done : Bool) → take (moved got) buf ≡ [] → history c ≡ after_read got buf (history l.conn) → Tells history Filled life l
-    → (done ≡ false → lost_in (Read got (take (moved got) buf) ∷ life.control) ≡ false) → (done ≡ true → lost_in (Read got (take (moved got) buf) ∷ life.control) ≡ true)
-    → Tells history Heard (after_act (Hears got (take (moved got) buf)) life) (record l { conn = c; is_done = done })
+    → (done ≡ false → lost_in (Read got (length buf) (take (moved got) buf) ∷ life.control) ≡ false) → (done ≡ true → lost_in (Read got (length buf) (take (moved got) buf) ∷ life.control) ≡ true)
+    → Tells history Heard (after_act (Hears got (length buf) (take (moved got) buf)) life) (record l { conn = c; is_done = done })
 heard_none history got buf life l c done none told tells alive lost = record {
   standing = tells.standing;
   port = tells.port;
@@ -336,26 +336,26 @@ heard_none history got buf life l c done none told tells alive lost = record {
   waits = tells.waits;
   quiet = tells.quiet;
   held = alive;
-  carries = carries_on history l.image l.is_last l.records life (after_act (Hears got (take (moved got) buf)) life) refl refl refl refl tells.carries;
+  carries = carries_on history l.image l.is_last l.records life (after_act (Hears got (length buf) (take (moved got) buf)) life) refl refl refl refl tells.carries;
   at = (lost, inl refl, tells.at.2.1, tells.at.2.2);
 }
 
-pub goes_silent : {C : Type 0} (history : C → Option Talk) (d : Core) (n : Option Ledger) (l : Link C) (c : C) (buf : List ℕ) → l.replies ≡ [] → history c ≡ after_read Nothing buf (history l.conn) → Goes history Filled Heard d n l false d n (record l { conn = c })
-goes_silent history d n l c buf none told = record {
+pub goes_silent : {C : Type 0} (history : C → Option Talk) (d : Core) (n : Option Ledger) (l : Link C) (c : C) (buf : List ℕ) → length buf ≡ 4096 → l.replies ≡ [] → history c ≡ after_read Nothing buf (history l.conn) → Goes history Filled Heard d n l false d n (record l { conn = c })
+goes_silent history d n l c buf size none told = record {
   same = refl;
   goes = λ d0 n0 past leads tells.
       let life = life_of l.id.number past in
-      let first = trail_on (trail d0 n0 past d n l.id.number leads) (Hears Nothing (take 0 buf)) d refl refl (may_hear history life l Nothing (take 0 buf) (has_stopped past) none tells) in
+      let first = trail_on (trail d0 n0 past d n l.id.number leads) (Hears Nothing (length buf) (take 0 buf)) d refl refl (may_hear history life l Nothing (length buf) (take 0 buf) (has_stopped past) size none tells) in
       went Heard (record l { conn = c }) first
       (heard_none history Nothing buf life l c l.is_done refl told tells (λ alive. or_from (lost_in life.control) false (tells.held alive) refl) (λ done. absurd (not_both done tells.at.0)));
 }
 
-pub goes_cut : {C : Type 0} (history : C → Option Talk) (d : Core) (n : Option Ledger) (l : Link C) (c : C) (buf : List ℕ) → l.replies ≡ [] → history c ≡ after_read Lost buf (history l.conn) → Goes history Filled Heard d n l true d n (record l { conn = c; is_done = true })
-goes_cut history d n l c buf none told = record {
+pub goes_cut : {C : Type 0} (history : C → Option Talk) (d : Core) (n : Option Ledger) (l : Link C) (c : C) (buf : List ℕ) → length buf ≡ 4096 → l.replies ≡ [] → history c ≡ after_read Lost buf (history l.conn) → Goes history Filled Heard d n l true d n (record l { conn = c; is_done = true })
+goes_cut history d n l c buf size none told = record {
   same = refl;
   goes = λ d0 n0 past leads tells.
       let life = life_of l.id.number past in
-      let first = trail_on (trail d0 n0 past d n l.id.number leads) (Hears Lost (take 0 buf)) d refl refl (may_hear history life l Lost (take 0 buf) (has_stopped past) none tells) in
+      let first = trail_on (trail d0 n0 past d n l.id.number leads) (Hears Lost (length buf) (take 0 buf)) d refl refl (may_hear history life l Lost (length buf) (take 0 buf) (has_stopped past) size none tells) in
       went Heard (record l { conn = c; is_done = true }) first
       (heard_none history Lost buf life l c true refl told tells (λ alive. absurd (let wrong : true ≡ false = alive in cc)) (λ done. or_right (lost_in life.control) true refl));
 }

@@ -14,8 +14,8 @@ use Rattle.saned_serve.specs.Talk.{Talk, stirs}
 pub data Act : Type 0 where
   -- a connection came, a data port was opened for it, and a session with that port
   Opens : (port : ℕ) → Act
-  -- one read of the control connection
-  Hears : (got : Got) (bytes : List ℕ) → Act
+  -- one read of the control connection, into a buffer of so many bytes
+  Hears : (got : Got) (room : ℕ) (bytes : List ℕ) → Act
   -- a piece is fed, this became of the session, and a frame that waits for its data connection
   -- began with it, or none
   Feed : (piece : List ℕ) (fed : Fed) (begins : Bool) → Act
@@ -99,7 +99,7 @@ pub record IsTurned (d : Core) (number room : ℕ) (step : DataStep) (bytes : Li
 -- what an act for the session of a number does to a daemon
 abbrev pub Does : ℕ → Core → Act → Core → Type 0
 Does number d (Opens port) e = IsOpened d port number e
-Does number d (Hears got bytes) e = e ≡ d
+Does number d (Hears got room bytes) e = e ≡ d
 Does number d (Feed piece fed begins) e = Feeds number d piece fed e × (begins ≡ begun d number e)
 Does number d (Forgets port) e = e ≡ d
 Does number d (Take room bytes) e = IsTaken d number room bytes e
@@ -116,7 +116,7 @@ Does number d (Leaves port talk) e = e ≡ ended d number
 -- something moved: a connection came, bytes moved, or a connection was found lost
 abbrev pub moves : Act → Bool
 moves (Opens port) = true
-moves (Hears got bytes) = stirs got
+moves (Hears got room bytes) = stirs got
 moves (Feed piece fed begins) = false
 moves (Forgets port) = false
 moves (Take room bytes) = false
@@ -133,7 +133,7 @@ moves (Leaves port talk) = false
 -- how many sessions left with it
 abbrev pub leaves : Act → ℕ
 leaves (Opens port) = 0
-leaves (Hears got bytes) = 0
+leaves (Hears got room bytes) = 0
 leaves (Feed piece fed begins) = 0
 leaves (Forgets port) = 0
 leaves (Take room bytes) = 0
@@ -150,7 +150,7 @@ leaves (Leaves port talk) = 1
 -- it opens a session
 abbrev pub opens : Act → Bool
 opens (Opens port) = true
-opens (Hears got bytes) = false
+opens (Hears got room bytes) = false
 opens (Feed piece fed begins) = false
 opens (Forgets port) = false
 opens (Take room bytes) = false

@@ -80,9 +80,9 @@ no_bytes (byte ∷ bytes) = false
 
 abbrev pub after_act : Act → Life → Life
 after_act (Opens port) life = record no_life { standing = true; port = port }
-after_act (Hears got bytes) life = record life {
+after_act (Hears got room bytes) life = record life {
   visited = true;
-  control = Read got bytes ∷ life.control;
+  control = Read got room bytes ∷ life.control;
 }
 after_act (Feed piece fed begins) life = record life {
   heard = life.heard ++ piece;
@@ -161,7 +161,10 @@ IsShown life =
     ((life.last ≡ true) × (taken_in life.image ≡ life.shown))
     ⊎ ((life.dropped ≡ true) ⊎ IsDone life)
 
--- the room for replies, and for a record and its length
+-- the room for what is read at once, for replies, and for a record and its length
+abbrev pub most_piece : ℕ
+most_piece = 4096
+
 abbrev pub most_reply : ℕ
 most_reply = 4096
 
@@ -186,12 +189,13 @@ IsNext life = (life.visited ≡ true) × (life.tended ≡ false)
 -- session's replies, or of its records
 abbrev pub MayDo : Act → Life → Bool → Type 0
 MayDo (Opens port) life stopped = life ≡ no_life
-MayDo (Hears got bytes) life stopped =
+MayDo (Hears got room bytes) life stopped =
     (life.standing ≡ true)
     × (life.drained ≡ true)
     × (taken_in life.control ≡ life.said)
     × (read_in life.control ≡ life.heard)
     × (life.visited ≡ false)
+    × (room ≡ most_piece)
 MayDo (Feed piece fed begins) life stopped =
     (life.standing ≡ true)
     × (life.heard ++ piece ≡ read_in life.control)
@@ -339,7 +343,7 @@ Runs d (deed ∷ past) e = (mid : Core) × Runs d past mid × Steps mid deed e
 
 abbrev pub noted_act : Act → Option Ledger → Option Ledger
 noted_act (Opens port) ledger = noticed (Port (Some port)) (noticed (Asked true) ledger)
-noted_act (Hears got bytes) ledger = ledger
+noted_act (Hears got room bytes) ledger = ledger
 noted_act (Feed piece fed begins) ledger = ledger
 noted_act (Forgets port) ledger = noticed (Forgot port) ledger
 noted_act (Take room bytes) ledger = ledger
@@ -418,7 +422,7 @@ Extends past story = (since : List Deed) × (story ≡ since ++ past)
 -- a session is left, or its data connection before
 abbrev pub IsEndAct : Act → Type 0
 IsEndAct (Opens port) = ⊥
-IsEndAct (Hears got bytes) = ⊥
+IsEndAct (Hears got room bytes) = ⊥
 IsEndAct (Feed piece fed begins) = ⊥
 IsEndAct (Forgets port) = ⊥
 IsEndAct (Take room bytes) = ⊥

@@ -1,12 +1,12 @@
 -- What a connection tells of its calls.
-use Rattle.std.specs.Prelude.{◌≡◌, ◌≤◌, ℕ, Bool, true, false, ◌||◌, Option, None, Some, List, [], ◌∷◌, ◌++◌, take}
+use Rattle.std.specs.Prelude.{◌≡◌, ◌≤◌, ℕ, Bool, true, false, ◌||◌, Option, None, Some, List, [], ◌∷◌, ◌++◌, length, take}
 use Rattle.saned_serve.specs.declared.sockets.Got.{Got}
 use Rattle.saned_serve.specs.declared.sockets.Got.TheVariants.{Moved, Nothing, Lost}
 
 -- a call of a connection, and what it came to
 pub data Move : Type 0 where
-  -- a read, and the bytes that it brought
-  Read : (got : Got) (bytes : List ℕ) → Move
+  -- a read into a buffer of so many bytes, and the bytes that it brought
+  Read : (got : Got) (room : ℕ) (bytes : List ℕ) → Move
   -- a write of these bytes, of which as many as moved were taken, the first ones
   Write : (got : Got) (bytes : List ℕ) → Move
 
@@ -39,7 +39,7 @@ stirs Lost = true
 
 abbrev pub after_read : Got → List ℕ → Option Talk → Option Talk
 after_read got buf None = None
-after_read got buf (Some talk) = Some (Read got (take (moved got) buf) ∷ talk)
+after_read got buf (Some talk) = Some (Read got (length buf) (take (moved got) buf) ∷ talk)
 
 abbrev pub after_write : Got → List ℕ → Option Talk → Option Talk
 after_write got buf None = None
@@ -48,19 +48,19 @@ after_write got buf (Some talk) = Some (Write got buf ∷ talk)
 -- all that reads brought
 abbrev pub read_in : Talk → List ℕ
 read_in [] = []
-read_in (Read got bytes ∷ talk) = read_in talk ++ bytes
+read_in (Read got room bytes ∷ talk) = read_in talk ++ bytes
 read_in (Write got bytes ∷ talk) = read_in talk
 
 -- all that writes were rid of
 abbrev pub taken_in : Talk → List ℕ
 taken_in [] = []
-taken_in (Read got bytes ∷ talk) = taken_in talk
+taken_in (Read got room bytes ∷ talk) = taken_in talk
 taken_in (Write got bytes ∷ talk) = taken_in talk ++ take (moved got) bytes
 
 -- a call found it lost
 abbrev pub lost_in : Talk → Bool
 lost_in [] = false
-lost_in (Read got bytes ∷ talk) = lost_in talk || is_lost got
+lost_in (Read got room bytes ∷ talk) = lost_in talk || is_lost got
 lost_in (Write got bytes ∷ talk) = lost_in talk || is_lost got
 
 -- where a connection tells its calls, they are these
