@@ -1,10 +1,10 @@
 -- Texts that write a number plainly: in decimal digits, without a sign or a leading zero.
-use Rattle.std.proofs.Common.{◌≡◌, ◌≢◌, ℕ, zero, suc, ◌<◌, ◌≤◌, ◌^◌, ◌⊎◌, List, length, get_or, arith, refl, sym, ap, ◌∙◌, subst, inl, inr, Option, Some, Result, Ok, Err}
+use Rattle.std.proofs.Common.{◌≡◌, ◌≢◌, ℕ, zero, suc, ◌<◌, ◌^◌, ◌⊎◌, List, length, get_or, arith, sym, ap, ◌∙◌, subst, inl, inr, Some, Result, Ok, Err}
 use Rattle.std.specs.Prelude.{decimal, IfSome, IfNone}
 use Rattle.std.specs.Result.{result_ok}
 use Rattle.std.specs.Str.Parse.{digits_value, AllDigits, IsNumeral, ParsesUnsigned, without_leading_plus}
 use Rattle.std.proofs.lemmas.Str.Parse.{IsNumeralModel, numerals_by_value, tells_digits, without_leading_plus_none}
-use Rattle.std.proofs.lemmas.Fmt.{decimal_is_IsNumeral, first_decimal, decimal_digit, decimal-digits_value, decimal_injective, decimal_nonempty, parse-decimal}
+use Rattle.std.proofs.lemmas.Fmt.{first_decimal, decimal_digit, decimal-digits_value, decimal_injective, decimal_nonempty, parse-decimal}
 use Rattle.saned_cli.specs.Options.{IsNumberOf}
 use Rattle.saned_cli.specs.Words.{BeginsPlainly}
 

@@ -1,5 +1,5 @@
 -- What a daemon's contract says of replies and of records, as calls.
-use Rattle.std.proofs.Common.{◌≡◌, ◌≢◌, true, false, [], ◌≤◌, ◌⊎◌, ℕ, suc, ◌+◌, ◌-◌, List, ◌++◌, Option, Some, None, Result, Ok, Err, take, drop, length, slice_range, refl, sym, ap, ◌∙◌, subst, arith}
+use Rattle.std.proofs.Common.{◌≡◌, ◌≢◌, true, false, [], ◌≤◌, ◌⊎◌, ℕ, suc, ◌+◌, ◌-◌, List, ◌++◌, Option, Some, None, Result, Ok, Err, take, drop, length, slice_range, sym, ap, ◌∙◌, subst, arith}
 use Rattle.std.proofs.lemmas.List.{length-take}
 use Rattle.std.specs.Int.{w32, to_be_bytes}
 use Rattle.sane_fixed.specs.declared.status.Status.{Status}
@@ -12,7 +12,7 @@ use Rattle.saned_desk.specs.declared.session.Session.{Session}
 use Rattle.saned_desk.specs.Holding.{held_by}
 use Rattle.saned_core.specs.declared.seat.Seat.{Seat}
 use Rattle.saned_core.specs.declared.seat.DataStep.{DataStep}
-use Rattle.saned_core.specs.declared.seat.DataStep.TheVariants.{Idle, Bytes}
+use Rattle.saned_core.specs.declared.seat.DataStep.TheVariants.{Idle}
 use Rattle.saned_core.specs.State.{Core, replies_of, after_taken, on_seat, seat_of, session_in}
 use Rattle.saned_core.specs.Turns.{Turns, TurnsSessions, StreamsIn, StreamsFrom, Records}
 use Rattle.saned_serve.specs.Acts.{IsTaken, IsTurned, written_by, is_idle}

@@ -1,20 +1,19 @@
 -- No call of a daemon makes two words stand for one device.
-use Rattle.std.proofs.Common.{◌≡◌, ◌≢◌, ◌⊎◌, inl, inr, ℕ, zero, suc, Bool, true, false, Option, None, Some, Result, Ok, Err, List, [], ◌∷◌, ◌++◌, length, refl, sym, ap, ◌∙◌, subst}
+use Rattle.std.proofs.Common.{◌≡◌, ◌≢◌, ◌⊎◌, inl, inr, ℕ, zero, suc, Bool, true, false, Option, None, Some, List, [], ◌∷◌, ◌++◌, length, refl, sym, ap, ◌∙◌, subst}
 use Rattle.std.specs.Option.{option_and_then, option_map}
-use Rattle.sane_fixed.specs.declared.status.Status.{Status}
 use Rattle.device_api.specs.State.{DeviceState, after_cancel}
 use Rattle.device_api.proofs.SameLaws.{cancel_same, read_same}
 use Rattle.dispatch.specs.declared.table.place.Lease.{Lease}
-use Rattle.dispatch.specs.Table.{Table, IsSound, IsLeaseOf}
+use Rattle.dispatch.specs.Table.{Table, IsSound}
 use Rattle.saned_desk.specs.declared.session.Carriage.{Carriage}
 use Rattle.saned_desk.specs.declared.session.Carriage.TheVariants.{Quiet, Waiting, Streaming, Ending}
 use Rattle.saned_desk.specs.declared.session.Session.{Session}
-use Rattle.saned_desk.specs.Holding.{held_by, on_word, with_device, cancelled_lease, with_cancelled, given_back, fresh_session}
+use Rattle.saned_desk.specs.Holding.{held_by, on_word, cancelled_lease, with_cancelled, given_back, fresh_session}
 use Rattle.saned_desk.specs.Leases.{HoldsWell, IsElsewhere, KeepsLeases}
-use Rattle.saned_desk.specs.Rules.{Desk, Answers, FaltersAt, Falters}
+use Rattle.saned_desk.specs.Rules.{Desk, Falters}
 use Rattle.saned_desk.specs.Rules.Falters.{Under, All}
 use Rattle.saned_desk.proofs.Keeping.{Moves, at_word, keeps_leases}
-use Rattle.saned_desk.proofs.Keeping.Moves.{Still, Moved}
+use Rattle.saned_desk.proofs.Keeping.Moves.{Moved}
 use Rattle.saned_desk.proofs.Moving.{answers_moves, falters_moves}
 use Rattle.saned_desk.proofs.Returning.{sound_all, lasts_all}
 use Rattle.saned_desk.proofs.Words.{on_word-none}
@@ -22,10 +21,10 @@ use Rattle.saned_core.specs.declared.seat.Seat.{Seat}
 use Rattle.saned_core.specs.declared.seat.Fed.{Fed}
 use Rattle.saned_core.specs.declared.seat.Fed.TheVariants.{Standing, Over, Starved}
 use Rattle.saned_core.specs.declared.seat.DataStep.{DataStep}
-use Rattle.saned_core.specs.State.{Core, is_number, seat_of, session_in, session_of, on_seat, on_session, with_session, with_seat, if_standing, standing, after_taken, after_reply, no_more, fresh_seat, after_connected, after_lost, lost_from, opened, ended, session_let_go}
-use Rattle.saned_core.specs.Feeding.{Feeds, FeedsIf, FeedsDesk, AnswersAll, Progress, Closes, FaltersNext, seat_after, fed_seat, registry_after, let_go, input_in}
+use Rattle.saned_core.specs.State.{Core, is_number, seat_of, session_in, session_of, on_seat, on_session, with_session, with_seat, standing, after_taken, after_reply, no_more, fresh_seat, after_connected, after_lost, lost_from, opened, session_let_go}
+use Rattle.saned_core.specs.Feeding.{FeedsIf, FeedsDesk, AnswersAll, Progress, Closes, FaltersNext, seat_after, fed_seat, registry_after, let_go, input_in}
 use Rattle.saned_core.specs.Feeding.Closes.{Garbled, Ended}
-use Rattle.saned_core.specs.Turns.{Turns, TurnsSessions, StreamsIn, StreamsFrom}
+use Rattle.saned_core.specs.Turns.{TurnsSessions, StreamsIn, StreamsFrom}
 use Rattle.saned_serve.specs.Acts.{Act, Does}
 use Rattle.saned_serve.specs.Acts.Act.{Opens, Hears, Feed, Forgets, Take, Says, Looks, Misses, Connect, Turn, Shows, Lose, HangsUp, Leaves}
 use Rattle.saned_serve.specs.Story.{Deed, Steps, Runs}

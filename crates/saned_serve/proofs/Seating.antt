@@ -5,7 +5,7 @@ use Rattle.std.proofs.lemmas.Bool.{eq-eqb}
 use Rattle.saned_core.specs.State.{Core}
 use Rattle.saned_serve.specs.Talk.{Talk, lost_in, taken_in}
 use Rattle.saned_serve.specs.Ledger.{Ledger}
-use Rattle.saned_serve.specs.Story.{Deed, Life, life_of, Leads, tally_of, after_tally, counted, no_life, has_stopped, has_asked, seated, MayAsk, most_sessions, IsSettled}
+use Rattle.saned_serve.specs.Story.{Deed, Life, life_of, Leads, tally_of, after_tally, counted, no_life, has_stopped, has_asked, seated, most_sessions, IsSettled}
 use Rattle.saned_serve.specs.Story.Deed.{Full, Turned, Stops}
 use Rattle.saned_serve.specs.Goes.{CarriesIn, Tells, Went, Goes, Parts, Ended, IsDue}
 use Rattle.saned_serve.specs.Goes.Phase.{Fresh, Due, Shown}

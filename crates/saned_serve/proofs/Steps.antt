@@ -19,7 +19,7 @@ use Rattle.saned_serve.specs.Acts.Act.{Opens, Hears, Feed, Forgets, Take, Says, 
 use Rattle.saned_serve.specs.Story.{Deed, Life, no_life, no_bytes, is_of, after_act, after_deed, life_of, MayDo, noted_act, Extends, AreEnds, Closing, Leads, Tally, tally_of, after_tally, counted, has_stopped, has_asked, seated, IsDone, IsShown}
 use Rattle.saned_serve.specs.Story.Deed.{Of}
 use Rattle.saned_serve.specs.Goes.{Phase, IsAt, Carries, CarriesIn, Tells, Went, Goes, Attends, forgotten, SendsTo, SendsIn, hung_up, Ended, Parts}
-use Rattle.saned_serve.specs.Goes.Phase.{Fresh, Due, Filled, Heard, Ready, Spoken, Dialed, Loaded, Shown}
+use Rattle.saned_serve.specs.Goes.Phase.{Due, Filled, Heard, Ready, Spoken, Dialed, Loaded, Shown}
 use Rattle.saned_serve.specs.declared.link.Link.{Link}
 
 pub extends_then : (past mid story : List Deed) → Extends past mid → Extends mid story → Extends past story

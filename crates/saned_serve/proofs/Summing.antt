@@ -1,11 +1,11 @@
 -- What holds of the life of a session in every story.
-use Rattle.std.proofs.Common.{◌≡◌, ◌≢◌, ◌⊎◌, inl, inr, ℕ, Bool, true, false, Option, List, [], ◌∷◌, ◌++◌, take, drop, refl, sym, ap, ◌∙◌, subst, append_assoc, append-nil}
+use Rattle.std.proofs.Common.{◌≡◌, ◌⊎◌, inl, inr, ℕ, Bool, true, false, List, [], ◌∷◌, ◌++◌, take, drop, refl, sym, ap, ◌∙◌, subst, append_assoc, append-nil}
 use Rattle.std.proofs.Math.Dec.{eqb}
 use Rattle.std.proofs.lemmas.Bool.{eq-eqb, eqb-true}
 use Rattle.saned_serve.specs.Talk.{read_in, taken_in, moved, IsTold}
 use Rattle.saned_serve.specs.Acts.{Act}
 use Rattle.saned_serve.specs.Acts.Act.{Opens, Hears, Feed, Forgets, Take, Says, Looks, Misses, Connect, Turn, Shows, Lose, HangsUp, Leaves}
-use Rattle.saned_serve.specs.Story.{Deed, Life, no_life, after_act, after_deed, life_of, is_of, has_stopped, MayDo, IsStory, IsFront}
+use Rattle.saned_serve.specs.Story.{Deed, Life, no_life, after_act, life_of, has_stopped, MayDo, IsStory, IsFront}
 use Rattle.saned_serve.specs.Story.Deed.{Of, Full, Waits, Refuses, Turned, Stops}
 use Rattle.saned_serve.specs.Summary.{Holds, WasLeft}
 use Rattle.saned_serve.proofs.Steps.{life_at, life_off, not_both, rest_after}

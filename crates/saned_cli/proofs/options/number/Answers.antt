@@ -1,4 +1,4 @@
-use Rattle.std.proofs.Common.{◌≡◌, ◌<◌, ◌^◌, ℕ, List, Bor, arith, option_map, refl, subst, sym, inl, inr}
+use Rattle.std.proofs.Common.{ℕ, List, Bor, arith, option_map, refl, subst, sym, inl, inr}
 use Rattle.std.specs.Prelude.{Option}
 use Rattle.saned_cli.specs.Options.{IsNumberOf}
 use Rattle.saned_cli.proofs.Plain.{other_number}

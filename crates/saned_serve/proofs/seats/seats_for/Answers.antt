@@ -1,4 +1,4 @@
-use Rattle.std.proofs.Common.{◌≡◌, ◌<◌, ℕ, zero, suc, None, IsSome, All, [], ◌∷◌, refl, sym, subst, arith, rules}
+use Rattle.std.proofs.Common.{◌≡◌, ℕ, zero, suc, None, IsSome, All, [], ◌∷◌, refl, sym, subst, arith, rules}
 use Rattle.std.proofs.lemmas.List.Elements.{All-append}
 use Rattle.saned_serve.specs.Stands.{link_at, IsRoomed}
 use Rattle.saned_serve.specs.declared.seats.Seat.{Seat}

@@ -1,4 +1,4 @@
-use Rattle.std.proofs.Common.{◌≡◌, ◌≢◌, ◌<◌, ℕ, refl, ◌∙◌, sym, ap, subst, Option, None, Some, false, true, is_some, not, inl, inr, ◌⊎◌, arith, rules}
+use Rattle.std.proofs.Common.{◌≡◌, refl, ◌∙◌, sym, ap, subst, Option, None, Some, false, true, is_some, not, inl, inr, arith, rules}
 use Rattle.saned_core.specs.State.{core}
 use Rattle.saned_serve.specs.Stands.{one_link, link_at}
 use Rattle.saned_serve.specs.declared.link.Link.{Link}
