@@ -1,5 +1,6 @@
 /* Makes the calls of a program that move bytes hostile: with FAULTS=short each moves one byte, with FAULTS=again one in two
-   is interrupted, by a fixed chance, with FAULTS=both it is both. It is loaded before the C library. */
+   is interrupted, by a fixed chance, with FAULTS=both it is both. With BAD_SEEK=N the Nth seek fails. It is loaded before the
+   C library. */
 #define _GNU_SOURCE
 #include <dlfcn.h>
 #include <errno.h>
@@ -62,4 +63,25 @@ int accept4(int at, struct sockaddr *who, socklen_t *size, int flags)
 int accept(int at, struct sockaddr *who, socklen_t *size)
 {
     return is_interrupted() ? -1 : NEXT(accept)(at, who, size);
+}
+
+static int is_bad_seek(void)
+{
+    static long seeks;
+    const char *told = getenv("BAD_SEEK");
+    if (told && ++seeks == atol(told)) {
+        errno = EIO;
+        return 1;
+    }
+    return 0;
+}
+
+off_t lseek(int in, off_t by, int from)
+{
+    return is_bad_seek() ? -1 : NEXT(lseek)(in, by, from);
+}
+
+off64_t lseek64(int in, off64_t by, int from)
+{
+    return is_bad_seek() ? -1 : NEXT(lseek64)(in, by, from);
 }

@@ -1,4 +1,5 @@
-"""Limits of descriptors and of address space, allocations that are refused, calls that are interrupted or move one byte."""
+"""Limits of descriptors and of address space, allocations that are refused, calls that are interrupted or move one byte,
+and seeks that fail."""
 import collections
 import contextlib
 import os
@@ -9,8 +10,8 @@ import subprocess
 import tempfile
 
 import wire
-from world import LIMIT, MEMORY, Daemon, connected, ending, is_whole, page, read, scan
-from worked import COLORS, CONFIG, DOT, HAND, LISTED, NINE, OPTIONS, SEVEN, TRAY, WINDOW
+from world import LIMIT, MEMORY, Daemon, Ended, connected, ending, is_whole, page, read, scan
+from worked import COLORS, CONFIG, DOT, HAND, LISTED, NINE, OPTIONS, SEVEN, THREE, TRAY, WINDOW
 
 NO_MEMORY = b"saned: out of memory\n"
 HERE = os.path.dirname(os.path.abspath(__file__))
@@ -147,6 +148,46 @@ def bad_calls(tally, scale):
                     tally.saw(f"{who}: {told}", "as ever" if is_right else ended.what(), is_right, "a batch")
 
 
+THREE_PASSES = "-d {}threepass:0 --mode Color --depth 16 --three-pass-order BGR --resolution 26 --br-x 2 --br-y 1"
+PAGE_OF_COLORS = b"P6 2 1 65535\n" + bytes.fromhex("000100020003000400050100")
+# One as the page is opened, and one as each pass begins.
+SEEKS_AT_LEAST = 4
+
+
+def seek_ending(ended):
+    """Whether a scan of three passes, of which a seek failed, ended as it must: a device that is not there, or its fault."""
+    told = re.fullmatch(rb"scanimage: (config line 1: cannot read page|SANE_STATUS_IO_ERROR \(answer\)|SANE_STATUS_INVAL \(answer\))\n", ended.err)
+    return ended.status in (9, 65) and bool(told) and ended.out == b""
+
+
+def bad_seeks(tally, scale):
+    """Each seek in a page file fails in turn, until a run meets none: as the page is opened, and as each pass begins."""
+    with tempfile.TemporaryDirectory() as folder:
+        library = built(folder, "faults")
+        for path, text in ((f"{folder}/page", PAGE_OF_COLORS), (f"{folder}/config", f"threepass 0 26 {folder}/page\n".encode())):
+            with open(path, "wb") as file:
+                file.write(text)
+        for who in ("scanimage", "saned") if library else ():
+            for number in range(1, 100):
+                ended = scan_of_bad_seek(who, f"{folder}/config", {**os.environ, "BAD_SEEK": str(number), "LD_PRELOAD": library})
+                is_done = (ended.status, ended.out) == (0, THREE)
+                is_right = number > SEEKS_AT_LEAST if is_done else seek_ending(ended)
+                tally.saw(f"{who}: a seek of a page file that fails", "its picture, as none did" if is_done else ended.what(), is_right, f"seek {number}")
+                if is_done or not is_right:
+                    break
+
+
+def scan_of_bad_seek(who, config, env):
+    """A scan of three passes, here or over the net, where this program has such an environment. A daemon that is not up ended."""
+    if who == "scanimage":
+        return scan([*THREE_PASSES.format("").split(), "--config", config], env=env)
+    with open(config, encoding="ascii") as file, Daemon(file.read(), env=env) as daemon:
+        if daemon.port is None:
+            ended = ending(daemon.process)
+            return Ended(ended.status, ended.out, ended.err.replace(b"saned: ", b"scanimage: "))
+        return scan([*THREE_PASSES.format("net:localhost:").split(), "--port", str(daemon.port)])
+
+
 def refused_ending(job, ended, place):
     """Whether a job whose allocation was refused ended as it must: want of memory, and no whole file."""
     if ended.status == 0:
@@ -214,5 +255,5 @@ def daemons_refused(tally, scale):
 
 
 def limits(tally, scale):
-    for each in (descriptors, address_space, bad_calls, refused, daemons_refused):
+    for each in (descriptors, address_space, bad_calls, bad_seeks, refused, daemons_refused):
         each(tally, scale)

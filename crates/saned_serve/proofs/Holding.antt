@@ -334,7 +334,7 @@ does_apart : (act : Act) (id : ℕ) (d e : Core) → Does id d act e → HoldsAp
 does_apart (Opens port) id d e does was = subst (λ x. HoldsApart x) (sym does.after) (opened_apart d port was)
 does_apart (Hears got room bytes) id d e does was = subst (λ x. HoldsApart x) (sym does) was
 does_apart (Feed piece fed begins) id d e does was = fed_if (session_in (seat_of d.seats id)) d id piece fed e refl does.0.session was
-does_apart (Forgets port) id d e does was = subst (λ x. HoldsApart x) (sym does) was
+does_apart (Forgets told port) id d e does was = subst (λ x. HoldsApart x) (sym does) was
 does_apart (Take room bytes) id d e does was = subst (λ x. HoldsApart x) (sym does.after) (same_apart d (after_taken (length bytes)) id (taken_same (length bytes)) was)
 does_apart (Says got bytes) id d e does was = subst (λ x. HoldsApart x) (sym does) was
 does_apart (Looks frame) id d e does was = subst (λ x. HoldsApart x) (sym does.1) was

@@ -12,13 +12,13 @@ use Rattle.saned_serve.specs.declared.sockets.Got.{Got}
 use Rattle.saned_serve.specs.declared.sockets.Got.TheVariants.{Moved, Nothing, Lost}
 use Rattle.saned_serve.specs.Talk.{Talk, IsTold, after_read, after_write, moved, stirs, is_lost, read_in, taken_in, lost_in}
 use Rattle.saned_serve.specs.Talk.Move.{Read, Write}
-use Rattle.saned_serve.specs.Ledger.{Ledger, noticed}
+use Rattle.saned_serve.specs.Ledger.{Ledger, noticed, IsForgotten}
 use Rattle.saned_serve.specs.Ledger.Notice.{Dialed as Dials, Shut, Back}
 use Rattle.saned_serve.specs.Acts.{Act, Does, IsTurned, written_by, moves, leaves, opens, is_last, is_idle, is_over}
 use Rattle.saned_serve.specs.Acts.Act.{Opens, Hears, Feed, Forgets, Take, Says, Looks, Misses, Connect, Turn, Shows, Lose, HangsUp, Leaves}
 use Rattle.saned_serve.specs.Story.{Deed, Life, no_life, no_bytes, is_of, after_act, after_deed, life_of, MayDo, noted_act, Extends, AreEnds, Closing, Leads, Tally, tally_of, after_tally, counted, has_stopped, has_asked, seated, IsDone, IsShown}
 use Rattle.saned_serve.specs.Story.Deed.{Of}
-use Rattle.saned_serve.specs.Goes.{Phase, IsAt, Carries, CarriesIn, Tells, Went, Goes, Attends, forgotten, SendsTo, SendsIn, hung_up, Ended, Parts}
+use Rattle.saned_serve.specs.Goes.{Phase, IsAt, Carries, CarriesIn, Tells, Went, Goes, Attends, SendsTo, SendsIn, hung_up, Ended, Parts}
 use Rattle.saned_serve.specs.Goes.Phase.{Due, Filled, Heard, Ready, Spoken, Dialed, Loaded, Shown}
 use Rattle.saned_serve.specs.declared.link.Link.{Link}
 
@@ -76,7 +76,7 @@ opened_by : (act : Act) (d e : Core) (id : ℕ) → opens act ≡ false → Does
 opened_by (Opens port) d e id plain does = cc
 opened_by (Hears got room bytes) d e id plain does = ap (λ (c : Core). c.opened) does
 opened_by (Feed piece fed begins) d e id plain does = ap (λ (c : Core). c.opened) does.0.others
-opened_by (Forgets port) d e id plain does = ap (λ (c : Core). c.opened) does
+opened_by (Forgets told port) d e id plain does = ap (λ (c : Core). c.opened) does
 opened_by (Take room bytes) d e id plain does = ap (λ (c : Core). c.opened) does.after
 opened_by (Says got bytes) d e id plain does = ap (λ (c : Core). c.opened) does
 opened_by (Looks frame) d e id plain does = ap (λ (c : Core). c.opened) does.1
@@ -92,7 +92,7 @@ stands_for : (act : Act) (life : Life) (stopped : Bool) → opens act ≡ false 
 stands_for (Opens port) life stopped plain may = cc
 stands_for (Hears got room bytes) life stopped plain may = may.0
 stands_for (Feed piece fed begins) life stopped plain may = may.0
-stands_for (Forgets port) life stopped plain may = may.0
+stands_for (Forgets told port) life stopped plain may = may.0
 stands_for (Take room bytes) life stopped plain may = may.0
 stands_for (Says got bytes) life stopped plain may = may.0
 stands_for (Looks frame) life stopped plain may = may.0
@@ -295,17 +295,24 @@ heard_some history life l c over count buf fed told was tells =
       at = ((λ done. absurd (not_both done tells.at.0)), inl refl, tells.at.2.1, refl);
     }
 
--- and where a frame begins with that, the port is cleared
+-- and where a frame begins with that, the listeners are asked to forget
+cleared : {C : Type 0} (history : C → Option Talk) {d0 : Core} {n0 : Option Ledger} {past : List Deed} {id : ℕ} {e : Core} {n : Option Ledger} {life : Life} (port : ℕ) (k : Link C) (m : Option Ledger)
+    → Trail d0 n0 past id 0 true e n life → life.standing ≡ true → life.begun ≡ true → port ≡ life.port → IsForgotten port n m
+    → Tells history Heard (after_act (Forgets true port) life) k → Went history Heard d0 n0 past id true e m k
+cleared history {d0} {n0} {past} {id} {e} {n} {life} port k m t standing begun at (inl same) tells =
+    subst (λ o. Went history Heard d0 n0 past id true e o k) (sym same) (went Heard k (trail_on t (Forgets false port) e refl refl (standing, begun, at)) tells)
+cleared history {d0} {n0} {past} {id} {e} {n} {life} port k m t standing begun at (inr told) tells =
+    subst (λ o. Went history Heard d0 n0 past id true e o k) (sym told) (went Heard k (trail_on t (Forgets true port) e refl refl (standing, begun, at)) tells)
+
 fed_on : {C : Type 0} (history : C → Option Talk) {d0 : Core} {n0 : Option Ledger} {past : List Deed} {id : ℕ} {d : Core} {n : Option Ledger} {life : Life} (port : ℕ) (k : Link C) (piece : List ℕ) (fed : Fed) (begins : Bool) (e : Core) (m : Option Ledger)
-    → Trail d0 n0 past id 0 true d n life → life.standing ≡ true → life.heard ++ piece ≡ read_in life.control → port ≡ life.port → Does id d (Feed piece fed begins) e → m ≡ forgotten begins port n
+    → Trail d0 n0 past id 0 true d n life → life.standing ≡ true → life.heard ++ piece ≡ read_in life.control → port ≡ life.port → Does id d (Feed piece fed begins) e → (begins ≡ true → IsForgotten port n m) → (begins ≡ false → m ≡ n)
     → Tells history Heard (after_act (Feed piece fed false) life) k → Went history Heard d0 n0 past id true e m k
-fed_on history {d0} {n0} {past} {id} {d} {n} {life} port k piece fed false e m t standing all at does net tells =
+fed_on history {d0} {n0} {past} {id} {d} {n} {life} port k piece fed false e m t standing all at does forgets keeps tells =
     let first = trail_on t (Feed piece fed false) e refl does (standing, all) in
-    subst (λ o. Went history Heard d0 n0 past id true e o k) (sym net) (went Heard k first tells)
-fed_on history {d0} {n0} {past} {id} {d} {n} {life} port k piece fed true e m t standing all at does net tells =
+    subst (λ o. Went history Heard d0 n0 past id true e o k) (sym (keeps refl)) (went Heard k first tells)
+fed_on history {d0} {n0} {past} {id} {d} {n} {life} port k piece fed true e m t standing all at does forgets keeps tells =
     let first = trail_on t (Feed piece fed true) e refl does (standing, all) in
-    let then = trail_on first (Forgets port) e refl refl (standing, refl, at) in
-    subst (λ o. Went history Heard d0 n0 past id true e o k) (sym net) (went Heard k then tells)
+    cleared history port k m first standing refl at (forgets refl) tells
 
 pub goes_hears : {C : Type 0} (history : C → Option Talk) (d : Core) (n : Option Ledger) (l k : Link C) (e : Core) (m : Option Ledger) (c : C) (count : ℕ) (buf : List ℕ)
     → length buf ≡ 4096 → l.replies ≡ [] → history c ≡ after_read (Moved count) buf (history l.conn) → k ≡ record l { conn = c; is_over = k.is_over } → Attends l.id.number l.port (take count buf) d n l.is_over k.is_over e m
@@ -318,7 +325,7 @@ goes_hears history d n l k e m c count buf size none told same attends = record 
       let first = trail_on (trail d0 n0 past d n l.id.number leads) (Hears (Moved count) (length buf) piece) d refl refl (may_hear history life l (Moved count) (length buf) piece (has_stopped past) size none tells) in
       let now = heard_some history life l c k.is_over count buf attends.fed told attends.is tells in
       let fed = after_act (Feed piece attends.fed false) (after_act (Hears (Moved count) (length buf) piece) life) in
-      fed_on history l.port k piece attends.fed attends.begins e m first tells.standing (none_on life.heard piece (read_in life.control) (sym tells.heard)) tells.port attends.does attends.net
+      fed_on history l.port k piece attends.fed attends.begins e m first tells.standing (none_on life.heard piece (read_in life.control) (sym tells.heard)) tells.port attends.does attends.forgets attends.keeps
       (subst (λ x. Tells history Heard fed x) (sym same) now);
 }
 

@@ -33,7 +33,7 @@ sums_act : (act : Act) (life : Life) (stopped : Bool) → MayDo act life stopped
 sums_act (Opens port) life stopped may s = record { fed = ([], refl); all = λ off. stands refl off; said = ([], refl); shown = ([], refl) }
 sums_act (Hears got room bytes) life stopped may s = record { fed = front_more life.heard (read_in life.control) bytes s.fed; all = λ off. stands may.0 off; said = s.said; shown = s.shown }
 sums_act (Feed piece fed begins) life stopped may s = record { fed = front_same (life.heard ++ piece) (read_in life.control) (sym may.1); all = λ off. sym may.1; said = s.said; shown = s.shown }
-sums_act (Forgets port) life stopped may s = record { fed = s.fed; all = s.all; said = s.said; shown = s.shown }
+sums_act (Forgets told port) life stopped may s = record { fed = s.fed; all = s.all; said = s.said; shown = s.shown }
 sums_act (Take room bytes) life stopped may s = record { fed = s.fed; all = s.all; said = front_more (taken_in life.control) life.said bytes s.said; shown = s.shown }
 sums_act (Says got bytes) life stopped may s = record { fed = s.fed; all = s.all; said = front_taken (taken_in life.control) bytes life.said (moved got) may.2; shown = s.shown }
 sums_act (Looks frame) life stopped may s = record { fed = s.fed; all = s.all; said = s.said; shown = s.shown }
@@ -87,7 +87,7 @@ fate_act : (act : Act) (id : ℕ) (past : List Deed) → MayDo act (life_of id p
 fate_act (Opens port) id past may = inl (ap (λ (v : Life). v.standing) (life_at id (Of id (Opens port)) past (eq-eqb id id refl)))
 fate_act (Hears got room bytes) id past may = inl (ap (λ (v : Life). v.standing) (life_at id (Of id (Hears got room bytes)) past (eq-eqb id id refl)) ∙ may.0)
 fate_act (Feed piece fed begins) id past may = inl (ap (λ (v : Life). v.standing) (life_at id (Of id (Feed piece fed begins)) past (eq-eqb id id refl)) ∙ may.0)
-fate_act (Forgets port) id past may = inl (ap (λ (v : Life). v.standing) (life_at id (Of id (Forgets port)) past (eq-eqb id id refl)) ∙ may.0)
+fate_act (Forgets told port) id past may = inl (ap (λ (v : Life). v.standing) (life_at id (Of id (Forgets told port)) past (eq-eqb id id refl)) ∙ may.0)
 fate_act (Take room bytes) id past may = inl (ap (λ (v : Life). v.standing) (life_at id (Of id (Take room bytes)) past (eq-eqb id id refl)) ∙ may.0)
 fate_act (Says got bytes) id past may = inl (ap (λ (v : Life). v.standing) (life_at id (Of id (Says got bytes)) past (eq-eqb id id refl)) ∙ may.0)
 fate_act (Looks frame) id past may = inl (ap (λ (v : Life). v.standing) (life_at id (Of id (Looks frame)) past (eq-eqb id id refl)) ∙ may.0)

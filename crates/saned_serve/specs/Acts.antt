@@ -19,8 +19,9 @@ pub data Act : Type 0 where
   -- a piece is fed, this became of the session, and a frame that waits for its data connection
   -- began with it, or none
   Feed : (piece : List ℕ) (fed : Fed) (begins : Bool) → Act
-  -- connections at that data port that have ended are forgotten
-  Forgets : (port : ℕ) → Act
+  -- the listeners are asked to forget the connections at that data port that have ended, and their
+  -- ledger tells so, or does not where they forget none
+  Forgets : (told : Bool) (port : ℕ) → Act
   -- these replies are taken, into a buffer of so many bytes
   Take : (room : ℕ) (bytes : List ℕ) → Act
   -- one write of these bytes to the control connection
@@ -101,7 +102,7 @@ abbrev pub Does : ℕ → Core → Act → Core → Type 0
 Does number d (Opens port) e = IsOpened d port number e
 Does number d (Hears got room bytes) e = e ≡ d
 Does number d (Feed piece fed begins) e = Feeds number d piece fed e × (begins ≡ begun d number e)
-Does number d (Forgets port) e = e ≡ d
+Does number d (Forgets told port) e = e ≡ d
 Does number d (Take room bytes) e = IsTaken d number room bytes e
 Does number d (Says got bytes) e = e ≡ d
 Does number d (Looks frame) e = (frame ≡ frame_in (session_of d number)) × (e ≡ d)
@@ -118,7 +119,7 @@ abbrev pub moves : Act → Bool
 moves (Opens port) = true
 moves (Hears got room bytes) = stirs got
 moves (Feed piece fed begins) = false
-moves (Forgets port) = false
+moves (Forgets told port) = false
 moves (Take room bytes) = false
 moves (Says got bytes) = stirs got
 moves (Looks frame) = false
@@ -135,7 +136,7 @@ abbrev pub leaves : Act → ℕ
 leaves (Opens port) = 0
 leaves (Hears got room bytes) = 0
 leaves (Feed piece fed begins) = 0
-leaves (Forgets port) = 0
+leaves (Forgets told port) = 0
 leaves (Take room bytes) = 0
 leaves (Says got bytes) = 0
 leaves (Looks frame) = 0
@@ -152,7 +153,7 @@ abbrev pub opens : Act → Bool
 opens (Opens port) = true
 opens (Hears got room bytes) = false
 opens (Feed piece fed begins) = false
-opens (Forgets port) = false
+opens (Forgets told port) = false
 opens (Take room bytes) = false
 opens (Says got bytes) = false
 opens (Looks frame) = false

@@ -5,8 +5,8 @@ use Rattle.saned_core.specs.State.{Core}
 use Rattle.saned_serve.specs.declared.sockets.Got.{Got}
 use Rattle.saned_serve.specs.declared.sockets.Got.TheVariants.{Nothing}
 use Rattle.saned_serve.specs.Talk.{Talk, read_in, taken_in, lost_in, IsTold, after_write, moved}
-use Rattle.saned_serve.specs.Ledger.{Ledger, noticed}
-use Rattle.saned_serve.specs.Ledger.Notice.{Forgot, Back}
+use Rattle.saned_serve.specs.Ledger.{Ledger, noticed, IsForgotten}
+use Rattle.saned_serve.specs.Ledger.Notice.{Back}
 use Rattle.saned_serve.specs.Acts.{Does, is_over}
 use Rattle.saned_serve.specs.Acts.Act.{Feed}
 use Rattle.saned_serve.specs.Story.{Deed, Life, life_of, Extends, Closing, Leads, tally_of, counted, has_stopped, has_asked, seated, IsDone}
@@ -114,16 +114,15 @@ pub record Goes {C : Type 0} (history : C → Option Talk) (from to : Phase) (d 
   pub same : k.id ≡ l.id
   pub goes : (d0 : Core) (n0 : Option Ledger) (past : List Deed) → Leads d0 n0 past d n → Tells history from (life_of l.id.number past) l → Went history to d0 n0 past l.id.number stir e m k
 
--- a session was fed, it is over now or not, and where a frame began with that its port was cleared
-abbrev pub forgotten : Bool → ℕ → Option Ledger → Option Ledger
-forgotten begins port n = cond begins (noticed (Forgot port) n) n
-
+-- a session was fed, it is over now or not, and where a frame began with that, and only there, the
+-- listeners were asked to forget what had ended at its port
 pub record Attends (id port : ℕ) (piece : List ℕ) (d : Core) (n : Option Ledger) (was over : Bool) (e : Core) (m : Option Ledger) : Type 0 where
   pub fed : Fed
   pub begins : Bool
   pub is : over ≡ (was || is_over fed)
   pub does : Does id d (Feed piece fed begins) e
-  pub net : m ≡ forgotten begins port n
+  pub forgets : begins ≡ true → IsForgotten port n m
+  pub keeps : begins ≡ false → m ≡ n
 
 -- one write of the record that waits, where there is a data connection and a record waits
 abbrev pub SendsTo : {C : Type 0} → (C → Option Talk) → Got → C → List ℕ → Option C → List ℕ → Type 0

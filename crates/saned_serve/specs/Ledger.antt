@@ -1,5 +1,5 @@
 -- What a set of listeners keeps of what it was asked.
-use Rattle.std.specs.Prelude.{ℕ, Bool, Option, None, Some, List, ◌∷◌}
+use Rattle.std.specs.Prelude.{◌≡◌, ◌⊎◌, ℕ, Bool, Option, None, Some, List, ◌∷◌}
 use Rattle.saned_serve.specs.Talk.{Talk}
 
 pub data Notice : Type 0 where
@@ -7,8 +7,7 @@ pub data Notice : Type 0 where
   Asked : (came : Bool) → Notice
   -- a data port was asked for
   Port : (port : Option ℕ) → Notice
-  -- a frame begins that will wait at that port: connections there that had ended were to be
-  -- forgotten
+  -- connections at that port that had ended were to be forgotten
   Forgot : (port : ℕ) → Notice
   -- a data connection at that port was asked for, and came or did not
   Dialed : (port : ℕ) (came : Bool) → Notice
@@ -24,3 +23,8 @@ Ledger = List Notice
 abbrev pub noticed : Notice → Option Ledger → Option Ledger
 noticed notice None = None
 noticed notice (Some ledger) = Some (notice ∷ ledger)
+
+-- asked to forget what has ended at a port: the ledger tells so, or is as it was where nothing is
+-- ever forgotten
+abbrev pub IsForgotten : ℕ → Option Ledger → Option Ledger → Type 0
+IsForgotten port before after = (after ≡ before) ⊎ (after ≡ noticed (Forgot port) before)

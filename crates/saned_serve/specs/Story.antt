@@ -91,7 +91,7 @@ after_act (Feed piece fed begins) life = record life {
   begun = begins;
   tended = false;
 }
-after_act (Forgets port) life = record life { begun = false }
+after_act (Forgets told port) life = record life { begun = false }
 after_act (Take room bytes) life = record life {
   said = life.said ++ bytes;
   drained = no_bytes bytes;
@@ -182,9 +182,9 @@ IsNext life = (life.visited ≡ true) × (life.tended ≡ false)
 -- each act has its place: in a turn a control connection is read at most once and then written at
 -- most once, and then at most one record is offered to the data connection, or one is awaited; a
 -- control connection is read only where the daemon has no reply for it that is not written, and
--- what it brought is fed at once; where a frame begins with that, the session's data port is
--- cleared of connections that have ended before any reply is taken, and else never; what is taken
--- of the daemon is written whole before more is taken; and a data connection is awaited at the
+-- what it brought is fed at once; only where a frame begins with that are the listeners asked to
+-- forget what has ended at the session's data port, before any reply is taken; what is taken of
+-- the daemon is written whole before more is taken; and a data connection is awaited at the
 -- session's own port. What a connection that is handed back was written is a front of the
 -- session's replies, or of its records
 abbrev pub MayDo : Act → Life → Bool → Type 0
@@ -199,7 +199,7 @@ MayDo (Hears got room bytes) life stopped =
 MayDo (Feed piece fed begins) life stopped =
     (life.standing ≡ true)
     × (life.heard ++ piece ≡ read_in life.control)
-MayDo (Forgets port) life stopped =
+MayDo (Forgets told port) life stopped =
     (life.standing ≡ true)
     × (life.begun ≡ true)
     × (port ≡ life.port)
@@ -345,7 +345,7 @@ abbrev pub noted_act : Act → Option Ledger → Option Ledger
 noted_act (Opens port) ledger = noticed (Port (Some port)) (noticed (Asked true) ledger)
 noted_act (Hears got room bytes) ledger = ledger
 noted_act (Feed piece fed begins) ledger = ledger
-noted_act (Forgets port) ledger = noticed (Forgot port) ledger
+noted_act (Forgets told port) ledger = cond told (noticed (Forgot port) ledger) ledger
 noted_act (Take room bytes) ledger = ledger
 noted_act (Says got bytes) ledger = ledger
 noted_act (Looks frame) ledger = ledger
@@ -424,7 +424,7 @@ abbrev pub IsEndAct : Act → Type 0
 IsEndAct (Opens port) = ⊥
 IsEndAct (Hears got room bytes) = ⊥
 IsEndAct (Feed piece fed begins) = ⊥
-IsEndAct (Forgets port) = ⊥
+IsEndAct (Forgets told port) = ⊥
 IsEndAct (Take room bytes) = ⊥
 IsEndAct (Says got bytes) = ⊥
 IsEndAct (Looks frame) = ⊥

@@ -18,13 +18,15 @@ ghost use Rattle.saned_serve.specs.Held.{HoldsApart};
 pub fn connections_tell_their_sessions()
     ensures fed { (story : List Deed) (id : ℕ) → IsStory story
         → IsFront (life_of id story).heard (read_in (life_of id story).control) }
-    ensures all_fed { (story : List Deed) (id : ℕ) → IsStory story → (life_of id story).standing ≡ false
+    ensures all_fed { (story : List Deed) (id : ℕ) → IsStory story
+        → (life_of id story).standing ≡ false
         → read_in (life_of id story).control ≡ (life_of id story).heard }
     ensures said { (story : List Deed) (id : ℕ) → IsStory story
         → IsFront (taken_in (life_of id story).control) (life_of id story).said }
     ensures shown { (story : List Deed) (id : ℕ) → IsStory story
         → IsFront (taken_in (life_of id story).image) (life_of id story).shown }
-    ensures left { (story : List Deed) (id port : ℕ) → IsStory story → Holds (Of id (Opens port)) story
+    ensures left { (story : List Deed) (id port : ℕ) → IsStory story
+        → Holds (Of id (Opens port)) story
         → (life_of id story).standing ≡ false → WasLeft id story }
 {}
 

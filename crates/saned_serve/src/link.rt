@@ -75,7 +75,9 @@ fn attend<D: Device, L: Listeners>(
 )
     requires { length piece.now ≤ 4096 }
     ensures link { link.new ≡ record link.old { is_over = link.new.is_over } }
-    ensures attends { Attends link.old.id.number link.old.port piece.now (core D.state daemon.old) (L.ledger net.old) link.old.is_over link.new.is_over (core D.state daemon.new) (L.ledger net.new) }
+    ensures attends { Attends link.old.id.number link.old.port piece.now (core D.state daemon.old)
+        (L.ledger net.old) link.old.is_over link.new.is_over (core D.state daemon.new)
+        (L.ledger net.new) }
 {
     let was_waiting = is_waiting(daemon, link.id);
     let fed = daemon.feed(alloc, link.id, piece);
@@ -93,7 +95,8 @@ fn hear<D: Device, L: Listeners>(
     link: &mut Link<L::Conn>,
 ) -> bool
     requires { link.old.replies ≡ [] }
-    ensures { Goes L.Conn.history Filled Heard (core D.state daemon.old) (L.ledger net.old) link.old result (core D.state daemon.new) (L.ledger net.new) link.new }
+    ensures { Goes L.Conn.history Filled Heard (core D.state daemon.old) (L.ledger net.old) link.old
+        result (core D.state daemon.new) (L.ledger net.new) link.new }
 {
     let mut room = [0u8; PIECE];
     match link.conn.read(&mut room) {
@@ -111,8 +114,10 @@ fn hear<D: Device, L: Listeners>(
 
 /// Takes replies where none wait.
 fn fill_replies<D: Device, C: Socket>(daemon: &mut Daemon<D>, link: &mut Link<C>)
-    ensures first { (n : Option Ledger) → Goes C.history Due Filled (core D.state daemon.old) n link.old false (core D.state daemon.new) n link.new }
-    ensures again { (n : Option Ledger) → Goes C.history Heard Ready (core D.state daemon.old) n link.old false (core D.state daemon.new) n link.new }
+    ensures first { (n : Option Ledger) → Goes C.history Due Filled (core D.state daemon.old) n
+        link.old false (core D.state daemon.new) n link.new }
+    ensures again { (n : Option Ledger) → Goes C.history Heard Ready (core D.state daemon.old) n
+        link.old false (core D.state daemon.new) n link.new }
 {
     if link.replies.is_empty() {
         link.replies.take_reply(daemon, link.id);
@@ -127,7 +132,8 @@ fn listen<D: Device, L: Listeners>(
     net: &mut L,
     link: &mut Link<L::Conn>,
 ) -> bool
-    ensures { Goes L.Conn.history Due Heard (core D.state daemon.old) (L.ledger net.old) link.old result (core D.state daemon.new) (L.ledger net.new) link.new }
+    ensures { Goes L.Conn.history Due Heard (core D.state daemon.old) (L.ledger net.old) link.old
+        result (core D.state daemon.new) (L.ledger net.new) link.new }
 {
     fill_replies(daemon, link);
     if link.replies.is_empty() {
@@ -148,7 +154,8 @@ fn finish<C>(link: &mut Link<C>)
 
 /// One write of the replies that wait.
 fn send_replies<C: Socket>(link: &mut Link<C>) -> bool
-    ensures { (d : Core) (n : Option Ledger) → Goes C.history Ready Spoken d n link.old result d n link.new }
+    ensures { (d : Core) (n : Option Ledger)
+        → Goes C.history Ready Spoken d n link.old result d n link.new }
 {
     if link.replies.is_empty() {
         finish(link);
@@ -166,7 +173,8 @@ fn send_replies<C: Socket>(link: &mut Link<C>) -> bool
 
 /// One write of replies, which are taken from the daemon where none wait.
 fn speak<D: Device, C: Socket>(daemon: &mut Daemon<D>, link: &mut Link<C>) -> bool
-    ensures { (n : Option Ledger) → Goes C.history Heard Spoken (core D.state daemon.old) n link.old result (core D.state daemon.new) n link.new }
+    ensures { (n : Option Ledger) → Goes C.history Heard Spoken (core D.state daemon.old) n link.old
+        result (core D.state daemon.new) n link.new }
 {
     fill_replies(daemon, link);
     send_replies(link)
@@ -188,7 +196,8 @@ fn dial<D: Device, L: Listeners>(
     net: &mut L,
     link: &mut Link<L::Conn>,
 ) -> bool
-    ensures { Goes L.Conn.history Spoken Dialed (core D.state daemon.old) (L.ledger net.old) link.old result (core D.state daemon.new) (L.ledger net.new) link.new }
+    ensures { Goes L.Conn.history Spoken Dialed (core D.state daemon.old) (L.ledger net.old)
+        link.old result (core D.state daemon.new) (L.ledger net.new) link.new }
 {
     if link.image.is_some() {
         return false;
@@ -215,7 +224,8 @@ fn dial<D: Device, L: Listeners>(
 /// Takes a record where none waits.
 fn fill_records<D: Device, C: Socket>(daemon: &mut Daemon<D>, link: &mut Link<C>)
     requires { IsSome link.old.image }
-    ensures { (n : Option Ledger) → Goes C.history Dialed Loaded (core D.state daemon.old) n link.old false (core D.state daemon.new) n link.new }
+    ensures { (n : Option Ledger) → Goes C.history Dialed Loaded (core D.state daemon.old) n
+        link.old false (core D.state daemon.new) n link.new }
 {
     if link.records.is_empty() {
         let step = link.records.take_record(daemon, link.id);
@@ -239,7 +249,8 @@ fn show<D: Device, L: Listeners>(
     net: &mut L,
     link: &mut Link<L::Conn>,
 ) -> bool
-    ensures { Goes L.Conn.history Dialed Shown (core D.state daemon.old) (L.ledger net.old) link.old result (core D.state daemon.new) (L.ledger net.new) link.new }
+    ensures { Goes L.Conn.history Dialed Shown (core D.state daemon.old) (L.ledger net.old) link.old
+        result (core D.state daemon.new) (L.ledger net.new) link.new }
 {
     if link.image.is_none() {
         return false;
@@ -268,7 +279,8 @@ pub fn converse<D: Device, L: Listeners>(
     net: &mut L,
     link: &mut Link<L::Conn>,
 ) -> bool
-    ensures { Goes L.Conn.history Due Shown (core D.state daemon.old) (L.ledger net.old) link.old result (core D.state daemon.new) (L.ledger net.new) link.new }
+    ensures { Goes L.Conn.history Due Shown (core D.state daemon.old) (L.ledger net.old) link.old
+        result (core D.state daemon.new) (L.ledger net.new) link.new }
 {
     let has_heard = listen(alloc, daemon, net, link);
     let has_spoken = speak(daemon, link);
@@ -319,7 +331,8 @@ pub fn leave<D: Device, L: Listeners>(
     net: &mut L,
     mut link: Link<L::Conn>,
 ) -> Rooms
-    ensures { Parts L.Conn.history (core D.state daemon.old) (L.ledger net.old) link (core D.state daemon.new) (L.ledger net.new) }
+    ensures { Parts L.Conn.history (core D.state daemon.old) (L.ledger net.old) link
+        (core D.state daemon.new) (L.ledger net.new) }
 {
     hang_up(net, &mut link);
     net.close_data(link.port);

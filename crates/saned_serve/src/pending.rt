@@ -92,7 +92,8 @@ impl<const ROOM: usize> Pending<ROOM> {
 
     /// Takes replies of a session, in place of what waits.
     pub fn take_reply<D: Device>(&mut self, daemon: &mut Daemon<D>, id: SessionId)
-        ensures { Does id.number (core D.state daemon.old) (Take ROOM self.new) (core D.state daemon.new) }
+        ensures { Does id.number (core D.state daemon.old) (Take ROOM self.new)
+            (core D.state daemon.new) }
     {
         let n = daemon.take_reply(id, self.room.as_mut_slice());
         self.from = 0;
@@ -101,7 +102,8 @@ impl<const ROOM: usize> Pending<ROOM> {
 
     /// Takes a record of a session, in place of what waits.
     pub fn take_record<D: Device>(&mut self, daemon: &mut Daemon<D>, id: SessionId) -> DataStep
-        ensures { Does id.number (core D.state daemon.old) (Turn ROOM result self.new) (core D.state daemon.new) }
+        ensures { Does id.number (core D.state daemon.old) (Turn ROOM result self.new)
+            (core D.state daemon.new) }
     {
         let step = daemon.data_turn(id, self.room.as_mut_slice());
         self.from = 0;

@@ -65,7 +65,8 @@ fn talk_at<D: Device, L: Listeners>(
     net: &mut L,
     seat: &mut Seat<L::Conn>,
 ) -> Visit
-    ensures keeps { Keeps L.Conn.history (core D.state daemon.old) (L.ledger net.old) seat.old.link result.has_moved (core D.state daemon.new) (L.ledger net.new) seat.new.link }
+    ensures keeps { Keeps L.Conn.history (core D.state daemon.old) (L.ledger net.old) seat.old.link
+        result.has_moved (core D.state daemon.new) (L.ledger net.new) seat.new.link }
     ensures left { IsLeft result.has_left seat.new.link }
     ensures roomed { IsRoomed seat.old → IsRoomed seat.new }
 {
@@ -87,7 +88,8 @@ fn talk_at<D: Device, L: Listeners>(
 fn vacate<D: Device, L: Listeners>(daemon: &mut Daemon<D>, net: &mut L, seat: &mut Seat<L::Conn>)
     ensures none { seat.new.link ≡ None }
     ensures roomed { IsRoomed seat.old → IsRoomed seat.new }
-    ensures empties { Empties L.Conn.history (core D.state daemon.old) (L.ledger net.old) seat.old.link (core D.state daemon.new) (L.ledger net.new) }
+    ensures empties { Empties L.Conn.history (core D.state daemon.old) (L.ledger net.old)
+        seat.old.link (core D.state daemon.new) (L.ledger net.new) }
 {
     if let Some(link) = seat.link.take() {
         let rooms = leave(daemon, net, link);
@@ -105,7 +107,8 @@ pub fn turn_at<D: Device, L: Listeners>(
 ) -> Visit
     requires inside { i < length seats.old }
     requires roomed { All IsRoomed seats.old }
-    ensures went { (d0 : Core) (n0 : Option Ledger) (past : List Deed) → has_asked past ≡ true → Stands L.Conn.history d0 n0 past (core D.state daemon.old) (L.ledger net.old) i seats.old
+    ensures went { (d0 : Core) (n0 : Option Ledger) (past : List Deed) → has_asked past ≡ true
+        → Stands L.Conn.history d0 n0 past (core D.state daemon.old) (L.ledger net.old) i seats.old
         → WentOn L.Conn.history d0 n0 past (one_if result.has_left) result.has_moved (core D.state daemon.new) (L.ledger net.new) (i + 1) seats.new }
     ensures roomed { All IsRoomed seats.new }
 {
@@ -127,7 +130,8 @@ fn greet<D: Device, L: Listeners>(
     requires none { seat.old.link ≡ None }
     requires roomed { IsRoomed seat.old }
     ensures roomed { IsRoomed seat.new }
-    ensures greets { Greets L.Conn.history (core D.state daemon.old) (L.ledger net.old) result (core D.state daemon.new) (L.ledger net.new) seat.new.link }
+    ensures greets { Greets L.Conn.history (core D.state daemon.old) (L.ledger net.old) result
+        (core D.state daemon.new) (L.ledger net.new) seat.new.link }
 {
     let Some(rooms) = seat.rooms.take() else {
         return false;
@@ -198,7 +202,8 @@ fn greet_at<D: Device, L: Listeners>(
     requires len { length seats.old ≡ most_sessions }
     requires roomed { All IsRoomed seats.old }
     ensures roomed { All IsRoomed seats.new }
-    ensures went { (d0 : Core) (n0 : Option Ledger) (past : List Deed) → has_asked past ≡ false → Stands L.Conn.history d0 n0 past (core D.state daemon.old) (L.ledger net.old) 0 seats.old
+    ensures went { (d0 : Core) (n0 : Option Ledger) (past : List Deed) → has_asked past ≡ false
+        → Stands L.Conn.history d0 n0 past (core D.state daemon.old) (L.ledger net.old) 0 seats.old
         → WentOn L.Conn.history d0 n0 past 0 result (core D.state daemon.new) (L.ledger net.new) 0 seats.new }
 {
     let seat = &mut seats[i];
@@ -215,7 +220,8 @@ pub fn welcome<D: Device, L: Listeners>(
     requires len { length seats.old ≡ most_sessions }
     requires roomed { All IsRoomed seats.old }
     ensures roomed { All IsRoomed seats.new }
-    ensures went { (d0 : Core) (n0 : Option Ledger) (past : List Deed) → has_asked past ≡ false → Stands L.Conn.history d0 n0 past (core D.state daemon.old) (L.ledger net.old) 0 seats.old
+    ensures went { (d0 : Core) (n0 : Option Ledger) (past : List Deed) → has_asked past ≡ false
+        → Stands L.Conn.history d0 n0 past (core D.state daemon.old) (L.ledger net.old) 0 seats.old
         → WentOn L.Conn.history d0 n0 past 0 result (core D.state daemon.new) (L.ledger net.new) 0 seats.new }
 {
     for i in 0..seats.len() {
@@ -243,7 +249,9 @@ pub fn close_all<D: Device, L: Listeners>(
     net: &mut L,
     mut seats: Vec<Seat<L::Conn>>,
 )
-    ensures { (d0 : Core) (n0 : Option Ledger) (past : List Deed) → has_stopped past ≡ true → Stands L.Conn.history d0 n0 past (core D.state daemon.old) (L.ledger net.old) 0 seats.items
+    ensures { (d0 : Core) (n0 : Option Ledger) (past : List Deed) → has_stopped past ≡ true
+        → Stands L.Conn.history d0 n0 past (core D.state daemon.old) (L.ledger net.old) 0
+        seats.items
         → Closes d0 n0 past (core D.state daemon.new) (L.ledger net.new) }
 {
     while let Some(mut seat) = seats.pop() {

@@ -29,7 +29,8 @@ fn take_turn<D: Device, L: Listeners>(
     requires len { length seats.old ≡ most_sessions }
     requires roomed { All IsRoomed seats.old }
     ensures roomed { All IsRoomed seats.new }
-    ensures turned { (d0 : Core) (n0 : Option Ledger) (past : List Deed) → has_asked past ≡ false → Stands L.Conn.history d0 n0 past (core D.state daemon.old) (L.ledger net.old) 0 seats.old
+    ensures turned { (d0 : Core) (n0 : Option Ledger) (past : List Deed) → has_asked past ≡ false
+        → Stands L.Conn.history d0 n0 past (core D.state daemon.old) (L.ledger net.old) 0 seats.old
         → TookTurn L.Conn.history d0 n0 past result.left result.has_moved (core D.state daemon.new) (L.ledger net.new) seats.new }
     ensures few { result.left ≤ length seats.old }
 {
@@ -76,7 +77,8 @@ fn take_turns<D: Device, L: Listeners>(
 ) -> ServeEnd
     requires len { length seats.old ≡ most_sessions }
     requires roomed { All IsRoomed seats.old }
-    ensures ran { (d0 : Core) (n0 : Option Ledger) → Stands L.Conn.history d0 n0 [] (core D.state daemon.old) (L.ledger net.old) 0 seats.old
+    ensures ran { (d0 : Core) (n0 : Option Ledger)
+        → Stands L.Conn.history d0 n0 [] (core D.state daemon.old) (L.ledger net.old) 0 seats.old
         → Ran L.Conn.history d0 n0 result sessions idle_turns (core D.state daemon.new) (L.ledger net.new) seats.new }
     ensures memory { result ≢ ServeEnd.NoMem }
 {
@@ -111,8 +113,10 @@ pub fn serve<D: Device, L: Listeners>(
     sessions: u64,
     idle_turns: u64,
 ) -> ServeEnd
-    ensures served { Served (core D.state daemon.old) (L.ledger net.old) (core D.state daemon.new) (L.ledger net.new) result sessions idle_turns }
-    ensures memory { result ≡ ServeEnd.NoMem → (daemon.new ≡ daemon.old) × (L.ledger net.new ≡ L.ledger net.old) }
+    ensures served { Served (core D.state daemon.old) (L.ledger net.old) (core D.state daemon.new)
+        (L.ledger net.new) result sessions idle_turns }
+    ensures memory { result ≡ ServeEnd.NoMem → (daemon.new ≡ daemon.old)
+        × (L.ledger net.new ≡ L.ledger net.old) }
 {
     let mut seats: Vec<Seat<L::Conn>> = match seats_for(alloc) {
         Ok(seats) => seats,

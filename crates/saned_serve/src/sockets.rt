@@ -2,8 +2,8 @@
 
 ghost use Rattle.std.specs.Prelude.{◌≡◌, ◌≤◌, ◌<◌, ℕ, Option, None, Some, IfSome, is_some, [], length};
 ghost use Rattle.saned_serve.specs.Talk.{Talk, MovesWithin, after_read, after_write, IsTold};
-ghost use Rattle.saned_serve.specs.Ledger.{Ledger, noticed};
-ghost use Rattle.saned_serve.specs.Ledger.Notice.{Asked, Port, Forgot, Dialed, Shut, Back};
+ghost use Rattle.saned_serve.specs.Ledger.{Ledger, noticed, IsForgotten};
+ghost use Rattle.saned_serve.specs.Ledger.Notice.{Asked, Port, Dialed, Shut, Back};
 
 /// What a call on a socket came to.
 #[derive(Clone, Copy, Debug, PartialEq, Eq)]
@@ -53,7 +53,10 @@ pub trait Listeners {
     /// that their peers have ended by now are of no frame. What takes connections only as they are
     /// dialled has none such, and does nothing.
     fn forget_ended(&mut self, port: u16)
-        ensures { ledger self.new ≡ noticed (Forgot port) (ledger self.old) };
+        ensures { IsForgotten port (ledger self.old) (ledger self.new) }
+    {
+        let _ = port;
+    }
 
     /// A connection at such a port, where one is there.
     fn accept_data(&mut self, port: u16) -> Option<Self::Conn>

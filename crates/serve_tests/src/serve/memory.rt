@@ -101,6 +101,8 @@ pub struct MemoryNet<R: Abort + Drop> {
     pub accepted: u64,
     /// How often it was asked for a client, so how many turns there were while a seat was free.
     pub asked: u64,
+    /// How often it was asked to forget what had ended at a port.
+    pub forgotten: u64,
     /// How many data ports it has left.
     pub ports: u16,
     /// Those that are open.
@@ -117,6 +119,7 @@ impl<R: Abort + Drop> MemoryNet<R> {
             images: Vec::new(alloc),
             accepted: 0,
             asked: 0,
+            forgotten: 0,
             ports: 100,
             open: Vec::new(alloc),
             back: Vec::new(alloc),
@@ -168,6 +171,7 @@ impl<R: Abort + Drop> Listeners for MemoryNet<R> {
 
     fn forget_ended(&mut self, port: u16) {
         self.expect_open(port);
+        self.forgotten = self.forgotten.saturating_add(1);
     }
 
     fn accept_data(&mut self, port: u16) -> Option<MemorySocket> {

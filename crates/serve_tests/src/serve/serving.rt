@@ -121,6 +121,8 @@ fn expect_sample<R: Abort + Copy + Drop>(rt: R, alloc: Global, piece: usize, dea
     let end = serve(alloc, &mut daemon, &mut net, 0, 200);
     assert!(rt; end == ServeEnd::Idle);
     assert!(rt; net.asked < 10_000);
+    // Once for the one frame, however many pieces its START came in.
+    assert!(rt; net.forgotten == 1);
     let [shown, control] = net.back.as_slice() else {
         panic!(rt; "other connections came back")
     };
