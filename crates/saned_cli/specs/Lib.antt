@@ -1,3 +1,4 @@
 pub mod Options
 pub mod Words
 pub mod Ending
+pub mod Calls

@@ -1,6 +1,7 @@
 -- The words of saned's command line behind the program's name: options, each `--NAME=VALUE` or `--NAME` and its value, which
 -- is the next word, whatever that begins with. No value is empty.
-use Rattle.std.specs.Prelude.{ℕ, ◌+◌, ◌≡◌, ◌≢◌, ◌≤◌, ◌⊎◌, ◌==◌, ◌&&◌, Bool, true, false, if◌then◌else◌, Option, Some, None, option_map, option_and_then, is_none, List, [], ◌∷◌, ◌++◌, drop, length, position, slice_index}
+use Rattle.std.specs.Prelude.{ℕ, ◌+◌, ◌≡◌, ◌≢◌, ◌≤◌, ◌⊎◌, ◌==◌, ◌&&◌, Bool, true, false, if◌then◌else◌, Option, Some, None, option_map, option_and_then, is_none, List, [], ◌∷◌, ◌++◌, drop, take, length, position, slice_index}
+use Rattle.std.specs.Str.{bytes_eq}
 
 abbrev pub is_equals : ℕ → Bool
 is_equals b = b == 61
@@ -34,6 +35,19 @@ joined_from waiting (word ∷ words) = option_and_then (λ step. option_map (λ 
 
 abbrev pub joined : List (List ℕ) → Option (List (List ℕ))
 joined words = joined_from None words
+
+-- the value, where the option begins so, with a name and `=`
+unfoldable pub value_behind : List ℕ → List ℕ → Option (List ℕ)
+value_behind start option = if bytes_eq (take (length start) option) start then Some (drop (length start) option) else None
+
+abbrev pub first_of : Option (List ℕ) → Option (List ℕ) → Option (List ℕ)
+first_of (Some value) _ = Some value
+first_of None other = other
+
+-- the value of the first option that begins so
+abbrev pub value_of : List ℕ → List (List ℕ) → Option (List ℕ)
+value_of start [] = None
+value_of start (option ∷ options) = first_of (value_behind start option) (value_of start options)
 
 -- the options with those that a step completes behind them, and the name that waits then
 abbrev pub with_step : List (List ℕ) → Option (List (List ℕ) × Option (List ℕ)) → Option (List (List ℕ) × Option (List ℕ))

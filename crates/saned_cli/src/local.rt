@@ -1,4 +1,6 @@
-ghost use Rattle.std.specs.Prelude.{◌≡◌, ◌≤◌, ◌<◌, length, is_some, [], IfOk};
+ghost use Rattle.std.specs.Prelude.{◌≡◌, ◌≤◌, ◌<◌, ◌==◌, ◌↔◌, if◌then◌else◌, length, is_some, [], IfOk, IfErr, IsTrue};
+ghost use Rattle.std.specs.IoError.{error_kind};
+ghost use Rattle.saned_cli.specs.Calls.{IsForNow};
 ghost use Rattle.saned_serve.specs.Talk.{MovesWithin, after_read, after_write, IsTold};
 ghost use Rattle.saned_serve.specs.Ledger.{noticed};
 ghost use Rattle.saned_serve.specs.Ledger.Notice.{Asked, Port, Forgot, Dialed, Shut, Back};
@@ -52,7 +54,9 @@ fn listen(rt: &impl Net, port: u16) -> io::Result<TcpListener> {
 }
 
 /// Whether a call that failed may be made again.
-fn is_for_now(e: &io::Error) -> bool {
+fn is_for_now(e: &io::Error) -> bool
+    ensures { IsTrue result ↔ IsForNow (error_kind e.now) }
+{
     matches!(e.kind(), ErrorKind::WouldBlock | ErrorKind::Interrupted)
 }
 
@@ -119,7 +123,10 @@ impl<R: Net + Clock + Drop> LocalNet<R> {
 /// What a call on a stream came to, which moved at most so many bytes.
 fn how(outcome: io::Result<usize>, most: usize) -> Got
     requires { IfOk outcome (λ n. n ≤ most) }
-    ensures { MovesWithin result most }
+    ensures within { MovesWithin result most }
+    ensures moved { IfOk outcome (λ n. result ≡ (if n == 0 then Got.Lost else Got.Moved n)) }
+    ensures for_now { IfErr outcome (λ e. IsForNow (error_kind e) → result ≡ Got.Nothing) }
+    ensures lost { IfErr outcome (λ e. ¬ IsForNow (error_kind e) → result ≡ Got.Lost) }
 {
     match outcome {
         Ok(0) => Got::Lost,

@@ -1,5 +1,6 @@
-ghost use Rattle.std.specs.Prelude.{◌≡◌, ◌≤◌, ◌<◌, ◌^◌, ℕ, IfErr, IfOk, option_map};
-ghost use Rattle.saned_cli.specs.Options.{IsInBounds, IsNumberOf};
+ghost use Rattle.std.specs.Prelude.{◌≡◌, ◌≤◌, ◌<◌, ◌^◌, ℕ, IfErr, IfOk, map, option_map, string_bytes};
+ghost use Rattle.saned_cli.specs.Options.{AreNamed, IsNumberOf, IsOptionsOf, IsOrderOf};
+ghost use Rattle.saned_cli.specs.Words.{value_of};
 
 use crate::words::{joined, plain_number};
 use clap::error::ErrorKind;
@@ -102,14 +103,47 @@ fn as_strs<'a>(alloc: Global, options: &'a [String]) -> Result<Vec<&'a str>, Opt
     Ok(strs)
 }
 
-fn text(alloc: Global, found: Option<&str>) -> Result<Option<String>, OptionsFault> {
+/// The value of the first option that begins so, with a name and `=`.
+fn value_of<'a>(start: &[u8], options: &'a [String]) -> Option<&'a [u8]>
+    ensures { option_map (λ value. value.now) result ≡ value_of start.now (map string_bytes options.now) }
+{
+    for option in options {
+        if let Some(value) = option.as_bytes().strip_prefix(start) {
+            return Some(value);
+        }
+    }
+    None
+}
+
+/// The value of the first option that begins so, where `clap` reads the same.
+fn agreed<'a>(
+    found: Option<&'a str>,
+    start: &[u8],
+    options: &[String],
+) -> Result<Option<&'a str>, OptionsFault>
+    ensures { IfOk result (λ value. option_map (λ text. text.now) value
+        ≡ value_of start.now (map string_bytes options.now)) }
+{
+    match (found, value_of(start, options)) {
+        (None, None) => Ok(None),
+        (Some(found), Some(value)) if found.as_bytes() == value => Ok(Some(found)),
+        _ => Err(OptionsFault::Bad),
+    }
+}
+
+fn text(alloc: Global, found: Option<&str>) -> Result<Option<String>, OptionsFault>
+    ensures { IfOk result (λ text. option_map string_bytes text
+        ≡ option_map (λ text. text.now) found.entry) }
+{
     match found {
         Some(text) => Ok(Some(String::from_str(alloc, text)?)),
         None => Ok(None),
     }
 }
 
-fn byte_order(found: Option<&str>) -> Result<ByteOrder, OptionsFault> {
+fn byte_order(found: Option<&str>) -> Result<ByteOrder, OptionsFault>
+    ensures { IfOk result (IsOrderOf (option_map (λ text. text.now) found.entry)) }
+{
     match found {
         None | Some("little") => Ok(ByteOrder::Little),
         Some("big") => Ok(ByteOrder::Big),
@@ -133,12 +167,45 @@ fn number(text: Option<&str>, default: u64, least: u64, most: u64) -> Result<u64
     }
 }
 
-/// The options that the words of the command line give, as `clap` reads them; the first word is the program's name, and the
-/// word behind an option's name is its value, whatever it begins with. `Bad` where a word stands in no option's place, where
-/// a value is missing or empty, where `clap` refuses the options, where a number is not within its bounds or has a sign or a
-/// leading zero, where there is no config, and where there are users and no seed; `NoMem` where there is no memory.
+/// What the options of the command line give, each the value that stands in it, where `clap` reads the same.
+fn options_found(
+    alloc: Global,
+    found: &ArgMatches,
+    options: &[String],
+) -> Result<Options, OptionsFault>
+    ensures { IfOk result (AreNamed (map string_bytes options.now)) }
+{
+    let config = agreed(found.get_str("config"), b"--config=", options)?;
+    let Some(config) = text(alloc, config)? else {
+        return Err(OptionsFault::Bad);
+    };
+    let users = text(alloc, agreed(found.get_str("users"), b"--users=", options)?)?;
+    let seed = text(alloc, agreed(found.get_str("seed"), b"--seed=", options)?)?;
+    if users.is_some() && seed.is_none() {
+        return Err(OptionsFault::Bad);
+    }
+    let port = agreed(found.get_str("port"), b"--port=", options)?;
+    let order = agreed(found.get_str("byte-order"), b"--byte-order=", options)?;
+    let sessions = agreed(found.get_str("sessions"), b"--sessions=", options)?;
+    let turns = agreed(found.get_str("idle-turns"), b"--idle-turns=", options)?;
+    Ok(Options {
+        config,
+        users,
+        seed,
+        port: number(port, SANE_PORT, 0, MOST_PORT)? as u16,
+        byte_order: byte_order(order)?,
+        sessions: number(sessions, 0, 0, MOST_SESSIONS)?,
+        idle_turns: number(turns, IDLE_TURNS, 1, MOST_IDLE_TURNS)?,
+    })
+}
+
+/// The options that the words of the command line give, each with the value that its word has; the first word is the program's
+/// name, and the word behind an option's name is its value, whatever it begins with. `Bad` where a word stands in no option's
+/// place, where a value is missing or empty, where `clap` refuses the options or reads another value, where a number is not
+/// within its bounds or has a sign or a leading zero, where there is no config, and where there are users and no seed; `NoMem`
+/// where there is no memory.
 pub fn read_options(alloc: Global, words: &[String]) -> Result<Options, OptionsFault>
-    ensures { IfOk result IsInBounds }
+    ensures { IfOk result (IsOptionsOf (map string_bytes words.now)) }
 {
     let Some((_, words)) = words.split_first() else {
         return Err(OptionsFault::Bad);
@@ -146,25 +213,5 @@ pub fn read_options(alloc: Global, words: &[String]) -> Result<Options, OptionsF
     let options = joined(alloc, words)?;
     let strs = as_strs(alloc, options.as_slice())?;
     let found = parse(alloc, strs.as_slice())?;
-    let Some(config) = text(alloc, found.get_str("config"))? else {
-        return Err(OptionsFault::Bad);
-    };
-    let users = text(alloc, found.get_str("users"))?;
-    let seed = text(alloc, found.get_str("seed"))?;
-    if users.is_some() && seed.is_none() {
-        return Err(OptionsFault::Bad);
-    }
-    let port = number(found.get_str("port"), SANE_PORT, 0, MOST_PORT)?;
-    let byte_order = byte_order(found.get_str("byte-order"))?;
-    let sessions = number(found.get_str("sessions"), 0, 0, MOST_SESSIONS)?;
-    let idle_turns = number(found.get_str("idle-turns"), IDLE_TURNS, 1, MOST_IDLE_TURNS)?;
-    Ok(Options {
-        config,
-        users,
-        seed,
-        port: port as u16,
-        byte_order,
-        sessions,
-        idle_turns,
-    })
+    options_found(alloc, &found, options.as_slice())
 }
