@@ -1,6 +1,5 @@
-ghost use Rattle.std.specs.Prelude.{◌≡◌, ◌≤◌, ◌<◌, ◌==◌, ◌↔◌, if◌then◌else◌, length, is_some, [], IfOk, IfErr, IsTrue};
+ghost use Rattle.std.specs.Prelude.{◌≡◌, ◌≤◌, ◌<◌, ◌==◌, ◌↔◌, ◌⊎◌, if◌then◌else◌, length, is_some, [], IfOk, IfErr, IsTrue};
 ghost use Rattle.std.specs.IoError.{error_kind};
-ghost use Rattle.saned_cli.specs.Calls.{IsForNow};
 ghost use Rattle.saned_serve.specs.Talk.{MovesWithin, after_read, after_write, IsTold};
 ghost use Rattle.saned_serve.specs.Ledger.{noticed};
 ghost use Rattle.saned_serve.specs.Ledger.Notice.{Asked, Port, Forgot, Dialed, Shut, Back};
@@ -55,7 +54,8 @@ fn listen(rt: &impl Net, port: u16) -> io::Result<TcpListener> {
 
 /// Whether a call that failed may be made again.
 fn is_for_now(e: &io::Error) -> bool
-    ensures { IsTrue result ↔ IsForNow (error_kind e.now) }
+    ensures { IsTrue result ↔ (error_kind e.now ≡ ErrorKind.WouldBlock)
+        ⊎ (error_kind e.now ≡ ErrorKind.Interrupted) }
 {
     matches!(e.kind(), ErrorKind::WouldBlock | ErrorKind::Interrupted)
 }
@@ -125,8 +125,10 @@ fn how(outcome: io::Result<usize>, most: usize) -> Got
     requires { IfOk outcome (λ n. n ≤ most) }
     ensures within { MovesWithin result most }
     ensures moved { IfOk outcome (λ n. result ≡ (if n == 0 then Got.Lost else Got.Moved n)) }
-    ensures for_now { IfErr outcome (λ e. IsForNow (error_kind e) → result ≡ Got.Nothing) }
-    ensures lost { IfErr outcome (λ e. ¬ IsForNow (error_kind e) → result ≡ Got.Lost) }
+    ensures would_wait { IfErr outcome (λ e. error_kind e ≡ ErrorKind.WouldBlock → result ≡ Got.Nothing) }
+    ensures interrupted { IfErr outcome (λ e. error_kind e ≡ ErrorKind.Interrupted → result ≡ Got.Nothing) }
+    ensures lost { IfErr outcome (λ e. ¬ (error_kind e ≡ ErrorKind.WouldBlock)
+        → ¬ (error_kind e ≡ ErrorKind.Interrupted) → result ≡ Got.Lost) }
 {
     match outcome {
         Ok(0) => Got::Lost,

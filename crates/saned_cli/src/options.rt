@@ -1,6 +1,6 @@
 ghost use Rattle.std.specs.Prelude.{◌≡◌, ◌≤◌, ◌<◌, ◌^◌, ℕ, IfErr, IfOk, map, option_map, string_bytes};
 ghost use Rattle.saned_cli.specs.Options.{AreNamed, IsNumberOf, IsOptionsOf, IsOrderOf};
-ghost use Rattle.saned_cli.specs.Words.{value_of};
+ghost use Rattle.saned_cli.specs.Words.{value_behind, value_of};
 
 use crate::words::{joined, plain_number};
 use clap::error::ErrorKind;
@@ -103,12 +103,21 @@ fn as_strs<'a>(alloc: Global, options: &'a [String]) -> Result<Vec<&'a str>, Opt
     Ok(strs)
 }
 
+/// The value, where the option begins so, with a name and `=`.
+#[tactic(auto, unfolding(crate::specs::Words::value_behind))]
+fn value_behind<'a>(start: &[u8], option: &'a [u8]) -> Option<&'a [u8]>
+    ensures { option_map (λ value. value.now) result ≡ value_behind start.now option.now }
+{
+    let value = option.strip_prefix(start)?;
+    Some(value)
+}
+
 /// The value of the first option that begins so, with a name and `=`.
 fn value_of<'a>(start: &[u8], options: &'a [String]) -> Option<&'a [u8]>
     ensures { option_map (λ value. value.now) result ≡ value_of start.now (map string_bytes options.now) }
 {
     for option in options {
-        if let Some(value) = option.as_bytes().strip_prefix(start) {
+        if let Some(value) = value_behind(start, option.as_bytes()) {
             return Some(value);
         }
     }
