@@ -10,14 +10,15 @@ use Rattle.scan_job.specs.Shelves.{Stock, Taken}
 use Rattle.scan_job.specs.declared.job.Job.{Job}
 use Rattle.scan_job.specs.declared.report.Report.{Report}
 use Rattle.scan_job.specs.declared.report.Reports.{Reports}
-use Rattle.local_job.specs.declared.stop.Stop.{Stop}
+use Rattle.scan_job.specs.declared.stop.Stop.{Stop}
 use Rattle.local_job.specs.FrameReading.{Keeps}
 use Rattle.local_job.specs.InForce.{AreReported, FailsAt}
 use Rattle.local_job.specs.LocalBatch.{IsBatchDone, IsBatchEndedBy, IsBatchPut, ScansNothing, pages_asked}
 use Rattle.local_job.specs.LocalRun.{devices_told, options_told, settings_put}
 use Rattle.local_job.specs.Pages.{AreScanned, EndsPage, RefusesLast, StopsAt, TakesBack, after_pages}
 use Rattle.local_job.specs.Putting.{put_all}
-use Rattle.local_job.specs.Stops.{bad_setting, no_memory}
+use Rattle.local_job.specs.Stops.{bad_setting}
+use Rattle.scan_job.specs.Stops.{no_memory}
 use Rattle.local_job.proofs.Batches.{at_rest_behind, takes_none}
 use Rattle.local_job.proofs.Forced.{AllIs, all_is, fails_is, forced_is}
 use Rattle.local_job.proofs.Lets.{cancel_rests, cancel_keeps, cause_after, further}

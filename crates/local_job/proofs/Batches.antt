@@ -8,11 +8,12 @@ use Rattle.scan_frames.specs.declared.setup.Setup.{Setup}
 use Rattle.device_api.specs.State.{DeviceState, Held, Phase, AtRest, is_at_rest, page_of, rests, steady_of, with_phase}
 use Rattle.scan_job.specs.Shelves.{Stock, Taken}
 use Rattle.scan_job.specs.declared.outcome.Why.TheVariants.{Answer, Memory, Sink}
-use Rattle.local_job.specs.declared.stop.Stop.{Stop}
+use Rattle.scan_job.specs.declared.stop.Stop.{Stop}
 use Rattle.local_job.specs.Causes.{HasCause}
 use Rattle.local_job.specs.FrameReading.{Keeps}
 use Rattle.local_job.specs.Pages.{AreLeft, AreScanned, ArePageFiles, EndsPage, FilesPage, IsPageFile, LeavesPage, RefusesLast, StopsAt, TakesBack, after_pages, output_of, outputs_from}
-use Rattle.local_job.specs.Stops.{answered, bad_output, no_memory}
+use Rattle.local_job.specs.Stops.{answered}
+use Rattle.scan_job.specs.Stops.{no_memory, failed_output}
 use Rattle.local_job.proofs.Lets.{of_nothing}
 
 -- what is said of a success
@@ -145,7 +146,7 @@ out_of_pages s now new n count before stock next stop run some few is stays sile
     }
 
 -- the shelf did not take the last output back
-pub last_refused : (s now : DeviceState) (n count : ℕ) (before stock : Option Stock) (stop : Stop) → HasRun s now n before stock → 0 < n → n ≤ count → stop ≡ bad_output → StopsAt s count before stock now stop
+pub last_refused : (s now : DeviceState) (n count : ℕ) (before stock : Option Stock) (stop : Stop) → HasRun s now n before stock → 0 < n → n ≤ count → stop ≡ failed_output → StopsAt s count before stock now stop
 last_refused s now n count before stock stop run some few is = record {
   files = run.files;
   pages = run.pages;

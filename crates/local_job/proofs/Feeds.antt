@@ -8,7 +8,8 @@ use Rattle.frame_join.specs.declared.join_stage.JoinFault.TheVariants.{Long, NoM
 use Rattle.frame_join.specs.AloneFrame.{most_bytes}
 use Rattle.frame_join.specs.FrameHistory.{Past, fed, failed, after_feed}
 use Rattle.frame_join.specs.Joining.{Joining}
-use Rattle.local_job.specs.Stops.{no_memory, unjoined}
+use Rattle.local_job.specs.Stops.{unjoined}
+use Rattle.scan_job.specs.Stops.{no_memory}
 use Rattle.local_job.specs.Draining.{IsDrainedTo, Feeds}
 
 -- the history with more bytes in its frame

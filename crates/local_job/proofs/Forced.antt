@@ -20,7 +20,7 @@ use Rattle.scan_laws.specs.Nearest.{GivesNearest}
 use Rattle.scan_laws.proofs.Nearest.{set_nearest}
 use Rattle.scan_laws.proofs.Sets.{tells}
 use Rattle.scan_job.specs.declared.report.Report.{Report}
-use Rattle.local_job.specs.declared.stop.Stop.{Stop}
+use Rattle.scan_job.specs.declared.stop.Stop.{Stop}
 use Rattle.local_job.specs.Putting.{asked_of, put_answered, put_read, put_found, put_one, with_first, then_more, put_all}
 use Rattle.local_job.specs.InForce.{AreReported, FailsAt, IsRefusedAs, IsReported}
 

@@ -19,8 +19,9 @@ use Rattle.std.proofs.lemmas.Bool.{eqb-true}
 use Rattle.std.specs.Prelude.{◌≢◌}
 use Rattle.page_picture.specs.Source.{CountsFailure}
 use Rattle.local_job.specs.Causes.{HasCause}
-use Rattle.local_job.specs.Stops.{no_memory, bad_output, read_refused}
-use Rattle.local_job.specs.declared.stop.Stop.{Stop}
+use Rattle.local_job.specs.Stops.{read_refused}
+use Rattle.scan_job.specs.Stops.{no_memory, failed_output}
+use Rattle.scan_job.specs.declared.stop.Stop.{Stop}
 use Rattle.std.proofs.Common.{◌≤◌, ◌⊎◌, length}
 use Rattle.std.proofs.lemmas.Bool.{false≢true}
 use Rattle.local_job.specs.FrameReading.{IsAllOrNone, IsInside, IsReadTo, Keeps}
@@ -218,12 +219,12 @@ cut_off s pass given past frame first contents join no_fault law r = record {
 
 -- a piece for which there is room is refused for want of memory, or by the output
 pub piece_cause : (old now new : DeviceState) (pass given n : ℕ) (buf bytes : List ℕ) (most : ℕ) (stop : Stop) → now ≡ with_phase old (Reading pass given) → GivesBytes now pass given n new buf → length bytes ≡ given
-    → pass_length old.setup (page_of old) pass ≤ most → (length bytes + length (take n buf) ≤ most → (stop ≡ no_memory) ⊎ (stop ≡ bad_output)) → HasCause stop old new
+    → pass_length old.setup (page_of old) pass ≤ most → (length bytes + length (take n buf) ≤ most → (stop ≡ no_memory) ⊎ (stop ≡ failed_output)) → HasCause stop old new
 piece_cause old now new pass given n buf bytes most stop is g count room cause =
     let left : given + n ≤ pass_length old.setup (page_of old) pass = subst (λ (s : DeviceState). given + n ≤ pass_length s.setup (page_of s) pass) is g.left in
     let fits : length bytes + length (take n buf) ≤ most = omega (arith, count, length-take n buf, g.room, left, room) in
     by_cause (cause fits)
   where
-    by_cause : (stop ≡ no_memory) ⊎ (stop ≡ bad_output) → HasCause stop old new
+    by_cause : (stop ≡ no_memory) ⊎ (stop ≡ failed_output) → HasCause stop old new
     by_cause (inl memory) = subst (λ (s : Stop). HasCause s old new) (sym memory) refl
     by_cause (inr output) = subst (λ (s : Stop). HasCause s old new) (sym output) refl

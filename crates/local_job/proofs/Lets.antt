@@ -15,7 +15,7 @@ use Rattle.device_api.specs.State.{DeviceState, Held, HasStopped, Phase, after_c
 use Rattle.device_api.specs.State.Phase.{AtRest, Between, Reading}
 use Rattle.scan_laws.specs.Stays.{AreSamePages, IsSameScan, LetsGo}
 use Rattle.local_job.specs.Causes.{Answers, HasCause, HasFailed, IsCause}
-use Rattle.local_job.specs.declared.stop.Stop.{Stop}
+use Rattle.scan_job.specs.declared.stop.Stop.{Stop}
 use Rattle.local_job.specs.FrameReading.{Keeps}
 
 -- ---- pages

@@ -22,7 +22,8 @@ use Rattle.frame_join.specs.AloneFrame.{most_bytes}
 use Rattle.frame_join.specs.declared.join_stage.JoinFault.{JoinFault}
 use Rattle.device_api.proofs.RunLaws.{length-payload}
 use Rattle.scan_laws.specs.Joins.{Takes, TakesAll}
-use Rattle.local_job.specs.Stops.{no_memory, unjoined}
+use Rattle.local_job.specs.Stops.{unjoined}
+use Rattle.scan_job.specs.Stops.{no_memory}
 use Rattle.local_job.specs.FrameReading.{came, frames_came, AreOfPasses, EndsAs, IsBetween}
 
 -- ---- a frame begins, and ends

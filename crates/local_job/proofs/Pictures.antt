@@ -27,9 +27,10 @@ use Rattle.scan_job.specs.declared.outcome.Why.TheVariants.{Answer, Cancelled, L
 use Rattle.device_api.specs.Allowed.{IsAllowed}
 use Rattle.frame_join.specs.AloneFrame.{most_bytes}
 use Rattle.scan_laws.specs.Joins.{TakesAll}
-use Rattle.local_job.specs.declared.stop.Stop.{Stop}
+use Rattle.scan_job.specs.declared.stop.Stop.{Stop}
 use Rattle.local_job.specs.Causes.{IsCause, HasCause}
-use Rattle.local_job.specs.Stops.{no_memory, bad_output, answered}
+use Rattle.local_job.specs.Stops.{answered}
+use Rattle.scan_job.specs.Stops.{no_memory, failed_output}
 use Rattle.local_job.specs.Draining.{IsDrainedTo, StopsShort}
 use Rattle.std.specs.Prelude.{◌≢◌}
 use Rattle.sane_fixed.specs.declared.params.Params.{Params}
@@ -234,7 +235,7 @@ begun_on s pass passes given join at some stood =
 pub cause_of_memory : (stop : Stop) (old new : DeviceState) → stop ≡ no_memory → HasCause stop old new
 cause_of_memory stop old new is = subst (λ (s : Stop). HasCause s old new) (sym is) refl
 
-pub cause_of_output : (stop : Stop) (old new : DeviceState) → stop ≡ bad_output → HasCause stop old new
+pub cause_of_output : (stop : Stop) (old new : DeviceState) → stop ≡ failed_output → HasCause stop old new
 cause_of_output stop old new is = subst (λ (s : Stop). HasCause s old new) (sym is) refl
 
 -- what refuses a start

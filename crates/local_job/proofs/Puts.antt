@@ -14,10 +14,11 @@ use Rattle.device_api.specs.declared.scan_option.ScanOption.{ScanOption}
 use Rattle.device_api.specs.Options.{descriptor_of}
 use Rattle.device_api.specs.Values.{put_answer, set_to, option_set, option_to_set}
 use Rattle.scan_job.specs.declared.report.Report.{Report}
-use Rattle.local_job.specs.declared.stop.Stop.{Stop}
+use Rattle.scan_job.specs.declared.stop.Stop.{Stop}
 use Rattle.std.proofs.Common.{subst}
 use Rattle.local_job.specs.FrameReading.{IsRefusal}
-use Rattle.local_job.specs.Stops.{no_memory, answered}
+use Rattle.local_job.specs.Stops.{answered}
+use Rattle.scan_job.specs.Stops.{no_memory}
 use Rattle.local_job.specs.Putting.{put_one, put_all, with_first, with_done}
 
 with_one : (done : List Report) (report : Report) (more : Result (Setup × List Report) Stop) → with_done done (with_first report more) ≡ with_done (done ++ report ∷ []) more

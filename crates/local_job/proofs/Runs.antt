@@ -1,6 +1,6 @@
 -- A job from its reset to its end.
 use Rattle.std.proofs.Common.{◌≡◌, ◌⊎◌, inl, inr, ◌∙◌, sym, ap, subst, refl, ℕ, Bool, true, false, List, [], Option, Some, None, Result, Ok, Err}
-use Rattle.std.specs.Prelude.{◌≢◌}
+use Rattle.std.specs.Prelude.{◌≢◌, IfOk, IfErr}
 use Rattle.std.specs.Io.KnownBytes.{Appends}
 use Rattle.sane_fixed.specs.declared.status.Status.TheVariants.{Inval, NoDocs}
 use Rattle.scan_frames.specs.declared.setup.Setup.{Setup}
@@ -16,7 +16,7 @@ use Rattle.scan_job.specs.declared.outcome.Why.TheVariants.{Answer, Cancelled, L
 use Rattle.scan_job.specs.declared.report.Report.{Report}
 use Rattle.scan_job.specs.declared.report.Reports.{Reports}
 use Rattle.sane_fixed.specs.declared.status.Status.{Status}
-use Rattle.local_job.specs.declared.stop.Stop.{Stop}
+use Rattle.scan_job.specs.declared.stop.Stop.{Stop}
 use Rattle.local_job.specs.Causes.{HasCause, IsCause}
 use Rattle.local_job.specs.FrameReading.{Keeps}
 use Rattle.local_job.specs.InForce.{AreReported, FailsAt}
@@ -24,7 +24,8 @@ use Rattle.local_job.specs.LocalRun.{devices_told, left_by, settings_put, IsDone
 use Rattle.scan_laws.specs.Stays.{AreSamePages, LetsGo}
 use Rattle.local_job.proofs.Lets.{cancel_rests, cause_after, left_same}
 use Rattle.local_job.specs.Putting.{put_all}
-use Rattle.local_job.specs.Stops.{no_memory, bad_setting, answered}
+use Rattle.local_job.specs.Stops.{bad_setting, answered}
+use Rattle.scan_job.specs.Stops.{no_memory}
 use Rattle.local_job.proofs.Forced.{AllIs, all_is, fails_is, forced_is}
 
 abbrev settings_of : Job → List (List ℕ × List ℕ)
@@ -312,3 +313,13 @@ runs_first s first new last reset k is =
       pages = subst (λ (x : DeviceState). AreSamePages x.pages last.pages ⊎ (last.pages ≡ left_behind (feeds last) x.pages)) reset
           (pages_runs first new last (ap feeds is ∙ same.1) k is);
     }
+
+-- ---- what holds of a result, and more
+
+pub ok_then : {T E : Type 0} (r : Result T E) (P Q : T → Type 0) → ((t : T) → P t → Q t) → IfOk r P → IfOk r Q
+ok_then (Ok t) P Q then_ is = then_ t is
+ok_then (Err e) P Q then_ is = tt
+
+pub err_then : {T E : Type 0} (r : Result T E) (P Q : E → Type 0) → ((e : E) → P e → Q e) → IfErr r P → IfErr r Q
+err_then (Ok t) P Q then_ is = tt
+err_then (Err e) P Q then_ is = then_ e is

@@ -14,7 +14,8 @@ use Rattle.std.specs.Prelude.{◌≢◌, Option, Some, None, Result, Ok, Err, if
 use Rattle.std.proofs.lemmas.Option.{slice_get-map}
 use Rattle.sane_fixed.specs.declared.status.Status.{Status}
 use Rattle.sane_fixed.specs.declared.status.Status.TheVariants.{NoMem}
-use Rattle.local_job.specs.Stops.{no_memory, answered}
+use Rattle.local_job.specs.Stops.{answered}
+use Rattle.scan_job.specs.Stops.{no_memory}
 use Rattle.option_desc.specs.declared.descriptor.Descriptor.{Descriptor}
 use Rattle.scan_frames.specs.declared.setup.Setup.{Setup}
 use Rattle.device_api.specs.declared.scan_option.ScanOption.{ScanOption}

@@ -6,7 +6,7 @@ use Rattle.page_picture.specs.Source.{CountsFailure}
 use Rattle.device_api.specs.State.{DeviceState, counted, failures_of, feeds, firm_of, is_at_rest, left_behind}
 use Rattle.scan_job.specs.declared.outcome.Why.{Why}
 use Rattle.scan_job.specs.declared.outcome.Why.TheVariants.{Answer, Cancelled, Lost, Malformed, Short, Long, Setting, Plain, Memory, Sink}
-use Rattle.local_job.specs.declared.stop.Stop.{Stop}
+use Rattle.scan_job.specs.declared.stop.Stop.{Stop}
 
 -- the source of the page that is scanned, one that can fail, did so, and that was counted; a feeder may have let go of
 -- the page then

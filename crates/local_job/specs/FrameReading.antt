@@ -12,9 +12,10 @@ use Rattle.device_api.specs.State.{DeviceState, AtRest, Between, Reading, page_o
 use Rattle.frame_join.specs.FrameHistory.{Past, is_full, is_joined}
 use Rattle.frame_join.specs.Joining.{Joining, Stands}
 use Rattle.scan_laws.specs.Stays.{IsSameScan}
-use Rattle.local_job.specs.declared.stop.Stop.{Stop}
+use Rattle.scan_job.specs.declared.stop.Stop.{Stop}
 use Rattle.frame_join.specs.declared.join_stage.JoinFault.TheVariants.{Short as JoinShort}
-use Rattle.local_job.specs.Stops.{bad_output, unjoined}
+use Rattle.local_job.specs.Stops.{unjoined}
+use Rattle.scan_job.specs.Stops.{failed_output}
 use Rattle.local_job.specs.Draining.{Feeds, IsDrainedTo}
 
 -- the join is between two frames of a picture that is not whole, and no fault stands
@@ -102,5 +103,5 @@ HasScanned s pass false first new join contents = (new.phase ≡ Between (pass +
 
 -- where the end of a frame is refused: one that has all its bytes, by the output alone, and another is short
 abbrev pub EndsAs : Bool → Stop → Type 0
-EndsAs true stop = stop ≡ bad_output
+EndsAs true stop = stop ≡ failed_output
 EndsAs false stop = stop ≡ unjoined JoinShort

@@ -9,7 +9,7 @@ use Rattle.device_api.specs.InForce.{Placed, force, number_named}
 use Rattle.scan_laws.specs.Nearest.{PutsNearest}
 use Rattle.scan_laws.specs.Told.{TellsOfSet}
 use Rattle.scan_job.specs.declared.report.Report.{Report}
-use Rattle.local_job.specs.declared.stop.Stop.{Stop}
+use Rattle.scan_job.specs.declared.stop.Stop.{Stop}
 use Rattle.local_job.specs.Putting.{asked_of}
 use Rattle.local_job.specs.Stops.{bad_setting, answered}
 

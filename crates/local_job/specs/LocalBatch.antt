@@ -10,8 +10,9 @@ use Rattle.scan_job.specs.declared.job.Job.{Job}
 use Rattle.scan_job.specs.declared.job.Task.{Task}
 use Rattle.scan_job.specs.declared.job.Task.TheVariants.{List as ListTask, Show, SetOnly, Scan, Batch}
 use Rattle.scan_job.specs.declared.report.Reports.{Reports}
-use Rattle.local_job.specs.declared.stop.Stop.{Stop}
-use Rattle.local_job.specs.Stops.{no_memory, bad_setting}
+use Rattle.scan_job.specs.declared.stop.Stop.{Stop}
+use Rattle.local_job.specs.Stops.{bad_setting}
+use Rattle.scan_job.specs.Stops.{no_memory}
 use Rattle.local_job.specs.InForce.{AreReported, FailsAt}
 use Rattle.local_job.specs.LocalRun.{devices_told, options_told, settings_put}
 use Rattle.local_job.specs.Pages.{AreScanned, StopsAt, TakesBack}

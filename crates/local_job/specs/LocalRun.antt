@@ -16,8 +16,9 @@ use Rattle.scan_job.specs.declared.job.Task.{Task}
 use Rattle.scan_job.specs.declared.job.Task.TheVariants.{List as ListTask, Show, SetOnly, Scan, Batch}
 use Rattle.scan_job.specs.declared.report.Reports.{Reports}
 use Rattle.scan_laws.specs.Stays.{AreSamePages, LetsGo}
-use Rattle.local_job.specs.declared.stop.Stop.{Stop}
-use Rattle.local_job.specs.Stops.{no_memory, bad_setting, answered}
+use Rattle.scan_job.specs.declared.stop.Stop.{Stop}
+use Rattle.local_job.specs.Stops.{bad_setting, answered}
+use Rattle.scan_job.specs.Stops.{no_memory}
 use Rattle.local_job.specs.InForce.{AreReported, FailsAt}
 use Rattle.local_job.specs.Causes.{HasCause}
 use Rattle.local_job.specs.Showing.{shown}

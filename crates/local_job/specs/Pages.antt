@@ -6,8 +6,9 @@ use Rattle.sane_fixed.specs.declared.status.Status.TheVariants.{Inval, NoDocs}
 use Rattle.scan_frames.specs.Frames.{has_picture}
 use Rattle.device_api.specs.State.{DeviceState, page_of, rests, steady_of}
 use Rattle.scan_job.specs.Shelves.{Stock, Taken}
-use Rattle.local_job.specs.declared.stop.Stop.{Stop}
-use Rattle.local_job.specs.Stops.{no_memory, answered, bad_output}
+use Rattle.scan_job.specs.declared.stop.Stop.{Stop}
+use Rattle.local_job.specs.Stops.{answered}
+use Rattle.scan_job.specs.Stops.{no_memory, failed_output}
 use Rattle.local_job.specs.FrameReading.{Keeps}
 use Rattle.local_job.specs.Causes.{HasCause}
 
@@ -86,7 +87,7 @@ pub record EndsPage (s : DeviceState) (behind : ℕ) (new : DeviceState) (stop :
 pub record RefusesLast (s : DeviceState) (scanned : ℕ) (left : List Taken) (new : DeviceState) (stop : Stop) : Type 0 where
   pub some : 0 < scanned
   pub none_left : left ≡ []
-  pub refused : stop ≡ bad_output
+  pub refused : stop ≡ failed_output
   pub after : new ≡ after_pages scanned s
 
 -- Some pages were scanned, each has its file, and one output at most is left of the page that was not. What ended them is

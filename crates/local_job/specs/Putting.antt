@@ -12,7 +12,7 @@ use Rattle.device_api.specs.Options.{descriptors_of}
 use Rattle.device_api.specs.Values.{option_set, setup_after}
 use Rattle.device_api.specs.InForce.{number_named}
 use Rattle.scan_job.specs.declared.report.Report.{Report}
-use Rattle.local_job.specs.declared.stop.Stop.{Stop}
+use Rattle.scan_job.specs.declared.stop.Stop.{Stop}
 use Rattle.local_job.specs.Stops.{bad_setting, answered}
 
 -- the kind of the option of that number; where there is none, none is asked for

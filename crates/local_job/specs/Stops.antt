@@ -2,13 +2,11 @@
 use Rattle.sane_fixed.specs.declared.status.Status.{Status}
 use Rattle.sane_fixed.specs.declared.status.Status.TheVariants.{Inval, IoError, NoMem}
 use Rattle.scan_job.specs.declared.outcome.Why.{Why}
-use Rattle.scan_job.specs.declared.outcome.Why.TheVariants.{Answer, Malformed, Short, Long, Setting, Memory, Sink}
+use Rattle.scan_job.specs.declared.outcome.Why.TheVariants.{Answer, Malformed, Short, Long, Setting, Memory}
 use Rattle.frame_join.specs.declared.join_stage.JoinFault.{JoinFault}
 use Rattle.frame_join.specs.declared.join_stage.JoinFault.TheVariants as fault
-use Rattle.local_job.specs.declared.stop.Stop.{Stop}
-
-abbrev pub no_memory : Stop
-no_memory = record { status = NoMem; why = Memory }
+use Rattle.scan_job.specs.declared.stop.Stop.{Stop}
+use Rattle.scan_job.specs.Stops.{no_memory}
 
 abbrev pub bad_setting : Stop
 bad_setting = record { status = Inval; why = Setting }
@@ -29,9 +27,6 @@ read_refused status = record { status = status; why = Answer }
 abbrev pub unread : Status → Stop
 unread NoMem = no_memory
 unread _ = bad_setting
-
-abbrev pub bad_output : Stop
-bad_output = record { status = IoError; why = Sink }
 
 -- frames that make no picture
 abbrev pub unjoined : JoinFault → Stop

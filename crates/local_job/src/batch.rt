@@ -1,4 +1,5 @@
-ghost use Rattle.std.specs.Prelude.{◌≡◌, ◌≢◌, ◌↔◌, true, None, IsTrue, IfOk, IfErr};
+ghost use Rattle.std.specs.Prelude.{◌≡◌, ◌≢◌, ◌↔◌, true, None, Ok, IsTrue, IfOk, IfErr};
+ghost use Rattle.std.specs.Fn.{FnOnceReturnsAt};
 ghost use Rattle.sane_fixed.specs.declared.status.Status.TheVariants.{Good, Eof};
 ghost use Rattle.device_api.specs.State.{is_at_rest, after_reset};
 ghost use Rattle.scan_job.specs.JobSize.{HasFault};
@@ -9,9 +10,10 @@ ghost use Rattle.local_job.specs.LocalBatch.{pages_asked, IsBatchDone, IsBatchEn
 use crate::pages::scan_pages;
 use crate::run::{devices_told, options_told, settings_put};
 use crate::settings::put_settings;
-use crate::stop::{Stop, bad_setting};
+use crate::stop::bad_setting;
 use device_api::Device;
-use scan_job::{Job, Outcome, Reports, Shelf, Task};
+use sane_fixed::NoMem;
+use scan_job::{Job, Outcome, Reports, Shelf, Stop, Task};
 use std::alloc::Global;
 
 /// How many pages a task scans at most.
@@ -32,16 +34,21 @@ fn is_taken(job: &Job) -> bool
     job.has_size() && job.task.has_count()
 }
 
-/// Does a job on a scanner that was reset.
-fn do_batch<S: Shelf>(
+/// Does a job on a scanner that was reset. What is to be told is made of the reports before the first page is scanned.
+fn do_batch<S: Shelf, T: Drop, F: FnOnce(&Reports) -> Result<T, NoMem> + Drop>(
     alloc: Global,
     device: &mut dyn Device,
     job: &Job,
     shelf: &mut S,
-) -> Result<Reports, Stop>
-    requires { state device.old ≡ after_reset (state device.old) }
-    ensures done { IfOk result (λ reports. IsBatchDone (state device.old) job.now reports (S.stock shelf.old) (S.stock shelf.new) (state device.new)) }
-    ensures stop { IfErr result (λ stop. IsBatchEndedBy (state device.old) job.now (S.stock shelf.old) (S.stock shelf.new) (state device.new) stop) }
+    tell: F,
+) -> Result<(Reports, T), Stop>
+    requires reset { state device.old ≡ after_reset (state device.old) }
+    requires tell { F.IsAlwaysCallable tell }
+    ensures done { IfOk result (λ done. IsBatchDone (state device.old) job.now done.0
+        (S.stock shelf.old) (S.stock shelf.new) (state device.new)) }
+    ensures told { IfOk result (λ done. FnOnceReturnsAt F.FnOnce tell done.0 (Ok done.1)) }
+    ensures stop { IfErr result (λ stop. IsBatchEndedBy (state device.old) job.now
+        (S.stock shelf.old) (S.stock shelf.new) (state device.new) stop) }
     ensures refusal { IfErr result (λ stop. IsRefusal stop) }
 {
     if !is_taken(job) {
@@ -50,12 +57,38 @@ fn do_batch<S: Shelf>(
     let settings = put_settings(alloc, device, settings_put(job.task, &job.settings))?;
     let devices = devices_told(alloc, job.task, &*device)?;
     let options = options_told(alloc, job.task, &*device)?;
-    scan_pages(alloc, device, pages_asked(job.task), shelf)?;
-    Ok(Reports {
+    let reports = Reports {
         settings,
         devices,
         options,
-    })
+    };
+    let told = tell(&reports)?;
+    scan_pages(alloc, device, pages_asked(job.task), shelf)?;
+    Ok((reports, told))
+}
+
+/// Does a job as `run_local_batch` does it, and makes of its reports what is to be told of it, by `tell`, before its first
+/// page is scanned. Gives the reports and what was made of them.
+pub fn run_local_batch_with<S: Shelf, T: Drop, F: FnOnce(&Reports) -> Result<T, NoMem> + Drop>(
+    alloc: Global,
+    device: &mut dyn Device,
+    job: &Job,
+    shelf: &mut S,
+    tell: F,
+) -> Result<(Reports, T), Stop>
+    requires { F.IsAlwaysCallable tell }
+    ensures done { IfOk result (λ done. IsBatchDone (state device.old) job.now done.0
+        (S.stock shelf.old) (S.stock shelf.new) (state device.new)) }
+    ensures told { IfOk result (λ done. FnOnceReturnsAt F.FnOnce tell done.0 (Ok done.1)) }
+    ensures stop { IfErr result (λ stop. IsBatchEndedBy (state device.old) job.now
+        (S.stock shelf.old) (S.stock shelf.new) (state device.new) stop) }
+    ensures refusal { IfErr result (λ stop. IsRefusal stop) }
+    ensures rest { is_at_rest (state device.new).phase ≡ true }
+{
+    device.reset();
+    let done = do_batch(alloc, device, job, shelf, tell);
+    device.cancel();
+    done
 }
 
 /// Does a job on a scanner of this machine: resets it, puts each setting, does the task, and cancels it at the end. A
@@ -74,11 +107,8 @@ pub fn run_local_batch<S: Shelf>(
     ensures stop { IfEnded result (λ status why. IsBatchEndedBy (state device.old) job.now (S.stock shelf.old) (S.stock shelf.new) (state device.new) (record { status = status; why = why })) }
     ensures rest { is_at_rest (state device.new).phase ≡ true }
 {
-    device.reset();
-    let done = do_batch(alloc, device, job, shelf);
-    device.cancel();
-    match done {
-        Ok(reports) => Outcome::Done(reports),
+    match run_local_batch_with(alloc, device, job, shelf, |_| Ok(())) {
+        Ok((reports, ())) => Outcome::Done(reports),
         Err(stop) => Outcome::Ended(stop.status, stop.why),
     }
 }

@@ -9,14 +9,15 @@ ghost use Rattle.sane_fixed.specs.declared.status.Status.TheVariants.{Good, NoDo
 ghost use Rattle.device_api.specs.State.{Reading, after_pass, goes_to, page_of};
 ghost use Rattle.local_job.specs.FrameReading.{IsAllOrNone, IsBegun, IsInside, IsReadTo, IsRefusal, Keeps};
 ghost use Rattle.local_job.specs.Causes.{HasCause};
-ghost use Rattle.local_job.specs.Stops.{no_memory, bad_output};
+ghost use Rattle.scan_job.specs.Stops.{no_memory, failed_output};
 
 use crate::drain::drain;
 use crate::outlet::Outlet;
-use crate::stop::{Stop, bad_output, read_refused, unjoined};
+use crate::stop::{read_refused, unjoined};
 use device_api::Device;
 use pnm_writer::{FrameJoin, not_whole_before};
 use sane_fixed::Status;
+use scan_job::Stop;
 
 /// Takes the next bytes of a frame into the join, and the output takes what may go out.
 fn take_piece<W: Outlet>(
@@ -36,7 +37,7 @@ fn take_piece<W: Outlet>(
     ensures refusal { IfErr result (λ stop. IsRefusal stop) }
     // Bytes that the frame has room for are never too many.
     ensures cause { IfErr result (λ stop. (first : Option (List ℕ)) (past : Past) (frame : Frame) → IsInside past frame first join.old (W.contents out.old) →
-        length frame.payload + length bytes.now ≤ most_bytes frame.params → (stop ≡ no_memory) ⊎ (stop ≡ bad_output)) }
+        length frame.payload + length bytes.now ≤ most_bytes frame.params → (stop ≡ no_memory) ⊎ (stop ≡ failed_output)) }
 {
     not_whole_before();
     join.feed(bytes);
@@ -46,7 +47,7 @@ fn take_piece<W: Outlet>(
     if drain(join, room, out, again) {
         Ok(())
     } else {
-        Err(bad_output())
+        Err(Stop::failed_output())
     }
 }
 

@@ -14,7 +14,6 @@ mod settings;
 mod showing;
 mod stop;
 
-pub use batch::run_local_batch;
+pub use batch::{run_local_batch, run_local_batch_with};
 pub use byte_output::{MOST_AGAIN, put};
-pub use run::run_local;
-pub use stop::Stop;
+pub use run::{run_local, run_local_with};

@@ -9,12 +9,11 @@ ghost use Rattle.local_job.specs.Stops.{answered};
 
 use crate::page_out::{PageOut, give_back};
 use crate::scan::{PIECE, ROOM, scan_passes, zeros};
-use crate::stop::{Stop, bad_output};
 use byte_output::MOST_AGAIN;
 use device_api::Device;
 use pnm_writer::{FrameJoin, not_whole_before};
 use sane_fixed::Status;
-use scan_job::{Shelf, Why};
+use scan_job::{Shelf, Stop, Why};
 use std::alloc::Global;
 
 /// Scans the page that a scanner at rest has first, to the shelf's output of that number. Says whether the shelf took
@@ -99,7 +98,7 @@ fn scan_each<S: Shelf>(
     for behind in 0..count {
         match scan_page(alloc, device, piece, room, shelf, behind + 1, &mut again) {
             Ok(true) => {}
-            Ok(false) => return Err(bad_output()),
+            Ok(false) => return Err(Stop::failed_output()),
             Err(stop) if behind > 0 && is_no_page(stop) => return Ok(()),
             Err(stop) => return Err(stop),
         }

@@ -1,19 +1,20 @@
-ghost use Rattle.std.specs.Prelude.{◌≡◌, ◌≢◌, ◌↔◌, IsTrue, true, IfOk, IfErr, OnErr};
+ghost use Rattle.std.specs.Prelude.{◌≡◌, ◌≢◌, ◌↔◌, IsTrue, true, Ok, IfOk, IfErr, OnErr};
+ghost use Rattle.std.specs.Fn.{FnOnceReturnsAt};
 ghost use Rattle.sane_fixed.specs.declared.status.Status.TheVariants.{Good, Eof};
 ghost use Rattle.device_api.specs.State.{is_at_rest, after_reset};
 ghost use Rattle.scan_job.specs.Outcomes.{IfDone, IfEnded, IsOver};
 ghost use Rattle.local_job.specs.FrameReading.{IsRefusal};
-ghost use Rattle.local_job.specs.Stops.{no_memory};
+ghost use Rattle.scan_job.specs.Stops.{no_memory};
 ghost use Rattle.local_job.specs.LocalRun.{settings_put, devices_told, options_told, IsDone, IsEndedBy, IsTaken, KeepsPages, LeavesNoFile, Runs};
 
 use crate::scan::scan_picture;
 use crate::settings::put_settings;
 use crate::showing::show_options;
-use crate::stop::{Stop, bad_setting};
+use crate::stop::bad_setting;
 use device_api::{Device, DeviceInfo};
 use option_desc::{Descriptor, Value};
-use sane_fixed::Text;
-use scan_job::{Job, Listed, Outcome, Reports, Task};
+use sane_fixed::{NoMem, Text};
+use scan_job::{Job, Listed, Outcome, Reports, Stop, Task};
 use std::alloc::Global;
 use std::io::Write;
 
@@ -67,15 +68,19 @@ fn is_taken(job: &Job) -> bool
     !job.task.is_batch() && job.has_size()
 }
 
-/// Does a job on a scanner that was reset.
-fn do_job<W: Write>(
+/// Does a job on a scanner that was reset. What is to be told is made of the reports before the file is begun.
+fn do_job<W: Write, T: Drop, F: FnOnce(&Reports) -> Result<T, NoMem> + Drop>(
     alloc: Global,
     device: &mut dyn Device,
     job: &Job,
     out: &mut W,
-) -> Result<Reports, Stop>
-    requires { state device.old ≡ after_reset (state device.old) }
-    ensures done { IfOk result (λ reports. IsDone (state device.old) job.now reports (W.contents out.old) (W.contents out.new) (state device.new)) }
+    tell: F,
+) -> Result<(Reports, T), Stop>
+    requires reset { state device.old ≡ after_reset (state device.old) }
+    requires tell { F.IsAlwaysCallable tell }
+    ensures done { IfOk result (λ done. IsDone (state device.old) job.now done.0
+        (W.contents out.old) (W.contents out.new) (state device.new)) }
+    ensures told { IfOk result (λ done. FnOnceReturnsAt F.FnOnce tell done.0 (Ok done.1)) }
     ensures no_file { OnErr result (LeavesNoFile (W.contents out.old) (W.contents out.new)) }
     ensures refusal { IfErr result (λ stop. IsRefusal stop) }
     ensures stop { IfErr result (λ stop. IsEndedBy (state device.old) job.now (state device.new) stop) }
@@ -87,14 +92,41 @@ fn do_job<W: Write>(
     let settings = put_settings(alloc, device, settings_put(job.task, &job.settings))?;
     let devices = devices_told(alloc, job.task, &*device)?;
     let options = options_told(alloc, job.task, &*device)?;
-    if job.task == Task::Scan {
-        scan_picture(alloc, device, out)?;
-    }
-    Ok(Reports {
+    let reports = Reports {
         settings,
         devices,
         options,
-    })
+    };
+    let told = tell(&reports)?;
+    if job.task == Task::Scan {
+        scan_picture(alloc, device, out)?;
+    }
+    Ok((reports, told))
+}
+
+/// Does a job as `run_local` does it, and makes of its reports what is to be told of it, by `tell`: before the first byte
+/// of its file, so that what there is no memory to tell of leaves no file. Gives the reports and what was made of them.
+pub fn run_local_with<W: Write, T: Drop, F: FnOnce(&Reports) -> Result<T, NoMem> + Drop>(
+    alloc: Global,
+    device: &mut dyn Device,
+    job: &Job,
+    out: &mut W,
+    tell: F,
+) -> Result<(Reports, T), Stop>
+    requires { F.IsAlwaysCallable tell }
+    ensures done { IfOk result (λ done. IsDone (state device.old) job.now done.0
+        (W.contents out.old) (W.contents out.new) (state device.new)) }
+    ensures told { IfOk result (λ done. FnOnceReturnsAt F.FnOnce tell done.0 (Ok done.1)) }
+    ensures no_file { OnErr result (LeavesNoFile (W.contents out.old) (W.contents out.new)) }
+    ensures refusal { IfErr result (λ stop. IsRefusal stop) }
+    ensures stop { IfErr result (λ stop. IsEndedBy (state device.old) job.now (state device.new) stop) }
+    ensures runs { Runs (state device.old) (state device.new) }
+    ensures rest { is_at_rest (state device.new).phase ≡ true }
+{
+    device.reset();
+    let done = do_job(alloc, device, job, out, tell);
+    device.cancel();
+    done
 }
 
 /// Does a job on a scanner of this machine: resets it, puts each setting, does the task, and cancels it
@@ -112,11 +144,8 @@ pub fn run_local<W: Write>(
     ensures runs { Runs (state device.old) (state device.new) }
     ensures rest { is_at_rest (state device.new).phase ≡ true }
 {
-    device.reset();
-    let done = do_job(alloc, device, job, out);
-    device.cancel();
-    match done {
-        Ok(reports) => Outcome::Done(reports),
+    match run_local_with(alloc, device, job, out, |_| Ok(())) {
+        Ok((reports, ())) => Outcome::Done(reports),
         Err(stop) => Outcome::Ended(stop.status, stop.why),
     }
 }

@@ -8,27 +8,29 @@ ghost use Rattle.scan_frames.specs.Frames.{has_picture};
 ghost use Rattle.device_api.specs.Allowed.{HasLimits};
 ghost use Rattle.device_api.specs.State.{goes_to, is_at_rest, is_reading, next_pass, page_of, params_of, rests, with_phase, AtRest, Reading};
 ghost use Rattle.local_job.specs.Draining.{StopsShort};
-ghost use Rattle.local_job.specs.Stops.{no_memory, answered};
+ghost use Rattle.local_job.specs.Stops.{answered};
+ghost use Rattle.scan_job.specs.Stops.{no_memory};
 ghost use Rattle.local_job.specs.FrameReading.{IsBetween, IsInside, IsRefusal, Keeps, IsScanned, EndsAs, EndsFrame, HasJoined, HasScanned};
 ghost use Rattle.local_job.specs.Causes.{HasCause};
 
 use crate::drain::drain;
 use crate::frames::read_frame;
 use crate::outlet::{Outlet, Plain};
-use crate::stop::{Stop, answered, bad_output, malformed, unjoined};
+use crate::stop::{answered, malformed, unjoined};
 use byte_output::MOST_AGAIN;
 use device_api::Device;
 use pnm_writer::{FrameJoin, not_whole_before, whole_shows};
 use scan_frames::frames_show_the_picture;
+use scan_job::Stop;
 use scan_laws::a_join_takes_the_frames_of_a_scan;
 use std::alloc::{AllocError, Global};
 use std::io::Write;
 
-/// The most bytes that are read at once.
-pub const PIECE: usize = 4096;
+/// The most bytes that are read at once: so many that a scan makes few calls.
+pub const PIECE: usize = 65_536;
 
 /// The most bytes that are written at once.
-pub const ROOM: usize = 4096;
+pub const ROOM: usize = 65_536;
 
 /// A picture has one frame, or three.
 const MOST_PASSES: u32 = 3;
@@ -96,7 +98,7 @@ fn end_frame<W: Outlet>(
     if drain(join, room, out, again) {
         Ok(is_whole)
     } else {
-        Err(bad_output())
+        Err(Stop::failed_output())
     }
 }
 

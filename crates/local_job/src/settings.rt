@@ -4,15 +4,16 @@ ghost use Rattle.device_api.specs.State.{is_at_rest, with_setup};
 ghost use Rattle.device_api.specs.Values.{option_set, setup_after};
 ghost use Rattle.sane_fixed.specs.declared.status.Status.{Status as AnyStatus};
 ghost use Rattle.device_api.specs.InForce.{number_named};
-ghost use Rattle.local_job.specs.Stops.{no_memory, bad_setting, unread, answered};
+ghost use Rattle.local_job.specs.Stops.{bad_setting, unread, answered};
+ghost use Rattle.scan_job.specs.Stops.{no_memory};
 ghost use Rattle.local_job.specs.Putting.{put_one, put_all};
 ghost use Rattle.local_job.specs.FrameReading.{IsRefusal};
 
-use crate::stop::{Stop, answered, bad_setting, no_memory};
+use crate::stop::{answered, bad_setting};
 use device_api::Device;
 use option_desc::{Descriptor, Value, read_text};
 use sane_fixed::{Info, Status, Text};
-use scan_job::{Listed, Report};
+use scan_job::{Listed, Report, Stop};
 use std::alloc::Global;
 
 /// The number of the first option of that name.
@@ -42,7 +43,7 @@ fn unread(status: Status) -> Stop
     ensures { result ≡ unread status }
 {
     match status {
-        Status::NoMem => no_memory(),
+        Status::NoMem => Stop::no_memory(),
         _ => bad_setting(),
     }
 }
@@ -62,7 +63,7 @@ fn set_option(
 {
     match device.set(alloc, n, asked) {
         Ok(got) => Ok(got),
-        Err(Status::NoMem) => Err(no_memory()),
+        Err(Status::NoMem) => Err(Stop::no_memory()),
         Err(status) => Err(answered(status)),
     }
 }

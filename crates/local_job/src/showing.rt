@@ -1,12 +1,12 @@
 ghost use Rattle.std.specs.Prelude.{◌≡◌, Some, slice_get, IfOk, IfErr};
 ghost use Rattle.device_api.specs.Options.{descriptors_of};
-ghost use Rattle.local_job.specs.Stops.{no_memory};
+ghost use Rattle.scan_job.specs.Stops.{no_memory};
 ghost use Rattle.local_job.specs.Showing.{shown, value_told};
 
-use crate::stop::{Stop, answered};
+use crate::stop::answered;
 use device_api::Device;
 use option_desc::{Descriptor, Value};
-use scan_job::{Listed, tells_value};
+use scan_job::{Listed, Stop, tells_value};
 use std::alloc::Global;
 
 /// The value of an option, where it has one to tell.

@@ -1,28 +1,9 @@
 ghost use Rattle.std.specs.Prelude.{◌≡◌};
-ghost use Rattle.local_job.specs.declared.stop.Stop.{Stop as AnyStop};
-ghost use Rattle.local_job.specs.Stops.{no_memory, bad_setting, answered, read_refused, bad_output, unjoined, malformed};
+ghost use Rattle.local_job.specs.Stops.{bad_setting, answered, read_refused, unjoined, malformed};
 
 use pnm_writer::JoinFault;
-use sane_fixed::{NoMem, Status};
-use scan_job::Why;
-use std::alloc::{AllocError, AllocFailed};
-
-/// Why a job ended before it was done.
-#[derive(Clone, Copy, Debug, PartialEq, Eq)]
-pub struct Stop {
-    pub status: Status,
-    pub why: Why,
-}
-
-/// There was no memory.
-pub fn no_memory() -> Stop
-    ensures { result ≡ no_memory }
-{
-    Stop {
-        status: Status::NoMem,
-        why: Why::Memory,
-    }
-}
+use sane_fixed::Status;
+use scan_job::{Stop, Why};
 
 /// A setting names no option or does not read.
 pub fn bad_setting() -> Stop
@@ -39,7 +20,7 @@ pub fn answered(status: Status) -> Stop
     ensures { result ≡ answered status }
 {
     match status {
-        Status::NoMem => no_memory(),
+        Status::NoMem => Stop::no_memory(),
         _ => Stop {
             status,
             why: Why::Answer,
@@ -54,16 +35,6 @@ pub fn read_refused(status: Status) -> Stop
     Stop {
         status,
         why: Why::Answer,
-    }
-}
-
-/// The output failed, or took nothing.
-pub fn bad_output() -> Stop
-    ensures { result ≡ bad_output }
-{
-    Stop {
-        status: Status::IoError,
-        why: Why::Sink,
     }
 }
 
@@ -85,34 +56,10 @@ pub fn unjoined(fault: JoinFault) -> Stop
         JoinFault::Shape => Why::Malformed,
         JoinFault::Long => Why::Long,
         JoinFault::Short => Why::Short,
-        JoinFault::NoMem => return no_memory(),
+        JoinFault::NoMem => return Stop::no_memory(),
     };
     Stop {
         status: Status::IoError,
         why,
-    }
-}
-
-impl From<NoMem> for Stop {
-    ghost from_gives = { λ _ stop. stop ≡ no_memory };
-
-    fn from(_: NoMem) -> Self {
-        no_memory()
-    }
-}
-
-impl<T: Drop> From<AllocFailed<T>> for Stop {
-    ghost from_gives = { λ _ stop. stop ≡ no_memory };
-
-    fn from(_: AllocFailed<T>) -> Self {
-        no_memory()
-    }
-}
-
-impl From<AllocError> for Stop {
-    ghost from_gives = { λ _ stop. stop ≡ no_memory };
-
-    fn from(_: AllocError) -> Self {
-        no_memory()
     }
 }

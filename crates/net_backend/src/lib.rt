@@ -2,7 +2,7 @@
 #![tactic(auto)]
 
 pub use net_client::{Client, Link};
-pub use net_jobs::{Dial, DialFault, run_batch, run_job};
+pub use net_jobs::{Dial, DialFault, run_batch, run_batch_with, run_job, run_job_with};
 pub use scan_job::{
     Job, JobFault, Listed, MOST_PAGES, Outcome, Report, Reports, Shelf, ShelfFault, Task, Why,
     tells_value,

@@ -437,6 +437,7 @@ impl Client {
         ensures count { result ≤ length buf.old }
         ensures rest { drop result buf.new ≡ drop result buf.old }
         ensures ended { is_ended self.old.outcome ≡ true → (result ≡ 0) × (self.new ≡ self.old) }
+        ensures outcome { self.new.outcome ≡ self.old.outcome }
         ensures same { is_ended self.old.outcome ≡ false → turns self.old.outcome self.old.progress ≡ false → self.new ≡ record self.old { join = self.new.join } }
         ensures taken { (past : Past) → Serves past self.old → TakesFile self.old past (length buf.old) result (take result buf.new) self.new }
     {
@@ -455,6 +456,7 @@ impl Client {
         requires { turns self.old.outcome self.old.progress ≡ true }
         ensures count { result ≤ length buf.old }
         ensures rest { drop result buf.new ≡ drop result buf.old }
+        ensures outcome { self.new.outcome ≡ self.old.outcome }
         ensures page { (past : Past) → Serves past self.old → TakesPage self.old past (take result buf.new) self.new }
         ensures picture { (past : Past) → Stands past self.old.join → GivesPicture past (length buf.old) result (take result buf.new) }
     {

@@ -1,6 +1,7 @@
 -- How a job over streams is over whose files go to a shelf.
-use Rattle.std.proofs.Common.{◌≡◌, ◌≢◌, ◌∙◌, ◌⊎◌, ◌≤◌, ◌+◌, ℕ, Bool, true, false, Option, Some, None, Ok, Err, Result, List, [], ◌++◌, length, refl, sym, ap, subst, inl, inr, arith, length-append}
+use Rattle.std.proofs.Common.{◌≡◌, ◌≢◌, ◌∙◌, ◌⊎◌, ◌≤◌, ◌+◌, ℕ, Bool, true, false, not, take, Option, Some, None, Ok, Err, Result, List, [], ◌++◌, length, refl, sym, ap, subst, inl, inr, arith, length-append}
 use Rattle.std.specs.Prelude.{All}
+use Rattle.std.specs.Io.KnownBytes.{Appends}
 use Rattle.std.proofs.lemmas.List.{append-nil}
 use Rattle.std.proofs.lemmas.List.Elements.{All-append, All-nil, All-same}
 use Rattle.sane_fixed.specs.declared.status.Status.{Status}
@@ -23,17 +24,19 @@ use Rattle.scan_job.specs.declared.outcome.Outcome.TheVariants.{Running, Done, E
 use Rattle.scan_job.specs.declared.outcome.Why.{Why}
 use Rattle.scan_job.specs.declared.outcome.Why.TheVariants as whys
 use Rattle.scan_job.specs.declared.report.Reports.{Reports}
+use Rattle.scan_job.specs.declared.stop.Stop.{Stop}
 use Rattle.client_rules.specs.Talks.{Talk, errand_of, is_running, is_ended, scans, Fits, FitsDone, FitsEnded, IsBetween}
 use Rattle.net_client.specs.Talker.{Talker}
-use Rattle.net_jobs.specs.Going.{Given, Going}
+use Rattle.net_jobs.specs.Going.{Given, Going, ByMemory}
+use Rattle.net_jobs.specs.Promised.{EndsAs, HasRefusal}
 use Rattle.net_jobs.specs.Links.{HasBrought}
 use Rattle.net_jobs.specs.Outputs.{TakesBack, HasTaken, GivesBack, outputs_from}
 use Rattle.net_jobs.specs.Paging.{IsFiling, TurnsOn, FallsShort, HasFiledShort, CameDone, CameEnded, HasCome}
 use Rattle.net_jobs.specs.Batches.{IsPageFile, MayScan, last_of, pages_of, closed_as, BatchEnded, HasBatchRun}
 use Rattle.net_jobs.proofs.Counting.{IsFew, HasSome, counts}
-use Rattle.net_jobs.proofs.Leaving.{cause_of, followed, unopened, task_is, ran_by, ends_well}
+use Rattle.net_jobs.proofs.Leaving.{NoneBefore, ran_refuses, sink_refuses, memory_refuses, cause_of, followed, unopened, task_is, ran_by, ends_well}
 use Rattle.net_jobs.proofs.Shelves.{given_back, none_back, left_behind, outputs_more}
-use Rattle.net_jobs.proofs.Shelving.{Laid, Shut, OnShelf, one_file, laid_next, from_here}
+use Rattle.net_jobs.proofs.Shelving.{Laid, Shut, OnShelf, Lying, shut_parted, shut_parted_given, ended_part, one_file, laid_next, from_here}
 
 -- ---- a join between frames has given nothing, if its picture is not whole
 
@@ -102,7 +105,7 @@ last_file (Err fault) page file = All-nil IsPageFile
 
 pub came_done : {C R : Type 0} (remaining contents : C → Option (List ℕ)) (left_of : R → Option (List ℕ)) (job : Job) (first : C) (coming0 : Option (List (List ℕ))) (before : Option Stock) (control : C) (coming : Option (List (List ℕ))) (stream : Option R) (c : Talker) (now : Option Stock) (out : Option (Option (List ℕ))) (reports : Reports)
     → HasCount job.task → ((past : Past) (join : Joining) → Stands past join → IsJoined past → (p : Picture) × ShowsFrames past.ended p) → c.outcome ≡ Done reports
-    → Shut remaining contents left_of job first coming0 before control coming stream c now out → CameDone remaining contents job first coming0 control coming before now out (Done reports)
+    → Shut remaining contents left_of job first coming0 before true control coming stream c now out → CameDone remaining contents job first coming0 control coming before now out (Done reports)
 came_done remaining contents left_of job first coming0 before control coming stream c now out reports h shows done d =
     let s = d.stage in
     let f = followed left_of coming0 coming s.course s.rest stream c s.past reports done s.stands in
@@ -113,7 +116,7 @@ came_done remaining contents left_of job first coming0 before control coming str
     let given_is : d.given.bytes ≡ s.past.given = sym s.given_is in
     let file : IsJoined s.past → IsPageFile s.past = λ joined.
     (let p = shows s.past c.join s.serves.stands joined in
-    record { picture = p.0; shows = p.1; file = subst (λ (t : List ℕ). Denotes t p.0) given_is (d.shelf.shown (joined_scans job.task s.past fits joined) (ap is_ended done) joined p.0 p.1) }) in
+    record { picture = p.0; shows = p.1; file = subst (λ (t : List ℕ). Denotes t p.0) given_is (d.shelf.shown refl (joined_scans job.task s.past fits joined) (ap is_ended done) joined p.0 p.1) }) in
     let counted = counts job s.did.events s.course h s.did.runs in
     record {
       ran = record {
@@ -150,16 +153,9 @@ came_done remaining contents left_of job first coming0 before control coming str
 ended_fits : (outcome : Outcome) (status : Status) (why : Why) (task : Task) (v : Talker) (past : Past) → outcome ≡ Ended status why → Fits task outcome v.progress past → FitsEnded task past
 ended_fits outcome status why task v past e f = subst (λ (o : Outcome). Fits task o v.progress past) e f
 
-ended_part : (task : Task) (past : Past) → FitsEnded task past → IsJoined past → IsWhole past.given → ⊥
-ended_part tasks.List past f joined w = f joined
-ended_part tasks.Show past f joined w = f joined
-ended_part tasks.SetOnly past f joined w = f joined
-ended_part tasks.Scan past f joined w = f joined
-ended_part (tasks.Batch count) past f joined w = f joined w
-
-pub came_ended : {C R : Type 0} (remaining contents : C → Option (List ℕ)) (left_of : R → Option (List ℕ)) (job : Job) (first : C) (coming0 : Option (List (List ℕ))) (before : Option Stock) (control : C) (coming : Option (List (List ℕ))) (stream : Option R) (c : Talker) (now : Option Stock) (out : Option (Option (List ℕ))) (status : Status) (why : Why)
+pub came_ended : {C R : Type 0} {whole : Bool} (remaining contents : C → Option (List ℕ)) (left_of : R → Option (List ℕ)) (job : Job) (first : C) (coming0 : Option (List (List ℕ))) (before : Option Stock) (control : C) (coming : Option (List (List ℕ))) (stream : Option R) (c : Talker) (now : Option Stock) (out : Option (Option (List ℕ))) (status : Status) (why : Why)
     → ((past : Past) (join : Joining) → Stands past join → (IsJoined past → ⊥) → IsWhole past.given → ⊥) → c.outcome ≡ Ended status why
-    → Shut remaining contents left_of job first coming0 before control coming stream c now out → CameEnded remaining contents job first coming0 control coming before now out (Ended status why)
+    → Shut remaining contents left_of job first coming0 before whole control coming stream c now out → CameEnded remaining contents job first coming0 control coming before now out (Ended status why)
 came_ended remaining contents left_of job first coming0 before control coming stream c now out status why law over d =
     let s = d.stage in
     let r = ran_by remaining contents left_of job first coming0 control coming stream c d.given d.read_ d.wrote d.left d.failed d.calls s s.stands in
@@ -167,6 +163,7 @@ came_ended remaining contents left_of job first coming0 before control coming st
     record {
       ran = r.0;
       cause = cause_of r.0.course.talk r.0.rest c.outcome (Ended status why) over r.1;
+      refusal = subst HasRefusal over (ran_refuses job r.0.course r.0.read_ r.0.wrote r.0.rest r.0.left c.outcome r.0.did r.1);
       files = All-same IsPageFile r.0.course.pages d.given.pages r.2 d.shelf.files;
       text = d.given.bytes;
       taken = subst (λ (q : List Past). HasTaken before (outputs_from 1 q) now out (length q + 1) d.given.bytes) (sym r.2) d.shelf.under_way.taken;
@@ -176,7 +173,7 @@ came_ended remaining contents left_of job first coming0 before control coming st
 came_over : {C R : Type 0} (remaining contents : C → Option (List ℕ)) (left_of : R → Option (List ℕ)) (job : Job) (first : C) (coming0 : Option (List (List ℕ))) (before : Option Stock) (control : C) (coming : Option (List (List ℕ))) (stream : Option R) (c : Talker) (now : Option Stock) (out : Option (Option (List ℕ))) (outcome : Outcome)
     → HasCount job.task → ((past : Past) (join : Joining) → Stands past join → (IsJoined past → ⊥) → IsWhole past.given → ⊥)
     → ((past : Past) (join : Joining) → Stands past join → IsJoined past → (p : Picture) × ShowsFrames past.ended p) → is_running outcome ≡ false → c.outcome ≡ outcome
-    → Shut remaining contents left_of job first coming0 before control coming stream c now out → HasCome remaining contents job first coming0 control coming before now out outcome
+    → Shut remaining contents left_of job first coming0 before true control coming stream c now out → HasCome remaining contents job first coming0 control coming before now out outcome
 came_over remaining contents left_of job first coming0 before control coming stream c now out Running h law shows over e d = let clash : true ≡ false = over in cc
 came_over remaining contents left_of job first coming0 before control coming stream c now out (Done reports) h law shows over e d = came_done remaining contents left_of job first coming0 before control coming stream c now out reports h shows e d
 came_over remaining contents left_of job first coming0 before control coming stream c now out (Ended status why) h law shows over e d = came_ended remaining contents left_of job first coming0 before control coming stream c now out status why law e d
@@ -184,20 +181,56 @@ came_over remaining contents left_of job first coming0 before control coming str
 pub has_come : {C R : Type 0} (remaining contents : C → Option (List ℕ)) (left_of : R → Option (List ℕ)) (job : Job) (first : C) (coming0 : Option (List (List ℕ))) (before : Option Stock) (control : C) (coming : Option (List (List ℕ))) (stream : Option R) (c : Talker) (now : Option Stock) (out : Option (Option (List ℕ))) (outcome : Outcome)
     → HasCount job.task → ((past : Past) (join : Joining) → Stands past join → (IsJoined past → ⊥) → IsWhole past.given → ⊥)
     → ((past : Past) (join : Joining) → Stands past join → IsJoined past → (p : Picture) × ShowsFrames past.ended p) → is_running c.outcome ≡ false → outcome ≡ c.outcome
-    → Shut remaining contents left_of job first coming0 before control coming stream c now out → HasCome remaining contents job first coming0 control coming before now out outcome
+    → Shut remaining contents left_of job first coming0 before true control coming stream c now out → HasCome remaining contents job first coming0 control coming before now out outcome
 has_come remaining contents left_of job first coming0 before control coming stream c now out outcome h law shows over e d =
     came_over remaining contents left_of job first coming0 before control coming stream c now out outcome h law shows (ap is_running e ∙ over) (sym e) d
+
+-- there was no memory for what was to be told
+came_untold : {C R : Type 0} (remaining contents : C → Option (List ℕ)) (left_of : R → Option (List ℕ)) (job : Job) (first : C) (coming0 : Option (List (List ℕ))) (before : Option Stock) (control : C) (coming : Option (List (List ℕ))) (stream : Option R) (c : Talker) (now : Option Stock) (out : Option (Option (List ℕ))) → (d : Shut remaining contents left_of job first coming0 before false control coming stream c now out)
+    → (IsWhole d.given.bytes → ⊥) → CameEnded remaining contents job first coming0 control coming before now out (Ended statuses.NoMem whys.Memory)
+came_untold remaining contents left_of job first coming0 before control coming stream c now out d not_whole =
+    let s = d.stage in
+    let r = ran_by remaining contents left_of job first coming0 control coming stream c d.given d.read_ d.wrote d.left d.failed d.calls s s.stands in
+    record {
+      ran = r.0;
+      cause = inr (inl (ByMemory refl));
+      refusal = memory_refuses;
+      files = All-same IsPageFile r.0.course.pages d.given.pages r.2 d.shelf.files;
+      text = d.given.bytes;
+      taken = subst (λ (q : List Past). HasTaken before (outputs_from 1 q) now out (length q + 1) d.given.bytes) (sym r.2) d.shelf.under_way.taken;
+      not_whole = not_whole;
+    }
+
+stopped_by : {C R : Type 0} (remaining contents : C → Option (List ℕ)) (left_of : R → Option (List ℕ)) (job : Job) (first : C) (coming0 : Option (List (List ℕ))) (before : Option Stock) (control : C) (coming : Option (List (List ℕ))) (stream : Option R) (c : Talker) (now : Option Stock) (out : Option (Option (List ℕ))) (outcome : Outcome) (stop : Stop)
+    → NoneBefore → c.outcome ≡ outcome → EndsAs outcome stop → (d : Shut remaining contents left_of job first coming0 before false control coming stream c now out) → (IsWhole d.given.bytes → ⊥)
+    → CameEnded remaining contents job first coming0 control coming before now out (Ended stop.status stop.why)
+stopped_by remaining contents left_of job first coming0 before control coming stream c now out Running stop law over ends d not_whole = absurd ends
+stopped_by remaining contents left_of job first coming0 before control coming stream c now out (Done reports) stop law over ends d not_whole =
+    subst (λ (x : Stop). CameEnded remaining contents job first coming0 control coming before now out (Ended x.status x.why)) (sym ends) (came_untold remaining contents left_of job first coming0 before control coming stream c now out d not_whole)
+stopped_by remaining contents left_of job first coming0 before control coming stream c now out (Ended status why) stop law over ends d not_whole =
+    subst (λ (x : Stop). CameEnded remaining contents job first coming0 control coming before now out (Ended x.status x.why)) (sym ends) (came_ended remaining contents left_of job first coming0 before control coming stream c now out status why law over d)
+
+-- a job that is over of which nothing is told
+pub came_stopped : {C R : Type 0} (remaining contents : C → Option (List ℕ)) (left_of : R → Option (List ℕ)) (job : Job) (first : C) (coming0 : Option (List (List ℕ))) (before : Option Stock) (is_up : Bool) (control then_ : C) (coming : Option (List (List ℕ))) (stream : Option R) (c : Talker) (now : Option Stock) (out : Option (Option (List ℕ))) (stop : Stop) → NoneBefore → EndsAs c.outcome stop
+    → (is_up ≡ true → (n : ℕ) × (n ≤ length c.out) × Appends (contents control) (contents then_) (take n c.out)) → (is_up ≡ false → then_ ≡ control)
+    → Lying remaining contents left_of job first coming0 before (not is_up) control coming stream c now out
+    → CameEnded remaining contents job first coming0 then_ coming before now out (Ended stop.status stop.why)
+came_stopped remaining contents left_of job first coming0 before is_up control then_ coming stream c now out stop law ends wrote still p =
+    stopped_by remaining contents left_of job first coming0 before then_ coming stream c now out c.outcome stop law refl ends
+    (shut_parted remaining contents left_of job first coming0 before is_up control then_ coming stream c now out wrote still p.laid)
+    (subst (λ (g : Given). IsWhole g.bytes → ⊥) (sym (shut_parted_given remaining contents left_of job first coming0 before is_up control then_ coming stream c now out wrote still p.laid)) p.not_whole)
 
 -- ---- the shelf or an output did not take what it was to
 
 sunk_next : {C R : Type 0} (remaining contents : C → Option (List ℕ)) (left_of : R → Option (List ℕ)) (job : Job) (first : C) (coming0 : Option (List (List ℕ))) (before : Option Stock) (failed : Bool) (control : C) (coming : Option (List (List ℕ))) (stream : Option R) (c : Talker) (now : Option Stock) (out : Option (Option (List ℕ)))
-    → out ≡ None → (d : Laid remaining contents left_of job first coming0 before failed control coming stream c now out) → d.given.bytes ≡ [] → CameEnded remaining contents job first coming0 control coming before now out (Ended statuses.IoError whys.Sink)
+    → out ≡ None → (d : Laid remaining contents left_of job first coming0 before failed true control coming stream c now out) → d.given.bytes ≡ [] → CameEnded remaining contents job first coming0 control coming before now out (Ended statuses.IoError whys.Sink)
 sunk_next remaining contents left_of job first coming0 before failed control coming stream c now out none d silent =
     let s = d.going.stage in
     let r = ran_by remaining contents left_of job first coming0 control coming stream c d.given d.going.read_ d.going.wrote d.going.left failed d.going.calls s s.stands in
     record {
       ran = r.0;
       cause = inr (inr refl);
+      refusal = sink_refuses;
       files = All-same IsPageFile r.0.course.pages d.given.pages r.2 d.shelf.files;
       text = d.given.bytes;
       taken = subst (λ (q : List Past). HasTaken before (outputs_from 1 q) now out (length q + 1) d.given.bytes) (sym r.2) d.shelf.under_way.taken;
@@ -215,6 +248,7 @@ sunk_by remaining contents left_of job first coming0 before failed control comin
     record {
       ran = r.0;
       cause = inr (inr refl);
+      refusal = sink_refuses;
       files = All-same IsPageFile r.0.course.pages given.pages r.2 files;
       text = short.text;
       taken = subst (λ (q : List Past). HasTaken before (outputs_from 1 q) then_ out (length q + 1) short.text) (sym r.2) short.taken;
@@ -224,9 +258,9 @@ sunk_by remaining contents left_of job first coming0 before failed control comin
     let d = laid_next remaining contents left_of job first coming0 before failed control coming stream c now then_ out given shows scanning files g e in
     sunk_next remaining contents left_of job first coming0 before failed control coming stream now then_ out e.none d.0 d.1
 
-sunk_at : {C R : Type 0} (remaining contents : C → Option (List ℕ)) (left_of : R → Option (List ℕ)) (job : Job) (first : C) (coming0 : Option (List (List ℕ))) (before was : Option Stock) (failed : Bool) (control : C) (coming : Option (List (List ℕ))) (stream : Option R) (c old now : Talker) (then_ : Option Stock) (under out : Option (Option (List ℕ))) (given : Given) (past : Past) (is_scanning b : Bool) (result : Bool)
+sunk_at : {C R : Type 0} {was_whole : Bool} (remaining contents : C → Option (List ℕ)) (left_of : R → Option (List ℕ)) (job : Job) (first : C) (coming0 : Option (List (List ℕ))) (before was : Option Stock) (failed : Bool) (control : C) (coming : Option (List (List ℕ))) (stream : Option R) (c old now : Talker) (then_ : Option Stock) (under out : Option (Option (List ℕ))) (given : Given) (past : Past) (is_scanning b : Bool) (result : Bool)
     → is_scanning ≡ b → is_scanning ≡ scans job.task → HasCount job.task → ((past : Past) (join : Joining) → Stands past join → IsJoined past → (p : Picture) × ShowsFrames past.ended p)
-    → OnShelf job before was under given old past → (g : Going remaining contents left_of job first coming0 given failed control coming stream c)
+    → OnShelf was_whole job before was under given old past → (g : Going remaining contents left_of job first coming0 given failed control coming stream c)
     → result ≡ false → (is_scanning ≡ false → result ≡ true)
     → ((before : Option Stock) (outputs : List Taken) (k : ℕ) (q : Past) → IsFiling q c k before outputs was under → HasFiledShort q c k before outputs now then_ out)
     → CameEnded remaining contents job first coming0 control coming before then_ out (Ended statuses.IoError whys.Sink)
@@ -236,9 +270,9 @@ sunk_at remaining contents left_of job first coming0 before was failed control c
 sunk_at remaining contents left_of job first coming0 before was failed control coming stream c old now then_ under out given past is_scanning false result e scanning h shows shelf g fails none goes =
     absurd (let clash : true ≡ false = sym (none e) ∙ fails in cc)
 
-pub came_sunk : {C R : Type 0} (remaining contents : C → Option (List ℕ)) (left_of : R → Option (List ℕ)) (job : Job) (first : C) (coming0 : Option (List (List ℕ))) (before was : Option Stock) (failed : Bool) (control : C) (coming : Option (List (List ℕ))) (stream : Option R) (c old now : Talker) (then_ : Option Stock) (under out : Option (Option (List ℕ))) (given : Given) (past : Past) (is_scanning result : Bool)
+pub came_sunk : {C R : Type 0} {was_whole : Bool} (remaining contents : C → Option (List ℕ)) (left_of : R → Option (List ℕ)) (job : Job) (first : C) (coming0 : Option (List (List ℕ))) (before was : Option Stock) (failed : Bool) (control : C) (coming : Option (List (List ℕ))) (stream : Option R) (c old now : Talker) (then_ : Option Stock) (under out : Option (Option (List ℕ))) (given : Given) (past : Past) (is_scanning result : Bool)
     → is_scanning ≡ scans job.task → HasCount job.task → ((past : Past) (join : Joining) → Stands past join → IsJoined past → (p : Picture) × ShowsFrames past.ended p)
-    → OnShelf job before was under given old past → (g : Going remaining contents left_of job first coming0 given failed control coming stream c)
+    → OnShelf was_whole job before was under given old past → (g : Going remaining contents left_of job first coming0 given failed control coming stream c)
     → result ≡ false → (is_scanning ≡ false → result ≡ true)
     → ((before : Option Stock) (outputs : List Taken) (k : ℕ) (q : Past) → IsFiling q c k before outputs was under → HasFiledShort q c k before outputs now then_ out)
     → CameEnded remaining contents job first coming0 control coming before then_ out (Ended statuses.IoError whys.Sink)
@@ -274,6 +308,7 @@ close_done remaining contents job first coming0 now coming before was new out re
 close_done remaining contents job first coming0 now coming before was new out reports false d back = record {
   ran = d.ran;
   cause = inr (inr refl);
+  refusal = sink_refuses;
   pages = pages_of d.ran.course;
   left = [];
   finished = inr (refl, refl, refl, (reports, d.told));
@@ -290,6 +325,7 @@ close_ended remaining contents job first coming0 now coming before was new out s
     record {
       ran = d.ran;
       cause = d.cause;
+      refusal = d.refusal;
       pages = d.ran.course.pages;
       left = left.0;
       finished = inl refl;

@@ -1,13 +1,14 @@
 -- A scan's file goes out piece by piece.
 use Rattle.std.proofs.Common.{◌≡◌, ◌≢◌, ◌∙◌, ℕ, ◌+◌, ◌<◌, ◌≤◌, ◌^◌, Ok, Err, Bool, true, false, List, [], ◌++◌, Option, Some, None, length, take, drop, refl, sym, ap, subst, arith, length-append, append_assoc}
 use Rattle.std.specs.Io.KnownBytes.{Appends}
-use Rattle.std.proofs.KnownBytes.{Appends-trans}
+use Rattle.std.proofs.KnownBytes.{Appends-trans, Appends-nil}
 use Rattle.std.proofs.lemmas.List.{append-nil, take-append-drop, length-drop}
 use Rattle.netpbm.specs.Picture.{Picture}
 use Rattle.netpbm.specs.Pnm.{Denotes, IsWhole}
 use Rattle.page_picture.specs.Shows.{ShowsFrames, Frame}
 use Rattle.frame_join.specs.declared.join_stage.JoinFault.{JoinFault}
 use Rattle.frame_join.specs.FrameHistory.{Past, IsJoined, after_pull, answer_by}
+use Rattle.frame_join.proofs.StreamLaws.{nothing_is_not_whole}
 use Rattle.frame_join.specs.Joining.{Joining, Stands}
 use Rattle.scan_job.specs.declared.job.Task.{Task}
 use Rattle.scan_job.specs.declared.job.Task.TheVariants as tasks
@@ -135,3 +136,7 @@ pub never : (past : Past) (first contents : Option (List ℕ)) (i : ℕ) (old no
 never past first contents i old now scan many law u =
     let no_fault : past.fault ≡ None = calm now (after_pull u.bytes past) (ap (λ (v : Talker). v.errand.task) u.rest ∙ scan) (ap (λ (v : Talker). is_ended v.outcome) u.rest ∙ u.alive (omega (arith, many))) u.serves in
     omega (arith, law (after_pull u.bytes past) now.join u.serves.stands no_fault, length-append past.given u.bytes, u.some, many)
+
+-- an output that took nothing took no whole file
+pub stays_short : (held : Option (List ℕ)) → StopsShort held held
+stays_short held = record { text = []; taken = Appends-nil held; not_whole = nothing_is_not_whole }

@@ -1,6 +1,6 @@
 -- How a job over streams is over.
-use Rattle.std.proofs.Common.{◌≡◌, ◌∙◌, ◌⊎◌, ◌≤◌, ◌↔◌, ℕ, Bool, true, false, Option, Some, None, Ok, List, [], ◌∷◌, ◌++◌, length, take, drop, refl, sym, ap, subst, inl, inr, arith}
-use Rattle.std.specs.Prelude.{nat_lt, if◌then◌else◌, IsTrue}
+use Rattle.std.proofs.Common.{◌≡◌, ◌∙◌, ◌⊎◌, ◌≤◌, ◌↔◌, ℕ, Bool, true, false, not, Option, Some, None, Ok, Err, Result, List, [], ◌∷◌, ◌++◌, length, take, drop, refl, sym, ap, subst, inl, inr, arith}
+use Rattle.std.specs.Prelude.{nat_lt, if◌then◌else◌, IsTrue, IfOk, IfErr}
 use Rattle.std.specs.Io.KnownBytes.{Appends}
 use Rattle.std.proofs.KnownBytes.{Appends-nil}
 use Rattle.std.proofs.lemmas.Bool.{ltb-false}
@@ -27,18 +27,21 @@ use Rattle.client_rules.specs.declared.progress.Errand.{Errand}
 use Rattle.client_rules.specs.declared.progress.Link.TheVariants as links
 use Rattle.client_rules.specs.declared.progress.Progress.{Progress}
 use Rattle.client_rules.specs.declared.progress.Notes.{Notes}
+use Rattle.scan_job.specs.declared.stop.Stop.{Stop}
+use Rattle.client_rules.proofs.Fitting.{may_end}
 use Rattle.client_rules.specs.Talking.{unjoined, frame_ended_by, status_of}
 use Rattle.client_rules.specs.Talks.{Talk, errand_of, is_running, is_ended, is_batch, is_lost_by, turns, next_outcome, Fits, FitsEnded}
 use Rattle.net_client.specs.Talker.{Talker, Serves, IsFresh, ended}
 use Rattle.net_jobs.specs.Courses.{Event, Replied, Opened, Came, Finished, Gave, Turned, Course, Did, Runs, EndWell}
 use Rattle.net_jobs.specs.Links.{Calls, Wrote, Failed, HasBrought, BeginWith}
 use Rattle.net_jobs.specs.Going.{Linked, Follows, Falls, Given, nothing, Stage, Going, EndsBy, ByLoss, ByMemory, ByGarble, ByShape}
-use Rattle.net_jobs.specs.Promised.{Ran, RanDone, RanEnded, HasRun}
+use Rattle.net_jobs.specs.Promised.{Ran, RanDone, RanEnded, HasRun, HasRefusal, EndsAs}
 use Rattle.net_jobs.specs.Draining.{HoldsGiven, IsDrainedTo, StopsShort}
 use Rattle.net_jobs.proofs.Coursing.{did_quiet}
 use Rattle.net_jobs.proofs.Staging.{lets_go}
 use Rattle.net_jobs.proofs.Going.{stage_wrote, stage_cut, going_begun}
 use Rattle.net_jobs.proofs.Receiving.{receiving_runs}
+use Rattle.net_jobs.proofs.Refusing.{course_refuses}
 
 -- ---- each frame of a job that has not ended otherwise ended with EOF
 
@@ -140,17 +143,17 @@ stage_gave_by left_of job read_ wrote left coming0 coming given bytes stream c j
   refl,
 )
 
--- ---- between two turns: how far the job is, and that the output holds what was given of the file
+-- ---- between two turns: how far the job is, and that the output holds what was given of the file; all of it, or not yet
 
-pub record Drained {C R : Type 0} (remaining contents : C → Option (List ℕ)) (left_of : R → Option (List ℕ)) (job : Job) (first : C) (coming0 : Option (List (List ℕ))) (held : Option (List ℕ)) (failed : Bool) (control : C) (coming : Option (List (List ℕ))) (stream : Option R) (c : Talker) (holds : Option (List ℕ)) : Type 0 where
+pub record Drained {C R : Type 0} (remaining contents : C → Option (List ℕ)) (left_of : R → Option (List ℕ)) (job : Job) (first : C) (coming0 : Option (List (List ℕ))) (held : Option (List ℕ)) (failed whole : Bool) (control : C) (coming : Option (List (List ℕ))) (stream : Option R) (c : Talker) (holds : Option (List ℕ)) : Type 0 where
   pub given : Given
   pub going : Going remaining contents left_of job first coming0 given failed control coming stream c
   pub taken : Appends held holds given.bytes
   pub none : (job.task ≡ tasks.Scan → ⊥) → given.bytes ≡ []
-  pub shown : job.task ≡ tasks.Scan → is_ended c.outcome ≡ false → IsJoined going.stage.past → (p : Picture) → ShowsFrames going.stage.past.ended p → Denotes given.bytes p
+  pub shown : whole ≡ true → job.task ≡ tasks.Scan → is_ended c.outcome ≡ false → IsJoined going.stage.past → (p : Picture) → ShowsFrames going.stage.past.ended p → Denotes given.bytes p
 
 pub drained_first : {C R : Type 0} (remaining contents : C → Option (List ℕ)) (left_of : R → Option (List ℕ)) (job : Job) (control : C) (coming : Option (List (List ℕ))) (held : Option (List ℕ)) (c : Talker) → IsFresh job c
-    → Drained remaining contents left_of job control coming held false control coming None c held
+    → Drained remaining contents left_of job control coming held false false control coming None c held
 drained_first remaining contents left_of job control coming held c f =
     let g = going_begun remaining contents left_of job control coming c f in
     record {
@@ -158,20 +161,20 @@ drained_first remaining contents left_of job control coming held c f =
       going = g.0;
       taken = Appends-nil held;
       none = λ other. refl;
-      shown = λ scan alive joined. absurd (let clash : Ok false ≡ Ok true = subst (λ (q : Past). IsJoined q) g.1 joined in cc);
+      shown = λ w scan alive joined. absurd (let clash : Ok false ≡ Ok true = subst (λ (q : Past). IsJoined q) g.1 joined in cc);
     }
 
 drained_at : {C R : Type 0} (remaining contents : C → Option (List ℕ)) (left_of : R → Option (List ℕ)) (job : Job) (first : C) (coming0 : Option (List (List ℕ))) (held : Option (List ℕ)) (failed : Bool) (control : C) (coming : Option (List (List ℕ))) (stream : Option R) (c now : Talker) (was holds : Option (List ℕ)) (given : Given)
     → job.task ≡ tasks.Scan → (g : Going remaining contents left_of job first coming0 given failed control coming stream c) → (d : IsDrainedTo g.stage.past c held now holds)
     → (s : Stage left_of job g.read_ g.wrote g.left coming0 coming (more_given given d.bytes) stream (record c { join = now.join })) → s.past ≡ after_pull d.bytes g.stage.past
-    → Drained remaining contents left_of job first coming0 held failed control coming stream now holds
+    → Drained remaining contents left_of job first coming0 held failed true control coming stream now holds
 drained_at {C} {R} remaining contents left_of job first coming0 held failed control coming stream c now was holds given scan g d s past_is =
-    subst (λ (v : Talker). Drained remaining contents left_of job first coming0 held failed control coming stream v holds) (sym d.rest) (record {
+    subst (λ (v : Talker). Drained remaining contents left_of job first coming0 held failed true control coming stream v holds) (sym d.rest) (record {
       given = more_given given d.bytes;
       going = record { read_ = g.read_; wrote = g.wrote; left = g.left; calls = g.calls; stage = s; left_is = g.left_is };
       taken = subst (λ (l : List ℕ). Appends held holds (l ++ d.bytes)) g.stage.given_is d.taken;
       none = λ other. absurd (other scan);
-      shown = λ scans alive joined p shows.
+      shown = λ w scans alive joined p shows.
           subst (λ (l : List ℕ). Denotes (l ++ d.bytes) p) g.stage.given_is (d.denotes alive (subst (λ (q : Past). IsJoined q) past_is joined) p (subst (λ (q : Past). ShowsFrames q.ended p) past_is shows));
     })
 
@@ -179,7 +182,7 @@ drained_at {C} {R} remaining contents left_of job first coming0 held failed cont
 pub drained_more : {C R : Type 0} (remaining contents : C → Option (List ℕ)) (left_of : R → Option (List ℕ)) (job : Job) (first : C) (coming0 : Option (List (List ℕ))) (held : Option (List ℕ)) (failed : Bool) (control : C) (coming : Option (List (List ℕ))) (stream : Option R) (c now : Talker) (was holds : Option (List ℕ)) (given : Given)
     → job.task ≡ tasks.Scan → Appends held was given.bytes → (g : Going remaining contents left_of job first coming0 given failed control coming stream c)
     → ((past : Past) → HoldsGiven past c held was → IsDrainedTo past c held now holds)
-    → Drained remaining contents left_of job first coming0 held failed control coming stream now holds
+    → Drained remaining contents left_of job first coming0 held failed true control coming stream now holds
 drained_more {C} {R} remaining contents left_of job first coming0 held failed control coming stream c now was holds given scan taken g drains =
     let s = g.stage in
     let d = drains s.past (record { scan = ap (λ (e : Errand). e.task) s.errand ∙ scan; serves = s.serves; taken = subst (λ (l : List ℕ). Appends held was l) (sym s.given_is) taken }) in
@@ -190,18 +193,18 @@ drained_more {C} {R} remaining contents left_of job first coming0 held failed co
 -- one that writes nothing
 pub drained_none : {C R : Type 0} (remaining contents : C → Option (List ℕ)) (left_of : R → Option (List ℕ)) (job : Job) (first : C) (coming0 : Option (List (List ℕ))) (held : Option (List ℕ)) (failed : Bool) (control : C) (coming : Option (List (List ℕ))) (stream : Option R) (c : Talker) (holds : Option (List ℕ)) (given : Given)
     → (job.task ≡ tasks.Scan → ⊥) → given.bytes ≡ [] → Appends held holds given.bytes → Going remaining contents left_of job first coming0 given failed control coming stream c
-    → Drained remaining contents left_of job first coming0 held failed control coming stream c holds
+    → Drained remaining contents left_of job first coming0 held failed true control coming stream c holds
 drained_none remaining contents left_of job first coming0 held failed control coming stream c holds given other none taken g = record {
   given = given;
   going = g;
   taken = taken;
   none = λ o. none;
-  shown = λ scan alive joined p shows. absurd (other scan);
+  shown = λ w scan alive joined p shows. absurd (other scan);
 }
 
-pub drained_as : {C R : Type 0} (remaining contents : C → Option (List ℕ)) (left_of : R → Option (List ℕ)) (job : Job) (first : C) (coming0 : Option (List (List ℕ))) (held : Option (List ℕ)) (failed other : Bool) (control : C) (coming : Option (List (List ℕ))) (stream : Option R) (c : Talker) (holds : Option (List ℕ)) → failed ≡ other
-    → Drained remaining contents left_of job first coming0 held failed control coming stream c holds → Drained remaining contents left_of job first coming0 held other control coming stream c holds
-drained_as remaining contents left_of job first coming0 held failed other control coming stream c holds e d = subst (λ (b : Bool). Drained remaining contents left_of job first coming0 held b control coming stream c holds) e d
+pub drained_as : {C R : Type 0} {whole : Bool} (remaining contents : C → Option (List ℕ)) (left_of : R → Option (List ℕ)) (job : Job) (first : C) (coming0 : Option (List (List ℕ))) (held : Option (List ℕ)) (failed other : Bool) (control : C) (coming : Option (List (List ℕ))) (stream : Option R) (c : Talker) (holds : Option (List ℕ)) → failed ≡ other
+    → Drained remaining contents left_of job first coming0 held failed whole control coming stream c holds → Drained remaining contents left_of job first coming0 held other whole control coming stream c holds
+drained_as {whole = whole} remaining contents left_of job first coming0 held failed other control coming stream c holds e d = subst (λ (b : Bool). Drained remaining contents left_of job first coming0 held b whole control coming stream c holds) e d
 
 -- the control connection is lost, if the job runs
 pub cut_out : (runs : Bool) (c new : Talker) → new ≡ (if runs then ended statuses.IoError whys.Lost c else c) → new.out ≡ c.out
@@ -219,9 +222,9 @@ cut_over_by false c new running e = ap (λ (v : Talker). is_running v.outcome) e
 pub cut_over : (c new : Talker) → new ≡ (if is_lost_by links.Control c.outcome c.progress then ended statuses.IoError whys.Lost c else c) → is_running new.outcome ≡ false
 cut_over c new e = cut_over_by (is_running c.outcome) c new refl e
 
-pub drained_cut : {C R : Type 0} (remaining contents : C → Option (List ℕ)) (left_of : R → Option (List ℕ)) (job : Job) (first : C) (coming0 : Option (List (List ℕ))) (held : Option (List ℕ)) (failed : Bool) (control : C) (coming : Option (List (List ℕ))) (stream : Option R) (c new : Talker) (holds : Option (List ℕ))
+pub drained_cut : {C R : Type 0} {whole : Bool} (remaining contents : C → Option (List ℕ)) (left_of : R → Option (List ℕ)) (job : Job) (first : C) (coming0 : Option (List (List ℕ))) (held : Option (List ℕ)) (failed : Bool) (control : C) (coming : Option (List (List ℕ))) (stream : Option R) (c new : Talker) (holds : Option (List ℕ))
     → new ≡ (if is_lost_by links.Control c.outcome c.progress then ended statuses.IoError whys.Lost c else c)
-    → Drained remaining contents left_of job first coming0 held failed control coming stream c holds → Drained remaining contents left_of job first coming0 held failed control coming stream new holds
+    → Drained remaining contents left_of job first coming0 held failed whole control coming stream c holds → Drained remaining contents left_of job first coming0 held failed whole control coming stream new holds
 drained_cut remaining contents left_of job first coming0 held failed control coming stream c new holds lost d =
     let g = d.going in
     let s = stage_cut left_of job g.read_ g.wrote g.left coming0 coming d.given stream c new lost g.stage in
@@ -230,13 +233,13 @@ drained_cut remaining contents left_of job first coming0 held failed control com
       going = record { read_ = g.read_; wrote = g.wrote; left = g.left; calls = g.calls; stage = s.0; left_is = λ e. g.left_is e ∙ sym (cut_out (is_running c.outcome) c new lost) };
       taken = d.taken;
       none = d.none;
-      shown = λ scan alive joined p shows. d.shown scan (cut_alive (is_running c.outcome) c new lost alive) (subst (λ (q : Past). IsJoined q) s.1 joined) p (subst (λ (q : Past). ShowsFrames q.ended p) s.1 shows);
+      shown = λ w scan alive joined p shows. d.shown w scan (cut_alive (is_running c.outcome) c new lost alive) (subst (λ (q : Past). IsJoined q) s.1 joined) p (subst (λ (q : Past). ShowsFrames q.ended p) s.1 shows);
     }
 
 -- ---- the end
 
 -- what a job that is over did, before its outcome is told
-pub record Closed {C R : Type 0} (remaining contents : C → Option (List ℕ)) (left_of : R → Option (List ℕ)) (job : Job) (first : C) (coming0 : Option (List (List ℕ))) (held : Option (List ℕ)) (control : C) (coming : Option (List (List ℕ))) (stream : Option R) (c : Talker) (holds : Option (List ℕ)) : Type 0 where
+pub record Closed {C R : Type 0} (remaining contents : C → Option (List ℕ)) (left_of : R → Option (List ℕ)) (job : Job) (first : C) (coming0 : Option (List (List ℕ))) (held : Option (List ℕ)) (whole : Bool) (control : C) (coming : Option (List (List ℕ))) (stream : Option R) (c : Talker) (holds : Option (List ℕ)) : Type 0 where
   pub given : Given
   pub read_ : List ℕ
   pub wrote : List ℕ
@@ -247,13 +250,13 @@ pub record Closed {C R : Type 0} (remaining contents : C → Option (List ℕ)) 
   pub all : failed ≡ false → left ≡ []
   pub taken : Appends held holds given.bytes
   pub none : (job.task ≡ tasks.Scan → ⊥) → given.bytes ≡ []
-  pub shown : job.task ≡ tasks.Scan → is_ended c.outcome ≡ false → IsJoined stage.past → (p : Picture) → ShowsFrames stage.past.ended p → Denotes given.bytes p
+  pub shown : whole ≡ true → job.task ≡ tasks.Scan → is_ended c.outcome ≡ false → IsJoined stage.past → (p : Picture) → ShowsFrames stage.past.ended p → Denotes given.bytes p
 
 -- the last bytes, or a front of them, were written
-closed_by : {C R : Type 0} (remaining contents : C → Option (List ℕ)) (left_of : R → Option (List ℕ)) (job : Job) (first : C) (coming0 : Option (List (List ℕ))) (held : Option (List ℕ)) (control now : C) (coming : Option (List (List ℕ))) (stream : Option R) (c : Talker) (holds : Option (List ℕ)) (n : ℕ) (short : Bool)
-    → nat_lt n (length c.out) ≡ short → n ≤ length c.out → Appends (contents control) (contents now) (take n c.out) → (d : Drained remaining contents left_of job first coming0 held false control coming stream c holds)
+closed_by : {C R : Type 0} {whole : Bool} (remaining contents : C → Option (List ℕ)) (left_of : R → Option (List ℕ)) (job : Job) (first : C) (coming0 : Option (List (List ℕ))) (held : Option (List ℕ)) (control now : C) (coming : Option (List (List ℕ))) (stream : Option R) (c : Talker) (holds : Option (List ℕ)) (n : ℕ) (short : Bool)
+    → nat_lt n (length c.out) ≡ short → n ≤ length c.out → Appends (contents control) (contents now) (take n c.out) → (d : Drained remaining contents left_of job first coming0 held false whole control coming stream c holds)
     → (s : Stage left_of job d.going.read_ (d.going.wrote ++ take n c.out) (drop n c.out) coming0 coming d.given stream c) → s.past ≡ d.going.stage.past
-    → Closed remaining contents left_of job first coming0 held now coming stream c holds
+    → Closed remaining contents left_of job first coming0 held whole now coming stream c holds
 closed_by remaining contents left_of job first coming0 held control now coming stream c holds n true short within took d s same = record {
   given = d.given;
   read_ = d.going.read_;
@@ -265,7 +268,7 @@ closed_by remaining contents left_of job first coming0 held control now coming s
   all = λ e. absurd (let clash : true ≡ false = e in cc);
   taken = d.taken;
   none = d.none;
-  shown = λ scan alive joined p shows. d.shown scan alive (subst (λ (q : Past). IsJoined q) same joined) p (subst (λ (q : Past). ShowsFrames q.ended p) same shows);
+  shown = λ w scan alive joined p shows. d.shown w scan alive (subst (λ (q : Past). IsJoined q) same joined) p (subst (λ (q : Past). ShowsFrames q.ended p) same shows);
 }
 closed_by remaining contents left_of job first coming0 held control now coming stream c holds n false short within took d s same = record {
   given = d.given;
@@ -278,20 +281,20 @@ closed_by remaining contents left_of job first coming0 held control now coming s
   all = λ e. drop_all n c.out (ltb-false n (length c.out) short);
   taken = d.taken;
   none = d.none;
-  shown = λ scan alive joined p shows. d.shown scan alive (subst (λ (q : Past). IsJoined q) same joined) p (subst (λ (q : Past). ShowsFrames q.ended p) same shows);
+  shown = λ w scan alive joined p shows. d.shown w scan alive (subst (λ (q : Past). IsJoined q) same joined) p (subst (λ (q : Past). ShowsFrames q.ended p) same shows);
 }
 
-pub closed_left : {C R : Type 0} (remaining contents : C → Option (List ℕ)) (left_of : R → Option (List ℕ)) (job : Job) (first : C) (coming0 : Option (List (List ℕ))) (held : Option (List ℕ)) (control now : C) (coming : Option (List (List ℕ))) (stream : Option R) (c : Talker) (holds : Option (List ℕ))
-    → (n : ℕ) × (n ≤ length c.out) × Appends (contents control) (contents now) (take n c.out) → Drained remaining contents left_of job first coming0 held false control coming stream c holds
-    → Closed remaining contents left_of job first coming0 held now coming stream c holds
+pub closed_left : {C R : Type 0} {whole : Bool} (remaining contents : C → Option (List ℕ)) (left_of : R → Option (List ℕ)) (job : Job) (first : C) (coming0 : Option (List (List ℕ))) (held : Option (List ℕ)) (control now : C) (coming : Option (List (List ℕ))) (stream : Option R) (c : Talker) (holds : Option (List ℕ))
+    → (n : ℕ) × (n ≤ length c.out) × Appends (contents control) (contents now) (take n c.out) → Drained remaining contents left_of job first coming0 held false whole control coming stream c holds
+    → Closed remaining contents left_of job first coming0 held whole now coming stream c holds
 closed_left remaining contents left_of job first coming0 held control now coming stream c holds w d =
     let g = d.going in
     let s = stage_wrote left_of job g.read_ g.wrote g.left (take w.0 c.out) (drop w.0 c.out) coming0 coming d.given stream c c (g.left_is refl ∙ sym (take-append-drop w.0 c.out)) refl g.stage in
     closed_by remaining contents left_of job first coming0 held control now coming stream c holds w.0 (nat_lt w.0 (length c.out)) refl w.1 w.2 d s.0 s.1
 
 -- a write failed before
-pub closed_cut : {C R : Type 0} (remaining contents : C → Option (List ℕ)) (left_of : R → Option (List ℕ)) (job : Job) (first : C) (coming0 : Option (List (List ℕ))) (held : Option (List ℕ)) (control : C) (coming : Option (List (List ℕ))) (stream : Option R) (c : Talker) (holds : Option (List ℕ))
-    → Drained remaining contents left_of job first coming0 held true control coming stream c holds → Closed remaining contents left_of job first coming0 held control coming stream c holds
+pub closed_cut : {C R : Type 0} {whole : Bool} (remaining contents : C → Option (List ℕ)) (left_of : R → Option (List ℕ)) (job : Job) (first : C) (coming0 : Option (List (List ℕ))) (held : Option (List ℕ)) (control : C) (coming : Option (List (List ℕ))) (stream : Option R) (c : Talker) (holds : Option (List ℕ))
+    → Drained remaining contents left_of job first coming0 held true whole control coming stream c holds → Closed remaining contents left_of job first coming0 held whole control coming stream c holds
 closed_cut remaining contents left_of job first coming0 held control coming stream c holds d = record {
   given = d.given;
   read_ = d.going.read_;
@@ -346,7 +349,7 @@ scan_joined outcome progress past task reports scan done f =
 
 pub run_done : {C R : Type 0} (remaining contents : C → Option (List ℕ)) (left_of : R → Option (List ℕ)) (job : Job) (first : C) (coming0 : Option (List (List ℕ))) (held : Option (List ℕ)) (control : C) (coming : Option (List (List ℕ))) (stream : Option R) (c : Talker) (holds : Option (List ℕ)) (reports : Reports)
     → ((past : Past) (join : Joining) → Stands past join → IsJoined past → (p : Picture) × ShowsFrames past.ended p) → c.outcome ≡ Done reports
-    → Closed remaining contents left_of job first coming0 held control coming stream c holds → RanDone remaining contents job first coming0 control coming held holds (Done reports)
+    → Closed remaining contents left_of job first coming0 held true control coming stream c holds → RanDone remaining contents job first coming0 control coming held holds (Done reports)
 run_done remaining contents left_of job first coming0 held control coming stream c holds reports shows done d =
     let s = d.stage in
     let f = followed left_of coming0 coming s.course s.rest stream c s.past reports done s.stands in
@@ -377,7 +380,7 @@ run_done remaining contents left_of job first coming0 held control coming stream
       file = λ scan.
           let joined = scan_joined c.outcome c.progress s.past c.errand.task reports (task_is c job s.errand ∙ scan) done s.serves.fits in
           let p = shows s.past c.join s.serves.stands joined in
-          (p.0, subst (λ (q : Past). ShowsFrames q.ended p.0) (ap (λ (t : Talk). t.past) f.talk_is) p.1, d.shown scan (ap is_ended done) joined p.0 p.1);
+          (p.0, subst (λ (q : Past). ShowsFrames q.ended p.0) (ap (λ (t : Talk). t.past) f.talk_is) p.1, d.shown refl scan (ap is_ended done) joined p.0 p.1);
       none = d.none;
     }
 
@@ -434,9 +437,32 @@ pub cause_of : (talk : Talk) (rest : List ℕ) (outcome told : Outcome) → outc
 cause_of talk rest outcome told e (inl x) = inl (x ∙ e)
 cause_of talk rest outcome told e (inr x) = inr (inl (subst (λ (o : Outcome). EndsBy talk rest o) e x))
 
-pub run_ended : {C R : Type 0} (remaining contents : C → Option (List ℕ)) (left_of : R → Option (List ℕ)) (job : Job) (first : C) (coming0 : Option (List (List ℕ))) (held : Option (List ℕ)) (control : C) (coming : Option (List (List ℕ))) (stream : Option R) (c : Talker) (holds : Option (List ℕ)) (status : Status) (why : Why)
+unjoined_refuses : (task : Task) (notes : Notes) (fault : JoinFault) → HasRefusal (next_outcome task notes (unjoined fault))
+unjoined_refuses task notes Shape = λ e. cc
+unjoined_refuses task notes Long = λ e. cc
+unjoined_refuses task notes Short = λ e. cc
+unjoined_refuses task notes NoMem = λ e. cc
+
+cut_refuses : (talk : Talk) (rest : List ℕ) (outcome : Outcome) → EndsBy talk rest outcome → HasRefusal outcome
+cut_refuses talk rest outcome (ByLoss x) = subst HasRefusal (sym x) (λ e. cc)
+cut_refuses talk rest outcome (ByMemory x) = subst HasRefusal (sym x) (λ e. cc)
+cut_refuses talk rest outcome (ByGarble procedure awaits no_start x) = subst HasRefusal (sym x) (λ e. cc)
+cut_refuses talk rest outcome (ByShape task fault x) = subst HasRefusal (sym x) (unjoined_refuses task talk.notes fault)
+
+-- however a job has ended otherwise, it has another status than GOOD
+pub ran_refuses : (job : Job) (course : Course) (read_ wrote rest left : List ℕ) (outcome : Outcome) → Did job course read_ wrote rest left → (course.talk.outcome ≡ outcome) ⊎ EndsBy course.talk rest outcome → HasRefusal outcome
+ran_refuses job course read_ wrote rest left outcome did (inl e) = subst HasRefusal e (course_refuses job did.events course did.runs)
+ran_refuses job course read_ wrote rest left outcome did (inr by) = cut_refuses course.talk rest outcome by
+
+pub sink_refuses : HasRefusal (Ended statuses.IoError whys.Sink)
+sink_refuses = λ e. cc
+
+pub memory_refuses : HasRefusal (Ended statuses.NoMem whys.Memory)
+memory_refuses = λ e. cc
+
+pub run_ended : {C R : Type 0} {whole : Bool} (remaining contents : C → Option (List ℕ)) (left_of : R → Option (List ℕ)) (job : Job) (first : C) (coming0 : Option (List (List ℕ))) (held : Option (List ℕ)) (control : C) (coming : Option (List (List ℕ))) (stream : Option R) (c : Talker) (holds : Option (List ℕ)) (status : Status) (why : Why)
     → is_batch job.task ≡ false → ((past : Past) (join : Joining) → Stands past join → (IsJoined past → ⊥) → IsWhole past.given → ⊥) → c.outcome ≡ Ended status why
-    → Closed remaining contents left_of job first coming0 held control coming stream c holds → RanEnded remaining contents job first coming0 control coming held holds (Ended status why)
+    → Closed remaining contents left_of job first coming0 held whole control coming stream c holds → RanEnded remaining contents job first coming0 control coming held holds (Ended status why)
 run_ended remaining contents left_of job first coming0 held control coming stream c holds status why single law over d =
     let s = d.stage in
     let r = ran_by remaining contents left_of job first coming0 control coming stream c d.given d.read_ d.wrote d.left d.failed d.calls s s.stands in
@@ -444,6 +470,7 @@ run_ended remaining contents left_of job first coming0 held control coming strea
     record {
       ran = r.0;
       cause = cause_of r.0.course.talk r.0.rest c.outcome (Ended status why) over r.1;
+      refusal = subst HasRefusal over (ran_refuses job r.0.course r.0.read_ r.0.wrote r.0.rest r.0.left c.outcome r.0.did r.1);
       text = d.given.bytes;
       taken = d.taken;
       not_whole = subst (λ (l : List ℕ). IsWhole l → ⊥) s.given_is (law s.past c.join s.serves.stands (ended_unjoined c.errand.task s.past (ap is_batch (task_is c job s.errand) ∙ single) fits));
@@ -452,7 +479,7 @@ run_ended remaining contents left_of job first coming0 held control coming strea
 run_over : {C R : Type 0} (remaining contents : C → Option (List ℕ)) (left_of : R → Option (List ℕ)) (job : Job) (first : C) (coming0 : Option (List (List ℕ))) (held : Option (List ℕ)) (control : C) (coming : Option (List (List ℕ))) (stream : Option R) (c : Talker) (holds : Option (List ℕ)) (outcome : Outcome)
     → is_batch job.task ≡ false → ((past : Past) (join : Joining) → Stands past join → (IsJoined past → ⊥) → IsWhole past.given → ⊥)
     → ((past : Past) (join : Joining) → Stands past join → IsJoined past → (p : Picture) × ShowsFrames past.ended p) → is_running outcome ≡ false → c.outcome ≡ outcome
-    → Closed remaining contents left_of job first coming0 held control coming stream c holds → HasRun remaining contents job first coming0 control coming held holds outcome
+    → Closed remaining contents left_of job first coming0 held true control coming stream c holds → HasRun remaining contents job first coming0 control coming held holds outcome
 run_over remaining contents left_of job first coming0 held control coming stream c holds Running single law shows over e d = let clash : true ≡ false = over in cc
 run_over remaining contents left_of job first coming0 held control coming stream c holds (Done reports) single law shows over e d = run_done remaining contents left_of job first coming0 held control coming stream c holds reports shows e d
 run_over remaining contents left_of job first coming0 held control coming stream c holds (Ended status why) single law shows over e d = run_ended remaining contents left_of job first coming0 held control coming stream c holds status why single law e d
@@ -460,7 +487,7 @@ run_over remaining contents left_of job first coming0 held control coming stream
 pub has_run : {C R : Type 0} (remaining contents : C → Option (List ℕ)) (left_of : R → Option (List ℕ)) (job : Job) (first : C) (coming0 : Option (List (List ℕ))) (held : Option (List ℕ)) (control : C) (coming : Option (List (List ℕ))) (stream : Option R) (c : Talker) (holds : Option (List ℕ)) (outcome : Outcome)
     → is_batch job.task ≡ false → ((past : Past) (join : Joining) → Stands past join → (IsJoined past → ⊥) → IsWhole past.given → ⊥)
     → ((past : Past) (join : Joining) → Stands past join → IsJoined past → (p : Picture) × ShowsFrames past.ended p) → is_running c.outcome ≡ false → outcome ≡ c.outcome
-    → Closed remaining contents left_of job first coming0 held control coming stream c holds → HasRun remaining contents job first coming0 control coming held holds outcome
+    → Closed remaining contents left_of job first coming0 held true control coming stream c holds → HasRun remaining contents job first coming0 control coming held holds outcome
 has_run remaining contents left_of job first coming0 held control coming stream c holds outcome single law shows over e d =
     run_over remaining contents left_of job first coming0 held control coming stream c holds outcome single law shows (ap is_running e ∙ over) (sym e) d
 
@@ -473,7 +500,142 @@ run_sunk remaining contents left_of job first coming0 held was failed control co
     let s = g.stage in
     let r = ran_by remaining contents left_of job first coming0 control coming stream c given g.read_ g.wrote g.left failed g.calls s s.stands in
     let short = stops s.past (record { scan = task_is c job s.errand ∙ scan; serves = s.serves; taken = subst (λ (l : List ℕ). Appends held was l) (sym s.given_is) taken }) in
-    record { ran = r.0; cause = inr (inr refl); text = short.text; taken = short.taken; not_whole = short.not_whole }
+    record { ran = r.0; cause = inr (inr refl); refusal = sink_refuses; text = short.text; taken = short.taken; not_whole = short.not_whole }
+
+-- ---- a job whose last bytes are not given
+
+-- before the picture is whole, what was given is no whole file
+abbrev pub NoneBefore : Type 0
+NoneBefore = (past : Past) (join : Joining) → Stands past join → (IsJoined past → ⊥) → IsWhole past.given → ⊥
+
+-- the output holds what was given, which is no whole file
+pub record Pending {C R : Type 0} (remaining contents : C → Option (List ℕ)) (left_of : R → Option (List ℕ)) (job : Job) (first : C) (coming0 : Option (List (List ℕ))) (held : Option (List ℕ)) (failed : Bool) (control : C) (coming : Option (List (List ℕ))) (stream : Option R) (c : Talker) (holds : Option (List ℕ)) : Type 0 where
+  pub drained : Drained remaining contents left_of job first coming0 held failed false control coming stream c holds
+  pub not_whole : IsWhole drained.given.bytes → ⊥
+
+not_given : (law : NoneBefore) (past : Past) (join : Joining) (bytes : List ℕ) → past.given ≡ bytes → Stands past join → (IsJoined past → ⊥) → IsWhole bytes → ⊥
+not_given law past join bytes is stands unjoined = subst (λ (l : List ℕ). IsWhole l → ⊥) is (law past join stands unjoined)
+
+pub running_ends : (outcome : Outcome) (task : Task) (progress : Progress) (past : Past) → is_running outcome ≡ true → Fits task outcome progress past → FitsEnded task past
+running_ends Running task progress past e f = may_end task progress past f.0 f.1
+running_ends (Done reports) task progress past e f = absurd (let clash : false ≡ true = e in cc)
+running_ends (Ended status why) task progress past e f = absurd (let clash : false ≡ true = e in cc)
+
+running_unjoined : {R : Type 0} (left_of : R → Option (List ℕ)) (job : Job) (read_ wrote left : List ℕ) (coming0 coming : Option (List (List ℕ))) (given : Given) (stream : Option R) (c : Talker) → is_batch job.task ≡ false → is_running c.outcome ≡ true
+    → (s : Stage left_of job read_ wrote left coming0 coming given stream c) → IsJoined s.past → ⊥
+running_unjoined left_of job read_ wrote left coming0 coming given stream c single runs s =
+    ended_unjoined c.errand.task s.past (ap is_batch (task_is c job s.errand) ∙ single) (running_ends c.outcome c.errand.task c.progress s.past runs s.serves.fits)
+
+pub pending_first : {C R : Type 0} (remaining contents : C → Option (List ℕ)) (left_of : R → Option (List ℕ)) (job : Job) (control : C) (coming : Option (List (List ℕ))) (held : Option (List ℕ)) (c : Talker) → NoneBefore → is_batch job.task ≡ false → IsFresh job c
+    → Pending remaining contents left_of job control coming held false control coming None c held
+pending_first remaining contents left_of job control coming held c law single f =
+    let d = drained_first remaining contents left_of job control coming held c f in
+    let s = d.going.stage in
+    record { drained = d; not_whole = not_given law s.past c.join d.given.bytes s.given_is s.serves.stands (running_unjoined left_of job d.going.read_ d.going.wrote d.going.left coming coming d.given None c single (ap (λ (v : Talker). is_running v.outcome) f.value) s) }
+
+-- a turn in which the output took what was given, and the job runs on
+pub pending_gave : {C R : Type 0} (remaining contents : C → Option (List ℕ)) (left_of : R → Option (List ℕ)) (job : Job) (first : C) (coming0 : Option (List (List ℕ))) (held : Option (List ℕ)) (failed : Bool) (control : C) (coming : Option (List (List ℕ))) (stream : Option R) (c : Talker) (holds : Option (List ℕ)) → NoneBefore → is_batch job.task ≡ false → is_running c.outcome ≡ true
+    → Drained remaining contents left_of job first coming0 held failed true control coming stream c holds → Pending remaining contents left_of job first coming0 held failed control coming stream c holds
+pending_gave remaining contents left_of job first coming0 held failed control coming stream c holds law single runs d =
+    let s = d.going.stage in
+    record {
+      drained = record { given = d.given; going = d.going; taken = d.taken; none = d.none; shown = λ w. absurd (let clash : false ≡ true = w in cc) };
+      not_whole = not_given law s.past c.join d.given.bytes s.given_is s.serves.stands (running_unjoined left_of job d.going.read_ d.going.wrote d.going.left coming0 coming d.given stream c single runs s);
+    }
+
+-- one in which nothing was given
+pub pending_went : {C R : Type 0} (remaining contents : C → Option (List ℕ)) (left_of : R → Option (List ℕ)) (job : Job) (first : C) (coming0 : Option (List (List ℕ))) (held : Option (List ℕ)) (failed then_ : Bool) (control now : C) (coming come : Option (List (List ℕ))) (stream next : Option R) (c new : Talker) (holds : Option (List ℕ))
+    → (p : Pending remaining contents left_of job first coming0 held failed control coming stream c holds) → Going remaining contents left_of job first coming0 p.drained.given then_ now come next new
+    → Pending remaining contents left_of job first coming0 held then_ now come next new holds
+pending_went remaining contents left_of job first coming0 held failed then_ control now coming come stream next c new holds p g = record {
+  drained = record { given = p.drained.given; going = g; taken = p.drained.taken; none = p.drained.none; shown = λ w. absurd (let clash : false ≡ true = w in cc) };
+  not_whole = p.not_whole;
+}
+
+pub pending_as : {C R : Type 0} (remaining contents : C → Option (List ℕ)) (left_of : R → Option (List ℕ)) (job : Job) (first : C) (coming0 : Option (List (List ℕ))) (held : Option (List ℕ)) (failed other : Bool) (control : C) (coming : Option (List (List ℕ))) (stream : Option R) (c : Talker) (holds : Option (List ℕ)) → failed ≡ other
+    → Pending remaining contents left_of job first coming0 held failed control coming stream c holds → Pending remaining contents left_of job first coming0 held other control coming stream c holds
+pending_as remaining contents left_of job first coming0 held failed other control coming stream c holds e p = subst (λ (b : Bool). Pending remaining contents left_of job first coming0 held b control coming stream c holds) e p
+
+pub pending_cut : {C R : Type 0} (remaining contents : C → Option (List ℕ)) (left_of : R → Option (List ℕ)) (job : Job) (first : C) (coming0 : Option (List (List ℕ))) (held : Option (List ℕ)) (failed : Bool) (control : C) (coming : Option (List (List ℕ))) (stream : Option R) (c new : Talker) (holds : Option (List ℕ))
+    → new ≡ (if is_lost_by links.Control c.outcome c.progress then ended statuses.IoError whys.Lost c else c)
+    → Pending remaining contents left_of job first coming0 held failed control coming stream c holds → Pending remaining contents left_of job first coming0 held failed control coming stream new holds
+unfolding drained_cut
+pending_cut remaining contents left_of job first coming0 held failed control coming stream c new holds lost p =
+    record { drained = drained_cut remaining contents left_of job first coming0 held failed control coming stream c new holds lost p.drained; not_whole = p.not_whole }
+
+-- leave was taken of the daemon, where no write had failed
+pub closed_parted : {whole : Bool} {C R : Type 0} (remaining contents : C → Option (List ℕ)) (left_of : R → Option (List ℕ)) (job : Job) (first : C) (coming0 : Option (List (List ℕ))) (held : Option (List ℕ)) (is_up : Bool) (control now : C) (coming : Option (List (List ℕ))) (stream : Option R) (c : Talker) (holds : Option (List ℕ))
+    → (is_up ≡ true → (n : ℕ) × (n ≤ length c.out) × Appends (contents control) (contents now) (take n c.out)) → (is_up ≡ false → now ≡ control)
+    → Drained remaining contents left_of job first coming0 held (not is_up) whole control coming stream c holds → Closed remaining contents left_of job first coming0 held whole now coming stream c holds
+closed_parted remaining contents left_of job first coming0 held true control now coming stream c holds wrote still d = closed_left remaining contents left_of job first coming0 held control now coming stream c holds (wrote refl) d
+closed_parted remaining contents left_of job first coming0 held false control now coming stream c holds wrote still d = record {
+  given = d.given;
+  read_ = d.going.read_;
+  wrote = d.going.wrote;
+  left = d.going.left;
+  failed = true;
+  calls = subst (λ x. Calls remaining contents first d.going.read_ d.going.wrote true x) (sym (still refl)) d.going.calls;
+  stage = d.going.stage;
+  all = λ e. absurd (let clash : true ≡ false = e in cc);
+  taken = d.taken;
+  none = d.none;
+  shown = d.shown;
+}
+
+closed_by_given : {whole : Bool} {C R : Type 0} (remaining contents : C → Option (List ℕ)) (left_of : R → Option (List ℕ)) (job : Job) (first : C) (coming0 : Option (List (List ℕ))) (held : Option (List ℕ)) (control now : C) (coming : Option (List (List ℕ))) (stream : Option R) (c : Talker) (holds : Option (List ℕ)) (n : ℕ) (short : Bool)
+    → (is : nat_lt n (length c.out) ≡ short) → (within : n ≤ length c.out) → (took : Appends (contents control) (contents now) (take n c.out)) → (d : Drained remaining contents left_of job first coming0 held false whole control coming stream c holds)
+    → (s : Stage left_of job d.going.read_ (d.going.wrote ++ take n c.out) (drop n c.out) coming0 coming d.given stream c) → (same : s.past ≡ d.going.stage.past)
+    → (closed_by remaining contents left_of job first coming0 held control now coming stream c holds n short is within took d s same).given ≡ d.given
+unfolding closed_by
+closed_by_given remaining contents left_of job first coming0 held control now coming stream c holds n true is within took d s same = refl
+closed_by_given remaining contents left_of job first coming0 held control now coming stream c holds n false is within took d s same = refl
+
+closed_parted_given : {whole : Bool} {C R : Type 0} (remaining contents : C → Option (List ℕ)) (left_of : R → Option (List ℕ)) (job : Job) (first : C) (coming0 : Option (List (List ℕ))) (held : Option (List ℕ)) (is_up : Bool) (control now : C) (coming : Option (List (List ℕ))) (stream : Option R) (c : Talker) (holds : Option (List ℕ))
+    → (wrote : is_up ≡ true → (n : ℕ) × (n ≤ length c.out) × Appends (contents control) (contents now) (take n c.out)) → (still : is_up ≡ false → now ≡ control)
+    → (d : Drained remaining contents left_of job first coming0 held (not is_up) whole control coming stream c holds) → (closed_parted remaining contents left_of job first coming0 held is_up control now coming stream c holds wrote still d).given ≡ d.given
+unfolding closed_parted closed_left
+closed_parted_given remaining contents left_of job first coming0 held true control now coming stream c holds wrote still d = closed_by_given remaining contents left_of job first coming0 held control now coming stream c holds _ _ refl _ _ d _ _
+closed_parted_given remaining contents left_of job first coming0 held false control now coming stream c holds wrote still d = refl
+
+-- there was no memory for what was to be told
+run_untold : {C R : Type 0} (remaining contents : C → Option (List ℕ)) (left_of : R → Option (List ℕ)) (job : Job) (first : C) (coming0 : Option (List (List ℕ))) (held : Option (List ℕ)) (control : C) (coming : Option (List (List ℕ))) (stream : Option R) (c : Talker) (holds : Option (List ℕ)) → (d : Closed remaining contents left_of job first coming0 held false control coming stream c holds) → (IsWhole d.given.bytes → ⊥)
+    → RanEnded remaining contents job first coming0 control coming held holds (Ended statuses.NoMem whys.Memory)
+run_untold remaining contents left_of job first coming0 held control coming stream c holds d not_whole =
+    let s = d.stage in
+    let r = ran_by remaining contents left_of job first coming0 control coming stream c d.given d.read_ d.wrote d.left d.failed d.calls s s.stands in
+    record { ran = r.0; cause = inr (inl (ByMemory refl)); refusal = memory_refuses; text = d.given.bytes; taken = d.taken; not_whole = not_whole }
+
+stopped_by : {C R : Type 0} (remaining contents : C → Option (List ℕ)) (left_of : R → Option (List ℕ)) (job : Job) (first : C) (coming0 : Option (List (List ℕ))) (held : Option (List ℕ)) (control : C) (coming : Option (List (List ℕ))) (stream : Option R) (c : Talker) (holds : Option (List ℕ)) (outcome : Outcome) (stop : Stop)
+    → is_batch job.task ≡ false → NoneBefore → c.outcome ≡ outcome → EndsAs outcome stop → (d : Closed remaining contents left_of job first coming0 held false control coming stream c holds) → (IsWhole d.given.bytes → ⊥)
+    → RanEnded remaining contents job first coming0 control coming held holds (Ended stop.status stop.why)
+stopped_by remaining contents left_of job first coming0 held control coming stream c holds Running stop single law over ends d not_whole = absurd ends
+stopped_by remaining contents left_of job first coming0 held control coming stream c holds (Done reports) stop single law over ends d not_whole =
+    subst (λ (x : Stop). RanEnded remaining contents job first coming0 control coming held holds (Ended x.status x.why)) (sym ends) (run_untold remaining contents left_of job first coming0 held control coming stream c holds d not_whole)
+stopped_by remaining contents left_of job first coming0 held control coming stream c holds (Ended status why) stop single law over ends d not_whole =
+    subst (λ (x : Stop). RanEnded remaining contents job first coming0 control coming held holds (Ended x.status x.why)) (sym ends) (run_ended remaining contents left_of job first coming0 held control coming stream c holds status why single law over d)
+
+-- a job that is over of which nothing is told
+pub run_stopped : {C R : Type 0} (remaining contents : C → Option (List ℕ)) (left_of : R → Option (List ℕ)) (job : Job) (first : C) (coming0 : Option (List (List ℕ))) (held : Option (List ℕ)) (is_up : Bool) (control now : C) (coming : Option (List (List ℕ))) (stream : Option R) (c : Talker) (holds : Option (List ℕ)) (stop : Stop)
+    → is_batch job.task ≡ false → NoneBefore → EndsAs c.outcome stop
+    → (is_up ≡ true → (n : ℕ) × (n ≤ length c.out) × Appends (contents control) (contents now) (take n c.out)) → (is_up ≡ false → now ≡ control)
+    → Pending remaining contents left_of job first coming0 held (not is_up) control coming stream c holds
+    → RanEnded remaining contents job first coming0 now coming held holds (Ended stop.status stop.why)
+run_stopped remaining contents left_of job first coming0 held is_up control now coming stream c holds stop single law ends wrote still p =
+    stopped_by remaining contents left_of job first coming0 held now coming stream c holds c.outcome stop single law refl ends
+    (closed_parted remaining contents left_of job first coming0 held is_up control now coming stream c holds wrote still p.drained)
+    (subst (λ (g : Given). IsWhole g.bytes → ⊥) (sym (closed_parted_given remaining contents left_of job first coming0 held is_up control now coming stream c holds wrote still p.drained)) p.not_whole)
+
+-- what holds of a result
+pub ok_of : {T E : Type 0} (r : Result T E) (t : T) (P : T → Type 0) → r ≡ Ok t → IfOk r P → P t
+ok_of r t P e is = subst (λ x. IfOk x P) e is
+
+pub err_of : {T E : Type 0} (r : Result T E) (stop : E) (P : E → Type 0) → r ≡ Err stop → IfErr r P → P stop
+err_of r stop P e is = subst (λ x. IfErr x P) e is
+
+-- only what scans can refuse
+pub scan_by : (is_scan result : Bool) → (is_scan ≡ false → result ≡ true) → result ≡ false → is_scan ≡ true
+scan_by true result none failed = refl
+scan_by false result none failed = absurd (let clash : true ≡ false = sym (none refl) ∙ failed in cc)
 
 -- ---- a turn's end: what a job gave of its file, if it is a scan
 
@@ -481,20 +643,20 @@ given_by : {C R : Type 0} (remaining contents : C → Option (List ℕ)) (left_o
     → is_scan ≡ scans → is_scan ≡ true ↔ job.task ≡ tasks.Scan → Appends held was given.bytes → ((job.task ≡ tasks.Scan → ⊥) → given.bytes ≡ []) → Going remaining contents left_of job first coming0 given failed control coming stream c
     → (is_scan ≡ false → (now ≡ c) × (holds ≡ was))
     → (is_scan ≡ true → (past : Past) → HoldsGiven past c held was → IsDrainedTo past c held now holds)
-    → Drained remaining contents left_of job first coming0 held failed control coming stream now holds
+    → Drained remaining contents left_of job first coming0 held failed true control coming stream now holds
 given_by remaining contents left_of job first coming0 held failed control coming stream c now was holds given is_scan true e scan taken none g same drains =
     drained_more remaining contents left_of job first coming0 held failed control coming stream c now was holds given (scan.0 e) taken g (drains e)
 given_by remaining contents left_of job first coming0 held failed control coming stream c now was holds given is_scan false e scan taken none g same drains =
     let other : job.task ≡ tasks.Scan → ⊥ = λ s. (let clash : true ≡ false = sym (scan.1 s) ∙ e in cc) in
     let kept = same e in
-    subst (λ (v : Talker). Drained remaining contents left_of job first coming0 held failed control coming stream v holds) (sym kept.0)
+    subst (λ (v : Talker). Drained remaining contents left_of job first coming0 held failed true control coming stream v holds) (sym kept.0)
     (drained_none remaining contents left_of job first coming0 held failed control coming stream c holds given other (none other) (subst (λ (o : Option (List ℕ)). Appends held o given.bytes) (sym kept.1) taken) g)
 
 pub given_more : {C R : Type 0} (remaining contents : C → Option (List ℕ)) (left_of : R → Option (List ℕ)) (job : Job) (first : C) (coming0 : Option (List (List ℕ))) (held : Option (List ℕ)) (failed : Bool) (control : C) (coming : Option (List (List ℕ))) (stream : Option R) (c now : Talker) (was holds : Option (List ℕ)) (given : Given) (is_scan : Bool)
     → is_scan ≡ true ↔ job.task ≡ tasks.Scan → Appends held was given.bytes → ((job.task ≡ tasks.Scan → ⊥) → given.bytes ≡ []) → Going remaining contents left_of job first coming0 given failed control coming stream c
     → (is_scan ≡ false → (now ≡ c) × (holds ≡ was))
     → (is_scan ≡ true → (past : Past) → HoldsGiven past c held was → IsDrainedTo past c held now holds)
-    → Drained remaining contents left_of job first coming0 held failed control coming stream now holds
+    → Drained remaining contents left_of job first coming0 held failed true control coming stream now holds
 given_more remaining contents left_of job first coming0 held failed control coming stream c now was holds given is_scan scan taken none g same drains =
     given_by remaining contents left_of job first coming0 held failed control coming stream c now was holds given is_scan is_scan refl scan taken none g same drains
 

@@ -11,3 +11,4 @@ pub mod Pages
 pub mod Counting
 pub mod Shelving
 pub mod Batching
+pub mod Refusing

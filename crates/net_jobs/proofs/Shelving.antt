@@ -1,5 +1,5 @@
 -- Between two turns of a job whose files go to a shelf.
-use Rattle.std.proofs.Common.{◌≡◌, ◌∙◌, ◌⊎◌, ◌≤◌, ◌+◌, ℕ, Bool, true, false, Option, Some, None, Ok, List, [], ◌∷◌, ◌++◌, length, take, drop, refl, sym, ap, subst, inl, inr}
+use Rattle.std.proofs.Common.{◌≡◌, ◌∙◌, ◌⊎◌, ◌≤◌, ◌+◌, ℕ, Bool, true, false, not, Option, Some, None, Ok, List, [], ◌∷◌, ◌++◌, length, take, drop, refl, sym, ap, subst, inl, inr}
 use Rattle.std.specs.Prelude.{All, nat_lt, if◌then◌else◌}
 use Rattle.std.specs.Io.KnownBytes.{Appends}
 use Rattle.std.proofs.lemmas.Bool.{ltb-false}
@@ -15,6 +15,7 @@ use Rattle.scan_job.specs.JobSize.{HasCount}
 use Rattle.scan_job.specs.Shelves.{Stock, Taken}
 use Rattle.scan_job.specs.declared.job.Job.{Job}
 use Rattle.scan_job.specs.declared.job.Task.{Task}
+use Rattle.scan_job.specs.declared.job.Task.TheVariants as tasks
 use Rattle.scan_job.specs.declared.outcome.Outcome.{Outcome}
 use Rattle.scan_job.specs.declared.outcome.Outcome.TheVariants.{Running, Done, Ended}
 use Rattle.scan_job.specs.declared.outcome.Why.TheVariants as whys
@@ -23,7 +24,7 @@ use Rattle.client_rules.specs.declared.progress.Link.TheVariants as links
 use Rattle.client_rules.specs.declared.progress.Progress.{Progress}
 use Rattle.client_rules.specs.declared.progress.Progress.TheVariants as stages
 use Rattle.client_rules.specs.Asking.{asked}
-use Rattle.client_rules.specs.Talks.{Talk, errand_of, is_running, is_receiving, is_ended, is_lost_by, scans, turns}
+use Rattle.client_rules.specs.Talks.{Talk, errand_of, is_running, is_receiving, is_ended, is_lost_by, scans, turns, FitsEnded}
 use Rattle.net_client.specs.Sending.{request_text}
 use Rattle.net_client.specs.Talker.{Talker, Serves, IsFresh, TurnsPage, talk_of, ended}
 use Rattle.net_jobs.specs.Courses.{Course, Lives, Turned, turned}
@@ -37,24 +38,24 @@ use Rattle.net_jobs.proofs.Staging.{following}
 use Rattle.net_jobs.proofs.Receiving.{behind_some, unjoined_ended}
 use Rattle.net_jobs.proofs.Going.{none_open, stage_wrote, stage_cut, going_begun}
 use Rattle.net_jobs.proofs.Counting.{Counts, counts, is_turning_at}
-use Rattle.net_jobs.proofs.Leaving.{more_given, stage_gave_by, task_is, cut_out, cut_alive}
+use Rattle.net_jobs.proofs.Leaving.{NoneBefore, more_given, stage_gave_by, task_is, cut_out, cut_alive, running_ends}
 use Rattle.net_jobs.proofs.Pages.{turning_fits}
 use Rattle.net_jobs.proofs.Shelves.{begins_with_none, none_under_way, outputs_more}
 
 -- what a shelf holds of a job's files: the pages that were turned, each whole, and what was given of the one under way
-pub record OnShelf (job : Job) (before now : Option Stock) (out : Option (Option (List ℕ))) (given : Given) (c : Talker) (past : Past) : Type 0 where
+pub record OnShelf (whole : Bool) (job : Job) (before now : Option Stock) (out : Option (Option (List ℕ))) (given : Given) (c : Talker) (past : Past) : Type 0 where
   pub under_way : IsUnderWay before (outputs_from 1 given.pages) now out (length given.pages + 1) given.bytes
   pub files : All IsPageFile given.pages
   pub none : scans job.task ≡ false → given.bytes ≡ []
-  pub shown : scans job.task ≡ true → is_ended c.outcome ≡ false → IsJoined past → (p : Picture) → ShowsFrames past.ended p → Denotes given.bytes p
+  pub shown : whole ≡ true → scans job.task ≡ true → is_ended c.outcome ≡ false → IsJoined past → (p : Picture) → ShowsFrames past.ended p → Denotes given.bytes p
 
-pub record Laid {C R : Type 0} (remaining contents : C → Option (List ℕ)) (left_of : R → Option (List ℕ)) (job : Job) (first : C) (coming0 : Option (List (List ℕ))) (before : Option Stock) (failed : Bool) (control : C) (coming : Option (List (List ℕ))) (stream : Option R) (c : Talker) (now : Option Stock) (out : Option (Option (List ℕ))) : Type 0 where
+pub record Laid {C R : Type 0} (remaining contents : C → Option (List ℕ)) (left_of : R → Option (List ℕ)) (job : Job) (first : C) (coming0 : Option (List (List ℕ))) (before : Option Stock) (failed whole : Bool) (control : C) (coming : Option (List (List ℕ))) (stream : Option R) (c : Talker) (now : Option Stock) (out : Option (Option (List ℕ))) : Type 0 where
   pub given : Given
   pub going : Going remaining contents left_of job first coming0 given failed control coming stream c
-  pub shelf : OnShelf job before now out given c going.stage.past
+  pub shelf : OnShelf whole job before now out given c going.stage.past
 
 pub laid_first : {C R : Type 0} (remaining contents : C → Option (List ℕ)) (left_of : R → Option (List ℕ)) (job : Job) (control : C) (coming : Option (List (List ℕ))) (before : Option Stock) (out : Option (Option (List ℕ))) (c : Talker) → IsFresh job c → out ≡ None
-    → Laid remaining contents left_of job control coming before false control coming None c before out
+    → Laid remaining contents left_of job control coming before false false control coming None c before out
 laid_first remaining contents left_of job control coming before out c f none =
     let g = going_begun remaining contents left_of job control coming c f in
     record {
@@ -64,7 +65,7 @@ laid_first remaining contents left_of job control coming before out c f none =
         under_way = record { taken = subst (λ (o : Option (Option (List ℕ))). HasTaken before [] before o 1 []) (sym none) (begins_with_none before 1); asked = λ e. none };
         files = All-nil IsPageFile;
         none = λ other. refl;
-        shown = λ scanning alive joined. absurd (let clash : Ok false ≡ Ok true = subst (λ (q : Past). IsJoined q) g.1 joined in cc);
+        shown = λ w scanning alive joined. absurd (let clash : Ok false ≡ Ok true = subst (λ (q : Past). IsJoined q) g.1 joined in cc);
       };
     }
 
@@ -146,16 +147,16 @@ stage_turned left_of job read_ wrote left coming0 coming given stream c new join
 laid_on : {C R : Type 0} (remaining contents : C → Option (List ℕ)) (left_of : R → Option (List ℕ)) (job : Job) (first : C) (coming0 : Option (List (List ℕ))) (before : Option Stock) (failed : Bool) (control : C) (coming : Option (List (List ℕ))) (stream : Option R) (c now : Talker) (then_ : Option Stock) (out : Option (Option (List ℕ))) (given : Given)
     → scans job.task ≡ true → All IsPageFile given.pages → (g : Going remaining contents left_of job first coming0 given failed control coming stream c) → (e : GoesOn g.stage.past c (length given.pages + 1) before (outputs_from 1 given.pages) now then_ out)
     → (s : Stage left_of job g.read_ g.wrote g.left coming0 coming (more_given given e.bytes) stream (record c { join = now.join })) → s.past ≡ after_pull e.bytes g.stage.past
-    → Laid remaining contents left_of job first coming0 before failed control coming stream now then_ out
+    → Laid remaining contents left_of job first coming0 before failed true control coming stream now then_ out
 laid_on remaining contents left_of job first coming0 before failed control coming stream c now then_ out given scanning files g e s past_is =
-    subst (λ (v : Talker). Laid remaining contents left_of job first coming0 before failed control coming stream v then_ out) (sym e.rest) (record {
+    subst (λ (v : Talker). Laid remaining contents left_of job first coming0 before failed true control coming stream v then_ out) (sym e.rest) (record {
       given = more_given given e.bytes;
       going = record { read_ = g.read_; wrote = g.wrote; left = g.left; calls = g.calls; stage = s; left_is = g.left_is };
       shelf = record {
         under_way = subst (λ (l : List ℕ). IsUnderWay before (outputs_from 1 given.pages) then_ out (length given.pages + 1) (l ++ e.bytes)) g.stage.given_is e.under_way;
         files = files;
         none = λ other. absurd (let clash : true ≡ false = sym scanning ∙ other in cc);
-        shown = λ scan alive joined p shows.
+        shown = λ w scan alive joined p shows.
             subst (λ (l : List ℕ). Denotes (l ++ e.bytes) p) g.stage.given_is (e.denotes alive (subst (λ (q : Past). IsJoined q) past_is joined) p (subst (λ (q : Past). ShowsFrames q.ended p) past_is shows));
       };
     })
@@ -171,7 +172,7 @@ one_file page file = All-from_recursion IsPageFile (page ∷ []) (file, tt)
 pub laid_next : {C R : Type 0} (remaining contents : C → Option (List ℕ)) (left_of : R → Option (List ℕ)) (job : Job) (first : C) (coming0 : Option (List (List ℕ))) (before : Option Stock) (failed : Bool) (control : C) (coming : Option (List (List ℕ))) (stream : Option R) (c now : Talker) (then_ : Option Stock) (out : Option (Option (List ℕ))) (given : Given)
     → ((past : Past) (join : Joining) → Stands past join → IsJoined past → (p : Picture) × ShowsFrames past.ended p)
     → scans job.task ≡ true → All IsPageFile given.pages → (g : Going remaining contents left_of job first coming0 given failed control coming stream c) → (e : TurnsOn g.stage.past c (length given.pages + 1) before (outputs_from 1 given.pages) now then_ out)
-    → (d : Laid remaining contents left_of job first coming0 before failed control coming stream now then_ out) × (d.given.bytes ≡ [])
+    → (d : Laid remaining contents left_of job first coming0 before failed true control coming stream now then_ out) × (d.given.bytes ≡ [])
 laid_next remaining contents left_of job first coming0 before failed control coming stream c now then_ out given shows scanning files g e =
     let s = g.stage in
     let says = behind_some c.out now.out (request_text (asked c.errand c.notes.word (stages.Starting true))) e.client.text in
@@ -191,7 +192,7 @@ laid_next remaining contents left_of job first coming0 before failed control com
           };
           files = All-append IsPageFile given.pages (page ∷ []) files (one_file page file);
           none = λ other. refl;
-          shown = λ scan alive joined. absurd (let clash : Ok false ≡ Ok true = subst (λ (q : Past). IsJoined q) t.1 joined in cc);
+          shown = λ w scan alive joined. absurd (let clash : Ok false ≡ Ok true = subst (λ (q : Past). IsJoined q) t.1 joined in cc);
         };
       },
       refl,
@@ -201,7 +202,7 @@ pub laid_more : {C R : Type 0} (remaining contents : C → Option (List ℕ)) (l
     → ((past : Past) (join : Joining) → Stands past join → IsJoined past → (p : Picture) × ShowsFrames past.ended p)
     → scans job.task ≡ true → All IsPageFile given.pages → (g : Going remaining contents left_of job first coming0 given failed control coming stream c)
     → GoesOn g.stage.past c (length given.pages + 1) before (outputs_from 1 given.pages) now then_ out ⊎ TurnsOn g.stage.past c (length given.pages + 1) before (outputs_from 1 given.pages) now then_ out
-    → Laid remaining contents left_of job first coming0 before failed control coming stream now then_ out
+    → Laid remaining contents left_of job first coming0 before failed true control coming stream now then_ out
 laid_more remaining contents left_of job first coming0 before failed control coming stream c now then_ out given shows scanning files g (inl e) =
     let s = g.stage in
     let serves = subst (λ (v : Talker). Serves (after_pull e.bytes s.past) v) e.rest e.serves in
@@ -211,23 +212,23 @@ laid_more remaining contents left_of job first coming0 before failed control com
     (laid_next remaining contents left_of job first coming0 before failed control coming stream c now then_ out given shows scanning files g e).0
 
 -- one that writes nothing
-pub laid_none : {C R : Type 0} (remaining contents : C → Option (List ℕ)) (left_of : R → Option (List ℕ)) (job : Job) (first : C) (coming0 : Option (List (List ℕ))) (before : Option Stock) (failed : Bool) (control : C) (coming : Option (List (List ℕ))) (stream : Option R) (c old : Talker) (now : Option Stock) (out : Option (Option (List ℕ))) (given : Given) (past : Past)
-    → scans job.task ≡ false → OnShelf job before now out given old past → Going remaining contents left_of job first coming0 given failed control coming stream c
-    → Laid remaining contents left_of job first coming0 before failed control coming stream c now out
+pub laid_none : {C R : Type 0} {was_whole : Bool} (remaining contents : C → Option (List ℕ)) (left_of : R → Option (List ℕ)) (job : Job) (first : C) (coming0 : Option (List (List ℕ))) (before : Option Stock) (failed : Bool) (control : C) (coming : Option (List (List ℕ))) (stream : Option R) (c old : Talker) (now : Option Stock) (out : Option (Option (List ℕ))) (given : Given) (past : Past)
+    → scans job.task ≡ false → OnShelf was_whole job before now out given old past → Going remaining contents left_of job first coming0 given failed control coming stream c
+    → Laid remaining contents left_of job first coming0 before failed true control coming stream c now out
 laid_none remaining contents left_of job first coming0 before failed control coming stream c old now out given past other shelf g = record {
   given = given;
   going = g;
-  shelf = record { under_way = shelf.under_way; files = shelf.files; none = shelf.none; shown = λ scan. absurd (let clash : true ≡ false = sym scan ∙ other in cc) };
+  shelf = record { under_way = shelf.under_way; files = shelf.files; none = shelf.none; shown = λ w scan. absurd (let clash : true ≡ false = sym scan ∙ other in cc) };
 }
 
-pub laid_as : {C R : Type 0} (remaining contents : C → Option (List ℕ)) (left_of : R → Option (List ℕ)) (job : Job) (first : C) (coming0 : Option (List (List ℕ))) (before : Option Stock) (failed other : Bool) (control : C) (coming : Option (List (List ℕ))) (stream : Option R) (c : Talker) (now : Option Stock) (out : Option (Option (List ℕ))) → failed ≡ other
-    → Laid remaining contents left_of job first coming0 before failed control coming stream c now out → Laid remaining contents left_of job first coming0 before other control coming stream c now out
-laid_as remaining contents left_of job first coming0 before failed other control coming stream c now out e d = subst (λ (b : Bool). Laid remaining contents left_of job first coming0 before b control coming stream c now out) e d
+pub laid_as : {C R : Type 0} {whole : Bool} (remaining contents : C → Option (List ℕ)) (left_of : R → Option (List ℕ)) (job : Job) (first : C) (coming0 : Option (List (List ℕ))) (before : Option Stock) (failed other : Bool) (control : C) (coming : Option (List (List ℕ))) (stream : Option R) (c : Talker) (now : Option Stock) (out : Option (Option (List ℕ))) → failed ≡ other
+    → Laid remaining contents left_of job first coming0 before failed whole control coming stream c now out → Laid remaining contents left_of job first coming0 before other whole control coming stream c now out
+laid_as {whole = whole} remaining contents left_of job first coming0 before failed other control coming stream c now out e d = subst (λ (b : Bool). Laid remaining contents left_of job first coming0 before b whole control coming stream c now out) e d
 
 -- the control connection is lost, if the job runs
-pub laid_cut : {C R : Type 0} (remaining contents : C → Option (List ℕ)) (left_of : R → Option (List ℕ)) (job : Job) (first : C) (coming0 : Option (List (List ℕ))) (before : Option Stock) (failed : Bool) (control : C) (coming : Option (List (List ℕ))) (stream : Option R) (c new : Talker) (now : Option Stock) (out : Option (Option (List ℕ)))
+pub laid_cut : {C R : Type 0} {whole : Bool} (remaining contents : C → Option (List ℕ)) (left_of : R → Option (List ℕ)) (job : Job) (first : C) (coming0 : Option (List (List ℕ))) (before : Option Stock) (failed : Bool) (control : C) (coming : Option (List (List ℕ))) (stream : Option R) (c new : Talker) (now : Option Stock) (out : Option (Option (List ℕ)))
     → new ≡ (if is_lost_by links.Control c.outcome c.progress then ended statuses.IoError whys.Lost c else c)
-    → Laid remaining contents left_of job first coming0 before failed control coming stream c now out → Laid remaining contents left_of job first coming0 before failed control coming stream new now out
+    → Laid remaining contents left_of job first coming0 before failed whole control coming stream c now out → Laid remaining contents left_of job first coming0 before failed whole control coming stream new now out
 laid_cut remaining contents left_of job first coming0 before failed control coming stream c new now out lost d =
     let g = d.going in
     let s = stage_cut left_of job g.read_ g.wrote g.left coming0 coming d.given stream c new lost g.stage in
@@ -238,14 +239,14 @@ laid_cut remaining contents left_of job first coming0 before failed control comi
         under_way = d.shelf.under_way;
         files = d.shelf.files;
         none = d.shelf.none;
-        shown = λ scan alive joined p shows. d.shelf.shown scan (cut_alive (is_running c.outcome) c new lost alive) (subst (λ (q : Past). IsJoined q) s.1 joined) p (subst (λ (q : Past). ShowsFrames q.ended p) s.1 shows);
+        shown = λ w scan alive joined p shows. d.shelf.shown w scan (cut_alive (is_running c.outcome) c new lost alive) (subst (λ (q : Past). IsJoined q) s.1 joined) p (subst (λ (q : Past). ShowsFrames q.ended p) s.1 shows);
       };
     }
 
 -- ---- the end
 
 -- what a job that is over did, before its outcome is told
-pub record Shut {C R : Type 0} (remaining contents : C → Option (List ℕ)) (left_of : R → Option (List ℕ)) (job : Job) (first : C) (coming0 : Option (List (List ℕ))) (before : Option Stock) (control : C) (coming : Option (List (List ℕ))) (stream : Option R) (c : Talker) (now : Option Stock) (out : Option (Option (List ℕ))) : Type 0 where
+pub record Shut {C R : Type 0} (remaining contents : C → Option (List ℕ)) (left_of : R → Option (List ℕ)) (job : Job) (first : C) (coming0 : Option (List (List ℕ))) (before : Option Stock) (whole : Bool) (control : C) (coming : Option (List (List ℕ))) (stream : Option R) (c : Talker) (now : Option Stock) (out : Option (Option (List ℕ))) : Type 0 where
   pub given : Given
   pub read_ : List ℕ
   pub wrote : List ℕ
@@ -254,21 +255,21 @@ pub record Shut {C R : Type 0} (remaining contents : C → Option (List ℕ)) (l
   pub calls : Calls remaining contents first read_ wrote failed control
   pub stage : Stage left_of job read_ wrote left coming0 coming given stream c
   pub all : failed ≡ false → left ≡ []
-  pub shelf : OnShelf job before now out given c stage.past
+  pub shelf : OnShelf whole job before now out given c stage.past
 
-same_shelf : (job : Job) (before now : Option Stock) (out : Option (Option (List ℕ))) (given : Given) (c : Talker) (past then_ : Past) → then_ ≡ past → OnShelf job before now out given c past → OnShelf job before now out given c then_
+same_shelf : {whole : Bool} (job : Job) (before now : Option Stock) (out : Option (Option (List ℕ))) (given : Given) (c : Talker) (past then_ : Past) → then_ ≡ past → OnShelf whole job before now out given c past → OnShelf whole job before now out given c then_
 same_shelf job before now out given c past then_ same s = record {
   under_way = s.under_way;
   files = s.files;
   none = s.none;
-  shown = λ scan alive joined p shows. s.shown scan alive (subst (λ (q : Past). IsJoined q) same joined) p (subst (λ (q : Past). ShowsFrames q.ended p) same shows);
+  shown = λ w scan alive joined p shows. s.shown w scan alive (subst (λ (q : Past). IsJoined q) same joined) p (subst (λ (q : Past). ShowsFrames q.ended p) same shows);
 }
 
 -- the last bytes, or a front of them, were written
-shut_by : {C R : Type 0} (remaining contents : C → Option (List ℕ)) (left_of : R → Option (List ℕ)) (job : Job) (first : C) (coming0 : Option (List (List ℕ))) (before : Option Stock) (control then_ : C) (coming : Option (List (List ℕ))) (stream : Option R) (c : Talker) (now : Option Stock) (out : Option (Option (List ℕ))) (n : ℕ) (short : Bool)
-    → nat_lt n (length c.out) ≡ short → n ≤ length c.out → Appends (contents control) (contents then_) (take n c.out) → (d : Laid remaining contents left_of job first coming0 before false control coming stream c now out)
+shut_by : {C R : Type 0} {whole : Bool} (remaining contents : C → Option (List ℕ)) (left_of : R → Option (List ℕ)) (job : Job) (first : C) (coming0 : Option (List (List ℕ))) (before : Option Stock) (control then_ : C) (coming : Option (List (List ℕ))) (stream : Option R) (c : Talker) (now : Option Stock) (out : Option (Option (List ℕ))) (n : ℕ) (short : Bool)
+    → nat_lt n (length c.out) ≡ short → n ≤ length c.out → Appends (contents control) (contents then_) (take n c.out) → (d : Laid remaining contents left_of job first coming0 before false whole control coming stream c now out)
     → (s : Stage left_of job d.going.read_ (d.going.wrote ++ take n c.out) (drop n c.out) coming0 coming d.given stream c) → s.past ≡ d.going.stage.past
-    → Shut remaining contents left_of job first coming0 before then_ coming stream c now out
+    → Shut remaining contents left_of job first coming0 before whole then_ coming stream c now out
 shut_by remaining contents left_of job first coming0 before control then_ coming stream c now out n true short within took d s same = record {
   given = d.given;
   read_ = d.going.read_;
@@ -292,17 +293,17 @@ shut_by remaining contents left_of job first coming0 before control then_ coming
   shelf = same_shelf job before now out d.given c d.going.stage.past s.past same d.shelf;
 }
 
-pub shut_left : {C R : Type 0} (remaining contents : C → Option (List ℕ)) (left_of : R → Option (List ℕ)) (job : Job) (first : C) (coming0 : Option (List (List ℕ))) (before : Option Stock) (control then_ : C) (coming : Option (List (List ℕ))) (stream : Option R) (c : Talker) (now : Option Stock) (out : Option (Option (List ℕ)))
-    → (n : ℕ) × (n ≤ length c.out) × Appends (contents control) (contents then_) (take n c.out) → Laid remaining contents left_of job first coming0 before false control coming stream c now out
-    → Shut remaining contents left_of job first coming0 before then_ coming stream c now out
+pub shut_left : {C R : Type 0} {whole : Bool} (remaining contents : C → Option (List ℕ)) (left_of : R → Option (List ℕ)) (job : Job) (first : C) (coming0 : Option (List (List ℕ))) (before : Option Stock) (control then_ : C) (coming : Option (List (List ℕ))) (stream : Option R) (c : Talker) (now : Option Stock) (out : Option (Option (List ℕ)))
+    → (n : ℕ) × (n ≤ length c.out) × Appends (contents control) (contents then_) (take n c.out) → Laid remaining contents left_of job first coming0 before false whole control coming stream c now out
+    → Shut remaining contents left_of job first coming0 before whole then_ coming stream c now out
 shut_left remaining contents left_of job first coming0 before control then_ coming stream c now out w d =
     let g = d.going in
     let s = stage_wrote left_of job g.read_ g.wrote g.left (take w.0 c.out) (drop w.0 c.out) coming0 coming d.given stream c c (g.left_is refl ∙ sym (take-append-drop w.0 c.out)) refl g.stage in
     shut_by remaining contents left_of job first coming0 before control then_ coming stream c now out w.0 (nat_lt w.0 (length c.out)) refl w.1 w.2 d s.0 s.1
 
 -- a write failed before
-pub shut_cut : {C R : Type 0} (remaining contents : C → Option (List ℕ)) (left_of : R → Option (List ℕ)) (job : Job) (first : C) (coming0 : Option (List (List ℕ))) (before : Option Stock) (control : C) (coming : Option (List (List ℕ))) (stream : Option R) (c : Talker) (now : Option Stock) (out : Option (Option (List ℕ)))
-    → Laid remaining contents left_of job first coming0 before true control coming stream c now out → Shut remaining contents left_of job first coming0 before control coming stream c now out
+pub shut_cut : {C R : Type 0} {whole : Bool} (remaining contents : C → Option (List ℕ)) (left_of : R → Option (List ℕ)) (job : Job) (first : C) (coming0 : Option (List (List ℕ))) (before : Option Stock) (control : C) (coming : Option (List (List ℕ))) (stream : Option R) (c : Talker) (now : Option Stock) (out : Option (Option (List ℕ)))
+    → Laid remaining contents left_of job first coming0 before true whole control coming stream c now out → Shut remaining contents left_of job first coming0 before whole control coming stream c now out
 shut_cut remaining contents left_of job first coming0 before control coming stream c now out d = record {
   given = d.given;
   read_ = d.going.read_;
@@ -318,13 +319,13 @@ shut_cut remaining contents left_of job first coming0 before control coming stre
 -- ---- a turn's end, whatever the task
 
 -- how far the job is before its files are filled, as the contract wants it
-under_way_at : (job : Job) (before was : Option Stock) (under : Option (Option (List ℕ))) (given : Given) (old : Talker) (past then_ : Past) → then_.given ≡ given.bytes → OnShelf job before was under given old past
+under_way_at : {was_whole : Bool} (job : Job) (before was : Option Stock) (under : Option (Option (List ℕ))) (given : Given) (old : Talker) (past then_ : Past) → then_.given ≡ given.bytes → OnShelf was_whole job before was under given old past
     → IsUnderWay before (outputs_from 1 given.pages) was under (length given.pages + 1) then_.given
 under_way_at job before was under given old past then_ given_is s = subst (λ (l : List ℕ). IsUnderWay before (outputs_from 1 given.pages) was under (length given.pages + 1) l) (sym given_is) s.under_way
 
 -- what a contract of this kind says of the file under way
-pub from_here : {C R : Type 0} (remaining contents : C → Option (List ℕ)) (left_of : R → Option (List ℕ)) (job : Job) (first : C) (coming0 : Option (List (List ℕ))) (before was : Option Stock) (failed : Bool) (control : C) (coming : Option (List (List ℕ))) (stream : Option R) (c old : Talker) (under : Option (Option (List ℕ))) (given : Given) (past : Past)
-    (Then : Option Stock → List Taken → ℕ → Past → Type 0) → scans job.task ≡ true → HasCount job.task → OnShelf job before was under given old past → (g : Going remaining contents left_of job first coming0 given failed control coming stream c)
+pub from_here : {C R : Type 0} {was_whole : Bool} (remaining contents : C → Option (List ℕ)) (left_of : R → Option (List ℕ)) (job : Job) (first : C) (coming0 : Option (List (List ℕ))) (before was : Option Stock) (failed : Bool) (control : C) (coming : Option (List (List ℕ))) (stream : Option R) (c old : Talker) (under : Option (Option (List ℕ))) (given : Given) (past : Past)
+    (Then : Option Stock → List Taken → ℕ → Past → Type 0) → scans job.task ≡ true → HasCount job.task → OnShelf was_whole job before was under given old past → (g : Going remaining contents left_of job first coming0 given failed control coming stream c)
     → ((before : Option Stock) (outputs : List Taken) (k : ℕ) (q : Past) → IsFiling q c k before outputs was under → Then before outputs k q)
     → Then before (outputs_from 1 given.pages) (length given.pages + 1) g.stage.past
 from_here remaining contents left_of job first coming0 before was failed control coming stream c old under given past Then scanning h shelf g goes =
@@ -335,27 +336,112 @@ from_here remaining contents left_of job first coming0 before was failed control
       under_way = under_way_at job before was under given old past g.stage.past g.stage.given_is shelf;
     })
 
-laid_by : {C R : Type 0} (remaining contents : C → Option (List ℕ)) (left_of : R → Option (List ℕ)) (job : Job) (first : C) (coming0 : Option (List (List ℕ))) (before was : Option Stock) (failed : Bool) (control : C) (coming : Option (List (List ℕ))) (stream : Option R) (c old now : Talker) (then_ : Option Stock) (under out : Option (Option (List ℕ))) (given : Given) (past : Past) (is_scanning b : Bool)
+laid_by : {C R : Type 0} {was_whole : Bool} (remaining contents : C → Option (List ℕ)) (left_of : R → Option (List ℕ)) (job : Job) (first : C) (coming0 : Option (List (List ℕ))) (before was : Option Stock) (failed : Bool) (control : C) (coming : Option (List (List ℕ))) (stream : Option R) (c old now : Talker) (then_ : Option Stock) (under out : Option (Option (List ℕ))) (given : Given) (past : Past) (is_scanning b : Bool)
     → is_scanning ≡ b → is_scanning ≡ scans job.task → HasCount job.task → ((past : Past) (join : Joining) → Stands past join → IsJoined past → (p : Picture) × ShowsFrames past.ended p)
-    → OnShelf job before was under given old past → (g : Going remaining contents left_of job first coming0 given failed control coming stream c)
+    → OnShelf was_whole job before was under given old past → (g : Going remaining contents left_of job first coming0 given failed control coming stream c)
     → (is_scanning ≡ false → (now ≡ c) × (then_ ≡ was) × (out ≡ under))
     → (is_scanning ≡ true → (before : Option Stock) (outputs : List Taken) (k : ℕ) (q : Past) → IsFiling q c k before outputs was under → HasFiled q c k before outputs now then_ out)
-    → Laid remaining contents left_of job first coming0 before failed control coming stream now then_ out
+    → Laid remaining contents left_of job first coming0 before failed true control coming stream now then_ out
 laid_by remaining contents left_of job first coming0 before was failed control coming stream c old now then_ under out given past is_scanning true e scanning h shows shelf g none goes =
     laid_more remaining contents left_of job first coming0 before failed control coming stream c now then_ out given shows (sym scanning ∙ e) shelf.files g
     (from_here remaining contents left_of job first coming0 before was failed control coming stream c old under given past (λ b outputs k q. HasFiled q c k b outputs now then_ out) (sym scanning ∙ e) h shelf g (goes e))
 laid_by remaining contents left_of job first coming0 before was failed control coming stream c old now then_ under out given past is_scanning false e scanning h shows shelf g none goes =
     let same = none e in
-    subst (λ (v : Talker). Laid remaining contents left_of job first coming0 before failed control coming stream v then_ out) (sym same.0)
-    (subst (λ (o : Option Stock). Laid remaining contents left_of job first coming0 before failed control coming stream c o out) (sym same.1)
-    (subst (λ (o : Option (Option (List ℕ))). Laid remaining contents left_of job first coming0 before failed control coming stream c was o) (sym same.2)
+    subst (λ (v : Talker). Laid remaining contents left_of job first coming0 before failed true control coming stream v then_ out) (sym same.0)
+    (subst (λ (o : Option Stock). Laid remaining contents left_of job first coming0 before failed true control coming stream c o out) (sym same.1)
+    (subst (λ (o : Option (Option (List ℕ))). Laid remaining contents left_of job first coming0 before failed true control coming stream c was o) (sym same.2)
     (laid_none remaining contents left_of job first coming0 before failed control coming stream c old was under given past (sym scanning ∙ e) shelf g)))
 
-pub laid_then : {C R : Type 0} (remaining contents : C → Option (List ℕ)) (left_of : R → Option (List ℕ)) (job : Job) (first : C) (coming0 : Option (List (List ℕ))) (before was : Option Stock) (failed : Bool) (control : C) (coming : Option (List (List ℕ))) (stream : Option R) (c old now : Talker) (then_ : Option Stock) (under out : Option (Option (List ℕ))) (given : Given) (past : Past) (is_scanning : Bool)
+pub laid_then : {C R : Type 0} {was_whole : Bool} (remaining contents : C → Option (List ℕ)) (left_of : R → Option (List ℕ)) (job : Job) (first : C) (coming0 : Option (List (List ℕ))) (before was : Option Stock) (failed : Bool) (control : C) (coming : Option (List (List ℕ))) (stream : Option R) (c old now : Talker) (then_ : Option Stock) (under out : Option (Option (List ℕ))) (given : Given) (past : Past) (is_scanning : Bool)
     → is_scanning ≡ scans job.task → HasCount job.task → ((past : Past) (join : Joining) → Stands past join → IsJoined past → (p : Picture) × ShowsFrames past.ended p)
-    → OnShelf job before was under given old past → (g : Going remaining contents left_of job first coming0 given failed control coming stream c)
+    → OnShelf was_whole job before was under given old past → (g : Going remaining contents left_of job first coming0 given failed control coming stream c)
     → (is_scanning ≡ false → (now ≡ c) × (then_ ≡ was) × (out ≡ under))
     → (is_scanning ≡ true → (before : Option Stock) (outputs : List Taken) (k : ℕ) (q : Past) → IsFiling q c k before outputs was under → HasFiled q c k before outputs now then_ out)
-    → Laid remaining contents left_of job first coming0 before failed control coming stream now then_ out
+    → Laid remaining contents left_of job first coming0 before failed true control coming stream now then_ out
 laid_then remaining contents left_of job first coming0 before was failed control coming stream c old now then_ under out given past is_scanning scanning h shows shelf g none goes =
     laid_by remaining contents left_of job first coming0 before was failed control coming stream c old now then_ under out given past is_scanning is_scanning refl scanning h shows shelf g none goes
+
+-- ---- a job whose last bytes are not given
+
+-- the shelf has what was given, and that of the file under way is no whole file
+pub record Lying {C R : Type 0} (remaining contents : C → Option (List ℕ)) (left_of : R → Option (List ℕ)) (job : Job) (first : C) (coming0 : Option (List (List ℕ))) (before : Option Stock) (failed : Bool) (control : C) (coming : Option (List (List ℕ))) (stream : Option R) (c : Talker) (now : Option Stock) (out : Option (Option (List ℕ))) : Type 0 where
+  pub laid : Laid remaining contents left_of job first coming0 before failed false control coming stream c now out
+  pub not_whole : IsWhole laid.given.bytes → ⊥
+
+pub ended_part : (task : Task) (past : Past) → FitsEnded task past → IsJoined past → IsWhole past.given → ⊥
+ended_part tasks.List past f joined w = f joined
+ended_part tasks.Show past f joined w = f joined
+ended_part tasks.SetOnly past f joined w = f joined
+ended_part tasks.Scan past f joined w = f joined
+ended_part (tasks.Batch count) past f joined w = f joined w
+
+running_short : {R : Type 0} (left_of : R → Option (List ℕ)) (job : Job) (read_ wrote left : List ℕ) (coming0 coming : Option (List (List ℕ))) (given : Given) (stream : Option R) (c : Talker) → NoneBefore → is_running c.outcome ≡ true
+    → Stage left_of job read_ wrote left coming0 coming given stream c → IsWhole given.bytes → ⊥
+running_short left_of job read_ wrote left coming0 coming given stream c law runs s =
+    subst (λ (l : List ℕ). IsWhole l → ⊥) s.given_is (λ w. law s.past c.join s.serves.stands (λ joined. ended_part c.errand.task s.past (running_ends c.outcome c.errand.task c.progress s.past runs s.serves.fits) joined w) w)
+
+pub lying_first : {C R : Type 0} (remaining contents : C → Option (List ℕ)) (left_of : R → Option (List ℕ)) (job : Job) (control : C) (coming : Option (List (List ℕ))) (before : Option Stock) (out : Option (Option (List ℕ))) (c : Talker) → NoneBefore → IsFresh job c → out ≡ None
+    → Lying remaining contents left_of job control coming before false control coming None c before out
+lying_first remaining contents left_of job control coming before out c law f none =
+    let d = laid_first remaining contents left_of job control coming before out c f none in
+    record { laid = d; not_whole = running_short left_of job d.going.read_ d.going.wrote d.going.left coming coming d.given None c law (ap (λ (v : Talker). is_running v.outcome) f.value) d.going.stage }
+
+-- a turn in which the shelf took what was given, and the job runs on
+pub lying_gave : {C R : Type 0} (remaining contents : C → Option (List ℕ)) (left_of : R → Option (List ℕ)) (job : Job) (first : C) (coming0 : Option (List (List ℕ))) (before : Option Stock) (failed : Bool) (control : C) (coming : Option (List (List ℕ))) (stream : Option R) (c : Talker) (now : Option Stock) (out : Option (Option (List ℕ))) → NoneBefore → is_running c.outcome ≡ true
+    → Laid remaining contents left_of job first coming0 before failed true control coming stream c now out → Lying remaining contents left_of job first coming0 before failed control coming stream c now out
+lying_gave remaining contents left_of job first coming0 before failed control coming stream c now out law runs d = record {
+  laid = record { given = d.given; going = d.going; shelf = record { under_way = d.shelf.under_way; files = d.shelf.files; none = d.shelf.none; shown = λ w. absurd (let clash : false ≡ true = w in cc) } };
+  not_whole = running_short left_of job d.going.read_ d.going.wrote d.going.left coming0 coming d.given stream c law runs d.going.stage;
+}
+
+-- one in which nothing was given
+pub lying_went : {C R : Type 0} (remaining contents : C → Option (List ℕ)) (left_of : R → Option (List ℕ)) (job : Job) (first : C) (coming0 : Option (List (List ℕ))) (before : Option Stock) (failed then_ : Bool) (control next : C) (coming come : Option (List (List ℕ))) (stream behind : Option R) (c new : Talker) (now : Option Stock) (out : Option (Option (List ℕ)))
+    → (p : Lying remaining contents left_of job first coming0 before failed control coming stream c now out) → Going remaining contents left_of job first coming0 p.laid.given then_ next come behind new
+    → Lying remaining contents left_of job first coming0 before then_ next come behind new now out
+lying_went remaining contents left_of job first coming0 before failed then_ control next coming come stream behind c new now out p g = record {
+  laid = record { given = p.laid.given; going = g; shelf = record { under_way = p.laid.shelf.under_way; files = p.laid.shelf.files; none = p.laid.shelf.none; shown = λ w. absurd (let clash : false ≡ true = w in cc) } };
+  not_whole = p.not_whole;
+}
+
+pub lying_as : {C R : Type 0} (remaining contents : C → Option (List ℕ)) (left_of : R → Option (List ℕ)) (job : Job) (first : C) (coming0 : Option (List (List ℕ))) (before : Option Stock) (failed other : Bool) (control : C) (coming : Option (List (List ℕ))) (stream : Option R) (c : Talker) (now : Option Stock) (out : Option (Option (List ℕ))) → failed ≡ other
+    → Lying remaining contents left_of job first coming0 before failed control coming stream c now out → Lying remaining contents left_of job first coming0 before other control coming stream c now out
+lying_as remaining contents left_of job first coming0 before failed other control coming stream c now out e p = subst (λ (b : Bool). Lying remaining contents left_of job first coming0 before b control coming stream c now out) e p
+
+pub lying_cut : {C R : Type 0} (remaining contents : C → Option (List ℕ)) (left_of : R → Option (List ℕ)) (job : Job) (first : C) (coming0 : Option (List (List ℕ))) (before : Option Stock) (failed : Bool) (control : C) (coming : Option (List (List ℕ))) (stream : Option R) (c new : Talker) (now : Option Stock) (out : Option (Option (List ℕ)))
+    → new ≡ (if is_lost_by links.Control c.outcome c.progress then ended statuses.IoError whys.Lost c else c)
+    → Lying remaining contents left_of job first coming0 before failed control coming stream c now out → Lying remaining contents left_of job first coming0 before failed control coming stream new now out
+unfolding laid_cut
+lying_cut remaining contents left_of job first coming0 before failed control coming stream c new now out lost p =
+    record { laid = laid_cut remaining contents left_of job first coming0 before failed control coming stream c new now out lost p.laid; not_whole = p.not_whole }
+
+-- leave was taken of the daemon, where no write had failed
+pub shut_parted : {whole : Bool} {C R : Type 0} (remaining contents : C → Option (List ℕ)) (left_of : R → Option (List ℕ)) (job : Job) (first : C) (coming0 : Option (List (List ℕ))) (before : Option Stock) (is_up : Bool) (control then_ : C) (coming : Option (List (List ℕ))) (stream : Option R) (c : Talker) (now : Option Stock) (out : Option (Option (List ℕ)))
+    → (is_up ≡ true → (n : ℕ) × (n ≤ length c.out) × Appends (contents control) (contents then_) (take n c.out)) → (is_up ≡ false → then_ ≡ control)
+    → Laid remaining contents left_of job first coming0 before (not is_up) whole control coming stream c now out → Shut remaining contents left_of job first coming0 before whole then_ coming stream c now out
+shut_parted remaining contents left_of job first coming0 before true control then_ coming stream c now out wrote still d = shut_left remaining contents left_of job first coming0 before control then_ coming stream c now out (wrote refl) d
+shut_parted remaining contents left_of job first coming0 before false control then_ coming stream c now out wrote still d = record {
+  given = d.given;
+  read_ = d.going.read_;
+  wrote = d.going.wrote;
+  left = d.going.left;
+  failed = true;
+  calls = subst (λ x. Calls remaining contents first d.going.read_ d.going.wrote true x) (sym (still refl)) d.going.calls;
+  stage = d.going.stage;
+  all = λ e. absurd (let clash : true ≡ false = e in cc);
+  shelf = d.shelf;
+}
+
+shut_by_given : {whole : Bool} {C R : Type 0} (remaining contents : C → Option (List ℕ)) (left_of : R → Option (List ℕ)) (job : Job) (first : C) (coming0 : Option (List (List ℕ))) (before : Option Stock) (control then_ : C) (coming : Option (List (List ℕ))) (stream : Option R) (c : Talker) (now : Option Stock) (out : Option (Option (List ℕ))) (n : ℕ) (short : Bool)
+    → (is : nat_lt n (length c.out) ≡ short) → (within : n ≤ length c.out) → (took : Appends (contents control) (contents then_) (take n c.out)) → (d : Laid remaining contents left_of job first coming0 before false whole control coming stream c now out)
+    → (s : Stage left_of job d.going.read_ (d.going.wrote ++ take n c.out) (drop n c.out) coming0 coming d.given stream c) → (same : s.past ≡ d.going.stage.past)
+    → (shut_by remaining contents left_of job first coming0 before control then_ coming stream c now out n short is within took d s same).given ≡ d.given
+unfolding shut_by
+shut_by_given remaining contents left_of job first coming0 before control then_ coming stream c now out n true is within took d s same = refl
+shut_by_given remaining contents left_of job first coming0 before control then_ coming stream c now out n false is within took d s same = refl
+
+pub shut_parted_given : {whole : Bool} {C R : Type 0} (remaining contents : C → Option (List ℕ)) (left_of : R → Option (List ℕ)) (job : Job) (first : C) (coming0 : Option (List (List ℕ))) (before : Option Stock) (is_up : Bool) (control then_ : C) (coming : Option (List (List ℕ))) (stream : Option R) (c : Talker) (now : Option Stock) (out : Option (Option (List ℕ)))
+    → (wrote : is_up ≡ true → (n : ℕ) × (n ≤ length c.out) × Appends (contents control) (contents then_) (take n c.out)) → (still : is_up ≡ false → then_ ≡ control)
+    → (d : Laid remaining contents left_of job first coming0 before (not is_up) whole control coming stream c now out) → (shut_parted remaining contents left_of job first coming0 before is_up control then_ coming stream c now out wrote still d).given ≡ d.given
+unfolding shut_parted shut_left
+shut_parted_given remaining contents left_of job first coming0 before true control then_ coming stream c now out wrote still d = shut_by_given remaining contents left_of job first coming0 before control then_ coming stream c now out _ _ refl _ _ d _ _
+shut_parted_given remaining contents left_of job first coming0 before false control then_ coming stream c now out wrote still d = refl

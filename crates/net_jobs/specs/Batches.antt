@@ -19,7 +19,7 @@ use Rattle.scan_job.specs.Shelves.{Stock, Taken}
 use Rattle.net_jobs.specs.Courses.{Course, EndWell}
 use Rattle.net_jobs.specs.Going.{EndsBy}
 use Rattle.net_jobs.specs.Outputs.{TakesBack, AreLeft, outputs_from}
-use Rattle.net_jobs.specs.Promised.{Ran, refused_as}
+use Rattle.net_jobs.specs.Promised.{Ran, HasRefusal, refused_as}
 
 -- what was given of a page is a whole file, that of the picture that its frames show
 pub record IsPageFile (page : Past) : Type 0 where
@@ -75,6 +75,7 @@ AreFinished course pages left outcome =
 pub record BatchEnded {C : Type 0} (remaining contents : C → Option (List ℕ)) (job : Job) (first : C) (coming0 : Option (List (List ℕ))) (now : C) (coming : Option (List (List ℕ))) (before after : Option Stock) (outcome : Outcome) : Type 0 where
   pub ran : Ran remaining contents job first coming0 now coming
   pub cause : (ran.course.talk.outcome ≡ outcome) ⊎ (EndsBy ran.course.talk ran.rest outcome ⊎ (outcome ≡ Ended statuses.IoError whys.Sink))
+  pub refusal : HasRefusal outcome
   pub pages : List Past
   pub left : List Taken
   pub finished : AreFinished ran.course pages left outcome

@@ -16,7 +16,7 @@ use Rattle.net_client.specs.Talker.{Talker, Serves, TurnsPage}
 use Rattle.net_jobs.specs.Courses.{EndWell}
 use Rattle.net_jobs.specs.Going.{EndsBy}
 use Rattle.net_jobs.specs.Outputs.{TakesBack, HasTaken, IsUnderWay, output_of, outputs_from}
-use Rattle.net_jobs.specs.Promised.{Ran}
+use Rattle.net_jobs.specs.Promised.{Ran, HasRefusal}
 use Rattle.net_jobs.specs.Batches.{IsPageFile, MayScan, pages_of}
 
 -- a client that scans stands for what was told to it and given, and the output of the file under way, which is number k, took
@@ -78,6 +78,7 @@ pub record CameDone {C : Type 0} (remaining contents : C → Option (List ℕ)) 
 pub record CameEnded {C : Type 0} (remaining contents : C → Option (List ℕ)) (job : Job) (first : C) (coming0 : Option (List (List ℕ))) (now : C) (coming : Option (List (List ℕ))) (before after : Option Stock) (out : Option (Option (List ℕ))) (outcome : Outcome) : Type 0 where
   pub ran : Ran remaining contents job first coming0 now coming
   pub cause : (ran.course.talk.outcome ≡ outcome) ⊎ (EndsBy ran.course.talk ran.rest outcome ⊎ (outcome ≡ Ended statuses.IoError whys.Sink))
+  pub refusal : HasRefusal outcome
   pub files : All IsPageFile ran.course.pages
   pub text : List ℕ
   pub taken : HasTaken before (outputs_from 1 ran.course.pages) after out (length ran.course.pages + 1) text

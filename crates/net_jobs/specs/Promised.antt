@@ -9,11 +9,14 @@ use Rattle.scan_job.specs.declared.job.Job.{Job}
 use Rattle.scan_job.specs.declared.job.JobFault.{JobFault}
 use Rattle.scan_job.specs.declared.job.JobFault.TheVariants.{TooManySettings, TextTooLong, NoMem, BadCount}
 use Rattle.scan_job.specs.JobSize.{HasFault}
+use Rattle.scan_job.specs.Outcomes.{IfEnded}
 use Rattle.client_rules.specs.Talks.{is_batch}
 use Rattle.scan_job.specs.declared.job.Task.TheVariants as tasks
 use Rattle.scan_job.specs.declared.outcome.Outcome.{Outcome}
 use Rattle.scan_job.specs.declared.outcome.Outcome.TheVariants.{Running, Done, Ended}
 use Rattle.scan_job.specs.declared.outcome.Why.TheVariants as whys
+use Rattle.scan_job.specs.declared.stop.Stop.{Stop}
+use Rattle.scan_job.specs.Stops.{no_memory}
 use Rattle.net_jobs.specs.Courses.{Course, Did, EndWell}
 use Rattle.net_jobs.specs.Links.{Calls, HasBrought, BeginWith}
 use Rattle.net_jobs.specs.Going.{EndsBy}
@@ -49,11 +52,16 @@ pub record RanDone {C : Type 0} (remaining contents : C → Option (List ℕ)) (
   pub file : job.task ≡ tasks.Scan → (p : Picture) × ShowsFrames ran.course.talk.past.ended p × Denotes text p
   pub none : job.task ≢ tasks.Scan → text ≡ []
 
+-- a job that has ended otherwise has another status than GOOD
+abbrev pub HasRefusal : Outcome → Type 0
+HasRefusal outcome = IfEnded outcome (λ status why. status ≢ statuses.Good)
+
 -- The job has ended otherwise: by a reply or a frame's end, as the client's rules have it, by another cause, or since the
 -- output did not take its file. The output took no whole file.
 pub record RanEnded {C : Type 0} (remaining contents : C → Option (List ℕ)) (job : Job) (first : C) (coming0 : Option (List (List ℕ))) (now : C) (coming : Option (List (List ℕ))) (held holds : Option (List ℕ)) (outcome : Outcome) : Type 0 where
   pub ran : Ran remaining contents job first coming0 now coming
   pub cause : (ran.course.talk.outcome ≡ outcome) ⊎ (EndsBy ran.course.talk ran.rest outcome ⊎ (outcome ≡ Ended statuses.IoError whys.Sink))
+  pub refusal : HasRefusal outcome
   pub text : List ℕ
   pub taken : Appends held holds text
   pub not_whole : IsWhole text → ⊥
@@ -69,6 +77,12 @@ refused_as NoMem = Ended statuses.NoMem whys.Memory
 refused_as TooManySettings = Ended statuses.Inval whys.Setting
 refused_as TextTooLong = Ended statuses.Inval whys.Setting
 refused_as BadCount = Ended statuses.Inval whys.Setting
+
+-- why nothing is told of a job that is over: it has ended so, or there was no memory for what is told
+abbrev pub EndsAs : Outcome → Stop → Type 0
+EndsAs Running stop = ⊥
+EndsAs (Done reports) stop = stop ≡ no_memory
+EndsAs (Ended status why) stop = stop ≡ record { status = status; why = why }
 
 -- why a job is refused: it is a batch, it has a fault, or there is no memory for its buffers
 abbrev pub IsRefused : Job → Outcome → Type 0

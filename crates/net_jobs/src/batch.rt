@@ -1,7 +1,8 @@
-ghost use Rattle.std.specs.Prelude.{◌≡◌, ◌<◌, ◌⊎◌, ◌+◌, ℕ, None, List, Option, true, false, length, option_map, [], IfOk};
+ghost use Rattle.std.specs.Prelude.{◌≡◌, ◌<◌, ◌⊎◌, ◌+◌, ℕ, None, List, Option, true, false, length, option_map, [], Ok, IfOk};
+ghost use Rattle.std.specs.Fn.{FnOnceReturnsAt};
 ghost use Rattle.scan_job.specs.declared.job.Job.{Job as JobValue};
 ghost use Rattle.scan_job.specs.JobSize.{HasCount};
-ghost use Rattle.scan_job.specs.Outcomes.{IsOver};
+ghost use Rattle.scan_job.specs.Outcomes.{IsOver, over_as};
 ghost use Rattle.scan_job.specs.Shelves.{Stock, Taken};
 ghost use Rattle.frame_join.specs.FrameHistory.{Past};
 ghost use Rattle.client_rules.specs.Talks.{scans};
@@ -11,13 +12,13 @@ ghost use Rattle.net_jobs.specs.Paging.{IsFiling, HasFiled, HasFiledShort, HasCo
 ghost use Rattle.net_jobs.specs.Batches.{HasBatchRun, RefusesBatch, closed_as};
 
 use crate::dial::Dial;
-use crate::running::{MOST_PULLS, MOST_READS, go_on, leave, piece, refused};
+use crate::running::{MOST_PULLS, MOST_READS, go_on, part, piece, refused, told_of};
 use byte_output::put;
 use frame_join::{no_file_is_endless, no_front_is_whole, not_whole_before, whole_shows};
 use net_client::{Client, Link};
 use netpbm::no_whole_prefix;
-use sane_fixed::Status;
-use scan_job::{Job, JobFault, Outcome, Shelf, Task, Why};
+use sane_fixed::NoMem;
+use scan_job::{Job, Outcome, Reports, Shelf, Stop, Task};
 use std::alloc::Global;
 use std::io::{Read, Write};
 use std::mem;
@@ -81,6 +82,7 @@ fn drain<S: Shelf>(
 ) -> bool
     requires { 0 < length room.old }
     ensures room { length room.new ≡ length room.old }
+    ensures outcome { client.new.outcome ≡ client.old.outcome }
     // `k` is the number of the file under way, and `past` what the client was told and gave.
     ensures drained { result ≡ true → (before : Option Stock) (outputs : List Taken) (k : ℕ) (past : Past)
         → IsFiling past client.old k before outputs (S.stock shelf.old) (option_map S.Out.contents under.old)
@@ -120,6 +122,7 @@ fn fill<S: Shelf>(
 ) -> bool
     requires { 0 < length room.old }
     ensures room { length room.new ≡ length room.old }
+    ensures outcome { client.new.outcome ≡ client.old.outcome }
     ensures none { is_scanning ≡ false → (result ≡ true) × (client.new ≡ client.old) × (shelf.new ≡ shelf.old) × (under.new ≡ under.old) }
     ensures drained { is_scanning ≡ true → result ≡ true → (before : Option Stock) (outputs : List Taken) (k : ℕ) (past : Past)
         → IsFiling past client.old k before outputs (S.stock shelf.old) (option_map S.Out.contents under.old)
@@ -134,8 +137,8 @@ fn fill<S: Shelf>(
     drain(client, room, shelf, under, reads)
 }
 
-/// Runs a client to its end. The output under way stays open.
-fn run_client<C: Read + Write, D: Dial, S: Shelf>(
+/// Runs a client to its end, as `run_job_with` does. The output under way stays open.
+fn run_client<C, D, S, T, F>(
     mut client: Client,
     control: &mut C,
     dial: &mut D,
@@ -144,21 +147,32 @@ fn run_client<C: Read + Write, D: Dial, S: Shelf>(
     is_scanning: bool,
     piece: &mut [u8],
     room: &mut [u8],
-) -> Outcome
-    requires { 0 < length room.old }
-    ensures over { IsOver result }
-    ensures came { (job : JobValue) → IsFresh job client → HasCount job.task → is_scanning ≡ scans job.task → option_map S.Out.contents under.old ≡ None
-        → HasCome C.remaining C.contents job control.old (D.coming dial.old) control.new (D.coming dial.new) (S.stock shelf.old) (S.stock shelf.new) (option_map S.Out.contents under.new) result }
+    tell: F,
+) -> Result<(Reports, T), Stop>
+where
+    C: Read + Write,
+    D: Dial,
+    S: Shelf,
+    T: Drop,
+    F: FnOnce(&Reports) -> Result<T, NoMem> + Drop,
+    requires room { 0 < length room.old }
+    requires tell { F.IsAlwaysCallable tell }
+    ensures came { (job : JobValue) → IsFresh job client → HasCount job.task
+        → is_scanning ≡ scans job.task → option_map S.Out.contents under.old ≡ None
+        → HasCome C.remaining C.contents job control.old (D.coming dial.old)
+        control.new (D.coming dial.new) (S.stock shelf.old) (S.stock shelf.new)
+        (option_map S.Out.contents under.new) (over_as result) }
+    ensures told { IfOk result (λ done. FnOnceReturnsAt F.FnOnce tell done.0 (Ok done.1)) }
 {
     not_whole_before();
     whole_shows();
     let mut reads = MOST_READS;
     let mut stream = None;
-    for _ in 0..MOST_READS {
-        if client.is_over() {
-            return leave(client, control, room, &mut reads);
-        }
-        let is_up = go_on(
+    let mut is_up = true;
+    let mut turns = 0;
+    while turns < MOST_READS && is_up && !client.is_over() {
+        turns += 1;
+        is_up = go_on(
             &mut client,
             control,
             dial,
@@ -167,34 +181,88 @@ fn run_client<C: Read + Write, D: Dial, S: Shelf>(
             room,
             &mut reads,
         );
-        if !fill(&mut client, is_scanning, room, shelf, under, &mut reads) {
-            return Outcome::Ended(Status::IoError, Why::Sink);
-        }
-        if !is_up {
-            client.link_lost(Link::Control);
-            return client.into_outcome();
+        if !client.is_over() && !fill(&mut client, is_scanning, room, shelf, under, &mut reads) {
+            return Err(Stop::failed_output());
         }
     }
     client.link_lost(Link::Control);
-    leave(client, control, room, &mut reads)
+    let told = told_of(client.outcome(), tell);
+    if told.is_ok() && !fill(&mut client, is_scanning, room, shelf, under, &mut reads) {
+        return Err(Stop::failed_output());
+    }
+    let outcome = part(client, control, is_up, room, &mut reads);
+    let told = told?;
+    let Outcome::Done(reports) = outcome else {
+        unreachable!()
+    };
+    Ok((reports, told))
 }
 
-/// The outcome of a job whose last output was given back, or refused.
-fn closed(outcome: Outcome, is_taken: bool) -> Outcome
-    requires { IsOver outcome }
-    ensures over { IsOver result }
-    ensures closed { result ≡ closed_as outcome is_taken }
+/// How a job is over whose last output was given back, or refused.
+fn closed<T: Drop>(done: Result<(Reports, T), Stop>, is_taken: bool) -> Result<(Reports, T), Stop>
+    ensures closed { over_as result ≡ closed_as (over_as done) is_taken }
+    ensures same { IfOk result (λ it. done ≡ Ok it) }
 {
-    match outcome {
-        Outcome::Done(reports) => {
+    match done {
+        Ok(done) => {
             if is_taken {
-                Outcome::Done(reports)
+                Ok(done)
             } else {
-                Outcome::Ended(Status::IoError, Why::Sink)
+                Err(Stop::failed_output())
             }
         }
-        outcome => outcome,
+        Err(stop) => Err(stop),
     }
+}
+
+/// Does a job as `run_batch` does it, and makes of its reports what is to be told of it, by `tell`: before the last bytes of its
+/// last file go out. Gives the reports and what was made of them.
+pub fn run_batch_with<C, D, S, T, F>(
+    alloc: Global,
+    job: Job,
+    control: &mut C,
+    dial: &mut D,
+    shelf: &mut S,
+    tell: F,
+) -> Result<(Reports, T), Stop>
+where
+    C: Read + Write,
+    D: Dial,
+    S: Shelf,
+    T: Drop,
+    F: FnOnce(&Reports) -> Result<T, NoMem> + Drop,
+    requires { F.IsAlwaysCallable tell }
+    // A job that is refused, or finds no memory for its buffers, touches no stream and no shelf.
+    ensures ran { RefusesBatch job (over_as result)
+        control.old control.new dial.old dial.new shelf.old shelf.new
+        ⊎ HasBatchRun C.remaining C.contents job control.old (D.coming dial.old)
+        control.new (D.coming dial.new) (S.stock shelf.old) (S.stock shelf.new) (over_as result) }
+    ensures told { IfOk result (λ done. FnOnceReturnsAt F.FnOnce tell done.0 (Ok done.1)) }
+{
+    if let Some(fault) = job.fault() {
+        return Err(refused(fault));
+    }
+    let mut read = piece(alloc)?;
+    let mut room = piece(alloc)?;
+    let is_scanning = is_scanning(job.task);
+    let client = match Client::new(alloc, job) {
+        Ok(client) => client,
+        Err((fault, _job)) => return Err(refused(fault)),
+    };
+    let mut under = None;
+    let done = run_client(
+        client,
+        control,
+        dial,
+        shelf,
+        &mut under,
+        is_scanning,
+        read.as_mut_slice(),
+        room.as_mut_slice(),
+        tell,
+    );
+    let is_taken = put_back(shelf, under);
+    closed(done, is_taken)
 }
 
 /// Does a job over a control connection, the data connections that are dialed, and the outputs of its files. An output is
@@ -212,31 +280,8 @@ pub fn run_batch<C: Read + Write, D: Dial, S: Shelf>(
     ensures ran { RefusesBatch job result control.old control.new dial.old dial.new shelf.old shelf.new
         ⊎ HasBatchRun C.remaining C.contents job control.old (D.coming dial.old) control.new (D.coming dial.new) (S.stock shelf.old) (S.stock shelf.new) result }
 {
-    if let Some(fault) = job.fault() {
-        return refused(fault);
+    match run_batch_with(alloc, job, control, dial, shelf, |_| Ok(())) {
+        Ok((reports, ())) => Outcome::Done(reports),
+        Err(stop) => Outcome::Ended(stop.status, stop.why),
     }
-    let Ok(mut read) = piece(alloc) else {
-        return refused(JobFault::NoMem);
-    };
-    let Ok(mut room) = piece(alloc) else {
-        return refused(JobFault::NoMem);
-    };
-    let is_scanning = is_scanning(job.task);
-    let client = match Client::new(alloc, job) {
-        Ok(client) => client,
-        Err((fault, _job)) => return refused(fault),
-    };
-    let mut under = None;
-    let outcome = run_client(
-        client,
-        control,
-        dial,
-        shelf,
-        &mut under,
-        is_scanning,
-        read.as_mut_slice(),
-        room.as_mut_slice(),
-    );
-    let is_taken = put_back(shelf, under);
-    closed(outcome, is_taken)
 }

@@ -6,6 +6,6 @@ mod batch;
 mod dial;
 mod running;
 
-pub use batch::run_batch;
+pub use batch::{run_batch, run_batch_with};
 pub use dial::{Dial, DialFault};
-pub use running::run_job;
+pub use running::{run_job, run_job_with};

@@ -1,21 +1,24 @@
-ghost use Rattle.std.specs.Prelude.{◌≡◌, ◌<◌, ◌≤◌, ◌↔◌, ◌⊎◌, ℕ, [], true, false, not, Some, None, List, Option, IsTrue, IfOk, take, length};
+ghost use Rattle.std.specs.Prelude.{◌≡◌, ◌<◌, ◌≤◌, ◌↔◌, ◌⊎◌, ℕ, [], true, false, not, Some, None, Ok, List, Option, IsTrue, IfOk, IfErr, take, length};
+ghost use Rattle.std.specs.Fn.{FnOnceReturnsAt};
 ghost use Rattle.std.specs.Io.KnownBytes.{Appends, Consumes};
 ghost use Rattle.scan_job.specs.declared.job.Job.{Job as JobValue};
 ghost use Rattle.scan_job.specs.declared.job.Task.TheVariants as tasks;
-ghost use Rattle.scan_job.specs.Outcomes.{IsOver};
+ghost use Rattle.scan_job.specs.declared.outcome.Outcome.TheVariants.{Done, Ended};
+ghost use Rattle.scan_job.specs.declared.report.Reports.{Reports as ReportsValue};
+ghost use Rattle.scan_job.specs.Outcomes.{IsOver, over_as};
 ghost use Rattle.frame_join.specs.FrameHistory.{Past};
 ghost use Rattle.client_rules.specs.Talks.{is_running, is_receiving, is_batch, wanted};
 ghost use Rattle.net_client.specs.Talker.{Serves, IsFresh};
 ghost use Rattle.net_jobs.specs.Draining.{HoldsGiven, IsDrainedTo, StopsShort};
 ghost use Rattle.net_jobs.specs.Going.{StageGoesOn, TurnGoesOn, HeardOrLost};
-ghost use Rattle.net_jobs.specs.Promised.{HasRun, Refuses, refused_as};
+ghost use Rattle.net_jobs.specs.Promised.{HasRun, Refuses, EndsAs, refused_as};
 
 use crate::dial::Dial;
 use byte_output::put;
 use frame_join::{no_file_is_endless, no_front_is_whole, not_whole_before, whole_shows};
 use net_client::{Client, Link};
-use sane_fixed::Status;
-use scan_job::{Job, JobFault, Outcome, Task, Why};
+use sane_fixed::{NoMem, Status};
+use scan_job::{Job, JobFault, Outcome, Reports, Stop, Task, Why};
 use std::alloc::{AllocError, Global};
 use std::io::{ErrorKind, Read, Write};
 
@@ -36,13 +39,16 @@ pub(crate) fn piece(alloc: Global) -> Result<Vec<u8>, AllocError>
 }
 
 /// How a job that is refused ends.
-pub(crate) fn refused(fault: JobFault) -> Outcome
-    ensures { result ≡ refused_as fault }
+pub(crate) fn refused(fault: JobFault) -> Stop
+    ensures { Ended result.status result.why ≡ refused_as fault }
 {
     match fault {
-        JobFault::NoMem => Outcome::Ended(Status::NoMem, Why::Memory),
+        JobFault::NoMem => Stop::no_memory(),
         JobFault::TooManySettings | JobFault::TextTooLong | JobFault::BadCount => {
-            Outcome::Ended(Status::Inval, Why::Setting)
+            Stop {
+                status: Status::Inval,
+                why: Why::Setting,
+            }
         }
     }
 }
@@ -195,6 +201,7 @@ pub(crate) fn go_on<C: Read + Write, D: Dial>(
 fn drain<W: Write>(client: &mut Client, room: &mut [u8], out: &mut W, reads: &mut u64) -> bool
     requires { 0 < length room.old }
     ensures room { length room.new ≡ length room.old }
+    ensures outcome { client.new.outcome ≡ client.old.outcome }
     // `first` is what the output held before the file, and `past` what the client was told and gave.
     ensures drained { result ≡ true → (first : Option (List ℕ)) (past : Past) → HoldsGiven past client.old first (W.contents out.old) → IsDrainedTo past client.old first client.new (W.contents out.new) }
     ensures short { result ≡ false → (first : Option (List ℕ)) (past : Past) → HoldsGiven past client.old first (W.contents out.old) → StopsShort first (W.contents out.new) }
@@ -223,6 +230,7 @@ fn give<W: Write>(
 ) -> bool
     requires { 0 < length room.old }
     ensures room { length room.new ≡ length room.old }
+    ensures outcome { client.new.outcome ≡ client.old.outcome }
     ensures none { is_scan ≡ false → (result ≡ true) × (client.new ≡ client.old) × (W.contents out.new ≡ W.contents out.old) }
     ensures drained { is_scan ≡ true → result ≡ true → (first : Option (List ℕ)) (past : Past) → HoldsGiven past client.old first (W.contents out.old) → IsDrainedTo past client.old first client.new (W.contents out.new) }
     ensures short { result ≡ false → (first : Option (List ℕ)) (past : Past) → HoldsGiven past client.old first (W.contents out.old) → StopsShort first (W.contents out.new) }
@@ -251,8 +259,54 @@ pub(crate) fn leave<C: Write>(
     client.into_outcome()
 }
 
-/// Runs a client to its end.
-fn run_client<C: Read + Write, D: Dial, W: Write>(
+/// What is to be told of a job that is over, if it is done.
+pub(crate) fn told_of<T: Drop, F: FnOnce(&Reports) -> Result<T, NoMem> + Drop>(
+    outcome: &Outcome,
+    tell: F,
+) -> Result<T, Stop>
+    requires over { IsOver outcome.now }
+    requires tell { F.IsAlwaysCallable tell }
+    ensures told { IfOk result (λ told. (reports : ReportsValue) × (outcome.now ≡ Done reports)
+        × FnOnceReturnsAt F.FnOnce tell reports (Ok told)) }
+    ensures ended { IfErr result (λ stop. EndsAs outcome.now stop) }
+{
+    match outcome {
+        Outcome::Done(reports) => Ok(tell(reports)?),
+        Outcome::Ended(status, why) => {
+            Err(Stop {
+                status: *status,
+                why: *why,
+            })
+        }
+        Outcome::Running => unreachable!(),
+    }
+}
+
+/// Takes leave of the daemon, where no write to it failed, and gives the outcome.
+pub(crate) fn part<C: Write>(
+    client: Client,
+    control: &mut C,
+    is_up: bool,
+    room: &mut [u8],
+    reads: &mut u64,
+) -> Outcome
+    requires room { 0 < length room.old }
+    requires over { is_running client.outcome ≡ false }
+    ensures over { IsOver result }
+    ensures outcome { result ≡ client.outcome }
+    ensures wrote { is_up ≡ true → (n : ℕ) × (n ≤ length client.out)
+        × Appends (C.contents control.old) (C.contents control.new) (take n client.out) }
+    ensures still { is_up ≡ false → control.new ≡ control.old }
+{
+    if is_up {
+        leave(client, control, room, reads)
+    } else {
+        client.into_outcome()
+    }
+}
+
+/// Runs a client to its end. The last bytes of the file of a job that is done go out once what is to be told of it is there.
+fn run_client<C, D, W, T, F>(
     mut client: Client,
     control: &mut C,
     dial: &mut D,
@@ -260,21 +314,31 @@ fn run_client<C: Read + Write, D: Dial, W: Write>(
     is_scan: bool,
     piece: &mut [u8],
     room: &mut [u8],
-) -> Outcome
-    requires { 0 < length room.old }
-    ensures over { IsOver result }
-    ensures ran { (job : JobValue) → IsFresh job client → is_batch job.task ≡ false → (is_scan ≡ true ↔ job.task ≡ tasks.Scan)
-        → HasRun C.remaining C.contents job control.old (D.coming dial.old) control.new (D.coming dial.new) (W.contents out.old) (W.contents out.new) result }
+    tell: F,
+) -> Result<(Reports, T), Stop>
+where
+    C: Read + Write,
+    D: Dial,
+    W: Write,
+    T: Drop,
+    F: FnOnce(&Reports) -> Result<T, NoMem> + Drop,
+    requires room { 0 < length room.old }
+    requires tell { F.IsAlwaysCallable tell }
+    ensures ran { (job : JobValue) → IsFresh job client → is_batch job.task ≡ false
+        → (is_scan ≡ true ↔ job.task ≡ tasks.Scan)
+        → HasRun C.remaining C.contents job control.old (D.coming dial.old)
+        control.new (D.coming dial.new) (W.contents out.old) (W.contents out.new) (over_as result) }
+    ensures told { IfOk result (λ done. FnOnceReturnsAt F.FnOnce tell done.0 (Ok done.1)) }
 {
     not_whole_before();
     whole_shows();
     let mut reads = MOST_READS;
     let mut stream = None;
-    for _ in 0..MOST_READS {
-        if client.is_over() {
-            return leave(client, control, room, &mut reads);
-        }
-        let is_up = go_on(
+    let mut is_up = true;
+    let mut turns = 0;
+    while turns < MOST_READS && is_up && !client.is_over() {
+        turns += 1;
+        is_up = go_on(
             &mut client,
             control,
             dial,
@@ -283,16 +347,69 @@ fn run_client<C: Read + Write, D: Dial, W: Write>(
             room,
             &mut reads,
         );
-        if !give(&mut client, is_scan, room, out, &mut reads) {
-            return Outcome::Ended(Status::IoError, Why::Sink);
-        }
-        if !is_up {
-            client.link_lost(Link::Control);
-            return client.into_outcome();
+        if !client.is_over() && !give(&mut client, is_scan, room, out, &mut reads) {
+            return Err(Stop::failed_output());
         }
     }
     client.link_lost(Link::Control);
-    leave(client, control, room, &mut reads)
+    let told = told_of(client.outcome(), tell);
+    if told.is_ok() && !give(&mut client, is_scan, room, out, &mut reads) {
+        return Err(Stop::failed_output());
+    }
+    let outcome = part(client, control, is_up, room, &mut reads);
+    let told = told?;
+    let Outcome::Done(reports) = outcome else {
+        unreachable!()
+    };
+    Ok((reports, told))
+}
+
+/// Does a job as `run_job` does it, and makes of its reports what is to be told of it, by `tell`: before the last bytes of its
+/// file go out, so that what there is no memory to tell of leaves no whole file. Gives the reports and what was made of them.
+pub fn run_job_with<C, D, W, T, F>(
+    alloc: Global,
+    job: Job,
+    control: &mut C,
+    dial: &mut D,
+    out: &mut W,
+    tell: F,
+) -> Result<(Reports, T), Stop>
+where
+    C: Read + Write,
+    D: Dial,
+    W: Write,
+    T: Drop,
+    F: FnOnce(&Reports) -> Result<T, NoMem> + Drop,
+    requires tell { F.IsAlwaysCallable tell }
+    // A job that is refused, or finds no memory for its buffers, touches no stream.
+    ensures ran { Refuses job (over_as result) control.old control.new dial.old dial.new out.old out.new
+        ⊎ ((is_batch job.task ≡ false) × HasRun C.remaining C.contents job control.old
+        (D.coming dial.old) control.new (D.coming dial.new)
+        (W.contents out.old) (W.contents out.new) (over_as result)) }
+    ensures told { IfOk result (λ done. FnOnceReturnsAt F.FnOnce tell done.0 (Ok done.1)) }
+{
+    if job.task.is_batch() {
+        return Err(Stop {
+            status: Status::Inval,
+            why: Why::Setting,
+        });
+    }
+    let mut read = piece(alloc)?;
+    let mut room = piece(alloc)?;
+    let is_scan = is_scan(job.task);
+    match Client::new(alloc, job) {
+        Ok(client) => run_client(
+            client,
+            control,
+            dial,
+            out,
+            is_scan,
+            read.as_mut_slice(),
+            room.as_mut_slice(),
+            tell,
+        ),
+        Err((fault, _job)) => Err(refused(fault)),
+    }
 }
 
 /// Does a job over a control connection, the data connections that are dialed, and an output, which is not flushed. A
@@ -310,26 +427,8 @@ pub fn run_job<C: Read + Write, D: Dial, W: Write>(
     ensures ran { Refuses job result control.old control.new dial.old dial.new out.old out.new
         ⊎ ((is_batch job.task ≡ false) × HasRun C.remaining C.contents job control.old (D.coming dial.old) control.new (D.coming dial.new) (W.contents out.old) (W.contents out.new) result) }
 {
-    if job.task.is_batch() {
-        return Outcome::Ended(Status::Inval, Why::Setting);
-    }
-    let Ok(mut read) = piece(alloc) else {
-        return refused(JobFault::NoMem);
-    };
-    let Ok(mut room) = piece(alloc) else {
-        return refused(JobFault::NoMem);
-    };
-    let is_scan = is_scan(job.task);
-    match Client::new(alloc, job) {
-        Ok(client) => run_client(
-            client,
-            control,
-            dial,
-            out,
-            is_scan,
-            read.as_mut_slice(),
-            room.as_mut_slice(),
-        ),
-        Err((fault, _job)) => refused(fault),
+    match run_job_with(alloc, job, control, dial, out, |_| Ok(())) {
+        Ok((reports, ())) => Outcome::Done(reports),
+        Err(stop) => Outcome::Ended(stop.status, stop.why),
     }
 }

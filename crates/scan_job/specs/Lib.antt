@@ -3,3 +3,4 @@ pub mod JobSize
 pub mod Outcomes
 pub mod Shown
 pub mod Shelves
+pub mod Stops

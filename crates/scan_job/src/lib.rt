@@ -7,6 +7,7 @@ mod outcome;
 mod report;
 mod shelf;
 mod shown;
+mod stop;
 
 pub use job::{Job, JobFault, MOST_PAGES, Task};
 pub use listed::Listed;
@@ -14,3 +15,4 @@ pub use outcome::{Outcome, Why};
 pub use report::{Report, Reports};
 pub use shelf::{Shelf, ShelfFault};
 pub use shown::tells_value;
+pub use stop::Stop;

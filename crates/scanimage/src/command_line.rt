@@ -1,3 +1,6 @@
+ghost use Rattle.std.specs.Prelude.{IfErr};
+ghost use Rattle.scanimage_cli.specs.Programs.{IsFailure};
+
 use dispatch::{ConfigLine, parse_config};
 use sane_fixed::Text;
 use scanimage_cli::{
@@ -7,7 +10,9 @@ use scanimage_cli::{
 use std::fs::File;
 use std::io::{self, ErrorKind};
 
-fn split_ending(fault: SplitFault) -> Ending {
+fn split_ending(fault: SplitFault) -> Ending
+    ensures { IsFailure result }
+{
     match fault {
         SplitFault::Bad => Ending::BadCommandLine,
         SplitFault::NoMem => Ending::no_memory(),
@@ -15,7 +20,9 @@ fn split_ending(fault: SplitFault) -> Ending {
 }
 
 /// The options and the settings of the command line.
-pub fn command_line(rt: &HostRuntime) -> Result<(Options, Vec<(Text, Text)>), Ending> {
+pub fn command_line(rt: &HostRuntime) -> Result<(Options, Vec<(Text, Text)>), Ending>
+    ensures { IfErr result IsFailure }
+{
     let words = words_of(rt.alloc(), rt).map_err(split_ending)?;
     let Split { program, settings } = split_words(rt.alloc(), words.as_slice()).map_err(
         split_ending,
@@ -40,7 +47,9 @@ fn opened(rt: &HostRuntime, path: &Text) -> io::Result<File> {
 }
 
 /// How the program ends where a file of that path is not read.
-fn cannot_read(rt: &HostRuntime, path: &Text) -> Ending {
+fn cannot_read(rt: &HostRuntime, path: &Text) -> Ending
+    ensures { IsFailure result }
+{
     match path.try_clone(rt.alloc()) {
         Ok(path) => Ending::CannotRead(path),
         Err(_) => Ending::no_memory(),
@@ -52,7 +61,9 @@ fn bytes_read(
     rt: &HostRuntime,
     path: &Text,
     outcome: io::Result<Vec<u8>>,
-) -> Result<Vec<u8>, Ending> {
+) -> Result<Vec<u8>, Ending>
+    ensures { IfErr result IsFailure }
+{
     match outcome {
         Ok(bytes) => Ok(bytes),
         Err(e) if e.kind() == ErrorKind::OutOfMemory => Err(Ending::no_memory()),
@@ -69,7 +80,9 @@ fn config_bytes(rt: &HostRuntime, path: &Text) -> io::Result<Vec<u8>> {
 }
 
 /// The lines of the config that the options name; none where they name none.
-pub fn config_lines(rt: &HostRuntime, options: &Options) -> Result<Vec<ConfigLine>, Ending> {
+pub fn config_lines(rt: &HostRuntime, options: &Options) -> Result<Vec<ConfigLine>, Ending>
+    ensures { IfErr result IsFailure }
+{
     let Some(path) = &options.config else {
         return Ok(Vec::new(rt.alloc()));
     };
@@ -82,7 +95,9 @@ fn password_bytes(rt: &HostRuntime, path: &Text) -> io::Result<Vec<u8>> {
 }
 
 /// The password in the file that the options name; an empty one where they name none.
-pub fn password(rt: &HostRuntime, options: &Options) -> Result<Text, Ending> {
+pub fn password(rt: &HostRuntime, options: &Options) -> Result<Text, Ending>
+    ensures { IfErr result IsFailure }
+{
     let Some(path) = &options.password_file else {
         return Text::new(rt.alloc(), b"").map_err(|_| Ending::no_memory());
     };

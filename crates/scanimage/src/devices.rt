@@ -1,3 +1,6 @@
+ghost use Rattle.std.specs.Prelude.{IfErr};
+ghost use Rattle.scanimage_cli.specs.Programs.{IsFailure};
+
 use config_pages::{NoPage, SourceFault, page_source};
 use dispatch::ConfigLine;
 use flatbed_dev::{Feeder, Flatbed};
@@ -11,7 +14,9 @@ use threepass_dev::ThreePass;
 const ORDER: ByteOrder = ByteOrder::Big;
 
 /// A page that a config line names.
-fn page(rt: &HostRuntime, line: &ConfigLine, text: &Text) -> Result<Source, Ending> {
+fn page(rt: &HostRuntime, line: &ConfigLine, text: &Text) -> Result<Source, Ending>
+    ensures { IfErr result IsFailure }
+{
     match page_source(rt, text.as_bytes(), line.dpi) {
         Ok(source) => Ok(source),
         Err(SourceFault::NoMem) => Err(Ending::no_memory()),
@@ -22,12 +27,16 @@ fn page(rt: &HostRuntime, line: &ConfigLine, text: &Text) -> Result<Source, Endi
 }
 
 /// The name of the device of a config line.
-fn name(rt: &HostRuntime, line: &ConfigLine) -> Result<Text, Ending> {
+fn name(rt: &HostRuntime, line: &ConfigLine) -> Result<Text, Ending>
+    ensures { IfErr result IsFailure }
+{
     line.name(rt.alloc()).map_err(|_| Ending::no_memory())
 }
 
 /// The name of the device of a config line, and its one page.
-fn parts(rt: &HostRuntime, line: &ConfigLine) -> Result<(Text, Source), Ending> {
+fn parts(rt: &HostRuntime, line: &ConfigLine) -> Result<(Text, Source), Ending>
+    ensures { IfErr result IsFailure }
+{
     // A config has one page for each of these devices.
     let Some(text) = line.pages.first() else {
         return Err(Ending::Page(line.line, NoPage::CannotRead));
@@ -37,7 +46,9 @@ fn parts(rt: &HostRuntime, line: &ConfigLine) -> Result<(Text, Source), Ending> 
 }
 
 /// The pages of a config line, in their order.
-fn pages(rt: &HostRuntime, line: &ConfigLine) -> Result<Vec<Source>, Ending> {
+fn pages(rt: &HostRuntime, line: &ConfigLine) -> Result<Vec<Source>, Ending>
+    ensures { IfErr result IsFailure }
+{
     let mut sources = Vec::new(rt.alloc());
     for text in &line.pages {
         let source = page(rt, line, text)?;
@@ -47,7 +58,9 @@ fn pages(rt: &HostRuntime, line: &ConfigLine) -> Result<Vec<Source>, Ending> {
 }
 
 /// The flatbed of a config line, on its page.
-pub fn flatbed(rt: &HostRuntime, line: &ConfigLine) -> Result<Box<Flatbed>, Ending> {
+pub fn flatbed(rt: &HostRuntime, line: &ConfigLine) -> Result<Box<Flatbed>, Ending>
+    ensures { IfErr result IsFailure }
+{
     let (name, source) = parts(rt, line)?;
     match Flatbed::new(rt.alloc(), name, source, ORDER) {
         Ok(device) => Box::new(rt.alloc(), device).map_err(|_| Ending::no_memory()),
@@ -56,7 +69,9 @@ pub fn flatbed(rt: &HostRuntime, line: &ConfigLine) -> Result<Box<Flatbed>, Endi
 }
 
 /// The hand scanner of a config line, on its page.
-pub fn hand_scanner(rt: &HostRuntime, line: &ConfigLine) -> Result<Box<HandScanner>, Ending> {
+pub fn hand_scanner(rt: &HostRuntime, line: &ConfigLine) -> Result<Box<HandScanner>, Ending>
+    ensures { IfErr result IsFailure }
+{
     let (name, source) = parts(rt, line)?;
     match HandScanner::new(rt.alloc(), name, source, ORDER) {
         Ok(device) => Box::new(rt.alloc(), device).map_err(|_| Ending::no_memory()),
@@ -65,7 +80,9 @@ pub fn hand_scanner(rt: &HostRuntime, line: &ConfigLine) -> Result<Box<HandScann
 }
 
 /// The three-pass scanner of a config line, on its page.
-pub fn three_pass(rt: &HostRuntime, line: &ConfigLine) -> Result<Box<ThreePass>, Ending> {
+pub fn three_pass(rt: &HostRuntime, line: &ConfigLine) -> Result<Box<ThreePass>, Ending>
+    ensures { IfErr result IsFailure }
+{
     let (name, source) = parts(rt, line)?;
     match ThreePass::new(rt.alloc(), name, source, ORDER) {
         Ok(device) => Box::new(rt.alloc(), device).map_err(|_| Ending::no_memory()),
@@ -74,7 +91,9 @@ pub fn three_pass(rt: &HostRuntime, line: &ConfigLine) -> Result<Box<ThreePass>,
 }
 
 /// The page feeder of a config line, with its tray of pages.
-pub fn feeder(rt: &HostRuntime, line: &ConfigLine) -> Result<Box<Feeder>, Ending> {
+pub fn feeder(rt: &HostRuntime, line: &ConfigLine) -> Result<Box<Feeder>, Ending>
+    ensures { IfErr result IsFailure }
+{
     let sources = pages(rt, line)?;
     match Feeder::new(rt.alloc(), name(rt, line)?, sources, ORDER) {
         Ok(device) => Box::new(rt.alloc(), device).map_err(|_| Ending::no_memory()),

@@ -1,6 +1,10 @@
 //! `scanimage`: lists the virtual scanners of a config or of a daemon, shows their options, and scans to Netpbm files.
 #![tactic(auto)]
 
+ghost use Rattle.std.specs.Prelude.{◌≡◌, IfErr, OnOk};
+ghost use Rattle.std.specs.Process.{exit_status};
+ghost use Rattle.scanimage_cli.specs.Programs.{HasDone, IsFailure};
+
 mod command_line;
 mod devices;
 mod job;
@@ -23,7 +27,10 @@ use std::process::ExitCode;
 const ROOT: &str = "/";
 
 /// Reads the command line and the config, makes the devices, and does what is asked for.
-fn run(rt: &HostRuntime) -> Result<(), Ending> {
+fn run(rt: &HostRuntime) -> Result<(), Ending>
+    ensures done { OnOk result HasDone }
+    ensures failed { IfErr result IsFailure }
+{
     let (options, settings) = command_line(rt)?;
     let lines = config_lines(rt, &options)?;
     let mut devices: Vec<Box<dyn Device>> = Vec::with_capacity(rt.alloc(), lines.len()).map_err(
@@ -34,23 +41,33 @@ fn run(rt: &HostRuntime) -> Result<(), Ending> {
         match line.kind {
             DeviceKind::Flatbed => {
                 let device = flatbed(rt, line)?;
-                devices.push(device).map_err(|_| Ending::no_memory())?;
+                let Ok(()) = devices.push(device) else {
+                    return Err(Ending::no_memory());
+                };
             }
             DeviceKind::Hand => {
                 let device = hand_scanner(rt, line)?;
-                devices.push(device).map_err(|_| Ending::no_memory())?;
+                let Ok(()) = devices.push(device) else {
+                    return Err(Ending::no_memory());
+                };
             }
             DeviceKind::ThreePass => {
                 let device = three_pass(rt, line)?;
-                devices.push(device).map_err(|_| Ending::no_memory())?;
+                let Ok(()) = devices.push(device) else {
+                    return Err(Ending::no_memory());
+                };
             }
             DeviceKind::Feeder => {
                 let device = feeder(rt, line)?;
-                devices.push(device).map_err(|_| Ending::no_memory())?;
+                let Ok(()) = devices.push(device) else {
+                    return Err(Ending::no_memory());
+                };
             }
         }
     }
-    let mut registry = Registry::new(rt.alloc(), devices).map_err(|_| Ending::no_memory())?;
+    let Ok(mut registry) = Registry::new(rt.alloc(), devices) else {
+        return Err(Ending::no_memory());
+    };
     let password = password(rt, &options)?;
     match asked_of_net(&options) {
         Some((host, device)) => run_net_task(rt, host, device, &options, settings, password),
@@ -64,6 +81,19 @@ fn tell(rt: &HostRuntime, ending: &Ending) {
     let _ = ending.tell(&mut err);
 }
 
+/// Does what the command line asks for, and gives the exit status.
+fn exit_code(rt: &HostRuntime) -> ExitCode
+    ensures { exit_status result ≡ 0 → HasDone }
+{
+    match run(rt) {
+        Ok(()) => ExitCode::from(0),
+        Err(ending) => {
+            tell(rt, &ending);
+            ExitCode::from(ending.exit_status())
+        }
+    }
+}
+
 fn main(rt: HostRuntime) -> ExitCode {
     // It stands in for each standard descriptor that is closed, so that no socket or file of the job becomes one.
     let _standing_in = [
@@ -71,11 +101,5 @@ fn main(rt: HostRuntime) -> ExitCode {
         File::open(&rt, ROOT),
         File::open(&rt, ROOT),
     ];
-    match run(&rt) {
-        Ok(()) => ExitCode::from(0),
-        Err(ending) => {
-            tell(&rt, &ending);
-            ExitCode::from(ending.exit_status())
-        }
-    }
+    exit_code(&rt)
 }

@@ -1,3 +1,6 @@
+ghost use Rattle.std.specs.Prelude.{[], if◌then◌else◌, IfOk, IfErr, OnOk};
+ghost use Rattle.scanimage_cli.specs.Programs.{HasDoneThere, IsFailure, IsJobAsked, RanThere};
+
 use crate::job::{output, text, user};
 use crate::printing::print_all;
 use net_backend::Dial;
@@ -14,7 +17,11 @@ fn job_of(
     options: &Options,
     settings: Vec<(Text, Text)>,
     password: Text,
-) -> Result<Job, Ending> {
+) -> Result<Job, Ending>
+    ensures asked { IfOk result (IsJobAsked options.now
+        (if options.now.list_devices then [] else settings.items) password device.now) }
+    ensures failed { IfErr result IsFailure }
+{
     let task = task_of(options);
     let settings = if task == Task::List {
         Vec::new(rt.alloc())
@@ -31,7 +38,10 @@ fn job_of(
 }
 
 /// Does a job on a host. A batch has files of its own.
-fn run_job(rt: &HostRuntime, host: &[u8], job: Job, options: &Options) -> Result<Printed, Ending> {
+fn run_job(rt: &HostRuntime, host: &[u8], job: Job, options: &Options) -> Result<Printed, Ending>
+    ensures ran { IfOk result (RanThere job host.now) }
+    ensures failed { IfErr result IsFailure }
+{
     let mut dial = HostDial::new(rt, host).ok_or(Ending::lost())?;
     let mut control = dial.dial(port_of(options)).map_err(|_| Ending::lost())?;
     match job.task {
@@ -44,8 +54,8 @@ fn run_job(rt: &HostRuntime, host: &[u8], job: Job, options: &Options) -> Result
             &mut Folder { rt },
         ),
         Task::List | Task::Show | Task::SetOnly | Task::Scan => {
-            let output = output(rt, options)?;
-            do_net_job(rt.alloc(), host, job, &mut control, &mut dial, output)
+            let mut output = output(rt, options)?;
+            do_net_job(rt.alloc(), host, job, &mut control, &mut dial, &mut output)
         }
     }
 }
@@ -58,7 +68,10 @@ pub fn run_net_task(
     options: &Options,
     settings: Vec<(Text, Text)>,
     password: Text,
-) -> Result<(), Ending> {
+) -> Result<(), Ending>
+    ensures done { OnOk result (HasDoneThere options.now settings.items password host.now device.now) }
+    ensures failed { IfErr result IsFailure }
+{
     let job = job_of(rt, device, options, settings, password)?;
     // Such a job does not even ask for a connection.
     if let Some(ending) = Ending::of_refused(&job) {

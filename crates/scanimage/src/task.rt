@@ -1,3 +1,6 @@
+ghost use Rattle.std.specs.Prelude.{◌≡◌, IfOk, IfErr, IfSome, OnOk};
+ghost use Rattle.scanimage_cli.specs.Programs.{IsDoneHere, IsFailure, RanHere};
+
 use crate::job::{output, text, user};
 use crate::printing::{print, print_all};
 use device_api::Device;
@@ -13,8 +16,11 @@ fn run_job(
     rt: &HostRuntime,
     device: &mut dyn Device,
     job: &Job,
-    output: Output<'_>,
-) -> Result<Printed, Ending> {
+    output: &mut Output<'_>,
+) -> Result<Printed, Ending>
+    ensures done { IfOk result (RanHere job.now) }
+    ensures failed { IfErr result IsFailure }
+{
     match job.task {
         Task::Batch(_) => do_batch(rt.alloc(), device, job, &mut Folder { rt }),
         Task::List | Task::Show | Task::SetOnly | Task::Scan => {
@@ -24,7 +30,10 @@ fn run_job(
 }
 
 /// The name of the device that is asked for: that of the first one where none is named.
-fn device_name(rt: &HostRuntime, registry: &Registry, options: &Options) -> Result<Text, Ending> {
+fn device_name(rt: &HostRuntime, registry: &Registry, options: &Options) -> Result<Text, Ending>
+    ensures named { IfOk result (λ device. IfSome options.now.device_name (λ name. device ≡ name)) }
+    ensures failed { IfErr result IsFailure }
+{
     if let Some(name) = &options.device_name {
         return text(rt, name.as_bytes());
     }
@@ -42,7 +51,10 @@ pub fn run_task(
     options: &Options,
     settings: Vec<(Text, Text)>,
     password: Text,
-) -> Result<(), Ending> {
+) -> Result<(), Ending>
+    ensures done { OnOk result (IsDoneHere options.now settings.items password) }
+    ensures failed { IfErr result IsFailure }
+{
     let task = task_of(options);
     if task == Task::List {
         let devices = registry.list(rt.alloc()).map_err(|_| Ending::no_memory())?;
@@ -56,10 +68,10 @@ pub fn run_task(
         settings,
         task,
     };
-    let output = output(rt, options)?;
+    let mut output = output(rt, options)?;
     let Ok(mut device) = registry.unplug(job.device.as_bytes()) else {
         return Err(Ending::Ended(Status::Inval, Why::Setting));
     };
-    let printed = run_job(rt, &mut *device, &job, output)?;
+    let printed = run_job(rt, &mut *device, &job, &mut output)?;
     print_all(rt, &printed)
 }

@@ -4,3 +4,4 @@ pub mod Reading
 pub mod Finds
 pub mod CutLaw
 pub mod JoinLemmas
+pub mod NetDone

@@ -2,6 +2,10 @@
 use Rattle.std.specs.Prelude.{ℕ, ◌++◌, List, [], ◌∷◌, codes}
 use Rattle.device_api.specs.declared.device_info.DeviceInfo.{DeviceInfo}
 
+-- what stands before the names of a host's devices
+abbrev pub net_prefix : List ℕ → List ℕ
+net_prefix host = codes "net:" ++ (host ++ codes ":")
+
 -- device `NAME' is a VENDOR MODEL TYPE, where over the net `net:HOST:` stands before the device's own name
 abbrev pub device_line : List ℕ → DeviceInfo → List ℕ
 device_line prefix info =

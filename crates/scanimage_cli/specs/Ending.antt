@@ -5,6 +5,7 @@ use Rattle.sane_fixed.specs.Status.{status_code, status_name}
 use Rattle.sane_fixed.specs.declared.status.Status.TheVariants.{Inval}
 use Rattle.scan_job.specs.declared.job.Job.{Job}
 use Rattle.scan_job.specs.declared.outcome.Why.TheVariants.{Setting}
+use Rattle.scan_job.specs.declared.stop.Stop.{Stop}
 use Rattle.scan_job.specs.JobSize.{HasFault}
 use Rattle.scan_job.specs.Why.{why_word}
 use Rattle.dispatch.specs.ConfigReasons.{reason_text}
@@ -19,6 +20,10 @@ exit_status (CannotRead path) = 65
 exit_status (Config fault) = 65
 exit_status (Page line why) = 65
 exit_status (Ended status why) = status_code status
+
+-- a job that stopped is told by its status and why
+abbrev pub ended_by : Stop → Ending
+ended_by stop = Ended stop.status stop.why
 
 -- a job that is too large, or a batch of none or too many pages, ends as a setting that is refused
 abbrev pub IsRefusedAs : Job → Option Ending → Type 0

@@ -10,4 +10,8 @@ pub mod OptionTable
 pub mod RoundedLines
 pub mod Joined
 pub mod Doing
+pub mod NetDoing
+pub mod Printing
+pub mod Programs
 pub mod FileName
+pub mod Host

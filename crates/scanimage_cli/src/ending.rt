@@ -7,7 +7,7 @@ use config_pages::NoPage;
 use dispatch::ConfigFault;
 use itoa::Buffer;
 use sane_fixed::{Status, Text};
-use scan_job::{Job, JobFault, Why};
+use scan_job::{Job, JobFault, Stop, Why};
 use std::io;
 use std::io::Write;
 
@@ -28,7 +28,14 @@ pub enum Ending {
 impl Ending {
     ghost use Rattle.std.specs.Prelude.{◌≡◌, OnOk};
     ghost use Rattle.std.specs.Io.KnownBytes.{Appends};
-    ghost use Rattle.scanimage_cli.specs.Ending.{exit_status, ending_line, IsRefusedAs};
+    ghost use Rattle.scanimage_cli.specs.Ending.{ended_by, exit_status, ending_line, IsRefusedAs};
+
+    /// A job stopped so.
+    pub fn of(stop: Stop) -> Ending
+        ensures { result ≡ ended_by stop }
+    {
+        Ending::Ended(stop.status, stop.why)
+    }
 
     /// There was no memory.
     pub fn no_memory() -> Ending

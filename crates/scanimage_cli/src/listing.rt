@@ -1,5 +1,5 @@
-ghost use Rattle.std.specs.Prelude.{◌≡◌, ◌++◌, IfOk, OnOk, codes};
-ghost use Rattle.scanimage_cli.specs.DeviceList.{device_line, device_lines};
+ghost use Rattle.std.specs.Prelude.{◌≡◌, ◌++◌, IfOk, OnOk};
+ghost use Rattle.scanimage_cli.specs.DeviceList.{device_line, device_lines, net_prefix};
 
 use device_api::DeviceInfo;
 use sane_fixed::NoMem;
@@ -7,7 +7,7 @@ use std::alloc::Global;
 
 /// What stands before the names of that host's devices.
 pub fn net_prefix(alloc: Global, host: &[u8]) -> Result<Vec<u8>, NoMem>
-    ensures { IfOk result (λ prefix. prefix.items ≡ codes "net:" ++ (host.now ++ codes ":")) }
+    ensures { IfOk result (λ prefix. prefix.items ≡ net_prefix host.now) }
 {
     let mut prefix = Vec::new(alloc);
     prefix.extend_from_slice(b"net:")?;

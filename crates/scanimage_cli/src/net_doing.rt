@@ -1,65 +1,54 @@
-use crate::doing::Printed;
+ghost use Rattle.std.specs.Prelude.{◌≡◌, IfOk, IfErr, OnErr};
+ghost use Rattle.net_jobs.specs.Draining.{StopsShort};
+ghost use Rattle.scanimage_cli.specs.DeviceList.{net_prefix};
+ghost use Rattle.scanimage_cli.specs.NetDoing.{DoesNetJob, EndsNetJob, DoesNetBatch, EndsNetBatch};
+ghost use Rattle.scanimage_cli.specs.Programs.{IsFailure};
+
 use crate::ending::Ending;
-use crate::last_bytes::{finished, gathered, stopped};
-use crate::listing::{device_list, net_prefix};
-use crate::rounding::reported_lines;
-use crate::table::options_table;
-use net_backend::{Dial, run_batch, run_job};
+use crate::listing::net_prefix;
+use crate::printed::Printed;
+use net_backend::{Dial, run_batch_with, run_job_with};
 use sane_fixed::{NoMem, Text};
-use scan_job::{Job, Outcome, Reports, Shelf, Task};
+use scan_job::{Job, Shelf};
 use std::alloc::Global;
 use std::io::{Read, Write};
 
-/// What is printed of a job over the net is told of this: the host, the device's own name there, and the task.
-#[derive(Drop)]
-struct Errand<'a> {
-    host: &'a [u8],
-    device: Text,
-    task: Task,
-}
-
-impl<'a> Errand<'a> {
-    fn new(alloc: Global, host: &'a [u8], job: &Job) -> Result<Errand<'a>, NoMem> {
-        Ok(Errand {
-            host,
-            device: job.device.try_clone(alloc)?,
-            task: job.task,
-        })
-    }
-
-    /// What the job prints once it is done.
-    fn texts(&self, alloc: Global, reports: &Reports) -> Result<Printed, NoMem> {
-        let rounded = reported_lines(alloc, reports.settings.as_slice())?;
-        let table = match self.task {
-            Task::List => {
-                let prefix = net_prefix(alloc, self.host)?;
-                device_list(alloc, prefix.as_slice(), reports.devices.as_slice())?
-            }
-            Task::Show => {
-                options_table(alloc, self.device.as_bytes(), reports.options.as_slice())?
-            }
-            Task::SetOnly | Task::Scan | Task::Batch(_) => Vec::new(alloc),
-        };
-        Ok(Printed { table, rounded })
-    }
+/// What stands before the names of that host's devices, and the name of the job's device there.
+fn names_told(alloc: Global, host: &[u8], job: &Job) -> Result<(Vec<u8>, Text), NoMem>
+    ensures prefix { IfOk result (λ names. names.0.items ≡ net_prefix host.now) }
+    ensures device { IfOk result (λ names. names.1 ≡ job.now.device) }
+{
+    Ok((net_prefix(alloc, host)?, job.device.try_clone(alloc)?))
 }
 
 /// Does a job of one file on a daemon of that host, over a control connection and the data connections that are dialed,
-/// and gives what is to be printed of it. Its file goes to the output as that of a job of this machine does.
-pub fn do_net_job<C: Read + Write, D: Dial, W: Write + Drop>(
+/// and gives what is to be printed of it, which is there before the last bytes of its file go out. A job that ends otherwise, or
+/// an output that fails, leaves no whole file.
+pub fn do_net_job<C: Read + Write, D: Dial, W: Write>(
     alloc: Global,
     host: &[u8],
     job: Job,
     control: &mut C,
     dial: &mut D,
-    output: W,
-) -> Result<Printed, Ending> {
-    let errand = Errand::new(alloc, host, &job).map_err(|_| Ending::no_memory())?;
-    let mut out = gathered(alloc, output).map_err(|_| Ending::no_memory())?;
-    match run_job(alloc, job, control, dial, &mut out) {
-        Outcome::Done(reports) => finished(out, errand.texts(alloc, &reports)),
-        Outcome::Ended(status, why) => Err(stopped(out, status, why)),
-        Outcome::Running => Err(Ending::failed_output()),
+    output: &mut W,
+) -> Result<Printed, Ending>
+    ensures done { IfOk result (DoesNetJob C.remaining C.contents D.coming W.contents job host.now
+        control.old control.new dial.old dial.new output.old output.new) }
+    ensures no_file { OnErr result (StopsShort (W.contents output.old) (W.contents output.new)) }
+    ensures ended { IfErr result (EndsNetJob C.remaining C.contents D.coming W.contents job
+        control.old control.new dial.old dial.new output.old output.new) }
+    ensures failed { IfErr result IsFailure }
+{
+    let Ok((prefix, device)) = names_told(alloc, host, &job) else {
+        return Err(Ending::no_memory());
+    };
+    let task = job.task;
+    let done = run_job_with(alloc, job, control, dial, output, |reports| {
+        Printed::of(alloc, prefix.as_slice(), device.as_bytes(), task, reports)
+    });
+    match done {
+        Ok((_, printed)) => Ok(printed),
+        Err(stop) => Err(Ending::of(stop)),
     }
 }
 
@@ -72,15 +61,22 @@ pub fn do_net_batch<C: Read + Write, D: Dial, S: Shelf>(
     control: &mut C,
     dial: &mut D,
     shelf: &mut S,
-) -> Result<Printed, Ending> {
-    let errand = Errand::new(alloc, host, &job).map_err(|_| Ending::no_memory())?;
-    match run_batch(alloc, job, control, dial, shelf) {
-        Outcome::Done(reports) => {
-            errand
-                .texts(alloc, &reports)
-                .map_err(|_| Ending::no_memory())
-        }
-        Outcome::Ended(status, why) => Err(Ending::Ended(status, why)),
-        Outcome::Running => Err(Ending::failed_output()),
+) -> Result<Printed, Ending>
+    ensures done { IfOk result (DoesNetBatch C.remaining C.contents D.coming S.stock job host.now
+        control.old control.new dial.old dial.new shelf.old shelf.new) }
+    ensures ended { IfErr result (EndsNetBatch C.remaining C.contents D.coming S.stock job
+        control.old control.new dial.old dial.new shelf.old shelf.new) }
+    ensures failed { IfErr result IsFailure }
+{
+    let Ok((prefix, device)) = names_told(alloc, host, &job) else {
+        return Err(Ending::no_memory());
+    };
+    let task = job.task;
+    let done = run_batch_with(alloc, job, control, dial, shelf, |reports| {
+        Printed::of(alloc, prefix.as_slice(), device.as_bytes(), task, reports)
+    });
+    match done {
+        Ok((_, printed)) => Ok(printed),
+        Err(stop) => Err(Ending::of(stop)),
     }
 }

@@ -75,6 +75,7 @@ fn exit_of(done: &Result<Printed, Ending>) -> Option<(u8, bool)> {
 const WRITES: &[(u32, Option<(u8, bool)>, &[u8])] = &[
     (0, None, b"P5\n# SANE data follows\n1 1\n255\n\x0a"),
     (1, Some((9, true)), b""),
+    (2, Some((9, true)), b"P5\n# SANE data follows\n1 1\n255\n"),
 ];
 
 /// The one write fails, and nothing is written after it.

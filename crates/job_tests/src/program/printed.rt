@@ -6,9 +6,7 @@ use dispatch::{ConfigFault, ConfigReason};
 use option_desc::{Constraint, Descriptor, Value, Words};
 use sane_fixed::{Cap, Fixed, Info, Kind, Status, Unit};
 use scan_job::{Report, Why};
-use scanimage_cli::{
-    Ending, device_list, is_any_rounded, options_table, reported_lines, rounded_lines,
-};
+use scanimage_cli::{Ending, device_list, options_table, rounded_lines};
 use std::alloc::Global;
 use std::process::Abort;
 
@@ -220,20 +218,17 @@ fn report(rt: &impl Abort, alloc: Global, asked: i32, given: i32, info: u32) -> 
 #[test]
 fn rounded_values(rt: HostRuntime) {
     let alloc = rt.alloc();
-    let options = [option(&rt, alloc, Kind::Fixed, Unit::Mm, 4, Constraint::Free)];
     let reports = [
         report(&rt, alloc, 39322, 65536, 5),
         report(&rt, alloc, 65536, 65536, 4),
     ];
     let [_, exact] = &reports;
-    assert!(&rt; is_any_rounded(&reports));
-    assert!(&rt; !is_any_rounded(&[]));
-    assert!(&rt; !is_any_rounded(std::slice::from_ref(exact)));
-    let lines = rounded_lines(alloc, &reports, &options).expect(&rt, "lines");
+    let none = rounded_lines(alloc, std::slice::from_ref(exact)).expect(&rt, "lines");
+    assert!(&rt; none.as_slice() == b"".as_slice());
+    let lines = rounded_lines(alloc, &reports).expect(&rt, "lines");
     let wanted = b"scanimage: rounded value of name from 0.600006103515625 to 1\n";
     assert!(&rt; lines.as_slice() == wanted.as_slice());
     drop(reports);
-    drop(options);
 }
 
 /// A value of two words.
@@ -252,7 +247,7 @@ fn a_rounded_vector_of_fixed_numbers(rt: HostRuntime) {
         given: two_words(&rt, alloc, 65536, -65536),
         info: Info(1),
     }];
-    let lines = reported_lines(alloc, &reports).expect(&rt, "lines");
+    let lines = rounded_lines(alloc, &reports).expect(&rt, "lines");
     let wanted = b"scanimage: rounded value of name from 1.5,-0.5 to 1,-1\n";
     assert!(&rt; lines.as_slice() == wanted.as_slice());
     drop(reports);

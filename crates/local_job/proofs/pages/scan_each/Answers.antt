@@ -20,7 +20,7 @@ returns-in-Ok-false-clause-stop g c =
     let new : DeviceState = (goal.Device-dyn g c.loop-behind.device.now).state c.scan_page.new.device in
     let is = c.in-Ok-false.is in
     let run = one_run old now new c.loop-behind.behind _ _ _ c.loop-behind.invariant.run (ok_has c.scan_page.result _ _ is c.scan_page.ensures.done) (ok_has c.scan_page.result _ _ is c.scan_page.ensures.rest) (ok_has c.scan_page.result _ _ is c.scan_page.ensures.untold) in
-    last_refused old new (c.loop-behind.behind + 1) c.args.count _ _ _ run (omega arith) (omega arith) c.bad_output.ensures
+    last_refused old new (c.loop-behind.behind + 1) c.args.count _ _ _ run (omega arith) (omega arith) c.failed_output.ensures
 
 pub returns-in-Err-clause-done : goal.returns-in-Err-clause-done
 returns-in-Err-clause-done g c =

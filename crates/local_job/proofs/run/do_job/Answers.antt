@@ -16,7 +16,7 @@ returns-clause-done g c =
     let mid : DeviceState = (goal.Device-dyn g c.args.device.now).state c.put_settings.new.device in
     let taken : IsTaken c.args.job.now = search rules in
     let put : put_all first.setup (settings_put c.args.job.now.task c.args.job.now.settings.items) ≡ Ok (mid.setup, c.in_ok-settings.settings) = rw (← c.deref.ensures.value, ← c.settings_put.ensures) c.in_ok-settings.ensures.put in
-    let was = was_put first c.args.job.now mid.setup _ c.requires taken put in
+    let was = was_put first c.args.job.now mid.setup _ c.requires.reset taken put in
     record {
       setup = mid.setup;
       placed = was.placed;
@@ -24,15 +24,15 @@ returns-clause-done g c =
       told = was.told;
       devices = c.in_ok-devices.ensures.told ∙ ap (λ (s : DeviceState). devices_told c.args.job.now.task s.info) c.in_ok-settings.ensures.rest;
       options = c.in_ok-options.ensures.told;
-      output = writes_reset c.args.job.now.task first mid _ _ c.requires (elim c.if-eq.branch [
+      output = writes_reset c.args.job.now.task first mid _ _ c.requires.reset (elim c.if-eq.branch [
         | then-eq+in_ok-scan_picture w ↦
             (let is : c.args.job.now.task ≡ Scan = search rules in
             scan_writes c.args.job.now.task (with_setup first mid.setup) _ _ is (λ first' taken. subst (λ (s : DeviceState). IsScanned s first' (g.W.Write.contents c.if-eq.out)) c.in_ok-settings.ensures.rest (rw w.out-is (w.in_ok-scan_picture.ensures.done first' taken))))
         | else-eq w ↦ (let other : c.args.job.now.task ≢ Scan = search rules in others_write c.args.job.now.task (with_setup first mid.setup) _ _ other (ap g.W.Write.contents w.out-is))
       ]);
       left = elim c.if-eq.branch [
-        | then-eq+in_ok-scan_picture w ↦ (let is : c.args.job.now.task ≡ Scan = search rules in rw w.device-is (left_by_scan c.args.job.now.task first mid _ is c.requires c.in_ok-settings.ensures.rest w.in_ok-scan_picture.ensures.rest))
-        | else-eq w ↦ (let other : c.args.job.now.task ≢ Scan = search rules in rw w.device-is (left_by_others c.args.job.now.task first mid other c.requires c.in_ok-settings.ensures.rest))
+        | then-eq+in_ok-scan_picture w ↦ (let is : c.args.job.now.task ≡ Scan = search rules in rw w.device-is (left_by_scan c.args.job.now.task first mid _ is c.requires.reset c.in_ok-settings.ensures.rest w.in_ok-scan_picture.ensures.rest))
+        | else-eq w ↦ (let other : c.args.job.now.task ≢ Scan = search rules in rw w.device-is (left_by_others c.args.job.now.task first mid other c.requires.reset c.in_ok-settings.ensures.rest))
       ];
     }
 
@@ -42,7 +42,7 @@ returns-in_err-settings-clause-stop g c =
     let new : DeviceState = (goal.Device-dyn g c.args.device.now).state c.put_settings.new.device in
     let taken : IsTaken c.args.job.now = search rules in
     let p = err_from_is_err_and c.from_residual.result c.from_residual.ensures.1 in
-    rw (p.1, p.2) (ended_by_setting first new c.args.job.now _ c.requires taken (rw (← c.deref.ensures.value, ← c.settings_put.ensures) c.in_err-settings.ensures.stop))
+    rw (p.1, p.2) (ended_by_setting first new c.args.job.now _ c.requires.reset taken (rw (← c.deref.ensures.value, ← c.settings_put.ensures) c.in_err-settings.ensures.stop))
 
 pub returns-in_err-scan_picture-clause-stop : goal.returns-in_err-scan_picture-clause-stop
 returns-in_err-scan_picture-clause-stop g c =
@@ -53,7 +53,7 @@ returns-in_err-scan_picture-clause-stop g c =
     let scan : c.args.job.now.task ≡ Scan = search rules in
     let put : put_all first.setup (settings_put c.args.job.now.task c.args.job.now.settings.items) ≡ Ok (mid.setup, c.in_ok-settings.settings) = rw (← c.deref.ensures.value, ← c.settings_put.ensures) c.in_ok-settings.ensures.put in
     let p = err_from_is_err_and c.from_residual-in_err-scan_picture.result c.from_residual-in_err-scan_picture.ensures.1 in
-    rw (p.1, p.2) (ended_by_scan first mid new c.args.job.now _ _ c.requires taken scan c.in_ok-settings.ensures.rest put (record { empty = c.in_err-scan_picture.ensures.empty; none = c.in_err-scan_picture.ensures.none; cause = c.in_err-scan_picture.ensures.cause }))
+    rw (p.1, p.2) (ended_by_scan first mid new c.args.job.now _ _ c.requires.reset taken scan c.in_ok-settings.ensures.rest put (record { empty = c.in_err-scan_picture.ensures.empty; none = c.in_err-scan_picture.ensures.none; cause = c.in_err-scan_picture.ensures.cause }))
 
 pub returns-in_err-settings-clause-runs : goal.returns-in_err-settings-clause-runs
 returns-in_err-settings-clause-runs g c =

@@ -34,4 +34,4 @@ returns-else-drain-clause-cause g c = λ first past frame inside.
     let is : c.end.result ≡ Ok c.in-Ok.is_whole = c.in-Ok.is in
     let answer : answer_of (after_end past) ≡ Ok c.in-Ok.is_whole = sym (c.end.ensures.answer past inside.stands) ∙ is in
     let well = ended_well past frame c.in-Ok.is_whole inside.no_fault inside.under answer in
-    rw well.0 c.bad_output.ensures
+    rw well.0 c.failed_output.ensures

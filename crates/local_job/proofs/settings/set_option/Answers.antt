@@ -2,7 +2,8 @@ use Rattle.std.proofs.Common.{◌≡◌, ◌⊎◌, Err, rules}
 use Rattle.sane_fixed.specs.declared.status.Status.{Status}
 use Rattle.device_api.specs.State.{DeviceState}
 use Rattle.device_api.specs.Values.{option_set}
-use Rattle.local_job.specs.Stops.{no_memory, answered}
+use Rattle.local_job.specs.Stops.{answered}
+use Rattle.scan_job.specs.Stops.{no_memory}
 use Rattle.local_job.proofs.Puts.{set_refuses}
 use Rattle.local_job.proofs.settings.set_option.Goals as goal
 

@@ -9,7 +9,7 @@ use Rattle.net_jobs.proofs.batch.drain.Goals.{else-is_page-via-then-is_page+else
 use Rattle.net_jobs.proofs.batch.drain.Goals as goal
 
 pub loop-i-init : goal.loop-i-init
-loop-i-init g c = record { room = refl; pulled = λ before outputs k past filing. begun past _ k before outputs _ _ filing.serves filing.under_way }
+loop-i-init g c = record { room = refl; outcome = refl; pulled = λ before outputs k past filing. begun past _ k before outputs _ _ filing.serves filing.under_way }
 
 pub returns-then-n-eq0-clause-drained : goal.returns-then-n-eq0-clause-drained
 returns-then-n-eq0-clause-drained g c = λ done before outputs k past filing.
@@ -72,6 +72,7 @@ loop-i-preserved g c =
     ] in
     record {
       room = search rules;
+      outcome = c.take_file-n.ensures.outcome ∙ c.loop-i.invariant.outcome;
       pulled = λ before outputs k past filing.
           one_more past c.args.client.now c.loop-i.client c.take_file-n.new.self k c.loop-i._i c.take_file-n.result c.file_number-number.result before outputs _ _ _ _ piece c.if-n-eq0.false pulls still c.file_number-number.ensures filing.number
           (λ had h. c.shelve.ensures.whole (search rules) before outputs had h)

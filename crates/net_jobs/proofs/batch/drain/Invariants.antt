@@ -9,6 +9,7 @@ use Rattle.net_jobs.proofs.batch.drain.Given as goal
 abbrev pub invariant-loop-i : goal.invariant-loop-i
 invariant-loop-i g l = record {
   room : length l.room ≡ length l.initial.room;
+  outcome : l.client.outcome ≡ l.initial.client.outcome;
   pulled : (before : Option Stock) (outputs : List Taken) (k : ℕ) (past : Past) → IsFiling past l.initial.client k before outputs (g.S.Shelf.stock l.initial.shelf) (option_map g.S.Out.Write.contents l.initial.under)
       → IsPulled past l.initial.client k before outputs l._i l.client (g.S.Shelf.stock l.shelf) (option_map g.S.Out.Write.contents l.under);
 }

@@ -1,11 +1,11 @@
-use Rattle.std.proofs.Common.{◌≡◌, rules, arith, ap, take, length, refl, ℕ, List, []}
+use Rattle.std.proofs.Common.{◌≡◌, ◌∙◌, rules, arith, ap, take, length, refl, ℕ, List, []}
 use Rattle.std.proofs.lemmas.List.{length-take}
 use Rattle.std.specs.Io.KnownBytes.{Appends}
 use Rattle.net_jobs.proofs.Drains.{begun, one_more, at_end, stopped, never}
 use Rattle.net_jobs.proofs.running.drain.Goals as goal
 
 pub loop-i-init : goal.loop-i-init
-loop-i-init g c = record { room = refl; bytes = λ first past held. begun past _ first _ held.serves held.taken }
+loop-i-init g c = record { room = refl; outcome = refl; bytes = λ first past held. begun past _ first _ held.serves held.taken }
 
 pub loop-i-preserved : goal.loop-i-preserved
 loop-i-preserved g c =
@@ -14,6 +14,7 @@ loop-i-preserved g c =
     let size : length piece ≡ c.take_file-n.result = omega (arith, length-take c.take_file-n.result c.take_file-n.new.buf, c.take_file-n.ensures.count, c.take_file-n.auto.buf) in
     record {
       room = search rules;
+      outcome = c.take_file-n.ensures.outcome ∙ c.loop-i.invariant.outcome;
       bytes = λ first past held. one_more past first _ _ c.loop-i._i c.take_file-n.result c.args.client.now c.loop-i.client c.take_file-n.new.self piece c.if-n-eq0.false size
           (λ q at. (c.take_file-n.ensures.taken q at).carried) c.take_file-n.ensures.ended c.take_file-n.ensures.same held.scan took (c.loop-i.invariant.bytes first past held);
     }

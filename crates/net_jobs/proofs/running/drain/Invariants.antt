@@ -7,6 +7,7 @@ use Rattle.net_jobs.proofs.running.drain.Given as goal
 abbrev pub invariant-loop-i : goal.invariant-loop-i
 invariant-loop-i g l = record {
   room : length l.room ≡ length l.initial.room;
+  outcome : l.client.outcome ≡ l.initial.client.outcome;
   bytes : (first : Option (List ℕ)) (past : Past) → HoldsGiven past l.initial.client first (g.W.Write.contents l.initial.out)
       → IsUnderway past l.initial.client first l._i l.client (g.W.Write.contents l.out);
 }

@@ -1,0 +1,38 @@
+-- What is done of a job, whatever its streams and outputs tell.
+use Rattle.std.proofs.Common.{ℕ, Option, List, Result, Ok, Err, IfOk, OnOk, inl, inr, None}
+use Rattle.device_api.specs.State.{DeviceState}
+use Rattle.scan_job.specs.declared.job.Job.{Job}
+use Rattle.scanimage_cli.specs.Doing.{DoesJob, DoesBatch}
+use Rattle.scanimage_cli.specs.NetDoing.{DoesNetJob}
+use Rattle.scanimage_cli.specs.Programs.{HasDone, HasDoneThere, IsDoneHere, RanHere, RanThere}
+use Rattle.scanimage_cli.specs.Asked.{IsAskedOf, IsLocal}
+use Rattle.scanimage_cli.specs.declared.options.Options.{Options}
+use Rattle.scanimage_cli.specs.declared.ending.Ending.{Ending}
+use Rattle.scanimage_cli.specs.declared.printed.Printed.{Printed}
+
+pub job_ran : {C D W : Type 0} (remaining contents : C → Option (List ℕ)) (coming : D → Option (List (List ℕ))) (holds : W → Option (List ℕ)) (job : Job) (host : List ℕ) (control control_then : C) (dial dial_then : D) (out out_then : W) (result : Result Printed Ending)
+    → IfOk result (DoesNetJob remaining contents coming holds job host control control_then dial dial_then out out_then) → IfOk result (RanThere job host)
+job_ran remaining contents coming holds job host control control_then dial dial_then out out_then (Ok printed) x = record { reports = x.reports; course = x.ran.ran.course; events = x.ran.ran.did.events; runs = x.ran.ran.did.runs; told = x.ran.told; prints = x.prints }
+job_ran remaining contents coming holds job host control control_then dial dial_then out out_then (Err ending) x = x
+
+pub on_ok : {A E P : Type 0} (result : Result A E) → P → OnOk result P
+on_ok (Ok value) is = is
+on_ok (Err fault) is = tt
+
+pub job_here : (old new : DeviceState) (job : Job) (result : Result Printed Ending) → IfOk result (λ printed. DoesJob old job printed None None new) → IfOk result (RanHere job)
+job_here old new job (Ok printed) x = record { old = old; new = new; does = inl x }
+job_here old new job (Err ending) x = x
+
+pub batch_here : (old new : DeviceState) (job : Job) (result : Result Printed Ending) → IfOk result (λ printed. DoesBatch old job printed None None new) → IfOk result (RanHere job)
+batch_here old new job (Ok printed) x = record { old = old; new = new; does = inr x }
+batch_here old new job (Err ending) x = x
+
+pub done_here : {A : Type 0} (options : Options) (settings : List (List ℕ × List ℕ)) (password : List ℕ) (result : Result A Ending)
+    → IsLocal options → OnOk result (IsDoneHere options settings password) → OnOk result HasDone
+done_here options settings password (Ok value) local is = (options, settings, password, inl (local, is))
+done_here options settings password (Err ending) local is = is
+
+pub done_there : {A : Type 0} (options : Options) (settings : List (List ℕ × List ℕ)) (password host device : List ℕ) (result : Result A Ending)
+    → IsAskedOf options host device → OnOk result (HasDoneThere options settings password host device) → OnOk result HasDone
+done_there options settings password host device (Ok value) asked is = (options, settings, password, inr (host, device, asked, is))
+done_there options settings password host device (Err ending) asked is = is
