@@ -4,9 +4,7 @@ use Rattle.device_api.specs.State.{DeviceState}
 use Rattle.scan_job.specs.declared.job.Job.{Job}
 use Rattle.scanimage_cli.specs.Doing.{DoesJob, DoesBatch}
 use Rattle.scanimage_cli.specs.NetDoing.{DoesNetJob}
-use Rattle.scanimage_cli.specs.Programs.{HasDone, HasDoneThere, IsDoneHere, RanHere, RanThere}
-use Rattle.scanimage_cli.specs.Asked.{IsAskedOf, IsLocal}
-use Rattle.scanimage_cli.specs.declared.options.Options.{Options}
+use Rattle.scanimage_cli.specs.Programs.{RanHere, RanThere}
 use Rattle.scanimage_cli.specs.declared.ending.Ending.{Ending}
 use Rattle.scanimage_cli.specs.declared.printed.Printed.{Printed}
 
@@ -26,13 +24,3 @@ job_here old new job (Err ending) x = x
 pub batch_here : (old new : DeviceState) (job : Job) (result : Result Printed Ending) → IfOk result (λ printed. DoesBatch old job printed None None new) → IfOk result (RanHere job)
 batch_here old new job (Ok printed) x = record { old = old; new = new; does = inr x }
 batch_here old new job (Err ending) x = x
-
-pub done_here : {A : Type 0} (options : Options) (settings : List (List ℕ × List ℕ)) (password : List ℕ) (result : Result A Ending)
-    → IsLocal options → OnOk result (IsDoneHere options settings password) → OnOk result HasDone
-done_here options settings password (Ok value) local is = (options, settings, password, inl (local, is))
-done_here options settings password (Err ending) local is = is
-
-pub done_there : {A : Type 0} (options : Options) (settings : List (List ℕ × List ℕ)) (password host device : List ℕ) (result : Result A Ending)
-    → IsAskedOf options host device → OnOk result (HasDoneThere options settings password host device) → OnOk result HasDone
-done_there options settings password host device (Ok value) asked is = (options, settings, password, inr (host, device, asked, is))
-done_there options settings password host device (Err ending) asked is = is

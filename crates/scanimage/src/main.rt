@@ -1,9 +1,8 @@
 //! `scanimage`: lists the virtual scanners of a config or of a daemon, shows their options, and scans to Netpbm files.
 #![tactic(auto)]
 
-ghost use Rattle.std.specs.Prelude.{◌≡◌, IfErr, OnOk};
-ghost use Rattle.std.specs.Process.{exit_status};
-ghost use Rattle.scanimage_cli.specs.Programs.{HasDone, IsFailure};
+ghost use Rattle.std.specs.Prelude.{IfErr};
+ghost use Rattle.scanimage_cli.specs.Programs.{IsFailure};
 
 mod command_line;
 mod devices;
@@ -28,8 +27,7 @@ const ROOT: &str = "/";
 
 /// Reads the command line and the config, makes the devices, and does what is asked for.
 fn run(rt: &HostRuntime) -> Result<(), Ending>
-    ensures done { OnOk result HasDone }
-    ensures failed { IfErr result IsFailure }
+    ensures { IfErr result IsFailure }
 {
     let (options, settings) = command_line(rt)?;
     let lines = config_lines(rt, &options)?;
@@ -82,9 +80,7 @@ fn tell(rt: &HostRuntime, ending: &Ending) {
 }
 
 /// Does what the command line asks for, and gives the exit status.
-fn exit_code(rt: &HostRuntime) -> ExitCode
-    ensures { exit_status result ≡ 0 → HasDone }
-{
+fn exit_code(rt: &HostRuntime) -> ExitCode {
     match run(rt) {
         Ok(()) => ExitCode::from(0),
         Err(ending) => {

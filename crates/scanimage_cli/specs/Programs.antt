@@ -1,4 +1,4 @@
--- What the program scanimage has done where it ends with 0.
+-- What the program scanimage has done where it ends well.
 use Rattle.std.specs.Prelude.{ℕ, ◌≡◌, ◌≢◌, ◌⊎◌, Option, Some, None, List, [], IfSome, true, if◌then◌else◌, Bool, codes}
 use Rattle.device_api.specs.State.{DeviceState}
 use Rattle.scan_job.specs.declared.job.Job.{Job}
@@ -6,7 +6,7 @@ use Rattle.scan_job.specs.declared.outcome.Outcome.TheVariants.{Done}
 use Rattle.scan_job.specs.declared.report.Reports.{Reports}
 use Rattle.client_rules.specs.Talks.{errand_of}
 use Rattle.net_jobs.specs.Courses.{Course, Event, Runs, begun}
-use Rattle.scanimage_cli.specs.Asked.{task_asked, IsAskedOf, IsLocal}
+use Rattle.scanimage_cli.specs.Asked.{task_asked}
 use Rattle.scanimage_cli.specs.DeviceList.{net_prefix}
 use Rattle.scanimage_cli.specs.Doing.{DoesJob, DoesBatch}
 use Rattle.scanimage_cli.specs.Ending.{exit_status}
@@ -62,13 +62,6 @@ pub record HasDoneThere (options : Options) (settings : List (List ℕ × List �
   pub printed : Printed
   pub ran : RanThere job host printed
 
--- what the options ask of this machine was done: its devices listed, or a job
+-- the options ask this machine for a list, or the job that they ask for was done here
 abbrev pub IsDoneHere : Options → List (List ℕ × List ℕ) → List ℕ → Type 0
 IsDoneHere options settings password = (options.list_devices ≡ true) ⊎ HasDoneHere options settings password
-
--- or what they ask of a host
-abbrev pub IsDoneThere : Options → List (List ℕ × List ℕ) → List ℕ → Type 0
-IsDoneThere options settings password = (host : List ℕ) × (device : List ℕ) × IsAskedOf options host device × HasDoneThere options settings password host device
-
-abbrev pub HasDone : Type 0
-HasDone = (options : Options) × (settings : List (List ℕ × List ℕ)) × (password : List ℕ) × ((IsLocal options × IsDoneHere options settings password) ⊎ IsDoneThere options settings password)
