@@ -1,4 +1,5 @@
-"""Requests in every order of length three, also such orders as no client sends, each with the reply that the desk's rules tell."""
+"""Requests in every order of length three, also such orders as no client sends, each with the reply that the
+request context's rules tell."""
 import itertools
 import tempfile
 
@@ -31,7 +32,7 @@ def size(reply):
     return 16 if reply is PORT else 57 if reply is CHALLENGE else len(reply)
 
 
-class Desk:
+class RequestContext:
     """One session, one flatbed, by the rules: a reply, or none where the session ends."""
 
     def __init__(self, has_users):
@@ -134,11 +135,11 @@ REQUESTS = {
 }
 
 
-def differs(client, desk, order):
+def differs(client, context, order):
     """What the replies to these requests, sent at once, differ in; and whether the session goes on."""
     client.sendall(b"".join(REQUESTS[it] for it in order))
     for name in order:
-        answer = desk.answer(name)
+        answer = context.answer(name)
         if answer is None:
             return None, False
         reply, goes_on = (answer[0], False) if isinstance(answer, tuple) else (answer, True)
@@ -151,20 +152,20 @@ def differs(client, desk, order):
 
 
 def try_order(port, prefix, order):
-    desk = Desk(prefix == "a challenge")
+    context = RequestContext(prefix == "a challenge")
     with connected(port) as client:
         if prefix == "a device":
             client.sendall(wire.INIT + wire.opening("flatbed:0") + wire.PIXEL)
             if read(client, 20 + len(wire.PIXEL_REPLIES)) != wire.INIT_REPLY + wire.OPEN_REPLY + wire.PIXEL_REPLIES:
                 return "another reply to the settings"
-            desk.has_begun = desk.has_device = desk.is_set = True
-            desk.resolution = 26
+            context.has_begun = context.has_device = context.is_set = True
+            context.resolution = 26
         if prefix == "a challenge":
             client.sendall(wire.INIT + wire.opening("flatbed:0"))
             if not answers(read(client, 65)[8:], CHALLENGE):
                 return "no challenge"
-            desk.has_begun = desk.awaits = True
-        told, goes_on = differs(client, desk, order)
+            context.has_begun = context.awaits = True
+        told, goes_on = differs(client, context, order)
         if told:
             return told
         if goes_on:

@@ -1,4 +1,4 @@
-"""The wire's words, as the formats spell them, and the desk's replies, as its rules have them."""
+"""The wire's words, as the formats spell them, and the daemon's replies, as its rules have them."""
 import struct
 
 VERSION = 0x01000003

@@ -99,7 +99,7 @@ fn job<'x>(alloc: Global, mode: &'x [u8], side: &'x [u8]) -> Option<Job> {
 }
 
 /// What the client asks goes to the daemon, and what that replies to the client.
-fn talk(
+fn exchange(
     alloc: Global,
     daemon: &mut Daemon<Flatbed>,
     id: SessionId,
@@ -181,7 +181,7 @@ fn scan(
         if !client.has_out() {
             break;
         }
-        talk(alloc, daemon, id, &mut client, room);
+        exchange(alloc, daemon, id, &mut client, room);
         connect(daemon, id, &mut client);
         total = total.saturating_add(stream(daemon, id, &mut client, piece, room));
     }

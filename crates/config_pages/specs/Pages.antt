@@ -2,11 +2,11 @@
 use Rattle.std.specs.Prelude.{ℕ, ◌≡◌, ◌⊎◌, if◌then◌else◌, nat_eq, true, Option, Some, None, Ok, IsErr, List, drop, codes}
 use Rattle.std.specs.List.{starts_with}
 use Rattle.hex.specs.Hex.{decode_of}
-use Rattle.page_picture.specs.PageFile.{TellsPage, HasFault}
+use Rattle.page_picture.specs.PageFile.{TellsPage, HasPageFault}
 use Rattle.page_picture.specs.Source.{SourceState}
 use Rattle.page_picture.specs.declared.page_file.PageFault.{PageFault}
 use Rattle.page_picture.specs.declared.page_file.PageFault.TheVariants.{BadMagic, NoMem}
-use Rattle.config_pages.specs.declared.no_page.SourceFault.{SourceFault}
+use Rattle.config_pages.specs.declared.no_page.PageSourceFault.{PageSourceFault}
 use Rattle.config_pages.specs.Texts.{source_fault}
 
 -- the digits of a page that stands in its line; none where a path stands there
@@ -18,14 +18,14 @@ pub record GivesSpelled (digits : List ℕ) (dpi : ℕ) (source : SourceState) :
   pub file : List ℕ
   pub spelled : decode_of digits ≡ Ok file
   pub told : TellsPage file dpi source.page
-  pub begun : source ≡ record { page = source.page; given = 0; steady = true; firm = true; failures = 0 }
+  pub begun : source ≡ record { page = source.page; given = 0; steady = true; infallible = true; failures = 0 }
 
 -- the digits spell no file, which counts as a bad magic, or one that has the fault
 abbrev pub HasSpelledFault : PageFault → List ℕ → ℕ → Type 0
 HasSpelledFault fault digits dpi =
     ((fault ≡ NoMem) ⊎ ((fault ≡ BadMagic) × IsErr (decode_of digits)))
-    ⊎ ((file : List ℕ) × (decode_of digits ≡ Ok file) × HasFault fault file dpi)
+    ⊎ ((file : List ℕ) × (decode_of digits ≡ Ok file) × HasPageFault fault file dpi)
 
 -- why a page that stands in its line is not there; it is always read
-abbrev pub IsSpelledFault : SourceFault → List ℕ → ℕ → Type 0
+abbrev pub IsSpelledFault : PageSourceFault → List ℕ → ℕ → Type 0
 IsSpelledFault why digits dpi = (fault : PageFault) × (why ≡ source_fault fault) × HasSpelledFault fault digits dpi

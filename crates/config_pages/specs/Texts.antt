@@ -4,11 +4,11 @@ use Rattle.page_picture.specs.declared.page_file.PageFault.{PageFault}
 use Rattle.page_picture.specs.declared.page_file.PageFault.TheVariants as faults
 use Rattle.config_pages.specs.declared.no_page.NoPage.{NoPage}
 use Rattle.config_pages.specs.declared.no_page.NoPage.TheVariants.{CannotRead, BadMagic, BadHeader, SampleTooLarge, Short, Trailing}
-use Rattle.config_pages.specs.declared.no_page.SourceFault.{SourceFault}
-use Rattle.config_pages.specs.declared.no_page.SourceFault.TheVariants as sources
+use Rattle.config_pages.specs.declared.no_page.PageSourceFault.{PageSourceFault}
+use Rattle.config_pages.specs.declared.no_page.PageSourceFault.TheVariants as sources
 
 -- why the page of a file with that fault has no source
-abbrev pub source_fault : PageFault → SourceFault
+abbrev pub source_fault : PageFault → PageSourceFault
 source_fault faults.BadMagic = sources.NoPage BadMagic
 source_fault faults.BadHeader = sources.NoPage BadHeader
 source_fault faults.SampleTooLarge = sources.NoPage SampleTooLarge

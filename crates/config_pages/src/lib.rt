@@ -5,5 +5,5 @@ mod no_page;
 mod opening;
 mod spelled;
 
-pub use no_page::{NoPage, SourceFault};
+pub use no_page::{NoPage, PageSourceFault};
 pub use opening::page_source;

@@ -39,7 +39,7 @@ impl NoPage {
 
 /// Why a page has no source.
 #[derive(Clone, Copy, Debug, PartialEq, Eq, Error)]
-pub enum SourceFault {
+pub enum PageSourceFault {
     #[error("{0}")]
     NoPage(NoPage),
     /// The dots per inch are not 1 to 1,200, which those of a config are.
@@ -50,16 +50,16 @@ pub enum SourceFault {
 }
 
 /// Why the page of a file with that fault has no source.
-pub fn source_fault(fault: PageFault) -> SourceFault
+pub fn source_fault(fault: PageFault) -> PageSourceFault
     ensures { result ≡ source_fault fault }
 {
     match fault {
-        PageFault::BadMagic => SourceFault::NoPage(NoPage::BadMagic),
-        PageFault::BadHeader => SourceFault::NoPage(NoPage::BadHeader),
-        PageFault::SampleTooLarge => SourceFault::NoPage(NoPage::SampleTooLarge),
-        PageFault::Short => SourceFault::NoPage(NoPage::Short),
-        PageFault::Trailing => SourceFault::NoPage(NoPage::Trailing),
-        PageFault::BadDpi => SourceFault::BadDpi,
-        PageFault::NoMem => SourceFault::NoMem,
+        PageFault::BadMagic => PageSourceFault::NoPage(NoPage::BadMagic),
+        PageFault::BadHeader => PageSourceFault::NoPage(NoPage::BadHeader),
+        PageFault::SampleTooLarge => PageSourceFault::NoPage(NoPage::SampleTooLarge),
+        PageFault::Short => PageSourceFault::NoPage(NoPage::Short),
+        PageFault::Trailing => PageSourceFault::NoPage(NoPage::Trailing),
+        PageFault::BadDpi => PageSourceFault::BadDpi,
+        PageFault::NoMem => PageSourceFault::NoMem,
     }
 }

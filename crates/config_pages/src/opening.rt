@@ -1,17 +1,17 @@
 ghost use Rattle.std.specs.Prelude.{◌≡◌, Some, IfOk, IfErr, IfSome, OnErr, List, ℕ};
-ghost use Rattle.page_picture.specs.Shown.{shown};
+ghost use Rattle.page_picture.specs.SourceView.{source_state};
 ghost use Rattle.config_pages.specs.Pages.{hex_digits, GivesSpelled, IsSpelledFault};
 
-use crate::no_page::{NoPage, SourceFault, source_fault};
+use crate::no_page::{NoPage, PageSourceFault, source_fault};
 use crate::spelled::{hex_digits, hex_page};
 use page_picture::{OpenFault, PnmPage, Source};
 use std::fs::File;
 
 /// The page in the file of that path, relative to the current folder.
-fn file_page(rt: &HostRuntime, path: &[u8], dpi: u32) -> Result<PnmPage<File>, SourceFault>
+fn file_page(rt: &HostRuntime, path: &[u8], dpi: u32) -> Result<PnmPage<File>, PageSourceFault>
     ensures dots { IfOk result (λ page. page.shown.page.dpi ≡ dpi) }
 {
-    let cannot_read = SourceFault::NoPage(NoPage::CannotRead);
+    let cannot_read = PageSourceFault::NoPage(NoPage::CannotRead);
     let path = std::str::from_utf8(path).map_err(|_| cannot_read)?;
     let file = File::open(rt, path).map_err(|_| cannot_read)?;
     match PnmPage::open(rt.alloc(), file, dpi) {
@@ -24,10 +24,10 @@ fn file_page(rt: &HostRuntime, path: &[u8], dpi: u32) -> Result<PnmPage<File>, S
 /// The page that a config's line names, at so many dots per inch: `hex:` and the bytes of its file in
 /// hexadecimal, of which odd or other digits are no page file, or the path of its file, which is then
 /// read row by row.
-pub fn page_source(rt: &HostRuntime, page: &[u8], dpi: u32) -> Result<Source, SourceFault>
-    ensures found { IfOk result (λ source. (digits : List ℕ) → hex_digits page.now ≡ Some digits → GivesSpelled digits dpi (shown source)) }
+pub fn page_source(rt: &HostRuntime, page: &[u8], dpi: u32) -> Result<Source, PageSourceFault>
+    ensures found { IfOk result (λ source. (digits : List ℕ) → hex_digits page.now ≡ Some digits → GivesSpelled digits dpi (source_state source)) }
     ensures fault { IfErr result (λ why. (digits : List ℕ) → hex_digits page.now ≡ Some digits → IsSpelledFault why digits dpi) }
-    ensures dots { IfOk result (λ source. (shown source).page.dpi ≡ dpi) }
+    ensures dots { IfOk result (λ source. (source_state source).page.dpi ≡ dpi) }
 {
     match hex_digits(page) {
         Some(digits) => match hex_page(rt.alloc(), digits, dpi) {

@@ -9,7 +9,7 @@ use Rattle.std.proofs.lemmas.Bool.Decides.{Decides-eqb, same_from_decides}
 use Rattle.std.proofs.lemmas.List.{take_more, take_all, drop_more, append-nil, length-take, take-append-drop}
 use Rattle.std.proofs.lemmas.Option.{slice_get_read}
 use Rattle.std.proofs.lemmas.Slice.Eq.{bytes_eq-Decides, starts_is}
-use Rattle.constraint.specs.Nearest.{BeginsWith, BeginsAt, IsFirstEqual, IsOnlyBeginning, NearestEntry, TellsDifference}
+use Rattle.constraint.specs.Nearest.{BeginsWith, BeginsAt, IsFirstEqual, IsOnlyBeginning, NearestEntry, FlagsDifference}
 use Rattle.constraint.specs.declared.string_list.Beginning.{Beginning}
 use Rattle.constraint.specs.declared.string_list.Beginning.TheVariants.{Nowhere, At, Several}
 use Rattle.constraint.specs.Beginning.{beginning_of, with_place}
@@ -395,14 +395,14 @@ pub none_equal_all : (entries : List (List ℕ)) (text : List ℕ) (i : ℕ) (be
 none_equal_all entries text i beginning all s =
     none_equal entries text (position_from-none (equals text) 0 entries (subst (λ l. position_from (equals text) 0 l ≡ None) (take_all i entries all) s.none_equal))
 
-other_at : (o : Option (List ℕ)) (text : List ℕ) → o ≢ Some text → IfSome o (TellsDifference true text)
+other_at : (o : Option (List ℕ)) (text : List ℕ) → o ≢ Some text → IfSome o (FlagsDifference true text)
 other_at None text h = tt
 other_at (Some entry) text h = λ e. h (ap Some e)
 
-pub same_flag : (entries : List (List ℕ)) (text : List ℕ) (i : ℕ) → slice_get entries i ≡ Some text → IfSome (slice_get entries i) (TellsDifference false text)
-same_flag entries text i at = subst (λ o. IfSome o (TellsDifference false text)) (sym at) refl
+pub same_flag : (entries : List (List ℕ)) (text : List ℕ) (i : ℕ) → slice_get entries i ≡ Some text → IfSome (slice_get entries i) (FlagsDifference false text)
+same_flag entries text i at = subst (λ o. IfSome o (FlagsDifference false text)) (sym at) refl
 
-pub other_flag : (entries : List (List ℕ)) (text : List ℕ) (i : ℕ) → ((k : ℕ) → slice_get entries k ≢ Some text) → IfSome (slice_get entries i) (TellsDifference true text)
+pub other_flag : (entries : List (List ℕ)) (text : List ℕ) (i : ℕ) → ((k : ℕ) → slice_get entries k ≢ Some text) → IfSome (slice_get entries i) (FlagsDifference true text)
 other_flag entries text i none = other_at (slice_get entries i) text (none i)
 
 -- what a pass answers

@@ -4,7 +4,7 @@ use Rattle.std.specs.Prelude.{unsigned_abs}
 use Rattle.std.proofs.lemmas.Int.{ints, by_lt_z}
 use Rattle.std.proofs.lemmas.Bool.{cases_order, cases_lt}
 use Rattle.std.proofs.lemmas.Nat.{le-div}
-use Rattle.sane_fixed.specs.Decimal.{rounded}
+use Rattle.sane_fixed.specs.Decimal.{rounded_quotient}
 use Rattle.constraint.specs.Admitted.{Bounds, IsRange, IsStep, AdmittedByRange}
 use Rattle.constraint.specs.Nearest.{distance, NearestInRange}
 use Rattle.constraint.specs.NearestComputed.{height, step_of, steps_to, nearest_in_range}
@@ -42,7 +42,7 @@ record Rounds (d q r : ℕ) : Type 0 where
   pub low : 2 * (r * q) ≤ 2 * d + q
   pub high : 2 * d < 2 * (r * q) + q
 
-rounds : (d q : ℕ) → 1 ≤ q → Rounds d q (rounded d q)
+rounds : (d q : ℕ) → 1 ≤ q → Rounds d q (rounded_quotient d q)
 rounds d q some =
     let twice : 0 < 2 * q = omega arith in
     let parts : (2 * d + q) / (2 * q) * (2 * q) + (2 * d + q) % (2 * q) ≡ 2 * d + q = div-add-mod' (2 * d + q) (2 * q) in
@@ -74,8 +74,8 @@ near_step_at d q r top k s some within round is = elim (cases_order k s) [
   ]
 ]
 
-near_step : (d q top k : ℕ) → 1 ≤ q → k ≤ top → NearStep d q (min (rounded d q) top) k
-near_step d q top k some within = near_step_at d q (rounded d q) top k (min (rounded d q) top) some within (rounds d q some) refl
+near_step : (d q top k : ℕ) → 1 ≤ q → k ≤ top → NearStep d q (min (rounded_quotient d q) top) k
+near_step d q top k some within = near_step_at d q (rounded_quotient d q) top k (min (rounded_quotient d q) top) some within (rounds d q some) refl
 
 -- ---- an admitted word is min and so many steps
 

@@ -52,5 +52,5 @@ abbrev pub NearestEntry : List (List ℕ) → List ℕ → ℕ → Type 0
 NearestEntry entries text place = IsFirstEqual entries text place ⊎ IsOnlyBeginning entries text place
 
 -- the flag says exactly whether the value given differs from the one asked for
-abbrev pub TellsDifference : {A : Type 0} → Bool → A → A → Type 0
-TellsDifference differs asked given = MatchBool differs (given ≢ asked) (given ≡ asked)
+abbrev pub FlagsDifference : {A : Type 0} → Bool → A → A → Type 0
+FlagsDifference differs asked given = MatchBool differs (given ≢ asked) (given ≡ asked)

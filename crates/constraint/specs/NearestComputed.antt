@@ -3,7 +3,7 @@ use Rattle.std.specs.Prelude.{ℕ, ◌+◌, ◌*◌, ◌/◌, min, max, ℤ, pos
 use Rattle.std.specs.List.{starts_with, position_from}
 use Rattle.std.specs.Char.{to_ascii_lowercase}
 use Rattle.std.specs.Str.{bytes_eq}
-use Rattle.sane_fixed.specs.Decimal.{rounded}
+use Rattle.sane_fixed.specs.Decimal.{rounded_quotient}
 use Rattle.constraint.specs.Admitted.{Bounds}
 use Rattle.constraint.specs.Nearest.{distance}
 
@@ -18,7 +18,7 @@ step_of range = max (unsigned_abs range.quant) 1
 
 -- so many steps up from min: those to the word asked for, rounded, halves up, and no more than there are up to max
 abbrev pub steps_to : Bounds → ℤ → ℕ
-steps_to range asked = min (rounded (height (asked -ℤ range.min)) (step_of range)) (height (range.max -ℤ range.min) / step_of range)
+steps_to range asked = min (rounded_quotient (height (asked -ℤ range.min)) (step_of range)) (height (range.max -ℤ range.min) / step_of range)
 
 unfoldable pub nearest_in_range : Bounds → ℤ → ℤ
 nearest_in_range range asked = range.min +ℤ pos (steps_to range asked * step_of range)

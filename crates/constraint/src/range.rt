@@ -35,7 +35,7 @@ impl Range {
     ghost use Rattle.std.specs.Prelude.{◌≡◌, ◌≤◌, ◌<◌, ◌^◌, ◌*◌, ◌+ℤ◌, ◌↔◌, ◌<ℤ◌, ◌⊎◌, pos, map, FitsSigned, IfSome, IsNone};
     ghost use Rattle.std.specs.Int.{w32};
     ghost use Rattle.constraint.specs.Admitted.{IsRange};
-    ghost use Rattle.constraint.specs.Nearest.{NearestInRange, PlaceByPlace, TellsDifference};
+    ghost use Rattle.constraint.specs.Nearest.{NearestInRange, PlaceByPlace, FlagsDifference};
     ghost use Rattle.constraint.specs.NearestComputed.{step_of, steps_to, nearest_in_range};
 
     /// The range of these words; `None` where `min` is above `max` or `quant` is negative.
@@ -77,7 +77,7 @@ impl Range {
     /// The admitted word nearest to `word`, of two the greater, and whether it differs from `word`.
     pub fn nearest_word(&self, word: i32) -> (i32, bool)
         ensures nearest { NearestInRange self.now word result.0 }
-        ensures differs { TellsDifference result.1 word result.0 }
+        ensures differs { FlagsDifference result.1 word result.0 }
         // The same as a computation, for definitions that go on from it.
         ensures value { result.0 ≡ nearest_in_range self.now word }
     {
@@ -108,7 +108,7 @@ impl Range {
     /// Puts the nearest admitted word in each place, and says whether any differs.
     pub fn nearest_words(&self, words: &mut [i32]) -> bool
         ensures nearest { PlaceByPlace (NearestInRange self.now) words.old words.new }
-        ensures differs { TellsDifference result words.old words.new }
+        ensures differs { FlagsDifference result words.old words.new }
         // The same as a computation, for definitions that go on from it.
         ensures value { words.new ≡ map (nearest_in_range self.now) words.old }
     {

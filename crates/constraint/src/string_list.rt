@@ -1,5 +1,5 @@
 ghost use Rattle.std.specs.Prelude.{◌≡◌, slice_get, option_map, IfSome, IfOk};
-ghost use Rattle.constraint.specs.Nearest.{TellsDifference};
+ghost use Rattle.constraint.specs.Nearest.{FlagsDifference};
 ghost use Rattle.constraint.specs.NearestComputed.{begins_with, nearest_entry};
 
 use sane_fixed::{NoMem, Text};
@@ -71,7 +71,7 @@ impl Beginning {
 fn match_entry(entries: &[Text], text: &[u8]) -> Option<(usize, bool)>
     ensures value { option_map (λ found. found.0) result ≡ nearest_entry entries.now text.now }
     ensures differs { IfSome result
-        (λ found. IfSome (slice_get entries.now found.0) (TellsDifference found.1 text.now)) }
+        (λ found. IfSome (slice_get entries.now found.0) (FlagsDifference found.1 text.now)) }
 {
     let mut beginning = Beginning::Nowhere;
     for (i, entry) in entries.iter().enumerate() {
@@ -115,7 +115,7 @@ impl StringList {
         self.entries.as_slice()
     }
 
-    /// An equal list. The only error is want of memory.
+    /// An equal list. The only error is out of memory.
     pub fn try_clone(&self, alloc: Global) -> Result<StringList, NoMem>
         ensures { IfOk result (λ list. list ≡ self.now) }
     {
@@ -129,7 +129,7 @@ impl StringList {
     pub fn match_string(&self, text: &[u8]) -> Option<(usize, bool)>
         ensures nearest { IfSome result (λ found. NearestEntry self.now text.now found.0) }
         ensures differs { IfSome result
-            (λ found. IfSome (slice_get self.now found.0) (TellsDifference found.1 text.now)) }
+            (λ found. IfSome (slice_get self.now found.0) (FlagsDifference found.1 text.now)) }
         ensures none { IfNone result ((place : ℕ) → NearestEntry self.now text.now place → ⊥) }
         // The same as a computation, for definitions that go on from it.
         ensures value { option_map (λ found. found.0) result ≡ nearest_entry self.now text.now }

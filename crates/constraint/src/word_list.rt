@@ -71,7 +71,7 @@ fn nearest_of(entries: &[i32], word: i32) -> i32
 impl WordList {
     ghost use Rattle.std.specs.Prelude.{◌≡◌, ◌↔◌, ◌<◌, ◌⊎◌, map, length, vec_len, IfSome, IfOk, IsNone};
     ghost use Rattle.constraint.specs.Admitted.{HasRoom};
-    ghost use Rattle.constraint.specs.Nearest.{NearestInList, PlaceByPlace, TellsDifference};
+    ghost use Rattle.constraint.specs.Nearest.{NearestInList, PlaceByPlace, FlagsDifference};
     ghost use Rattle.constraint.specs.NearestComputed.{nearest_in_list};
 
     /// The list of these words; `None` where there is none, or more than 1,023.
@@ -94,7 +94,7 @@ impl WordList {
         self.words.as_slice()
     }
 
-    /// An equal list. The only error is want of memory.
+    /// An equal list. The only error is out of memory.
     pub fn try_clone(&self, alloc: Global) -> Result<WordList, NoMem>
         ensures { IfOk result (λ list. list ≡ self.now) }
     {
@@ -105,7 +105,7 @@ impl WordList {
     /// The entry nearest to `word`, of two the first listed, and whether it differs from `word`.
     pub fn nearest_word(&self, word: i32) -> (i32, bool)
         ensures nearest { NearestInList self.now word result.0 }
-        ensures differs { TellsDifference result.1 word result.0 }
+        ensures differs { FlagsDifference result.1 word result.0 }
         // The same as a computation, for definitions that go on from it.
         ensures value { result.0 ≡ nearest_in_list self.now word }
     {
@@ -116,7 +116,7 @@ impl WordList {
     /// Puts the nearest entry in each place, and says whether any differs.
     pub fn nearest_words(&self, words: &mut [i32]) -> bool
         ensures nearest { PlaceByPlace (NearestInList self.now) words.old words.new }
-        ensures differs { TellsDifference result words.old words.new }
+        ensures differs { FlagsDifference result words.old words.new }
         // The same as a computation, for definitions that go on from it.
         ensures value { words.new ≡ map (nearest_in_list self.now) words.old }
     {

@@ -158,7 +158,7 @@ fn one_byte_through_the_daemon(rt: HostRuntime) {
 }
 
 #[test]
-fn words_that_stand_for_nothing(rt: HostRuntime) {
+fn words_without_a_lease(rt: HostRuntime) {
     let alloc = rt.alloc();
     let mut daemon = daemon(&rt, alloc, b"");
     let id = session(&rt, alloc, &mut daemon);

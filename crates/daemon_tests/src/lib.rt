@@ -1,7 +1,7 @@
-//! Tests of the daemon's desk and of its core.
+//! Tests of the daemon's request context and of its core.
 #![tactic(auto)]
 
 #[cfg(test)]
 mod daemon;
 #[cfg(test)]
-mod desk;
+mod test_context;

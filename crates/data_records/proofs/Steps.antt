@@ -6,9 +6,9 @@ use Rattle.std.specs.Int.{w32, to_be_bytes, from_be_bytes}
 use Rattle.std.proofs.lemmas.Bool.{cases_eq, eq-eqb, ne_eqb}
 use Rattle.std.proofs.lemmas.List.{nil_from_length, length-append, length-take, length-drop, take-append-drop, take-append-le, drop-append-le, take_at, drop_at}
 use Rattle.std.proofs.lemmas.Nat.{be_bytes_4, from_be_bytes-to_be_bytes_4}
-use Rattle.data_records.specs.declared.records.Phase.{Phase}
-use Rattle.data_records.specs.declared.records.Phase.TheVariants as phases
-use Rattle.data_records.specs.Records.{ending, all_counted, joined, IsRecords, IsInBody, Continues, Carries, head_phase, rest_of_body}
+use Rattle.data_records.specs.declared.records.RecordPhase.{RecordPhase}
+use Rattle.data_records.specs.declared.records.RecordPhase.TheVariants as phases
+use Rattle.data_records.specs.Records.{end_record, all_counted, joined_bodies, IsRecords, IsInBody, RecordsContinue, CarriesRecords, head_phase, rest_of_body}
 
 -- a record in front of others
 one_more : (body rest other : List ℕ) (status : ℕ) → length body < 4294967295 → IsRecords rest other status → IsRecords (to_be_bytes w32 (length body) ++ (body ++ rest)) (body ++ other) status
@@ -27,20 +27,20 @@ data Behind (n : ℕ) (text payload : List ℕ) (status : ℕ) : Type 0 where
 same_head : (a b c d e f g h : ℕ) (s t : List ℕ) → a ∷ b ∷ c ∷ d ∷ s ≡ e ∷ f ∷ g ∷ h ∷ t → (a ∷ b ∷ c ∷ d ∷ [] ≡ e ∷ f ∷ g ∷ h ∷ []) × (s ≡ t)
 same_head a b c d e f g h s t e1 = (ap (take 4) e1, ap (drop 4) e1)
 
-behind_bodies : (a b c d : ℕ) (text payload : List ℕ) (status : ℕ) (bodies : List (List ℕ)) → AllByRecursion (λ body. length body < 4294967295) bodies → a ∷ b ∷ c ∷ d ∷ text ≡ all_counted bodies ++ ending status → payload ≡ joined bodies
+behind_bodies : (a b c d : ℕ) (text payload : List ℕ) (status : ℕ) (bodies : List (List ℕ)) → AllByRecursion (λ body. length body < 4294967295) bodies → a ∷ b ∷ c ∷ d ∷ text ≡ all_counted bodies ++ end_record status → payload ≡ joined_bodies bodies
     → Behind (from_be_bytes w32 (a ∷ b ∷ c ∷ d ∷ [])) text payload status
 behind_bodies a b c d text payload status [] short text_is payload_is =
     let e = same_head a b c d 255 255 255 255 text (status ∷ []) text_is in
     AtEnd (ap (from_be_bytes w32) e.0) e.1 payload_is
 behind_bodies a b c d text payload status (x ∷ xs) short text_is payload_is =
-    let shown : a ∷ b ∷ c ∷ d ∷ text ≡ to_be_bytes w32 (length x) ++ (x ++ (all_counted xs ++ ending status)) = text_is ∙ simp append_assoc in
+    let shown : a ∷ b ∷ c ∷ d ∷ text ≡ to_be_bytes w32 (length x) ++ (x ++ (all_counted xs ++ end_record status)) = text_is ∙ simp append_assoc in
     let head : a ∷ b ∷ c ∷ d ∷ [] ≡ to_be_bytes w32 (length x) = ap (take 4) shown in
-    let tail : text ≡ x ++ (all_counted xs ++ ending status) = ap (drop 4) shown in
+    let tail : text ≡ x ++ (all_counted xs ++ end_record status) = ap (drop 4) shown in
     let n : from_be_bytes w32 (a ∷ b ∷ c ∷ d ∷ []) ≡ length x = ap (from_be_bytes w32) head ∙ from_be_bytes-to_be_bytes_4 (length x) (omega (arith, short.0)) in
     AtBody (omega (arith, n, short.0)) (record {
       body = x;
-      other = joined xs;
-      rest = all_counted xs ++ ending status;
+      other = joined_bodies xs;
+      rest = all_counted xs ++ end_record status;
       long = sym n;
       text_is = tail;
       payload_is = payload_is;
@@ -72,15 +72,15 @@ empty_body text payload status i =
 no_body : (text payload : List ℕ) (status : ℕ) → IsRecords text payload status → IsInBody 0 text payload status
 no_body text payload status r = record { body = []; other = payload; rest = text; long = refl; text_is = refl; payload_is = refl; behind = r }
 
-body_place : (left : ℕ) (text payload : List ℕ) (status : ℕ) → IsInBody left text payload status → Continues (rest_of_body left) text payload status
+body_place : (left : ℕ) (text payload : List ℕ) (status : ℕ) → IsInBody left text payload status → RecordsContinue (rest_of_body left) text payload status
 body_place zero text payload status i = empty_body text payload status i
 body_place (suc left) text payload status i = i
 
-place_body : (left : ℕ) (text payload : List ℕ) (status : ℕ) → Continues (rest_of_body left) text payload status → IsInBody left text payload status
+place_body : (left : ℕ) (text payload : List ℕ) (status : ℕ) → RecordsContinue (rest_of_body left) text payload status → IsInBody left text payload status
 place_body zero text payload status r = no_body text payload status r
 place_body (suc left) text payload status i = i
 
-head_place : (n : ℕ) (text payload : List ℕ) (status : ℕ) → Behind n text payload status → Continues (head_phase n) text payload status
+head_place : (n : ℕ) (text payload : List ℕ) (status : ℕ) → Behind n text payload status → RecordsContinue (head_phase n) text payload status
 head_place zero text payload status (AtEnd e t p) = absurd (omega arith)
 head_place zero text payload status (AtBody lt i) = empty_body text payload status i
 head_place (suc n) text payload status (AtEnd e t p) =
@@ -90,7 +90,7 @@ head_place (suc n) text payload status (AtBody lt i) =
     let is : eqb (suc n) 4294967295 ≡ false = ne_eqb _ _ (omega arith) in
     rw is i
 
-place_head : (n : ℕ) (text payload : List ℕ) (status : ℕ) → n < 2 ^ 32 → Continues (head_phase n) text payload status → Behind n text payload status
+place_head : (n : ℕ) (text payload : List ℕ) (status : ℕ) → n < 2 ^ 32 → RecordsContinue (head_phase n) text payload status → Behind n text payload status
 place_head zero text payload status fits r = AtBody (omega arith) (no_body text payload status r)
 place_head (suc n) text payload status fits r =
     elim (cases_eq (suc n) 4294967295) [
@@ -110,13 +110,13 @@ four a b c d fa fb fc fd (suc (suc zero)) = fc
 four a b c d fa fb fc fd (suc (suc (suc zero))) = fd
 four a b c d fa fb fc fd (suc (suc (suc (suc i)))) = omega arith
 
-pub head_carries : (a b c d : ℕ) → ((i : ℕ) → get_or (a ∷ b ∷ c ∷ d ∷ []) i 0 < 256) → Carries (phases.Head3 a b c) (head_phase (from_be_bytes w32 (a ∷ b ∷ c ∷ d ∷ []))) (d ∷ []) []
+pub head_carries : (a b c d : ℕ) → ((i : ℕ) → get_or (a ∷ b ∷ c ∷ d ∷ []) i 0 < 256) → CarriesRecords (phases.Head3 a b c) (head_phase (from_be_bytes w32 (a ∷ b ∷ c ∷ d ∷ []))) (d ∷ []) []
 head_carries a b c d fits text payload status = (
   λ r. (payload, refl, head_place _ text payload status (behind_head a b c d text payload status r)),
   λ m. subst (λ (p : List ℕ). IsRecords (a ∷ b ∷ c ∷ d ∷ text) p status) (sym m.1) (from_behind a b c d text m.0 status fits (place_head _ text m.0 status (omega (arith, fits 0, fits 1, fits 2, fits 3)) m.2)),
 )
 
-pub body_carries : (left : ℕ) (used : List ℕ) → length used ≤ left → Carries (phases.Body left) (rest_of_body (left - length used)) used used
+pub body_carries : (left : ℕ) (used : List ℕ) → length used ≤ left → CarriesRecords (phases.Body left) (rest_of_body (left - length used)) used used
 body_carries left used le text payload status = (
   λ i.
       let k = length used in
@@ -146,16 +146,16 @@ first_of : (piece : List ℕ) (d : ℕ) → take 1 piece ≡ d ∷ [] → get_or
 first_of [] d e = absurd cc
 first_of (x ∷ piece) d e = ap (λ (t : List ℕ). get_or t 0 0) e
 
-pub head_step : (old new : Phase) (a b c d n : ℕ) (piece : List ℕ) → old ≡ phases.Head3 a b c → new ≡ head_phase n → n ≡ from_be_bytes w32 (a ∷ b ∷ c ∷ d ∷ []) → take 1 piece ≡ d ∷ []
-    → a < 256 → b < 256 → c < 256 → ((i : ℕ) → get_or piece i 0 < 256) → Carries old new (take 1 piece) []
+pub head_step : (old new : RecordPhase) (a b c d n : ℕ) (piece : List ℕ) → old ≡ phases.Head3 a b c → new ≡ head_phase n → n ≡ from_be_bytes w32 (a ∷ b ∷ c ∷ d ∷ []) → take 1 piece ≡ d ∷ []
+    → a < 256 → b < 256 → c < 256 → ((i : ℕ) → get_or piece i 0 < 256) → CarriesRecords old new (take 1 piece) []
 head_step old new a b c d n piece is to number front fa fb fc fits =
     let fd : d < 256 = subst (λ (x : ℕ). x < 256) (first_of piece d front) (fits 0) in
     rw (is, to, number, front) (head_carries a b c d (four a b c d fa fb fc fd))
 
-pub body_step : (old new : Phase) (left k : ℕ) (piece : List ℕ) → old ≡ phases.Body left → new ≡ rest_of_body (left - k) → k ≡ min left (length piece)
-    → Carries old new (take k piece) (slice_range piece 0 k)
+pub body_step : (old new : RecordPhase) (left k : ℕ) (piece : List ℕ) → old ≡ phases.Body left → new ≡ rest_of_body (left - k) → k ≡ min left (length piece)
+    → CarriesRecords old new (take k piece) (slice_range piece 0 k)
 body_step old new left k piece is to count =
     let long : length (take k piece) ≡ k = omega (arith, length-take k piece) in
     let c = body_carries left (take k piece) (omega arith) in
     let same : slice_range piece 0 k ≡ take k piece = grind arith in
-    rw (is, to, same) (subst (λ (m : ℕ). Carries (phases.Body left) (rest_of_body (left - m)) (take k piece) (take k piece)) long c)
+    rw (is, to, same) (subst (λ (m : ℕ). CarriesRecords (phases.Body left) (rest_of_body (left - m)) (take k piece) (take k piece)) long c)

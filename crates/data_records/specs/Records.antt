@@ -2,33 +2,33 @@
 use Rattle.std.specs.Prelude.{◌≡◌, ℕ, zero, suc, ◌<◌, ◌≤◌, ◌↔◌, ◌==◌, List, [], ◌∷◌, ◌++◌, length, take, slice_range, if◌then◌else◌}
 use Rattle.std.specs.List.{AllByRecursion}
 use Rattle.std.specs.Int.{w32, to_be_bytes}
-use Rattle.data_records.specs.declared.records.Phase.{Phase}
-use Rattle.data_records.specs.declared.records.Phase.TheVariants as phases
+use Rattle.data_records.specs.declared.records.RecordPhase.{RecordPhase}
+use Rattle.data_records.specs.declared.records.RecordPhase.TheVariants as phases
 use Rattle.data_records.specs.declared.records.Step.{Step}
 use Rattle.data_records.specs.declared.records.Step.TheVariants as steps
 
 -- a counted record
-abbrev pub counted : List ℕ → List ℕ
-counted body = to_be_bytes w32 (length body) ++ body
+abbrev pub counted_record : List ℕ → List ℕ
+counted_record body = to_be_bytes w32 (length body) ++ body
 
 abbrev pub all_counted : List (List ℕ) → List ℕ
 all_counted [] = []
-all_counted (body ∷ bodies) = counted body ++ all_counted bodies
+all_counted (body ∷ bodies) = counted_record body ++ all_counted bodies
 
-abbrev pub joined : List (List ℕ) → List ℕ
-joined [] = []
-joined (body ∷ bodies) = body ++ joined bodies
+abbrev pub joined_bodies : List (List ℕ) → List ℕ
+joined_bodies [] = []
+joined_bodies (body ∷ bodies) = body ++ joined_bodies bodies
 
 -- what ends the records
-abbrev pub ending : ℕ → List ℕ
-ending status = 255 ∷ 255 ∷ 255 ∷ 255 ∷ status ∷ []
+abbrev pub end_record : ℕ → List ℕ
+end_record status = 255 ∷ 255 ∷ 255 ∷ 255 ∷ status ∷ []
 
 -- records, whose bodies joined are the payload, and then FFFFFFFF and the status
 pub record IsRecords (text payload : List ℕ) (status : ℕ) : Type 0 where
   pub bodies : List (List ℕ)
   pub short : AllByRecursion (λ body. length body < 4294967295) bodies
-  pub text_is : text ≡ all_counted bodies ++ ending status
-  pub payload_is : payload ≡ joined bodies
+  pub text_is : text ≡ all_counted bodies ++ end_record status
+  pub payload_is : payload ≡ joined_bodies bodies
 
 -- inside a body of which so many bytes are left
 pub record IsInBody (left : ℕ) (text payload : List ℕ) (status : ℕ) : Type 0 where
@@ -41,16 +41,16 @@ pub record IsInBody (left : ℕ) (text payload : List ℕ) (status : ℕ) : Type
   pub behind : IsRecords rest other status
 
 -- the text is what a reader that stands there has still to come, with that payload and status
-abbrev pub Continues : Phase → List ℕ → List ℕ → ℕ → Type 0
-Continues phases.Head text payload status = IsRecords text payload status
-Continues (phases.Head1 a) text payload status = IsRecords (a ∷ text) payload status
-Continues (phases.Head2 a b) text payload status = IsRecords (a ∷ b ∷ text) payload status
-Continues (phases.Head3 a b c) text payload status = IsRecords (a ∷ b ∷ c ∷ text) payload status
-Continues (phases.Body left) text payload status = IsInBody left text payload status
-Continues phases.Status text payload status = (text ≡ status ∷ []) × (payload ≡ [])
-Continues (phases.Ended found) text payload status = (text ≡ []) × (payload ≡ []) × (status ≡ found)
+abbrev pub RecordsContinue : RecordPhase → List ℕ → List ℕ → ℕ → Type 0
+RecordsContinue phases.Head text payload status = IsRecords text payload status
+RecordsContinue (phases.Head1 a) text payload status = IsRecords (a ∷ text) payload status
+RecordsContinue (phases.Head2 a b) text payload status = IsRecords (a ∷ b ∷ text) payload status
+RecordsContinue (phases.Head3 a b c) text payload status = IsRecords (a ∷ b ∷ c ∷ text) payload status
+RecordsContinue (phases.Body left) text payload status = IsInBody left text payload status
+RecordsContinue phases.Status text payload status = (text ≡ status ∷ []) × (payload ≡ [])
+RecordsContinue (phases.Ended found) text payload status = (text ≡ []) × (payload ≡ []) × (status ≡ found)
 
-abbrev pub HasEnded : Phase → Type 0
+abbrev pub HasEnded : RecordPhase → Type 0
 HasEnded (phases.Ended found) = Unit {0}
 HasEnded phases.Head = ⊥
 HasEnded (phases.Head1 a) = ⊥
@@ -59,26 +59,26 @@ HasEnded (phases.Head3 a b c) = ⊥
 HasEnded (phases.Body left) = ⊥
 HasEnded phases.Status = ⊥
 
-abbrev pub head_phase : ℕ → Phase
+abbrev pub head_phase : ℕ → RecordPhase
 head_phase zero = phases.Head
 head_phase (suc n) = if suc n == 4294967295 then phases.Status else phases.Body (suc n)
 
-abbrev pub rest_of_body : ℕ → Phase
+abbrev pub rest_of_body : ℕ → RecordPhase
 rest_of_body zero = phases.Head
 rest_of_body (suc left) = phases.Body (suc left)
 
 -- what was used is the text up to where the reader stands now, and what was given is the payload up to there
-abbrev pub Carries : Phase → Phase → List ℕ → List ℕ → Type 0
-Carries old new used given = (text payload : List ℕ) (status : ℕ) →
-    Continues old (used ++ text) payload status ↔ ((more : List ℕ) × (payload ≡ given ++ more) × Continues new text more status)
+abbrev pub CarriesRecords : RecordPhase → RecordPhase → List ℕ → List ℕ → Type 0
+CarriesRecords old new used given = (text payload : List ℕ) (status : ℕ) →
+    RecordsContinue old (used ++ text) payload status ↔ ((more : List ℕ) × (payload ≡ given ++ more) × RecordsContinue new text more status)
 
-abbrev pub GoesOn : Phase → Phase → List ℕ → ℕ → Step → Type 0
-GoesOn old new piece used steps.More = Carries old new (take used piece) []
-GoesOn old new piece used (steps.Bytes from to) = (from ≤ to) × (to ≤ used) × Carries old new (take used piece) (slice_range piece from to)
-GoesOn old new piece used (steps.End status) = (new ≡ phases.Ended status) × Carries old new (take used piece) []
+abbrev pub ReaderSteps : RecordPhase → RecordPhase → List ℕ → ℕ → Step → Type 0
+ReaderSteps old new piece used steps.More = CarriesRecords old new (take used piece) []
+ReaderSteps old new piece used (steps.Bytes from to) = (from ≤ to) × (to ≤ used) × CarriesRecords old new (take used piece) (slice_range piece from to)
+ReaderSteps old new piece used (steps.End status) = (new ≡ phases.Ended status) × CarriesRecords old new (take used piece) []
 
 -- a reader that stands behind the status tells it
-abbrev pub TellsEnd : Phase → Step → Type 0
+abbrev pub TellsEnd : RecordPhase → Step → Type 0
 TellsEnd (phases.Ended status) step = step ≡ steps.End status
 TellsEnd phases.Head step = Unit {0}
 TellsEnd (phases.Head1 a) step = Unit {0}
@@ -88,14 +88,14 @@ TellsEnd (phases.Body left) step = Unit {0}
 TellsEnd phases.Status step = Unit {0}
 
 -- in a body some of it is left
-abbrev pub IsPlace : Phase → Type 0
-IsPlace (phases.Body left) = 0 < left
-IsPlace phases.Head = Unit {0}
-IsPlace (phases.Head1 a) = a < 256
-IsPlace (phases.Head2 a b) = (a < 256) × (b < 256)
-IsPlace (phases.Head3 a b c) = (a < 256) × (b < 256) × (c < 256)
-IsPlace phases.Status = Unit {0}
-IsPlace (phases.Ended found) = Unit {0}
+abbrev pub IsRecordPhase : RecordPhase → Type 0
+IsRecordPhase (phases.Body left) = 0 < left
+IsRecordPhase phases.Head = Unit {0}
+IsRecordPhase (phases.Head1 a) = a < 256
+IsRecordPhase (phases.Head2 a b) = (a < 256) × (b < 256)
+IsRecordPhase (phases.Head3 a b c) = (a < 256) × (b < 256) × (c < 256)
+IsRecordPhase phases.Status = Unit {0}
+IsRecordPhase (phases.Ended found) = Unit {0}
 
 -- ---- over any pieces
 
@@ -105,9 +105,9 @@ pub record Piece : Type 0 where
   pub given : List ℕ
 
 -- steps, one from where the one before it stopped
-abbrev pub AreSteps : Phase → List Piece → Phase → Type 0
+abbrev pub AreSteps : RecordPhase → List Piece → RecordPhase → Type 0
 AreSteps old [] new = old ≡ new
-AreSteps old (piece ∷ pieces) new = (between : Phase) × Carries old between piece.used piece.given × AreSteps between pieces new
+AreSteps old (piece ∷ pieces) new = (between : RecordPhase) × CarriesRecords old between piece.used piece.given × AreSteps between pieces new
 
 abbrev pub all_used : List Piece → List ℕ
 all_used [] = []

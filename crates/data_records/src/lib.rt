@@ -4,5 +4,5 @@
 mod records;
 
 pub use records::{
-    Phase, RecordReader, Step, record_end, record_head, records_are_read_in_any_pieces,
+    RecordPhase, RecordReader, Step, record_end, record_head, records_are_read_in_any_pieces,
 };

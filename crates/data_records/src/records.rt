@@ -4,9 +4,9 @@
 ghost use Rattle.std.specs.Prelude.{◌≡◌, ◌<◌, ◌≤◌, ◌++◌, ◌↔◌, ℕ, List, [], length, ◌⊎◌};
 ghost use Rattle.std.specs.Int.{w32, to_be_bytes};
 ghost use Rattle.sane_fixed.specs.Status.{status_code};
-ghost use Rattle.data_records.specs.declared.records.Phase.{Phase as AnyPhase};
-ghost use Rattle.data_records.specs.declared.records.Phase.TheVariants.{Head, Ended};
-ghost use Rattle.data_records.specs.Records.{Continues, IsRecords, GoesOn, TellsEnd, HasEnded, Piece, AreSteps, all_used, all_given, ending, head_phase, rest_of_body};
+ghost use Rattle.data_records.specs.declared.records.RecordPhase.{RecordPhase as AnyPhase};
+ghost use Rattle.data_records.specs.declared.records.RecordPhase.TheVariants.{Head, Ended};
+ghost use Rattle.data_records.specs.Records.{RecordsContinue, IsRecords, ReaderSteps, TellsEnd, HasEnded, Piece, AreSteps, all_used, all_given, end_record, head_phase, rest_of_body};
 
 use sane_fixed::Status;
 use std::marker::Model;
@@ -21,14 +21,14 @@ pub fn record_head(len: u32) -> [u8; 4]
 
 /// The end of the records, and how the data ended.
 pub fn record_end(status: Status) -> [u8; 5]
-    ensures { result ≡ ending (status_code status) }
+    ensures { result ≡ end_record (status_code status) }
 {
     [255, 255, 255, 255, status.code() as u8]
 }
 
 /// Where a reader stands in the records.
 #[derive(Clone, Copy, Debug, PartialEq, Eq)]
-pub enum Phase {
+pub enum RecordPhase {
     /// Before a record's head.
     Head,
     /// Behind so many bytes of a head.
@@ -57,50 +57,52 @@ pub enum Step {
 /// A reader of records. It stores no payload. Contracts see where it stands.
 #[derive(Drop)]
 pub struct RecordReader {
-    phase: Phase,
+    phase: RecordPhase,
 }
 
 impl Model for RecordReader {
-    ghost use Rattle.data_records.specs.declared.records.Phase.{Phase};
-    ghost use Rattle.data_records.specs.Records.{IsPlace};
+    ghost use Rattle.data_records.specs.declared.records.RecordPhase.{RecordPhase};
+    ghost use Rattle.data_records.specs.Records.{IsRecordPhase};
 
-    ghost Value = { Phase };
+    ghost Value = { RecordPhase };
 
     ghost view = { λ r. r.phase };
 
-    ghost invariant = { λ r. IsPlace r.phase };
+    ghost invariant = { λ r. IsRecordPhase r.phase };
 }
 
 // Behind the four bytes of a length.
-fn behind_head(length: u32) -> Phase
+fn behind_head(length: u32) -> RecordPhase
     ensures { result ≡ head_phase length }
 {
     if length == 0 {
-        Phase::Head
+        RecordPhase::Head
     } else if length == u32::MAX {
-        Phase::Status
+        RecordPhase::Status
     } else {
-        Phase::Body(length)
+        RecordPhase::Body(length)
     }
 }
 
-fn behind_body(left: u32) -> Phase
+fn behind_body(left: u32) -> RecordPhase
     ensures { result ≡ rest_of_body left }
 {
     if left == 0 {
-        Phase::Head
+        RecordPhase::Head
     } else {
-        Phase::Body(left)
+        RecordPhase::Body(left)
     }
 }
 
 impl RecordReader {
     /// A reader before the first record.
     pub fn new() -> Self
-        ensures begins { (text payload : List ℕ) (status : ℕ) → Continues result text payload status ↔ IsRecords text payload status }
+        ensures begins { (text payload : List ℕ) (status : ℕ) → RecordsContinue result text payload status ↔ IsRecords text payload status }
         ensures head { result ≡ Head }
     {
-        RecordReader { phase: Phase::Head }
+        RecordReader {
+            phase: RecordPhase::Head,
+        }
     }
 
     /// Goes on in the bytes of a piece, and says how many of them it used: at least one of a piece that is
@@ -108,7 +110,7 @@ impl RecordReader {
     pub fn step(&mut self, piece: &[u8]) -> (usize, Step)
         ensures within { result.0 ≤ length piece.now }
         ensures uses { 0 < length piece.now → HasEnded self.old ⊎ (0 < result.0) }
-        ensures goes_on { GoesOn self.old self.new piece.now result.0 result.1 }
+        ensures goes_on { ReaderSteps self.old self.new piece.now result.0 result.1 }
         ensures tells { 0 < length piece.now → TellsEnd self.new result.1 }
         ensures ended { HasEnded self.old → (result.0 ≡ 0) × (self.new ≡ self.old) }
     {
@@ -116,32 +118,32 @@ impl RecordReader {
             return (0, Step::More);
         };
         match self.phase {
-            Phase::Head => {
-                self.phase = Phase::Head1(first);
+            RecordPhase::Head => {
+                self.phase = RecordPhase::Head1(first);
                 (1, Step::More)
             }
-            Phase::Head1(a) => {
-                self.phase = Phase::Head2(a, first);
+            RecordPhase::Head1(a) => {
+                self.phase = RecordPhase::Head2(a, first);
                 (1, Step::More)
             }
-            Phase::Head2(a, b) => {
-                self.phase = Phase::Head3(a, b, first);
+            RecordPhase::Head2(a, b) => {
+                self.phase = RecordPhase::Head3(a, b, first);
                 (1, Step::More)
             }
-            Phase::Head3(a, b, c) => {
+            RecordPhase::Head3(a, b, c) => {
                 self.phase = behind_head(u32::from_be_bytes([a, b, c, first]));
                 (1, Step::More)
             }
-            Phase::Body(left) => {
+            RecordPhase::Body(left) => {
                 let count = (left as usize).min(piece.len());
                 self.phase = behind_body(left - count as u32);
                 (count, Step::Bytes(0, count))
             }
-            Phase::Status => {
-                self.phase = Phase::Ended(first);
+            RecordPhase::Status => {
+                self.phase = RecordPhase::Ended(first);
                 (1, Step::End(first))
             }
-            Phase::Ended(status) => (0, Step::End(status)),
+            RecordPhase::Ended(status) => (0, Step::End(status)),
         }
     }
 }

@@ -20,8 +20,8 @@ use Rattle.scan_frames.specs.declared.setup.Setup.{Setup}
 use Rattle.device_api.specs.declared.scan_option.ScanOption.{ScanOption}
 use Rattle.device_api.specs.declared.scan_option.ScanOption.TheVariants.{Depth, Resolution, TlX, TlY, BrX, BrY, GammaTable, RedGammaTable, GreenGammaTable, BlueGammaTable, PplLoss, ReadLimitSize}
 use Rattle.device_api.specs.Options.{depths_of, resolutions_of, option_constraint, descriptor_of}
-use Rattle.device_api.specs.Allowed.{IsBetween, IsOnBed, greatest_resolution}
-use Rattle.device_api.specs.Admitted.{IsByte, IsAdmittedNumber, IsAdmittedTable, IsAdmitted}
+use Rattle.device_api.specs.ScannerLimits.{IsBetween, IsOnBed, greatest_resolution}
+use Rattle.device_api.specs.AdmittedOptions.{IsByte, IsAdmittedNumber, IsAdmittedTable, IsAdmitted}
 
 pub in_range : (low high quant room : ℕ) (asked : ℤ) → low + room ≤ high → height (pos high -ℤ pos low) ≡ room → IsBetween low high (nearest_in_range (record { min = pos low; max = pos high; quant = pos quant }) asked)
 unfolding nearest_in_range

@@ -22,8 +22,8 @@ use Rattle.device_api.specs.declared.scan_option.ScanOption.{ScanOption}
 use Rattle.device_api.specs.declared.scan_option.ScanOption.TheVariants.{Mode, Depth, Resolution, TlX, TlY, BrX, BrY, GammaTable, RedGammaTable, GreenGammaTable, BlueGammaTable, ThreePassOrder, PplLoss, ReadLimitSize, ReadReturnValue}
 use Rattle.device_api.specs.Options.{choices_of, choice_text}
 use Rattle.device_api.specs.Values.{identity, default_resolution, defaults, with_number, with_length, with_channels, with_table, channel_table, with_choice, choice_of, with_chosen, with_value}
-use Rattle.device_api.specs.Allowed.{IsOnBed, IsAllowed, greatest_resolution}
-use Rattle.device_api.specs.Admitted.{IsByte, IsAdmittedNumber, IsAdmittedTable, IsAdmitted}
+use Rattle.device_api.specs.ScannerLimits.{IsOnBed, IsAllowed, greatest_resolution}
+use Rattle.device_api.specs.AdmittedOptions.{IsByte, IsAdmittedNumber, IsAdmittedTable, IsAdmitted}
 
 most : (k : DeviceKind) → greatest_resolution k ≤ 1200
 most Flatbed = omega arith
@@ -155,12 +155,12 @@ table_allowed s _ words a h = a
 abbrev IsPlain : Choice → Type 0
 IsPlain (choice.Mode _) = Unit {0}
 IsPlain (choice.Passes _) = Unit {0}
-IsPlain (choice.Told t) = t ≢ Some status.Good
+IsPlain (choice.ReadStatus t) = t ≢ Some status.Good
 
 choice_allowed : (s : Setup) (c : Choice) → IsAllowed s → IsPlain c → IsAllowed (with_choice s c)
 choice_allowed s (choice.Mode m) a p = record { limits = same_limits s (with_choice s (choice.Mode m)) refl refl refl refl a.limits; resolution = a.resolution; tl_x = a.tl_x; tl_y = a.tl_y; br_x = a.br_x; br_y = a.br_y; gamma = a.gamma; channel_gamma = a.channel_gamma; told = a.told }
 choice_allowed s (choice.Passes q) a p = record { limits = same_limits s (with_choice s (choice.Passes q)) refl refl refl refl a.limits; resolution = a.resolution; tl_x = a.tl_x; tl_y = a.tl_y; br_x = a.br_x; br_y = a.br_y; gamma = a.gamma; channel_gamma = a.channel_gamma; told = a.told }
-choice_allowed s (choice.Told t) a p = record { limits = same_limits s (with_choice s (choice.Told t)) refl refl refl refl a.limits; resolution = a.resolution; tl_x = a.tl_x; tl_y = a.tl_y; br_x = a.br_x; br_y = a.br_y; gamma = a.gamma; channel_gamma = a.channel_gamma; told = p }
+choice_allowed s (choice.ReadStatus t) a p = record { limits = same_limits s (with_choice s (choice.ReadStatus t)) refl refl refl refl a.limits; resolution = a.resolution; tl_x = a.tl_x; tl_y = a.tl_y; br_x = a.br_x; br_y = a.br_y; gamma = a.gamma; channel_gamma = a.channel_gamma; told = p }
 
 chosen_allowed : (s : Setup) (cs : List Choice) (text : List ℕ) → IsAllowed s → AllByRecursion IsPlain cs → IsAllowed (with_chosen s (choice_of cs text))
 chosen_allowed s [] text a all = a

@@ -21,9 +21,9 @@ use Rattle.device_api.specs.declared.choice.Choice.TheVariants as choice
 use Rattle.device_api.specs.declared.scan_option.ScanOption.{ScanOption}
 use Rattle.device_api.specs.declared.scan_option.ScanOption.TheVariants.{NumOptions, Mode, Depth, Resolution, TlX, TlY, BrX, BrY, GammaTable, RedGammaTable, GreenGammaTable, BlueGammaTable, ThreePassOrder, PplLoss, ReadLimitSize, ReadReturnValue, HandScanner}
 use Rattle.device_api.specs.Options.{choice_text, choices_of, option_constraint, option_caps, has_cap, is_active, option_at, descriptor_of}
-use Rattle.device_api.specs.Values.{option_value, with_value, with_choice, with_chosen, choice_of, passing, got, option_got, option_set, set_to, with_given, setup_after}
-use Rattle.device_api.specs.Allowed.{IsBetween, greatest_resolution}
-use Rattle.device_api.specs.Admitted.{IsByte, IsAdmittedNumber, IsAdmittedTable, IsAdmitted, takes, takes_flag, takes_number, takes_length, takes_words}
+use Rattle.device_api.specs.Values.{option_value, with_value, with_choice, with_chosen, choice_of, option_passing, get_result, option_got, option_set, set_to, with_given, setup_after}
+use Rattle.device_api.specs.ScannerLimits.{IsBetween, greatest_resolution}
+use Rattle.device_api.specs.AdmittedOptions.{IsByte, IsAdmittedNumber, IsAdmittedTable, IsAdmitted, takes, takes_flag, takes_number, takes_length, takes_words}
 use Rattle.device_api.proofs.SameLaws.{value_same}
 use Rattle.device_api.proofs.TableLaws.{answer_with, set_is}
 use Rattle.device_api.proofs.TakesLaws.{taken}
@@ -48,14 +48,14 @@ table_back (w ∷ ws) all =
 abbrev pub belongs : ScanOption → Choice → Type 0
 belongs Mode (choice.Mode _) = Unit {0}
 belongs ThreePassOrder (choice.Passes _) = Unit {0}
-belongs ReadReturnValue (choice.Told _) = Unit {0}
+belongs ReadReturnValue (choice.ReadStatus _) = Unit {0}
 belongs _ _ = ⊥
 
 choice_read : (s : Setup) (o : ScanOption) (c : Choice) → belongs o c → option_value (with_choice s c) o ≡ Text (choice_text c)
 unfolding option_value
 choice_read s Mode (choice.Mode m) b = refl
 choice_read s ThreePassOrder (choice.Passes p) b = refl
-choice_read s ReadReturnValue (choice.Told t) b = refl
+choice_read s ReadReturnValue (choice.ReadStatus t) b = refl
 choice_read s _ _ b = absurd b
 
 pub all_belong : (o : ScanOption) → AllByRecursion (belongs o) (choices_of o)
@@ -165,7 +165,7 @@ order_active s (choice.Passes q ∷ cs) t all = pick (bytes_eq (choice_text (cho
     pick true e = refl
     pick false e = e
 order_active s (choice.Mode m ∷ cs) t all = absurd all.0
-order_active s (choice.Told st ∷ cs) t all = absurd all.0
+order_active s (choice.ReadStatus st ∷ cs) t all = absurd all.0
 
 still_active : (s : Setup) (o : ScanOption) (v : Value) → is_active (with_value s o v) o ≡ is_active s o
 unfolding with_value
@@ -217,8 +217,8 @@ get_after s n o asked given at may put =
     let there : option_at t.scene.kind n ≡ Some o = ap (λ k. option_at k n) (value_same s o given).kind ∙ at in
     let active : is_active t o ≡ true = still_active s o given ∙ first_true (is_active s o) (has_cap (option_caps o) 1) may in
     let readable : (is_active t o && has_cap (option_caps o) 4) ≡ true = ap (λ b. b && has_cap (option_caps o) 4) active ∙ all_readable o in
-    ap (λ x. got t (passing (λ o. is_active t o && has_cap (option_caps o) 4) x)) there
-    ∙ ap (λ b. got t (cond b (Some o) None)) readable
+    ap (λ x. get_result t (option_passing (λ o. is_active t o && has_cap (option_caps o) 4) x)) there
+    ∙ ap (λ b. get_result t (cond b (Some o) None)) readable
     ∙ ap (λ v. Ok v) (value_read s o asked given (second_true (is_active s o) (has_cap (option_caps o) 1) may) put)
 
 abbrev value_in : Value → Result (Value × Info) Status → Value
@@ -232,7 +232,7 @@ given_in s n o asked given info true (Some g) at may put e =
     let same : g ≡ given = ap (value_in given) e in
     get_after s n o asked given at may (put ∙ ap (λ v. Some v) same)
 
-set_in : (s : Setup) (n : ℕ) (asked given : Value) (info : Info) (oo : Option ScanOption) → option_at s.scene.kind n ≡ oo → set_to s (passing (λ o. is_active s o && has_cap (option_caps o) 1) oo) asked ≡ Ok (given, info) → option_got (with_given s (passing (λ o. is_active s o && has_cap (option_caps o) 1) oo) given) n ≡ Ok given
+set_in : (s : Setup) (n : ℕ) (asked given : Value) (info : Info) (oo : Option ScanOption) → option_at s.scene.kind n ≡ oo → set_to s (option_passing (λ o. is_active s o && has_cap (option_caps o) 1) oo) asked ≡ Ok (given, info) → option_got (with_given s (option_passing (λ o. is_active s o && has_cap (option_caps o) 1) oo) given) n ≡ Ok given
 set_in s n asked given info None at e = absurd (let err : Err Inval ≡ Ok (given, info) = e in (cc))
 set_in s n asked given info (Some o) at e =
     given_in s n o asked given info (is_active s o && has_cap (option_caps o) 1) (resolve (descriptor_of s o) asked) at refl refl

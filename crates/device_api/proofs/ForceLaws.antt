@@ -6,18 +6,18 @@ use Rattle.sane_fixed.specs.DecimalReading.{◌>>=◌}
 use Rattle.option_desc.specs.declared.descriptor.Descriptor.{Descriptor}
 use Rattle.option_desc.specs.declared.value.Value.{Value}
 use Rattle.option_desc.specs.Put.{resolve}
-use Rattle.option_desc.specs.Reads.{read}
+use Rattle.option_desc.specs.Reads.{read_value}
 use Rattle.scan_frames.specs.declared.setup.Setup.{Setup}
 use Rattle.device_api.specs.declared.scan_option.ScanOption.{ScanOption}
 use Rattle.device_api.specs.Options.{options_of, option_at, option_caps, has_cap, is_active, descriptor_of, descriptors_of}
-use Rattle.device_api.specs.Values.{with_given, passing, setup_after}
-use Rattle.device_api.specs.InForce.{number_named, may_be_set, given_for, Placed, placed, force}
-use Rattle.device_api.specs.Allowed.{IsAllowed}
+use Rattle.device_api.specs.Values.{with_given, option_passing, setup_after}
+use Rattle.device_api.specs.InForce.{number_named, may_be_set, given_for, Placement, placement, force}
+use Rattle.device_api.specs.ScannerLimits.{IsAllowed}
 use Rattle.device_api.proofs.AdmittedLaws.{admitted}
 use Rattle.device_api.proofs.AllowedLaws.{value_allowed}
 use Rattle.device_api.proofs.TableLaws.{finished}
 
-given_allowed : (s : Setup) (o : Option ScanOption) (desc : Descriptor) (asked given : Value) (b : Bool) → option_map (descriptor_of s) o ≡ Some desc → resolve desc asked ≡ Some given → IsAllowed s → IsAllowed (with_given s (passing (λ o. is_active s o && has_cap (option_caps o) 1) o) given)
+given_allowed : (s : Setup) (o : Option ScanOption) (desc : Descriptor) (asked given : Value) (b : Bool) → option_map (descriptor_of s) o ≡ Some desc → resolve desc asked ≡ Some given → IsAllowed s → IsAllowed (with_given s (option_passing (λ o. is_active s o && has_cap (option_caps o) 1) o) given)
 given_allowed s None desc asked given b d r a = a
 given_allowed s (Some o) desc asked given b d r a = pick (is_active s o && has_cap (option_caps o) 1)
   where
@@ -44,50 +44,50 @@ read_pair : (desc : Descriptor) (r : Option Value) (pair : Value × Value) → (
 read_pair desc None pair f = absurd (let none : None ≡ Some pair = f in (cc))
 read_pair desc (Some asked) pair f = near_pair desc asked (resolve desc asked) pair refl f
 
-given_pair : (desc : Descriptor) (text : List ℕ) (b : Bool) (pair : Value × Value) → cond b (read desc text >>= (λ asked. resolve desc asked >>= (λ given. Some (asked, given)))) None ≡ Some pair → resolve desc pair.0 ≡ Some pair.1
-given_pair desc text true pair f = read_pair desc (read desc text) pair f
+given_pair : (desc : Descriptor) (text : List ℕ) (b : Bool) (pair : Value × Value) → cond b (read_value desc text >>= (λ asked. resolve desc asked >>= (λ given. Some (asked, given)))) None ≡ Some pair → resolve desc pair.0 ≡ Some pair.1
+given_pair desc text true pair f = read_pair desc (read_value desc text) pair f
 given_pair desc text false pair f = absurd (let none : None ≡ Some pair = f in (cc))
 
-at_pair : (s : Setup) (n : ℕ) (desc : Descriptor) (text : List ℕ) (o : Option (Value × Value)) (p : Placed) → given_for desc text ≡ o → slice_get (descriptors_of s) n ≡ Some desc → (o >>= finished s n) ≡ Some p → IsAllowed s → IsAllowed p.setup
+at_pair : (s : Setup) (n : ℕ) (desc : Descriptor) (text : List ℕ) (o : Option (Value × Value)) (p : Placement) → given_for desc text ≡ o → slice_get (descriptors_of s) n ≡ Some desc → (o >>= finished s n) ≡ Some p → IsAllowed s → IsAllowed p.setup
 at_pair s n desc text None p g f e a = absurd (let none : None ≡ Some p = e in (cc))
 at_pair s n desc text (Some pair) p g f e a =
     let near : resolve desc pair.0 ≡ Some pair.1 = given_pair desc text (may_be_set desc) pair g in
     let same : Some (record { setup = setup_after s n pair.1; asked = pair.0; given = pair.1 }) ≡ Some p = e in
     subst (λ (x : Setup). IsAllowed x) (ap (setup_in s) same) (after_allowed s n desc pair.0 pair.1 f near a)
   where
-    setup_in : Setup → Option Placed → Setup
+    setup_in : Setup → Option Placement → Setup
     setup_in s None = s
     setup_in s (Some p) = p.setup
 
-at_desc : (s : Setup) (n : ℕ) (text : List ℕ) (o : Option Descriptor) (p : Placed) → slice_get (descriptors_of s) n ≡ o → (o >>= (λ desc. given_for desc text >>= finished s n)) ≡ Some p → IsAllowed s → IsAllowed p.setup
+at_desc : (s : Setup) (n : ℕ) (text : List ℕ) (o : Option Descriptor) (p : Placement) → slice_get (descriptors_of s) n ≡ o → (o >>= (λ desc. given_for desc text >>= finished s n)) ≡ Some p → IsAllowed s → IsAllowed p.setup
 at_desc s n text None p f e a = absurd (let none : None ≡ Some p = e in (cc))
 at_desc s n text (Some desc) p f e a = at_pair s n desc text (given_for desc text) p refl f e a
 
-at_number : (s : Setup) (text : List ℕ) (o : Option ℕ) (p : Placed) → (o >>= (λ n. slice_get (descriptors_of s) n >>= (λ desc. given_for desc text >>= finished s n))) ≡ Some p → IsAllowed s → IsAllowed p.setup
+at_number : (s : Setup) (text : List ℕ) (o : Option ℕ) (p : Placement) → (o >>= (λ n. slice_get (descriptors_of s) n >>= (λ desc. given_for desc text >>= finished s n))) ≡ Some p → IsAllowed s → IsAllowed p.setup
 at_number s text None p e a = absurd (let none : None ≡ Some p = e in (cc))
 at_number s text (Some n) p e a = at_desc s n text (slice_get (descriptors_of s) n) p refl e a
 
-placed_allowed : (s : Setup) (setting : List ℕ × List ℕ) (p : Placed) → placed s setting ≡ Some p → IsAllowed s → IsAllowed p.setup
-unfolding placed
+placed_allowed : (s : Setup) (setting : List ℕ × List ℕ) (p : Placement) → placement s setting ≡ Some p → IsAllowed s → IsAllowed p.setup
+unfolding placement
 placed_allowed s setting p e a = at_number s setting.1 (number_named setting.0 (descriptors_of s)) p e a
 
-rest_allowed : (first : Placed) (o : Option (Setup × List Placed)) (r : Setup × List Placed) → ((m : Setup × List Placed) → o ≡ Some m → IsAllowed m.0) → option_map (λ more. (more.0, first ∷ more.1)) o ≡ Some r → IsAllowed r.0
+rest_allowed : (first : Placement) (o : Option (Setup × List Placement)) (r : Setup × List Placement) → ((m : Setup × List Placement) → o ≡ Some m → IsAllowed m.0) → option_map (λ more. (more.0, first ∷ more.1)) o ≡ Some r → IsAllowed r.0
 rest_allowed first None r all e = absurd (let none : None ≡ Some r = e in (cc))
 rest_allowed first (Some m) r all e = subst (λ (x : Setup). IsAllowed x) (ap (setup_in m.0) e) (all m refl)
   where
-    setup_in : Setup → Option (Setup × List Placed) → Setup
+    setup_in : Setup → Option (Setup × List Placement) → Setup
     setup_in s None = s
     setup_in s (Some r) = r.0
 
-pub force_allowed : (settings : List (List ℕ × List ℕ)) (s : Setup) (r : Setup × List Placed) → force s settings ≡ Some r → IsAllowed s → IsAllowed r.0
+pub force_allowed : (settings : List (List ℕ × List ℕ)) (s : Setup) (r : Setup × List Placement) → force s settings ≡ Some r → IsAllowed s → IsAllowed r.0
 force_allowed [] s r e a = subst (λ (x : Setup). IsAllowed x) (ap (setup_in s) e) a
   where
-    setup_in : Setup → Option (Setup × List Placed) → Setup
+    setup_in : Setup → Option (Setup × List Placement) → Setup
     setup_in s None = s
     setup_in s (Some r) = r.0
 force_allowed (setting ∷ settings) s r e a =
-    first_allowed s setting (placed s setting) (λ p m f b. force_allowed settings p.setup m f b) refl r e a
+    first_allowed s setting (placement s setting) (λ p m f b. force_allowed settings p.setup m f b) refl r e a
   where
-    first_allowed : (s : Setup) (setting : List ℕ × List ℕ) (o : Option Placed) → ((p : Placed) (m : Setup × List Placed) → force p.setup settings ≡ Some m → IsAllowed p.setup → IsAllowed m.0) → placed s setting ≡ o → (r : Setup × List Placed) → option_and_then (λ first. option_map (λ more. (more.0, first ∷ more.1)) (force first.setup settings)) o ≡ Some r → IsAllowed s → IsAllowed r.0
+    first_allowed : (s : Setup) (setting : List ℕ × List ℕ) (o : Option Placement) → ((p : Placement) (m : Setup × List Placement) → force p.setup settings ≡ Some m → IsAllowed p.setup → IsAllowed m.0) → placement s setting ≡ o → (r : Setup × List Placement) → option_and_then (λ first. option_map (λ more. (more.0, first ∷ more.1)) (force first.setup settings)) o ≡ Some r → IsAllowed s → IsAllowed r.0
     first_allowed s setting None all at r e a = absurd (let none : None ≡ Some r = e in (cc))
     first_allowed s setting (Some p) all at r e a = rest_allowed p (force p.setup settings) r (λ m f. all p m f (placed_allowed s setting p at a)) e

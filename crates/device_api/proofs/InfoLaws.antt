@@ -5,7 +5,7 @@ use Rattle.std.proofs.lemmas.Bool.{false≢true}
 use Rattle.std.specs.Cmp.{signed_Decides}
 use Rattle.std.specs.Cmp.Rules.{signed_items}
 use Rattle.std.proofs.lemmas.Slice.Eq.{bytes_eq-Decides}
-use Rattle.constraint.specs.Nearest.{TellsDifference}
+use Rattle.constraint.specs.Nearest.{FlagsDifference}
 use Rattle.option_desc.specs.declared.value.Value.{Value}
 use Rattle.option_desc.specs.declared.value.Value.TheVariants.{Flag, Int, Fixed, Words, Text}
 use Rattle.sane_fixed.specs.declared.info.Info.{Info}
@@ -55,18 +55,18 @@ same_value-Decides (Text a) (Int b) = apart (λ p. (cc))
 same_value-Decides (Text a) (Fixed b) = apart (λ p. (cc))
 same_value-Decides (Text a) (Words b) = apart (λ p. (cc))
 
-same_case : (asked given : Value) (same differs : Bool) → Decides same (asked ≡ given) → TellsDifference differs asked given → differs ≡ not same
+same_case : (asked given : Value) (same differs : Bool) → Decides same (asked ≡ given) → FlagsDifference differs asked given → differs ≡ not same
 same_case asked given true true d t = absurd (t (sym (d.0 refl)))
 same_case asked given true false d t = refl
 same_case asked given false true d t = refl
 same_case asked given false false d t = absurd (false≢true (d.1 (sym t)))
 
 -- the flag of a put is INEXACT
-pub inexact_is : (asked given : Value) (differs : Bool) → TellsDifference differs asked given → differs ≡ not (same_value asked given)
+pub inexact_is : (asked given : Value) (differs : Bool) → FlagsDifference differs asked given → differs ≡ not (same_value asked given)
 inexact_is asked given differs t = same_case asked given (same_value asked given) differs (same_value-Decides asked given) t
 
 -- the answer of a set that put a value
-pub set_gives : (s new : Setup) (n : ℕ) (o : ScanOption) (asked given : Value) (differs reload params : Bool) (info : Info) → option_to_set s n ≡ Some o → resolve (descriptor_of s o) asked ≡ Some given → TellsDifference differs asked given → new ≡ with_value s o given → reload ≡ reloads s new → params ≡ bears_on_params o → info ≡ info_bits differs reload params → Ok (given, info) ≡ option_set s n asked
+pub set_gives : (s new : Setup) (n : ℕ) (o : ScanOption) (asked given : Value) (differs reload params : Bool) (info : Info) → option_to_set s n ≡ Some o → resolve (descriptor_of s o) asked ≡ Some given → FlagsDifference differs asked given → new ≡ with_value s o given → reload ≡ reloads s new → params ≡ bears_on_params o → info ≡ info_bits differs reload params → Ok (given, info) ≡ option_set s n asked
 unfolding option_set
 set_gives s new n o asked given differs reload params info found put differs_is new_is reload_is params_is info_is =
     let inexact : differs ≡ not (same_value asked given) = inexact_is asked given differs differs_is in

@@ -57,8 +57,8 @@ choice_other s Mode Mode (choice.Mode m) b apart = absurd (apart refl)
 choice_other s Mode _ (choice.Mode m) b apart = refl
 choice_other s ThreePassOrder ThreePassOrder (choice.Passes q) b apart = absurd (apart refl)
 choice_other s ThreePassOrder _ (choice.Passes q) b apart = refl
-choice_other s ReadReturnValue ReadReturnValue (choice.Told t) b apart = absurd (apart refl)
-choice_other s ReadReturnValue _ (choice.Told t) b apart = refl
+choice_other s ReadReturnValue ReadReturnValue (choice.ReadStatus t) b apart = absurd (apart refl)
+choice_other s ReadReturnValue _ (choice.ReadStatus t) b apart = refl
 choice_other s _ p _ b apart = absurd b
 
 chosen_other : (s : Setup) (o p : ScanOption) (cs : List Choice) (t : List ℕ) → AllByRecursion (belongs o) cs → o ≢ p → option_value (with_chosen s (choice_of cs t)) p ≡ option_value s p

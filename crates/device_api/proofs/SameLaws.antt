@@ -13,7 +13,7 @@ use Rattle.device_api.specs.declared.scan_option.ScanOption.{ScanOption}
 use Rattle.device_api.specs.declared.scan_option.ScanOption.TheVariants.{Depth, Resolution, TlX, TlY, BrX, BrY, GammaTable, RedGammaTable, GreenGammaTable, BlueGammaTable, PplLoss, ReadLimitSize}
 use Rattle.device_api.specs.Options.{choices_of}
 use Rattle.device_api.specs.Values.{defaults, with_number, with_length, with_table, choice_of, with_chosen, with_value, with_given, option_to_set, setup_after}
-use Rattle.device_api.specs.State.{DeviceState, Held, Phase, HasStopped, Starts, StartsIn, StartsOn, StartsFrame, Reads, ReadsIn, ReadsOn, FrameReads, told_at, after_cancel, cancelled_in, after_pass, after_reset, after_set, after_told, goes_to, stopped, stopped_in, with_failures}
+use Rattle.device_api.specs.State.{DeviceState, HeldPage, Phase, HasStopped, Starts, StartsIn, StartsOn, StartsFrame, Reads, ReadsIn, ReadsOn, FrameReads, read_status_at, after_cancel, cancelled_in, after_pass, after_reset, after_set, after_read_status, goes_to, after_stop, stopped_in, with_failures}
 use Rattle.device_api.specs.State.Phase.{AtRest, Between, Reading}
 use Rattle.device_api.specs.Same.{IsSameKind, IsSameDevice}
 
@@ -45,7 +45,7 @@ chosen_same : (s : Setup) (c : Option Choice) → IsSameKind s (with_chosen s c)
 chosen_same s None = same s
 chosen_same s (Some (choice.Mode m)) = record { kind = refl; order = refl }
 chosen_same s (Some (choice.Passes p)) = record { kind = refl; order = refl }
-chosen_same s (Some (choice.Told t)) = record { kind = refl; order = refl }
+chosen_same s (Some (choice.ReadStatus t)) = record { kind = refl; order = refl }
 
 pub value_same : (s : Setup) (o : ScanOption) (v : Value) → IsSameKind s (with_value s o v)
 unfolding with_value
@@ -64,7 +64,7 @@ unfolding setup_after
 set_same s n given = record { info = refl; setup = given_same s.setup (option_to_set s.setup n) given }
 
 -- the pages and the phase may change
-kept : (s : DeviceState) (pages : List Held) (phase : Phase) → IsSameDevice s (record s { pages = pages; phase = phase })
+kept : (s : DeviceState) (pages : List HeldPage) (phase : Phase) → IsSameDevice s (record s { pages = pages; phase = phase })
 kept s pages phase = record { info = refl; setup = record { kind = refl; order = refl } }
 
 cancelled_same : (p : Phase) (s : DeviceState) → IsSameDevice s (cancelled_in p s)
@@ -95,13 +95,13 @@ equal s t u e d = subst (λ (x : DeviceState). IsSameDevice s x) (sym e) d
 unchanged : (s t : DeviceState) → t ≡ s → IsSameDevice s t
 unchanged s t e = equal s t s e (kept s s.pages s.phase)
 
-stops_same : (s t : DeviceState) → t ≡ stopped s → IsSameDevice s t
-stops_same s t e = equal s t (stopped s) e (stopped_same s.phase s)
+stops_same : (s t : DeviceState) → t ≡ after_stop s → IsSameDevice s t
+stops_same s t e = equal s t (after_stop s) e (stopped_same s.phase s)
 
 failed_same : (s t : DeviceState) → HasStopped s t → IsSameDevice s t
 failed_same s t h =
     let d = stopped_same s.phase (with_failures s h.failures) in
-    equal s t (stopped (with_failures s h.failures)) h.after (record { info = d.info; setup = d.setup })
+    equal s t (after_stop (with_failures s h.failures)) h.after (record { info = d.info; setup = d.setup })
 
 frame_same : (s t : DeviceState) (r : Result Unit Status) → StartsFrame s r t → IsSameDevice s t
 frame_same s t (Ok _) h = equal s t _ h.1 (kept s _ _)
@@ -118,7 +118,7 @@ frame_same s t (Err NoDocs) h = absurd h
 frame_same s t (Err CoverOpen) h = absurd h
 frame_same s t (Err AccessDenied) h = absurd h
 
-on_pages : (pages : List Held) (s t : DeviceState) (r : Result Unit Status) → StartsOn pages s r t → IsSameDevice s t
+on_pages : (pages : List HeldPage) (s t : DeviceState) (r : Result Unit Status) → StartsOn pages s r t → IsSameDevice s t
 on_pages [] s t r h = stops_same s t h.1
 on_pages (_ ∷ _) s t r h = frame_same s t r h
 
@@ -147,12 +147,12 @@ on_same s t p g (Err AccessDenied) buf h = absurd h
 
 told_same : (o : Option Status) (s t : DeviceState) (p g : ℕ) (r : Result ℕ Status) (buf : List ℕ) → FrameReads o s p g r t buf → IsSameDevice s t
 told_same None s t p g r buf h = on_same s t p g r buf h
-told_same (Some st) s t p g r buf h = equal s t _ h.1 (goes_same s (after_told s.setup p st))
+told_same (Some st) s t p g r buf h = equal s t _ h.1 (goes_same s (after_read_status s.setup p st))
 
 read_in : (p : Phase) (s t : DeviceState) (r : Result ℕ Status) (buf : List ℕ) → ReadsIn p s r t buf → IsSameDevice s t
 read_in (AtRest _) s t r buf h = unchanged s t h.1
 read_in (Between _) s t r buf h = unchanged s t h.1
-read_in (Reading p g) s t r buf h = told_same (told_at s.setup.told g) s t p g r buf h
+read_in (Reading p g) s t r buf h = told_same (read_status_at s.setup.told g) s t p g r buf h
 
 pub read_same : (s t : DeviceState) (r : Result ℕ Status) (buf : List ℕ) → Reads s r t buf → IsSameDevice s t
 read_same s t r buf h = read_in s.phase s t r buf h

@@ -13,14 +13,14 @@ use Rattle.constraint.proofs.ListLaws.{head_is, rest_is}
 use Rattle.option_desc.specs.declared.descriptor.Descriptor.{Descriptor}
 use Rattle.option_desc.specs.declared.value.Value.{Value}
 use Rattle.option_desc.specs.Put.{resolve}
-use Rattle.option_desc.specs.Reads.{read}
+use Rattle.option_desc.specs.Reads.{read_value}
 use Rattle.page_picture.specs.declared.scene.DeviceKind.{DeviceKind}
 use Rattle.scan_frames.specs.declared.setup.Setup.{Setup}
 use Rattle.device_api.specs.declared.scan_option.ScanOption.{ScanOption}
 use Rattle.device_api.specs.declared.scan_option.ScanOption.TheVariants.{NumOptions, HandScanner}
 use Rattle.device_api.specs.Options.{options_of, option_at, option_name, option_title, option_kind, option_unit, option_size, option_caps, option_constraint, is_active, has_cap, caps_of, descriptor_of, descriptors_of}
-use Rattle.device_api.specs.Values.{differ, reloads, passing, option_set, set_to, put_answer, setup_after}
-use Rattle.device_api.specs.InForce.{number_named, may_be_set, given_for, Placed, placed, IsPlacedBy}
+use Rattle.device_api.specs.Values.{differ, reloads, option_passing, option_set, set_to, put_answer, setup_after}
+use Rattle.device_api.specs.InForce.{number_named, may_be_set, given_for, Placement, placement, IsPlacedBy}
 
 -- a descriptor, by whether it is active
 abbrev desc_as : DeviceKind → Bool → ScanOption → Descriptor
@@ -138,13 +138,13 @@ set_is s o asked true = refl
 set_is s o asked false = refl
 
 -- the same of a setting
-abbrev pub finished : Setup → ℕ → Value × Value → Option Placed
+abbrev pub finished : Setup → ℕ → Value × Value → Option Placement
 finished s n pair = Some (record { setup = setup_after s n pair.1; asked = pair.0; given = pair.1 })
 
 abbrev nearest_pair : Descriptor → Value → Option (Value × Value)
 nearest_pair desc asked = resolve desc asked >>= (λ given. Some (asked, given))
 
-abbrev placed_with : Setup → ℕ → Value → Bool → Option Value → Option Placed
+abbrev placed_with : Setup → ℕ → Value → Bool → Option Value → Option Placement
 placed_with s n asked b r = (cond b (r >>= (λ given. Some (asked, given))) None) >>= finished s n
 
 core : (s : Setup) (n : ℕ) (o : ScanOption) (asked : Value) (b : Bool) (r : Option Value) → IsPlacedBy s n asked (answer_with s o asked b r) (placed_with s n asked b r)
@@ -152,34 +152,34 @@ core s n o asked true (Some given) = refl
 core s n o asked true None = refl
 core s n o asked false r = refl
 
-abbrev placed_at : Setup → List ℕ → ℕ → Descriptor → Option Placed
+abbrev placed_at : Setup → List ℕ → ℕ → Descriptor → Option Placement
 placed_at s text n desc = given_for desc text >>= finished s n
 
-found : (s : Setup) (name text : List ℕ) (n : ℕ) (desc : Descriptor) → number_named name (descriptors_of s) ≡ Some n → slice_get (descriptors_of s) n ≡ Some desc → placed s (name, text) ≡ placed_at s text n desc
-unfolding placed
+found : (s : Setup) (name text : List ℕ) (n : ℕ) (desc : Descriptor) → number_named name (descriptors_of s) ≡ Some n → slice_get (descriptors_of s) n ≡ Some desc → placement s (name, text) ≡ placed_at s text n desc
+unfolding placement
 found s name text n desc e f =
     ap (λ o. o >>= (λ n. slice_get (descriptors_of s) n >>= (λ desc. placed_at s text n desc))) e
     ∙ ap (λ o. o >>= (λ desc. placed_at s text n desc)) f
 
-read_is : (s : Setup) (text : List ℕ) (n : ℕ) (o : ScanOption) (asked : Value) → read (descriptor_of s o) text ≡ Some asked → placed_at s text n (descriptor_of s o) ≡ placed_with s n asked (is_active s o && has_cap (option_caps o) 1) (resolve (descriptor_of s o) asked)
+read_is : (s : Setup) (text : List ℕ) (n : ℕ) (o : ScanOption) (asked : Value) → read_value (descriptor_of s o) text ≡ Some asked → placed_at s text n (descriptor_of s o) ≡ placed_with s n asked (is_active s o && has_cap (option_caps o) 1) (resolve (descriptor_of s o) asked)
 read_is s text n o asked e =
-    ap (λ m. (cond m (read (descriptor_of s o) text >>= nearest_pair (descriptor_of s o)) None) >>= finished s n) (may_is s o)
+    ap (λ m. (cond m (read_value (descriptor_of s o) text >>= nearest_pair (descriptor_of s o)) None) >>= finished s n) (may_is s o)
     ∙ ap (λ x. (cond (is_active s o && has_cap (option_caps o) 1) (x >>= nearest_pair (descriptor_of s o)) None) >>= finished s n) e
 
-with_option : (s : Setup) (name text : List ℕ) (n : ℕ) (desc : Descriptor) (asked : Value) (oo : Option ScanOption) → option_at s.scene.kind n ≡ oo → option_map (descriptor_of s) oo ≡ Some desc → placed s (name, text) ≡ placed_at s text n desc → read desc text ≡ Some asked → IsPlacedBy s n asked (option_set s n asked) (placed s (name, text))
+with_option : (s : Setup) (name text : List ℕ) (n : ℕ) (desc : Descriptor) (asked : Value) (oo : Option ScanOption) → option_at s.scene.kind n ≡ oo → option_map (descriptor_of s) oo ≡ Some desc → placement s (name, text) ≡ placed_at s text n desc → read_value desc text ≡ Some asked → IsPlacedBy s n asked (option_set s n asked) (placement s (name, text))
 unfolding option_set
 with_option s name text n desc asked None at d p r = absurd (let e : None ≡ Some desc = d in (cc))
 with_option s name text n desc asked (Some o) at d p r =
     let desc_same : desc ≡ descriptor_of s o = (let e : Some (descriptor_of s o) ≡ Some desc = d in (cc)) in
-    let reads : read (descriptor_of s o) text ≡ Some asked = subst (λ (x : Descriptor). read x text ≡ Some asked) desc_same r in
+    let reads : read_value (descriptor_of s o) text ≡ Some asked = subst (λ (x : Descriptor). read_value x text ≡ Some asked) desc_same r in
     let b : Bool = is_active s o && has_cap (option_caps o) 1 in
     let near : Option Value = resolve (descriptor_of s o) asked in
-    let placed_is : placed s (name, text) ≡ placed_with s n asked b near = p ∙ ap (λ (x : Descriptor). placed_at s text n x) desc_same ∙ read_is s text n o asked reads in
-    let answer_is : option_set s n asked ≡ answer_with s o asked b near = ap (λ x. set_to s (passing (λ o. is_active s o && has_cap (option_caps o) 1) x) asked) at ∙ set_is s o asked b in
-    subst (λ (x : Result (Value × Info) Status). IsPlacedBy s n asked x (placed s (name, text))) (sym answer_is)
-    (subst (λ (x : Option Placed). IsPlacedBy s n asked (answer_with s o asked b near) x) (sym placed_is) (core s n o asked b near))
+    let placed_is : placement s (name, text) ≡ placed_with s n asked b near = p ∙ ap (λ (x : Descriptor). placed_at s text n x) desc_same ∙ read_is s text n o asked reads in
+    let answer_is : option_set s n asked ≡ answer_with s o asked b near = ap (λ x. set_to s (option_passing (λ o. is_active s o && has_cap (option_caps o) 1) x) asked) at ∙ set_is s o asked b in
+    subst (λ (x : Result (Value × Info) Status). IsPlacedBy s n asked x (placement s (name, text))) (sym answer_is)
+    (subst (λ (x : Option Placement). IsPlacedBy s n asked (answer_with s o asked b near) x) (sym placed_is) (core s n o asked b near))
 
-pub set_places : (s : Setup) (name text : List ℕ) (n : ℕ) (desc : Descriptor) (asked : Value) → number_named name (descriptors_of s) ≡ Some n → slice_get (descriptors_of s) n ≡ Some desc → read desc text ≡ Some asked → IsPlacedBy s n asked (option_set s n asked) (placed s (name, text))
+pub set_places : (s : Setup) (name text : List ℕ) (n : ℕ) (desc : Descriptor) (asked : Value) → number_named name (descriptors_of s) ≡ Some n → slice_get (descriptors_of s) n ≡ Some desc → read_value desc text ≡ Some asked → IsPlacedBy s n asked (option_set s n asked) (placement s (name, text))
 unfolding option_at
 set_places s name text n desc asked e f r =
     with_option s name text n desc asked (option_at s.scene.kind n) refl (sym (slice_get-map (descriptor_of s) (options_of s.scene.kind) n) ∙ f) (found s name text n desc e f) r

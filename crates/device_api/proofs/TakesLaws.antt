@@ -12,7 +12,7 @@ use Rattle.scan_frames.specs.declared.setup.Setup.{Setup}
 use Rattle.device_api.specs.declared.scan_option.ScanOption.{ScanOption}
 use Rattle.device_api.specs.declared.scan_option.ScanOption.TheVariants.{NumOptions, Mode, GammaTable, RedGammaTable, GreenGammaTable, BlueGammaTable, ThreePassOrder, ReadReturnValue, HandScanner}
 use Rattle.device_api.specs.Options.{choice_text, choices_of, descriptor_of}
-use Rattle.device_api.specs.Admitted.{takes, takes_flag, takes_number, takes_length, takes_words}
+use Rattle.device_api.specs.AdmittedOptions.{takes, takes_flag, takes_number, takes_length, takes_words}
 
 flag_taken : (s : Setup) (o : ScanOption) (b : Bool) → is_some (resolve (descriptor_of s o) (Flag b)) ≡ takes_flag o
 unfolding resolve descriptor_of

@@ -9,7 +9,7 @@ use Rattle.sane_fixed.specs.declared.status.Status.{Status}
 use Rattle.option_desc.specs.declared.descriptor.Descriptor.{Descriptor}
 use Rattle.option_desc.specs.declared.value.Value.{Value}
 use Rattle.option_desc.specs.Put.{resolve}
-use Rattle.option_desc.specs.Reads.{read}
+use Rattle.option_desc.specs.Reads.{read_value}
 use Rattle.page_picture.specs.declared.scene.DeviceKind.{DeviceKind}
 use Rattle.scan_frames.specs.declared.setup.Setup.{Setup}
 use Rattle.device_api.specs.Options.{descriptors_of, has_cap}
@@ -28,35 +28,35 @@ abbrev pub given_for : Descriptor → List ℕ → Option (Value × Value)
 given_for desc text =
     if may_be_set desc
     then (do
-      asked ← read desc text
+      asked ← read_value desc text
       given ← resolve desc asked
       Some (asked, given))
     else None
 
 -- what a setting asked for and was given, and the setup that it leaves
-pub record Placed : Type 0 where
+pub record Placement : Type 0 where
   pub setup : Setup
   pub asked : Value
   pub given : Value
 
-unfoldable pub placed : Setup → List ℕ × List ℕ → Option Placed
-placed s setting = do
+unfoldable pub placement : Setup → List ℕ × List ℕ → Option Placement
+placement s setting = do
   n ← number_named setting.0 (descriptors_of s)
   desc ← slice_get (descriptors_of s) n
   pair ← given_for desc setting.1
   Some (record { setup = setup_after s n pair.1; asked = pair.0; given = pair.1 })
 
 -- the settings put in one after another; none at the first that fails
-abbrev pub force : Setup → List (List ℕ × List ℕ) → Option (Setup × List Placed)
+abbrev pub force : Setup → List (List ℕ × List ℕ) → Option (Setup × List Placement)
 force s [] = Some (s, [])
 force s (setting ∷ settings) =
-    option_and_then (λ first. option_map (λ more. (more.0, first ∷ more.1)) (force first.setup settings)) (placed s setting)
+    option_and_then (λ first. option_map (λ more. (more.0, first ∷ more.1)) (force first.setup settings)) (placement s setting)
 
 -- the setup in force, its scene among it, and what each setting was given
-abbrev pub in_force : DeviceKind → ByteOrder → List (List ℕ × List ℕ) → Option (Setup × List Placed)
+abbrev pub in_force : DeviceKind → ByteOrder → List (List ℕ × List ℕ) → Option (Setup × List Placement)
 in_force k order settings = force (defaults k order) settings
 
 -- what is put is what the set of an option answers, and nothing where that refuses
-abbrev pub IsPlacedBy : Setup → ℕ → Value → Result (Value × Info) Status → Option Placed → Type 0
+abbrev pub IsPlacedBy : Setup → ℕ → Value → Result (Value × Info) Status → Option Placement → Type 0
 IsPlacedBy s n asked (Ok given) p = p ≡ Some (record { setup = setup_after s n given.0; asked = asked; given = given.0 })
 IsPlacedBy s n asked (Err _) p = p ≡ None

@@ -2,6 +2,6 @@ pub mod Options
 pub mod Values
 pub mod State
 pub mod InForce
-pub mod Allowed
-pub mod Admitted
+pub mod ScannerLimits
+pub mod AdmittedOptions
 pub mod Same

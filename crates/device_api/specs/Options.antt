@@ -125,10 +125,10 @@ choices_of ModeOption = choice.Mode Gray ∷ choice.Mode Color ∷ []
 choices_of ThreePassOrder =
     choice.Passes Rgb ∷ choice.Passes Rbg ∷ choice.Passes Gbr ∷ choice.Passes Grb ∷ choice.Passes Brg ∷ choice.Passes Bgr ∷ []
 choices_of ReadReturnValue =
-    choice.Told None ∷ choice.Told (Some status.Unsupported) ∷ choice.Told (Some status.Cancelled) ∷ choice.Told (Some status.DeviceBusy)
-    ∷ choice.Told (Some status.Inval) ∷ choice.Told (Some status.Eof) ∷ choice.Told (Some status.Jammed) ∷ choice.Told (Some status.NoDocs)
-    ∷ choice.Told (Some status.CoverOpen) ∷ choice.Told (Some status.IoError) ∷ choice.Told (Some status.NoMem)
-    ∷ choice.Told (Some status.AccessDenied) ∷ []
+    choice.ReadStatus None ∷ choice.ReadStatus (Some status.Unsupported) ∷ choice.ReadStatus (Some status.Cancelled) ∷ choice.ReadStatus (Some status.DeviceBusy)
+    ∷ choice.ReadStatus (Some status.Inval) ∷ choice.ReadStatus (Some status.Eof) ∷ choice.ReadStatus (Some status.Jammed) ∷ choice.ReadStatus (Some status.NoDocs)
+    ∷ choice.ReadStatus (Some status.CoverOpen) ∷ choice.ReadStatus (Some status.IoError) ∷ choice.ReadStatus (Some status.NoMem)
+    ∷ choice.ReadStatus (Some status.AccessDenied) ∷ []
 choices_of _ = []
 
 abbrev pub mode_text : Mode → List ℕ
@@ -143,14 +143,14 @@ passes_text Grb = codes "GRB"
 passes_text Brg = codes "BRG"
 passes_text Bgr = codes "BGR"
 
-abbrev pub told_text : Option Status → List ℕ
-told_text None = codes "Default"
-told_text (Some s) = status_name s
+abbrev pub read_status_text : Option Status → List ℕ
+read_status_text None = codes "Default"
+read_status_text (Some s) = status_name s
 
 abbrev pub choice_text : Choice → List ℕ
 choice_text (choice.Mode m) = mode_text m
 choice_text (choice.Passes p) = passes_text p
-choice_text (choice.Told t) = told_text t
+choice_text (choice.ReadStatus t) = read_status_text t
 
 -- bits a sample
 abbrev pub depths_of : DeviceKind → List ℤ

@@ -5,7 +5,7 @@ use Rattle.sane_fixed.specs.declared.params.Params.{Params}
 use Rattle.sane_fixed.specs.declared.status.Status.{Status}
 use Rattle.sane_fixed.specs.declared.status.Status.TheVariants.{Good, Unsupported, Cancelled, DeviceBusy, Inval, Eof, Jammed, NoDocs, CoverOpen, IoError, NoMem, AccessDenied}
 use Rattle.option_desc.specs.declared.value.Value.{Value}
-use Rattle.page_picture.specs.Page.{Sheet}
+use Rattle.page_picture.specs.Page.{PageView}
 use Rattle.page_picture.specs.Source.{SourceState, CountsFailure}
 use Rattle.page_picture.specs.declared.scene.DeviceKind.{DeviceKind}
 use Rattle.page_picture.specs.declared.scene.DeviceKind.TheVariants.{Flatbed, Hand, ThreePass, Feeder}
@@ -24,14 +24,14 @@ pub data Phase : Type 0 where
   Reading : ℕ → ℕ → Phase
 
 -- a page in a device: whether its source shows it at each pass, whether that can fail, and how often it did
-pub record Held : Type 0 where
-  pub page : Sheet
+pub record HeldPage : Type 0 where
+  pub page : PageView
   pub steady : Bool
-  pub firm : Bool
+  pub infallible : Bool
   pub failures : ℕ
 
-abbrev pub held_from : SourceState → Held
-held_from source = record { page = source.page; steady = source.steady; firm = source.firm; failures = source.failures }
+abbrev pub held_from : SourceState → HeldPage
+held_from source = record { page = source.page; steady = source.steady; infallible = source.infallible; failures = source.failures }
 
 -- What a device is to its callers. Its kind is that of the setup's scene; that, the byte order and the info never change.
 -- The first page is the one that is scanned, or that a start would scan. A scanner that is no feeder has one and keeps it;
@@ -39,7 +39,7 @@ held_from source = record { page = source.page; steady = source.steady; firm = s
 pub record DeviceState : Type 0 where
   pub info : DeviceInfo
   pub setup : Setup
-  pub pages : List Held
+  pub pages : List HeldPage
   pub phase : Phase
 
 abbrev pub is_feeder : DeviceKind → Bool
@@ -56,25 +56,25 @@ abbrev pub tray_room : ℕ
 tray_room = 16
 
 -- what stands for the first page where there is none
-abbrev pub no_page : Held
-no_page = record { page = record { width = 0; height = 0; dpi = 0; samples = [] }; steady = false; firm = false; failures = 0 }
+abbrev pub no_page : HeldPage
+no_page = record { page = record { width = 0; height = 0; dpi = 0; samples = [] }; steady = false; infallible = false; failures = 0 }
 
-abbrev pub first_of : List Held → Held
-first_of [] = no_page
-first_of (held ∷ _) = held
+abbrev pub first_page : List HeldPage → HeldPage
+first_page [] = no_page
+first_page (held ∷ _) = held
 
 -- the first page, whether its source shows it at each pass, whether that can fail, and how often it did
-abbrev pub page_of : DeviceState → Sheet
-page_of s = (first_of s.pages).page
+abbrev pub page_of : DeviceState → PageView
+page_of s = (first_page s.pages).page
 
 abbrev pub steady_of : DeviceState → Bool
-steady_of s = (first_of s.pages).steady
+steady_of s = (first_page s.pages).steady
 
-abbrev pub firm_of : DeviceState → Bool
-firm_of s = (first_of s.pages).firm
+abbrev pub is_infallible : DeviceState → Bool
+is_infallible s = (first_page s.pages).infallible
 
 abbrev pub failures_of : DeviceState → ℕ
-failures_of s = (first_of s.pages).failures
+failures_of s = (first_page s.pages).failures
 
 abbrev pub is_at_rest : Phase → Bool
 is_at_rest (AtRest _) = true
@@ -92,11 +92,11 @@ with_phase s phase = record s { phase = phase }
 abbrev pub with_setup : DeviceState → Setup → DeviceState
 with_setup s setup = record s { setup = setup }
 
--- what a get answers, want of memory aside; it works during a scan
+-- what a get answers, out of memory aside; it works during a scan
 abbrev pub get_answer : DeviceState → ℕ → Result Value Status
 get_answer s n = option_got s.setup n
 
--- what a set answers, want of memory aside, and the state that it leaves where it gave a value
+-- what a set answers, out of memory aside, and the state that it leaves where it gave a value
 abbrev pub set_answer : DeviceState → ℕ → Value → Result (Value × Info) Status
 set_answer s n asked = if is_at_rest s.phase then option_set s.setup n asked else Err DeviceBusy
 
@@ -110,33 +110,33 @@ left_behind true [] = []
 left_behind true (_ ∷ pages) = pages
 
 -- a scan is over; whether it was cancelled
-abbrev pub rests : DeviceState → Bool → DeviceState
-rests s cancelled = record s { pages = left_behind (feeds s) s.pages; phase = AtRest cancelled }
+abbrev pub state_at_rest : DeviceState → Bool → DeviceState
+state_at_rest s cancelled = record s { pages = left_behind (feeds s) s.pages; phase = AtRest cancelled }
 
 -- a pass is over: the next one is awaited, or the scan is over
 abbrev pub goes_to : DeviceState → Phase → DeviceState
-goes_to s (AtRest cancelled) = rests s cancelled
+goes_to s (AtRest cancelled) = state_at_rest s cancelled
 goes_to s (Between ended) = with_phase s (Between ended)
 goes_to s (Reading pass given) = with_phase s (Reading pass given)
 
 -- what is told of the frame that was started last, and at rest of the first one that a start would give
-abbrev pub pass_told : Phase → ℕ
-pass_told (AtRest _) = 0
-pass_told (Between ended) = ended - 1
-pass_told (Reading pass _) = pass
+abbrev pub reported_pass : Phase → ℕ
+reported_pass (AtRest _) = 0
+reported_pass (Between ended) = ended - 1
+reported_pass (Reading pass _) = pass
 
-abbrev pub params_in : List Held → Setup → ℕ → Params
+abbrev pub params_in : List HeldPage → Setup → ℕ → Params
 params_in [] setup pass = params_without setup pass
 params_in (held ∷ _) setup pass = params_at setup held.page pass
 
 abbrev pub params_of : DeviceState → Params
-params_of s = params_in s.pages s.setup (pass_told s.phase)
+params_of s = params_in s.pages s.setup (reported_pass s.phase)
 
 -- a cancel at rest does nothing
 abbrev pub cancelled_in : Phase → DeviceState → DeviceState
 cancelled_in (AtRest _) s = s
-cancelled_in (Between _) s = rests s true
-cancelled_in (Reading _ _) s = rests s true
+cancelled_in (Between _) s = state_at_rest s true
+cancelled_in (Reading _ _) s = state_at_rest s true
 
 abbrev pub after_cancel : DeviceState → DeviceState
 after_cancel s = cancelled_in s.phase s
@@ -162,28 +162,28 @@ abbrev pub after_load : DeviceState → SourceState → DeviceState
 after_load s source = record s { pages = pages_with (feeds s) s.pages (held_from source) }
 
 -- the first page with another count of failures
-abbrev pub counted : ℕ → List Held → List Held
-counted n [] = []
-counted n (held ∷ pages) = record held { failures = n } ∷ pages
+abbrev pub with_failure_count : ℕ → List HeldPage → List HeldPage
+with_failure_count n [] = []
+with_failure_count n (held ∷ pages) = record held { failures = n } ∷ pages
 
 abbrev pub with_failures : DeviceState → ℕ → DeviceState
-with_failures s n = record s { pages = counted n s.pages }
+with_failures s n = record s { pages = with_failure_count n s.pages }
 
 -- a start that did not succeed leaves all pages at rest; between passes and in a pass the scan is over
 abbrev pub stopped_in : Phase → DeviceState → DeviceState
 stopped_in (AtRest _) s = with_phase s (AtRest false)
-stopped_in (Between _) s = rests s false
-stopped_in (Reading _ _) s = rests s false
+stopped_in (Between _) s = state_at_rest s false
+stopped_in (Reading _ _) s = state_at_rest s false
 
-abbrev pub stopped : DeviceState → DeviceState
-stopped s = stopped_in s.phase s
+abbrev pub after_stop : DeviceState → DeviceState
+after_stop s = stopped_in s.phase s
 
 -- the source of the first page, one that can fail, did so; that was counted, and no scan is under way
 pub record HasStopped (old new : DeviceState) : Type 0 where
-  pub can_fail : firm_of old ≡ false
+  pub can_fail : is_infallible old ≡ false
   pub failures : ℕ
   pub counted : CountsFailure (failures_of old) failures
-  pub after : new ≡ stopped (with_failures old failures)
+  pub after : new ≡ after_stop (with_failures old failures)
 
 -- the pass that a start begins
 abbrev pub next_pass : Phase → ℕ
@@ -194,9 +194,9 @@ next_pass (Reading pass _) = pass
 -- a frame is begun, and what stands in the way of that
 abbrev pub StartsFrame : DeviceState → Result Unit Status → DeviceState → Type 0
 StartsFrame old (Ok _) new = (has_picture old.setup (page_of old) ≡ true) × (new ≡ with_phase old (Reading (next_pass old.phase) 0))
-StartsFrame old (Err Inval) new = (has_picture old.setup (page_of old) ≡ false) × (new ≡ stopped old)
+StartsFrame old (Err Inval) new = (has_picture old.setup (page_of old) ≡ false) × (new ≡ after_stop old)
 StartsFrame old (Err IoError) new = (has_picture old.setup (page_of old) ≡ true) × HasStopped old new
-StartsFrame old (Err NoMem) new = (has_picture old.setup (page_of old) ≡ true) × (new ≡ stopped old)
+StartsFrame old (Err NoMem) new = (has_picture old.setup (page_of old) ≡ true) × (new ≡ after_stop old)
 StartsFrame old (Err Good) new = ⊥
 StartsFrame old (Err Unsupported) new = ⊥
 StartsFrame old (Err Cancelled) new = ⊥
@@ -208,8 +208,8 @@ StartsFrame old (Err CoverOpen) new = ⊥
 StartsFrame old (Err AccessDenied) new = ⊥
 
 -- where no page is left, there is nothing to scan
-abbrev pub StartsOn : List Held → DeviceState → Result Unit Status → DeviceState → Type 0
-StartsOn [] old result new = (result ≡ Err NoDocs) × (new ≡ stopped old)
+abbrev pub StartsOn : List HeldPage → DeviceState → Result Unit Status → DeviceState → Type 0
+StartsOn [] old result new = (result ≡ Err NoDocs) × (new ≡ after_stop old)
 StartsOn (_ ∷ _) old result new = StartsFrame old result new
 
 abbrev pub StartsIn : Phase → DeviceState → Result Unit Status → DeviceState → Type 0
@@ -226,9 +226,9 @@ abbrev pub after_pass : Setup → ℕ → Phase
 after_pass setup pass = if nat_lt pass (last_pass setup) then Between (pass + 1) else AtRest false
 
 -- the phase after a first read that answered what `read-return-value` says
-abbrev pub after_told : Setup → ℕ → Status → Phase
-after_told setup pass Eof = after_pass setup pass
-after_told setup pass _ = AtRest false
+abbrev pub after_read_status : Setup → ℕ → Status → Phase
+after_read_status setup pass Eof = after_pass setup pass
+after_read_status setup pass _ = AtRest false
 
 -- n bytes were written: those of the pass that follow the ones given before, all that are left, but no more than the buffer
 -- holds, nor than one read gives
@@ -258,17 +258,17 @@ ReadsOn old pass given (Err NoMem) new buf = ⊥
 ReadsOn old pass given (Err AccessDenied) new buf = ⊥
 
 -- what `read-return-value` says stands in the way of the first read of a frame alone
-abbrev pub told_at : Option Status → ℕ → Option Status
-told_at told given = if given == 0 then told else None
+abbrev pub read_status_at : Option Status → ℕ → Option Status
+read_status_at told given = if given == 0 then told else None
 
 abbrev pub FrameReads : Option Status → DeviceState → ℕ → ℕ → Result ℕ Status → DeviceState → List ℕ → Type 0
 FrameReads None old pass given result new buf = ReadsOn old pass given result new buf
-FrameReads (Some status) old pass given result new buf = (result ≡ Err status) × (new ≡ goes_to old (after_told old.setup pass status))
+FrameReads (Some status) old pass given result new buf = (result ≡ Err status) × (new ≡ goes_to old (after_read_status old.setup pass status))
 
 abbrev pub ReadsIn : Phase → DeviceState → Result ℕ Status → DeviceState → List ℕ → Type 0
 ReadsIn (AtRest cancelled) old result new buf = (result ≡ Err (if cancelled then Cancelled else Inval)) × (new ≡ old)
 ReadsIn (Between _) old result new buf = (result ≡ Err Inval) × (new ≡ old)
-ReadsIn (Reading pass given) old result new buf = FrameReads (told_at old.setup.told given) old pass given result new buf
+ReadsIn (Reading pass given) old result new buf = FrameReads (read_status_at old.setup.told given) old pass given result new buf
 
 -- what a read answers, what it leaves, and what it wrote
 abbrev pub Reads : DeviceState → Result ℕ Status → DeviceState → List ℕ → Type 0

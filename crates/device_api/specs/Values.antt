@@ -79,7 +79,7 @@ option_value s BlueGammaTable = Words (map (λ b. pos b) (channel_table s 2))
 option_value s ThreePassOrder = Text (choice_text (choice.Passes s.passes))
 option_value s PplLoss = Int (pos s.loss)
 option_value s ReadLimitSize = Int (pos s.limit)
-option_value s ReadReturnValue = Text (choice_text (choice.Told s.told))
+option_value s ReadReturnValue = Text (choice_text (choice.ReadStatus s.told))
 option_value s HandScanner = Flag true
 
 -- the setup with a value that an option admits
@@ -110,7 +110,7 @@ with_table s _ table = s
 abbrev pub with_choice : Setup → Choice → Setup
 with_choice s (choice.Mode m) = record s { scene = record s.scene { mode = m } }
 with_choice s (choice.Passes p) = record s { passes = p }
-with_choice s (choice.Told t) = record s { told = t }
+with_choice s (choice.ReadStatus t) = record s { told = t }
 
 -- the first of some choices that has the text
 abbrev pub choice_of : List Choice → List ℕ → Option Choice
@@ -129,24 +129,24 @@ with_value s o (Words words) = with_table s o (map (λ word. unsigned_abs word) 
 with_value s o (Text text) = with_chosen s (choice_of (choices_of o) text)
 
 -- an option that passes a test
-abbrev pub passing : (ScanOption → Bool) → Option ScanOption → Option ScanOption
-passing test None = None
-passing test (Some o) = if test o then Some o else None
+abbrev pub option_passing : (ScanOption → Bool) → Option ScanOption → Option ScanOption
+option_passing test None = None
+option_passing test (Some o) = if test o then Some o else None
 
 -- the option of a number, where it may be read, and where it may be set: it is active, and has SOFT_DETECT or SOFT_SELECT
 abbrev pub option_to_get : Setup → ℕ → Option ScanOption
-option_to_get s n = passing (λ o. is_active s o && has_cap (option_caps o) 4) (option_at s.scene.kind n)
+option_to_get s n = option_passing (λ o. is_active s o && has_cap (option_caps o) 4) (option_at s.scene.kind n)
 
 abbrev pub option_to_set : Setup → ℕ → Option ScanOption
-option_to_set s n = passing (λ o. is_active s o && has_cap (option_caps o) 1) (option_at s.scene.kind n)
+option_to_set s n = option_passing (λ o. is_active s o && has_cap (option_caps o) 1) (option_at s.scene.kind n)
 
--- what a get answers, want of memory aside
-abbrev pub got : Setup → Option ScanOption → Result Value Status
-got s None = Err Inval
-got s (Some o) = Ok (option_value s o)
+-- what a get answers, out of memory aside
+abbrev pub get_result : Setup → Option ScanOption → Result Value Status
+get_result s None = Err Inval
+get_result s (Some o) = Ok (option_value s o)
 
 unfoldable pub option_got : Setup → ℕ → Result Value Status
-option_got s n = got s (option_to_get s n)
+option_got s n = get_result s (option_to_get s n)
 
 -- whether two values are equal
 abbrev pub same_value : Value → Value → Bool
@@ -184,7 +184,7 @@ info_bits inexact options params =
 abbrev pub info_of : Setup → ScanOption → Value → Value → Info
 info_of s o asked given = info_bits (not (same_value asked given)) (reloads s (with_value s o given)) (bears_on_params o)
 
--- what a set answers, want of memory aside: the nearest admitted value, and its info
+-- what a set answers, out of memory aside: the nearest admitted value, and its info
 abbrev pub put_answer : Setup → ScanOption → Value → Option Value → Result (Value × Info) Status
 put_answer s o asked None = Err Inval
 put_answer s o asked (Some given) = Ok (given, info_of s o asked given)

@@ -8,7 +8,7 @@ pub enum Choice {
     Mode(Mode),
     Passes(PassOrder),
     /// What the first read of a frame answers in place of bytes; `None` for the bytes themselves.
-    Told(Option<Status>),
+    ReadStatus(Option<Status>),
 }
 
 impl Choice {
@@ -28,8 +28,8 @@ impl Choice {
             Choice::Passes(PassOrder::Grb) => "GRB",
             Choice::Passes(PassOrder::Brg) => "BRG",
             Choice::Passes(PassOrder::Bgr) => "BGR",
-            Choice::Told(None) => "Default",
-            Choice::Told(Some(status)) => status.name(),
+            Choice::ReadStatus(None) => "Default",
+            Choice::ReadStatus(Some(status)) => status.name(),
         }
     }
 }

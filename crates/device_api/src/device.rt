@@ -1,5 +1,5 @@
 ghost use Rattle.std.specs.Prelude.{◌≡◌, ◌≢◌, ◌<◌, ◌≤◌, IfOk, IfErr, IsOk, OnOk, OnErr, length, true, false};
-ghost use Rattle.device_api.specs.Allowed.{HasLimits};
+ghost use Rattle.device_api.specs.ScannerLimits.{HasLimits};
 ghost use Rattle.device_api.specs.Options.{descriptors_of};
 ghost use Rattle.device_api.specs.State.{DeviceState, is_at_rest, get_answer, set_answer, after_set, params_of, Starts, Reads, after_cancel, after_reset, takes_page, after_load};
 
@@ -22,7 +22,7 @@ pub trait Device: Drop {
     fn order(&self) -> ByteOrder
         ensures { result ≡ (state self.now).setup.order };
 
-    /// The options as they stand, in the order of their numbers. The only error is want of memory.
+    /// The options as they stand, in the order of their numbers. The only error is out of memory.
     fn descriptors(&self, alloc: Global) -> Result<Vec<Descriptor>, Status>
         ensures ok { IfOk result (λ all. all.items ≡ descriptors_of (state self.now).setup) }
         ensures err { IfErr result (λ status. status ≡ Status.NoMem) };

@@ -15,7 +15,7 @@ pub struct DeviceInfo {
 impl DeviceInfo {
     ghost use Rattle.std.specs.Prelude.{◌≡◌, IfOk};
 
-    /// An equal description. The only error is want of memory.
+    /// An equal description. The only error is out of memory.
     pub fn try_clone(&self, alloc: Global) -> Result<DeviceInfo, NoMem>
         ensures { IfOk result (λ copy. copy ≡ self.now) }
     {

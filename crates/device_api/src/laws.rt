@@ -4,17 +4,17 @@ ghost use Rattle.sane_fixed.specs.declared.status.Status.{Status};
 ghost use Rattle.sane_fixed.specs.declared.byte_order.ByteOrder.{ByteOrder};
 ghost use Rattle.page_picture.specs.declared.scene.DeviceKind.{DeviceKind};
 ghost use Rattle.page_picture.specs.Source.{SourceState};
-ghost use Rattle.device_api.specs.State.{DeviceState, Held, is_at_rest, after_set, after_reset, after_cancel, after_load, Starts, Reads};
+ghost use Rattle.device_api.specs.State.{DeviceState, HeldPage, is_at_rest, after_set, after_reset, after_cancel, after_load, Starts, Reads};
 ghost use Rattle.device_api.specs.declared.scan_option.ScanOption.{ScanOption};
-ghost use Rattle.device_api.specs.Allowed.{IsAllowed};
+ghost use Rattle.device_api.specs.ScannerLimits.{IsAllowed};
 ghost use Rattle.device_api.specs.Same.{IsSameDevice};
 ghost use Rattle.option_desc.specs.declared.descriptor.Descriptor.{Descriptor};
 ghost use Rattle.option_desc.specs.declared.value.Value.{Value};
-ghost use Rattle.option_desc.specs.Reads.{read};
+ghost use Rattle.option_desc.specs.Reads.{read_value};
 ghost use Rattle.scan_frames.specs.declared.setup.Setup.{Setup};
 ghost use Rattle.device_api.specs.Options.{descriptors_of};
 ghost use Rattle.device_api.specs.Values.{same_value, reloads, option_got, option_set, option_value, setup_after, with_value};
-ghost use Rattle.device_api.specs.InForce.{number_named, IsPlacedBy, Placed, placed, in_force};
+ghost use Rattle.device_api.specs.InForce.{number_named, IsPlacedBy, Placement, placement, in_force};
 
 /// A law: values are told to be the same where they are equal, and only there. So `INEXACT` stands just
 /// where the value in force differs from the one given.
@@ -33,7 +33,7 @@ pub fn reload_tells_of_changed_descriptors()
 pub fn settings_are_put_as_they_are_set()
     ensures { (s : Setup) (name text : List ℕ) (n : ℕ) (desc : Descriptor) (asked : Value)
         → number_named name (descriptors_of s) ≡ Some n → slice_get (descriptors_of s) n ≡ Some desc
-        → read desc text ≡ Some asked → IsPlacedBy s n asked (option_set s n asked) (placed s (name, text)) }
+        → read_value desc text ≡ Some asked → IsPlacedBy s n asked (option_set s n asked) (placement s (name, text)) }
 {}
 
 /// A law: no call changes what a scanner is, its kind or its byte order.
@@ -49,7 +49,7 @@ pub fn a_scanner_stays_what_it_is()
 /// A law: a first start that is refused leaves all pages where they are.
 pub fn a_refused_start_takes_no_page()
     ensures { (s t : DeviceState) (status : Status) → is_at_rest s.phase ≡ true → Starts s (Err status) t
-        → map (λ (held : Held). held.page) t.pages ≡ map (λ (held : Held). held.page) s.pages }
+        → map (λ (held : HeldPage). held.page) t.pages ≡ map (λ (held : HeldPage). held.page) s.pages }
 {}
 
 /// A law: what a set gave, a get gives.
@@ -66,6 +66,6 @@ pub fn a_set_changes_one_option()
 
 /// A law: what the settings of a job in force say stays within the limits of the options.
 pub fn settings_in_force_are_allowed()
-    ensures { (kind : DeviceKind) (order : ByteOrder) (settings : List (List ℕ × List ℕ)) (forced : Setup × List Placed)
+    ensures { (kind : DeviceKind) (order : ByteOrder) (settings : List (List ℕ × List ℕ)) (forced : Setup × List Placement)
         → in_force kind order settings ≡ Some forced → IsAllowed forced.0 }
 {}

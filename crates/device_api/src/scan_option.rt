@@ -93,19 +93,19 @@ const ORDERS: [Choice; 6] = [
     Choice::Passes(PassOrder::Bgr),
 ];
 
-const TOLD: [Choice; 12] = [
-    Choice::Told(None),
-    Choice::Told(Some(Status::Unsupported)),
-    Choice::Told(Some(Status::Cancelled)),
-    Choice::Told(Some(Status::DeviceBusy)),
-    Choice::Told(Some(Status::Inval)),
-    Choice::Told(Some(Status::Eof)),
-    Choice::Told(Some(Status::Jammed)),
-    Choice::Told(Some(Status::NoDocs)),
-    Choice::Told(Some(Status::CoverOpen)),
-    Choice::Told(Some(Status::IoError)),
-    Choice::Told(Some(Status::NoMem)),
-    Choice::Told(Some(Status::AccessDenied)),
+const READ_STATUSES: [Choice; 12] = [
+    Choice::ReadStatus(None),
+    Choice::ReadStatus(Some(Status::Unsupported)),
+    Choice::ReadStatus(Some(Status::Cancelled)),
+    Choice::ReadStatus(Some(Status::DeviceBusy)),
+    Choice::ReadStatus(Some(Status::Inval)),
+    Choice::ReadStatus(Some(Status::Eof)),
+    Choice::ReadStatus(Some(Status::Jammed)),
+    Choice::ReadStatus(Some(Status::NoDocs)),
+    Choice::ReadStatus(Some(Status::CoverOpen)),
+    Choice::ReadStatus(Some(Status::IoError)),
+    Choice::ReadStatus(Some(Status::NoMem)),
+    Choice::ReadStatus(Some(Status::AccessDenied)),
 ];
 
 /// The options of a kind of scanner, in the order of their numbers from 0.
@@ -249,7 +249,7 @@ impl ScanOption {
         match self {
             ScanOption::Mode => &MODES,
             ScanOption::ThreePassOrder => &ORDERS,
-            ScanOption::ReadReturnValue => &TOLD,
+            ScanOption::ReadReturnValue => &READ_STATUSES,
             _ => &[],
         }
     }

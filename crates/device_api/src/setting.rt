@@ -1,12 +1,12 @@
 ghost use Rattle.std.specs.Prelude.{◌≡◌, ◌≢◌, not, Some, Ok, IfOk, IsOk, OnErr, MatchResult, All, map, length, unsigned_abs};
-ghost use Rattle.constraint.specs.Nearest.{TellsDifference};
+ghost use Rattle.constraint.specs.Nearest.{FlagsDifference};
 ghost use Rattle.option_desc.specs.declared.value.Value.TheVariants.{Words as WordsOf};
 ghost use Rattle.option_desc.specs.Put.{resolve};
 ghost use Rattle.option_desc.specs.Refuses.{Refuses};
 ghost use Rattle.device_api.specs.Options.{choices_of, is_active, descriptor_of};
 ghost use Rattle.device_api.specs.Values.{with_number, with_length, with_table, choice_of, with_chosen, with_value, reloads, info_bits, option_set, setup_after};
-ghost use Rattle.device_api.specs.Allowed.{IsAllowed};
-ghost use Rattle.device_api.specs.Admitted.{IsAdmitted, IsByte, takes_number, takes_length, takes_words, takes};
+ghost use Rattle.device_api.specs.ScannerLimits.{IsAllowed};
+ghost use Rattle.device_api.specs.AdmittedOptions.{IsAdmitted, IsByte, takes_number, takes_length, takes_words, takes};
 
 use crate::choice::Choice;
 use crate::matching::is_matched;
@@ -76,7 +76,7 @@ fn nearest(
     ensures value { MatchResult result
         (λ given. resolve (descriptor_of setup.now option) value.now ≡ Some given.0)
         (λ status. Refuses status (resolve (descriptor_of setup.now option) value.now)) }
-    ensures differs { IfOk result (λ given. TellsDifference given.1 value.now given.0) }
+    ensures differs { IfOk result (λ given. FlagsDifference given.1 value.now given.0) }
 {
     if !takes(option, value) {
         return Err(Status::Inval);
@@ -163,7 +163,7 @@ fn put_text(setup: &mut Setup, option: ScanOption, text: &[u8])
     match choice_of(option.choices(), text) {
         Some(Choice::Mode(mode)) => setup.scene.mode = mode,
         Some(Choice::Passes(passes)) => setup.passes = passes,
-        Some(Choice::Told(told)) => setup.told = told,
+        Some(Choice::ReadStatus(told)) => setup.told = told,
         None => {}
     }
 }

@@ -132,7 +132,7 @@ fn constraint(alloc: Global, kind: DeviceKind, option: ScanOption) -> Result<Con
     }
 }
 
-/// The descriptor of an option. The only error is want of memory.
+/// The descriptor of an option. The only error is out of memory.
 #[tactic(auto, unfolding(crate::specs::Options::descriptor_of))]
 pub fn descriptor(alloc: Global, setup: &Setup, option: ScanOption) -> Result<Descriptor, NoMem>
     ensures { IfOk result (λ desc. desc ≡ descriptor_of setup.now option) }
@@ -150,7 +150,7 @@ pub fn descriptor(alloc: Global, setup: &Setup, option: ScanOption) -> Result<De
 }
 
 /// The descriptors of a scanner's options as they stand, in the order of their numbers. The only error is
-/// want of memory.
+/// out of memory.
 pub fn descriptors(alloc: Global, setup: &Setup) -> Result<Vec<Descriptor>, NoMem>
     ensures { IfOk result (λ all. all.items ≡ descriptors_of setup.now) }
 {

@@ -1,8 +1,8 @@
 ghost use Rattle.std.specs.Prelude.{◌≡◌, ◌≢◌, ◌≤◌, ◌&&◌, pos, map, IfOk, IsOk};
 ghost use Rattle.option_desc.specs.declared.value.Value.TheVariants.{Text as TextOf, Words as WordsOf};
-ghost use Rattle.device_api.specs.Allowed.{IsAllowed};
+ghost use Rattle.device_api.specs.ScannerLimits.{IsAllowed};
 ghost use Rattle.device_api.specs.Options.{option_at, choice_text, is_active, option_caps, has_cap};
-ghost use Rattle.device_api.specs.Values.{identity, default_resolution, mm, defaults, option_value, passing, option_got};
+ghost use Rattle.device_api.specs.Values.{identity, default_resolution, mm, defaults, option_value, option_passing, option_got};
 
 use crate::choice::Choice;
 use crate::scan_option::{ScanOption, option_at, options_of};
@@ -79,7 +79,7 @@ pub fn has_cap(caps: u32, bit: u32) -> bool
 /// The option of a number, where it is active and has the capability.
 pub(crate) fn option_with(setup: &Setup, n: u32, bit: u32) -> Option<ScanOption>
     requires { 1 ≤ bit }
-    ensures { result ≡ passing (λ o. is_active setup.now o && has_cap (option_caps o) bit) (option_at setup.now.scene.kind n) }
+    ensures { result ≡ option_passing (λ o. is_active setup.now o && has_cap (option_caps o) bit) (option_at setup.now.scene.kind n) }
 {
     let option = option_at(setup.scene.kind, n)?;
     if is_active(setup, option) && has_cap(option.caps(), bit) {
@@ -106,7 +106,7 @@ fn table_value(alloc: Global, table: &[u8]) -> Result<Value, NoMem>
     Ok(Value::Words(Words::from_vec(words)))
 }
 
-/// The value of an option. The only error is want of memory.
+/// The value of an option. The only error is out of memory.
 #[tactic(auto, unfolding(crate::specs::Values::option_value))]
 pub fn option_value(alloc: Global, setup: &Setup, option: ScanOption) -> Result<Value, NoMem>
     requires { IsAllowed setup.now }
@@ -129,7 +129,7 @@ pub fn option_value(alloc: Global, setup: &Setup, option: ScanOption) -> Result<
         ScanOption::ThreePassOrder => text_value(alloc, Choice::Passes(setup.passes))?,
         ScanOption::PplLoss => Value::Int(setup.loss as i32),
         ScanOption::ReadLimitSize => Value::Int(setup.limit as i32),
-        ScanOption::ReadReturnValue => text_value(alloc, Choice::Told(setup.told))?,
+        ScanOption::ReadReturnValue => text_value(alloc, Choice::ReadStatus(setup.told))?,
         ScanOption::HandScanner => Value::Flag(true),
     })
 }

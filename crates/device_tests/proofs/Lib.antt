@@ -1,3 +1,3 @@
-pub mod RunLaws
+pub mod PassRuns
 pub mod PictureLaws
-pub mod Upto
+pub mod MapsUpTo

@@ -96,7 +96,7 @@ pub fn page(alloc: Global, file: &[u8], dpi: u32) -> Option<Source> {
 }
 
 /// What is told of a frame: its format, whether it is the last, its bytes and pixels per line, its lines and its depth.
-pub fn told(
+pub fn answers_of(
     format: FrameFormat,
     last_frame: bool,
     bytes_per_line: u32,
@@ -242,7 +242,7 @@ fn scans<D: Device>(alloc: Global, device: &mut D, bytes: &[u8]) -> Option<bool>
     Some(is_under_way && is_whole && device.at_rest())
 }
 
-/// Whether a call is answered so; none for want of memory.
+/// Whether a call is answered so; none for lack of memory.
 fn answers<D: Device>(alloc: Global, device: &mut D, call: Call) -> Option<bool> {
     match call {
         Call::Is(part, wanted) => return Some(is(device, part, wanted)),

@@ -1,7 +1,7 @@
 mod feeder;
 
 use crate::calls::{
-    Call, DEPTH, Fill, MM, MODE, Part, Plain, RESOLUTION, expect_each, page, read_all, told,
+    Call, DEPTH, Fill, MM, MODE, Part, Plain, RESOLUTION, answers_of, expect_each, page, read_all,
 };
 use device_api::Device;
 use flatbed_dev::Flatbed;
@@ -74,7 +74,7 @@ fn the_margin_is_white(rt: HostRuntime) {
     let alloc = rt.alloc();
     let page = page(alloc, b"P5\n1 1\n255\n\x00", 50).expect(&rt, "a page");
     let mut flatbed = flatbed(alloc, page).expect(&rt, "a flatbed");
-    let first = told(FrameFormat::Gray, true, 157, 157, Some(196), 8);
+    let first = answers_of(FrameFormat::Gray, true, 157, 157, Some(196), 8);
     expect_each(&rt, alloc, &mut flatbed, &[Call::Told(first)]);
     assert!(rt; is_margin(alloc, &mut flatbed) == Some(true));
 }
@@ -106,7 +106,7 @@ fn lost_pixels_and_a_read_limit(rt: HostRuntime) {
             Call::Set(PPL_LOSS, Plain::Int(3)),
             Call::Set(READ_LIMIT_SIZE, Plain::Int(1)),
             Call::Start(Ok(())),
-            Call::Told(told(FrameFormat::Rgb, true, 15, 2, Some(1), 8)),
+            Call::Told(answers_of(FrameFormat::Rgb, true, 15, 2, Some(1), 8)),
             Call::Frame(
                 15,
                 &[1, 2, 3, 4, 5, 6, 0, 0, 0, 0, 0, 0, 0, 0, 0],
@@ -204,7 +204,7 @@ fn one_red_place(rt: HostRuntime) {
             Call::Set(MODE, Plain::Text(b"Color")),
             Call::Start(Err(Status::Inval)),
             Call::AtRest(true),
-            Call::Told(told(FrameFormat::Rgb, true, 0, 0, Some(0), 1)),
+            Call::Told(answers_of(FrameFormat::Rgb, true, 0, 0, Some(0), 1)),
             Call::Set(DEPTH, Plain::Int(16)),
             Call::Scan(&[0xFF, 0xFF, 0, 0, 0, 0]),
         ],
@@ -316,7 +316,7 @@ fn cancel_and_reset(rt: HostRuntime) {
             Call::AtRest(true),
             Call::Read(Err(Status::Inval)),
             Call::Has(RESOLUTION, Plain::Int(50)),
-            Call::Told(told(FrameFormat::Gray, true, 157, 157, Some(196), 8)),
+            Call::Told(answers_of(FrameFormat::Gray, true, 157, 157, Some(196), 8)),
         ],
     );
 }

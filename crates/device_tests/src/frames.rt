@@ -1,6 +1,6 @@
 ghost use Rattle.scan_frames.specs.Frames.{IsSetup};
 
-use crate::calls::told;
+use crate::calls::answers_of;
 use page_picture::{DeviceKind, FailingPage, MemoryPage, Mode, PageSource, Scene, read_page};
 use sane_fixed::{ByteOrder, Fixed, FrameFormat, Status};
 use scan_frames::{
@@ -60,7 +60,7 @@ fn memory(alloc: Global, file: &[u8], dpi: u32) -> Option<MemoryPage> {
 }
 
 /// All bytes of the frame of a pass, by reads of at most seven bytes, how many reads gave some, and why the next gave
-/// none. None if the frame does not say which it is, and whether it was read, or never ends, or for want of memory.
+/// none. None if the frame does not say which it is, and whether it was read, or never ends, or for lack of memory.
 fn frame_bytes<S: PageSource>(
     alloc: Global,
     source: &mut S,
@@ -264,7 +264,7 @@ fn a_hand_scanner_does_not_tell_its_lines(rt: HostRuntime) {
     let mut hand = setup(DeviceKind::Hand, Mode::Gray, Packing::Bytes, 1, 1);
     hand.scene.resolution = 75;
     // 110 mm are floor(110 * 75 / 25.4) pixels; of lines y with floor(y * 300 / 75) below 2 there is one.
-    let line = told(FrameFormat::Gray, true, 324, 324, None, 8);
+    let line = answers_of(FrameFormat::Gray, true, 324, 324, None, 8);
     assert!(rt; params(&source, &hand, 0) == line);
     assert!(rt; is_line(alloc, &mut source, &hand, 324) == Some(true));
 }
@@ -276,7 +276,7 @@ fn no_picture_has_no_frame(rt: HostRuntime) {
     let color_bits = flatbed(Mode::Color, Packing::Bits, 1, 1);
     assert!(rt; !has_picture(&source, &color_bits));
     assert!(rt; has_picture(&source, &flatbed(Mode::Gray, Packing::Bits, 1, 1)));
-    let none = told(FrameFormat::Rgb, true, 0, 0, Some(0), 1);
+    let none = answers_of(FrameFormat::Rgb, true, 0, 0, Some(0), 1);
     assert!(rt; params(&source, &color_bits, 0) == none);
     let want = ([].as_slice(), None, Err(BeginFault::NoPicture));
     assert!(rt; is_frame(alloc, &mut source, &color_bits, 0, want));

@@ -1,4 +1,4 @@
-use crate::calls::{Call, DEPTH, Part, Plain, RESOLUTION, expect_each, page, reads, told};
+use crate::calls::{Call, DEPTH, Part, Plain, RESOLUTION, answers_of, expect_each, page, reads};
 use device_api::Device;
 use hand_dev::HandScanner;
 use sane_fixed::{ByteOrder, FrameFormat, Status, Text};
@@ -68,7 +68,7 @@ pub fn expect_column<D: Device>(
     count: u32,
     most: usize,
 ) {
-    let line = told(FrameFormat::Gray, true, 41, 324, None, 1);
+    let line = answers_of(FrameFormat::Gray, true, 41, 324, None, 1);
     let depth = Call::Set(DEPTH, Plain::Int(1));
     let calls = [depth, Call::Told(line), Call::Start(Ok(()))];
     expect_each(rt, alloc, device, &calls);

@@ -1,6 +1,6 @@
 ghost use Rattle.std.specs.Prelude.{◌≡◌};
 
-use config_pages::{NoPage, SourceFault, page_source};
+use config_pages::{NoPage, PageSourceFault, page_source};
 use page_picture::PageSource;
 use std::fs;
 use std::test::Fail;
@@ -20,7 +20,7 @@ fn only_row<S: PageSource>(source: &mut S) -> Result<[u16; 6], Fail>
     }
 }
 
-fn refusal(rt: &HostRuntime, page: &[u8]) -> Option<SourceFault> {
+fn refusal(rt: &HostRuntime, page: &[u8]) -> Option<PageSourceFault> {
     page_source(rt, page, 26).err()
 }
 
@@ -61,12 +61,12 @@ fn pages_that_are_not_there(rt: HostRuntime) -> Result<(), Fail> {
         (b"hex:50350a3120310a3235350a0000", NoPage::Trailing),
         (b"short.pgm", NoPage::Short),
     ] {
-        assert!(rt; refusal(&rt, page) == Some(SourceFault::NoPage(why)));
+        assert!(rt; refusal(&rt, page) == Some(PageSourceFault::NoPage(why)));
     }
     for dpi in [0, 1201] {
         match page_source(&rt, b"hex:50350a3120310a3235350a00", dpi) {
             Ok(_) => panic!(rt; "not refused"),
-            Err(why) => assert!(rt; why == SourceFault::BadDpi),
+            Err(why) => assert!(rt; why == PageSourceFault::BadDpi),
         }
     }
     Ok(())

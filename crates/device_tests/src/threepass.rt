@@ -1,5 +1,5 @@
 use crate::calls::{
-    BR_X, BR_Y, Call, DEPTH, Fill, MM, MODE, Part, Plain, RESOLUTION, expect_each, page, told,
+    BR_X, BR_Y, Call, DEPTH, Fill, MM, MODE, Part, Plain, RESOLUTION, answers_of, expect_each, page,
 };
 use device_api::Device;
 use sane_fixed::{ByteOrder, FrameFormat, Status, Text};
@@ -57,7 +57,7 @@ pub fn expect_pass<D: Device>(
         device,
         &[
             Call::Start(Ok(())),
-            Call::Told(told(format, is_last, 4, 2, Some(1), 16)),
+            Call::Told(answers_of(format, is_last, 4, 2, Some(1), 16)),
             Call::Frame(1, &payload, Status::Eof),
             Call::AtRest(is_last),
         ],
@@ -142,7 +142,7 @@ fn gray_in_one_frame(rt: HostRuntime) {
         &[
             Call::Is(Part::Model, b"ThreePass"),
             Call::Is(Part::Class, b"flatbed scanner"),
-            Call::Told(told(FrameFormat::Gray, true, 157, 157, Some(196), 8)),
+            Call::Told(answers_of(FrameFormat::Gray, true, 157, 157, Some(196), 8)),
             Call::Hides(THREE_PASS_ORDER),
             Call::Has(0, Plain::Int(13)),
         ],

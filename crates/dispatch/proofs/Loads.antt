@@ -5,7 +5,7 @@ use Rattle.device_api.specs.State.{DeviceState}
 use Rattle.sane_fixed.specs.declared.status.Status.TheVariants.{Inval}
 use Rattle.dispatch.specs.declared.table.place.Slot.{Slot}
 use Rattle.dispatch.specs.declared.table.place.Place.{Place}
-use Rattle.dispatch.specs.Table.{Table, table, seen_slot, seen_place, find_name, load_answer, after_load, load_at, loaded_at, slot_load, load_of, loaded_slot, with_loaded}
+use Rattle.dispatch.specs.Table.{Table, table, seen_slot, seen_place, find_name, load_answer, table_after_load, load_at, loaded_at, slot_load, load_of, loaded_slot, with_loaded}
 use Rattle.dispatch.proofs.Tables.{find_name-table}
 
 pub load_unknown : {D : Type 0} (f : D → DeviceState) (ps : List (Place D)) (name : List ℕ) → find_name name ps ≡ None → load_answer (table f ps) name ≡ Err Inval
@@ -14,8 +14,8 @@ load_unknown f ps name h =
     let t : Table = table f ps in
     ap (load_at t) (find_name-table f name ps ∙ h)
 
-pub after_load_unknown : {D : Type 0} (f : D → DeviceState) (ps : List (Place D)) (name : List ℕ) (source : SourceState) → find_name name ps ≡ None → after_load (table f ps) name source ≡ table f ps
-unfolding after_load
+pub after_load_unknown : {D : Type 0} (f : D → DeviceState) (ps : List (Place D)) (name : List ℕ) (source : SourceState) → find_name name ps ≡ None → table_after_load (table f ps) name source ≡ table f ps
+unfolding table_after_load
 after_load_unknown f ps name source h =
     let t : Table = table f ps in
     ap (λ (o : Option ℕ). loaded_at t o source) (find_name-table f name ps ∙ h)
@@ -38,8 +38,8 @@ load_answer_is f ps name k p h n e =
     let t : Table = table f ps in
     ap (load_at t) (find_name-table f name ps ∙ h) ∙ slot_load-table f ps k p n e
 
-pub after_load_is : {D : Type 0} (f : D → DeviceState) (ps : List (Place D)) (name : List ℕ) (k : ℕ) (p : Place D) (s : Slot D) (source : SourceState) → find_name name ps ≡ Some k → p ≡ slice_index_or ps k p → seen_slot f s ≡ loaded_slot (seen_slot f p.slot) source → table f (slice_set ps k (record { info = p.info; slot = s })) ≡ after_load (table f ps) name source
-unfolding after_load
+pub after_load_is : {D : Type 0} (f : D → DeviceState) (ps : List (Place D)) (name : List ℕ) (k : ℕ) (p : Place D) (s : Slot D) (source : SourceState) → find_name name ps ≡ Some k → p ≡ slice_index_or ps k p → seen_slot f s ≡ loaded_slot (seen_slot f p.slot) source → table f (slice_set ps k (record { info = p.info; slot = s })) ≡ table_after_load (table f ps) name source
+unfolding table_after_load
 after_load_is f ps name k p s source h e q =
     let t : Table = table f ps in
     with_loaded-table f ps k p s source e q ∙ sym (ap (λ (o : Option ℕ). loaded_at t o source) (find_name-table f name ps ∙ h))

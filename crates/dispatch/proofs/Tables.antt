@@ -11,7 +11,7 @@ use Rattle.sane_fixed.specs.declared.status.Status.TheVariants.{DeviceBusy, Inva
 use Rattle.dispatch.specs.declared.table.place.Slot.{Slot}
 use Rattle.dispatch.specs.declared.table.place.Slot.TheVariants.{In, Out, Gone}
 use Rattle.dispatch.specs.declared.table.place.Place.{Place}
-use Rattle.dispatch.specs.Table.{seen_slot, seen_place, table, is_named, is_out, awaits, awaits_in, find_name, held, held_at, with_slot, take_answer, after_take, unplug_answer, after_unplug, after_give_back, filled, vacant_table, fresh_table, fresh_place, Table, take_at, take_of, leased, unplug_at, unplug_of, unplugged_at, unplugged_of}
+use Rattle.dispatch.specs.Table.{seen_slot, seen_place, table, is_named, is_out, awaits, awaits_in, find_name, device_in, held_at, with_slot, take_answer, after_take, unplug_answer, after_unplug, after_give_back, filled_places, vacant_table, fresh_table, fresh_place, Table, take_at, take_of, after_take_answer, unplug_at, unplug_of, unplugged_at, unplugged_of}
 use Rattle.device_api.specs.declared.device_info.DeviceInfo.{DeviceInfo}
 
 prefix_len-map : {X Y : Type 0} (f : X → Y) (p : Y → Bool) (q : X → Bool) → ((x : X) → p (f x) ≡ q x) → (xs : List X) → prefix_len p (map f xs) ≡ prefix_len q xs
@@ -30,7 +30,7 @@ find_name-table f name ps =
     let e = prefix_len-map (seen_place f) (λ (x : Place _). not (is_named name x)) (λ (x : Place _). not (is_named name x)) (λ x. ap not (named-seen f name x.info x.slot)) ps in
     rw (e, length-map ps (seen_place f))
 
-pub held-seen : {D S : Type 0} (f : D → S) (s : Slot D) → held (seen_slot f s) ≡ option_map f (held s)
+pub held-seen : {D S : Type 0} (f : D → S) (s : Slot D) → device_in (seen_slot f s) ≡ option_map f (device_in s)
 held-seen f (In d) = refl
 held-seen f Out = refl
 held-seen f Gone = refl
@@ -60,7 +60,7 @@ unfolding take_answer after_take
 take_unknown f ps name h =
     let t : Table = table f ps in
     let a : take_at t (find_name name t) ≡ Err Inval = ap (take_at t) (find_name-table f name ps ∙ h) in
-    (a, ap (leased t) a)
+    (a, ap (after_take_answer t) a)
 
 -- where the device is out
 pub take_busy : {D : Type 0} (f : D → DeviceState) (ps : List (Place D)) (name : List ℕ) (k : ℕ) → find_name name ps ≡ Some k → held_at ps k ≡ None → (take_answer (table f ps) name ≡ Err DeviceBusy) × (after_take (table f ps) name ≡ table f ps)
@@ -68,7 +68,7 @@ unfolding take_answer after_take
 take_busy f ps name k h o =
     let t : Table = table f ps in
     let a : take_at t (find_name name t) ≡ Err DeviceBusy = ap (take_at t) (find_name-table f name ps ∙ h) ∙ ap (take_of k) (held_at-table f ps k ∙ ap (option_map f) o) in
-    (a, ap (leased t) a)
+    (a, ap (after_take_answer t) a)
 
 -- where it is in
 pub take_gives : {D : Type 0} (f : D → DeviceState) (ps : List (Place D)) (name : List ℕ) (k : ℕ) (d : D) → find_name name ps ≡ Some k → held_at ps k ≡ Some d → (take_answer (table f ps) name ≡ Ok (record { device = after_reset (f d); place = k })) × (after_take (table f ps) name ≡ table f (with_slot ps k Out))
@@ -76,7 +76,7 @@ unfolding take_answer after_take
 take_gives f ps name k d h o =
     let t : Table = table f ps in
     let a : take_at t (find_name name t) ≡ Ok (record { device = after_reset (f d); place = k }) = ap (take_at t) (find_name-table f name ps ∙ h) ∙ ap (take_of k) (held_at-table f ps k ∙ ap (option_map f) o) in
-    (a, ap (leased t) a ∙ with_slot-table f ps k Out)
+    (a, ap (after_take_answer t) a ∙ with_slot-table f ps k Out)
 
 -- the same of an unplug
 pub unplug_unknown : {D : Type 0} (f : D → DeviceState) (ps : List (Place D)) (name : List ℕ) → find_name name ps ≡ None → (unplug_answer (table f ps) name ≡ Err Inval) × (after_unplug (table f ps) name ≡ table f ps)
@@ -145,7 +145,7 @@ slice_set_slot (p ∷ ps) zero d s = refl
 slice_set_slot (p ∷ ps) (suc k) d s = ap (λ xs. p ∷ xs) (slice_set_slot ps k d s)
 
 -- what a read of a slot finds
-pub held_slot : {D : Type 0} (ps : List (Place D)) (k : ℕ) (d : Place D) → k < length ps → held (slice_index_or ps k d).slot ≡ held_at ps k
+pub held_slot : {D : Type 0} (ps : List (Place D)) (k : ℕ) (d : Place D) → k < length ps → device_in (slice_index_or ps k d).slot ≡ held_at ps k
 unfolding held_at
 held_slot [] k d h = absurd (omega arith)
 held_slot (p ∷ ps) zero d h = refl
@@ -165,8 +165,8 @@ on_some_weaker None f h = h
 pub write_slot : {D : Type 0} (ps : List (Place D)) (k : ℕ) (p : Place D) (s : Slot D) → p ≡ slice_index_or ps k p → slice_set ps k (record { info = p.info; slot = s }) ≡ with_slot ps k s
 write_slot ps k p s e = ap (λ (q : Place _). slice_set ps k (record { info = q.info; slot = s })) e ∙ slice_set_slot ps k p s
 
-pub read_slot : {D : Type 0} (ps : List (Place D)) (k : ℕ) (p : Place D) → k < length ps → p ≡ slice_index_or ps k p → held p.slot ≡ held_at ps k
-read_slot ps k p h e = ap (λ (q : Place _). held q.slot) e ∙ held_slot ps k p h
+pub read_slot : {D : Type 0} (ps : List (Place D)) (k : ℕ) (p : Place D) → k < length ps → p ≡ slice_index_or ps k p → device_in p.slot ≡ held_at ps k
+read_slot ps k p h e = ap (λ (q : Place _). device_in q.slot) e ∙ held_slot ps k p h
 
 pub with_slot-twice : {D : Type 0} (ps : List (Place D)) (k : ℕ) (s t : Slot D) → with_slot (with_slot ps k s) k t ≡ with_slot ps k t
 unfolding with_slot
@@ -174,11 +174,11 @@ with_slot-twice [] k s t = refl
 with_slot-twice (p ∷ ps) zero s t = refl
 with_slot-twice (p ∷ ps) (suc k) s t = ap (λ xs. p ∷ xs) (with_slot-twice ps k s t)
 
-pub filled-none : {D : Type 0} (ps : List (Place D)) → filled ps [] ≡ ps
+pub filled-none : {D : Type 0} (ps : List (Place D)) → filled_places ps [] ≡ ps
 filled-none [] = refl
 filled-none (p ∷ ps) = refl
 
-pub filled-push : {D : Type 0} (ps : List (Place D)) (ds : List D) (d : D) → length ds < length ps → filled (with_slot ps (length ds) (In d)) ds ≡ filled ps (ds ++ d ∷ [])
+pub filled-push : {D : Type 0} (ps : List (Place D)) (ds : List D) (d : D) → length ds < length ps → filled_places (with_slot ps (length ds) (In d)) ds ≡ filled_places ps (ds ++ d ∷ [])
 unfolding with_slot
 filled-push [] ds d h = absurd (omega arith)
 filled-push (p ∷ ps) [] d h = ap (λ xs. record { info = p.info; slot = In d } ∷ xs) (sym (filled-none ps))
@@ -188,12 +188,12 @@ pub length-vacant : (D : Type 0) (ss : List DeviceState) → length (vacant_tabl
 length-vacant D [] = refl
 length-vacant D (s ∷ ss) = ap (λ (n : ℕ). suc n) (length-vacant D ss)
 
-pub length-filled : {D : Type 0} (ps : List (Place D)) (ds : List D) → length (filled ps ds) ≡ length ps
+pub length-filled : {D : Type 0} (ps : List (Place D)) (ds : List D) → length (filled_places ps ds) ≡ length ps
 length-filled [] ds = refl
 length-filled (p ∷ ps) [] = refl
 length-filled (p ∷ ps) (d ∷ ds) = ap (λ (n : ℕ). suc n) (length-filled ps ds)
 
-pub fresh_is : {D : Type 0} (f : D → DeviceState) (ss : List DeviceState) (ds : List D) → map f ds ≡ map after_reset ss → table f (filled (vacant_table ss) ds) ≡ fresh_table ss
+pub fresh_is : {D : Type 0} (f : D → DeviceState) (ss : List DeviceState) (ds : List D) → map f ds ≡ map after_reset ss → table f (filled_places (vacant_table ss) ds) ≡ fresh_table ss
 unfolding table
 fresh_is f [] ds h = refl
 fresh_is f (s ∷ ss) [] h = absurd (cc)
@@ -201,7 +201,7 @@ fresh_is f (s ∷ ss) (d ∷ ds) h =
     let both : f d ∷ map f ds ≡ after_reset s ∷ map after_reset ss = h in
     let first : f d ≡ after_reset s = cc in
     let others : map f ds ≡ map after_reset ss = cc in
-    ap (λ (x : DeviceState). record { info = s.info; slot = In x } ∷ table f (filled (vacant_table ss) ds)) first ∙ ap (λ (xs : List (Place DeviceState)). fresh_place s ∷ xs) (fresh_is f ss ds others)
+    ap (λ (x : DeviceState). record { info = s.info; slot = In x } ∷ table f (filled_places (vacant_table ss) ds)) first ∙ ap (λ (xs : List (Place DeviceState)). fresh_place s ∷ xs) (fresh_is f ss ds others)
 
 -- a slice that was lent from a vector, put back
 pub put_back : {X : Type 0} (n : ℕ) (xs new : List X) → n ≡ length xs → length new ≡ length xs → take n (new ++ drop (length new) xs) ≡ new

@@ -52,13 +52,13 @@ abbrev pub find_name : {D : Type 0} → List ℕ → List (Place D) → Option �
 find_name name ps = position (is_named name) ps
 
 -- what a slot holds
-abbrev pub held : {D : Type 0} → Slot D → Option D
-held (In d) = Some d
-held Out = None
-held Gone = None
+abbrev pub device_in : {D : Type 0} → Slot D → Option D
+device_in (In d) = Some d
+device_in Out = None
+device_in Gone = None
 
 unfoldable pub held_at : {D : Type 0} → List (Place D) → ℕ → Option D
-held_at ps k = elim (slice_get ps k) [ Some p ↦ held p.slot | None ↦ None ]
+held_at ps k = elim (slice_get ps k) [ Some p ↦ device_in p.slot | None ↦ None ]
 
 -- the table with another slot at a place
 unfoldable pub with_slot : {D : Type 0} → List (Place D) → ℕ → Slot D → List (Place D)
@@ -79,12 +79,12 @@ unfoldable pub take_answer : Table → List ℕ → Result (Lease DeviceState) S
 take_answer t name = take_at t (find_name name t)
 
 -- the table after that answer
-abbrev pub leased : Table → Result (Lease DeviceState) Status → Table
-leased t (Ok l) = with_slot t l.place Out
-leased t (Err e) = t
+abbrev pub after_take_answer : Table → Result (Lease DeviceState) Status → Table
+after_take_answer t (Ok l) = with_slot t l.place Out
+after_take_answer t (Err e) = t
 
 unfoldable pub after_take : Table → List ℕ → Table
-after_take t name = leased t (take_answer t name)
+after_take t name = after_take_answer t (take_answer t name)
 
 -- whether the device of a place is out, and has that name
 abbrev pub is_out : {D : Type 0} → Slot D → Bool
@@ -111,19 +111,19 @@ pub record IsLeaseOf (lease : Lease DeviceState) (t : Table) : Type 0 where
   pub name : lease.device.info.name ≡ place.info.name
 
 -- what stands in a place has that place's name
-abbrev pub HasName : DeviceInfo → Slot DeviceState → Type 0
-HasName info (In s) = s.info.name ≡ info.name
-HasName info Out = Unit {0}
-HasName info Gone = Unit {0}
+abbrev pub HasPlaceName : DeviceInfo → Slot DeviceState → Type 0
+HasPlaceName info (In s) = s.info.name ≡ info.name
+HasPlaceName info Out = Unit {0}
+HasPlaceName info Gone = Unit {0}
 
-abbrev pub IsSound : Table → Type 0
-IsSound [] = Unit {0}
-IsSound (p ∷ ps) = HasName p.info p.slot × IsSound ps
+abbrev pub TableInvariant : Table → Type 0
+TableInvariant [] = Unit {0}
+TableInvariant (p ∷ ps) = HasPlaceName p.info p.slot × TableInvariant ps
 
 -- what the devices are that are not unplugged, in their order
-abbrev pub listed : {D : Type 0} → List (Place D) → List DeviceInfo
-listed [] = []
-listed (p ∷ ps) = if is_gone p.slot then listed ps else p.info ∷ listed ps
+abbrev pub listed_infos : {D : Type 0} → List (Place D) → List DeviceInfo
+listed_infos [] = []
+listed_infos (p ∷ ps) = if is_gone p.slot then listed_infos ps else p.info ∷ listed_infos ps
 
 -- what an unplug answers, and the table after it
 abbrev pub unplug_of : Option DeviceState → Result DeviceState Status
@@ -173,17 +173,17 @@ vacant_table [] = []
 vacant_table (s ∷ ss) = record { info = s.info; slot = Gone } ∷ vacant_table ss
 
 -- each device in its place
-abbrev pub filled : {D : Type 0} → List (Place D) → List D → List (Place D)
-filled [] ds = []
-filled (p ∷ ps) [] = p ∷ ps
-filled (p ∷ ps) (d ∷ ds) = record { info = p.info; slot = In d } ∷ filled ps ds
+abbrev pub filled_places : {D : Type 0} → List (Place D) → List D → List (Place D)
+filled_places [] ds = []
+filled_places (p ∷ ps) [] = p ∷ ps
+filled_places (p ∷ ps) (d ∷ ds) = record { info = p.info; slot = In d } ∷ filled_places ps ds
 
 -- ---- another page
 
 -- without what comes back
-abbrev pub told_of : {A E P : Type 0} → Result A (E × P) → Result A E
-told_of (Ok a) = Ok a
-told_of (Err e) = Err e.0
+abbrev pub without_return : {A E P : Type 0} → Result A (E × P) → Result A E
+without_return (Ok a) = Ok a
+without_return (Err e) = Err e.0
 
 abbrev pub load_into : DeviceState → Result Unit Status
 load_into s = if takes_page s then Ok tt else Err DeviceBusy
@@ -221,5 +221,5 @@ abbrev pub loaded_at : Table → Option ℕ → SourceState → Table
 loaded_at t (Some k) source = with_loaded t k source
 loaded_at t None source = t
 
-unfoldable pub after_load : Table → List ℕ → SourceState → Table
-after_load t name source = loaded_at t (find_name name t) source
+unfoldable pub table_after_load : Table → List ℕ → SourceState → Table
+table_after_load t name source = loaded_at t (find_name name t) source

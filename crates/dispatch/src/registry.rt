@@ -1,10 +1,10 @@
 ghost use Rattle.std.specs.Prelude.{◌≡◌, ◌≢◌, ◌≤◌, ◌<◌, length, [], List, map, IfOk, IfErr, OnErr, OnOk, IsOk, IsTrue, is_some};
 ghost use Rattle.device_api.specs.State.{after_reset, DeviceState};
-ghost use Rattle.dispatch.specs.RegistryFault.{HasFault, MayStand};
-ghost use Rattle.dispatch.specs.Table.{fresh_table, table, seen_take, seen_unplug, seen_lease, take_answer, after_take, after_give_back, unplug_answer, after_unplug, listed, told_of, load_answer, after_load, find_name};
+ghost use Rattle.dispatch.specs.RegistryFault.{HasRegistryFault, AreRegistrable};
+ghost use Rattle.dispatch.specs.Table.{fresh_table, table, seen_take, seen_unplug, seen_lease, take_answer, after_take, after_give_back, unplug_answer, after_unplug, listed_infos, without_return, load_answer, table_after_load, find_name};
 
 use crate::table::fresh::{fill, repeats, vacant};
-use crate::table::listing::listed;
+use crate::table::listing::listed_infos;
 use crate::table::loading::load_slot;
 use crate::table::place::{Lease, Place, Slot};
 use crate::table::reset::reset_all;
@@ -37,7 +37,7 @@ impl<D> Model for Registry<D> {
 
 /// A table that is no more. Only what has it drops a lease.
 #[derive(Drop)]
-pub struct Retired {
+pub struct RetiredTable {
     _private: (),
 }
 
@@ -64,8 +64,8 @@ impl<D: Device> Registry<D> {
     /// The devices in order, each of them reset. Refused devices are given back as they were.
     pub fn new(alloc: Global, devices: Vec<D>) -> Result<Registry<D>, (RegistryFault, Vec<D>)>
         ensures ok { IfOk result (λ r. table D.state r ≡ fresh_table (map D.state devices.items)) }
-        ensures accepted { OnOk result (MayStand (map D.state devices.items)) }
-        ensures fault { IfErr result (λ e. HasFault e.0 (map D.state devices.items)) }
+        ensures accepted { OnOk result (AreRegistrable (map D.state devices.items)) }
+        ensures fault { IfErr result (λ e. HasRegistryFault e.0 (map D.state devices.items)) }
         ensures given_back { IfErr result (λ e. e.1 ≡ devices) }
     {
         if repeats(&devices) {
@@ -104,11 +104,11 @@ impl<D: Device> Registry<D> {
 
 impl<D: Device> Registry<D> {
     /// What the devices are, in the order in which they were handed in: leased ones too, unplugged ones
-    /// not. The only error is want of memory.
+    /// not. The only error is out of memory.
     pub fn list(&self, alloc: Global) -> Result<Vec<DeviceInfo>, NoMem>
-        ensures { IfOk result (λ infos. infos.items ≡ listed (table D.state self.now)) }
+        ensures { IfOk result (λ infos. infos.items ≡ listed_infos (table D.state self.now)) }
     {
-        listed(alloc, self.places.as_slice())
+        listed_infos(alloc, self.places.as_slice())
     }
 }
 
@@ -144,13 +144,13 @@ impl<D: Device> Registry<D> {
 
 impl<D: Drop> Registry<D> {
     /// Drops the table and the devices that are in: for one that goes together with its leases.
-    pub fn retire(self) -> Retired {
+    pub fn retire(self) -> RetiredTable {
         let Registry { places: _places } = self;
-        Retired { _private: () }
+        RetiredTable { _private: () }
     }
 }
 
-impl Retired {
+impl RetiredTable {
     /// Drops a lease with its device, which no table waits for any more.
     pub fn drop_lease<D: Drop>(&self, lease: Lease<D>) {
         let Lease {
@@ -164,8 +164,8 @@ impl<D: Device> Registry<D> {
     /// Puts another page into the device of that name. Refuses: `Inval` where none is listed under it; `DeviceBusy` where
     /// it is leased, is not at rest, or has no room for a page. Then the page comes back.
     pub fn load(&mut self, name: &[u8], page: Source) -> Result<(), (Status, Source)>
-        ensures answer { told_of result ≡ load_answer (table D.state self.old) name.now }
-        ensures after { table D.state self.new ≡ after_load (table D.state self.old) name.now (⟦<Source as PageSource>⟧.source page) }
+        ensures answer { without_return result ≡ load_answer (table D.state self.old) name.now }
+        ensures after { table D.state self.new ≡ table_after_load (table D.state self.old) name.now (⟦<Source as PageSource>⟧.source page) }
         ensures given_back { IfErr result (λ e. e.1 ≡ page) }
     {
         let Some(k) = find_name(&self.places, name) else {

@@ -1,8 +1,8 @@
 ghost use Rattle.std.specs.Prelude.{◌≡◌, map, vec_len, IfOk, IfErr};
-ghost use Rattle.page_picture.specs.Shown.{shown};
+ghost use Rattle.page_picture.specs.SourceView.{source_state};
 ghost use Rattle.page_picture.specs.declared.scene.DeviceKind.TheVariants.{Feeder as FeederKind};
 ghost use Rattle.virtual_scanner.specs.New.{new_device};
-ghost use Rattle.flatbed_dev.specs.FeederFault.{HasFault};
+ghost use Rattle.flatbed_dev.specs.FeederFault.{HasFeederFault};
 
 use device_api::{Device, DeviceInfo};
 use option_desc::{Descriptor, Value};
@@ -43,15 +43,15 @@ impl Model for Feeder {
 
 impl Feeder {
     /// A feeder of that name at rest, its options at their defaults, with these pages in its tray, the first of which is
-    /// scanned first. Where it is refused, or memory is wanting, the sources come back.
+    /// scanned first. Where it is refused, or memory runs out, the sources come back.
     pub fn new(
         alloc: Global,
         name: Text,
         pages: Vec<Source>,
         order: ByteOrder,
     ) -> Result<Self, (FeederFault, Vec<Source>)>
-        ensures ok { IfOk result (λ feeder. feeder ≡ new_device FeederKind name (map shown pages.items) order) }
-        ensures fault { IfErr result (λ e. HasFault e.0 (vec_len pages)) }
+        ensures ok { IfOk result (λ feeder. feeder ≡ new_device FeederKind name (map source_state pages.items) order) }
+        ensures fault { IfErr result (λ e. HasFeederFault e.0 (vec_len pages)) }
         ensures given_back { IfErr result (λ e. e.1.items ≡ pages.items) }
     {
         if pages.len() > TRAY_ROOM {

@@ -1,5 +1,5 @@
 ghost use Rattle.std.specs.Prelude.{◌≡◌, IfOk, IfErr};
-ghost use Rattle.page_picture.specs.Shown.{shown};
+ghost use Rattle.page_picture.specs.SourceView.{source_state};
 ghost use Rattle.page_picture.specs.declared.scene.DeviceKind.TheVariants.{Flatbed as FlatbedKind};
 ghost use Rattle.virtual_scanner.specs.New.{new_scanner};
 
@@ -27,10 +27,10 @@ impl Model for Flatbed {
 }
 
 impl Flatbed {
-    /// A flatbed of that name at rest, its options at their defaults, on the page of a source. The source comes back for
-    /// want of memory.
+    /// A flatbed of that name at rest, its options at their defaults, on the page of a source. The source comes back
+    /// where memory ran out.
     pub fn new(alloc: Global, name: Text, source: Source, order: ByteOrder) -> Result<Self, Source>
-        ensures ok { IfOk result (λ flatbed. flatbed ≡ new_scanner FlatbedKind name (shown source) order) }
+        ensures ok { IfOk result (λ flatbed. flatbed ≡ new_scanner FlatbedKind name (source_state source) order) }
         ensures err { IfErr result (λ back. back ≡ source) }
     {
         let scanner = VirtualScanner::new(alloc, DeviceKind::Flatbed, name, source, order)?;

@@ -12,7 +12,7 @@ use Rattle.frame_join.specs.AloneFrame.{is_alone_format, is_alone, is_known, is_
 use Rattle.frame_join.specs.KeptFrame.{color_number, is_unknown, is_open_ended, is_pass, is_pass_that, is_alike, same_order, goes_with}
 use Rattle.frame_join.specs.ColorPlanes.{Plane, Planes, no_plane, plane_in, plane_of, planes_of, nth_plane}
 use Rattle.frame_join.specs.FrameHistory.{is_accepted}
-use Rattle.frame_join.specs.PixelJoining.{PixelJoining, IsColor}
+use Rattle.frame_join.specs.PixelJoinStates.{PixelJoinState, IsColor}
 use Rattle.frame_join.specs.JoinSteps.{put_plane, is_there, has_two, accepts_next}
 use Rattle.frame_join.proofs.TestLemmas.{lt_true, eq_true, eq_from, or_false, or_other, not_true}
 use Rattle.frame_join.proofs.KeptLaws.{pass_parts}
@@ -217,7 +217,7 @@ first_parts a pass h =
 abbrev next_of : Planes → Params → ByteOrder → Params → ByteOrder → Bool
 next_of planes q r p o = is_pass_that (has_two planes) p && (not (is_there (nth_plane planes (color_number p.format))) && is_alike q r p o)
 
-next_is : (v : PixelJoining) (planes : Planes) (q : Params) (r : ByteOrder) (p : Params) (o : ByteOrder) → v.planes ≡ planes → v.params ≡ q → v.order ≡ r → accepts_next v p o ≡ next_of planes q r p o
+next_is : (v : PixelJoinState) (planes : Planes) (q : Params) (r : ByteOrder) (p : Params) (o : ByteOrder) → v.planes ≡ planes → v.params ≡ q → v.order ≡ r → accepts_next v p o ≡ next_of planes q r p o
 next_is v planes q r p o a b c =
     ap (λ (x : Planes). next_of x v.params v.order p o) a
     ∙ (ap (λ (x : Params). next_of planes x v.order p o) b ∙ ap (λ (x : ByteOrder). next_of planes q x p o) c)
@@ -251,7 +251,7 @@ two_others false false false = refl
 lines_of : (f : Frame) → is_pass f.params ≡ true → 1 ≤ f.params.bytes_per_line
 lines_of f pass = let shape = (pass_parts f.params pass).shape in omega (arith, shape.row_some, shape.fits)
 
-pub after_one : (a : Frame) (v : PixelJoining) (p : Params) (o : ByteOrder) → IsColor [] a → v.planes ≡ planes_of (a ∷ []) → v.params ≡ a.params → v.order ≡ a.order → accepts_next v p o ≡ is_accepted (a ∷ []) p o
+pub after_one : (a : Frame) (v : PixelJoinState) (p : Params) (o : ByteOrder) → IsColor [] a → v.planes ≡ planes_of (a ∷ []) → v.params ≡ a.params → v.order ≡ a.order → accepts_next v p o ≡ is_accepted (a ∷ []) p o
 after_one a v p o first planes params order =
     let frames = a ∷ [] in
     let lines : HaveLines frames = (lines_of a first.pass, tt) in
@@ -269,7 +269,7 @@ same_alike a b p o alike =
     ∙ (ap (λ (n : ℕ). (a.params.pixels_per_line == p.pixels_per_line) && ((lines_in a.params.lines == lines_in p.lines) && ((n == p.depth) && same_order b.order o))) (sym alike.depth)
     ∙ ap (λ (r : ByteOrder). (a.params.pixels_per_line == p.pixels_per_line) && ((lines_in a.params.lines == lines_in p.lines) && ((a.params.depth == p.depth) && same_order r o))) (sym alike.order)))
 
-pub after_two : (a b : Frame) (v : PixelJoining) (p : Params) (o : ByteOrder) → IsColor [] a → IsColor (a ∷ []) b → v.planes ≡ planes_of (a ∷ b ∷ []) → v.params ≡ b.params → v.order ≡ b.order → accepts_next v p o ≡ is_accepted (a ∷ b ∷ []) p o
+pub after_two : (a b : Frame) (v : PixelJoinState) (p : Params) (o : ByteOrder) → IsColor [] a → IsColor (a ∷ []) b → v.planes ≡ planes_of (a ∷ b ∷ []) → v.params ≡ b.params → v.order ≡ b.order → accepts_next v p o ≡ is_accepted (a ∷ b ∷ []) p o
 after_two a b v p o first second planes params order =
     let frames = a ∷ b ∷ [] in
     let lines : HaveLines frames = (lines_of a first.pass, (lines_of b second.pass, tt)) in

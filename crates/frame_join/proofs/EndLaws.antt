@@ -14,10 +14,10 @@ use Rattle.page_picture.specs.Shows.{Frame, ShowsAlone, ShowsColors, ShowsFrames
 use Rattle.frame_join.specs.AloneFrame.{AloneParts, lines_in, most_bytes, is_alone, is_alone_format}
 use Rattle.frame_join.specs.KeptFrame.{is_open_ended, is_pass}
 use Rattle.frame_join.specs.ColorPlanes.{planes_of, side_by_side}
-use Rattle.frame_join.specs.FrameHistory.{Past, after_feed, after_end, fed, closed, is_full, is_joined, is_accepted, frames_of, answer_by, with_last, answer_of, IsJoined}
-use Rattle.frame_join.specs.FrameFile.{file_front, file_of, AllGone, settled, height_of}
+use Rattle.frame_join.specs.FrameHistory.{JoinHistory, after_feed, after_end, after_feed_at, after_end_at, is_full, is_joined, is_accepted, history_frames, answer_by, with_last, answer_of_end, IsJoined}
+use Rattle.frame_join.specs.FrameFile.{file_front, file_of, AllGone, with_height, frame_height}
 use Rattle.frame_join.specs.JoinStages.{fault_in, is_under}
-use Rattle.frame_join.specs.PixelJoining.{PixelJoining, PixelStands, AreColors, IsPart}
+use Rattle.frame_join.specs.PixelJoinStates.{PixelJoinState, PixelRepresents, AreColors, IsPartOfColors}
 use Rattle.frame_join.specs.JoinSteps.{value_ended, answer_at}
 use Rattle.frame_join.proofs.AcceptLaws.{alone_is}
 use Rattle.frame_join.proofs.FrameLaws.{denotes_shown}
@@ -29,18 +29,18 @@ use Rattle.frame_join.proofs.JoinLaws.{at_stage, fault_at, end_none, end_under, 
 
 -- ---- what `end` answers
 
-answered : (past : Past) (o : Option JoinFault) (u : Option Frame) (es : List Frame) → past.fault ≡ o → past.under ≡ u → past.ended ≡ es → answer_of past ≡ answer_by o u es
+answered : (past : JoinHistory) (o : Option JoinFault) (u : Option Frame) (es : List Frame) → past.fault ≡ o → past.under ≡ u → past.ended ≡ es → answer_of_end past ≡ answer_by o u es
 answered past o u es a b c =
     ap (λ (o : Option JoinFault). answer_by o past.under past.ended) a
     ∙ (ap (λ (u : Option Frame). answer_by o u past.ended) b ∙ ap (answer_by o u) c)
 
-pub answers : (past : Past) (v : PixelJoining) → PixelStands past v → answer_of past ≡ answer_at v.stage
+pub answers : (past : JoinHistory) (v : PixelJoinState) → PixelRepresents past v → answer_of_end past ≡ answer_at v.stage
 answers past v stands = by_stage v.stage refl
   where
-    told : (s : Stage) (u : Option Frame) (b : Bool) → v.stage ≡ s → fault_in s ≡ None → past.under ≡ u → answer_by None u past.ended ≡ Ok b → answer_at s ≡ Ok b → answer_of past ≡ answer_at v.stage
+    told : (s : Stage) (u : Option Frame) (b : Bool) → v.stage ≡ s → fault_in s ≡ None → past.under ≡ u → answer_by None u past.ended ≡ Ok b → answer_at s ≡ Ok b → answer_of_end past ≡ answer_at v.stage
     told s u b e fault under answer same = answered past None u past.ended (fault_at s past v e stands ∙ fault) under refl ∙ (answer ∙ (sym same ∙ sym (ap answer_at e)))
 
-    by_stage : (s : Stage) → v.stage ≡ s → answer_of past ≡ answer_at v.stage
+    by_stage : (s : Stage) → v.stage ≡ s → answer_of_end past ≡ answer_at v.stage
     by_stage Idle e =
         let at = at_stage Idle past v e stands in
         told Idle None false e refl at.1 (ap (λ (l : List Frame). Ok (is_joined l)) at.0) refl
@@ -71,23 +71,23 @@ stage_joined Whole e = inl refl
 stage_joined WholeColors e = inr refl
 stage_joined (Failed x) e = absurd (cc)
 
-pub joined_stage : (past : Past) (v : PixelJoining) → PixelStands past v → IsJoined past → (v.stage ≡ Whole) ⊎ (v.stage ≡ WholeColors)
+pub joined_stage : (past : JoinHistory) (v : PixelJoinState) → PixelRepresents past v → IsJoined past → (v.stage ≡ Whole) ⊎ (v.stage ≡ WholeColors)
 joined_stage past v stands joined = stage_joined v.stage (sym (answers past v stands) ∙ joined)
 
-pub joined_no_fault : (past : Past) (v : PixelJoining) → PixelStands past v → IsJoined past → past.fault ≡ None
+pub joined_no_fault : (past : JoinHistory) (v : PixelJoinState) → PixelRepresents past v → IsJoined past → past.fault ≡ None
 joined_no_fault past v stands joined = elim (joined_stage past v stands joined) [
   | inl whole ↦ fault_at Whole past v whole stands
   | inr colors ↦ fault_at WholeColors past v colors stands
 ]
 
-pub joined_under : (past : Past) (v : PixelJoining) → PixelStands past v → IsJoined past → past.under ≡ None
+pub joined_under : (past : JoinHistory) (v : PixelJoinState) → PixelRepresents past v → IsJoined past → past.under ≡ None
 joined_under past v stands joined = elim (joined_stage past v stands joined) [
   | inl whole ↦ (at_stage Whole past v whole stands).2
   | inr colors ↦ (at_stage WholeColors past v colors stands).4
 ]
 
 -- what went out before the picture is whole is not whole
-pub not_whole : (past : Past) (v : PixelJoining) → PixelStands past v → (IsJoined past → ⊥) → IsWhole past.given → ⊥
+pub not_whole : (past : JoinHistory) (v : PixelJoinState) → PixelRepresents past v → (IsJoined past → ⊥) → IsWhole past.given → ⊥
 not_whole past v stands unjoined = by_stage v.stage refl
   where
     nothing : past.given ≡ [] → IsWhole past.given → ⊥
@@ -135,11 +135,11 @@ frame_shows f parts small size = record {
 }
 
 -- the frames of a whole picture show one
-pub joined_shows : (past : Past) (v : PixelJoining) → PixelStands past v → IsJoined past → (p : Picture) × ShowsFrames past.ended p
+pub joined_shows : (past : JoinHistory) (v : PixelJoinState) → PixelRepresents past v → IsJoined past → (p : Picture) × ShowsFrames past.ended p
 joined_shows past v stands joined = elim (joined_stage past v stands joined) [
   | inl whole ↦
       let at = at_stage Whole past v whole stands in
-      let g = settled at.0 in
+      let g = with_height at.0 in
       (frame_picture g, subst (λ (es : List Frame). ShowsFrames es (frame_picture g)) (sym at.1) (unsettled_shows at.0 (frame_picture g) (frame_shows g at.4.goes.alone at.4.goes.bytes at.3)))
   | inr colors ↦
       let at = at_stage WholeColors past v colors stands in
@@ -148,7 +148,7 @@ joined_shows past v stands joined = elim (joined_stage past v stands joined) [
 ]
 
 -- once nothing more may go out of a whole picture, what went out denotes what the frames show
-pub gone_denotes : (past : Past) (v : PixelJoining) → PixelStands past v → IsJoined past → AllGone past.under past.ended past.given → (p : Picture) → ShowsFrames past.ended p → Denotes past.given p
+pub gone_denotes : (past : JoinHistory) (v : PixelJoinState) → PixelRepresents past v → IsJoined past → AllGone past.under past.ended past.given → (p : Picture) → ShowsFrames past.ended p → Denotes past.given p
 gone_denotes past v stands joined gone p shows = by_stage (joined_stage past v stands joined)
   where
     all : past.given ≡ file_of past.ended
@@ -159,9 +159,9 @@ gone_denotes past v stands joined gone p shows = by_stage (joined_stage past v s
         let at = at_stage Whole past v whole stands in
         let f = at.0 in
         let alone : ShowsAlone f p = subst (λ (es : List Frame). ShowsFrames es p) at.1 shows in
-        let file : past.given ≡ file_front (settled f) (height_of f) = all ∙ (ap file_of at.1 ∙ ap (λ (t : Bool). if t then file_front (settled f) (height_of f) else []) at.4.goes.alone.format) in
+        let file : past.given ≡ file_front (with_height f) (frame_height f) = all ∙ (ap file_of at.1 ∙ ap (λ (t : Bool). if t then file_front (with_height f) (frame_height f) else []) at.4.goes.alone.format) in
         let parts = at.4.goes.alone in
-        subst (λ (l : List ℕ). Denotes l p) (sym file) (denotes_shown (settled f) p parts (settled_shows f p (omega (arith, parts.shape.row_some, parts.shape.fits)) alone))
+        subst (λ (l : List ℕ). Denotes l p) (sym file) (denotes_shown (with_height f) p parts (settled_shows f p (omega (arith, parts.shape.row_some, parts.shape.fits)) alone))
     by_stage (inr colors) =
         let at = at_stage WholeColors past v colors stands in
         let a = at.0 in
@@ -172,12 +172,12 @@ gone_denotes past v stands joined gone p shows = by_stage (joined_stage past v s
         subst (λ (l : List ℕ). Denotes l p) (sym (all ∙ ap file_of at.3)) (denotes_shown (side_by_side c (planes_of (a ∷ b ∷ c ∷ []))) p at.5.goes.alone (side_shows a b c p three three_shows))
 
 -- the file of a whole picture is that of one frame
-pub joined_file : (past : Past) (v : PixelJoining) → PixelStands past v → IsJoined past → (f : Frame) × (is_alone f.params ≡ true) × ((i : ℕ) → slice_index f.payload i < 256) × (file_of past.ended ≡ file_front f (lines_in f.params.lines))
+pub joined_file : (past : JoinHistory) (v : PixelJoinState) → PixelRepresents past v → IsJoined past → (f : Frame) × (is_alone f.params ≡ true) × ((i : ℕ) → slice_index f.payload i < 256) × (file_of past.ended ≡ file_front f (lines_in f.params.lines))
 joined_file past v stands joined = elim (joined_stage past v stands joined) [
   | inl whole ↦
       let at = at_stage Whole past v whole stands in
       let f = at.0 in
-      (settled f, alone_is (settled f).params at.4.goes.alone, at.4.goes.bytes, ap file_of at.1 ∙ ap (λ (t : Bool). if t then file_front (settled f) (height_of f) else []) at.4.goes.alone.format)
+      (with_height f, alone_is (with_height f).params at.4.goes.alone, at.4.goes.bytes, ap file_of at.1 ∙ ap (λ (t : Bool). if t then file_front (with_height f) (frame_height f) else []) at.4.goes.alone.format)
   | inr colors ↦
       let at = at_stage WholeColors past v colors stands in
       let g = side_by_side at.2 (planes_of (at.0 ∷ at.1 ∷ at.2 ∷ [])) in
@@ -193,12 +193,12 @@ no_alone Red c a e = cc
 no_alone Green c a e = cc
 no_alone Blue c a e = cc
 
-ends_joined : (past : Past) (f : Frame) → past.fault ≡ None → past.under ≡ Some f → is_full f ≡ true → is_joined (past.ended ++ f ∷ []) ≡ true → IsJoined (after_end past)
+ends_joined : (past : JoinHistory) (f : Frame) → past.fault ≡ None → past.under ≡ Some f → is_full f ≡ true → is_joined (past.ended ++ f ∷ []) ≡ true → IsJoined (after_end past)
 ends_joined past f fault under full joined =
     let told : after_end past ≡ past_ended true f past = end_under past f fault under ∙ ap (λ (t : Bool). past_ended t f past) full in
     subst IsJoined (sym told) (answered (past_ended true f past) None None (past.ended ++ f ∷ []) fault refl refl ∙ ap (λ (b : Bool). Ok b) joined)
 
-pub shown_joins : (past : Past) (v : PixelJoining) → PixelStands past v → past.fault ≡ None → (p : Picture) → ShowsFrames (frames_of past) p → IsJoined (after_end past)
+pub shown_joins : (past : JoinHistory) (v : PixelJoinState) → PixelRepresents past v → past.fault ≡ None → (p : Picture) → ShowsFrames (history_frames past) p → IsJoined (after_end past)
 shown_joins past v stands fault p shows = by_stage v.stage refl
   where
     frames_at : (u : Option Frame) (es : List Frame) → past.under ≡ u → past.ended ≡ es → ShowsFrames (with_last es u) p
@@ -207,7 +207,7 @@ shown_joins past v stands fault p shows = by_stage v.stage refl
     whole : (s : Stage) → v.stage ≡ s → past.under ≡ None → answer_at s ≡ Ok true → IsJoined (after_end past)
     whole s e under answer = subst IsJoined (sym (end_none past fault under)) (answers past v stands ∙ (ap answer_at e ∙ answer))
 
-    part : (es : List Frame) → past.ended ≡ es → past.under ≡ None → IsPart es v.params v.order → AreColors es → IsJoined (after_end past)
+    part : (es : List Frame) → past.ended ≡ es → past.under ≡ None → IsPartOfColors es v.params v.order → AreColors es → IsJoined (after_end past)
     part [] e under is colors = absurd is
     part (a ∷ []) e under is colors =
         let alone : ShowsAlone a p = frames_at None (a ∷ []) under e in
@@ -251,7 +251,7 @@ shown_joins past v stands fault p shows = by_stage v.stage refl
 
 -- ---- the clauses of `end`
 
-joined_frames_at : (o : Option JoinFault) (u : Option Frame) (past : Past) → past.fault ≡ o → past.under ≡ u → IsJoined (closed o u past) → (o ≡ None) × ((closed o u past).ended ≡ with_last past.ended u)
+joined_frames_at : (o : Option JoinFault) (u : Option Frame) (past : JoinHistory) → past.fault ≡ o → past.under ≡ u → IsJoined (after_end_at o u past) → (o ≡ None) × ((after_end_at o u past).ended ≡ with_last past.ended u)
 joined_frames_at (Some x) u past a b joined = absurd (let y : Err x ≡ Ok true = sym (answered past (Some x) past.under past.ended a refl refl) ∙ joined in cc)
 joined_frames_at None None past a b joined = (refl, refl)
 joined_frames_at None (Some f) past a b joined =
@@ -262,37 +262,37 @@ joined_frames_at None (Some f) past a b joined =
     ] in
     (refl, by_full (is_full f) joined)
 
-joined_frames : (past : Past) → IsJoined (after_end past) → (past.fault ≡ None) × ((after_end past).ended ≡ frames_of past)
+joined_frames : (past : JoinHistory) → IsJoined (after_end past) → (past.fault ≡ None) × ((after_end past).ended ≡ history_frames past)
 unfolding after_end
 joined_frames past joined = joined_frames_at past.fault past.under past refl refl joined
 
-pub end_answer : (past : Past) (v new : PixelJoining) → new ≡ value_ended v → PixelStands past v → answer_at new.stage ≡ answer_of (after_end past)
+pub end_answer : (past : JoinHistory) (v new : PixelJoinState) → new ≡ value_ended v → PixelRepresents past v → answer_at new.stage ≡ answer_of_end (after_end past)
 end_answer past v new e stands =
-    ap (λ (w : PixelJoining). answer_at w.stage) e ∙ sym (answers (after_end past) (value_ended v) (end_carries past v stands))
+    ap (λ (w : PixelJoinState). answer_at w.stage) e ∙ sym (answers (after_end past) (value_ended v) (end_carries past v stands))
 
-pub end_exact : (past : Past) (v new : PixelJoining) → new ≡ value_ended v → PixelStands past v → (answer_at new.stage ≡ Ok true) ↔ ((past.fault ≡ None) × ((p : Picture) × ShowsFrames (frames_of past) p))
+pub end_exact : (past : JoinHistory) (v new : PixelJoinState) → new ≡ value_ended v → PixelRepresents past v → (answer_at new.stage ≡ Ok true) ↔ ((past.fault ≡ None) × ((p : Picture) × ShowsFrames (history_frames past) p))
 end_exact past v new e stands = (there, back)
   where
-    there : answer_at new.stage ≡ Ok true → (past.fault ≡ None) × ((p : Picture) × ShowsFrames (frames_of past) p)
+    there : answer_at new.stage ≡ Ok true → (past.fault ≡ None) × ((p : Picture) × ShowsFrames (history_frames past) p)
     there true_now =
         let joined : IsJoined (after_end past) = sym (end_answer past v new e stands) ∙ true_now in
         let frames = joined_frames past joined in
         let shows = joined_shows (after_end past) (value_ended v) (end_carries past v stands) joined in
         (frames.0, (shows.0, subst (λ (es : List Frame). ShowsFrames es shows.0) frames.1 shows.1))
 
-    back : (past.fault ≡ None) × ((p : Picture) × ShowsFrames (frames_of past) p) → answer_at new.stage ≡ Ok true
+    back : (past.fault ≡ None) × ((p : Picture) × ShowsFrames (history_frames past) p) → answer_at new.stage ≡ Ok true
     back h = end_answer past v new e stands ∙ shown_joins past v stands h.0 h.1.0 h.1.1
 
 -- ---- only an end makes a picture whole
 
-keeps_at : (o : Option JoinFault) (u : Option Frame) (bytes : List ℕ) (starved : Bool) (past : Past) → past.fault ≡ o → past.under ≡ u → IsJoined (fed o u bytes starved past) ↔ IsJoined past
+keeps_at : (o : Option JoinFault) (u : Option Frame) (bytes : List ℕ) (starved : Bool) (past : JoinHistory) → past.fault ≡ o → past.under ≡ u → IsJoined (after_feed_at o u bytes starved past) ↔ IsJoined past
 keeps_at (Some x) u bytes starved past a b = ((λ h. h), (λ h. h))
 keeps_at None None bytes starved past a b = ((λ h. h), (λ h. h))
 keeps_at None (Some f) bytes starved past a b =
     let P : Bool → Type 0 = λ long. IsJoined (past_fed long starved f bytes past) → ⊥ in
     let Q : Bool → Type 0 = λ poor. IsJoined (past_fed false poor f bytes past) → ⊥ in
-    let under : (q : Past) (g : Frame) → q.fault ≡ None → q.under ≡ Some g → IsJoined q → ⊥ = λ q g d e joined. (let y : Ok false ≡ Ok true = sym (answered q None (Some g) q.ended d e refl) ∙ joined in cc) in
-    let no_more : IsJoined (fed None (Some f) bytes starved past) → ⊥ = elim (nat_lt (most_bytes f.params) (length f.payload + length bytes)) as P [
+    let under : (q : JoinHistory) (g : Frame) → q.fault ≡ None → q.under ≡ Some g → IsJoined q → ⊥ = λ q g d e joined. (let y : Ok false ≡ Ok true = sym (answered q None (Some g) q.ended d e refl) ∙ joined in cc) in
+    let no_more : IsJoined (after_feed_at None (Some f) bytes starved past) → ⊥ = elim (nat_lt (most_bytes f.params) (length f.payload + length bytes)) as P [
       | true ↦ λ joined. (let y : Err Long ≡ Ok true = joined in cc)
       | false ↦ elim starved as Q [
         | true ↦ λ joined. (let y : Err NoMem ≡ Ok true = joined in cc)
@@ -301,10 +301,10 @@ keeps_at None (Some f) bytes starved past a b =
     ] in
     ((λ joined. absurd (no_more joined)), (λ joined. absurd (under past f a b joined)))
 
-pub feed_keeps_joined : (bytes : List ℕ) (starved : Bool) (past : Past) → IsJoined (after_feed bytes starved past) ↔ IsJoined past
+pub feed_keeps_joined : (bytes : List ℕ) (starved : Bool) (past : JoinHistory) → IsJoined (after_feed bytes starved past) ↔ IsJoined past
 unfolding after_feed
 feed_keeps_joined bytes starved past = keeps_at past.fault past.under bytes starved past refl refl
 
 -- a picture that is whole stays so
-pub end_keeps_joined : (past : Past) (v : PixelJoining) → PixelStands past v → IsJoined past → IsJoined (after_end past)
+pub end_keeps_joined : (past : JoinHistory) (v : PixelJoinState) → PixelRepresents past v → IsJoined past → IsJoined (after_end past)
 end_keeps_joined past v stands joined = subst IsJoined (sym (end_none past (joined_no_fault past v stands joined) (joined_under past v stands joined))) joined

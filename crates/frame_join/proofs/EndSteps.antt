@@ -10,13 +10,13 @@ use Rattle.frame_join.specs.declared.join_stage.JoinFault.TheVariants.{Short}
 use Rattle.frame_join.specs.declared.join_stage.Stage.{Stage}
 use Rattle.frame_join.specs.declared.join_stage.Stage.TheVariants.{Idle, Under, Keeping, Between, Whole, WholeColors, Failed}
 use Rattle.frame_join.specs.AloneFrame.{is_alone, row_bytes}
-use Rattle.frame_join.specs.FrameFile.{file_of, height_of, AllGone}
+use Rattle.frame_join.specs.FrameFile.{file_of, frame_height, AllGone}
 use Rattle.frame_join.specs.ColorPlanes.{planes_of}
-use Rattle.frame_join.specs.FrameHistory.{Past, is_full, is_full_at, failed, after_end, answer_of, frames_of, with_last, IsJoined}
+use Rattle.frame_join.specs.FrameHistory.{JoinHistory, is_full, is_full_at, with_fault, after_end, answer_of_end, history_frames, with_last, IsJoined}
 use Rattle.frame_join.specs.JoinStages.{is_keeping, is_between, is_colors}
-use Rattle.frame_join.specs.PixelJoining.{PixelJoining, PixelStands, PixelStandsAt}
-use Rattle.frame_join.specs.Pixels.{is_kept, pixels_of, pixel_past}
-use Rattle.frame_join.specs.Joining.{Joining, Stands}
+use Rattle.frame_join.specs.PixelJoinStates.{PixelJoinState, PixelRepresents, PixelRepresentsAt}
+use Rattle.frame_join.specs.Pixels.{is_kept, pixels_of, pixel_history}
+use Rattle.frame_join.specs.JoinStates.{JoinState, Represents}
 use Rattle.frame_join.proofs.TestLemmas.{or_left, or_right, not_true}
 use Rattle.frame_join.proofs.KeptLaws.{kept_shape}
 use Rattle.frame_join.proofs.EndLaws.{joined_shows, gone_denotes, not_whole}
@@ -28,30 +28,30 @@ use Rattle.frame_join.proofs.PixelKeeping.{IsIn, is_in, full_is, short_is, fault
 use Rattle.frame_join.proofs.JoinedLaws.{joined_less, joined_more, file_joined, calm_joined, rest_joined, short_shows}
 
 -- a frame is under way that is kept, and bytes of it have not come
-abbrev pub lacks : Joining → Bool
+abbrev pub lacks : JoinState → Bool
 lacks v = is_keeping v.pixels.stage && not (is_full_at v.pixels.params.lines v.line v.came)
 
-record IsShort (past : Past) (v : Joining) : Type 0 where
+record IsShort (past : JoinHistory) (v : JoinState) : Type 0 where
   keeping : is_keeping v.pixels.stage ≡ true
   at : IsIn past v
   short : is_full at.frame ≡ false
 
-is_short : (past : Past) (v : Joining) → Stands past v → lacks v ≡ true → IsShort past v
+is_short : (past : JoinHistory) (v : JoinState) → Represents past v → lacks v ≡ true → IsShort past v
 is_short past v stands e =
     let parts = and_parts (is_keeping v.pixels.stage) (not (is_full_at v.pixels.params.lines v.line v.came)) e in
     let i = is_in past v stands parts.0 in
     record { keeping = parts.0; at = i; short = sym (full_is past v i) ∙ not_true (is_full_at v.pixels.params.lines v.line v.came) parts.1 }
 
-pub ends_short : (past : Past) (v : Joining) (w : PixelJoining) → Stands past v → lacks v ≡ true → w ≡ record v.pixels { stage = Failed Short } → Stands (after_end past) (record v { pixels = w })
+pub ends_short : (past : JoinHistory) (v : JoinState) (w : PixelJoinState) → Represents past v → lacks v ≡ true → w ≡ record v.pixels { stage = Failed Short } → Represents (after_end past) (record v { pixels = w })
 ends_short past v w stands e failing =
     let s = is_short past v stands e in
-    subst (λ (q : Past). Stands q (record v { pixels = w })) (sym (short_is past v s.at s.short))
-    (fault_stands Short past v (record v { pixels = w }) stands (subst (λ (x : PixelJoining). PixelStands (failed Short (pixel_past past)) x) (sym failing) (fails_kept Short (pixel_past past) v.pixels stands.pixels s.keeping)))
+    subst (λ (q : JoinHistory). Represents q (record v { pixels = w })) (sym (short_is past v s.at s.short))
+    (fault_stands Short past v (record v { pixels = w }) stands (subst (λ (x : PixelJoinState). PixelRepresents (with_fault Short (pixel_history past)) x) (sym failing) (fails_kept Short (pixel_history past) v.pixels stands.pixels s.keeping)))
 
-pub short_answer : (past : Past) (v : Joining) → Stands past v → lacks v ≡ true → Err Short ≡ answer_of (after_end past)
-short_answer past v stands e = let s = is_short past v stands e in sym (ap answer_of (short_is past v s.at s.short))
+pub short_answer : (past : JoinHistory) (v : JoinState) → Represents past v → lacks v ≡ true → Err Short ≡ answer_of_end (after_end past)
+short_answer past v stands e = let s = is_short past v stands e in sym (ap answer_of_end (short_is past v s.at s.short))
 
-pub short_exact : (past : Past) (v : Joining) → Stands past v → lacks v ≡ true → (Err Short ≡ Ok true) ↔ ((past.fault ≡ None) × ((p : Picture) × ShowsFrames (frames_of past) p))
+pub short_exact : (past : JoinHistory) (v : JoinState) → Represents past v → lacks v ≡ true → (Err Short ≡ Ok true) ↔ ((past.fault ≡ None) × ((p : Picture) × ShowsFrames (history_frames past) p))
 short_exact past v stands e =
     let s = is_short past v stands e in
     let shape = kept_shape s.at.frame.params s.at.come.kept in
@@ -64,7 +64,7 @@ full_if true true e h = refl
 full_if true false e h = absurd (let clash : true ≡ false = e in cc)
 full_if false f e h = absurd (let clash : false ≡ true = h in cc)
 
-all_there : (past : Past) (v : Joining) → Stands past v → lacks v ≡ false → past.fault ≡ None → (f : Frame) → past.under ≡ Some f → (is_full (pixels_of f) ≡ is_full f) × ((is_alone f.params || is_kept f.params) ≡ true)
+all_there : (past : JoinHistory) (v : JoinState) → Represents past v → lacks v ≡ false → past.fault ≡ None → (f : Frame) → past.under ≡ Some f → (is_full (pixels_of f) ≡ is_full f) × ((is_alone f.params || is_kept f.params) ≡ true)
 all_there past v stands e calm f under = elim (is_keeping v.pixels.stage) as (λ t. is_keeping v.pixels.stage ≡ t → (is_full (pixels_of f) ≡ is_full f) × ((is_alone f.params || is_kept f.params) ≡ true)) [
   | true ↦ λ keeping. (
       let i = is_in past v stands keeping in
@@ -72,16 +72,16 @@ all_there past v stands e calm f under = elim (is_keeping v.pixels.stage) as (λ
   | false ↦ λ through. through_frame past v stands through calm f under
 ] refl
 
-pub ends_all : (past : Past) (v : Joining) (w : PixelJoining) → Stands past v → lacks v ≡ false → PixelStands (after_end (pixel_past past)) w → Stands (after_end past) (record v { pixels = w })
+pub ends_all : (past : JoinHistory) (v : JoinState) (w : PixelJoinState) → Represents past v → lacks v ≡ false → PixelRepresents (after_end (pixel_history past)) w → Represents (after_end past) (record v { pixels = w })
 ends_all past v w stands e pixels = end_stands past v (record v { pixels = w }) stands (all_there past v stands e) pixels
 
-pub ends_answer : (past : Past) (v : Joining) → Stands past v → lacks v ≡ false → answer_of (after_end (pixel_past past)) ≡ answer_of (after_end past)
-ends_answer past v stands e = ap answer_of (sym (end_same past (λ calm f under. (all_there past v stands e calm f under).0))) ∙ answer_same (after_end past)
+pub ends_answer : (past : JoinHistory) (v : JoinState) → Represents past v → lacks v ≡ false → answer_of_end (after_end (pixel_history past)) ≡ answer_of_end (after_end past)
+ends_answer past v stands e = ap answer_of_end (sym (end_same past (λ calm f under. (all_there past v stands e calm f under).0))) ∙ answer_same (after_end past)
 
 some_frame : (f g : Frame) → Some f ≡ Some g → f ≡ g
 some_frame f g e = cc
 
-frames_sure : (past : Past) (v : Joining) → Stands past v → lacks v ≡ false → past.fault ≡ None → AreSure (frames_of past)
+frames_sure : (past : JoinHistory) (v : JoinState) → Represents past v → lacks v ≡ false → past.fault ≡ None → AreSure (history_frames past)
 frames_sure past v stands e calm = by past.under refl
   where
     one : (f : Frame) → past.under ≡ Some f → IsSure f
@@ -100,55 +100,55 @@ frames_sure past v stands e calm = by past.under refl
     by None under = sure past.ended stands.ended
     by (Some f) under = sure-append past.ended f (sure past.ended stands.ended) (one f under)
 
-pub ends_exact : (past : Past) (v : Joining) (r : Result Bool JoinFault) → Stands past v → lacks v ≡ false → (r ≡ Ok true) ↔ ((past.fault ≡ None) × ((p : Picture) × ShowsFrames (frames_of (pixel_past past)) p)) → (r ≡ Ok true) ↔ ((past.fault ≡ None) × ((p : Picture) × ShowsFrames (frames_of past) p))
+pub ends_exact : (past : JoinHistory) (v : JoinState) (r : Result Bool JoinFault) → Represents past v → lacks v ≡ false → (r ≡ Ok true) ↔ ((past.fault ≡ None) × ((p : Picture) × ShowsFrames (history_frames (pixel_history past)) p)) → (r ≡ Ok true) ↔ ((past.fault ≡ None) × ((p : Picture) × ShowsFrames (history_frames past) p))
 ends_exact past v r stands e iff = (
   (λ done. (
       let h = iff.0 done in
-      (h.0, (h.1.0, shown_wide (frames_of past) h.1.0 (frames_sure past v stands e h.0) (subst (λ (fs : List Frame). ShowsFrames fs h.1.0) (frames_same past) h.1.1))))),
-  (λ h. iff.1 (h.0, (h.1.0, subst (λ (fs : List Frame). ShowsFrames fs h.1.0) (sym (frames_same past)) (shown_narrow (frames_of past) h.1.0 (frames_sure past v stands e h.0) h.1.1)))),
+      (h.0, (h.1.0, shown_wide (history_frames past) h.1.0 (frames_sure past v stands e h.0) (subst (λ (fs : List Frame). ShowsFrames fs h.1.0) (frames_same past) h.1.1))))),
+  (λ h. iff.1 (h.0, (h.1.0, subst (λ (fs : List Frame). ShowsFrames fs h.1.0) (sym (frames_same past)) (shown_narrow (history_frames past) h.1.0 (frames_sure past v stands e h.0) h.1.1)))),
 )
 
 -- ---- what was given, and what the frames show
 
-pub given_exactly : (past : Past) (v : Joining) (b : Bool) → Stands past v → (b ≡ true) ↔ (IsJoined (pixel_past past) × (past.given ≡ file_of (map pixels_of past.ended))) → (b ≡ true) ↔ (IsJoined past × (past.given ≡ file_of past.ended))
+pub given_exactly : (past : JoinHistory) (v : JoinState) (b : Bool) → Represents past v → (b ≡ true) ↔ (IsJoined (pixel_history past) × (past.given ≡ file_of (map pixels_of past.ended))) → (b ≡ true) ↔ (IsJoined past × (past.given ≡ file_of past.ended))
 given_exactly past v b stands iff = (
   (λ done. (let h = iff.0 done in let j = joined_more past h.0 in (j, h.1 ∙ file_joined past v stands (calm_joined past v stands j) (rest_joined past v stands j)))),
   (λ h. iff.1 (joined_less past h.0, h.1 ∙ sym (file_joined past v stands (calm_joined past v stands h.0) (rest_joined past v stands h.0)))),
 )
 
-pub shown_less : (past : Past) (v : Joining) → Stands past v → (p : Picture) → ShowsFrames past.ended p → ShowsFrames (map pixels_of past.ended) p
+pub shown_less : (past : JoinHistory) (v : JoinState) → Represents past v → (p : Picture) → ShowsFrames past.ended p → ShowsFrames (map pixels_of past.ended) p
 shown_less past v stands p shows = shown_narrow past.ended p (sure past.ended stands.ended) shows
 
-pub shown_more : (past : Past) (v : Joining) → Stands past v → (p : Picture) → ShowsFrames (map pixels_of past.ended) p → ShowsFrames past.ended p
+pub shown_more : (past : JoinHistory) (v : JoinState) → Represents past v → (p : Picture) → ShowsFrames (map pixels_of past.ended) p → ShowsFrames past.ended p
 shown_more past v stands p shows = shown_wide past.ended p (sure past.ended stands.ended) shows
 
 -- ---- what those above need
 
-pub whole_not : (past : Past) (v : Joining) → Stands past v → (IsJoined past → ⊥) → IsWhole past.given → ⊥
-whole_not past v stands unjoined whole = not_whole (pixel_past past) v.pixels stands.pixels (λ j. unjoined (joined_more past j)) whole
+pub whole_not : (past : JoinHistory) (v : JoinState) → Represents past v → (IsJoined past → ⊥) → IsWhole past.given → ⊥
+whole_not past v stands unjoined whole = not_whole (pixel_history past) v.pixels stands.pixels (λ j. unjoined (joined_more past j)) whole
 
-pub whole_shows : (past : Past) (v : Joining) → Stands past v → IsJoined past → (p : Picture) × ShowsFrames past.ended p
+pub whole_shows : (past : JoinHistory) (v : JoinState) → Represents past v → IsJoined past → (p : Picture) × ShowsFrames past.ended p
 whole_shows past v stands joined =
-    let h = joined_shows (pixel_past past) v.pixels stands.pixels (joined_less past joined) in
+    let h = joined_shows (pixel_history past) v.pixels stands.pixels (joined_less past joined) in
     (h.0, shown_more past v stands h.0 h.1)
 
-pub all_denotes : (past : Past) (v : Joining) → Stands past v → IsJoined past → AllGone past.under past.ended past.given → (p : Picture) → ShowsFrames past.ended p → Denotes past.given p
+pub all_denotes : (past : JoinHistory) (v : JoinState) → Represents past v → IsJoined past → AllGone past.under past.ended past.given → (p : Picture) → ShowsFrames past.ended p → Denotes past.given p
 all_denotes past v stands joined gone p shows =
     let rest = rest_joined past v stands joined in
     let calm = calm_joined past v stands joined in
     let file : past.given ≡ file_of past.ended = subst (λ (u : Option Frame). AllGone u past.ended past.given) rest gone in
     let less : AllGone (option_map pixels_of past.under) (map pixels_of past.ended) past.given = subst (λ (u : Option Frame). AllGone u (map pixels_of past.ended) past.given) (sym (ap (option_map pixels_of) rest)) (file ∙ sym (file_joined past v stands calm rest)) in
-    gone_denotes (pixel_past past) v.pixels stands.pixels (joined_less past joined) less p (shown_less past v stands p shows)
+    gone_denotes (pixel_history past) v.pixels stands.pixels (joined_less past joined) less p (shown_less past v stands p shows)
 
 -- ---- how much is kept
 
-pub held_pixels : (past : Past) (v : Joining) (f : Frame) → Stands past v → is_keeping v.pixels.stage ≡ true → past.under ≡ Some f → v.pixels.held ≡ (pixels_of f).payload
+pub held_pixels : (past : JoinHistory) (v : JoinState) (f : Frame) → Represents past v → is_keeping v.pixels.stage ≡ true → past.under ≡ Some f → v.pixels.held ≡ (pixels_of f).payload
 held_pixels past v f stands keeping under =
-    let k = in_kept (pixel_past past) v.pixels stands.pixels keeping in
+    let k = in_kept (pixel_history past) v.pixels stands.pixels keeping in
     let same : k.frame ≡ pixels_of f = some_frame k.frame (pixels_of f) (sym k.under ∙ ap (option_map pixels_of) under) in
     k.keeps.held ∙ ap (λ (g : Frame). g.payload) same
 
-pub held_most : (past : Past) (v : Joining) (f : Frame) (n : ℕ) → Stands past v → is_keeping v.pixels.stage ≡ true → past.under ≡ Some f → length f.payload ≤ n * f.params.bytes_per_line → length v.pixels.held ≤ n * row_bytes f.params
+pub held_most : (past : JoinHistory) (v : JoinState) (f : Frame) (n : ℕ) → Represents past v → is_keeping v.pixels.stage ≡ true → past.under ≡ Some f → length f.payload ≤ n * f.params.bytes_per_line → length v.pixels.held ≤ n * row_bytes f.params
 held_most past v f n stands keeping under few =
     let i = is_in past v stands keeping in
     let same : i.frame ≡ f = some_frame i.frame f (sym i.under ∙ under) in
@@ -157,7 +157,7 @@ held_most past v f n stands keeping under few =
     let most = length_most (row_bytes f.params) f.params.bytes_per_line n f.payload (omega (arith, shape.row_some, shape.fits)) shape.fits few in
     omega (arith, most, ap (λ (l : List ℕ). length l) (held_pixels past v f stands keeping under), ap (λ (g : Frame). length g.payload) (pixels_kept f kept))
 
-planes_at : (s : Stage) (past : Past) (w : PixelJoining) → PixelStandsAt s past w → (is_keeping s || (is_between s || is_colors s)) ≡ true → w.planes ≡ planes_of past.ended
+planes_at : (s : Stage) (past : JoinHistory) (w : PixelJoinState) → PixelRepresentsAt s past w → (is_keeping s || (is_between s || is_colors s)) ≡ true → w.planes ≡ planes_of past.ended
 planes_at Idle past w at e = absurd (let clash : false ≡ true = e in cc)
 planes_at Under past w at e = absurd (let clash : false ≡ true = e in cc)
 planes_at Keeping past w at e = at.2.planes
@@ -166,8 +166,8 @@ planes_at Whole past w at e = absurd (let clash : false ≡ true = e in cc)
 planes_at WholeColors past w at e = at.5.planes ∙ sym (ap planes_of at.3)
 planes_at (Failed x) past w at e = absurd (let clash : false ≡ true = e in cc)
 
-pub planes_pixels : (past : Past) (v : Joining) → Stands past v → (is_keeping v.pixels.stage || (is_between v.pixels.stage || is_colors v.pixels.stage)) ≡ true → v.pixels.planes ≡ planes_of (map pixels_of past.ended)
-planes_pixels past v stands e = planes_at v.pixels.stage (pixel_past past) v.pixels stands.pixels.at_stage e
+pub planes_pixels : (past : JoinHistory) (v : JoinState) → Represents past v → (is_keeping v.pixels.stage || (is_between v.pixels.stage || is_colors v.pixels.stage)) ≡ true → v.pixels.planes ≡ planes_of (map pixels_of past.ended)
+planes_pixels past v stands e = planes_at v.pixels.stage (pixel_history past) v.pixels stands.pixels.at_stage e
 
-pub ended_size : (f : Frame) → is_kept f.params ≡ true → is_full f ≡ true → length (pixels_of f).payload ≡ height_of f * row_bytes f.params
+pub ended_size : (f : Frame) → is_kept f.params ≡ true → is_full f ≡ true → length (pixels_of f).payload ≡ frame_height f * row_bytes f.params
 ended_size f kept full = ap (λ (g : Frame). length g.payload) (pixels_kept f kept) ∙ narrow_size f (whole_of f kept full)

@@ -5,8 +5,8 @@ use Rattle.std.proofs.lemmas.Bool.{and_parts}
 use Rattle.std.proofs.lemmas.Bool.Decides.{nat_tests}
 use Rattle.std.proofs.lemmas.Nat.{mul-add-lt, pow-add, pow_pos}
 use Rattle.std.proofs.Math.Nat.{div-div-eq-div-mul, mul-div_cancel}
-use Rattle.netpbm.specs.declared.format.Format.{Format}
-use Rattle.netpbm.specs.declared.format.Format.TheVariants.{Pbm, Pgm, Ppm}
+use Rattle.netpbm.specs.declared.format.PnmFormat.{PnmFormat}
+use Rattle.netpbm.specs.declared.format.PnmFormat.TheVariants.{Pbm, Pgm, Ppm}
 use Rattle.netpbm.specs.Picture.{Picture, IsPlace}
 use Rattle.netpbm.specs.Pnm.{Denotes, raster_length, sample_in, channels_of, number_in, bit_row}
 use Rattle.netpbm.specs.FileText.{header_text}
@@ -200,7 +200,7 @@ sample_eight c f x y k deep = rw deep refl
 pub sample_sixteen : (c : ℕ) (f : Frame) (x y k : ℕ) → f.params.depth ≡ 16 → frame_sample c f x y k ≡ two_bytes f.order f.payload (y * f.params.bytes_per_line + 2 * (c * x + k))
 sample_sixteen c f x y k deep = rw deep refl
 
-record RasterOf (f : Frame) (n : ℕ) (g : Format) (m c : ℕ) : Type 0 where
+record RasterOf (f : Frame) (n : ℕ) (g : PnmFormat) (m c : ℕ) : Type 0 where
   channels : channels_of g ≡ c
   bits : g ≡ Pbm → m ≡ 1
   some : 1 ≤ m
@@ -262,7 +262,7 @@ raster_color f n deep same = record {
   samples = λ x y k a b c. sixteen f n 3 x y k deep (rw same refl) a b c ∙ sym (sample_sixteen 3 f x y k deep);
 }
 
-moved : (f : Frame) (n : ℕ) (g g2 : Format) (m m2 c c2 : ℕ) → g2 ≡ g → m2 ≡ m → c2 ≡ c → RasterOf f n g m c → RasterOf f n g2 m2 c2
+moved : (f : Frame) (n : ℕ) (g g2 : PnmFormat) (m m2 c c2 : ℕ) → g2 ≡ g → m2 ≡ m → c2 ≡ c → RasterOf f n g m c → RasterOf f n g2 m2 c2
 moved f n g g2 m m2 c c2 a b d r = rw (a, b, d) r
 
 some_same : (a b : ℕ) → Some a ≡ Some b → b ≡ a

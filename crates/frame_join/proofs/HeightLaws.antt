@@ -8,19 +8,19 @@ use Rattle.sane_fixed.specs.declared.params.Params.{Params}
 use Rattle.page_picture.specs.Shows.{Frame, HasLines, ShowsAlone}
 use Rattle.frame_join.specs.AloneFrame.{lines_in, is_side, ShapeParts, AloneParts}
 use Rattle.frame_join.specs.FrameHistory.{is_full, is_full_at}
-use Rattle.frame_join.specs.FrameFile.{height_at, height_of, settled}
+use Rattle.frame_join.specs.FrameFile.{height_at, frame_height, with_height}
 use Rattle.frame_join.proofs.TestLemmas.{eq_true, eq_from, le_true, le_from, and_true}
 use Rattle.frame_join.proofs.KeptLaws.{OpenParts}
 
 -- ---- the height that is known
 
-pub height_known : (f : Frame) → f.params.lines ≡ Some (lines_in f.params.lines) → height_of f ≡ lines_in f.params.lines
+pub height_known : (f : Frame) → f.params.lines ≡ Some (lines_in f.params.lines) → frame_height f ≡ lines_in f.params.lines
 height_known f known = ap (λ (o : Option ℕ). height_at o f.params.bytes_per_line (length f.payload)) known
 
-pub height_open : (f : Frame) → f.params.lines ≡ None → height_of f ≡ length f.payload / f.params.bytes_per_line
+pub height_open : (f : Frame) → f.params.lines ≡ None → frame_height f ≡ length f.payload / f.params.bytes_per_line
 height_open f open_end = ap (λ (o : Option ℕ). height_at o f.params.bytes_per_line (length f.payload)) open_end
 
-pub settled_known : (f : Frame) → f.params.lines ≡ Some (lines_in f.params.lines) → settled f ≡ f
+pub settled_known : (f : Frame) → f.params.lines ≡ Some (lines_in f.params.lines) → with_height f ≡ f
 settled_known f known = ap (λ (o : Option ℕ). record f { params = record f.params { lines = o } }) (ap (λ (n : ℕ). Some n) (height_known f known) ∙ sym known)
 
 -- ---- a frame that has all its bytes
@@ -29,7 +29,7 @@ full_by : (o : Option ℕ) (line size : ℕ) → is_full_at o line size ≡ true
 full_by None line size h = eq_from size (size / line * line) (and_parts (is_side (size / line)) (size == size / line * line) h).1
 full_by (Some n) line size h = eq_from size (n * line) h
 
-pub full_size : (f : Frame) → is_full f ≡ true → length f.payload ≡ height_of f * f.params.bytes_per_line
+pub full_size : (f : Frame) → is_full f ≡ true → length f.payload ≡ frame_height f * f.params.bytes_per_line
 full_size f full = full_by f.params.lines f.params.bytes_per_line (length f.payload) full
 
 side_by : (line size : ℕ) → is_full_at None line size ≡ true → (1 ≤ size / line) × (size / line ≤ 65536)
@@ -37,7 +37,7 @@ side_by line size h =
     let side = and_parts (nat_le 1 (size / line)) (nat_le (size / line) 65536) (and_parts (is_side (size / line)) (size == size / line * line) h).0 in
     (le_from 1 (size / line) side.0, le_from (size / line) 65536 side.1)
 
-pub open_side : (f : Frame) → f.params.lines ≡ None → is_full f ≡ true → (1 ≤ height_of f) × (height_of f ≤ 65536)
+pub open_side : (f : Frame) → f.params.lines ≡ None → is_full f ≡ true → (1 ≤ frame_height f) × (frame_height f ≤ 65536)
 open_side f open_end full =
     let at : is_full_at None f.params.bytes_per_line (length f.payload) ≡ true = ap (λ (o : Option ℕ). is_full_at o f.params.bytes_per_line (length f.payload)) (sym open_end) ∙ full in
     subst (λ (n : ℕ). (1 ≤ n) × (n ≤ 65536)) (sym (height_open f open_end)) (side_by f.params.bytes_per_line (length f.payload) at)
@@ -84,11 +84,11 @@ reshape p o s = record {
   line_most = s.line_most;
 }
 
-pub settled_alone : (f : Frame) → OpenParts f.params → is_full f ≡ true → AloneParts (settled f).params
+pub settled_alone : (f : Frame) → OpenParts f.params → is_full f ≡ true → AloneParts (with_height f).params
 settled_alone f parts full =
     let side = open_side f parts.lines full in
     record {
-      shape = reshape f.params (Some (height_of f)) parts.shape;
+      shape = reshape f.params (Some (frame_height f)) parts.shape;
       format = parts.format;
       last = parts.last;
       lines_known = refl;
@@ -97,7 +97,7 @@ settled_alone f parts full =
     }
 
 -- with its height told it shows the same
-pub settled_shows : (f : Frame) (p : Picture) → 1 ≤ f.params.bytes_per_line → ShowsAlone f p → ShowsAlone (settled f) p
+pub settled_shows : (f : Frame) (p : Picture) → 1 ≤ f.params.bytes_per_line → ShowsAlone f p → ShowsAlone (with_height f) p
 settled_shows f p some shows = record {
   last = shows.last;
   channels = shows.channels;
@@ -122,7 +122,7 @@ pub told_by : (o : Option ℕ) (line size height : ℕ) → height_at o line siz
 told_by None line size height e = tt
 told_by (Some n) line size height e = e
 
-pub unsettled_shows : (f : Frame) (p : Picture) → ShowsAlone (settled f) p → ShowsAlone f p
+pub unsettled_shows : (f : Frame) (p : Picture) → ShowsAlone (with_height f) p → ShowsAlone f p
 unsettled_shows f p shows = record {
   last = shows.last;
   channels = shows.channels;

@@ -8,12 +8,12 @@ use Rattle.frame_join.specs.declared.join_stage.Stage.TheVariants.{Idle, Under, 
 use Rattle.frame_join.specs.AloneFrame.{is_alone}
 use Rattle.frame_join.specs.KeptFrame.{is_open_ended, is_pass}
 use Rattle.frame_join.specs.FrameFile.{file_of, file_front, gone_under, rows_to_go, AllGone, GoesThrough}
-use Rattle.frame_join.specs.FrameHistory.{Past, is_full, answer_of, after_pull, frames_of, with_last, IsJoined}
+use Rattle.frame_join.specs.FrameHistory.{JoinHistory, is_full, answer_of_end, after_pull, history_frames, with_last, IsJoined}
 use Rattle.frame_join.specs.JoinStages.{is_keeping, fault_in}
 use Rattle.frame_join.specs.JoinSteps.{answer_at}
-use Rattle.frame_join.specs.PixelJoining.{PixelJoining, PixelStands, PixelStandsAt, AreColors, IsPart}
-use Rattle.frame_join.specs.Pixels.{is_kept, pixels_of, pixel_past}
-use Rattle.frame_join.specs.Joining.{Joining, Stands, IsComing, AreEnded}
+use Rattle.frame_join.specs.PixelJoinStates.{PixelJoinState, PixelRepresents, PixelRepresentsAt, AreColors, IsPartOfColors}
+use Rattle.frame_join.specs.Pixels.{is_kept, pixels_of, pixel_history}
+use Rattle.frame_join.specs.JoinStates.{JoinState, Represents, IsComing, AreEnded}
 use Rattle.frame_join.proofs.TestLemmas.{or_right}
 use Rattle.frame_join.proofs.KeptLaws.{pass_parts}
 use Rattle.frame_join.proofs.SideLaws.{three_parts}
@@ -27,21 +27,21 @@ use Rattle.frame_join.proofs.PixelSteps.{in_kept, under_alone, some_same}
 
 -- ---- a whole picture
 
-pub joined_less : (past : Past) → IsJoined past → IsJoined (pixel_past past)
+pub joined_less : (past : JoinHistory) → IsJoined past → IsJoined (pixel_history past)
 joined_less past joined = answer_same past ∙ joined
 
-pub joined_more : (past : Past) → IsJoined (pixel_past past) → IsJoined past
+pub joined_more : (past : JoinHistory) → IsJoined (pixel_history past) → IsJoined past
 joined_more past joined = sym (answer_same past) ∙ joined
 
-pub calm_joined : (past : Past) (v : Joining) → Stands past v → IsJoined past → past.fault ≡ None
-calm_joined past v stands joined = joined_no_fault (pixel_past past) v.pixels stands.pixels (joined_less past joined)
+pub calm_joined : (past : JoinHistory) (v : JoinState) → Represents past v → IsJoined past → past.fault ≡ None
+calm_joined past v stands joined = joined_no_fault (pixel_history past) v.pixels stands.pixels (joined_less past joined)
 
 none_map : (u : Option Frame) → option_map pixels_of u ≡ None → u ≡ None
 none_map None e = refl
 none_map (Some f) e = absurd (let clash : Some (pixels_of f) ≡ None = e in cc)
 
-pub rest_joined : (past : Past) (v : Joining) → Stands past v → IsJoined past → past.under ≡ None
-rest_joined past v stands joined = none_map past.under (joined_under (pixel_past past) v.pixels stands.pixels (joined_less past joined))
+pub rest_joined : (past : JoinHistory) (v : JoinState) → Represents past v → IsJoined past → past.under ≡ None
+rest_joined past v stands joined = none_map past.under (joined_under (pixel_history past) v.pixels stands.pixels (joined_less past joined))
 
 -- ---- three colors
 
@@ -92,19 +92,19 @@ three_trio (f ∷ g ∷ []) a b c e colors ended = tt
 three_trio (f ∷ g ∷ h ∷ []) a b c e colors ended = trio_from f g h (subst AreColors (sym e) colors) ended
 three_trio (f ∷ g ∷ h ∷ i ∷ rest) a b c e colors ended = absurd (let clash : length (pixels_of f ∷ pixels_of g ∷ pixels_of h ∷ pixels_of i ∷ map pixels_of rest) ≡ 3 = ap length e in omega (arith, clash))
 
-part_trio : (v : Joining) (frames : List Frame) → IsPart (map pixels_of frames) v.pixels.params v.pixels.order → AreTrio frames
+part_trio : (v : JoinState) (frames : List Frame) → IsPartOfColors (map pixels_of frames) v.pixels.params v.pixels.order → AreTrio frames
 part_trio v [] part = absurd part
 part_trio v (a ∷ []) part = tt
 part_trio v (a ∷ b ∷ []) part = tt
 part_trio v (a ∷ b ∷ c ∷ rest) part = absurd part
 
-pub trio_of : (past : Past) (v : Joining) → Stands past v → past.fault ≡ None → past.under ≡ None → AreTrio past.ended
+pub trio_of : (past : JoinHistory) (v : JoinState) → Represents past v → past.fault ≡ None → past.under ≡ None → AreTrio past.ended
 trio_of past v stands calm none = by v.pixels.stage stands.pixels.at_stage (sym stands.pixels.fault ∙ calm)
   where
     rests : option_map pixels_of past.under ≡ None
     rests = ap (option_map pixels_of) none
 
-    by : (s : Stage) → PixelStandsAt s (pixel_past past) v.pixels → fault_in s ≡ None → AreTrio past.ended
+    by : (s : Stage) → PixelRepresentsAt s (pixel_history past) v.pixels → fault_in s ≡ None → AreTrio past.ended
     by Idle at calm = few_map past.ended 0 (ap length at.0) (omega arith)
     by Under at calm = few_map past.ended 0 (ap length at.1) (omega arith)
     by Keeping at calm = absurd (let clash : None ≡ Some at.0 = sym rests ∙ at.1 in cc)
@@ -113,7 +113,7 @@ trio_of past v stands calm none = by v.pixels.stage stands.pixels.at_stage (sym 
     by WholeColors at calm = three_trio past.ended at.0 at.1 at.2 at.3 at.5.colors stands.ended
     by (Failed x) at calm = absurd (let clash : Some x ≡ None = calm in cc)
 
-pub file_joined : (past : Past) (v : Joining) → Stands past v → past.fault ≡ None → past.under ≡ None → file_of (map pixels_of past.ended) ≡ file_of past.ended
+pub file_joined : (past : JoinHistory) (v : JoinState) → Represents past v → past.fault ≡ None → past.under ≡ None → file_of (map pixels_of past.ended) ≡ file_of past.ended
 file_joined past v stands calm none = file_same past.ended stands.ended (trio_of past v stands calm none)
 
 -- ---- what has gone
@@ -129,7 +129,7 @@ one_of : (t : Bool) → (t ≡ true) ⊎ (t ≡ false)
 one_of true = inl refl
 one_of false = inr refl
 
-pub all_gone : (past : Past) (v : Joining) → Stands past v → past.fault ≡ None → AllGone (option_map pixels_of past.under) (map pixels_of past.ended) past.given → AllGone past.under past.ended past.given
+pub all_gone : (past : JoinHistory) (v : JoinState) → Represents past v → past.fault ≡ None → AllGone (option_map pixels_of past.under) (map pixels_of past.ended) past.given → AllGone past.under past.ended past.given
 all_gone past v stands calm gone = by past.under refl gone
   where
     by : (u : Option Frame) → past.under ≡ u → AllGone (option_map pixels_of u) (map pixels_of past.ended) past.given → AllGone u past.ended past.given
@@ -142,11 +142,11 @@ goes_less (Some f) through = kept_is_alone f.params ∙ through
 
 -- ---- bytes go out
 
-still_keeps : (past : Past) (v : Joining) (bytes : List ℕ) (w : PixelJoining) → Stands past v → PixelStands (after_pull bytes (pixel_past past)) w → is_keeping w.stage ≡ true → is_keeping v.pixels.stage ≡ true
+still_keeps : (past : JoinHistory) (v : JoinState) (bytes : List ℕ) (w : PixelJoinState) → Represents past v → PixelRepresents (after_pull bytes (pixel_history past)) w → is_keeping w.stage ≡ true → is_keeping v.pixels.stage ≡ true
 still_keeps past v bytes w stands pixels keeping = elim (is_keeping v.pixels.stage) as (λ t. is_keeping v.pixels.stage ≡ t → t ≡ true) [
   | true ↦ λ e. refl
   | false ↦ λ through. absurd (
-      let k = in_kept (after_pull bytes (pixel_past past)) w pixels keeping in
+      let k = in_kept (after_pull bytes (pixel_history past)) w pixels keeping in
       clash_of past.under refl k.frame k.under k.fault k.keeps.kept through)
 ] refl
   where
@@ -157,11 +157,11 @@ still_keeps past v bytes w stands pixels keeping = elim (is_keeping v.pixels.sta
         let clash : true ≡ false = sym (under_alone past v stands through calm f e) ∙ (sym (kept_is_alone f.params) ∙ (ap (λ (h : Frame). is_alone h.params) same ∙ apart)) in
         cc
 
-come_on : (u : Option Frame) (v : Joining) (w : PixelJoining) → IsComing u v → IsComing u (record v { pixels = w })
+come_on : (u : Option Frame) (v : JoinState) (w : PixelJoinState) → IsComing u v → IsComing u (record v { pixels = w })
 come_on None v w c = c
 come_on (Some f) v w c = record { kept = c.kept; line = c.line; came = c.came; most = c.most }
 
-pub pull_stands : (past : Past) (v : Joining) (bytes : List ℕ) (w : PixelJoining) → Stands past v → PixelStands (after_pull bytes (pixel_past past)) w → Stands (after_pull bytes past) (record v { pixels = w })
+pub pull_stands : (past : JoinHistory) (v : JoinState) (bytes : List ℕ) (w : PixelJoinState) → Represents past v → PixelRepresents (after_pull bytes (pixel_history past)) w → Represents (after_pull bytes past) (record v { pixels = w })
 pull_stands past v bytes w stands pixels = record {
   pixels = pixels;
   ended = stands.ended;
@@ -180,12 +180,12 @@ short_at (a ∷ b ∷ []) f p some short shows =
 short_at (a ∷ b ∷ c ∷ []) f p some short shows = shows
 short_at (a ∷ b ∷ c ∷ d ∷ rest) f p some short shows = shows
 
-pub short_shows : (past : Past) (f : Frame) (p : Picture) → past.under ≡ Some f → 1 ≤ f.params.bytes_per_line → is_full f ≡ false → ShowsFrames (frames_of past) p → ⊥
+pub short_shows : (past : JoinHistory) (f : Frame) (p : Picture) → past.under ≡ Some f → 1 ≤ f.params.bytes_per_line → is_full f ≡ false → ShowsFrames (history_frames past) p → ⊥
 short_shows past f p under some short shows = short_at past.ended f p some short (subst (λ (u : Option Frame). ShowsFrames (with_last past.ended u) p) under shows)
 
 -- ---- for those above
 
-silent_at : (s : Stage) (past : Past) (w : PixelJoining) → answer_at s ≡ Ok false → PixelStandsAt s past w → past.under ≡ None → past.given ≡ []
+silent_at : (s : Stage) (past : JoinHistory) (w : PixelJoinState) → answer_at s ≡ Ok false → PixelRepresentsAt s past w → past.under ≡ None → past.given ≡ []
 silent_at Idle past w e at under = at.2
 silent_at Under past w e at under = absurd (let clash : None ≡ Some at.0 = sym under ∙ at.2 in cc)
 silent_at Keeping past w e at under = absurd (let clash : None ≡ Some at.0 = sym under ∙ at.1 in cc)
@@ -195,9 +195,9 @@ silent_at WholeColors past w e at under = absurd (let clash : Ok true ≡ Ok fal
 silent_at (Failed fault) past w e at under = absurd (let clash : Err fault ≡ Ok false = e in cc)
 
 -- between frames a join has given nothing, if its picture is not whole
-pub rests_silent : (past : Past) (v : Joining) → Stands past v → past.under ≡ None → answer_of past ≡ Ok false → past.given ≡ []
+pub rests_silent : (past : JoinHistory) (v : JoinState) → Represents past v → past.under ≡ None → answer_of_end past ≡ Ok false → past.given ≡ []
 rests_silent past v stands under part =
-    silent_at v.pixels.stage (pixel_past past) v.pixels (sym (answers (pixel_past past) v.pixels stands.pixels) ∙ (answer_same past ∙ part)) stands.pixels.at_stage (ap (option_map pixels_of) under)
+    silent_at v.pixels.stage (pixel_history past) v.pixels (sym (answers (pixel_history past) v.pixels stands.pixels) ∙ (answer_same past ∙ part)) stands.pixels.at_stage (ap (option_map pixels_of) under)
 
 pub some_more : (frames : List Frame) → frames ≢ [] → map pixels_of frames ≢ []
 some_more [] some e = some refl

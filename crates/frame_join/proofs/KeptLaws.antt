@@ -13,8 +13,8 @@ use Rattle.sane_fixed.specs.declared.byte_order.ByteOrder.{ByteOrder}
 use Rattle.frame_join.specs.KeptFrame.{is_alike, color_number}
 use Rattle.frame_join.specs.ColorPlanes.{nth_plane}
 use Rattle.frame_join.specs.JoinStages.{is_keeping, is_between, is_colors, is_whole}
-use Rattle.frame_join.specs.PixelJoining.{PixelJoining}
-use Rattle.frame_join.specs.JoinSteps.{moves, is_ready, is_held, accepts_next, has_two, is_there}
+use Rattle.frame_join.specs.PixelJoinStates.{PixelJoinState}
+use Rattle.frame_join.specs.JoinSteps.{can_give, is_ready, is_held, accepts_next, has_two, is_there}
 use Rattle.frame_join.proofs.TestLemmas.{lt_from, le_from, or_cases, or_left, or_right, not_true}
 use Rattle.frame_join.proofs.FrameLaws.{shape_parts, known_parts}
 
@@ -90,7 +90,7 @@ pass_depth p parts = elim parts.shape.depths [
 ]
 
 -- while frames are collected nothing moves
-pub collecting_rests : (s : Stage) → moves s ≡ true → (is_keeping s || is_between s) ≡ true → ⊥
+pub collecting_rests : (s : Stage) → can_give s ≡ true → (is_keeping s || is_between s) ≡ true → ⊥
 collecting_rests Idle a b = cc
 collecting_rests Under a b = cc
 collecting_rests Keeping a b = cc
@@ -99,17 +99,17 @@ collecting_rests Whole a b = cc
 collecting_rests WholeColors a b = cc
 collecting_rests (Failed _) a b = cc
 
-pub ready_row : (v : PixelJoining) → is_ready v ≡ true → v.row < lines_in v.params.lines
+pub ready_row : (v : PixelJoinState) → is_ready v ≡ true → v.row < lines_in v.params.lines
 ready_row v ready = lt_from v.row (lines_in v.params.lines) (and_parts (nat_lt v.row (lines_in v.params.lines)) (is_colors v.stage || is_held v) ready).0
 
-pub ready_held : (v : PixelJoining) → is_ready v ≡ true → is_colors v.stage ≡ false → is_held v ≡ true
+pub ready_held : (v : PixelJoinState) → is_ready v ≡ true → is_colors v.stage ≡ false → is_held v ≡ true
 ready_held v ready one = elim (or_cases (is_colors v.stage) (is_held v) (and_parts (nat_lt v.row (lines_in v.params.lines)) (is_colors v.stage || is_held v) ready).1) [
   | inl colors ↦ absurd (let clash : true ≡ false = sym colors ∙ one in cc)
   | inr held ↦ held
 ]
 
-pub ready_line : (v : PixelJoining) → is_ready v ≡ true → is_colors v.stage ≡ false → v.params.bytes_per_line ≤ length v.held
+pub ready_line : (v : PixelJoinState) → is_ready v ≡ true → is_colors v.stage ≡ false → v.params.bytes_per_line ≤ length v.held
 ready_line v ready one = le_from v.params.bytes_per_line (length v.held) (and_parts (nat_le v.params.bytes_per_line (length v.held)) (is_whole v.stage || nat_lt (v.row + 1) (lines_in v.params.lines)) (ready_held v ready one)).0
 
-pub accepted_is_kept : (v : PixelJoining) (p : Params) (o : ByteOrder) → accepts_next v p o ≡ true → (is_open_ended p || is_pass p) ≡ true
+pub accepted_is_kept : (v : PixelJoinState) (p : Params) (o : ByteOrder) → accepts_next v p o ≡ true → (is_open_ended p || is_pass p) ≡ true
 accepted_is_kept v p o h = next_is_kept (has_two v.planes) p (and_parts (is_pass_that (has_two v.planes) p) (not (is_there (nth_plane v.planes (color_number p.format))) && is_alike v.params v.order p o) h).0

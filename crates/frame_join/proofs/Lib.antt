@@ -3,7 +3,7 @@ pub mod FrameLaws
 pub mod StreamLaws
 pub mod JoinLaws
 pub mod AcceptLaws
-pub mod TextLaws
+pub mod FrameTextLaws
 pub mod FrontLaws
 pub mod HeaderLemmas
 pub mod KeptLaws

@@ -12,11 +12,11 @@ use Rattle.frame_join.specs.declared.join_stage.JoinFault.TheVariants.{Long, Sho
 use Rattle.frame_join.specs.declared.join_stage.Stage.{Stage}
 use Rattle.frame_join.specs.declared.join_stage.Stage.TheVariants.{Idle, Under, Keeping, Between, Whole, WholeColors, Failed}
 use Rattle.frame_join.specs.AloneFrame.{is_alone, most_bytes, most_lines, row_bytes}
-use Rattle.frame_join.specs.FrameHistory.{Past, is_full, is_full_at, failed, fed, closed, after_feed, after_end}
-use Rattle.frame_join.specs.JoinStages.{is_keeping, is_starved_at}
-use Rattle.frame_join.specs.PixelJoining.{PixelJoining, PixelStands, is_pixel_starved}
-use Rattle.frame_join.specs.Pixels.{is_kept, pixel_params, pixels_of, pixels_from, pixel_past}
-use Rattle.frame_join.specs.Joining.{Joining, Stands, HasCome, IsComing, IsEnded, AreEnded, is_starved}
+use Rattle.frame_join.specs.FrameHistory.{JoinHistory, is_full, is_full_at, with_fault, after_feed_at, after_end_at, after_feed, after_end}
+use Rattle.frame_join.specs.JoinStages.{is_keeping, is_out_of_memory_at}
+use Rattle.frame_join.specs.PixelJoinStates.{PixelJoinState, PixelRepresents, is_pixel_out_of_memory}
+use Rattle.frame_join.specs.Pixels.{is_kept, pixel_params, pixels_of, pixels_from, pixel_history}
+use Rattle.frame_join.specs.JoinStates.{JoinState, Represents, HasCome, IsComing, IsEnded, AreEnded, is_out_of_memory}
 use Rattle.frame_join.proofs.TestLemmas.{or_left, or_right, lt_false, lt_true}
 use Rattle.frame_join.proofs.KeptLaws.{kept_shape}
 use Rattle.frame_join.proofs.StreamLaws.{grown}
@@ -28,49 +28,49 @@ use Rattle.frame_join.proofs.PixelSteps.{some_same, in_kept, after_fault, fault_
 
 -- ---- pieces one after another
 
-fed_is : (p : Past) (g : Frame) (xs : List ℕ) (starved : Bool) → p.fault ≡ None → p.under ≡ Some g → length g.payload + length xs ≤ most_bytes g.params → after_feed xs starved p ≡ feeds_by false starved g xs p
+fed_is : (p : JoinHistory) (g : Frame) (xs : List ℕ) (starved : Bool) → p.fault ≡ None → p.under ≡ Some g → length g.payload + length xs ≤ most_bytes g.params → after_feed xs starved p ≡ feeds_by false starved g xs p
 unfolding after_feed
 fed_is p g xs starved calm under fits =
-    ap (λ (o : Option JoinFault). fed o p.under xs starved p) calm
-    ∙ (ap (λ (u : Option Frame). fed None u xs starved p) under
+    ap (λ (o : Option JoinFault). after_feed_at o p.under xs starved p) calm
+    ∙ (ap (λ (u : Option Frame). after_feed_at None u xs starved p) under
     ∙ ap (λ (t : Bool). feeds_by t starved g xs p) (lt_false (most_bytes g.params) (length g.payload + length xs) fits))
 
-fault_stays : (p : Past) (fault : JoinFault) (xs : List ℕ) (starved : Bool) → p.fault ≡ Some fault → after_feed xs starved p ≡ p
+fault_stays : (p : JoinHistory) (fault : JoinFault) (xs : List ℕ) (starved : Bool) → p.fault ≡ Some fault → after_feed xs starved p ≡ p
 unfolding after_feed
-fault_stays p fault xs starved e = ap (λ (o : Option JoinFault). fed o p.under xs starved p) e
+fault_stays p fault xs starved e = ap (λ (o : Option JoinFault). after_feed_at o p.under xs starved p) e
 
 -- a piece behind another
-pub fed_on : (p : Past) (g : Frame) (xs ys : List ℕ) (s t : Bool) (x : PixelJoining) → p.fault ≡ None → p.under ≡ Some g → length g.payload + (length xs + length ys) ≤ most_bytes g.params → PixelStands (after_feed ys t (after_feed xs s p)) x → t ≡ is_pixel_starved x → PixelStands (after_feed (xs ++ ys) t p) x
+pub fed_on : (p : JoinHistory) (g : Frame) (xs ys : List ℕ) (s t : Bool) (x : PixelJoinState) → p.fault ≡ None → p.under ≡ Some g → length g.payload + (length xs + length ys) ≤ most_bytes g.params → PixelRepresents (after_feed ys t (after_feed xs s p)) x → t ≡ is_pixel_out_of_memory x → PixelRepresents (after_feed (xs ++ ys) t p) x
 fed_on p g xs ys s t x calm under fits stands told =
     let front : length g.payload + length xs ≤ most_bytes g.params = omega (arith, fits) in
     let both : length g.payload + length (xs ++ ys) ≤ most_bytes g.params = omega (arith, fits, length-append xs ys) in
-    subst (λ (q : Past). PixelStands q x) (sym (fed_is p g (xs ++ ys) t calm under both))
-    (by s t (subst (λ (q : Past). PixelStands (after_feed ys t q) x) (fed_is p g xs s calm under front) stands) told)
+    subst (λ (q : JoinHistory). PixelRepresents q x) (sym (fed_is p g (xs ++ ys) t calm under both))
+    (by s t (subst (λ (q : JoinHistory). PixelRepresents (after_feed ys t q) x) (fed_is p g xs s calm under front) stands) told)
   where
-    last : (t : Bool) → PixelStands (feeds_by false t (grown g xs) ys (record p { under = Some (grown g xs) })) x → PixelStands (feeds_by false t g (xs ++ ys) p) x
-    last true stands = after_fault NoMem (failed NoMem (record p { under = Some (grown g xs) })) (failed NoMem p) x stands refl refl refl
-    last false stands = subst (λ (l : List ℕ). PixelStands (record p { under = Some (record g { payload = l }) }) x) (append_assoc g.payload xs ys) stands
+    last : (t : Bool) → PixelRepresents (feeds_by false t (grown g xs) ys (record p { under = Some (grown g xs) })) x → PixelRepresents (feeds_by false t g (xs ++ ys) p) x
+    last true stands = after_fault NoMem (with_fault NoMem (record p { under = Some (grown g xs) })) (with_fault NoMem p) x stands refl refl refl
+    last false stands = subst (λ (l : List ℕ). PixelRepresents (record p { under = Some (record g { payload = l }) }) x) (append_assoc g.payload xs ys) stands
 
-    by : (s t : Bool) → PixelStands (after_feed ys t (feeds_by false s g xs p)) x → t ≡ is_pixel_starved x → PixelStands (feeds_by false t g (xs ++ ys) p) x
+    by : (s t : Bool) → PixelRepresents (after_feed ys t (feeds_by false s g xs p)) x → t ≡ is_pixel_out_of_memory x → PixelRepresents (feeds_by false t g (xs ++ ys) p) x
     by true t stands told =
-        let q = failed NoMem p in
-        let same = subst (λ (r : Past). PixelStands r x) (fault_stays q NoMem ys t refl) stands in
+        let q = with_fault NoMem p in
+        let same = subst (λ (r : JoinHistory). PixelRepresents r x) (fault_stays q NoMem ys t refl) stands in
         let poor : t ≡ true = told ∙ fault_starved x (sym same.fault) in
-        subst (λ (u : Bool). PixelStands (feeds_by false u g (xs ++ ys) p) x) (sym poor) same
+        subst (λ (u : Bool). PixelRepresents (feeds_by false u g (xs ++ ys) p) x) (sym poor) same
     by false t stands told =
-        let q : Past = record p { under = Some (grown g xs) } in
+        let q : JoinHistory = record p { under = Some (grown g xs) } in
         let more : length (grown g xs).payload + length ys ≤ most_bytes g.params = omega (arith, fits, length-append g.payload xs) in
-        last t (subst (λ (r : Past). PixelStands r x) (fed_is q (grown g xs) ys t calm refl more) stands)
+        last t (subst (λ (r : JoinHistory). PixelRepresents r x) (fed_is q (grown g xs) ys t calm refl more) stands)
 
 -- no bytes
-pub fed_none : (p : Past) (w : PixelJoining) → PixelStands p w → is_keeping w.stage ≡ true → PixelStands (after_feed [] (is_pixel_starved w) p) w
+pub fed_none : (p : JoinHistory) (w : PixelJoinState) → PixelRepresents p w → is_keeping w.stage ≡ true → PixelRepresents (after_feed [] (is_pixel_out_of_memory w) p) w
 fed_none p w stands keeping =
     let k = in_kept p w stands keeping in
     let fits : length k.frame.payload + length {A = ℕ} [] ≤ most_bytes k.frame.params = omega (arith, k.keeps.most) in
-    let rich : is_pixel_starved w ≡ false = rich_by w.stage keeping in
-    subst (λ (q : Past). PixelStands q w) (sym (ap (λ (s : Bool). after_feed [] s p) rich ∙ (fed_is p k.frame [] false k.fault k.under fits ∙ same p k.frame k.under))) stands
+    let rich : is_pixel_out_of_memory w ≡ false = rich_by w.stage keeping in
+    subst (λ (q : JoinHistory). PixelRepresents q w) (sym (ap (λ (s : Bool). after_feed [] s p) rich ∙ (fed_is p k.frame [] false k.fault k.under fits ∙ same p k.frame k.under))) stands
   where
-    rich_by : (s : Stage) → is_keeping s ≡ true → is_starved_at s ≡ false
+    rich_by : (s : Stage) → is_keeping s ≡ true → is_out_of_memory_at s ≡ false
     rich_by Idle e = refl
     rich_by Under e = refl
     rich_by Keeping e = refl
@@ -79,26 +79,26 @@ fed_none p w stands keeping =
     rich_by WholeColors e = refl
     rich_by (Failed x) e = absurd (let clash : false ≡ true = e in cc)
 
-    same : (p : Past) (g : Frame) → p.under ≡ Some g → record p { under = Some (record g { payload = g.payload ++ [] }) } ≡ p
+    same : (p : JoinHistory) (g : Frame) → p.under ≡ Some g → record p { under = Some (record g { payload = g.payload ++ [] }) } ≡ p
     same p g under = ap (λ (l : List ℕ). record p { under = Some (record g { payload = l }) }) (append-nil g.payload) ∙ ap (λ (u : Option Frame). record p { under = u }) (sym under)
 
 -- ---- the pixels of a piece
 
 -- in a frame that is kept, and how far it has come
-pub record IsIn (past : Past) (v : Joining) : Type 0 where
+pub record IsIn (past : JoinHistory) (v : JoinState) : Type 0 where
   pub fault : past.fault ≡ None
   pub frame : Frame
   pub under : past.under ≡ Some frame
   pub come : HasCome frame v
   pub params : v.pixels.params ≡ narrow frame.params
 
-come_of : (u : Option Frame) (v : Joining) → IsComing u v → (f : Frame) × (u ≡ Some f) × HasCome f v
+come_of : (u : Option Frame) (v : JoinState) → IsComing u v → (f : Frame) × (u ≡ Some f) × HasCome f v
 come_of None v c = absurd c
 come_of (Some f) v c = (f, refl, c)
 
-pub is_in : (past : Past) (v : Joining) → Stands past v → is_keeping v.pixels.stage ≡ true → IsIn past v
+pub is_in : (past : JoinHistory) (v : JoinState) → Represents past v → is_keeping v.pixels.stage ≡ true → IsIn past v
 is_in past v stands keeping =
-    let k = in_kept (pixel_past past) v.pixels stands.pixels keeping in
+    let k = in_kept (pixel_history past) v.pixels stands.pixels keeping in
     let c = come_of past.under v (stands.coming keeping) in
     let same : k.frame ≡ pixels_of c.0 = some_same k.frame (pixels_of c.0) (sym k.under ∙ ap (option_map pixels_of) c.1) in
     record {
@@ -132,38 +132,38 @@ pixels_fit f bytes may =
     omega (arith, all, most, ap length (sym (pixels_of_more f bytes may.kept) ∙ cut), length-append (pixels_of f).payload (pixels_from (row_bytes f.params) f.params.bytes_per_line (length f.payload) bytes))
 
 -- what the bytes make of the history, by what is kept of them
-fed_kept : (past : Past) (f : Frame) (bytes : List ℕ) (starved : Bool) → past.fault ≡ None → past.under ≡ Some f → MayCome f bytes → pixel_past (after_feed bytes starved past) ≡ after_feed (pixels_from (row_bytes f.params) f.params.bytes_per_line (length f.payload) bytes) starved (pixel_past past)
+fed_kept : (past : JoinHistory) (f : Frame) (bytes : List ℕ) (starved : Bool) → past.fault ≡ None → past.under ≡ Some f → MayCome f bytes → pixel_history (after_feed bytes starved past) ≡ after_feed (pixels_from (row_bytes f.params) f.params.bytes_per_line (length f.payload) bytes) starved (pixel_history past)
 fed_kept past f bytes starved calm under may =
     let pieces = pixels_from (row_bytes f.params) f.params.bytes_per_line (length f.payload) bytes in
-    let told : (pixel_past past).under ≡ Some (pixels_of f) = ap (option_map pixels_of) under in
-    ap pixel_past (fed_is past f bytes starved calm under may.most)
+    let told : (pixel_history past).under ≡ Some (pixels_of f) = ap (option_map pixels_of) under in
+    ap pixel_history (fed_is past f bytes starved calm under may.most)
     ∙ (by starved
-    ∙ sym (fed_is (pixel_past past) (pixels_of f) pieces starved calm told (pixels_fit f bytes may)))
+    ∙ sym (fed_is (pixel_history past) (pixels_of f) pieces starved calm told (pixels_fit f bytes may)))
   where
-    by : (s : Bool) → pixel_past (feeds_by false s f bytes past) ≡ feeds_by false s (pixels_of f) (pixels_from (row_bytes f.params) f.params.bytes_per_line (length f.payload) bytes) (pixel_past past)
+    by : (s : Bool) → pixel_history (feeds_by false s f bytes past) ≡ feeds_by false s (pixels_of f) (pixels_from (row_bytes f.params) f.params.bytes_per_line (length f.payload) bytes) (pixel_history past)
     by true = refl
-    by false = ap (λ (l : List ℕ). record (pixel_past past) { under = Some (record { params = pixel_params f.params; order = f.order; payload = l }) }) (pixels_of_more f bytes may.kept)
+    by false = ap (λ (l : List ℕ). record (pixel_history past) { under = Some (record { params = pixel_params f.params; order = f.order; payload = l }) }) (pixels_of_more f bytes may.kept)
 
-fed_ended_kept : (past : Past) (f : Frame) (bytes : List ℕ) (starved : Bool) → past.fault ≡ None → past.under ≡ Some f → length f.payload + length bytes ≤ most_bytes f.params → (after_feed bytes starved past).ended ≡ past.ended
-fed_ended_kept past f bytes starved calm under fits = ap (λ (q : Past). q.ended) (fed_is past f bytes starved calm under fits) ∙ by starved
+fed_ended_kept : (past : JoinHistory) (f : Frame) (bytes : List ℕ) (starved : Bool) → past.fault ≡ None → past.under ≡ Some f → length f.payload + length bytes ≤ most_bytes f.params → (after_feed bytes starved past).ended ≡ past.ended
+fed_ended_kept past f bytes starved calm under fits = ap (λ (q : JoinHistory). q.ended) (fed_is past f bytes starved calm under fits) ∙ by starved
   where
     by : (s : Bool) → (feeds_by false s f bytes past).ended ≡ past.ended
     by true = refl
     by false = refl
 
 -- all bytes of a piece came
-pub keep_stands : (bytes : List ℕ) (past : Past) (v new : Joining) → Stands past v → (i : IsIn past v) → MayCome i.frame bytes → PixelStands (after_feed (pixels_from (row_bytes i.frame.params) i.frame.params.bytes_per_line (length i.frame.payload) bytes) (is_starved new) (pixel_past past)) new.pixels → new.line ≡ v.line → new.came ≡ v.came + length bytes → Stands (after_feed bytes (is_starved new) past) new
+pub keep_stands : (bytes : List ℕ) (past : JoinHistory) (v new : JoinState) → Represents past v → (i : IsIn past v) → MayCome i.frame bytes → PixelRepresents (after_feed (pixels_from (row_bytes i.frame.params) i.frame.params.bytes_per_line (length i.frame.payload) bytes) (is_out_of_memory new) (pixel_history past)) new.pixels → new.line ≡ v.line → new.came ≡ v.came + length bytes → Represents (after_feed bytes (is_out_of_memory new) past) new
 keep_stands bytes past v new stands i may pixels line came = record {
   pixels = standing;
-  ended = subst AreEnded (sym (fed_ended_kept past i.frame bytes (is_starved new) i.fault i.under may.most)) stands.ended;
+  ended = subst AreEnded (sym (fed_ended_kept past i.frame bytes (is_out_of_memory new) i.fault i.under may.most)) stands.ended;
   coming = λ keeping. (
-      let k = in_kept (pixel_past (after_feed bytes (is_starved new) past)) new.pixels standing keeping in
-      subst (λ (u : Option Frame). IsComing u new) (sym (grows (is_starved new) k.fault))
+      let k = in_kept (pixel_history (after_feed bytes (is_out_of_memory new) past)) new.pixels standing keeping in
+      subst (λ (u : Option Frame). IsComing u new) (sym (grows (is_out_of_memory new) k.fault))
       (record { kept = may.kept; line = line ∙ i.come.line; came = came ∙ (ap (λ (n : ℕ). n + length bytes) i.come.came ∙ sym (length-append i.frame.payload bytes)); most = omega (arith, may.most, length-append i.frame.payload bytes) }));
 }
   where
-    standing : PixelStands (pixel_past (after_feed bytes (is_starved new) past)) new.pixels
-    standing = subst (λ (q : Past). PixelStands q new.pixels) (sym (fed_kept past i.frame bytes (is_starved new) i.fault i.under may)) pixels
+    standing : PixelRepresents (pixel_history (after_feed bytes (is_out_of_memory new) past)) new.pixels
+    standing = subst (λ (q : JoinHistory). PixelRepresents q new.pixels) (sym (fed_kept past i.frame bytes (is_out_of_memory new) i.fault i.under may)) pixels
 
     by : (s : Bool) → (feeds_by false s i.frame bytes past).fault ≡ None → (feeds_by false s i.frame bytes past).under ≡ Some (grown i.frame bytes)
     by true calm = absurd (let clash : Some NoMem ≡ None = calm in cc)
@@ -172,65 +172,65 @@ keep_stands bytes past v new stands i may pixels line came = record {
     grows : (s : Bool) → (after_feed bytes s past).fault ≡ None → (after_feed bytes s past).under ≡ Some (grown i.frame bytes)
     grows s calm =
         let is = fed_is past i.frame bytes s i.fault i.under may.most in
-        ap (λ (q : Past). q.under) is ∙ by s (sym (ap (λ (q : Past). q.fault) is) ∙ calm)
+        ap (λ (q : JoinHistory). q.under) is ∙ by s (sym (ap (λ (q : JoinHistory). q.fault) is) ∙ calm)
 
 -- more bytes came than the frame may have
-is_long : (bytes : List ℕ) (starved : Bool) (past : Past) (f : Frame) → past.fault ≡ None → past.under ≡ Some f → most_bytes f.params < length f.payload + length bytes → after_feed bytes starved past ≡ failed Long past
+is_long : (bytes : List ℕ) (starved : Bool) (past : JoinHistory) (f : Frame) → past.fault ≡ None → past.under ≡ Some f → most_bytes f.params < length f.payload + length bytes → after_feed bytes starved past ≡ with_fault Long past
 unfolding after_feed
 is_long bytes starved past f calm under long =
-    ap (λ (o : Option JoinFault). fed o past.under bytes starved past) calm
-    ∙ (ap (λ (u : Option Frame). fed None u bytes starved past) under
+    ap (λ (o : Option JoinFault). after_feed_at o past.under bytes starved past) calm
+    ∙ (ap (λ (u : Option Frame). after_feed_at None u bytes starved past) under
     ∙ ap (λ (t : Bool). feeds_by t starved f bytes past) (lt_true (most_bytes f.params) (length f.payload + length bytes) long))
 
 -- a fault came to stand in a frame that is kept
-pub fault_stands : (fault : JoinFault) (past : Past) (v new : Joining) → Stands past v → PixelStands (failed fault (pixel_past past)) new.pixels → Stands (failed fault past) new
+pub fault_stands : (fault : JoinFault) (past : JoinHistory) (v new : JoinState) → Represents past v → PixelRepresents (with_fault fault (pixel_history past)) new.pixels → Represents (with_fault fault past) new
 fault_stands fault past v new stands pixels = record {
   pixels = pixels;
   ended = stands.ended;
-  coming = λ keeping. absurd (let clash : Some fault ≡ None = (in_kept (pixel_past (failed fault past)) new.pixels pixels keeping).fault in cc);
+  coming = λ keeping. absurd (let clash : Some fault ≡ None = (in_kept (pixel_history (with_fault fault past)) new.pixels pixels keeping).fault in cc);
 }
 
-pub long_stands : (bytes : List ℕ) (starved : Bool) (past : Past) (v new : Joining) → Stands past v → (i : IsIn past v) → most_bytes i.frame.params < length i.frame.payload + length bytes → PixelStands (failed Long (pixel_past past)) new.pixels → Stands (after_feed bytes starved past) new
+pub long_stands : (bytes : List ℕ) (starved : Bool) (past : JoinHistory) (v new : JoinState) → Represents past v → (i : IsIn past v) → most_bytes i.frame.params < length i.frame.payload + length bytes → PixelRepresents (with_fault Long (pixel_history past)) new.pixels → Represents (after_feed bytes starved past) new
 long_stands bytes starved past v new stands i long pixels =
-    subst (λ (q : Past). Stands q new) (sym (is_long bytes starved past i.frame i.fault i.under long)) (fault_stands Long past v new stands pixels)
+    subst (λ (q : JoinHistory). Represents q new) (sym (is_long bytes starved past i.frame i.fault i.under long)) (fault_stands Long past v new stands pixels)
 
 -- ---- a frame ends
 
-ended_is : (past : Past) (f : Frame) → past.fault ≡ None → past.under ≡ Some f → after_end past ≡ ends_by (is_full f) f past
+ended_is : (past : JoinHistory) (f : Frame) → past.fault ≡ None → past.under ≡ Some f → after_end past ≡ ends_by (is_full f) f past
 unfolding after_end
-ended_is past f calm under = ap (λ (o : Option JoinFault). closed o past.under past) calm ∙ ap (λ (u : Option Frame). closed None u past) under
+ended_is past f calm under = ap (λ (o : Option JoinFault). after_end_at o past.under past) calm ∙ ap (λ (u : Option Frame). after_end_at None u past) under
 
-ended_none : (past : Past) → past.under ≡ None → after_end past ≡ past
+ended_none : (past : JoinHistory) → past.under ≡ None → after_end past ≡ past
 unfolding after_end
-ended_none past none = ap (λ (u : Option Frame). closed past.fault u past) none ∙ by past.fault
+ended_none past none = ap (λ (u : Option Frame). after_end_at past.fault u past) none ∙ by past.fault
   where
-    by : (o : Option JoinFault) → closed o None past ≡ past
+    by : (o : Option JoinFault) → after_end_at o None past ≡ past
     by None = refl
     by (Some x) = refl
 
-ended_fault : (past : Past) (fault : JoinFault) → past.fault ≡ Some fault → after_end past ≡ past
+ended_fault : (past : JoinHistory) (fault : JoinFault) → past.fault ≡ Some fault → after_end past ≡ past
 unfolding after_end
-ended_fault past fault e = ap (λ (o : Option JoinFault). closed o past.under past) e
+ended_fault past fault e = ap (λ (o : Option JoinFault). after_end_at o past.under past) e
 
 ended-append : (frames : List Frame) (f : Frame) → AreEnded frames → IsEnded f → AreEnded (frames ++ f ∷ [])
 ended-append [] f all one = (one, tt)
 ended-append (g ∷ frames) f all one = (all.0, ended-append frames f all.1 one)
 
 -- the frames that ended, one more
-one_more : (full : Bool) (past : Past) (f : Frame) → is_full f ≡ full → (is_alone f.params || is_kept f.params) ≡ true → AreEnded past.ended → AreEnded (ends_by full f past).ended
+one_more : (full : Bool) (past : JoinHistory) (f : Frame) → is_full f ≡ full → (is_alone f.params || is_kept f.params) ≡ true → AreEnded past.ended → AreEnded (ends_by full f past).ended
 one_more true past f full admitted all = ended-append past.ended f all (record { admitted = admitted; full = full })
 one_more false past f full admitted all = all
 
-after_ended : (past : Past) → AreEnded past.ended → (past.fault ≡ None → (f : Frame) → past.under ≡ Some f → (is_alone f.params || is_kept f.params) ≡ true) → AreEnded (after_end past).ended
+after_ended : (past : JoinHistory) → AreEnded past.ended → (past.fault ≡ None → (f : Frame) → past.under ≡ Some f → (is_alone f.params || is_kept f.params) ≡ true) → AreEnded (after_end past).ended
 after_ended past all admitted = by past.fault past.under refl refl
   where
     by : (o : Option JoinFault) (u : Option Frame) → past.fault ≡ o → past.under ≡ u → AreEnded (after_end past).ended
-    by (Some x) u a b = subst (λ (q : Past). AreEnded q.ended) (sym (ended_fault past x a)) all
-    by None None a b = subst (λ (q : Past). AreEnded q.ended) (sym (ended_none past b)) all
-    by None (Some f) a b = subst (λ (q : Past). AreEnded q.ended) (sym (ended_is past f a b)) (one_more (is_full f) past f refl (admitted a f b) all)
+    by (Some x) u a b = subst (λ (q : JoinHistory). AreEnded q.ended) (sym (ended_fault past x a)) all
+    by None None a b = subst (λ (q : JoinHistory). AreEnded q.ended) (sym (ended_none past b)) all
+    by None (Some f) a b = subst (λ (q : JoinHistory). AreEnded q.ended) (sym (ended_is past f a b)) (one_more (is_full f) past f refl (admitted a f b) all)
 
 -- behind an end no frame is under way, unless a fault stands
-end_rests : (past : Past) → (after_end past).fault ≡ None → (f : Frame) → (after_end past).under ≡ Some f → ⊥
+end_rests : (past : JoinHistory) → (after_end past).fault ≡ None → (f : Frame) → (after_end past).under ≡ Some f → ⊥
 end_rests past calm f under = by past.fault past.under refl refl
   where
     rest : (full : Bool) (g : Frame) → past.fault ≡ None → (ends_by full g past).fault ≡ None → (ends_by full g past).under ≡ Some f → ⊥
@@ -238,39 +238,39 @@ end_rests past calm f under = by past.fault past.under refl refl
     rest false g a calm under = let clash : Some Short ≡ None = calm in cc
 
     by : (o : Option JoinFault) (u : Option Frame) → past.fault ≡ o → past.under ≡ u → ⊥
-    by (Some x) u a b = let clash : Some x ≡ None = sym a ∙ (sym (ap (λ (q : Past). q.fault) (ended_fault past x a)) ∙ calm) in cc
-    by None None a b = let clash : None ≡ Some f = sym b ∙ (sym (ap (λ (q : Past). q.under) (ended_none past b)) ∙ under) in cc
+    by (Some x) u a b = let clash : Some x ≡ None = sym a ∙ (sym (ap (λ (q : JoinHistory). q.fault) (ended_fault past x a)) ∙ calm) in cc
+    by None None a b = let clash : None ≡ Some f = sym b ∙ (sym (ap (λ (q : JoinHistory). q.under) (ended_none past b)) ∙ under) in cc
     by None (Some g) a b =
         let is = ended_is past g a b in
-        rest (is_full g) g a (sym (ap (λ (q : Past). q.fault) is) ∙ calm) (sym (ap (λ (q : Past). q.under) is) ∙ under)
+        rest (is_full g) g a (sym (ap (λ (q : JoinHistory). q.fault) is) ∙ calm) (sym (ap (λ (q : JoinHistory). q.under) is) ∙ under)
 
 -- the frame is not kept, or all its bytes came
-pub end_stands : (past : Past) (v new : Joining) → Stands past v → (past.fault ≡ None → (f : Frame) → past.under ≡ Some f → (is_full (pixels_of f) ≡ is_full f) × ((is_alone f.params || is_kept f.params) ≡ true)) → PixelStands (after_end (pixel_past past)) new.pixels → Stands (after_end past) new
+pub end_stands : (past : JoinHistory) (v new : JoinState) → Represents past v → (past.fault ≡ None → (f : Frame) → past.under ≡ Some f → (is_full (pixels_of f) ≡ is_full f) × ((is_alone f.params || is_kept f.params) ≡ true)) → PixelRepresents (after_end (pixel_history past)) new.pixels → Represents (after_end past) new
 end_stands past v new stands frame pixels = record {
   pixels = standing;
   ended = after_ended past stands.ended (λ calm f under. (frame calm f under).1);
   coming = λ keeping. absurd (
-      let k = in_kept (pixel_past (after_end past)) new.pixels standing keeping in
+      let k = in_kept (pixel_history (after_end past)) new.pixels standing keeping in
       let f = is_some (after_end past).under k.frame k.under in
       end_rests past k.fault f.0 f.1);
 }
   where
-    standing : PixelStands (pixel_past (after_end past)) new.pixels
-    standing = subst (λ (q : Past). PixelStands q new.pixels) (sym (end_same past (λ calm f under. (frame calm f under).0))) pixels
+    standing : PixelRepresents (pixel_history (after_end past)) new.pixels
+    standing = subst (λ (q : JoinHistory). PixelRepresents q new.pixels) (sym (end_same past (λ calm f under. (frame calm f under).0))) pixels
 
-pub through_frame : (past : Past) (v : Joining) → Stands past v → is_keeping v.pixels.stage ≡ false → past.fault ≡ None → (f : Frame) → past.under ≡ Some f → (is_full (pixels_of f) ≡ is_full f) × ((is_alone f.params || is_kept f.params) ≡ true)
+pub through_frame : (past : JoinHistory) (v : JoinState) → Represents past v → is_keeping v.pixels.stage ≡ false → past.fault ≡ None → (f : Frame) → past.under ≡ Some f → (is_full (pixels_of f) ≡ is_full f) × ((is_alone f.params || is_kept f.params) ≡ true)
 through_frame past v stands through calm f under =
     let alone = under_alone past v stands through calm f under in
     (ap is_full (pixels_same f (alone_not_kept f.params alone)), or_left (is_alone f.params) (is_kept f.params) alone)
 
-pub full_frame : (past : Past) (v : Joining) → (i : IsIn past v) → is_full i.frame ≡ true → (f : Frame) → past.under ≡ Some f → (is_full (pixels_of f) ≡ is_full f) × ((is_alone f.params || is_kept f.params) ≡ true)
+pub full_frame : (past : JoinHistory) (v : JoinState) → (i : IsIn past v) → is_full i.frame ≡ true → (f : Frame) → past.under ≡ Some f → (is_full (pixels_of f) ≡ is_full f) × ((is_alone f.params || is_kept f.params) ≡ true)
 full_frame past v i full f under =
     let same : i.frame ≡ f = some_same i.frame f (sym i.under ∙ under) in
     subst (λ (g : Frame). (is_full (pixels_of g) ≡ is_full g) × ((is_alone g.params || is_kept g.params) ≡ true)) same
     (full_pixels i.frame i.come.kept full ∙ sym full, or_right (is_alone i.frame.params) (is_kept i.frame.params) i.come.kept)
 
 -- the frame lacks bytes
-pub short_is : (past : Past) (v : Joining) → (i : IsIn past v) → is_full i.frame ≡ false → after_end past ≡ failed Short past
+pub short_is : (past : JoinHistory) (v : JoinState) → (i : IsIn past v) → is_full i.frame ≡ false → after_end past ≡ with_fault Short past
 short_is past v i short = ended_is past i.frame i.fault i.under ∙ ap (λ (t : Bool). ends_by t i.frame past) short
 
 -- ---- a run of a piece
@@ -283,7 +283,7 @@ may_less : (f : Frame) (front rest : List ℕ) → MayCome f (front ++ rest) →
 may_less f front rest may = record { kept = may.kept; most = omega (arith, may.most, length-append front rest) }
 
 -- the next bytes of the piece show pixels
-pub run_on : (past : Past) (v : Joining) (i : IsIn past v) (front run rest : List ℕ) (s t : Bool) (x : PixelJoining) → MayCome i.frame (front ++ (run ++ rest)) → (v.came + length front) % v.line + length run ≤ row_bytes i.frame.params → PixelStands (after_feed run t (after_feed (pieces i.frame front) s (pixel_past past))) x → t ≡ is_pixel_starved x → PixelStands (after_feed (pieces i.frame (front ++ run)) t (pixel_past past)) x
+pub run_on : (past : JoinHistory) (v : JoinState) (i : IsIn past v) (front run rest : List ℕ) (s t : Bool) (x : PixelJoinState) → MayCome i.frame (front ++ (run ++ rest)) → (v.came + length front) % v.line + length run ≤ row_bytes i.frame.params → PixelRepresents (after_feed run t (after_feed (pieces i.frame front) s (pixel_history past))) x → t ≡ is_pixel_out_of_memory x → PixelRepresents (after_feed (pieces i.frame (front ++ run)) t (pixel_history past)) x
 run_on past v i front run rest s t x may low stands told =
     let f = i.frame in
     let shape = kept_shape f.params may.kept in
@@ -292,12 +292,12 @@ run_on past v i front run rest s t x may low stands told =
     let cut : pieces f (front ++ run) ≡ pieces f front ++ run = pixels-append (row_bytes f.params) f.params.bytes_per_line (length f.payload) front run ∙ ap (λ (l : List ℕ). pieces f front ++ l) all in
     let less : MayCome f (front ++ run) = may_less f (front ++ run) rest (subst (λ (l : List ℕ). MayCome f l) (sym (append_assoc front run rest)) may) in
     let fits = pixels_fit f (front ++ run) less in
-    let told_under : (pixel_past past).under ≡ Some (pixels_of f) = ap (option_map pixels_of) i.under in
-    subst (λ (l : List ℕ). PixelStands (after_feed l t (pixel_past past)) x) (sym cut)
-    (fed_on (pixel_past past) (pixels_of f) (pieces f front) run s t x i.fault told_under (omega (arith, fits, ap length cut, length-append (pieces f front) run)) stands told)
+    let told_under : (pixel_history past).under ≡ Some (pixels_of f) = ap (option_map pixels_of) i.under in
+    subst (λ (l : List ℕ). PixelRepresents (after_feed l t (pixel_history past)) x) (sym cut)
+    (fed_on (pixel_history past) (pixels_of f) (pieces f front) run s t x i.fault told_under (omega (arith, fits, ap length cut, length-append (pieces f front) run)) stands told)
 
 -- the next bytes of the piece stand behind the pixels of their line
-pub skip_on : (past : Past) (v : Joining) (i : IsIn past v) (front run : List ℕ) → row_bytes i.frame.params ≤ (v.came + length front) % v.line → (v.came + length front) % v.line + length run ≤ v.line → pieces i.frame (front ++ run) ≡ pieces i.frame front
+pub skip_on : (past : JoinHistory) (v : JoinState) (i : IsIn past v) (front run : List ℕ) → row_bytes i.frame.params ≤ (v.came + length front) % v.line → (v.came + length front) % v.line + length run ≤ v.line → pieces i.frame (front ++ run) ≡ pieces i.frame front
 skip_on past v i front run low high =
     let f = i.frame in
     let place : (length f.payload + length front) % f.params.bytes_per_line ≡ (v.came + length front) % v.line = ap (λ (n : ℕ). (n + length front) % f.params.bytes_per_line) (sym i.come.came) ∙ ap (λ (n : ℕ). (v.came + length front) % n) (sym i.come.line) in
@@ -309,21 +309,21 @@ pub pieces_none : (f : Frame) → pieces f [] ≡ []
 unfolding pixels_from
 pieces_none f = refl
 
-pub keep_begins : (past : Past) (v : Joining) (i : IsIn past v) → Stands past v → is_keeping v.pixels.stage ≡ true → PixelStands (after_feed (pieces i.frame []) (is_pixel_starved v.pixels) (pixel_past past)) v.pixels
-keep_begins past v i stands keeping = subst (λ (l : List ℕ). PixelStands (after_feed l (is_pixel_starved v.pixels) (pixel_past past)) v.pixels) (sym (pieces_none i.frame)) (fed_none (pixel_past past) v.pixels stands.pixels keeping)
+pub keep_begins : (past : JoinHistory) (v : JoinState) (i : IsIn past v) → Represents past v → is_keeping v.pixels.stage ≡ true → PixelRepresents (after_feed (pieces i.frame []) (is_pixel_out_of_memory v.pixels) (pixel_history past)) v.pixels
+keep_begins past v i stands keeping = subst (λ (l : List ℕ). PixelRepresents (after_feed l (is_pixel_out_of_memory v.pixels) (pixel_history past)) v.pixels) (sym (pieces_none i.frame)) (fed_none (pixel_history past) v.pixels stands.pixels keeping)
 
 -- as many bytes as there is room for
-pub may_come : (past : Past) (v : Joining) (i : IsIn past v) (bytes : List ℕ) → length bytes ≤ most_lines v.pixels.params.lines * v.line - v.came → MayCome i.frame bytes
+pub may_come : (past : JoinHistory) (v : JoinState) (i : IsIn past v) (bytes : List ℕ) → length bytes ≤ most_lines v.pixels.params.lines * v.line - v.came → MayCome i.frame bytes
 may_come past v i bytes room =
     let lines : most_lines v.pixels.params.lines * v.line ≡ most_bytes i.frame.params = ap (λ (p : Params). most_lines p.lines * v.line) i.params ∙ ap (λ (n : ℕ). most_lines i.frame.params.lines * n) i.come.line in
     record { kept = i.come.kept; most = omega (arith, room, lines, i.come.came, i.come.most) }
 
-pub too_long : (past : Past) (v : Joining) (i : IsIn past v) (bytes : List ℕ) → most_lines v.pixels.params.lines * v.line - v.came < length bytes → most_bytes i.frame.params < length i.frame.payload + length bytes
+pub too_long : (past : JoinHistory) (v : JoinState) (i : IsIn past v) (bytes : List ℕ) → most_lines v.pixels.params.lines * v.line - v.came < length bytes → most_bytes i.frame.params < length i.frame.payload + length bytes
 too_long past v i bytes long =
     let lines : most_lines v.pixels.params.lines * v.line ≡ most_bytes i.frame.params = ap (λ (p : Params). most_lines p.lines * v.line) i.params ∙ ap (λ (n : ℕ). most_lines i.frame.params.lines * n) i.come.line in
     omega (arith, long, lines, i.come.came, i.come.most)
 
-pub full_is : (past : Past) (v : Joining) (i : IsIn past v) → is_full_at v.pixels.params.lines v.line v.came ≡ is_full i.frame
+pub full_is : (past : JoinHistory) (v : JoinState) (i : IsIn past v) → is_full_at v.pixels.params.lines v.line v.came ≡ is_full i.frame
 full_is past v i =
     ap (λ (p : Params). is_full_at p.lines v.line v.came) i.params
     ∙ (ap (λ (n : ℕ). is_full_at i.frame.params.lines n v.came) i.come.line ∙ ap (is_full_at i.frame.params.lines i.frame.params.bytes_per_line) i.come.came)
@@ -340,15 +340,15 @@ taken_on bytes at end low = sym (take-add at (end - at) bytes) ∙ ap (λ (n : �
 length_run : (bytes : List ℕ) (at end : ℕ) → at ≤ end → end ≤ length bytes → length (slice_range bytes at end) ≡ end - at
 length_run bytes at end low high = length-take-le (end - at) (drop at bytes) (omega (arith, low, high, length-drop at bytes))
 
-pub run_to : (past : Past) (v : Joining) (i : IsIn past v) (bytes : List ℕ) (at end : ℕ) (s t : Bool) (x : PixelJoining) → MayCome i.frame bytes → at ≤ end → end ≤ length bytes → (v.came + at) % v.line + (end - at) ≤ row_bytes i.frame.params → PixelStands (after_feed (slice_range bytes at end) t (after_feed (pieces i.frame (take at bytes)) s (pixel_past past))) x → t ≡ is_pixel_starved x → PixelStands (after_feed (pieces i.frame (take end bytes)) t (pixel_past past)) x
+pub run_to : (past : JoinHistory) (v : JoinState) (i : IsIn past v) (bytes : List ℕ) (at end : ℕ) (s t : Bool) (x : PixelJoinState) → MayCome i.frame bytes → at ≤ end → end ≤ length bytes → (v.came + at) % v.line + (end - at) ≤ row_bytes i.frame.params → PixelRepresents (after_feed (slice_range bytes at end) t (after_feed (pieces i.frame (take at bytes)) s (pixel_history past))) x → t ≡ is_pixel_out_of_memory x → PixelRepresents (after_feed (pieces i.frame (take end bytes)) t (pixel_history past)) x
 run_to past v i bytes at end s t x may low high fits stands told =
     let front : length (take at bytes) ≡ at = length-take-le at bytes (omega (arith, low, high)) in
     let run = length_run bytes at end low high in
     let place : (v.came + length (take at bytes)) % v.line ≡ (v.came + at) % v.line = ap (λ (n : ℕ). (v.came + n) % v.line) front in
-    subst (λ (l : List ℕ). PixelStands (after_feed (pieces i.frame l) t (pixel_past past)) x) (taken_on bytes at end low)
+    subst (λ (l : List ℕ). PixelRepresents (after_feed (pieces i.frame l) t (pixel_history past)) x) (taken_on bytes at end low)
     (run_on past v i (take at bytes) (slice_range bytes at end) (drop end bytes) s t x (subst (λ (l : List ℕ). MayCome i.frame l) (sym (cut_at bytes at end low)) may) (omega (arith, fits, run, place)) stands told)
 
-pub skip_to : (past : Past) (v : Joining) (i : IsIn past v) (bytes : List ℕ) (at end : ℕ) → at ≤ end → end ≤ length bytes → row_bytes i.frame.params ≤ (v.came + at) % v.line → (v.came + at) % v.line + (end - at) ≤ v.line → pieces i.frame (take end bytes) ≡ pieces i.frame (take at bytes)
+pub skip_to : (past : JoinHistory) (v : JoinState) (i : IsIn past v) (bytes : List ℕ) (at end : ℕ) → at ≤ end → end ≤ length bytes → row_bytes i.frame.params ≤ (v.came + at) % v.line → (v.came + at) % v.line + (end - at) ≤ v.line → pieces i.frame (take end bytes) ≡ pieces i.frame (take at bytes)
 skip_to past v i bytes at end low high behind most =
     let front : length (take at bytes) ≡ at = length-take-le at bytes (omega (arith, low, high)) in
     let run = length_run bytes at end low high in

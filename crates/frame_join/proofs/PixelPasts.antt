@@ -11,9 +11,9 @@ use Rattle.frame_join.specs.declared.join_stage.JoinFault.{JoinFault}
 use Rattle.frame_join.specs.declared.join_stage.JoinFault.TheVariants.{Shape, Long, Short, NoMem}
 use Rattle.frame_join.specs.AloneFrame.{is_alone_format, is_alone, most_bytes}
 use Rattle.frame_join.specs.FrameFile.{file_of}
-use Rattle.frame_join.specs.FrameHistory.{Past, is_accepted, is_joined, is_full, failed, begun, fed, closed, after_begin, after_feed, after_end, answer_by, answer_of, frames_of, with_last}
-use Rattle.frame_join.specs.Pixels.{is_kept, pixel_params, pixel_bytes, pixels_of, pixels_from, pixel_past}
-use Rattle.frame_join.specs.Joining.{AreEnded}
+use Rattle.frame_join.specs.FrameHistory.{JoinHistory, is_accepted, is_joined, is_full, with_fault, after_begin_at, after_feed_at, after_end_at, after_begin, after_feed, after_end, answer_by, answer_of_end, history_frames, with_last}
+use Rattle.frame_join.specs.Pixels.{is_kept, pixel_params, pixel_bytes, pixels_of, pixels_from, pixel_history}
+use Rattle.frame_join.specs.JoinStates.{AreEnded}
 use Rattle.frame_join.proofs.TestLemmas.{or_cases}
 use Rattle.frame_join.proofs.FrameLaws.{alone_parts}
 use Rattle.frame_join.proofs.PixelParams.{narrow, narrowed, pixels_kept, pixels_same, accepted_same, joined_same_frames, same_format}
@@ -35,54 +35,54 @@ no_bytes p = elim (is_kept p) as (λ t. (if t then pixels_from (row p) p.bytes_p
 new_same : (p : Params) (o : ByteOrder) → pixels_of (new_frame p o) ≡ new_frame (pixel_params p) o
 new_same p o = ap (λ (l : List ℕ). record { params = pixel_params p; order = o; payload = l }) (no_bytes p)
 
-abbrev pub begins_by : Bool → Bool → Bool → Frame → Past → Past
+abbrev pub begins_by : Bool → Bool → Bool → Frame → JoinHistory → JoinHistory
 begins_by joined accepted starved f past =
     if joined then past
-    else (if not accepted then failed Shape past
-    else (if starved then failed NoMem past
+    else (if not accepted then with_fault Shape past
+    else (if starved then with_fault NoMem past
     else record past { under = Some f }))
 
-begins_same : (joined accepted starved : Bool) (f : Frame) (past : Past) → pixel_past (begins_by joined accepted starved f past) ≡ begins_by joined accepted starved (pixels_of f) (pixel_past past)
+begins_same : (joined accepted starved : Bool) (f : Frame) (past : JoinHistory) → pixel_history (begins_by joined accepted starved f past) ≡ begins_by joined accepted starved (pixels_of f) (pixel_history past)
 begins_same true accepted starved f past = refl
 begins_same false false starved f past = refl
 begins_same false true true f past = refl
 begins_same false true false f past = refl
 
-begun_same : (o : Option JoinFault) (u : Option Frame) (p : Params) (order : ByteOrder) (starved : Bool) (past : Past) → pixel_past (begun o u p order starved past) ≡ begun o (option_map pixels_of u) (pixel_params p) order starved (pixel_past past)
+begun_same : (o : Option JoinFault) (u : Option Frame) (p : Params) (order : ByteOrder) (starved : Bool) (past : JoinHistory) → pixel_history (after_begin_at o u p order starved past) ≡ after_begin_at o (option_map pixels_of u) (pixel_params p) order starved (pixel_history past)
 begun_same (Some fault) u p order starved past = refl
 begun_same None (Some f) p order starved past = refl
 begun_same None None p order starved past =
     begins_same (is_joined past.ended) (is_accepted past.ended p order) starved (new_frame p order) past
-    ∙ (ap (λ (t : Bool). begins_by t (is_accepted past.ended p order) starved (pixels_of (new_frame p order)) (pixel_past past)) (sym (joined_same_frames past.ended))
-    ∙ (ap (λ (t : Bool). begins_by (is_joined (map pixels_of past.ended)) t starved (pixels_of (new_frame p order)) (pixel_past past)) (sym (accepted_same past.ended p order))
-    ∙ ap (λ (f : Frame). begins_by (is_joined (map pixels_of past.ended)) (is_accepted (map pixels_of past.ended) (pixel_params p) order) starved f (pixel_past past)) (new_same p order)))
+    ∙ (ap (λ (t : Bool). begins_by t (is_accepted past.ended p order) starved (pixels_of (new_frame p order)) (pixel_history past)) (sym (joined_same_frames past.ended))
+    ∙ (ap (λ (t : Bool). begins_by (is_joined (map pixels_of past.ended)) t starved (pixels_of (new_frame p order)) (pixel_history past)) (sym (accepted_same past.ended p order))
+    ∙ ap (λ (f : Frame). begins_by (is_joined (map pixels_of past.ended)) (is_accepted (map pixels_of past.ended) (pixel_params p) order) starved f (pixel_history past)) (new_same p order)))
 
-pub begin_same : (p : Params) (o : ByteOrder) (starved : Bool) (past : Past) → pixel_past (after_begin p o starved past) ≡ after_begin (pixel_params p) o starved (pixel_past past)
+pub begin_same : (p : Params) (o : ByteOrder) (starved : Bool) (past : JoinHistory) → pixel_history (after_begin p o starved past) ≡ after_begin (pixel_params p) o starved (pixel_history past)
 unfolding after_begin
 begin_same p o starved past = begun_same past.fault past.under p o starved past
 
 -- ---- bytes come to a frame that is not kept
 
-abbrev pub feeds_by : Bool → Bool → Frame → List ℕ → Past → Past
+abbrev pub feeds_by : Bool → Bool → Frame → List ℕ → JoinHistory → JoinHistory
 feeds_by long starved f bytes past =
-    if long then failed Long past
-    else (if starved then failed NoMem past
+    if long then with_fault Long past
+    else (if starved then with_fault NoMem past
     else record past { under = Some (record f { payload = f.payload ++ bytes }) })
 
-feeds_same : (long starved : Bool) (f : Frame) (bytes : List ℕ) (past : Past) → is_kept f.params ≡ false → pixel_past (feeds_by long starved f bytes past) ≡ feeds_by long starved f bytes (pixel_past past)
+feeds_same : (long starved : Bool) (f : Frame) (bytes : List ℕ) (past : JoinHistory) → is_kept f.params ≡ false → pixel_history (feeds_by long starved f bytes past) ≡ feeds_by long starved f bytes (pixel_history past)
 feeds_same true starved f bytes past through = refl
 feeds_same false true f bytes past through = refl
-feeds_same false false f bytes past through = ap (λ (g : Frame). record (pixel_past past) { under = Some g }) (pixels_same (record f { payload = f.payload ++ bytes }) through)
+feeds_same false false f bytes past through = ap (λ (g : Frame). record (pixel_history past) { under = Some g }) (pixels_same (record f { payload = f.payload ++ bytes }) through)
 
-fed_same : (o : Option JoinFault) (u : Option Frame) (bytes : List ℕ) (starved : Bool) (past : Past) → (o ≡ None → (f : Frame) → u ≡ Some f → is_kept f.params ≡ false) → pixel_past (fed o u bytes starved past) ≡ fed o (option_map pixels_of u) bytes starved (pixel_past past)
+fed_same : (o : Option JoinFault) (u : Option Frame) (bytes : List ℕ) (starved : Bool) (past : JoinHistory) → (o ≡ None → (f : Frame) → u ≡ Some f → is_kept f.params ≡ false) → pixel_history (after_feed_at o u bytes starved past) ≡ after_feed_at o (option_map pixels_of u) bytes starved (pixel_history past)
 fed_same (Some fault) u bytes starved past through = refl
 fed_same None None bytes starved past through = refl
 fed_same None (Some f) bytes starved past through =
     let no = through refl f refl in
     feeds_same (nat_lt (most_bytes f.params) (length f.payload + length bytes)) starved f bytes past no
-    ∙ ap (λ (g : Frame). feeds_by (nat_lt (most_bytes g.params) (length g.payload + length bytes)) starved g bytes (pixel_past past)) (sym (pixels_same f no))
+    ∙ ap (λ (g : Frame). feeds_by (nat_lt (most_bytes g.params) (length g.payload + length bytes)) starved g bytes (pixel_history past)) (sym (pixels_same f no))
 
-pub feed_same : (bytes : List ℕ) (starved : Bool) (past : Past) → (past.fault ≡ None → (f : Frame) → past.under ≡ Some f → is_kept f.params ≡ false) → pixel_past (after_feed bytes starved past) ≡ after_feed bytes starved (pixel_past past)
+pub feed_same : (bytes : List ℕ) (starved : Bool) (past : JoinHistory) → (past.fault ≡ None → (f : Frame) → past.under ≡ Some f → is_kept f.params ≡ false) → pixel_history (after_feed bytes starved past) ≡ after_feed bytes starved (pixel_history past)
 unfolding after_feed
 feed_same bytes starved past through = fed_same past.fault past.under bytes starved past through
 
@@ -92,19 +92,19 @@ map-append-one : (frames : List Frame) (f : Frame) → map pixels_of (frames ++ 
 map-append-one [] f = refl
 map-append-one (g ∷ frames) f = ap (λ (l : List Frame). pixels_of g ∷ l) (map-append-one frames f)
 
-abbrev pub ends_by : Bool → Frame → Past → Past
-ends_by full f past = if full then record past { ended = past.ended ++ f ∷ []; under = None } else failed Short past
+abbrev pub ends_by : Bool → Frame → JoinHistory → JoinHistory
+ends_by full f past = if full then record past { ended = past.ended ++ f ∷ []; under = None } else with_fault Short past
 
-ends_same : (full : Bool) (f : Frame) (past : Past) → pixel_past (ends_by full f past) ≡ ends_by full (pixels_of f) (pixel_past past)
-ends_same true f past = ap (λ (l : List Frame). record (pixel_past past) { ended = l; under = None }) (map-append-one past.ended f)
+ends_same : (full : Bool) (f : Frame) (past : JoinHistory) → pixel_history (ends_by full f past) ≡ ends_by full (pixels_of f) (pixel_history past)
+ends_same true f past = ap (λ (l : List Frame). record (pixel_history past) { ended = l; under = None }) (map-append-one past.ended f)
 ends_same false f past = refl
 
-closed_same : (o : Option JoinFault) (u : Option Frame) (past : Past) → (o ≡ None → (f : Frame) → u ≡ Some f → is_full (pixels_of f) ≡ is_full f) → pixel_past (closed o u past) ≡ closed o (option_map pixels_of u) (pixel_past past)
+closed_same : (o : Option JoinFault) (u : Option Frame) (past : JoinHistory) → (o ≡ None → (f : Frame) → u ≡ Some f → is_full (pixels_of f) ≡ is_full f) → pixel_history (after_end_at o u past) ≡ after_end_at o (option_map pixels_of u) (pixel_history past)
 closed_same (Some fault) u past same = refl
 closed_same None None past same = refl
-closed_same None (Some f) past same = ends_same (is_full f) f past ∙ ap (λ (t : Bool). ends_by t (pixels_of f) (pixel_past past)) (sym (same refl f refl))
+closed_same None (Some f) past same = ends_same (is_full f) f past ∙ ap (λ (t : Bool). ends_by t (pixels_of f) (pixel_history past)) (sym (same refl f refl))
 
-pub end_same : (past : Past) → (past.fault ≡ None → (f : Frame) → past.under ≡ Some f → is_full (pixels_of f) ≡ is_full f) → pixel_past (after_end past) ≡ after_end (pixel_past past)
+pub end_same : (past : JoinHistory) → (past.fault ≡ None → (f : Frame) → past.under ≡ Some f → is_full (pixels_of f) ≡ is_full f) → pixel_history (after_end past) ≡ after_end (pixel_history past)
 unfolding after_end
 end_same past same = closed_same past.fault past.under past same
 
@@ -115,10 +115,10 @@ answer_same_by (Some fault) u ended = refl
 answer_same_by None (Some f) ended = refl
 answer_same_by None None ended = ap (λ (t : Bool). Ok t) (joined_same_frames ended)
 
-pub answer_same : (past : Past) → answer_of (pixel_past past) ≡ answer_of past
+pub answer_same : (past : JoinHistory) → answer_of_end (pixel_history past) ≡ answer_of_end past
 answer_same past = answer_same_by past.fault past.under past.ended
 
-pub frames_same : (past : Past) → frames_of (pixel_past past) ≡ map pixels_of (frames_of past)
+pub frames_same : (past : JoinHistory) → history_frames (pixel_history past) ≡ map pixels_of (history_frames past)
 frames_same past = by past.under past.ended
   where
     by : (u : Option Frame) (ended : List Frame) → with_last (map pixels_of ended) (option_map pixels_of u) ≡ map pixels_of (with_last ended u)

@@ -3,7 +3,7 @@ use Rattle.std.proofs.Common.{◌≡◌, ℕ, ◌<◌, ◌≤◌, ◌+◌, ◌-�
 use Rattle.std.specs.Prelude.{◌==◌, if◌then◌else◌, Option, Some, None, slice_index, ◌^◌}
 use Rattle.std.proofs.Math.Nat.{mul-div_cancel}
 use Rattle.netpbm.specs.Picture.{Picture, IsPlace}
-use Rattle.netpbm.specs.FileText.{joined}
+use Rattle.netpbm.specs.FileText.{concat_up_to}
 use Rattle.netpbm.specs.Pnm.{bit_row}
 use Rattle.sane_fixed.specs.declared.params.Params.{Params}
 use Rattle.sane_fixed.specs.declared.byte_order.ByteOrder.{ByteOrder}
@@ -13,7 +13,7 @@ use Rattle.page_picture.specs.Shows.{Frame, HasLines, HasLineShape, FitsPicture,
 use Rattle.frame_join.specs.AloneFrame.{is_alone_format, lines_in, row_bytes, ShapeParts}
 use Rattle.frame_join.specs.ColorPlanes.{Plane, plane_of, plane_in, planes_of, nth_plane, side_byte, side_rows, all_colors}
 use Rattle.frame_join.specs.KeptFrame.{color_number}
-use Rattle.frame_join.specs.FrameFile.{file_of, file_front, height_of}
+use Rattle.frame_join.specs.FrameFile.{file_of, file_front, frame_height}
 use Rattle.frame_join.proofs.TestLemmas.{eq_from, not_eq_from}
 use Rattle.frame_join.proofs.KeptLaws.{PassParts, pass_depth}
 use Rattle.frame_join.proofs.HeightLaws.{height_known}
@@ -36,10 +36,10 @@ place_low Blue w x k a b = omega (arith, a, b)
 row_at : (g : FrameFormat) (w d e : ℕ) → d ≡ e → row_size g w d ≡ row_size g w e
 row_at g w d e same = ap (row_size g w) same
 
-byte_same : (f : Frame) (y i j : ℕ) → IsWhole f → y < height_of f → j < row_bytes f.params → i ≡ j → slice_index (narrowed f).payload (y * row_bytes f.params + i) ≡ slice_index f.payload (y * f.params.bytes_per_line + i)
+byte_same : (f : Frame) (y i j : ℕ) → IsWhole f → y < frame_height f → j < row_bytes f.params → i ≡ j → slice_index (narrowed f).payload (y * row_bytes f.params + i) ≡ slice_index f.payload (y * f.params.bytes_per_line + i)
 byte_same f y i j w row low e = narrow_byte f y i w row (omega (arith, low, e))
 
-deep_sample : (f : Frame) (ch x y k : ℕ) → IsWhole f → ch ≡ channels_within f.params.format → x < f.params.pixels_per_line → k < ch → y < height_of f → f.params.depth ≡ 16 → two_bytes f.order (narrowed f).payload (y * row_bytes f.params + 2 * (ch * x + k)) ≡ two_bytes f.order f.payload (y * f.params.bytes_per_line + 2 * (ch * x + k))
+deep_sample : (f : Frame) (ch x y k : ℕ) → IsWhole f → ch ≡ channels_within f.params.format → x < f.params.pixels_per_line → k < ch → y < frame_height f → f.params.depth ≡ 16 → two_bytes f.order (narrowed f).payload (y * row_bytes f.params + 2 * (ch * x + k)) ≡ two_bytes f.order f.payload (y * f.params.bytes_per_line + 2 * (ch * x + k))
 deep_sample f ch x y k w is column channel row deep =
     let c = channels_within f.params.format in
     let low : c * x + k < f.params.pixels_per_line * c = place_low f.params.format f.params.pixels_per_line x k column (subst (λ (n : ℕ). k < n) is channel) in
@@ -53,7 +53,7 @@ deep_sample f ch x y k w is column channel row deep =
     ∙ narrow_byte f y (i + 1) w row inside
     ∙ ap (λ (n : ℕ). slice_index f.payload n) (let e : y * f.params.bytes_per_line + (i + 1) ≡ y * f.params.bytes_per_line + i + 1 = omega arith in e))
 
-byte_sample : (f : Frame) (ch x y k : ℕ) → IsWhole f → ch ≡ channels_within f.params.format → x < f.params.pixels_per_line → k < ch → y < height_of f → f.params.depth ≡ 8 → slice_index (narrowed f).payload (y * row_bytes f.params + (ch * x + k)) ≡ slice_index f.payload (y * f.params.bytes_per_line + (ch * x + k))
+byte_sample : (f : Frame) (ch x y k : ℕ) → IsWhole f → ch ≡ channels_within f.params.format → x < f.params.pixels_per_line → k < ch → y < frame_height f → f.params.depth ≡ 8 → slice_index (narrowed f).payload (y * row_bytes f.params + (ch * x + k)) ≡ slice_index f.payload (y * f.params.bytes_per_line + (ch * x + k))
 byte_sample f ch x y k w is column channel row deep =
     let c = channels_within f.params.format in
     let low : c * x + k < f.params.pixels_per_line * c = place_low f.params.format f.params.pixels_per_line x k column (subst (λ (n : ℕ). k < n) is channel) in
@@ -61,7 +61,7 @@ byte_sample f ch x y k w is column channel row deep =
     let size : row_bytes f.params ≡ f.params.pixels_per_line * c * 1 = row_at f.params.format f.params.pixels_per_line f.params.depth 8 deep in
     narrow_byte f y (ch * x + k) w row (omega (arith, low, same, size))
 
-bit_sample : (f : Frame) (x y : ℕ) → IsWhole f → x < f.params.pixels_per_line → y < height_of f → f.params.depth ≡ 1 → slice_index (narrowed f).payload (y * row_bytes f.params + x / 8) ≡ slice_index f.payload (y * f.params.bytes_per_line + x / 8)
+bit_sample : (f : Frame) (x y : ℕ) → IsWhole f → x < f.params.pixels_per_line → y < frame_height f → f.params.depth ≡ 1 → slice_index (narrowed f).payload (y * row_bytes f.params + x / 8) ≡ slice_index f.payload (y * f.params.bytes_per_line + x / 8)
 bit_sample f x y w column row deep =
     let size : row_bytes f.params ≡ bit_row f.params.pixels_per_line = row_at f.params.format f.params.pixels_per_line f.params.depth 1 deep in
     narrow_byte f y (x / 8) w row (omega (arith, column, size))
@@ -71,7 +71,7 @@ other_depth d (inl e) a b = e
 other_depth d (inr (inl e)) a b = absurd (not_eq_from d 8 b e)
 other_depth d (inr (inr e)) a b = absurd (not_eq_from d 16 a e)
 
-pub narrow_sample : (f : Frame) (ch x y k : ℕ) → IsWhole f → ch ≡ channels_within f.params.format → x < f.params.pixels_per_line → k < ch → y < height_of f → frame_sample ch (narrowed f) x y k ≡ frame_sample ch f x y k
+pub narrow_sample : (f : Frame) (ch x y k : ℕ) → IsWhole f → ch ≡ channels_within f.params.format → x < f.params.pixels_per_line → k < ch → y < frame_height f → frame_sample ch (narrowed f) x y k ≡ frame_sample ch f x y k
 narrow_sample f ch x y k w is column channel row =
     elim (f.params.depth == 16) as (λ t. (f.params.depth == 16) ≡ t → by f ch x y k t (f.params.depth == 8)) [
       | true ↦ λ deep. deep_sample f ch x y k w is column channel row (eq_from f.params.depth 16 deep)
@@ -101,8 +101,8 @@ same_factor : (m n l : ℕ) → 1 ≤ l → m * l ≡ n * l → m ≡ n
 same_factor m n l some e = sym (mul-div_cancel m (omega (arith, some))) ∙ (ap (λ (k : ℕ). k / l) e ∙ mul-div_cancel n (omega (arith, some)))
 
 -- the picture is as high as the frame
-height_is : (f : Frame) (p : Picture) → IsWhole f → length f.payload ≡ p.height * f.params.bytes_per_line → p.height ≡ height_of f
-height_is f p w size = same_factor p.height (height_of f) f.params.bytes_per_line w.some (sym size ∙ w.size)
+height_is : (f : Frame) (p : Picture) → IsWhole f → length f.payload ≡ p.height * f.params.bytes_per_line → p.height ≡ frame_height f
+height_is f p w size = same_factor p.height (frame_height f) f.params.bytes_per_line w.some (sym size ∙ w.size)
 
 fits_narrow : (f : Frame) (p : Picture) → IsWhole f → FitsPicture f p → FitsPicture (narrowed f) p
 fits_narrow f p w fits = record {
@@ -116,7 +116,7 @@ fits_narrow f p w fits = record {
 
 fits_wide : (f : Frame) (p : Picture) → IsWhole f → FitsPicture (narrowed f) p → FitsPicture f p
 fits_wide f p w fits =
-    let same : p.height ≡ height_of f = same_factor p.height (height_of f) (row_bytes f.params) w.shape.row_some (sym fits.size ∙ narrow_size f w) in
+    let same : p.height ≡ frame_height f = same_factor p.height (frame_height f) (row_bytes f.params) w.shape.row_some (sym fits.size ∙ narrow_size f w) in
     record {
       shape = w.shape.line_shape;
       is_picture = fits.is_picture;
@@ -129,7 +129,7 @@ fits_wide f p w fits =
 -- a place of the picture in the frame
 record InFrame (f : Frame) (x y : ℕ) : Type 0 where
   column : x < f.params.pixels_per_line
-  row : y < height_of f
+  row : y < frame_height f
 
 in_frame : (f : Frame) (p : Picture) (x y k : ℕ) → IsWhole f → FitsPicture f p → IsPlace p x y k → InFrame f x y
 in_frame f p x y k w fits at = record { column = omega (arith, at.column, fits.width); row = omega (arith, at.row, height_is f p w fits.size) }
@@ -219,7 +219,7 @@ colors_wide a b c p wa wb wc s = record {
 -- a byte of each frame's rows
 abbrev AreWide : ℕ → ℕ → List Frame → Type 0
 AreWide y i [] = Unit {0}
-AreWide y i (f ∷ frames) = (IsWhole f × (y < height_of f) × (i < row_bytes f.params)) × AreWide y i frames
+AreWide y i (f ∷ frames) = (IsWhole f × (y < frame_height f) × (i < row_bytes f.params)) × AreWide y i frames
 
 abbrev narrow_all : List Frame → List Frame
 narrow_all frames = map narrowed frames
@@ -278,7 +278,7 @@ all_row : (p : Params) → (p.depth ≡ 8) ⊎ (p.depth ≡ 16) → row_bytes (a
 all_row p (inl e) = row_eight p e ∙ (let s : p.pixels_per_line * 3 ≡ p.pixels_per_line * 3 * (p.depth / 8) = rw e (omega arith) in s)
 all_row p (inr e) = row_sixteen p e ∙ (let s : p.pixels_per_line * 6 ≡ p.pixels_per_line * 3 * (p.depth / 8) = rw e (omega arith) in s)
 
-wide_one : (c f : Frame) (y i : ℕ) → IsWhole f → PassParts f.params → PassParts c.params → f.params.pixels_per_line ≡ c.params.pixels_per_line → lines_in f.params.lines ≡ lines_in c.params.lines → f.params.depth ≡ c.params.depth → y < lines_in c.params.lines → i < c.params.pixels_per_line * (c.params.depth / 8) → IsWhole f × (y < height_of f) × (i < row_bytes f.params)
+wide_one : (c f : Frame) (y i : ℕ) → IsWhole f → PassParts f.params → PassParts c.params → f.params.pixels_per_line ≡ c.params.pixels_per_line → lines_in f.params.lines ≡ lines_in c.params.lines → f.params.depth ≡ c.params.depth → y < lines_in c.params.lines → i < c.params.pixels_per_line * (c.params.depth / 8) → IsWhole f × (y < frame_height f) × (i < row_bytes f.params)
 wide_one c f y i w pf pc width lines depth row low =
     let size : row_bytes f.params ≡ c.params.pixels_per_line * (c.params.depth / 8) = pass_row f.params c.params.depth pf depth (pass_depth c.params pc) ∙ ap (λ (n : ℕ). n * (c.params.depth / 8)) width in
     (w, omega (arith, row, lines, height_known f pf.lines_known), omega (arith, low, size))
@@ -300,7 +300,7 @@ rows_same a b c t =
     let size = row_bytes (all_colors c.params) in
     let less = planes_of (narrow_all (a ∷ b ∷ c ∷ [])) in
     let more = planes_of (a ∷ b ∷ c ∷ []) in
-    joined_same (λ y. joined (λ j. side_byte less c.params.depth y j ∷ []) size) (λ y. joined (λ j. side_byte more c.params.depth y j ∷ []) size) (lines_in c.params.lines)
+    joined_same (λ y. concat_up_to (λ j. side_byte less c.params.depth y j ∷ []) size) (λ y. concat_up_to (λ j. side_byte more c.params.depth y j ∷ []) size) (lines_in c.params.lines)
     (λ y row. joined_same (λ j. side_byte less c.params.depth y j ∷ []) (λ j. side_byte more c.params.depth y j ∷ []) size (λ j low. ap (λ (n : ℕ). n ∷ []) (side_same a b c y j t row low)))
 
 pub colors_file : (a b c : Frame) → IsTrio a b c → file_of (narrow_all (a ∷ b ∷ c ∷ [])) ≡ file_of (a ∷ b ∷ c ∷ [])

@@ -1,7 +1,7 @@
 -- The frame that has three colors side by side shows what the three show.
 use Rattle.std.proofs.Common.{◌≡◌, ◌≢◌, ℕ, zero, suc, ◌<◌, ◌≤◌, ◌+◌, ◌*◌, ◌/◌, ◌%◌, ◌⊎◌, inl, inr, Bool, true, false, List, [], ◌∷◌, length, get_or, arith, refl, sym, ap, ◌∙◌, subst}
 use Rattle.std.specs.Prelude.{◌==◌, if◌then◌else◌, Option, Some, slice_index}
-use Rattle.netpbm.specs.FileText.{joined}
+use Rattle.netpbm.specs.FileText.{concat_up_to}
 use Rattle.netpbm.proofs.WritingLaws.{length-joined, joined_at}
 use Rattle.netpbm.specs.Picture.{Picture, IsPlace, IsPicture}
 use Rattle.sane_fixed.specs.declared.params.Params.{Params}
@@ -15,9 +15,9 @@ use Rattle.page_picture.specs.Shows.{Frame, row_size, frame_sample, two_bytes, c
 use Rattle.frame_join.specs.AloneFrame.{is_alone_format, lines_in, row_bytes, ShapeParts, AloneParts}
 use Rattle.frame_join.specs.KeptFrame.{color_number}
 use Rattle.frame_join.specs.ColorPlanes.{Plane, Planes, plane_in, plane_of, planes_of, nth_plane, side_byte, side_rows, all_colors, side_by_side}
-use Rattle.frame_join.specs.FrameFile.{raster_byte, place_in, trimmed}
+use Rattle.frame_join.specs.FrameFile.{raster_byte, place_in, trimmed_byte}
 use Rattle.frame_join.specs.FrameHistory.{is_full, is_full_at}
-use Rattle.frame_join.specs.PixelJoining.{AreColors}
+use Rattle.frame_join.specs.PixelJoinStates.{AreColors}
 use Rattle.frame_join.proofs.TestLemmas.{eq_true, eq_from, not_eq_from}
 use Rattle.frame_join.proofs.FrameLaws.{sample_eight, sample_sixteen}
 use Rattle.frame_join.proofs.StreamLaws.{small_append, frame_picture, frame_sample_small, place_below}
@@ -28,26 +28,26 @@ use Rattle.frame_join.proofs.ColorLaws.{nth_is, first_parts, second_parts, third
 
 pub length-side_rows : (planes : Planes) (d size n : ℕ) → length (side_rows planes d size n) ≡ n * size
 unfolding side_rows
-length-side_rows planes d size n = length-joined (λ y. joined (λ j. side_byte planes d y j ∷ []) size) size n (λ y. row_length y)
+length-side_rows planes d size n = length-joined (λ y. concat_up_to (λ j. side_byte planes d y j ∷ []) size) size n (λ y. row_length y)
   where
-    row_length : (y : ℕ) → length (joined (λ j. side_byte planes d y j ∷ []) size) ≡ size
+    row_length : (y : ℕ) → length (concat_up_to (λ j. side_byte planes d y j ∷ []) size) ≡ size
     row_length y = omega (arith, length-joined (λ j. side_byte planes d y j ∷ []) 1 size (λ _. refl))
 
 pub side_at : (planes : Planes) (d size n y j i : ℕ) → y < n → j < size → i ≡ y * size + j → get_or (side_rows planes d size n) i 0 ≡ side_byte planes d y j
 unfolding side_rows
 side_at planes d size n y j i row column at =
-    ap (λ (i : ℕ). get_or (joined (λ y. joined (λ j. side_byte planes d y j ∷ []) size) n) i 0) at
-    ∙ (joined_at (λ y. joined (λ j. side_byte planes d y j ∷ []) size) size n y j row_length row column
-    ∙ (ap (λ (i : ℕ). get_or (joined (λ j. side_byte planes d y j ∷ []) size) i 0) (let one : j ≡ j * 1 + 0 = omega arith in one)
+    ap (λ (i : ℕ). get_or (concat_up_to (λ y. concat_up_to (λ j. side_byte planes d y j ∷ []) size) n) i 0) at
+    ∙ (joined_at (λ y. concat_up_to (λ j. side_byte planes d y j ∷ []) size) size n y j row_length row column
+    ∙ (ap (λ (i : ℕ). get_or (concat_up_to (λ j. side_byte planes d y j ∷ []) size) i 0) (let one : j ≡ j * 1 + 0 = omega arith in one)
     ∙ joined_at (λ j. side_byte planes d y j ∷ []) 1 size j 0 (λ _. refl) column (omega arith)))
   where
-    row_length : (y : ℕ) → length (joined (λ j. side_byte planes d y j ∷ []) size) ≡ size
+    row_length : (y : ℕ) → length (concat_up_to (λ j. side_byte planes d y j ∷ []) size) ≡ size
     row_length y = omega (arith, length-joined (λ j. side_byte planes d y j ∷ []) 1 size (λ _. refl))
 
-joined_small : (f : ℕ → List ℕ) (n : ℕ) → ((k i : ℕ) → slice_index (f k) i < 256) → (i : ℕ) → slice_index (joined f n) i < 256
-unfolding joined
+joined_small : (f : ℕ → List ℕ) (n : ℕ) → ((k i : ℕ) → slice_index (f k) i < 256) → (i : ℕ) → slice_index (concat_up_to f n) i < 256
+unfolding concat_up_to
 joined_small f zero small i = omega arith
-joined_small f (suc n) small i = small_append (joined f n) (f n) (joined_small f n small) (small n) i
+joined_small f (suc n) small i = small_append (concat_up_to f n) (f n) (joined_small f n small) (small n) i
 
 one_small : (b i : ℕ) → b < 256 → slice_index (b ∷ []) i < 256
 one_small b zero small = small
@@ -59,7 +59,7 @@ AreSmall planes = (k i : ℕ) → slice_index (nth_plane planes k).bytes i < 256
 pub side_small : (planes : Planes) (d size n : ℕ) → AreSmall planes → (i : ℕ) → slice_index (side_rows planes d size n) i < 256
 unfolding side_rows
 side_small planes d size n small i =
-    joined_small (λ y. joined (λ j. side_byte planes d y j ∷ []) size) n (λ y i. joined_small (λ j. side_byte planes d y j ∷ []) size (λ j i. one_small (side_byte planes d y j) i (small (j / (d / 8) % 3) (y * (nth_plane planes (j / (d / 8) % 3)).line + (j / (3 * (d / 8)) * (d / 8) + j % (d / 8))))) i) i
+    joined_small (λ y. concat_up_to (λ j. side_byte planes d y j ∷ []) size) n (λ y i. joined_small (λ j. side_byte planes d y j ∷ []) size (λ j i. one_small (side_byte planes d y j) i (small (j / (d / 8) % 3) (y * (nth_plane planes (j / (d / 8) % 3)).line + (j / (3 * (d / 8)) * (d / 8) + j % (d / 8))))) i) i
 
 -- ---- one of three colors
 
@@ -275,9 +275,9 @@ side_raster planes c y j parts row column =
     let inside : place < size = place_below g j (all_alone c.params parts) column in
     whole (pass_depth c.params parts) (slice_index g.payload (y * size + place)) ∙ side_at planes d size (lines_in c.params.lines) y place (y * size + place) row inside refl
   where
-    whole : (c.params.depth ≡ 8) ⊎ (c.params.depth ≡ 16) → (byte : ℕ) → trimmed c.params.pixels_per_line c.params.depth j byte ≡ byte
-    whole (inl deep) byte = ap (λ (d : ℕ). trimmed c.params.pixels_per_line d j byte) deep
-    whole (inr deep) byte = ap (λ (d : ℕ). trimmed c.params.pixels_per_line d j byte) deep
+    whole : (c.params.depth ≡ 8) ⊎ (c.params.depth ≡ 16) → (byte : ℕ) → trimmed_byte c.params.pixels_per_line c.params.depth j byte ≡ byte
+    whole (inl deep) byte = ap (λ (d : ℕ). trimmed_byte c.params.pixels_per_line d j byte) deep
+    whole (inr deep) byte = ap (λ (d : ℕ). trimmed_byte c.params.pixels_per_line d j byte) deep
 
 -- ---- what the frames show
 

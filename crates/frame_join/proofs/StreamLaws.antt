@@ -7,10 +7,10 @@ use Rattle.std.proofs.lemmas.Nat.{mul-add-lt}
 use Rattle.std.proofs.lemmas.List.{drop-drop, drop-append-le, get_or-drop, get_or_append_left, take_more, take_all, length-take-le, append-nil, length-drop, take-append-drop, get_or-append_right}
 use Rattle.std.proofs.Math.Nat.{mul-le-mul_right}
 use Rattle.netpbm.specs.Picture.{Picture}
-use Rattle.netpbm.specs.declared.format.Format.{Format}
-use Rattle.netpbm.specs.declared.format.Format.TheVariants.{Pbm, Pgm, Ppm}
+use Rattle.netpbm.specs.declared.format.PnmFormat.{PnmFormat}
+use Rattle.netpbm.specs.declared.format.PnmFormat.TheVariants.{Pbm, Pgm, Ppm}
 use Rattle.netpbm.specs.Pnm.{Denotes, IsWhole, magic}
-use Rattle.netpbm.specs.FileText.{joined, header_text}
+use Rattle.netpbm.specs.FileText.{concat_up_to, header_text}
 use Rattle.netpbm.proofs.WritingLaws.{joined-zero, joined-more}
 use Rattle.netpbm.proofs.PnmLaws.{no_prefix}
 use Rattle.sane_fixed.specs.declared.frame_format.FrameFormat.{FrameFormat}
@@ -23,35 +23,35 @@ use Rattle.frame_join.specs.declared.join_stage.Stage.TheVariants.{Idle, Under, 
 use Rattle.page_picture.specs.Meaning.{greatest_at}
 use Rattle.page_picture.specs.Shows.{Frame, row_size, frame_sample, two_bytes, channels_within, channels_alone}
 use Rattle.frame_join.specs.AloneFrame.{AloneParts, row_bytes, lines_in, is_alone_format, most_bytes}
-use Rattle.frame_join.specs.FrameFile.{header_alone, raster_byte, row_front, rows_front, file_front, place_in, trimmed}
+use Rattle.frame_join.specs.FrameFile.{header_alone, raster_byte, row_front, rows_front, file_front, place_in, trimmed_byte}
 use Rattle.frame_join.specs.JoinStages.{is_under, is_whole, is_colors}
-use Rattle.frame_join.specs.PixelJoining.{PixelJoining, Goes, Streams}
+use Rattle.frame_join.specs.PixelJoinStates.{PixelJoinState, HasGoneOut, StreamsRows}
 use Rattle.frame_join.specs.JoinSteps.{is_ready}
 use Rattle.frame_join.proofs.KeptLaws.{ready_row, ready_held}
 use Rattle.frame_join.proofs.FrameLaws.{length-row_front, length-rows_front, denotes_front}
 
 -- ---- lists one after another
 
-pub joined_same : (f g : ℕ → List ℕ) (n : ℕ) → ((i : ℕ) → i < n → f i ≡ g i) → joined f n ≡ joined g n
-unfolding joined
+pub joined_same : (f g : ℕ → List ℕ) (n : ℕ) → ((i : ℕ) → i < n → f i ≡ g i) → concat_up_to f n ≡ concat_up_to g n
+unfolding concat_up_to
 joined_same f g zero all = refl
 joined_same f g (suc n) all =
     let front = joined_same f g n (λ i h. all i (omega (arith, h))) in
     let last = all n (omega arith) in
-    ap (λ (l : List ℕ). l ++ f n) front ∙ ap (λ (l : List ℕ). joined g n ++ l) last
+    ap (λ (l : List ℕ). l ++ f n) front ∙ ap (λ (l : List ℕ). concat_up_to g n ++ l) last
 
-joined_split : (f : ℕ → List ℕ) (n k : ℕ) → (rest : List ℕ) × (joined f (n + k) ≡ joined f n ++ rest)
-joined_split f n zero = ([], ap (joined f) (let e : n + 0 ≡ n = omega arith in e) ∙ sym (append-nil (joined f n)))
+joined_split : (f : ℕ → List ℕ) (n k : ℕ) → (rest : List ℕ) × (concat_up_to f (n + k) ≡ concat_up_to f n ++ rest)
+joined_split f n zero = ([], ap (concat_up_to f) (let e : n + 0 ≡ n = omega arith in e) ∙ sym (append-nil (concat_up_to f n)))
 joined_split f n (suc k) =
     let front = joined_split f n k in
     let e : n + suc k ≡ n + k + 1 = omega arith in
-    (front.0 ++ f (n + k), ap (joined f) e ∙ (joined-more f (n + k) ∙ (ap (λ (l : List ℕ). l ++ f (n + k)) front.1 ∙ append_assoc (joined f n) front.0 (f (n + k)))))
+    (front.0 ++ f (n + k), ap (concat_up_to f) e ∙ (joined-more f (n + k) ∙ (ap (λ (l : List ℕ). l ++ f (n + k)) front.1 ∙ append_assoc (concat_up_to f n) front.0 (f (n + k)))))
 
-joined_rest : (f : ℕ → List ℕ) (n m : ℕ) → n ≤ m → (rest : List ℕ) × (joined f m ≡ joined f n ++ rest)
+joined_rest : (f : ℕ → List ℕ) (n m : ℕ) → n ≤ m → (rest : List ℕ) × (concat_up_to f m ≡ concat_up_to f n ++ rest)
 joined_rest f n m le =
     let parts = joined_split f n (m - n) in
     let e : m ≡ n + (m - n) = omega (arith, le) in
-    (parts.0, ap (joined f) e ∙ parts.1)
+    (parts.0, ap (concat_up_to f) e ∙ parts.1)
 
 pub row_front-more : (f : Frame) (y n : ℕ) → row_front f y (n + 1) ≡ row_front f y n ++ raster_byte f y n ∷ []
 row_front-more f y n = joined-more (λ j. raster_byte f y j ∷ []) n
@@ -106,7 +106,7 @@ place_below f j parts h = omega (arith, place_below_at f.order f.params.format f
 raster_byte_same : (f : Frame) (bytes : List ℕ) (y j : ℕ) → AloneParts f.params → (y + 1) * f.params.bytes_per_line ≤ length f.payload → j < row_bytes f.params → raster_byte (grown f bytes) y j ≡ raster_byte f y j
 raster_byte_same f bytes y j parts whole h =
     let inside = place_below f j parts h in
-    ap (trimmed f.params.pixels_per_line f.params.depth j) (get_or_append_left f.payload bytes 0 (y * f.params.bytes_per_line + place_in f.order f.params.depth j) (omega (arith, inside, whole)))
+    ap (trimmed_byte f.params.pixels_per_line f.params.depth j) (get_or_append_left f.payload bytes 0 (y * f.params.bytes_per_line + place_in f.order f.params.depth j) (omega (arith, inside, whole)))
 
 row_front_same : (f : Frame) (bytes : List ℕ) (y n : ℕ) → AloneParts f.params → (y + 1) * f.params.bytes_per_line ≤ length f.payload → n ≤ row_bytes f.params → row_front (grown f bytes) y n ≡ row_front f y n
 row_front_same f bytes y n parts whole le =
@@ -119,7 +119,7 @@ rows_front_same f bytes n parts whole =
 
 -- ---- one byte goes out
 
-pub goes_head : (f : Frame) (given : List ℕ) (v : PixelJoining) → Goes f given v → v.headed < length v.head → Goes f (given ++ slice_index v.head v.headed ∷ []) (record v { headed = v.headed + 1 })
+pub goes_head : (f : Frame) (given : List ℕ) (v : PixelJoinState) → HasGoneOut f given v → v.headed < length v.head → HasGoneOut f (given ++ slice_index v.head v.headed ∷ []) (record v { headed = v.headed + 1 })
 goes_head f given v s less =
     let none = s.ahead less in
     let row : v.row ≡ 0 = omega (arith, none) in
@@ -147,7 +147,7 @@ goes_head f given v s less =
       row_begun = s.row_begun;
     }
 
-pub goes_column : (f : Frame) (given : List ℕ) (v : PixelJoining) → Goes f given v → length v.head ≤ v.headed → v.row < lines_in f.params.lines → v.column + 1 < row_bytes f.params → Goes f (given ++ raster_byte f v.row v.column ∷ []) (record v { column = v.column + 1 })
+pub goes_column : (f : Frame) (given : List ℕ) (v : PixelJoinState) → HasGoneOut f given v → length v.head ≤ v.headed → v.row < lines_in f.params.lines → v.column + 1 < row_bytes f.params → HasGoneOut f (given ++ raster_byte f v.row v.column ∷ []) (record v { column = v.column + 1 })
 goes_column f given v s done row more =
     let t = take v.headed v.head in
     let a = rows_front f v.row in
@@ -171,7 +171,7 @@ goes_column f given v s done row more =
       row_begun = λ _. row;
     }
 
-pub goes_row : (f : Frame) (given held : List ℕ) (v : PixelJoining) → Goes f given v → length v.head ≤ v.headed → v.row < lines_in f.params.lines → v.column + 1 ≡ row_bytes f.params → Goes f (given ++ raster_byte f v.row v.column ∷ []) (record v { column = 0; row = v.row + 1; held = held })
+pub goes_row : (f : Frame) (given held : List ℕ) (v : PixelJoinState) → HasGoneOut f given v → length v.head ≤ v.headed → v.row < lines_in f.params.lines → v.column + 1 ≡ row_bytes f.params → HasGoneOut f (given ++ raster_byte f v.row v.column ∷ []) (record v { column = 0; row = v.row + 1; held = held })
 goes_row f given held v s done row last =
     let t = take v.headed v.head in
     let a = rows_front f v.row in
@@ -200,7 +200,7 @@ goes_row f given held v s done row last =
       row_begun = λ h. absurd (omega (arith, h));
     }
 
-pub head_goes : (f : Frame) (given : List ℕ) (v : PixelJoining) → Streams f given v → v.headed < length v.head → Streams f (given ++ slice_index v.head v.headed ∷ []) (record v { headed = v.headed + 1 })
+pub head_goes : (f : Frame) (given : List ℕ) (v : PixelJoinState) → StreamsRows f given v → v.headed < length v.head → StreamsRows f (given ++ slice_index v.head v.headed ∷ []) (record v { headed = v.headed + 1 })
 head_goes f given v s less = record {
   goes = goes_head f given v s.goes less;
   most = s.most;
@@ -211,19 +211,19 @@ head_goes f given v s less = record {
   last_row_waits = s.last_row_waits;
 }
 
-pub held_byte : (f : Frame) (given : List ℕ) (v : PixelJoining) → Streams f given v → trimmed v.params.pixels_per_line v.params.depth v.column (slice_index v.held (place_in v.order v.params.depth v.column)) ≡ raster_byte f v.row v.column
+pub held_byte : (f : Frame) (given : List ℕ) (v : PixelJoinState) → StreamsRows f given v → trimmed_byte v.params.pixels_per_line v.params.depth v.column (slice_index v.held (place_in v.order v.params.depth v.column)) ≡ raster_byte f v.row v.column
 held_byte f given v s =
     let place = place_in f.order f.params.depth v.column in
-    ap (λ (p : Params). trimmed p.pixels_per_line p.depth v.column (slice_index v.held (place_in v.order p.depth v.column))) s.goes.params
-    ∙ (ap (λ (o : ByteOrder). trimmed f.params.pixels_per_line f.params.depth v.column (slice_index v.held (place_in o f.params.depth v.column))) s.goes.order
-    ∙ ap (trimmed f.params.pixels_per_line f.params.depth v.column) (ap (λ (l : List ℕ). slice_index l place) s.held ∙ get_or-drop (v.row * f.params.bytes_per_line) f.payload place 0))
+    ap (λ (p : Params). trimmed_byte p.pixels_per_line p.depth v.column (slice_index v.held (place_in v.order p.depth v.column))) s.goes.params
+    ∙ (ap (λ (o : ByteOrder). trimmed_byte f.params.pixels_per_line f.params.depth v.column (slice_index v.held (place_in o f.params.depth v.column))) s.goes.order
+    ∙ ap (trimmed_byte f.params.pixels_per_line f.params.depth v.column) (ap (λ (l : List ℕ). slice_index l place) s.held ∙ get_or-drop (v.row * f.params.bytes_per_line) f.payload place 0))
 
-pub record Ready (f : Frame) (v : PixelJoining) : Type 0 where
+pub record Ready (f : Frame) (v : PixelJoinState) : Type 0 where
   pub row : v.row < lines_in f.params.lines
   pub line : (v.row + 1) * f.params.bytes_per_line ≤ length f.payload
   pub goes : is_under v.stage ≡ true → v.row + 1 < lines_in f.params.lines
 
-pub held_length : (f : Frame) (given : List ℕ) (v : PixelJoining) → Streams f given v → length v.held + v.row * f.params.bytes_per_line ≡ length f.payload
+pub held_length : (f : Frame) (given : List ℕ) (v : PixelJoinState) → StreamsRows f given v → length v.held + v.row * f.params.bytes_per_line ≡ length f.payload
 held_length f given v s =
     let e : length v.held ≡ length f.payload - v.row * f.params.bytes_per_line = ap (λ (l : List ℕ). length l) s.held ∙ length-drop (v.row * f.params.bytes_per_line) f.payload in
     omega (arith, e, s.reach)
@@ -241,7 +241,7 @@ or_right : (a b : Bool) → (a || b) ≡ true → a ≡ false → b ≡ true
 or_right true b h e = absurd (cc)
 or_right false b h e = h
 
-pub ready_is : (f : Frame) (given : List ℕ) (v : PixelJoining) → Streams f given v → is_colors v.stage ≡ false → is_ready v ≡ true → Ready f v
+pub ready_is : (f : Frame) (given : List ℕ) (v : PixelJoinState) → StreamsRows f given v → is_colors v.stage ≡ false → is_ready v ≡ true → Ready f v
 ready_is f given v s one ready =
     let lines : lines_in v.params.lines ≡ lines_in f.params.lines = ap (λ (p : Params). lines_in p.lines) s.goes.params in
     let B : v.params.bytes_per_line ≡ f.params.bytes_per_line = ap (λ (p : Params). p.bytes_per_line) s.goes.params in
@@ -262,7 +262,7 @@ ready_is f given v s one ready =
     le_of : (a b : ℕ) → nat_le a b ≡ true → a ≤ b
     le_of a b e = grind (arith, nat_tests)
 
-pub column_goes : (f : Frame) (given : List ℕ) (v : PixelJoining) → Streams f given v → length v.head ≤ v.headed → Ready f v → v.column + 1 < row_bytes f.params → Streams f (given ++ raster_byte f v.row v.column ∷ []) (record v { column = v.column + 1 })
+pub column_goes : (f : Frame) (given : List ℕ) (v : PixelJoinState) → StreamsRows f given v → length v.head ≤ v.headed → Ready f v → v.column + 1 < row_bytes f.params → StreamsRows f (given ++ raster_byte f v.row v.column ∷ []) (record v { column = v.column + 1 })
 column_goes f given v s done ready more = record {
   goes = goes_column f given v s.goes done ready.row more;
   most = s.most;
@@ -273,7 +273,7 @@ column_goes f given v s done ready more = record {
   last_row_waits = s.last_row_waits;
 }
 
-pub row_goes : (f : Frame) (given : List ℕ) (v : PixelJoining) → Streams f given v → length v.head ≤ v.headed → Ready f v → v.column + 1 ≡ row_bytes f.params → Streams f (given ++ raster_byte f v.row v.column ∷ []) (record v { column = 0; row = v.row + 1; held = drop v.params.bytes_per_line v.held })
+pub row_goes : (f : Frame) (given : List ℕ) (v : PixelJoinState) → StreamsRows f given v → length v.head ≤ v.headed → Ready f v → v.column + 1 ≡ row_bytes f.params → StreamsRows f (given ++ raster_byte f v.row v.column ∷ []) (record v { column = 0; row = v.row + 1; held = drop v.params.bytes_per_line v.held })
 row_goes f given v s done ready last =
     let B = f.params.bytes_per_line in
     let rest : drop v.params.bytes_per_line v.held ≡ drop ((v.row + 1) * B) f.payload =
@@ -298,7 +298,7 @@ small_append xs ys first second i = elim (cases_lt i (length xs)) as (λ _. slic
   | inr more ↦ rw (get_or-append_right xs ys (length xs) i 0 refl (omega (arith, more))) (second (i - length xs))
 ]
 
-pub bytes_come : (f : Frame) (given bytes : List ℕ) (v : PixelJoining) → Streams f given v → ((i : ℕ) → slice_index bytes i < 256) → length f.payload + length bytes ≤ most_bytes f.params → Streams (grown f bytes) given (record v { held = v.held ++ bytes })
+pub bytes_come : (f : Frame) (given bytes : List ℕ) (v : PixelJoinState) → StreamsRows f given v → ((i : ℕ) → slice_index bytes i < 256) → length f.payload + length bytes ≤ most_bytes f.params → StreamsRows (grown f bytes) given (record v { held = v.held ++ bytes })
 bytes_come f given bytes v s small room =
     let size : length (f.payload ++ bytes) ≡ length f.payload + length bytes = length-append f.payload bytes in
     let rows : rows_front (grown f bytes) v.row ≡ rows_front f v.row = rows_front_same f bytes v.row s.goes.alone s.reach in
@@ -334,7 +334,7 @@ bytes_come f given bytes v s small room =
 same_column_at : (f : Frame) (y n : ℕ) → n ≡ 0 → row_front f y n ≡ []
 same_column_at f y n e = ap (row_front f y) e ∙ row_front-zero f y
 
-rows_more : (f : Frame) (given : List ℕ) (v : PixelJoining) → Goes f given v → (more : List ℕ) × (rows_front f (lines_in f.params.lines) ≡ (rows_front f v.row ++ row_front f v.row v.column) ++ more)
+rows_more : (f : Frame) (given : List ℕ) (v : PixelJoinState) → HasGoneOut f given v → (more : List ℕ) × (rows_front f (lines_in f.params.lines) ≡ (rows_front f v.row ++ row_front f v.row v.column) ++ more)
 rows_more f given v s = by_column v.column refl
   where
     by_column : (n : ℕ) → v.column ≡ n → (more : List ℕ) × (rows_front f (lines_in f.params.lines) ≡ (rows_front f v.row ++ row_front f v.row v.column) ++ more)
@@ -354,7 +354,7 @@ rows_more f given v s = by_column v.column refl
               ∙ append_assoc (a ++ b) row.0 rest.0),
         )
 
-pub file_more : (f : Frame) (given : List ℕ) (v : PixelJoining) → Goes f given v → (more : List ℕ) × (given ++ more ≡ file_front f (lines_in f.params.lines))
+pub file_more : (f : Frame) (given : List ℕ) (v : PixelJoinState) → HasGoneOut f given v → (more : List ℕ) × (given ++ more ≡ file_front f (lines_in f.params.lines))
 file_more f given v s = elim (cases_lt v.headed (length v.head)) as (λ _. (more : List ℕ) × (given ++ more ≡ file_front f (lines_in f.params.lines))) [
   | inl less ↦
       let none = s.ahead less in
@@ -373,7 +373,7 @@ file_more f given v s = elim (cases_lt v.headed (length v.head)) as (λ _. (more
       (rest.0, ap (λ (l : List ℕ). l ++ rest.0) s.given_is ∙ (append_assoc t ab rest.0 ∙ (ap (λ (l : List ℕ). t ++ l) (sym rest.1) ∙ ap (λ (l : List ℕ). l ++ rows_front f (lines_in f.params.lines)) whole)))
 ]
 
-pub given_length : (f : Frame) (given : List ℕ) (v : PixelJoining) → Goes f given v → length given ≡ v.headed + (v.row * row_bytes f.params + v.column)
+pub given_length : (f : Frame) (given : List ℕ) (v : PixelJoinState) → HasGoneOut f given v → length given ≡ v.headed + (v.row * row_bytes f.params + v.column)
 given_length f given v s =
     let t = take v.headed v.head in
     let a = rows_front f v.row in
@@ -432,7 +432,7 @@ denotes_picture f parts small =
 
 -- ---- before the last row what went out is not whole
 
-pub goes_is_not_whole : (f : Frame) (given : List ℕ) (v : PixelJoining) → Goes f given v → v.row < lines_in f.params.lines → IsWhole given → ⊥
+pub goes_is_not_whole : (f : Frame) (given : List ℕ) (v : PixelJoinState) → HasGoneOut f given v → v.row < lines_in f.params.lines → IsWhole given → ⊥
 goes_is_not_whole f given v s row whole =
     let rest = file_more f given v s in
     let full : IsWhole (given ++ rest.0) = (frame_picture f, subst (λ (l : List ℕ). Denotes l (frame_picture f)) (sym rest.1) (denotes_picture f s.alone s.bytes)) in
@@ -442,7 +442,7 @@ goes_is_not_whole f given v s row whole =
     let head : v.headed ≤ length (header_text (header_alone f.params)) = subst (λ (l : List ℕ). v.headed ≤ length l) s.head s.headed in
     omega (arith, same, below, head, given_length f given v s, file_length f (lines_in f.params.lines))
 
-magic_some : (g : Format) → 1 ≤ length (magic g)
+magic_some : (g : PnmFormat) → 1 ≤ length (magic g)
 magic_some Pbm = omega arith
 magic_some Pgm = omega arith
 magic_some Ppm = omega arith

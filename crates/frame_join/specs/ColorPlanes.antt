@@ -1,6 +1,6 @@
 -- What three frames of one color each hold, and the one frame that has the colors side by side.
 use Rattle.std.specs.Prelude.{ℕ, ◌+◌, ◌*◌, ◌/◌, ◌%◌, ◌==◌, true, if◌then◌else◌, List, [], ◌∷◌, slice_index}
-use Rattle.netpbm.specs.FileText.{joined}
+use Rattle.netpbm.specs.FileText.{concat_up_to}
 use Rattle.sane_fixed.specs.declared.frame_format.FrameFormat.TheVariants.{Rgb}
 use Rattle.sane_fixed.specs.declared.params.Params.{Params}
 use Rattle.page_picture.specs.Shows.{Frame, row_size}
@@ -47,7 +47,7 @@ side_byte planes depth y j =
 
 -- so many such rows, of so many bytes each
 unfoldable pub side_rows : Planes → ℕ → ℕ → ℕ → List ℕ
-side_rows planes depth size lines = joined (λ y. joined (λ j. side_byte planes depth y j ∷ []) size) lines
+side_rows planes depth size lines = concat_up_to (λ y. concat_up_to (λ j. side_byte planes depth y j ∷ []) size) lines
 
 -- the parameters of a frame of all three colors, in the place of one of a color
 abbrev pub all_colors : Params → Params

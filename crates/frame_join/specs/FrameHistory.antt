@@ -10,15 +10,15 @@ use Rattle.frame_join.specs.AloneFrame.{is_alone_format, is_alone, is_side, most
 use Rattle.frame_join.specs.KeptFrame.{is_open_ended, is_pass_that, goes_with}
 
 -- the frames that ended, the one under way, the fault that stands, and what was pulled in all
-pub record Past : Type 0 where
+pub record JoinHistory : Type 0 where
   pub ended : List Frame
   pub under : Option Frame
   pub fault : Option JoinFault
   pub given : List ℕ
 
 -- nothing was told, and nothing given
-abbrev pub no_past : Past
-no_past = record { ended = []; under = None; fault = None; given = [] }
+abbrev pub empty_history : JoinHistory
+empty_history = record { ended = []; under = None; fault = None; given = [] }
 
 -- A frame of these parameters may follow the frames that ended: first one that is a picture, or else three of a color
 -- each, the third alone the last.
@@ -45,49 +45,49 @@ abbrev pub is_full : Frame → Bool
 is_full frame = is_full_at frame.params.lines frame.params.bytes_per_line (length frame.payload)
 
 -- the fault comes to stand
-abbrev pub failed : JoinFault → Past → Past
-failed fault past = record past { fault = Some fault }
+abbrev pub with_fault : JoinFault → JoinHistory → JoinHistory
+with_fault fault past = record past { fault = Some fault }
 
 -- A frame begins: a fault that stands stays, and so does a whole picture; inside a frame it is a fault.
-abbrev pub begun : Option JoinFault → Option Frame → Params → ByteOrder → Bool → Past → Past
-begun (Some _) _ params order starved past = past
-begun None (Some _) params order starved past = failed Shape past
-begun None None params order starved past =
+abbrev pub after_begin_at : Option JoinFault → Option Frame → Params → ByteOrder → Bool → JoinHistory → JoinHistory
+after_begin_at (Some _) _ params order starved past = past
+after_begin_at None (Some _) params order starved past = with_fault Shape past
+after_begin_at None None params order starved past =
     if is_joined past.ended then past
-    else (if not (is_accepted past.ended params order) then failed Shape past
-    else (if starved then failed NoMem past
+    else (if not (is_accepted past.ended params order) then with_fault Shape past
+    else (if starved then with_fault NoMem past
     else record past { under = Some (record { params = params; order = order; payload = [] }) }))
 
 -- Bytes come: inside a frame they are the next of it, or too many.
-abbrev pub fed : Option JoinFault → Option Frame → List ℕ → Bool → Past → Past
-fed (Some _) _ bytes starved past = past
-fed None None bytes starved past = past
-fed None (Some f) bytes starved past =
-    if nat_lt (most_bytes f.params) (length f.payload + length bytes) then failed Long past
-    else (if starved then failed NoMem past
+abbrev pub after_feed_at : Option JoinFault → Option Frame → List ℕ → Bool → JoinHistory → JoinHistory
+after_feed_at (Some _) _ bytes starved past = past
+after_feed_at None None bytes starved past = past
+after_feed_at None (Some f) bytes starved past =
+    if nat_lt (most_bytes f.params) (length f.payload + length bytes) then with_fault Long past
+    else (if starved then with_fault NoMem past
     else record past { under = Some (record f { payload = f.payload ++ bytes }) })
 
 -- The frame ends: it has all its bytes, or too few.
-abbrev pub closed : Option JoinFault → Option Frame → Past → Past
-closed (Some _) _ past = past
-closed None None past = past
-closed None (Some f) past =
-    if is_full f then record past { ended = past.ended ++ f ∷ []; under = None } else failed Short past
+abbrev pub after_end_at : Option JoinFault → Option Frame → JoinHistory → JoinHistory
+after_end_at (Some _) _ past = past
+after_end_at None None past = past
+after_end_at None (Some f) past =
+    if is_full f then record past { ended = past.ended ++ f ∷ []; under = None } else with_fault Short past
 
 -- a frame begins; `starved` says that a growth was refused
-unfoldable pub after_begin : Params → ByteOrder → Bool → Past → Past
-after_begin params order starved past = begun past.fault past.under params order starved past
+unfoldable pub after_begin : Params → ByteOrder → Bool → JoinHistory → JoinHistory
+after_begin params order starved past = after_begin_at past.fault past.under params order starved past
 
 -- bytes come
-unfoldable pub after_feed : List ℕ → Bool → Past → Past
-after_feed bytes starved past = fed past.fault past.under bytes starved past
+unfoldable pub after_feed : List ℕ → Bool → JoinHistory → JoinHistory
+after_feed bytes starved past = after_feed_at past.fault past.under bytes starved past
 
 -- the frame ends
-unfoldable pub after_end : Past → Past
-after_end past = closed past.fault past.under past
+unfoldable pub after_end : JoinHistory → JoinHistory
+after_end past = after_end_at past.fault past.under past
 
 -- bytes go out
-abbrev pub after_pull : List ℕ → Past → Past
+abbrev pub after_pull : List ℕ → JoinHistory → JoinHistory
 after_pull bytes past = record past { given = past.given ++ bytes }
 
 -- a fault, or whether the picture is whole
@@ -97,17 +97,17 @@ answer_by None (Some f) ended = Ok false
 answer_by None None ended = Ok (is_joined ended)
 
 -- what `end` answers once it has come to this
-abbrev pub answer_of : Past → Result Bool JoinFault
-answer_of past = answer_by past.fault past.under past.ended
+abbrev pub answer_of_end : JoinHistory → Result Bool JoinFault
+answer_of_end past = answer_by past.fault past.under past.ended
 
 -- the frames so far, the one under way last
 abbrev pub with_last : List Frame → Option Frame → List Frame
 with_last frames None = frames
 with_last frames (Some f) = frames ++ f ∷ []
 
-abbrev pub frames_of : Past → List Frame
-frames_of past = with_last past.ended past.under
+abbrev pub history_frames : JoinHistory → List Frame
+history_frames past = with_last past.ended past.under
 
 -- the picture is whole
-abbrev pub IsJoined : Past → Type 0
-IsJoined past = answer_of past ≡ Ok true
+abbrev pub IsJoined : JoinHistory → Type 0
+IsJoined past = answer_of_end past ≡ Ok true

@@ -21,14 +21,14 @@ is_no_mem Long = false
 is_no_mem Short = false
 is_no_mem NoMem = true
 
-abbrev pub is_starved_at : Stage → Bool
-is_starved_at Idle = false
-is_starved_at Under = false
-is_starved_at Keeping = false
-is_starved_at Between = false
-is_starved_at Whole = false
-is_starved_at WholeColors = false
-is_starved_at (Failed fault) = is_no_mem fault
+abbrev pub is_out_of_memory_at : Stage → Bool
+is_out_of_memory_at Idle = false
+is_out_of_memory_at Under = false
+is_out_of_memory_at Keeping = false
+is_out_of_memory_at Between = false
+is_out_of_memory_at Whole = false
+is_out_of_memory_at WholeColors = false
+is_out_of_memory_at (Failed fault) = is_no_mem fault
 
 -- in a frame whose rows go straight through
 abbrev pub is_under : Stage → Bool

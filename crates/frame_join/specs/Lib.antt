@@ -4,11 +4,11 @@ pub mod ColorPlanes
 pub mod FrameHistory
 pub mod FrameFile
 pub mod JoinStages
-pub mod PixelJoining
+pub mod PixelJoinStates
 pub mod JoinSteps
 pub mod PlaneInside
 pub mod PlanesInside
 pub mod PixelInside
 pub mod Pixels
-pub mod Joining
+pub mod JoinStates
 pub mod JoinInside

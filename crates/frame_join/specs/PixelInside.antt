@@ -4,10 +4,10 @@ use Rattle.frame_join.specs.declared.pixel_join.PixelJoin.TheInside.{Inside}
 use Rattle.frame_join.specs.AloneFrame.{lines_in, row_bytes, ShapeParts}
 use Rattle.frame_join.specs.KeptFrame.{is_open_ended, is_pass}
 use Rattle.frame_join.specs.JoinStages.{is_under, is_keeping, is_between, is_colors}
-use Rattle.frame_join.specs.PixelJoining.{PixelJoining}
+use Rattle.frame_join.specs.PixelJoinStates.{PixelJoinState}
 
-abbrev pub seen : Inside → PixelJoining
-seen j = record {
+abbrev pub pixel_view : Inside → PixelJoinState
+pixel_view j = record {
   stage = j.stage;
   params = j.params;
   order = j.order;
@@ -25,7 +25,7 @@ pub record IsCollecting (j : Inside) : Type 0 where
   pub column : j.column ≡ 0
   pub room : vec_len j.head + 64 ≤ vec_capacity j.head
 
-pub record IsSound (j : Inside) : Type 0 where
+pub record PixelInvariant (j : Inside) : Type 0 where
   pub start : j.start ≤ vec_len j.held
   pub headed : j.headed ≤ vec_len j.head
   pub shape : ShapeParts j.params

@@ -5,7 +5,7 @@ use Rattle.sane_fixed.specs.declared.params.Params.{Params}
 use Rattle.page_picture.specs.Shows.{Frame}
 use Rattle.frame_join.specs.AloneFrame.{row_bytes}
 use Rattle.frame_join.specs.KeptFrame.{is_open_ended, is_pass}
-use Rattle.frame_join.specs.FrameHistory.{Past}
+use Rattle.frame_join.specs.FrameHistory.{JoinHistory}
 
 abbrev pub with_byte : Bool → ℕ → List ℕ → List ℕ
 with_byte true byte bytes = byte ∷ bytes
@@ -31,5 +31,5 @@ pixel_bytes p bytes = if is_kept p then pixels_from (row_bytes p) p.bytes_per_li
 abbrev pub pixels_of : Frame → Frame
 pixels_of f = record { params = pixel_params f.params; order = f.order; payload = pixel_bytes f.params f.payload }
 
-abbrev pub pixel_past : Past → Past
-pixel_past past = record past { ended = map pixels_of past.ended; under = option_map pixels_of past.under }
+abbrev pub pixel_history : JoinHistory → JoinHistory
+pixel_history past = record past { ended = map pixels_of past.ended; under = option_map pixels_of past.under }

@@ -1,8 +1,8 @@
 ghost use Rattle.std.specs.Prelude.{ℕ, ◌≡◌, ◌≤◌, ◌<◌, ◌+◌, ◌*◌, ◌%◌, true, length, slice_index};
 ghost use Rattle.frame_join.specs.AloneFrame.{is_shaped, is_depth, is_side, is_alone, is_alone_format, is_known, lines_in, most_lines, row_bytes, AloneParts};
-ghost use Rattle.frame_join.specs.FrameFile.{place_in, trimmed, header_alone};
+ghost use Rattle.frame_join.specs.FrameFile.{place_in, trimmed_byte, header_alone};
 
-use netpbm::{Format, Header};
+use netpbm::{Header, PnmFormat};
 use page_picture::greatest;
 use sane_fixed::{ByteOrder, FrameFormat, Params};
 
@@ -64,10 +64,10 @@ pub(crate) fn put_turned(row: &[u8], from: usize, buf: &mut [u8])
 }
 
 /// The byte without the bits past the row's end.
-pub(crate) fn trimmed(width: u32, depth: u32, column: usize, byte: u8) -> u8
+pub(crate) fn trimmed_byte(width: u32, depth: u32, column: usize, byte: u8) -> u8
     requires column { column < 1048576 }
     requires inside { depth ≡ 1 → 8 * column < width }
-    ensures { result ≡ trimmed width depth column byte }
+    ensures { result ≡ trimmed_byte width depth column byte }
 {
     if depth != 1 {
         return byte;
@@ -81,10 +81,10 @@ pub(crate) fn put_trimmed(row: &[u8], width: u32, from: usize, buf: &mut [u8])
     requires few { length row.now ≤ 1048576 }
     requires inside { 8 * length row.now < width + 8 }
     requires place { from + length buf.old ≤ length row.now }
-    ensures { (i : ℕ) → i < length buf.old → slice_index buf.new i ≡ trimmed width 1 (from + i) (slice_index row.now (from + i)) }
+    ensures { (i : ℕ) → i < length buf.old → slice_index buf.new i ≡ trimmed_byte width 1 (from + i) (slice_index row.now (from + i)) }
 {
     for i in 0..buf.len() {
-        buf[i] = trimmed(width, 1, from + i, row[from + i]);
+        buf[i] = trimmed_byte(width, 1, from + i, row[from + i]);
     }
 }
 
@@ -169,10 +169,10 @@ pub(crate) fn header_alone(params: &Params) -> Header
     ensures { result ≡ header_alone params.now }
 {
     let format = match params.format {
-        FrameFormat::Rgb => Format::Ppm,
-        FrameFormat::Gray if params.depth == 1 => Format::Pbm,
+        FrameFormat::Rgb => PnmFormat::Ppm,
+        FrameFormat::Gray if params.depth == 1 => PnmFormat::Pbm,
         FrameFormat::Gray | FrameFormat::Red | FrameFormat::Green | FrameFormat::Blue => {
-            Format::Pgm
+            PnmFormat::Pgm
         }
     };
     Header {

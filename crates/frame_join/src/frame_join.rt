@@ -3,10 +3,10 @@ ghost use Rattle.netpbm.specs.Picture.{Picture};
 ghost use Rattle.netpbm.specs.Pnm.{Denotes, IsWhole};
 ghost use Rattle.page_picture.specs.Shows.{Frame, ShowsFrames};
 ghost use Rattle.frame_join.specs.FrameFile.{file_of};
-ghost use Rattle.frame_join.specs.FrameHistory.{Past, no_past, after_begin, after_feed, after_end, answer_of, frames_of, is_full_at, IsJoined};
+ghost use Rattle.frame_join.specs.FrameHistory.{JoinHistory, empty_history, after_begin, after_feed, after_end, answer_of_end, history_frames, is_full_at, IsJoined};
 ghost use Rattle.frame_join.specs.AloneFrame.{most_lines};
 ghost use Rattle.frame_join.specs.JoinStages.{is_keeping};
-ghost use Rattle.frame_join.specs.Joining.{Stands, is_starved, IsDrained};
+ghost use Rattle.frame_join.specs.JoinStates.{Represents, is_out_of_memory, IsDrained};
 
 use crate::alone_frame::most_lines;
 use crate::join_stage::JoinFault;
@@ -28,21 +28,21 @@ pub struct FrameJoin {
 }
 
 impl Model for FrameJoin {
-    ghost use Rattle.frame_join.specs.Joining.{Joining};
+    ghost use Rattle.frame_join.specs.JoinStates.{JoinState};
 
-    ghost Value = { Joining };
+    ghost Value = { JoinState };
 
-    ghost use Rattle.frame_join.specs.JoinInside.{seen, IsSound};
+    ghost use Rattle.frame_join.specs.JoinInside.{join_view, JoinInvariant};
 
-    ghost view = { seen };
+    ghost view = { join_view };
 
-    ghost invariant = { IsSound };
+    ghost invariant = { JoinInvariant };
 }
 
 impl FrameJoin {
     /// A join to which nothing came.
     pub fn new(alloc: Global) -> FrameJoin
-        ensures { Stands no_past result }
+        ensures { Represents empty_history result }
     {
         FrameJoin {
             pixels: PixelJoin::new(alloc),
@@ -62,9 +62,9 @@ impl FrameJoin {
     /// through.
     pub fn begin(&mut self, alloc: Global, params: &Params, order: ByteOrder)
         // Whatever was told before, the join stands for that and the frame.
-        ensures carried { (past : Past) → Stands past self.old → Stands (after_begin params.now order (is_starved self.new) past) self.new }
+        ensures carried { (past : JoinHistory) → Represents past self.old → Represents (after_begin params.now order (is_out_of_memory self.new) past) self.new }
         // Only the first frame takes memory here.
-        ensures later { (past : Past) → Stands past self.old → past.ended ≢ [] → is_starved self.new ≡ is_starved self.old }
+        ensures later { (past : JoinHistory) → Represents past self.old → past.ended ≢ [] → is_out_of_memory self.new ≡ is_out_of_memory self.old }
     {
         self.pixels.begin(alloc, &pixel_params(params), order);
         if is_kept(params) {
@@ -87,8 +87,8 @@ impl FrameJoin {
         requires keeping { is_keeping self.old.pixels.stage ≡ true }
         requires room { length bytes.now ≤ most_lines self.old.pixels.params.lines * self.old.line - self.old.came }
         requires small { length bytes.now + self.old.came ≤ 2 ^ 52 }
-        ensures carried { (past : Past) → Stands past self.old → Stands (after_feed bytes.now (is_starved self.new) past) self.new }
-        ensures nothing { length bytes.now ≡ 0 → is_starved self.new ≡ is_starved self.old }
+        ensures carried { (past : JoinHistory) → Represents past self.old → Represents (after_feed bytes.now (is_out_of_memory self.new) past) self.new }
+        ensures nothing { length bytes.now ≡ 0 → is_out_of_memory self.new ≡ is_out_of_memory self.old }
     {
         let size = self.pixels.params().bytes_per_line as usize;
         let mut at = 0;
@@ -109,11 +109,11 @@ impl FrameJoin {
     /// lines have where its lines are not known; `NoMem` where a growth is refused. Outside a frame, and after a fault,
     /// it changes nothing.
     pub fn feed(&mut self, bytes: &[u8])
-        ensures carried { (past : Past) → Stands past self.old → Stands (after_feed bytes.now (is_starved self.new) past) self.new }
+        ensures carried { (past : JoinHistory) → Represents past self.old → Represents (after_feed bytes.now (is_out_of_memory self.new) past) self.new }
         // Where a pull gave nothing before and no frame is kept, a piece of at most 4,096 bytes takes no memory.
-        ensures room { IsDrained self.old → length bytes.now ≤ 4096 → is_starved self.new ≡ is_starved self.old }
+        ensures room { IsDrained self.old → length bytes.now ≤ 4096 → is_out_of_memory self.new ≡ is_out_of_memory self.old }
         // No bytes take none.
-        ensures nothing { length bytes.now ≡ 0 → is_starved self.new ≡ is_starved self.old }
+        ensures nothing { length bytes.now ≡ 0 → is_out_of_memory self.new ≡ is_out_of_memory self.old }
     {
         if !self.pixels.is_keeping() {
             self.pixels.feed(bytes);
@@ -146,10 +146,10 @@ impl FrameJoin {
     /// has fewer bytes than was told, or, where its lines are not known, no line or a part of one. Outside a frame, and
     /// after a fault, it changes nothing. It takes no memory.
     pub fn end(&mut self) -> Result<bool, JoinFault>
-        ensures carried { (past : Past) → Stands past self.old → Stands (after_end past) self.new }
-        ensures answer { (past : Past) → Stands past self.old → result ≡ answer_of (after_end past) }
+        ensures carried { (past : JoinHistory) → Represents past self.old → Represents (after_end past) self.new }
+        ensures answer { (past : JoinHistory) → Represents past self.old → result ≡ answer_of_end (after_end past) }
         // True exactly where no fault stands and the frames show a picture.
-        ensures exact { (past : Past) → Stands past self.old → (result ≡ Ok true) ↔ ((past.fault ≡ None) × ((p : Picture) × ShowsFrames (frames_of past) p)) }
+        ensures exact { (past : JoinHistory) → Represents past self.old → (result ≡ Ok true) ↔ ((past.fault ≡ None) × ((p : Picture) × ShowsFrames (history_frames past) p)) }
     {
         if self.lacks_bytes() {
             self.pixels.fail(JoinFault::Short);
@@ -160,17 +160,17 @@ impl FrameJoin {
 
     /// Whether the picture is whole and its file has gone to the last byte.
     pub fn has_given_all(&self) -> bool
-        ensures exact { (past : Past) → Stands past self.now → (result ≡ true) ↔ (IsJoined past × (past.given ≡ file_of past.ended)) }
+        ensures exact { (past : JoinHistory) → Represents past self.now → (result ≡ true) ↔ (IsJoined past × (past.given ≡ file_of past.ended)) }
         // That is exactly where what was given in all is a whole file, and it is that of the picture that the frames show.
-        ensures whole { (past : Past) → Stands past self.now → (result ≡ true) ↔ IsWhole past.given }
-        ensures denotes { (past : Past) → Stands past self.now → result ≡ true → (p : Picture) → ShowsFrames past.ended p → Denotes past.given p }
+        ensures whole { (past : JoinHistory) → Represents past self.now → (result ≡ true) ↔ IsWhole past.given }
+        ensures denotes { (past : JoinHistory) → Represents past self.now → result ≡ true → (p : Picture) → ShowsFrames past.ended p → Denotes past.given p }
     {
         self.pixels.has_given_all()
     }
 
     /// The fault that stands: the first that came to stand since the join was made.
     pub fn fault(&self) -> Option<JoinFault>
-        ensures { (past : Past) → Stands past self.now → result ≡ past.fault }
+        ensures { (past : JoinHistory) → Represents past self.now → result ≡ past.fault }
     {
         self.pixels.fault()
     }

@@ -110,7 +110,7 @@ pub(crate) fn is_full(params: &Params, size: usize) -> bool
 }
 
 /// The parameters of a frame whose height is told by its bytes.
-pub(crate) fn height_told(params: &Params, size: usize) -> Params
+pub(crate) fn with_known_height(params: &Params, size: usize) -> Params
     requires some { 0 < params.now.bytes_per_line }
     requires most { is_full_at params.now.lines params.now.bytes_per_line size ≡ true }
     requires unknown { is_unknown params.now.lines ≡ true }

@@ -1,43 +1,43 @@
 ghost use Rattle.std.specs.Prelude.{◌≡◌, ◌≢◌, ◌<◌, ◌≤◌, ◌*◌, ◌||◌, ◌++◌, None, Some, true, ◌^◌, ℕ, List, [], ◌∷◌, length, map, slice_index};
 ghost use Rattle.netpbm.specs.Picture.{Picture};
 ghost use Rattle.netpbm.specs.Pnm.{IsWhole};
-ghost use Rattle.netpbm.specs.FileText.{header_text, row_text, joined};
+ghost use Rattle.netpbm.specs.FileText.{header_text, row_text, concat_up_to};
 ghost use Rattle.page_picture.specs.Shows.{Frame, ShowsAlone, ShowsColors, ShowsFrames, frame_sample, channels_within};
 ghost use Rattle.frame_join.specs.AloneFrame.{is_alone, lines_in, row_bytes};
 ghost use Rattle.frame_join.specs.ColorPlanes.{planes_of};
-ghost use Rattle.frame_join.specs.FrameFile.{header_alone, file_front, file_of, height_of};
-ghost use Rattle.frame_join.specs.FrameHistory.{Past, IsJoined, is_accepted, is_full};
+ghost use Rattle.frame_join.specs.FrameFile.{header_alone, file_front, file_of, frame_height};
+ghost use Rattle.frame_join.specs.FrameHistory.{JoinHistory, IsJoined, is_accepted, is_full};
 ghost use Rattle.frame_join.specs.JoinStages.{is_keeping, is_between, is_colors};
 ghost use Rattle.frame_join.specs.Pixels.{is_kept, pixels_of};
-ghost use Rattle.frame_join.specs.Joining.{Joining, Stands};
+ghost use Rattle.frame_join.specs.JoinStates.{JoinState, Represents};
 
 /// Before the picture is whole, what was given in all is no whole text.
 pub fn not_whole_before()
-    ensures { (past : Past) (join : Joining) → Stands past join → (IsJoined past → ⊥) → IsWhole past.given → ⊥ }
+    ensures { (past : JoinHistory) (join : JoinState) → Represents past join → (IsJoined past → ⊥) → IsWhole past.given → ⊥ }
 {}
 
 /// Where no fault stands, a proper front of what was given in all is no whole text.
 pub fn no_front_is_whole()
-    ensures { (past : Past) (join : Joining) (front more : List ℕ) → Stands past join → past.fault ≡ None → past.given ≡ front ++ more → more ≢ [] → IsWhole front → ⊥ }
+    ensures { (past : JoinHistory) (join : JoinState) (front more : List ℕ) → Represents past join → past.fault ≡ None → past.given ≡ front ++ more → more ≢ [] → IsWhole front → ⊥ }
 {}
 
 /// Where no fault stands, what was given in all is less than 2^40 bytes.
 pub fn no_file_is_endless()
-    ensures { (past : Past) (join : Joining) → Stands past join → past.fault ≡ None → length past.given < 2 ^ 40 }
+    ensures { (past : JoinHistory) (join : JoinState) → Represents past join → past.fault ≡ None → length past.given < 2 ^ 40 }
 {}
 
 /// Of frames that are kept a join holds the bytes that show pixels, and no others: of the frame under way as many as that many
 /// rows have, and of those that ended, colors each, their rows.
 pub fn only_pixels_are_kept()
-    ensures coming { (past : Past) (join : Joining) (f : Frame) → Stands past join → is_keeping join.pixels.stage ≡ true → past.under ≡ Some f → join.pixels.held ≡ (pixels_of f).payload }
-    ensures most { (past : Past) (join : Joining) (f : Frame) (n : ℕ) → Stands past join → is_keeping join.pixels.stage ≡ true → past.under ≡ Some f → length f.payload ≤ n * f.params.bytes_per_line → length join.pixels.held ≤ n * row_bytes f.params }
-    ensures colors { (past : Past) (join : Joining) → Stands past join → (is_keeping join.pixels.stage || (is_between join.pixels.stage || is_colors join.pixels.stage)) ≡ true → join.pixels.planes ≡ planes_of (map pixels_of past.ended) }
-    ensures size { (f : Frame) → is_kept f.params ≡ true → is_full f ≡ true → length (pixels_of f).payload ≡ height_of f * row_bytes f.params }
+    ensures coming { (past : JoinHistory) (join : JoinState) (f : Frame) → Represents past join → is_keeping join.pixels.stage ≡ true → past.under ≡ Some f → join.pixels.held ≡ (pixels_of f).payload }
+    ensures most { (past : JoinHistory) (join : JoinState) (f : Frame) (n : ℕ) → Represents past join → is_keeping join.pixels.stage ≡ true → past.under ≡ Some f → length f.payload ≤ n * f.params.bytes_per_line → length join.pixels.held ≤ n * row_bytes f.params }
+    ensures colors { (past : JoinHistory) (join : JoinState) → Represents past join → (is_keeping join.pixels.stage || (is_between join.pixels.stage || is_colors join.pixels.stage)) ≡ true → join.pixels.planes ≡ planes_of (map pixels_of past.ended) }
+    ensures size { (f : Frame) → is_kept f.params ≡ true → is_full f ≡ true → length (pixels_of f).payload ≡ frame_height f * row_bytes f.params }
 {}
 
 /// A whole picture's frames show one.
 pub fn whole_shows()
-    ensures { (past : Past) (join : Joining) → Stands past join → IsJoined past → (p : Picture) × ShowsFrames past.ended p }
+    ensures { (past : JoinHistory) (join : JoinState) → Represents past join → IsJoined past → (p : Picture) × ShowsFrames past.ended p }
 {}
 
 /// A frame that shows a picture alone is accepted as the first.
@@ -53,12 +53,12 @@ pub fn shown_colors_are_accepted()
 /// The file of a whole picture is that of one frame of known height; the three frames of one color each make a frame
 /// that has the colors side by side.
 pub fn whole_file_is_of_one_frame()
-    ensures { (past : Past) (join : Joining) → Stands past join → IsJoined past → (f : Frame) × (is_alone f.params ≡ true) × ((i : ℕ) → slice_index f.payload i < 256) × (file_of past.ended ≡ file_front f (lines_in f.params.lines)) }
+    ensures { (past : JoinHistory) (join : JoinState) → Represents past join → IsJoined past → (f : Frame) × (is_alone f.params ≡ true) × ((i : ℕ) → slice_index f.payload i < 256) × (file_of past.ended ≡ file_front f (lines_in f.params.lines)) }
 {}
 
 /// The header and the first rows that a frame gives for its file are those of the writer's text for the picture that
 /// the frame shows: the comment in the second line, and the bits past a row's end 0.
 pub fn frame_file_is_the_writers_text()
     ensures { (f : Frame) (n : ℕ) → is_alone f.params ≡ true → ((i : ℕ) → slice_index f.payload i < 256) → file_front f n
-        ≡ header_text (header_alone f.params) ++ joined (λ y. row_text (header_alone f.params).format (header_alone f.params).maxval (header_alone f.params).width (λ x k. frame_sample (channels_within f.params.format) f x y k)) n }
+        ≡ header_text (header_alone f.params) ++ concat_up_to (λ y. row_text (header_alone f.params).format (header_alone f.params).maxval (header_alone f.params).width (λ x k. frame_sample (channels_within f.params.format) f x y k)) n }
 {}

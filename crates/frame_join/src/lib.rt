@@ -3,7 +3,7 @@
 
 mod alone_frame;
 mod frame_join;
-mod header;
+mod header_writing;
 mod join_stage;
 mod kept_frame;
 mod laws;

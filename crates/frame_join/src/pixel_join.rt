@@ -5,20 +5,20 @@ ghost use Rattle.page_picture.specs.Shows.{ShowsFrames};
 ghost use Rattle.frame_join.specs.AloneFrame.{AloneParts, ShapeParts, most_lines, row_bytes};
 ghost use Rattle.frame_join.specs.KeptFrame.{is_unknown, is_open_ended, is_pass};
 ghost use Rattle.frame_join.specs.FrameFile.{AllGone, GoesThrough, file_of};
-ghost use Rattle.frame_join.specs.FrameHistory.{Past, no_past, after_begin, after_feed, after_end, after_pull, answer_of, frames_of, IsJoined};
+ghost use Rattle.frame_join.specs.FrameHistory.{JoinHistory, empty_history, after_begin, after_feed, after_end, after_pull, answer_of_end, history_frames, IsJoined};
 ghost use Rattle.frame_join.specs.declared.join_stage.Stage.TheVariants.{Idle, Under, Keeping, Between, Failed};
 ghost use Rattle.frame_join.specs.JoinStages.{is_under, is_keeping, is_colors};
-ghost use Rattle.frame_join.specs.PixelJoining.{PixelStands, is_pixel_starved, IsPixelDrained};
+ghost use Rattle.frame_join.specs.PixelJoinStates.{PixelRepresents, is_pixel_out_of_memory, IsPixelDrained};
 ghost use Rattle.frame_join.specs.declared.join_stage.JoinFault.{JoinFault};
-ghost use Rattle.frame_join.specs.JoinSteps.{moves, is_ready, sample_at, may_go, after_samples, value_fed, under_ended, kept_ended, color_ended, value_ended, first_begun, next_begun, value_begun, accepts_next, answer_at, fresh, keeping};
+ghost use Rattle.frame_join.specs.JoinSteps.{can_give, is_ready, sample_at, may_go, after_samples, value_fed, under_ended, kept_ended, color_ended, value_ended, first_begun, next_begun, value_begun, accepts_next, answer_at, new_pixel_join, new_keeping_join};
 
 use crate::alone_frame::{
     header_alone, is_alone, lines_in, most_lines, put_trimmed, put_turned, row_size,
 };
-use crate::header::{HEADER_ROOM, put_header};
+use crate::header_writing::{HEADER_ROOM, put_header};
 use crate::join_stage::{JoinFault, Stage};
 use crate::kept_frame::{
-    all_colors, height_told, is_alike, is_full, is_open_ended, is_pass_that, is_unknown,
+    all_colors, is_alike, is_full, is_open_ended, is_pass_that, is_unknown, with_known_height,
 };
 use crate::planes::Planes;
 use sane_fixed::{ByteOrder, FrameFormat, Params};
@@ -47,21 +47,21 @@ pub struct PixelJoin {
 }
 
 impl Model for PixelJoin {
-    ghost use Rattle.frame_join.specs.PixelJoining.{PixelJoining};
+    ghost use Rattle.frame_join.specs.PixelJoinStates.{PixelJoinState};
 
-    ghost Value = { PixelJoining };
+    ghost Value = { PixelJoinState };
 
-    ghost use Rattle.frame_join.specs.PixelInside.{seen, IsSound};
+    ghost use Rattle.frame_join.specs.PixelInside.{pixel_view, PixelInvariant};
 
-    ghost view = { seen };
+    ghost view = { pixel_view };
 
-    ghost invariant = { IsSound };
+    ghost invariant = { PixelInvariant };
 }
 
 impl PixelJoin {
     /// A join to which nothing came.
     pub fn new(alloc: Global) -> PixelJoin
-        ensures { PixelStands no_past result }
+        ensures { PixelRepresents empty_history result }
     {
         PixelJoin {
             stage: Stage::Idle,
@@ -128,8 +128,8 @@ impl PixelJoin {
     }
 
     /// Whether bytes may go out at all.
-    fn moves(&self) -> bool
-        ensures { result ≡ moves self.now.stage }
+    fn can_give(&self) -> bool
+        ensures { result ≡ can_give self.now.stage }
     {
         match self.stage {
             Stage::Under | Stage::Whole | Stage::WholeColors => true,
@@ -171,7 +171,7 @@ impl PixelJoin {
 
     /// Writes bytes of the row, which may go out, to `buf` between `at` and `end`.
     fn write_row(&self, buf: &mut [u8], at: usize, end: usize)
-        requires moves { moves self.now.stage ≡ true }
+        requires moves { can_give self.now.stage ≡ true }
         requires head { length self.now.head ≤ self.now.headed }
         requires ready { is_ready self.now ≡ true }
         requires order { at ≤ end }
@@ -179,7 +179,7 @@ impl PixelJoin {
         requires row { self.now.column + (end - at) ≤ row_bytes self.now.params }
         ensures size { length buf.new ≡ length buf.old }
         ensures rest { drop end buf.new ≡ drop end buf.old }
-        ensures carried { (past : Past) → PixelStands (after_pull (take at buf.old) past) self.now → PixelStands (after_pull (take end buf.new) past) (after_samples (end - at) self.now) }
+        ensures carried { (past : JoinHistory) → PixelRepresents (after_pull (take at buf.old) past) self.now → PixelRepresents (after_pull (take end buf.new) past) (after_samples (end - at) self.now) }
     {
         if self.is_straight() {
             return self.copy_row(buf, at, end);
@@ -201,7 +201,7 @@ impl PixelJoin {
 
     /// Writes bytes of the row, which stand in its line as they go out.
     fn copy_row(&self, buf: &mut [u8], at: usize, end: usize)
-        requires moves { moves self.now.stage ≡ true }
+        requires moves { can_give self.now.stage ≡ true }
         requires head { length self.now.head ≤ self.now.headed }
         requires ready { is_ready self.now ≡ true }
         requires plain { is_colors self.now.stage ≡ false }
@@ -211,7 +211,7 @@ impl PixelJoin {
         requires row { self.now.column + (end - at) ≤ row_bytes self.now.params }
         ensures size { length buf.new ≡ length buf.old }
         ensures rest { drop end buf.new ≡ drop end buf.old }
-        ensures carried { (past : Past) → PixelStands (after_pull (take at buf.old) past) self.now → PixelStands (after_pull (take end buf.new) past) (after_samples (end - at) self.now) }
+        ensures carried { (past : JoinHistory) → PixelRepresents (after_pull (take at buf.old) past) self.now → PixelRepresents (after_pull (take end buf.new) past) (after_samples (end - at) self.now) }
     {
         let (lines, column) = (self.lines(), self.column);
         for i in at..end {
@@ -221,7 +221,7 @@ impl PixelJoin {
 
     /// Writes bytes of the row of three colors of a byte each.
     fn weave_row(&self, buf: &mut [u8], at: usize, end: usize)
-        requires moves { moves self.now.stage ≡ true }
+        requires moves { can_give self.now.stage ≡ true }
         requires head { length self.now.head ≤ self.now.headed }
         requires ready { is_ready self.now ≡ true }
         requires colors { is_colors self.now.stage ≡ true }
@@ -231,7 +231,7 @@ impl PixelJoin {
         requires row { self.now.column + (end - at) ≤ row_bytes self.now.params }
         ensures size { length buf.new ≡ length buf.old }
         ensures rest { drop end buf.new ≡ drop end buf.old }
-        ensures carried { (past : Past) → PixelStands (after_pull (take at buf.old) past) self.now → PixelStands (after_pull (take end buf.new) past) (after_samples (end - at) self.now) }
+        ensures carried { (past : JoinHistory) → PixelRepresents (after_pull (take at buf.old) past) self.now → PixelRepresents (after_pull (take end buf.new) past) (after_samples (end - at) self.now) }
     {
         self.planes
             .put_side(self.row, self.column, &mut buf[at..end]);
@@ -239,7 +239,7 @@ impl PixelJoin {
 
     /// Writes bytes of the row of three colors of two bytes each.
     fn weave_words(&self, buf: &mut [u8], at: usize, end: usize)
-        requires moves { moves self.now.stage ≡ true }
+        requires moves { can_give self.now.stage ≡ true }
         requires head { length self.now.head ≤ self.now.headed }
         requires ready { is_ready self.now ≡ true }
         requires colors { is_colors self.now.stage ≡ true }
@@ -249,7 +249,7 @@ impl PixelJoin {
         requires row { self.now.column + (end - at) ≤ row_bytes self.now.params }
         ensures size { length buf.new ≡ length buf.old }
         ensures rest { drop end buf.new ≡ drop end buf.old }
-        ensures carried { (past : Past) → PixelStands (after_pull (take at buf.old) past) self.now → PixelStands (after_pull (take end buf.new) past) (after_samples (end - at) self.now) }
+        ensures carried { (past : JoinHistory) → PixelRepresents (after_pull (take at buf.old) past) self.now → PixelRepresents (after_pull (take end buf.new) past) (after_samples (end - at) self.now) }
     {
         self.planes
             .put_side_words(self.order, self.row, self.column, &mut buf[at..end]);
@@ -257,7 +257,7 @@ impl PixelJoin {
 
     /// Writes bytes of the row, which stands in its line with the two bytes of each sample turned round.
     fn turn_row(&self, buf: &mut [u8], at: usize, end: usize)
-        requires moves { moves self.now.stage ≡ true }
+        requires moves { can_give self.now.stage ≡ true }
         requires head { length self.now.head ≤ self.now.headed }
         requires ready { is_ready self.now ≡ true }
         requires plain { is_colors self.now.stage ≡ false }
@@ -268,7 +268,7 @@ impl PixelJoin {
         requires row { self.now.column + (end - at) ≤ row_bytes self.now.params }
         ensures size { length buf.new ≡ length buf.old }
         ensures rest { drop end buf.new ≡ drop end buf.old }
-        ensures carried { (past : Past) → PixelStands (after_pull (take at buf.old) past) self.now → PixelStands (after_pull (take end buf.new) past) (after_samples (end - at) self.now) }
+        ensures carried { (past : JoinHistory) → PixelRepresents (after_pull (take at buf.old) past) self.now → PixelRepresents (after_pull (take end buf.new) past) (after_samples (end - at) self.now) }
     {
         let row = &self.lines()[..row_size(&self.params)];
         put_turned(row, self.column, &mut buf[at..end]);
@@ -276,7 +276,7 @@ impl PixelJoin {
 
     /// Writes bytes of the row of bits, which stand in its line, without the bits past its end.
     fn trim_row(&self, buf: &mut [u8], at: usize, end: usize)
-        requires moves { moves self.now.stage ≡ true }
+        requires moves { can_give self.now.stage ≡ true }
         requires head { length self.now.head ≤ self.now.headed }
         requires ready { is_ready self.now ≡ true }
         requires plain { is_colors self.now.stage ≡ false }
@@ -286,7 +286,7 @@ impl PixelJoin {
         requires row { self.now.column + (end - at) ≤ row_bytes self.now.params }
         ensures size { length buf.new ≡ length buf.old }
         ensures rest { drop end buf.new ≡ drop end buf.old }
-        ensures carried { (past : Past) → PixelStands (after_pull (take at buf.old) past) self.now → PixelStands (after_pull (take end buf.new) past) (after_samples (end - at) self.now) }
+        ensures carried { (past : JoinHistory) → PixelRepresents (after_pull (take at buf.old) past) self.now → PixelRepresents (after_pull (take end buf.new) past) (after_samples (end - at) self.now) }
     {
         let row = &self.lines()[..row_size(&self.params)];
         let width = self.params.pixels_per_line;
@@ -295,7 +295,7 @@ impl PixelJoin {
 
     /// So many bytes of the row have gone.
     fn pass_over(&mut self, count: usize)
-        requires moves { moves self.old.stage ≡ true }
+        requires moves { can_give self.old.stage ≡ true }
         requires ready { is_ready self.old ≡ true }
         requires row { self.old.column + count ≤ row_bytes self.old.params }
         ensures { self.new ≡ after_samples count self.old }
@@ -318,11 +318,11 @@ impl PixelJoin {
         ensures high { result ≤ length buf.old }
         ensures size { length buf.new ≡ length buf.old }
         ensures rest { drop result buf.new ≡ drop result buf.old }
-        ensures carried { (past : Past) → PixelStands (after_pull (take at buf.old) past) self.old → PixelStands (after_pull (take result buf.new) past) self.new }
+        ensures carried { (past : JoinHistory) → PixelRepresents (after_pull (take at buf.old) past) self.old → PixelRepresents (after_pull (take result buf.new) past) self.new }
         ensures none { result ≡ at → (may_go self.old ≡ false) × (self.new ≡ self.old) }
         ensures some { at < result → may_go self.old ≡ true }
     {
-        if !self.moves() {
+        if !self.can_give() {
             return at;
         }
         if self.headed < self.head.len() {
@@ -345,17 +345,17 @@ impl PixelJoin {
         ensures count { result ≤ length buf.old }
         ensures rest { drop result buf.new ≡ drop result buf.old }
         // The join goes on from what was told before and what was given in all.
-        ensures carried { (past : Past) → PixelStands past self.old → PixelStands (after_pull (take result buf.new) past) self.new }
+        ensures carried { (past : JoinHistory) → PixelRepresents past self.old → PixelRepresents (after_pull (take result buf.new) past) self.new }
         // After a fault nothing goes out.
-        ensures silent { (past : Past) (fault : JoinFault) → PixelStands past self.old → past.fault ≡ Some fault → result ≡ 0 }
+        ensures silent { (past : JoinHistory) (fault : JoinFault) → PixelRepresents past self.old → past.fault ≡ Some fault → result ≡ 0 }
         // Where nothing goes out, the header and the rows have gone, or the whole file; of a frame that is kept nothing.
-        ensures gone { (past : Past) → PixelStands past self.old → past.fault ≡ None → result ≡ 0 → 0 < length buf.old → AllGone past.under past.ended past.given }
+        ensures gone { (past : JoinHistory) → PixelRepresents past self.old → past.fault ≡ None → result ≡ 0 → 0 < length buf.old → AllGone past.under past.ended past.given }
         // Then, where the picture is whole, what was given in all denotes the picture that the frames show.
-        ensures denotes { (past : Past) → PixelStands past self.old → IsJoined past → result ≡ 0 → 0 < length buf.old → (p : Picture) → ShowsFrames past.ended p → Denotes past.given p }
+        ensures denotes { (past : JoinHistory) → PixelRepresents past self.old → IsJoined past → result ≡ 0 → 0 < length buf.old → (p : Picture) → ShowsFrames past.ended p → Denotes past.given p }
         // Before the picture is whole, what was given in all is not.
-        ensures whole { (past : Past) → PixelStands past self.old → (IsJoined past → ⊥) → IsWhole (past.given ++ take result buf.new) → ⊥ }
+        ensures whole { (past : JoinHistory) → PixelRepresents past self.old → (IsJoined past → ⊥) → IsWhole (past.given ++ take result buf.new) → ⊥ }
         // Then, where no frame is kept, the join has room for a further piece.
-        ensures drained { (past : Past) → PixelStands past self.old → GoesThrough past.under → result ≡ 0 → 0 < length buf.old → IsPixelDrained self.new }
+        ensures drained { (past : JoinHistory) → PixelRepresents past self.old → GoesThrough past.under → result ≡ 0 → 0 < length buf.old → IsPixelDrained self.new }
     {
         let mut at = 0;
         while at < buf.len() {
@@ -378,9 +378,9 @@ impl PixelJoin {
 
     /// Takes the bytes of a frame, or says why not.
     fn take_in(&mut self, bytes: &[u8])
-        ensures value { self.new ≡ value_fed bytes.now (is_pixel_starved self.new) self.old }
-        ensures room { is_under self.old.stage ≡ true → length self.old.held + length bytes.now ≤ self.old.params.bytes_per_line + 4096 → is_pixel_starved self.new ≡ false }
-        ensures nothing { length bytes.now ≡ 0 → is_pixel_starved self.new ≡ is_pixel_starved self.old }
+        ensures value { self.new ≡ value_fed bytes.now (is_pixel_out_of_memory self.new) self.old }
+        ensures room { is_under self.old.stage ≡ true → length self.old.held + length bytes.now ≤ self.old.params.bytes_per_line + 4096 → is_pixel_out_of_memory self.new ≡ false }
+        ensures nothing { length bytes.now ≡ 0 → is_pixel_out_of_memory self.new ≡ is_pixel_out_of_memory self.old }
     {
         match self.stage {
             Stage::Idle | Stage::Between | Stage::Whole | Stage::WholeColors | Stage::Failed(_) =>
@@ -422,7 +422,7 @@ impl PixelJoin {
         if !is_full(&self.params, size) {
             self.stage = Stage::Failed(JoinFault::Short);
         } else if is_unknown(self.params.lines) {
-            self.params = height_told(&self.params, size);
+            self.params = with_known_height(&self.params, size);
             put_header(&mut self.head, &header_alone(&self.params));
             self.stage = Stage::Whole;
         } else {
@@ -472,12 +472,12 @@ impl PixelJoin {
     /// Begins the first frame, or says why not.
     #[tactic(auto, using(crate::proofs::KeptLaws::first_is_kept))]
     fn open_first(&mut self, alloc: Global, params: &Params, order: ByteOrder)
-        ensures { self.new ≡ first_begun params.now order (is_pixel_starved self.new) self.old }
+        ensures { self.new ≡ first_begun params.now order (is_pixel_out_of_memory self.new) self.old }
     {
         let begun = if is_alone(params) {
-            fresh(alloc, params, order)
+            new_pixel_join(alloc, params, order)
         } else if is_open_ended(params) || is_pass_that(false, params) {
-            keeping(alloc, params, order)
+            new_keeping_join(alloc, params, order)
         } else {
             self.stage = Stage::Failed(JoinFault::Shape);
             return;
@@ -491,8 +491,8 @@ impl PixelJoin {
     /// Begins a further color, or says why not.
     fn open_next(&mut self, params: &Params, order: ByteOrder)
         requires { self.old.stage ≡ Between }
-        ensures value { self.new ≡ next_begun params.now order (is_pixel_starved self.new) self.old }
-        ensures memory { is_pixel_starved self.new ≡ false }
+        ensures value { self.new ≡ next_begun params.now order (is_pixel_out_of_memory self.new) self.old }
+        ensures memory { is_pixel_out_of_memory self.new ≡ false }
     {
         if self.accepts_next(params, order) {
             self.params = *params;
@@ -505,8 +505,8 @@ impl PixelJoin {
 
     /// Begins a frame, or says why not.
     fn open(&mut self, alloc: Global, params: &Params, order: ByteOrder)
-        ensures value { self.new ≡ value_begun params.now order (is_pixel_starved self.new) self.old }
-        ensures later { self.old.stage ≢ Idle → is_pixel_starved self.new ≡ is_pixel_starved self.old }
+        ensures value { self.new ≡ value_begun params.now order (is_pixel_out_of_memory self.new) self.old }
+        ensures later { self.old.stage ≢ Idle → is_pixel_out_of_memory self.new ≡ is_pixel_out_of_memory self.old }
     {
         match self.stage {
             Stage::Whole | Stage::WholeColors | Stage::Failed(_) => {}
@@ -538,9 +538,9 @@ impl PixelJoin {
     /// through.
     pub fn begin(&mut self, alloc: Global, params: &Params, order: ByteOrder)
         // Whatever was told before, the join stands for that and the frame.
-        ensures carried { (past : Past) → PixelStands past self.old → PixelStands (after_begin params.now order (is_pixel_starved self.new) past) self.new }
+        ensures carried { (past : JoinHistory) → PixelRepresents past self.old → PixelRepresents (after_begin params.now order (is_pixel_out_of_memory self.new) past) self.new }
         // Only the first frame takes memory here.
-        ensures later { (past : Past) → PixelStands past self.old → past.ended ≢ [] → is_pixel_starved self.new ≡ is_pixel_starved self.old }
+        ensures later { (past : JoinHistory) → PixelRepresents past self.old → past.ended ≢ [] → is_pixel_out_of_memory self.new ≡ is_pixel_out_of_memory self.old }
     {
         self.open(alloc, params, order);
     }
@@ -549,11 +549,11 @@ impl PixelJoin {
     /// lines have where its lines are not known; `NoMem` where a growth is refused. Outside a frame, and after a fault,
     /// it changes nothing.
     pub fn feed(&mut self, bytes: &[u8])
-        ensures carried { (past : Past) → PixelStands past self.old → PixelStands (after_feed bytes.now (is_pixel_starved self.new) past) self.new }
+        ensures carried { (past : JoinHistory) → PixelRepresents past self.old → PixelRepresents (after_feed bytes.now (is_pixel_out_of_memory self.new) past) self.new }
         // Where a pull gave nothing before and no frame is kept, a piece of at most 4,096 bytes takes no memory.
-        ensures room { IsPixelDrained self.old → length bytes.now ≤ 4096 → is_pixel_starved self.new ≡ is_pixel_starved self.old }
+        ensures room { IsPixelDrained self.old → length bytes.now ≤ 4096 → is_pixel_out_of_memory self.new ≡ is_pixel_out_of_memory self.old }
         // No bytes take none.
-        ensures nothing { length bytes.now ≡ 0 → is_pixel_starved self.new ≡ is_pixel_starved self.old }
+        ensures nothing { length bytes.now ≡ 0 → is_pixel_out_of_memory self.new ≡ is_pixel_out_of_memory self.old }
     {
         self.take_in(bytes);
     }
@@ -562,10 +562,10 @@ impl PixelJoin {
     /// has fewer bytes than was told, or, where its lines are not known, no line or a part of one. Outside a frame, and
     /// after a fault, it changes nothing. It takes no memory.
     pub fn end(&mut self) -> Result<bool, JoinFault>
-        ensures carried { (past : Past) → PixelStands past self.old → PixelStands (after_end past) self.new }
-        ensures answer { (past : Past) → PixelStands past self.old → result ≡ answer_of (after_end past) }
+        ensures carried { (past : JoinHistory) → PixelRepresents past self.old → PixelRepresents (after_end past) self.new }
+        ensures answer { (past : JoinHistory) → PixelRepresents past self.old → result ≡ answer_of_end (after_end past) }
         // True exactly where no fault stands and the frames show a picture.
-        ensures exact { (past : Past) → PixelStands past self.old → (result ≡ Ok true) ↔ ((past.fault ≡ None) × ((p : Picture) × ShowsFrames (frames_of past) p)) }
+        ensures exact { (past : JoinHistory) → PixelRepresents past self.old → (result ≡ Ok true) ↔ ((past.fault ≡ None) × ((p : Picture) × ShowsFrames (history_frames past) p)) }
     {
         self.close();
         self.answer()
@@ -575,15 +575,15 @@ impl PixelJoin {
     fn may_go(&self) -> bool
         ensures { result ≡ may_go self.now }
     {
-        self.moves() && (self.headed < self.head.len() || self.is_ready())
+        self.can_give() && (self.headed < self.head.len() || self.is_ready())
     }
 
     /// Whether the picture is whole and its file has gone to the last byte.
     pub fn has_given_all(&self) -> bool
-        ensures exact { (past : Past) → PixelStands past self.now → (result ≡ true) ↔ (IsJoined past × (past.given ≡ file_of past.ended)) }
+        ensures exact { (past : JoinHistory) → PixelRepresents past self.now → (result ≡ true) ↔ (IsJoined past × (past.given ≡ file_of past.ended)) }
         // That is exactly where what was given in all is a whole file, and it is that of the picture that the frames show.
-        ensures whole { (past : Past) → PixelStands past self.now → (result ≡ true) ↔ IsWhole past.given }
-        ensures denotes { (past : Past) → PixelStands past self.now → result ≡ true → (p : Picture) → ShowsFrames past.ended p → Denotes past.given p }
+        ensures whole { (past : JoinHistory) → PixelRepresents past self.now → (result ≡ true) ↔ IsWhole past.given }
+        ensures denotes { (past : JoinHistory) → PixelRepresents past self.now → result ≡ true → (p : Picture) → ShowsFrames past.ended p → Denotes past.given p }
     {
         let Ok(true) = self.answer() else {
             return false;
@@ -593,7 +593,7 @@ impl PixelJoin {
 
     /// The fault that stands: the first that came to stand since the join was made.
     pub fn fault(&self) -> Option<JoinFault>
-        ensures { (past : Past) → PixelStands past self.now → result ≡ past.fault }
+        ensures { (past : JoinHistory) → PixelRepresents past self.now → result ≡ past.fault }
     {
         match self.stage {
             Stage::Failed(fault) => Some(fault),
@@ -623,9 +623,9 @@ fn let_go(held: &mut Vec<u8>, start: usize, more: usize) -> usize
 }
 
 /// A join in which a frame begins whose rows go straight through.
-fn fresh(alloc: Global, params: &Params, order: ByteOrder) -> Result<PixelJoin, AllocError>
+fn new_pixel_join(alloc: Global, params: &Params, order: ByteOrder) -> Result<PixelJoin, AllocError>
     requires { AloneParts params.now }
-    ensures { IfOk result (λ join. join ≡ fresh params.now order) }
+    ensures { IfOk result (λ join. join ≡ new_pixel_join params.now order) }
 {
     let mut head = Vec::with_capacity(alloc, HEADER_ROOM)?;
     put_header(&mut head, &header_alone(params));
@@ -645,9 +645,13 @@ fn fresh(alloc: Global, params: &Params, order: ByteOrder) -> Result<PixelJoin, 
 }
 
 /// A join in which a frame begins that is kept.
-fn keeping(alloc: Global, params: &Params, order: ByteOrder) -> Result<PixelJoin, AllocError>
+fn new_keeping_join(
+    alloc: Global,
+    params: &Params,
+    order: ByteOrder,
+) -> Result<PixelJoin, AllocError>
     requires { (is_open_ended params.now || is_pass params.now) ≡ true }
-    ensures { IfOk result (λ join. join ≡ keeping params.now order) }
+    ensures { IfOk result (λ join. join ≡ new_keeping_join params.now order) }
 {
     Ok(PixelJoin {
         stage: Stage::Keeping,

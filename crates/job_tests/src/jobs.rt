@@ -1,5 +1,5 @@
 use sane_fixed::Text;
-use scan_job::{Job, JobFault, Listed, Task, Why};
+use scan_job::{ItemList, Job, JobFault, Task, Why};
 use std::alloc::Global;
 use std::process::Abort;
 
@@ -131,6 +131,6 @@ fn things_in_their_order(rt: HostRuntime) {
     let mut items = Vec::new(alloc);
     items.push(3u32).expect(&rt, "memory");
     items.push(5u32).expect(&rt, "memory");
-    let listed = Listed::from_vec(items);
+    let listed = ItemList::from_vec(items);
     assert!(&rt; listed.as_slice() == &[3u32, 5][..]);
 }

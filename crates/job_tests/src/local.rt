@@ -185,7 +185,7 @@ fn resolution(rt: &impl Abort, alloc: Global, device: &Flatbed) -> Value {
 }
 
 /// The device's resolution is that again.
-fn stands_at(rt: &impl Abort, alloc: Global, device: &Flatbed, dpi: i32) {
+fn expect_resolution(rt: &impl Abort, alloc: Global, device: &Flatbed, dpi: i32) {
     assert!(rt; resolution(rt, alloc, device) == Value::Int(dpi));
 }
 
@@ -376,11 +376,11 @@ fn settings_are_kept_for_their_own_job(rt: HostRuntime) {
     let mut device = flatbed_on(&rt, alloc, b"P5\n1 1\n255\n\x00", 50);
     let settings: &[(&[u8], &[u8])] = &[(b"resolution", b"100")];
     drop(sets(&rt, alloc, &mut device, settings));
-    stands_at(&rt, alloc, &device, 100);
+    expect_resolution(&rt, alloc, &device, 100);
     // The second job sees 80 by 100 mm at 50 dots per inch.
     let (outcome, file) = run(&rt, alloc, &mut device, &[], Task::Scan);
     drop(done(&rt, outcome));
-    stands_at(&rt, alloc, &device, 50);
+    expect_resolution(&rt, alloc, &device, 50);
     assert!(&rt; is_one_dot(&file));
     drop(device);
 }
@@ -414,7 +414,7 @@ fn settings_that_end_the_job(rt: HostRuntime) {
     let alloc = rt.alloc();
     let mut device = flatbed_on(&rt, alloc, TWO_ROWS, 26);
     each_ends(&rt, alloc, &mut device, ENDINGS);
-    stands_at(&rt, alloc, &device, 100);
+    expect_resolution(&rt, alloc, &device, 100);
     drop(device);
 }
 
@@ -497,7 +497,7 @@ fn a_job_of_too_many_settings(rt: HostRuntime) {
     let more = sets_many(&rt, alloc, &mut device, 65);
     ends(&rt, &more, Status::Inval, Why::Setting);
     // None of its settings was put.
-    stands_at(&rt, alloc, &device, 50);
+    expect_resolution(&rt, alloc, &device, 50);
     drop((reports, more));
     drop(device);
 }
@@ -538,7 +538,7 @@ fn a_job_with_a_long_text(rt: HostRuntime) {
     drop(outcome);
     let bad = Status::Inval;
     scan_ends(&rt, alloc, &mut device, LONG_NAME, bad, Why::Setting);
-    stands_at(&rt, alloc, &device, 50);
+    expect_resolution(&rt, alloc, &device, 50);
     drop(device);
 }
 

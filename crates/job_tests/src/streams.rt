@@ -8,7 +8,7 @@ use std::process::Abort;
 
 /// A control connection whose peer has said everything beforehand. Every other call is interrupted.
 #[derive(Drop)]
-struct Said {
+struct PeerText {
     input: VecDeque<u8>,
     output: Vec<u8>,
     /// How many bytes it takes before it fails.
@@ -16,14 +16,14 @@ struct Said {
     calls: u64,
 }
 
-impl Said {
+impl PeerText {
     fn is_interrupted(&mut self) -> bool {
         self.calls = self.calls.saturating_add(1);
         self.calls % 2 == 1
     }
 }
 
-impl Read for Said {
+impl Read for PeerText {
     fn read(&mut self, buf: &mut [u8]) -> io::Result<usize> {
         if self.is_interrupted() {
             return Err(io::Error::from(ErrorKind::Interrupted));
@@ -32,7 +32,7 @@ impl Read for Said {
     }
 }
 
-impl Write for Said {
+impl Write for PeerText {
     fn write(&mut self, buf: &[u8]) -> io::Result<usize> {
         if self.is_interrupted() {
             return Err(io::Error::from(ErrorKind::Interrupted));
@@ -148,12 +148,12 @@ fn job(rt: &impl Abort, alloc: Global, task: Task) -> Job {
 }
 
 /// A peer that says these parts, and takes so many bytes.
-fn peer(rt: &impl Abort, alloc: Global, parts: &[&[u8]], most: usize) -> Said {
+fn peer(rt: &impl Abort, alloc: Global, parts: &[&[u8]], most: usize) -> PeerText {
     let mut input = Vec::new(alloc);
     for part in parts {
         input.extend_from_slice(part).expect(rt, "memory");
     }
-    Said {
+    PeerText {
         input: VecDeque::from(input),
         output: Vec::new(alloc),
         most,

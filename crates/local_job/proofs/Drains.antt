@@ -6,53 +6,53 @@ use Rattle.std.proofs.lemmas.List.{append_assoc, append-nil, take-append-drop, l
 use Rattle.netpbm.specs.Picture.{Picture}
 use Rattle.netpbm.specs.Pnm.{Denotes, IsWhole}
 use Rattle.page_picture.specs.Shows.{ShowsFrames}
-use Rattle.local_job.specs.Draining.{IsDrainedTo, StopsShort}
-use Rattle.frame_join.specs.FrameHistory.{Past, IsJoined, after_pull}
-use Rattle.frame_join.specs.Joining.{Joining, Stands}
+use Rattle.local_job.specs.LocalDraining.{JoinIsDrainedTo, StopsShort}
+use Rattle.frame_join.specs.FrameHistory.{JoinHistory, IsJoined, after_pull}
+use Rattle.frame_join.specs.JoinStates.{JoinState, Represents}
 
 -- after so many pulls: what was given, and that the output took it
-pub record IsUnderway (past : Past) (first : Option (List ℕ)) (pulls : ℕ) (join : Joining) (contents : Option (List ℕ)) : Type 0 where
+pub record IsUnderway (past : JoinHistory) (first : Option (List ℕ)) (pulls : ℕ) (join : JoinState) (contents : Option (List ℕ)) : Type 0 where
   pub bytes : List ℕ
-  pub stands : Stands (after_pull bytes past) join
+  pub stands : Represents (after_pull bytes past) join
   pub taken : Appends first contents (past.given ++ bytes)
   pub some : pulls ≤ length bytes
 
 -- giving nothing changes nothing
-pulled_none : (past : Past) → after_pull [] past ≡ past
+pulled_none : (past : JoinHistory) → after_pull [] past ≡ past
 pulled_none past = ap (λ (l : List ℕ). record past { given = l }) (append-nil past.given)
 
-pulled_twice : (past : Past) (xs ys : List ℕ) → after_pull ys (after_pull xs past) ≡ after_pull (xs ++ ys) past
+pulled_twice : (past : JoinHistory) (xs ys : List ℕ) → after_pull ys (after_pull xs past) ≡ after_pull (xs ++ ys) past
 pulled_twice past xs ys = ap (λ (l : List ℕ). record past { given = l }) (append_assoc past.given xs ys)
 
-pub begun : (past : Past) (first contents : Option (List ℕ)) (join : Joining) → Stands past join → Appends first contents past.given → IsUnderway past first 0 join contents
+pub begun : (past : JoinHistory) (first contents : Option (List ℕ)) (join : JoinState) → Represents past join → Appends first contents past.given → IsUnderway past first 0 join contents
 begun past first contents join stands taken = record {
   bytes = [];
-  stands = subst (λ (q : Past). Stands q join) (sym (pulled_none past)) stands;
+  stands = subst (λ (q : JoinHistory). Represents q join) (sym (pulled_none past)) stands;
   taken = subst (λ (l : List ℕ). Appends first contents l) (sym (append-nil past.given)) taken;
   some = omega arith;
 }
 
-pub one_more : (past : Past) (first old new : Option (List ℕ)) (i n : ℕ) (was now : Joining) (piece : List ℕ) → n ≢ 0 → length piece ≡ n
-    → ((q : Past) → Stands q was → Stands (after_pull piece q) now) → Appends old new piece → IsUnderway past first i was old → IsUnderway past first (i + 1) now new
+pub one_more : (past : JoinHistory) (first old new : Option (List ℕ)) (i n : ℕ) (was now : JoinState) (piece : List ℕ) → n ≢ 0 → length piece ≡ n
+    → ((q : JoinHistory) → Represents q was → Represents (after_pull piece q) now) → Appends old new piece → IsUnderway past first i was old → IsUnderway past first (i + 1) now new
 one_more past first old new i n was now piece some size carried took u = record {
   bytes = u.bytes ++ piece;
-  stands = subst (λ (q : Past). Stands q now) (pulled_twice past u.bytes piece) (carried (after_pull u.bytes past) u.stands);
+  stands = subst (λ (q : JoinHistory). Represents q now) (pulled_twice past u.bytes piece) (carried (after_pull u.bytes past) u.stands);
   taken = subst (λ (l : List ℕ). Appends first new l) (append_assoc past.given u.bytes piece) (Appends-trans first old new (past.given ++ u.bytes) piece u.taken took);
   some = omega (arith, length-append u.bytes piece, size, u.some, λ (e : n ≡ 0). some e);
 }
 
-pub at_end : (past : Past) (first contents : Option (List ℕ)) (i : ℕ) (was now : Joining) (piece : List ℕ) → piece ≡ [] → ((q : Past) → Stands q was → Stands (after_pull piece q) now)
-    → ((q : Past) → Stands q was → IsJoined q → (p : Picture) → ShowsFrames q.ended p → Denotes q.given p) → IsUnderway past first i was contents → IsDrainedTo past first now contents
+pub at_end : (past : JoinHistory) (first contents : Option (List ℕ)) (i : ℕ) (was now : JoinState) (piece : List ℕ) → piece ≡ [] → ((q : JoinHistory) → Represents q was → Represents (after_pull piece q) now)
+    → ((q : JoinHistory) → Represents q was → IsJoined q → (p : Picture) → ShowsFrames q.ended p → Denotes q.given p) → IsUnderway past first i was contents → JoinIsDrainedTo past first now contents
 at_end past first contents i was now piece none carried denotes u = record {
   bytes = u.bytes;
-  stands = subst (λ (q : Past). Stands q now) (ap (λ (l : List ℕ). after_pull l (after_pull u.bytes past)) none ∙ pulled_none (after_pull u.bytes past)) (carried (after_pull u.bytes past) u.stands);
+  stands = subst (λ (q : JoinHistory). Represents q now) (ap (λ (l : List ℕ). after_pull l (after_pull u.bytes past)) none ∙ pulled_none (after_pull u.bytes past)) (carried (after_pull u.bytes past) u.stands);
   taken = u.taken;
   denotes = λ joined p shows. denotes (after_pull u.bytes past) u.stands joined p shows;
 }
 
-pub stopped : (past : Past) (first old new : Option (List ℕ)) (i k : ℕ) (was now : Joining) (piece : List ℕ) → past.fault ≡ None → k < length piece
-    → ((q : Past) → Stands q was → Stands (after_pull piece q) now)
-    → ((q : Past) (join : Joining) (front more : List ℕ) → Stands q join → q.fault ≡ None → q.given ≡ front ++ more → more ≢ [] → IsWhole front → ⊥)
+pub stopped : (past : JoinHistory) (first old new : Option (List ℕ)) (i k : ℕ) (was now : JoinState) (piece : List ℕ) → past.fault ≡ None → k < length piece
+    → ((q : JoinHistory) → Represents q was → Represents (after_pull piece q) now)
+    → ((q : JoinHistory) (join : JoinState) (front more : List ℕ) → Represents q join → q.fault ≡ None → q.given ≡ front ++ more → more ≢ [] → IsWhole front → ⊥)
     → Appends old new (take k piece) → IsUnderway past first i was old → StopsShort first new
 stopped past first old new i k was now piece no_fault less carried law took u =
     let given = past.given ++ u.bytes in
@@ -63,7 +63,7 @@ stopped past first old new i k was now piece no_fault less carried law took u =
       not_whole = law (after_pull piece (after_pull u.bytes past)) now (given ++ take k piece) (drop k piece) (carried (after_pull u.bytes past) u.stands) no_fault cut (λ e. omega (arith, ap (λ (l : List ℕ). length l) e, length-drop k piece, less));
     }
 
-pub never : (past : Past) (first contents : Option (List ℕ)) (i : ℕ) (join : Joining) → past.fault ≡ None → 2 ^ 40 ≤ i
-    → ((q : Past) (join : Joining) → Stands q join → q.fault ≡ None → length q.given < 2 ^ 40) → IsUnderway past first i join contents → ⊥
+pub never : (past : JoinHistory) (first contents : Option (List ℕ)) (i : ℕ) (join : JoinState) → past.fault ≡ None → 2 ^ 40 ≤ i
+    → ((q : JoinHistory) (join : JoinState) → Represents q join → q.fault ≡ None → length q.given < 2 ^ 40) → IsUnderway past first i join contents → ⊥
 never past first contents i join no_fault many law u =
     omega (arith, law (after_pull u.bytes past) join u.stands no_fault, length-append past.given u.bytes, u.some, many)

@@ -5,11 +5,11 @@ pub mod Feeds
 pub mod FrameReads
 pub mod Pictures
 pub mod Shows
-pub mod Passes
-pub mod Scans
+pub mod JoinedPasses
+pub mod JoinedScans
 pub mod Forced
-pub mod Runs
-pub mod Trays
-pub mod Filed
+pub mod JobRuns
+pub mod EmptyTrays
+pub mod ShelfFiles
 pub mod Batches
 pub mod BatchRuns

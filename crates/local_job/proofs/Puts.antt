@@ -17,7 +17,7 @@ use Rattle.scan_job.specs.declared.report.Report.{Report}
 use Rattle.scan_job.specs.declared.stop.Stop.{Stop}
 use Rattle.std.proofs.Common.{subst}
 use Rattle.local_job.specs.FrameReading.{IsRefusal}
-use Rattle.local_job.specs.Stops.{answered}
+use Rattle.local_job.specs.LocalStops.{stop_by_status}
 use Rattle.scan_job.specs.Stops.{no_memory}
 use Rattle.local_job.specs.Putting.{put_one, put_all, with_first, with_done}
 
@@ -73,9 +73,9 @@ set_refused s n asked status e = option_refused s (option_to_set s n) asked stat
 memory_refuses : IsRefusal no_memory
 memory_refuses = record { not_good = λ e. absurd (cc); not_eof = λ e. absurd (cc) }
 
-inval_refuses : (status : Status) → status ≡ Inval → IsRefusal (answered status)
+inval_refuses : (status : Status) → status ≡ Inval → IsRefusal (stop_by_status status)
 inval_refuses status e = record { not_good = λ g. (let clash : Inval ≡ Good = sym e ∙ g in absurd (cc)); not_eof = λ g. (let clash : Inval ≡ Eof = sym e ∙ g in absurd (cc)) }
 
-pub set_refuses : (s : Setup) (n : ℕ) (asked : Value) (stop : Stop) → (stop ≡ no_memory) ⊎ ((status : Status) × (option_set s n asked ≡ Err status) × (stop ≡ answered status)) → IsRefusal stop
+pub set_refuses : (s : Setup) (n : ℕ) (asked : Value) (stop : Stop) → (stop ≡ no_memory) ⊎ ((status : Status) × (option_set s n asked ≡ Err status) × (stop ≡ stop_by_status status)) → IsRefusal stop
 set_refuses s n asked stop (inl memory) = subst IsRefusal (sym memory) memory_refuses
 set_refuses s n asked stop (inr refused) = subst IsRefusal (sym refused.2) (inval_refuses refused.0 (set_refused s n asked refused.0 refused.1))

@@ -8,21 +8,21 @@ use Rattle.scan_job.specs.declared.job.Task.{Task}
 use Rattle.scan_job.specs.declared.job.Task.TheVariants.{List as ListTask, Show, SetOnly, Scan, Batch}
 use Rattle.local_job.specs.FrameReading.{IsScanned}
 use Rattle.local_job.specs.LocalRun.{Writes}
-use Rattle.local_job.specs.Showing.{value_told, shown}
+use Rattle.local_job.specs.Showing.{value_reported, options_with_values}
 use Rattle.option_desc.specs.declared.value.Value.{Value}
 use Rattle.std.specs.Prelude.{◌≢◌, Option, Some, None, Result, Ok, Err, if◌then◌else◌, slice_get, option_map}
 use Rattle.std.proofs.lemmas.Option.{slice_get-map}
 use Rattle.sane_fixed.specs.declared.status.Status.{Status}
 use Rattle.sane_fixed.specs.declared.status.Status.TheVariants.{NoMem}
-use Rattle.local_job.specs.Stops.{answered}
+use Rattle.local_job.specs.LocalStops.{stop_by_status}
 use Rattle.scan_job.specs.Stops.{no_memory}
 use Rattle.option_desc.specs.declared.descriptor.Descriptor.{Descriptor}
 use Rattle.scan_frames.specs.declared.setup.Setup.{Setup}
 use Rattle.device_api.specs.declared.scan_option.ScanOption.{ScanOption}
 use Rattle.device_api.specs.declared.scan_option.ScanOption.TheVariants.{NumOptions, HandScanner}
 use Rattle.device_api.specs.Options.{options_of, option_at, option_caps, is_active, has_cap, caps_of, descriptor_of, descriptors_of}
-use Rattle.device_api.specs.Values.{passing, option_got, got, option_value}
-use Rattle.scan_job.specs.Shown.{tells_value}
+use Rattle.device_api.specs.Values.{option_passing, option_got, get_result, option_value}
+use Rattle.scan_job.specs.KnownValues.{tells_value}
 
 -- what the capabilities say of an option by whether it is active
 detect_is : (o : ScanOption) (a : Bool) → has_cap (option_caps o + (if a then 0 else 32)) 4 ≡ has_cap (option_caps o) 4
@@ -53,12 +53,12 @@ may_tell s o e =
     ∙ sym (ap (λ b. not (has_cap (caps_of s o) 32) && b) (detect_is o (is_active s o)))
     ∙ both (not (has_cap (caps_of s o) 32)) (has_cap (caps_of s o) 4) _ e
 
-got_by : (s : Setup) (o : ScanOption) (b : Bool) → b ≡ true → got s (if b then Some o else None) ≡ Ok (option_value s o)
+got_by : (s : Setup) (o : ScanOption) (b : Bool) → b ≡ true → get_result s (if b then Some o else None) ≡ Ok (option_value s o)
 got_by s o true e = refl
 got_by s o false e = absurd (let f : false ≡ true = e in (cc))
 
 got_at : (s : Setup) (oo : Option ScanOption) (desc : Descriptor) (status : Status) → option_map (descriptor_of s) oo ≡ Some desc → tells_value desc ≡ true
-    → got s (passing (λ o. is_active s o && has_cap (option_caps o) 4) oo) ≡ Err status → ⊥
+    → get_result s (option_passing (λ o. is_active s o && has_cap (option_caps o) 4) oo) ≡ Err status → ⊥
 got_at s None desc status at tells refused = let e : None ≡ Some desc = at in (cc)
 got_at s (Some o) desc status at tells refused =
     let same : desc ≡ descriptor_of s o = (let e : Some (descriptor_of s o) ≡ Some desc = at in (cc)) in
@@ -73,14 +73,14 @@ tells_it s n desc status at tells refused =
 
 -- the options from that number on, as they are shown
 abbrev pub shown_rest : Setup → ℕ → List Descriptor → List (Descriptor × Option Value)
-shown_rest s n options = map (λ option. (option.1, value_told s option.0 option.1)) (enumerate_from n options)
+shown_rest s n options = map (λ option. (option.1, value_reported s option.0 option.1)) (enumerate_from n options)
 
-pub shows_first : (s : Setup) → [] ++ shown_rest s 0 (descriptors_of s) ≡ shown s
-unfolding shown
+pub shows_first : (s : Setup) → [] ++ shown_rest s 0 (descriptors_of s) ≡ options_with_values s
+unfolding options_with_values
 shows_first s = refl
 
 pub shows_more : (s : Setup) (done : List (Descriptor × Option Value)) (n : ℕ) (left rest : List Descriptor) (desc : Descriptor) (value : Option Value) (whole : List (Descriptor × Option Value))
-    → left ≡ desc ∷ rest → value ≡ value_told s n desc → done ++ shown_rest s n left ≡ whole → (done ++ (desc, value) ∷ []) ++ shown_rest s (n + 1) rest ≡ whole
+    → left ≡ desc ∷ rest → value ≡ value_reported s n desc → done ++ shown_rest s n left ≡ whole → (done ++ (desc, value) ∷ []) ++ shown_rest s (n + 1) rest ≡ whole
 shows_more s done n left rest desc value whole cut told before =
     let step : shown_rest s n left ≡ (desc, value) ∷ shown_rest s (n + 1) rest = rw (cut, told, add-one n) refl in
     append_assoc done ((desc, value) ∷ []) (shown_rest s (n + 1) rest) ∙ ap (λ (more : List (Descriptor × Option Value)). done ++ more) (sym step) ∙ before
@@ -89,10 +89,10 @@ pub shows_ends : (s : Setup) (done : List (Descriptor × Option Value)) (n : ℕ
     → left ≡ [] → done ++ shown_rest s n left ≡ whole → done ≡ whole
 shows_ends s done n left whole none before = sym (append-nil done) ∙ ap (λ (more : List Descriptor). done ++ shown_rest s n more) (sym none) ∙ before
 
--- a refusal that is not that of the option is want of memory
-pub refused_is : (status : Status) (answer got : Result Value Status) → answer ≡ Err status → (answer ≢ Err NoMem → answer ≡ got) → (got ≡ Err status → ⊥) → answered status ≡ no_memory
-refused_is NoMem answer got is right never = refl
-refused_is _ answer got is right never = absurd (never (sym (right (λ memory. (let e : Err _ ≡ Err NoMem = sym is ∙ memory in cc))) ∙ is))
+-- a refusal that is not that of the option is out of memory
+pub refused_is : (status : Status) (answer get_result : Result Value Status) → answer ≡ Err status → (answer ≢ Err NoMem → answer ≡ get_result) → (get_result ≡ Err status → ⊥) → stop_by_status status ≡ no_memory
+refused_is NoMem answer get_result is right never = refl
+refused_is _ answer get_result is right never = absurd (never (sym (right (λ memory. (let e : Err _ ≡ Err NoMem = sym is ∙ memory in cc))) ∙ is))
 
 -- what a task writes, by whether it is a scan
 pub others_write : (task : Task) (s : DeviceState) (before after : Option (List ℕ)) → task ≢ Scan → after ≡ before → Writes task s before after

@@ -1,11 +1,11 @@
-pub mod Stops
+pub mod LocalStops
 pub mod Putting
-pub mod InForce
-pub mod Draining
+pub mod SettingReports
+pub mod LocalDraining
 pub mod FrameReading
-pub mod Causes
+pub mod ScanCauses
 pub mod Showing
 pub mod LocalRun
-pub mod Asking
-pub mod Pages
+pub mod OutputRequests
+pub mod LocalPages
 pub mod LocalBatch

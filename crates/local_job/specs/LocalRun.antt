@@ -7,8 +7,8 @@ use Rattle.scan_frames.specs.Frames.{has_picture}
 use Rattle.option_desc.specs.declared.descriptor.Descriptor.{Descriptor}
 use Rattle.option_desc.specs.declared.value.Value.{Value}
 use Rattle.device_api.specs.declared.device_info.DeviceInfo.{DeviceInfo}
-use Rattle.device_api.specs.State.{DeviceState, after_reset, feeds, left_behind, rests, with_setup, page_of}
-use Rattle.device_api.specs.InForce.{Placed, in_force}
+use Rattle.device_api.specs.State.{DeviceState, after_reset, feeds, left_behind, state_at_rest, with_setup, page_of}
+use Rattle.device_api.specs.InForce.{Placement, in_force}
 use Rattle.device_api.specs.Values.{defaults}
 use Rattle.scan_job.specs.JobSize.{HasJobSize, IsBatch}
 use Rattle.scan_job.specs.declared.job.Job.{Job}
@@ -17,12 +17,12 @@ use Rattle.scan_job.specs.declared.job.Task.TheVariants.{List as ListTask, Show,
 use Rattle.scan_job.specs.declared.report.Reports.{Reports}
 use Rattle.scan_laws.specs.Stays.{AreSamePages, LetsGo}
 use Rattle.scan_job.specs.declared.stop.Stop.{Stop}
-use Rattle.local_job.specs.Stops.{bad_setting, answered}
+use Rattle.local_job.specs.LocalStops.{bad_setting, stop_by_status}
 use Rattle.scan_job.specs.Stops.{no_memory}
-use Rattle.local_job.specs.InForce.{AreReported, FailsAt}
-use Rattle.local_job.specs.Causes.{HasCause}
-use Rattle.local_job.specs.Showing.{shown}
-use Rattle.local_job.specs.Draining.{StopsShort}
+use Rattle.local_job.specs.SettingReports.{SettingsAreReported, FailsAt}
+use Rattle.local_job.specs.ScanCauses.{ScanHasCause}
+use Rattle.local_job.specs.Showing.{options_with_values}
+use Rattle.local_job.specs.LocalDraining.{StopsShort}
 use Rattle.local_job.specs.FrameReading.{IsScanned}
 
 -- the settings that a task puts: one that lists devices ignores them
@@ -34,23 +34,23 @@ settings_put Scan settings = settings
 settings_put (Batch count) settings = settings
 
 -- the devices that a task reports: one that lists them this one
-abbrev pub devices_told : Task → DeviceInfo → List DeviceInfo
-devices_told ListTask info = info ∷ []
-devices_told Show info = []
-devices_told SetOnly info = []
-devices_told Scan info = []
-devices_told (Batch count) info = []
+abbrev pub devices_reported : Task → DeviceInfo → List DeviceInfo
+devices_reported ListTask info = info ∷ []
+devices_reported Show info = []
+devices_reported SetOnly info = []
+devices_reported Scan info = []
+devices_reported (Batch count) info = []
 
 -- the options that a task reports: one that shows them all
-abbrev pub options_told : Task → Setup → List (Descriptor × Option Value)
-options_told ListTask setup = []
-options_told Show setup = shown setup
-options_told SetOnly setup = []
-options_told Scan setup = []
-options_told (Batch count) setup = []
+abbrev pub options_reported : Task → Setup → List (Descriptor × Option Value)
+options_reported ListTask setup = []
+options_reported Show setup = options_with_values setup
+options_reported SetOnly setup = []
+options_reported Scan setup = []
+options_reported (Batch count) setup = []
 
 -- a job of a size that is taken, with one file at most: a batch has an output for each file
-pub record IsTaken (job : Job) : Type 0 where
+pub record IsTakenJob (job : Job) : Type 0 where
   pub size : HasJobSize job
   pub one_file : IsBatch job.task → ⊥
 
@@ -65,8 +65,8 @@ Writes (Batch count) s before after = after ≡ before
 
 -- The job has a size that is taken, and its settings are in force on this scanner: the options that they leave, and what
 -- each was given.
-pub record IsPut (s : DeviceState) (job : Job) (forced : Setup × List Placed) : Type 0 where
-  pub taken : IsTaken job
+pub record IsPut (s : DeviceState) (job : Job) (forced : Setup × List Placement) : Type 0 where
+  pub taken : IsTakenJob job
   pub put : in_force s.setup.scene.kind s.setup.order (settings_put job.task job.settings.items) ≡ Some forced
 
 -- what a task that was done leaves of a scanner at rest: a scan is over, and a feeder let go of its page
@@ -74,32 +74,32 @@ abbrev pub left_by : Task → DeviceState → DeviceState
 left_by ListTask s = s
 left_by Show s = s
 left_by SetOnly s = s
-left_by Scan s = rests s false
+left_by Scan s = state_at_rest s false
 left_by (Batch count) s = s
 
 -- The job was done on this scanner: its settings are in force and reported, its task was done and reported, and the
 -- scanner is left as after a reset, at rest, with the options of the settings.
 pub record IsDone (old : DeviceState) (job : Job) (reports : Reports) (before after : Option (List ℕ)) (new : DeviceState) : Type 0 where
   pub setup : Setup
-  pub placed : List Placed
+  pub placed : List Placement
   pub put : IsPut old job (setup, placed)
-  pub told : AreReported (defaults old.setup.scene.kind old.setup.order) (settings_put job.task job.settings.items) placed reports.settings
-  pub devices : reports.devices ≡ devices_told job.task old.info
-  pub options : reports.options ≡ options_told job.task setup
+  pub told : SettingsAreReported (defaults old.setup.scene.kind old.setup.order) (settings_put job.task job.settings.items) placed reports.settings
+  pub devices : reports.devices ≡ devices_reported job.task old.info
+  pub options : reports.options ≡ options_reported job.task setup
   pub output : Writes job.task (with_setup (after_reset old) setup) before after
   pub left : new ≡ left_by job.task (with_setup (after_reset old) setup)
 
 -- What ends a job that is not done: its size, or more than one file; the setting that is not put; a feeder without a page; settings that mean no
--- picture on the page; what ends a scan of one; and want of memory. The page is that of the scanner after its reset.
+-- picture on the page; what ends a scan of one; and out of memory. The page is that of the scanner after its reset.
 pub record IsEndedBy (old : DeviceState) (job : Job) (new : DeviceState) (stop : Stop) : Type 0 where
-  pub size : (IsTaken job → ⊥) → stop ≡ bad_setting
-  pub setting : IsTaken job → (why : Stop) → FailsAt (defaults old.setup.scene.kind old.setup.order) (settings_put job.task job.settings.items) why → (stop ≡ no_memory) ⊎ (stop ≡ why)
-  pub put : (forced : Setup × List Placed) → IsPut old job forced → job.task ≢ Scan → stop ≡ no_memory
-  pub no_page : (forced : Setup × List Placed) → IsPut old job forced → job.task ≡ Scan → (after_reset old).pages ≡ [] → (stop ≡ no_memory) ⊎ (stop ≡ answered NoDocs)
-  pub no_picture : (forced : Setup × List Placed) → IsPut old job forced → job.task ≡ Scan → (after_reset old).pages ≢ [] → has_picture forced.0 (page_of (after_reset old)) ≡ false
-      → (stop ≡ no_memory) ⊎ (stop ≡ answered Inval)
-  pub scan : (forced : Setup × List Placed) → IsPut old job forced → job.task ≡ Scan → (after_reset old).pages ≢ [] → has_picture forced.0 (page_of (after_reset old)) ≡ true
-      → HasCause stop (with_setup (after_reset old) forced.0) new
+  pub size : (IsTakenJob job → ⊥) → stop ≡ bad_setting
+  pub setting : IsTakenJob job → (why : Stop) → FailsAt (defaults old.setup.scene.kind old.setup.order) (settings_put job.task job.settings.items) why → (stop ≡ no_memory) ⊎ (stop ≡ why)
+  pub put : (forced : Setup × List Placement) → IsPut old job forced → job.task ≢ Scan → stop ≡ no_memory
+  pub no_page : (forced : Setup × List Placement) → IsPut old job forced → job.task ≡ Scan → (after_reset old).pages ≡ [] → (stop ≡ no_memory) ⊎ (stop ≡ stop_by_status NoDocs)
+  pub no_picture : (forced : Setup × List Placement) → IsPut old job forced → job.task ≡ Scan → (after_reset old).pages ≢ [] → has_picture forced.0 (page_of (after_reset old)) ≡ false
+      → (stop ≡ no_memory) ⊎ (stop ≡ stop_by_status Inval)
+  pub scan : (forced : Setup × List Placement) → IsPut old job forced → job.task ≡ Scan → (after_reset old).pages ≢ [] → has_picture forced.0 (page_of (after_reset old)) ≡ true
+      → ScanHasCause stop (with_setup (after_reset old) forced.0) new
 
 -- the output took no whole file
 abbrev pub LeavesNoFile : Option (List ℕ) → Option (List ℕ) → Type 0
@@ -113,6 +113,6 @@ pub record KeepsPages (old new : DeviceState) : Type 0 where
 
 -- Of a device only its options, its phase and its count of failures changed, and a feeder let go of the page that was
 -- scanned; the reset before let go of one under way.
-pub record Runs (old new : DeviceState) : Type 0 where
+pub record ChangesDevice (old new : DeviceState) : Type 0 where
   pub info : new.info ≡ old.info
   pub pages : AreSamePages (after_reset old).pages new.pages ⊎ (new.pages ≡ left_behind (feeds new) (after_reset old).pages)

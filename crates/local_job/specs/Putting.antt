@@ -6,35 +6,35 @@ use Rattle.sane_fixed.specs.declared.kind.Kind.{Kind}
 use Rattle.sane_fixed.specs.declared.kind.Kind.TheVariants as kinds
 use Rattle.sane_fixed.specs.declared.status.Status.{Status}
 use Rattle.option_desc.specs.declared.value.Value.{Value}
-use Rattle.option_desc.specs.Reads.{read}
+use Rattle.option_desc.specs.Reads.{read_value}
 use Rattle.scan_frames.specs.declared.setup.Setup.{Setup}
 use Rattle.device_api.specs.Options.{descriptors_of}
 use Rattle.device_api.specs.Values.{option_set, setup_after}
 use Rattle.device_api.specs.InForce.{number_named}
 use Rattle.scan_job.specs.declared.report.Report.{Report}
 use Rattle.scan_job.specs.declared.stop.Stop.{Stop}
-use Rattle.local_job.specs.Stops.{bad_setting, answered}
+use Rattle.local_job.specs.LocalStops.{bad_setting, stop_by_status}
 
 -- the kind of the option of that number; where there is none, none is asked for
-abbrev pub kind_at : Setup → ℕ → Kind
-kind_at s n = option_map_or (λ desc. desc.kind) (slice_get (descriptors_of s) n) kinds.Group
+abbrev pub option_kind_at : Setup → ℕ → Kind
+option_kind_at s n = option_map_or (λ desc. desc.kind) (slice_get (descriptors_of s) n) kinds.Group
 
--- a setting put, or what ends the job, want of memory aside
+-- a setting put, or what ends the job, out of memory aside
 abbrev pub put_answered : Setup → List ℕ → ℕ → Value → Result (Value × Info) Status → Result (Setup × Report) Stop
-put_answered s name n asked (Err status) = Err (answered status)
-put_answered s name n asked (Ok got) = Ok (setup_after s n got.0, record { name = name; kind = kind_at s n; asked = asked; given = got.0; info = got.1 })
+put_answered s name n asked (Err status) = Err (stop_by_status status)
+put_answered s name n asked (Ok got) = Ok (setup_after s n got.0, record { name = name; kind = option_kind_at s n; asked = asked; given = got.0; info = got.1 })
 
 abbrev pub put_read : Setup → List ℕ → ℕ → Option Value → Result (Setup × Report) Stop
 put_read s name n None = Err bad_setting
 put_read s name n (Some asked) = put_answered s name n asked (option_set s n asked)
 
 -- the value that a text asks of an option
-abbrev pub asked_of : Setup → ℕ → List ℕ → Option Value
-asked_of s n text = option_and_then (λ desc. read desc text) (slice_get (descriptors_of s) n)
+abbrev pub value_of_setting : Setup → ℕ → List ℕ → Option Value
+value_of_setting s n text = option_and_then (λ desc. read_value desc text) (slice_get (descriptors_of s) n)
 
 abbrev pub put_found : Setup → List ℕ × List ℕ → Option ℕ → Result (Setup × Report) Stop
 put_found s setting None = Err bad_setting
-put_found s setting (Some n) = put_read s setting.0 n (asked_of s n setting.1)
+put_found s setting (Some n) = put_read s setting.0 n (value_of_setting s n setting.1)
 
 -- the option of the setting's name is found, its text is read, and the value is set
 unfoldable pub put_one : Setup → List ℕ × List ℕ → Result (Setup × Report) Stop

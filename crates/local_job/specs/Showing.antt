@@ -7,7 +7,7 @@ use Rattle.sane_fixed.specs.declared.status.Status.{Status}
 use Rattle.scan_frames.specs.declared.setup.Setup.{Setup}
 use Rattle.device_api.specs.Options.{descriptors_of}
 use Rattle.device_api.specs.Values.{option_got}
-use Rattle.scan_job.specs.Shown.{tells_value}
+use Rattle.scan_job.specs.KnownValues.{tells_value}
 
 -- the value that was got, if one was
 abbrev pub value_got : Result Value Status → Option Value
@@ -15,9 +15,9 @@ value_got (Ok value) = Some value
 value_got (Err status) = None
 
 -- the value of an option, where it has one to tell
-abbrev pub value_told : Setup → ℕ → Descriptor → Option Value
-value_told s n desc = if tells_value desc then value_got (option_got s n) else None
+abbrev pub value_reported : Setup → ℕ → Descriptor → Option Value
+value_reported s n desc = if tells_value desc then value_got (option_got s n) else None
 
 -- each option in the order of their numbers, with its value where it has one to tell
-unfoldable pub shown : Setup → List (Descriptor × Option Value)
-shown s = map (λ option. (option.1, value_told s option.0 option.1)) (enumerate_from 0 (descriptors_of s))
+unfoldable pub options_with_values : Setup → List (Descriptor × Option Value)
+options_with_values s = map (λ option. (option.1, value_reported s option.0 option.1)) (enumerate_from 0 (descriptors_of s))

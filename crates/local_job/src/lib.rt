@@ -2,18 +2,18 @@
 //! each to a file of its own.
 #![tactic(auto)]
 
-mod batch;
 mod drain;
-mod frames;
+mod frame_pieces;
+mod local_batch;
+mod local_stop;
+mod option_showing;
 mod outlet;
 mod page_out;
 mod pages;
 mod run;
 mod scan;
 mod settings;
-mod showing;
-mod stop;
 
-pub use batch::{run_local_batch, run_local_batch_with};
 pub use byte_output::{MOST_AGAIN, put};
+pub use local_batch::{run_local_batch, run_local_batch_with};
 pub use run::{run_local, run_local_with};

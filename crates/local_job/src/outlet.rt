@@ -22,11 +22,11 @@ pub trait Outlet {
 }
 
 /// An output that is there from the start.
-pub struct Plain<'a, W> {
+pub struct GivenOutput<'a, W> {
     pub out: &'a mut W,
 }
 
-impl<W: Write> Outlet for Plain<'_, W> {
+impl<W: Write> Outlet for GivenOutput<'_, W> {
     ghost contents = { λ plain. W.contents plain.out.now };
 
     ghost Becomes = { λ first now. now.out.ghost_name ≡ first.out.ghost_name };

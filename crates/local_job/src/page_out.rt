@@ -1,5 +1,5 @@
 ghost use Rattle.std.specs.Prelude.{◌≡◌, None, option_map, true};
-ghost use Rattle.local_job.specs.Asking.{GivesBack, IsAsked, bytes_held};
+ghost use Rattle.local_job.specs.OutputRequests.{GivesBack, IsAsked, bytes_held};
 
 use crate::outlet::Outlet;
 use byte_output::put;

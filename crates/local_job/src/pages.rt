@@ -1,11 +1,11 @@
 ghost use Rattle.std.specs.Prelude.{◌≡◌, ◌≢◌, ◌<◌, ◌↔◌, true, false, Some, length, [], IfErr, IsTrue, OnOk, OnErr};
 ghost use Rattle.sane_fixed.specs.declared.status.Status.TheVariants.{Inval, NoDocs};
 ghost use Rattle.scan_frames.specs.Frames.{has_picture};
-ghost use Rattle.device_api.specs.State.{is_at_rest, page_of, rests, with_phase, AtRest};
-ghost use Rattle.local_job.specs.Causes.{HasCause};
-ghost use Rattle.local_job.specs.FrameReading.{IsRefusal, Keeps};
-ghost use Rattle.local_job.specs.Pages.{AreScanned, FilesPage, LeavesPage, StopsAt};
-ghost use Rattle.local_job.specs.Stops.{answered};
+ghost use Rattle.device_api.specs.State.{is_at_rest, page_of, state_at_rest, with_phase, AtRest};
+ghost use Rattle.local_job.specs.ScanCauses.{ScanHasCause};
+ghost use Rattle.local_job.specs.FrameReading.{IsRefusal, KeepsDevice};
+ghost use Rattle.local_job.specs.LocalPages.{AreScanned, FilesPage, LeavesPage, StopsAt};
+ghost use Rattle.local_job.specs.LocalStops.{stop_by_status};
 
 use crate::page_out::{PageOut, give_back};
 use crate::scan::{PIECE, ROOM, scan_passes, zeros};
@@ -36,14 +36,14 @@ fn scan_page<S: Shelf>(
     ensures done { OnOk result (FilesPage (state device.old) number (S.stock shelf.old) (S.stock shelf.new)) }
     ensures short { OnErr result (LeavesPage number (S.stock shelf.old) (S.stock shelf.new)) }
     ensures refusal { IfErr result (λ stop. IsRefusal stop) }
-    ensures empty { IfErr result (λ stop. (state device.old).pages ≡ [] → stop ≡ answered NoDocs) }
+    ensures empty { IfErr result (λ stop. (state device.old).pages ≡ [] → stop ≡ stop_by_status NoDocs) }
     ensures stays { OnErr result ((state device.old).pages ≡ [] → state device.new ≡ with_phase (state device.old) (AtRest false)) }
     ensures silent { OnErr result ((state device.old).pages ≡ [] → S.stock shelf.new ≡ S.stock shelf.old) }
-    ensures none { IfErr result (λ stop. (state device.old).pages ≢ [] → has_picture (state device.old).setup (page_of (state device.old)) ≡ false → stop ≡ answered Inval) }
-    ensures cause { IfErr result (λ stop. (state device.old).pages ≢ [] → has_picture (state device.old).setup (page_of (state device.old)) ≡ true → HasCause stop (state device.old) (state device.new)) }
+    ensures none { IfErr result (λ stop. (state device.old).pages ≢ [] → has_picture (state device.old).setup (page_of (state device.old)) ≡ false → stop ≡ stop_by_status Inval) }
+    ensures cause { IfErr result (λ stop. (state device.old).pages ≢ [] → has_picture (state device.old).setup (page_of (state device.old)) ≡ true → ScanHasCause stop (state device.old) (state device.new)) }
     ensures untold { OnOk result ((state device.old).setup.told ≢ Some NoDocs) }
-    ensures rest { OnOk result (state device.new ≡ rests (state device.old) false) }
-    ensures same { Keeps (state device.old) (state device.new) }
+    ensures rest { OnOk result (state device.new ≡ state_at_rest (state device.old) false) }
+    ensures same { KeepsDevice (state device.old) (state device.new) }
 {
     not_whole_before();
     let mut join = FrameJoin::new(alloc);
@@ -67,7 +67,7 @@ fn scan_page<S: Shelf>(
 
 /// Whether a scan ended since there was no page.
 fn is_no_page(stop: Stop) -> bool
-    ensures { IsTrue result ↔ (stop ≡ answered NoDocs) }
+    ensures { IsTrue result ↔ (stop ≡ stop_by_status NoDocs) }
 {
     matches!(
         stop,

@@ -5,16 +5,16 @@ ghost use Rattle.device_api.specs.State.{is_at_rest, after_reset};
 ghost use Rattle.scan_job.specs.Outcomes.{IfDone, IfEnded, IsOver};
 ghost use Rattle.local_job.specs.FrameReading.{IsRefusal};
 ghost use Rattle.scan_job.specs.Stops.{no_memory};
-ghost use Rattle.local_job.specs.LocalRun.{settings_put, devices_told, options_told, IsDone, IsEndedBy, IsTaken, KeepsPages, LeavesNoFile, Runs};
+ghost use Rattle.local_job.specs.LocalRun.{settings_put, devices_reported, options_reported, IsDone, IsEndedBy, IsTakenJob, KeepsPages, LeavesNoFile, ChangesDevice};
 
+use crate::local_stop::bad_setting;
+use crate::option_showing::show_options;
 use crate::scan::scan_picture;
 use crate::settings::put_settings;
-use crate::showing::show_options;
-use crate::stop::bad_setting;
 use device_api::{Device, DeviceInfo};
 use option_desc::{Descriptor, Value};
 use sane_fixed::{NoMem, Text};
-use scan_job::{Job, Listed, Outcome, Reports, Stop, Task};
+use scan_job::{ItemList, Job, Outcome, Reports, Stop, Task};
 use std::alloc::Global;
 use std::io::Write;
 
@@ -29,41 +29,41 @@ pub fn settings_put(task: Task, settings: &[(Text, Text)]) -> &[(Text, Text)]
 }
 
 /// The devices that a task reports.
-pub fn devices_told(
+pub fn devices_reported(
     alloc: Global,
     task: Task,
     device: &dyn Device,
-) -> Result<Listed<DeviceInfo>, Stop>
-    ensures told { IfOk result (λ devices. devices ≡ devices_told task (state device.now).info) }
+) -> Result<ItemList<DeviceInfo>, Stop>
+    ensures told { IfOk result (λ devices. devices ≡ devices_reported task (state device.now).info) }
     ensures memory { IfErr result (λ stop. stop ≡ no_memory) }
 {
     let mut devices = Vec::new(alloc);
     if task == Task::List {
         devices.push(device.info().try_clone(alloc)?)?;
     }
-    Ok(Listed::from_vec(devices))
+    Ok(ItemList::from_vec(devices))
 }
 
 /// The options that a task reports.
-pub fn options_told(
+pub fn options_reported(
     alloc: Global,
     task: Task,
     device: &dyn Device,
-) -> Result<Listed<(Descriptor, Option<Value>)>, Stop>
-    ensures told { IfOk result (λ options. options ≡ options_told task (state device.now).setup) }
+) -> Result<ItemList<(Descriptor, Option<Value>)>, Stop>
+    ensures told { IfOk result (λ options. options ≡ options_reported task (state device.now).setup) }
     ensures memory { IfErr result (λ stop. stop ≡ no_memory) }
 {
     match task {
         Task::Show => show_options(alloc, device),
         Task::List | Task::SetOnly | Task::Scan | Task::Batch(_) => {
-            Ok(Listed::from_vec(Vec::new(alloc)))
+            Ok(ItemList::from_vec(Vec::new(alloc)))
         }
     }
 }
 
 /// Whether a job's size is one that is taken, and it has one file at most.
 fn is_taken(job: &Job) -> bool
-    ensures { IsTrue result ↔ IsTaken job.now }
+    ensures { IsTrue result ↔ IsTakenJob job.now }
 {
     !job.task.is_batch() && job.has_size()
 }
@@ -90,8 +90,8 @@ fn do_job<W: Write, T: Drop, F: FnOnce(&Reports) -> Result<T, NoMem> + Drop>(
         return Err(bad_setting());
     }
     let settings = put_settings(alloc, device, settings_put(job.task, &job.settings))?;
-    let devices = devices_told(alloc, job.task, &*device)?;
-    let options = options_told(alloc, job.task, &*device)?;
+    let devices = devices_reported(alloc, job.task, &*device)?;
+    let options = options_reported(alloc, job.task, &*device)?;
     let reports = Reports {
         settings,
         devices,
@@ -120,7 +120,7 @@ pub fn run_local_with<W: Write, T: Drop, F: FnOnce(&Reports) -> Result<T, NoMem>
     ensures no_file { OnErr result (LeavesNoFile (W.contents out.old) (W.contents out.new)) }
     ensures refusal { IfErr result (λ stop. IsRefusal stop) }
     ensures stop { IfErr result (λ stop. IsEndedBy (state device.old) job.now (state device.new) stop) }
-    ensures runs { Runs (state device.old) (state device.new) }
+    ensures runs { ChangesDevice (state device.old) (state device.new) }
     ensures rest { is_at_rest (state device.new).phase ≡ true }
 {
     device.reset();
@@ -141,7 +141,7 @@ pub fn run_local<W: Write>(
     ensures done { IfDone result (λ reports. IsDone (state device.old) job.now reports (W.contents out.old) (W.contents out.new) (state device.new)) }
     ensures ended { IfEnded result (λ status why. (status ≢ Good) × (status ≢ Eof) × LeavesNoFile (W.contents out.old) (W.contents out.new)) }
     ensures stop { IfEnded result (λ status why. IsEndedBy (state device.old) job.now (state device.new) (record { status = status; why = why })) }
-    ensures runs { Runs (state device.old) (state device.new) }
+    ensures runs { ChangesDevice (state device.old) (state device.new) }
     ensures rest { is_at_rest (state device.new).phase ≡ true }
 {
     match run_local_with(alloc, device, job, out, |_| Ok(())) {

@@ -2,21 +2,21 @@ ghost use Rattle.std.specs.Prelude.{◌≡◌, ◌≢◌, ◌<◌, ◌⊎◌, tr
 ghost use Rattle.std.specs.Io.KnownBytes.{Appends};
 ghost use Rattle.sane_fixed.specs.declared.status.Status.TheVariants.{Inval, NoDocs};
 ghost use Rattle.page_picture.specs.Shows.{Frame};
-ghost use Rattle.frame_join.specs.FrameHistory.{Past, no_past, is_accepted, is_full};
-ghost use Rattle.frame_join.specs.Joining.{Stands};
+ghost use Rattle.frame_join.specs.FrameHistory.{JoinHistory, empty_history, is_accepted, is_full};
+ghost use Rattle.frame_join.specs.JoinStates.{Represents};
 ghost use Rattle.scan_frames.specs.Frames.{has_picture};
-ghost use Rattle.device_api.specs.Allowed.{HasLimits};
-ghost use Rattle.device_api.specs.State.{goes_to, is_at_rest, is_reading, next_pass, page_of, params_of, rests, with_phase, AtRest, Reading};
-ghost use Rattle.local_job.specs.Draining.{StopsShort};
-ghost use Rattle.local_job.specs.Stops.{answered};
+ghost use Rattle.device_api.specs.ScannerLimits.{HasLimits};
+ghost use Rattle.device_api.specs.State.{goes_to, is_at_rest, is_reading, next_pass, page_of, params_of, state_at_rest, with_phase, AtRest, Reading};
+ghost use Rattle.local_job.specs.LocalDraining.{StopsShort};
+ghost use Rattle.local_job.specs.LocalStops.{stop_by_status};
 ghost use Rattle.scan_job.specs.Stops.{no_memory};
-ghost use Rattle.local_job.specs.FrameReading.{IsBetween, IsInside, IsRefusal, Keeps, IsScanned, EndsAs, EndsFrame, HasJoined, HasScanned};
-ghost use Rattle.local_job.specs.Causes.{HasCause};
+ghost use Rattle.local_job.specs.FrameReading.{JoinIsBetween, JoinIsInside, IsRefusal, KeepsDevice, IsScanned, FrameEndsAs, JoinsFrame, HasJoined, HasScannedPass};
+ghost use Rattle.local_job.specs.ScanCauses.{ScanHasCause};
 
 use crate::drain::drain;
-use crate::frames::read_frame;
-use crate::outlet::{Outlet, Plain};
-use crate::stop::{answered, malformed, unjoined};
+use crate::frame_pieces::read_frame;
+use crate::local_stop::{malformed_frames, stop_by_status, stop_of_join};
+use crate::outlet::{GivenOutput, Outlet};
 use byte_output::MOST_AGAIN;
 use device_api::Device;
 use pnm_writer::{FrameJoin, not_whole_before, whole_shows};
@@ -40,33 +40,33 @@ fn start_pass(alloc: Global, device: &mut dyn Device) -> Result<(), Stop>
     requires { is_reading (state device.old).phase ≡ false }
     ensures some { OnOk result ((state device.old).pages ≢ []) }
     ensures picture { OnOk result (has_picture (state device.old).setup (page_of (state device.old)) ≡ true) }
-    ensures empty { IfErr result (λ stop. (state device.old).pages ≡ [] → stop ≡ answered NoDocs) }
+    ensures empty { IfErr result (λ stop. (state device.old).pages ≡ [] → stop ≡ stop_by_status NoDocs) }
     ensures stays { OnErr result ((state device.old).pages ≡ [] → state device.new ≡ with_phase (state device.old) (AtRest false)) }
-    ensures none { IfErr result (λ stop. (state device.old).pages ≢ [] → has_picture (state device.old).setup (page_of (state device.old)) ≡ false → stop ≡ answered Inval) }
+    ensures none { IfErr result (λ stop. (state device.old).pages ≢ [] → has_picture (state device.old).setup (page_of (state device.old)) ≡ false → stop ≡ stop_by_status Inval) }
     ensures started { OnOk result (state device.new ≡ with_phase (state device.old) (Reading (next_pass (state device.old).phase) 0)) }
     ensures refusal { IfErr result (λ stop. IsRefusal stop) }
-    ensures cause { IfErr result (λ stop. (state device.old).pages ≢ [] → has_picture (state device.old).setup (page_of (state device.old)) ≡ true → HasCause stop (state device.old) (state device.new)) }
-    ensures same { Keeps (state device.old) (state device.new) }
+    ensures cause { IfErr result (λ stop. (state device.old).pages ≢ [] → has_picture (state device.old).setup (page_of (state device.old)) ≡ true → ScanHasCause stop (state device.old) (state device.new)) }
+    ensures same { KeepsDevice (state device.old) (state device.new) }
 {
     match device.start(alloc) {
         Ok(()) => Ok(()),
-        Err(status) => Err(answered(status)),
+        Err(status) => Err(stop_by_status(status)),
     }
 }
 
 /// Begins the frame of the pass that the scanner reads.
 fn begin_frame(alloc: Global, device: &dyn Device, join: &mut FrameJoin) -> Result<(), Stop>
-    ensures begun { OnOk result ((past : Past) → IsBetween past join.old →
-        Stands (record past { under = Some (record { params = params_of (state device.now); order = (state device.now).setup.order; payload = [] }) }) join.new) }
+    ensures begun { OnOk result ((past : JoinHistory) → JoinIsBetween past join.old →
+        Represents (record past { under = Some (record { params = params_of (state device.now); order = (state device.now).setup.order; payload = [] }) }) join.new) }
     ensures limits { HasLimits (state device.now) }
     ensures refusal { IfErr result (λ stop. IsRefusal stop) }
-    ensures cause { IfErr result (λ stop. (past : Past) → IsBetween past join.old →
+    ensures cause { IfErr result (λ stop. (past : JoinHistory) → JoinIsBetween past join.old →
         is_accepted past.ended (params_of (state device.now)) (state device.now).setup.order ≡ true → stop ≡ no_memory) }
 {
     let params = device.params();
     join.begin(alloc, &params, device.order());
     match join.fault() {
-        Some(fault) => Err(unjoined(fault)),
+        Some(fault) => Err(stop_of_join(fault)),
         None => Ok(()),
     }
 }
@@ -81,19 +81,19 @@ fn end_frame<W: Outlet>(
     requires { 0 < length room.old }
     ensures room { length room.new ≡ length room.old }
     ensures becomes { (first : W) → W.Becomes first out.old → W.Becomes first out.new }
-    ensures ended { IfOk result (λ is_whole. (first : Option (List ℕ)) (past : Past) (frame : Frame) → IsInside past frame first join.old (W.contents out.old) →
-        EndsFrame past frame is_whole first join.new (W.contents out.new)) }
-    ensures short { OnErr result ((first : Option (List ℕ)) (past : Past) (frame : Frame) → IsInside past frame first join.old (W.contents out.old) →
+    ensures ended { IfOk result (λ is_whole. (first : Option (List ℕ)) (past : JoinHistory) (frame : Frame) → JoinIsInside past frame first join.old (W.contents out.old) →
+        JoinsFrame past frame is_whole first join.new (W.contents out.new)) }
+    ensures short { OnErr result ((first : Option (List ℕ)) (past : JoinHistory) (frame : Frame) → JoinIsInside past frame first join.old (W.contents out.old) →
         StopsShort first (W.contents out.new)) }
     ensures refusal { IfErr result (λ stop. IsRefusal stop) }
     // A frame that has all its bytes is not refused, and another is short.
-    ensures cause { IfErr result (λ stop. (first : Option (List ℕ)) (past : Past) (frame : Frame) → IsInside past frame first join.old (W.contents out.old) →
-        EndsAs (is_full frame) stop) }
+    ensures cause { IfErr result (λ stop. (first : Option (List ℕ)) (past : JoinHistory) (frame : Frame) → JoinIsInside past frame first join.old (W.contents out.old) →
+        FrameEndsAs (is_full frame) stop) }
 {
     not_whole_before();
     let is_whole = match join.end() {
         Ok(is_whole) => is_whole,
-        Err(fault) => return Err(unjoined(fault)),
+        Err(fault) => return Err(stop_of_join(fault)),
     };
     if drain(join, room, out, again) {
         Ok(is_whole)
@@ -126,22 +126,22 @@ fn scan_pass<W: Outlet>(
     ensures room { length room.new ≡ length room.old }
     ensures becomes { (first : W) → W.Becomes first out.old → W.Becomes first out.new }
     ensures scanned { IfOk result (λ is_whole. (first : Option (List ℕ)) → HasJoined (state device.old) (next_pass (state device.old).phase) first join.old (W.contents out.old) →
-        HasScanned (state device.old) (next_pass (state device.old).phase) is_whole first (state device.new) join.new (W.contents out.new)) }
+        HasScannedPass (state device.old) (next_pass (state device.old).phase) is_whole first (state device.new) join.new (W.contents out.new)) }
     ensures short { OnErr result ((first : Option (List ℕ)) → HasJoined (state device.old) (next_pass (state device.old).phase) first join.old (W.contents out.old) →
         StopsShort first (W.contents out.new)) }
     ensures some { OnOk result ((state device.old).pages ≢ []) }
     ensures picture { OnOk result (has_picture (state device.old).setup (page_of (state device.old)) ≡ true) }
-    ensures empty { IfErr result (λ stop. (state device.old).pages ≡ [] → stop ≡ answered NoDocs) }
+    ensures empty { IfErr result (λ stop. (state device.old).pages ≡ [] → stop ≡ stop_by_status NoDocs) }
     ensures stays { OnErr result ((state device.old).pages ≡ [] → state device.new ≡ with_phase (state device.old) (AtRest false)) }
     ensures silent { OnErr result ((state device.old).pages ≡ [] → out.new ≡ out.old) }
-    ensures none { IfErr result (λ stop. (state device.old).pages ≢ [] → has_picture (state device.old).setup (page_of (state device.old)) ≡ false → stop ≡ answered Inval) }
+    ensures none { IfErr result (λ stop. (state device.old).pages ≢ [] → has_picture (state device.old).setup (page_of (state device.old)) ≡ false → stop ≡ stop_by_status Inval) }
     ensures untold { OnOk result ((state device.old).setup.told ≢ Some NoDocs) }
     ensures ended { OnOk result (is_reading (state device.new).phase ≡ false) }
     ensures refusal { IfErr result (λ stop. IsRefusal stop) }
     ensures cause { IfErr result (λ stop. (first : Option (List ℕ)) → HasJoined (state device.old) (next_pass (state device.old).phase) first join.old (W.contents out.old) →
-        (state device.old).pages ≢ [] → has_picture (state device.old).setup (page_of (state device.old)) ≡ true → HasCause stop (state device.old) (state device.new)) }
+        (state device.old).pages ≢ [] → has_picture (state device.old).setup (page_of (state device.old)) ≡ true → ScanHasCause stop (state device.old) (state device.new)) }
     ensures well { OnOk result (state device.new ≡ goes_to (state device.old) (state device.new).phase) }
-    ensures same { Keeps (state device.old) (state device.new) }
+    ensures same { KeepsDevice (state device.old) (state device.new) }
 {
     frames_show_the_picture();
     not_whole_before();
@@ -164,7 +164,7 @@ pub fn scan_passes<W: Outlet>(
     again: &mut u64,
 ) -> Result<(), Stop>
     requires rest { is_at_rest (state device.old).phase ≡ true }
-    requires join { Stands no_past join.old }
+    requires join { Represents empty_history join.old }
     requires piece { 0 < length piece.old }
     requires room { 0 < length room.old }
     ensures piece { length piece.new ≡ length piece.old }
@@ -173,14 +173,14 @@ pub fn scan_passes<W: Outlet>(
     ensures short { OnErr result ((first : Option (List ℕ)) → Appends first (W.contents out.old) [] → StopsShort first (W.contents out.new)) }
     ensures becomes { (first : W) → W.Becomes first out.old → W.Becomes first out.new }
     ensures refusal { IfErr result (λ stop. IsRefusal stop) }
-    ensures empty { IfErr result (λ stop. (state device.old).pages ≡ [] → stop ≡ answered NoDocs) }
+    ensures empty { IfErr result (λ stop. (state device.old).pages ≡ [] → stop ≡ stop_by_status NoDocs) }
     ensures stays { OnErr result ((state device.old).pages ≡ [] → state device.new ≡ with_phase (state device.old) (AtRest false)) }
     ensures silent { OnErr result ((state device.old).pages ≡ [] → out.new ≡ out.old) }
-    ensures none { IfErr result (λ stop. (state device.old).pages ≢ [] → has_picture (state device.old).setup (page_of (state device.old)) ≡ false → stop ≡ answered Inval) }
-    ensures cause { IfErr result (λ stop. (state device.old).pages ≢ [] → has_picture (state device.old).setup (page_of (state device.old)) ≡ true → HasCause stop (state device.old) (state device.new)) }
+    ensures none { IfErr result (λ stop. (state device.old).pages ≢ [] → has_picture (state device.old).setup (page_of (state device.old)) ≡ false → stop ≡ stop_by_status Inval) }
+    ensures cause { IfErr result (λ stop. (state device.old).pages ≢ [] → has_picture (state device.old).setup (page_of (state device.old)) ≡ true → ScanHasCause stop (state device.old) (state device.new)) }
     ensures untold { OnOk result ((state device.old).setup.told ≢ Some NoDocs) }
-    ensures rest { OnOk result (state device.new ≡ rests (state device.old) false) }
-    ensures same { Keeps (state device.old) (state device.new) }
+    ensures rest { OnOk result (state device.new ≡ state_at_rest (state device.old) false) }
+    ensures same { KeepsDevice (state device.old) (state device.new) }
 {
     not_whole_before();
     for _pass in 0..MOST_PASSES {
@@ -188,7 +188,7 @@ pub fn scan_passes<W: Outlet>(
             return Ok(());
         }
     }
-    Err(malformed())
+    Err(malformed_frames())
 }
 
 /// Scans the picture that the options of a scanner at rest mean on its page, and writes its file. The
@@ -202,21 +202,21 @@ pub fn scan_picture<W: Write>(
     ensures done { OnOk result ((first : Option (List ℕ)) → Appends first (W.contents out.old) [] → IsScanned (state device.old) first (W.contents out.new)) }
     ensures short { OnErr result ((first : Option (List ℕ)) → Appends first (W.contents out.old) [] → StopsShort first (W.contents out.new)) }
     ensures refusal { IfErr result (λ stop. IsRefusal stop) }
-    ensures empty { IfErr result (λ stop. (state device.old).pages ≡ [] → (stop ≡ no_memory) ⊎ (stop ≡ answered NoDocs)) }
-    ensures none { IfErr result (λ stop. (state device.old).pages ≢ [] → has_picture (state device.old).setup (page_of (state device.old)) ≡ false → (stop ≡ no_memory) ⊎ (stop ≡ answered Inval)) }
-    ensures cause { IfErr result (λ stop. (state device.old).pages ≢ [] → has_picture (state device.old).setup (page_of (state device.old)) ≡ true → HasCause stop (state device.old) (state device.new)) }
-    ensures rest { OnOk result (state device.new ≡ rests (state device.old) false) }
-    ensures same { Keeps (state device.old) (state device.new) }
+    ensures empty { IfErr result (λ stop. (state device.old).pages ≡ [] → (stop ≡ no_memory) ⊎ (stop ≡ stop_by_status NoDocs)) }
+    ensures none { IfErr result (λ stop. (state device.old).pages ≢ [] → has_picture (state device.old).setup (page_of (state device.old)) ≡ false → (stop ≡ no_memory) ⊎ (stop ≡ stop_by_status Inval)) }
+    ensures cause { IfErr result (λ stop. (state device.old).pages ≢ [] → has_picture (state device.old).setup (page_of (state device.old)) ≡ true → ScanHasCause stop (state device.old) (state device.new)) }
+    ensures rest { OnOk result (state device.new ≡ state_at_rest (state device.old) false) }
+    ensures same { KeepsDevice (state device.old) (state device.new) }
 {
     not_whole_before();
     let mut piece = zeros(alloc, PIECE)?;
     let mut room = zeros(alloc, ROOM)?;
     let mut join = FrameJoin::new(alloc);
     let mut again = MOST_AGAIN;
-    let mut plain = Plain { out };
+    let mut plain = GivenOutput { out };
     let scanned = scan_passes(
         alloc, device, &mut join, &mut piece, &mut room, &mut plain, &mut again,
     );
-    let Plain { out: _ } = plain;
+    let GivenOutput { out: _ } = plain;
     scanned
 }

@@ -4,16 +4,16 @@ ghost use Rattle.device_api.specs.State.{is_at_rest, with_setup};
 ghost use Rattle.device_api.specs.Values.{option_set, setup_after};
 ghost use Rattle.sane_fixed.specs.declared.status.Status.{Status as AnyStatus};
 ghost use Rattle.device_api.specs.InForce.{number_named};
-ghost use Rattle.local_job.specs.Stops.{bad_setting, unread, answered};
+ghost use Rattle.local_job.specs.LocalStops.{bad_setting, stop_unread, stop_by_status};
 ghost use Rattle.scan_job.specs.Stops.{no_memory};
 ghost use Rattle.local_job.specs.Putting.{put_one, put_all};
 ghost use Rattle.local_job.specs.FrameReading.{IsRefusal};
 
-use crate::stop::{answered, bad_setting};
+use crate::local_stop::{bad_setting, stop_by_status};
 use device_api::Device;
 use option_desc::{Descriptor, Value, read_text};
 use sane_fixed::{Info, Status, Text};
-use scan_job::{Listed, Report, Stop};
+use scan_job::{ItemList, Report, Stop};
 use std::alloc::Global;
 
 /// The number of the first option of that name.
@@ -32,15 +32,15 @@ fn find_option(alloc: Global, device: &dyn Device, name: &[u8]) -> Result<(u32, 
     ensures refusal { IfErr result (λ stop. IsRefusal stop) }
     ensures none { IfErr result (λ stop. (stop ≡ no_memory) ⊎ ((stop ≡ bad_setting) × (number_named name.now (descriptors_of (state device.now).setup) ≡ None))) }
 {
-    let descriptors = device.descriptors(alloc).map_err(answered)?;
+    let descriptors = device.descriptors(alloc).map_err(stop_by_status)?;
     let n = number_named(&descriptors, name).ok_or(bad_setting())?;
     let descriptor = descriptors[n].try_clone(alloc)?;
     Ok((n as u32, descriptor))
 }
 
-/// A text that does not read ends the job, as does want of memory.
-fn unread(status: Status) -> Stop
-    ensures { result ≡ unread status }
+/// A text that does not read ends the job, as does out of memory.
+fn stop_unread(status: Status) -> Stop
+    ensures { result ≡ stop_unread status }
 {
     match status {
         Status::NoMem => Stop::no_memory(),
@@ -57,14 +57,14 @@ fn set_option(
 ) -> Result<(Value, Info), Stop>
     requires { is_at_rest (state device.old).phase ≡ true }
     ensures set { IfOk result (λ got. (option_set (state device.old).setup n asked.now ≡ Ok got) × ((state device.new).setup ≡ setup_after (state device.old).setup n got.0)) }
-    ensures stop { IfErr result (λ stop. (stop ≡ no_memory) ⊎ ((status : AnyStatus) × (option_set (state device.old).setup n asked.now ≡ Err status) × (stop ≡ answered status))) }
+    ensures stop { IfErr result (λ stop. (stop ≡ no_memory) ⊎ ((status : AnyStatus) × (option_set (state device.old).setup n asked.now ≡ Err status) × (stop ≡ stop_by_status status))) }
     ensures rest { state device.new ≡ with_setup (state device.old) (state device.new).setup }
     ensures refusal { IfErr result (λ stop. IsRefusal stop) }
 {
     match device.set(alloc, n, asked) {
         Ok(got) => Ok(got),
         Err(Status::NoMem) => Err(Stop::no_memory()),
-        Err(status) => Err(answered(status)),
+        Err(status) => Err(stop_by_status(status)),
     }
 }
 
@@ -83,7 +83,7 @@ fn put_setting(
 {
     let (name, text) = setting;
     let (n, descriptor) = find_option(alloc, &*device, name.as_bytes())?;
-    let asked = read_text(alloc, &descriptor, text.as_bytes()).map_err(unread)?;
+    let asked = read_text(alloc, &descriptor, text.as_bytes()).map_err(stop_unread)?;
     let name = name.try_clone(alloc)?;
     let (given, info) = set_option(alloc, device, n, &asked)?;
     Ok(Report {
@@ -101,7 +101,7 @@ pub fn put_settings(
     alloc: Global,
     device: &mut dyn Device,
     settings: &[(Text, Text)],
-) -> Result<Listed<Report>, Stop>
+) -> Result<ItemList<Report>, Stop>
     requires { is_at_rest (state device.old).phase ≡ true }
     ensures put { IfOk result (λ reports. put_all (state device.old).setup settings.now ≡ Ok ((state device.new).setup, reports)) }
     ensures stop { IfErr result (λ stop. (stop ≡ no_memory) ⊎ (put_all (state device.old).setup settings.now ≡ Err stop)) }
@@ -112,5 +112,5 @@ pub fn put_settings(
     for setting in settings {
         reports.push(put_setting(alloc, device, setting)?)?;
     }
-    Ok(Listed::from_vec(reports))
+    Ok(ItemList::from_vec(reports))
 }

@@ -1,6 +1,6 @@
-pub mod FieldLemmas
+pub mod UserFieldLemmas
 pub mod MarkLemmas
 pub mod DigestLemmas
 pub mod AllowedLemmas
-pub mod ReadingLemmas
+pub mod UserReadingLemmas
 pub mod StreamLemmas

@@ -31,8 +31,8 @@ LineAllows users user password backend resource =
     (challenge : List ℕ) × IsChallenge resource challenge × HasDigest users user backend challenge (md5 (challenge ++ password))
 
 -- no line names the backend, or some line allows it to the user
-abbrev pub Allowed : List Entry → List ℕ → List ℕ → List ℕ → List ℕ → Type 0
-Allowed users user password backend resource = (¬ NamesBackend users backend) ⊎ LineAllows users user password backend resource
+abbrev pub UserIsAllowed : List Entry → List ℕ → List ℕ → List ℕ → List ℕ → Type 0
+UserIsAllowed users user password backend resource = (¬ NamesBackend users backend) ⊎ LineAllows users user password backend resource
 
 -- a digest as it is sent: `$MD5$` and two lower-case hexadecimal digits a byte
 abbrev pub answer_text : List ℕ → List ℕ

@@ -47,7 +47,7 @@ pub record IsGood (number : ℕ) (line : List ℕ) : Type 0 where
   pub printable : All IsPrintable line
   pub fields : (line ≡ []) ⊎ ((user password backend : List ℕ) × AreEntryFields line user password backend)
 
--- The line of that number is refused for the reason, and for none that is tested before it. Where memory was wanting, the line is good and has an entry.
+-- The line of that number is refused for the reason, and for none that is tested before it. Where memory ran out, the line is good and has an entry.
 abbrev pub HasReason : LineReason → ℕ → List ℕ → Type 0
 HasReason TooMany number line = 256 < number
 HasReason TooLong number line = (number ≤ 256) × (256 < length line)
@@ -67,6 +67,6 @@ pub record TellsUsers (text : List ℕ) (entries : List Entry) : Type 0 where
   pub entries_are : AllZip IsEntryLine (filter is_some_line (lines_of text)) entries
 
 -- the line of that number is the first that is refused, for that reason
-abbrev pub HasFault : List ℕ → ℕ → LineReason → Type 0
-HasFault text number reason =
+abbrev pub HasLineFault : List ℕ → ℕ → LineReason → Type 0
+HasLineFault text number reason =
     IsFirstFaulty (λ before line. IsGood (length before + 1) line) (λ before line. HasReason reason (length before + 1) line) text number

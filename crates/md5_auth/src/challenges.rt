@@ -57,7 +57,7 @@ impl Challenger {
     }
 
     /// The next challenge: four words of the stream that ChaCha20 gives from the seed, each as 8
-    /// lower-case hexadecimal digits. Where memory is wanting nothing is lost: the same challenge is
+    /// lower-case hexadecimal digits. Where memory runs out nothing is lost: the same challenge is
     /// still the next one.
     pub fn next(&mut self, alloc: Global) -> Result<Text, NoMem>
         ensures text { (seed : List ℕ) (k : ℕ) → HasGiven seed k self.old → IfOk result (λ text. text ≡ challenge_at seed k) }

@@ -1,6 +1,6 @@
 ghost use Rattle.std.specs.Prelude.{◌≡◌, ◌↔◌, ℕ, List};
 ghost use Rattle.md5_auth.specs.declared.users.Entry.{Entry as AnEntry};
-ghost use Rattle.md5_auth.specs.Allowed.{IsChallenge, IsAnswer, NamesBackend, LineAllows, Allowed, SentAllows};
+ghost use Rattle.md5_auth.specs.Allowed.{IsChallenge, IsAnswer, NamesBackend, LineAllows, UserIsAllowed, SentAllows};
 ghost use Rattle.md5_auth.specs.ChallengeReading.{challenge_of};
 
 /// A resource has one challenge, which `challenge_of` computes, or none.
@@ -15,5 +15,5 @@ pub fn an_answer_allows()
         → SentAllows users user backend resource answer ↔ LineAllows users user password backend resource }
     ensures allowed { (users : List AnEntry) (user password backend resource answer : List ℕ) → IsAnswer answer resource password
         → NamesBackend users backend
-        → SentAllows users user backend resource answer ↔ Allowed users user password backend resource }
+        → SentAllows users user backend resource answer ↔ UserIsAllowed users user password backend resource }
 {}

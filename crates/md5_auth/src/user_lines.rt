@@ -16,7 +16,7 @@ const LIMITS: Limits = Limits {
 
 /// The fields of a line.
 #[derive(Clone, Copy)]
-struct Fields<'a> {
+struct UserFields<'a> {
     user: &'a [u8],
     password: &'a [u8],
     backend: &'a [u8],
@@ -30,7 +30,7 @@ fn is_printable(line: &[u8]) -> bool
 }
 
 /// The fields of a line with exactly two colons.
-fn split_fields(line: &[u8]) -> Option<Fields<'_>>
+fn split_fields(line: &[u8]) -> Option<UserFields<'_>>
     ensures found { IfSome result (λ f. AreFields line.now f.user.now f.password.now f.backend.now) }
     ensures none { IfNone result (¬ HasTwoColons line.now) }
 {
@@ -39,7 +39,7 @@ fn split_fields(line: &[u8]) -> Option<Fields<'_>>
     if backend.contains(&b':') {
         return None;
     }
-    Some(Fields {
+    Some(UserFields {
         user,
         password,
         backend,
@@ -47,7 +47,7 @@ fn split_fields(line: &[u8]) -> Option<Fields<'_>>
 }
 
 /// Tests the line of that number, and gives its fields unless it is empty.
-fn tested(number: u32, line: &[u8]) -> Result<Option<Fields<'_>>, LineReason>
+fn tested(number: u32, line: &[u8]) -> Result<Option<UserFields<'_>>, LineReason>
     ensures good { OnOk result (IsGood number line.now) }
     ensures fields { IfOk result (λ fields. MatchOption fields (line.now ≡ []) (λ f. AreEntryFields line.now f.user.now f.password.now f.backend.now)) }
     ensures fault { IfErr result (λ reason. HasReason reason number line.now) }
@@ -69,7 +69,7 @@ fn tested(number: u32, line: &[u8]) -> Result<Option<Fields<'_>>, LineReason>
 }
 
 /// An entry with copies of the fields.
-fn copied(alloc: Global, fields: Fields<'_>) -> Result<Entry, NoMem>
+fn copied(alloc: Global, fields: UserFields<'_>) -> Result<Entry, NoMem>
     requires user { IsText fields.user.now }
     requires password { IsText fields.password.now }
     requires backend { IsText fields.backend.now }

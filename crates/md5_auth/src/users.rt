@@ -30,14 +30,14 @@ impl Model for Users {
 
 impl Users {
     ghost use Rattle.std.specs.Prelude.{◌≡◌, ◌↔◌, IfOk, IfErr, IsTrue};
-    ghost use Rattle.md5_auth.specs.UserLines.{TellsUsers, HasFault};
+    ghost use Rattle.md5_auth.specs.UserLines.{TellsUsers, HasLineFault};
     ghost use Rattle.md5_auth.specs.Allowed.{NamesBackend};
 
     /// The users of a file: at most 256 lines of at most 256 bytes, each `user:password:backend`, where
     /// user and backend are not empty, or empty. Tests one line after another.
     pub fn parse(alloc: Global, text: &[u8]) -> Result<Users, LineFault>
         ensures found { IfOk result (λ users. TellsUsers text.now users) }
-        ensures fault { IfErr result (λ fault. HasFault text.now fault.line fault.reason) }
+        ensures fault { IfErr result (λ fault. HasLineFault text.now fault.line fault.reason) }
     {
         let mut entries = Vec::new(alloc);
         let mut rest = text;

@@ -4,6 +4,6 @@
 pub use net_client::{Client, Link};
 pub use net_jobs::{Dial, DialFault, run_batch, run_batch_with, run_job, run_job_with};
 pub use scan_job::{
-    Job, JobFault, Listed, MOST_PAGES, Outcome, Report, Reports, Shelf, ShelfFault, Task, Why,
+    ItemList, Job, JobFault, MOST_PAGES, Outcome, Report, Reports, Shelf, ShelfFault, Task, Why,
     tells_value,
 };

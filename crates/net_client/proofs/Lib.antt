@@ -1,4 +1,4 @@
 pub mod Hearings
 pub mod Heeding
-pub mod Records
+pub mod FrameRecords
 pub mod Ending

@@ -1,6 +1,6 @@
-pub mod Outgoing
+pub mod Outboxes
 pub mod Sending
-pub mod Talker
+pub mod ClientStates
 pub mod Taking
-pub mod Hearing
-pub mod Imaging
+pub mod ReplyPieces
+pub mod FramePieces

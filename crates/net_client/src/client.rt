@@ -1,19 +1,21 @@
 ghost use Rattle.std.specs.Prelude.{◌≡◌, ◌≢◌, true, false};
-ghost use Rattle.scan_job.specs.JobSize.{HasFault};
-ghost use Rattle.client_rules.specs.Talks.{is_imaging};
-ghost use Rattle.net_client.specs.Hearing.{awaited, outcome_by};
-ghost use Rattle.net_client.specs.Imaging.{is_starting};
+ghost use Rattle.scan_job.specs.JobSize.{HasJobFault};
+ghost use Rattle.client_replies.specs.ProtocolStates.{is_imaging};
+ghost use Rattle.net_client.specs.ReplyPieces.{awaited_procedure, outcome_by};
+ghost use Rattle.net_client.specs.FramePieces.{is_starting};
 
-use crate::asking::{ask, say_farewell, say_goodbye, say_start};
-use crate::imaging::{Came, read_on};
+use crate::imaging::{PieceResult, read_on};
 use crate::outbox::Outbox;
-use client_rules::{Errand, Link, Next, Notes, Progress, Queue, frame_ended, hear, shaped};
+use crate::request_sending::{ask, say_farewell, say_goodbye, say_start};
+use client_replies::{
+    JobTarget, Link, Next, Notes, Progress, Queue, after_params_reply, frame_ended, hear,
+};
 use data_records::RecordReader;
 use device_api::DeviceInfo;
 use frame_join::{FrameJoin, JoinFault, PnmOut, not_whole_before};
 use option_desc::{Descriptor, Value};
 use sane_fixed::{NoMem, Status};
-use scan_job::{Job, JobFault, Listed, Outcome, Reports, Task, Why};
+use scan_job::{ItemList, Job, JobFault, Outcome, Reports, Task, Why};
 use std::alloc::Global;
 use std::marker::Model;
 use wire_codec::{Decoder, Procedure, Reply, WireFault};
@@ -22,7 +24,7 @@ use wire_codec::{Decoder, Procedure, Reply, WireFault};
 #[derive(Drop)]
 pub struct Client {
     alloc: Global,
-    errand: Errand,
+    target: JobTarget,
     outcome: Outcome,
     progress: Progress,
     notes: Notes,
@@ -36,12 +38,12 @@ pub struct Client {
 impl Model for Client {
     ghost use Rattle.std.specs.Prelude.{◌≡◌, ◌≤◌, true, None};
     ghost use Rattle.data_records.specs.Records.{HasEnded};
-    ghost use Rattle.net_client.specs.Talker.{Talker};
-    ghost use Rattle.client_rules.specs.Talks.{is_imaging, is_running, turns};
+    ghost use Rattle.net_client.specs.ClientStates.{ClientState};
+    ghost use Rattle.client_replies.specs.ProtocolStates.{is_imaging, is_running, turns};
 
-    ghost Value = { Talker };
+    ghost Value = { ClientState };
 
-    ghost view = { λ c. record { errand = c.errand; outcome = c.outcome; progress = c.progress; notes = c.notes; out = c.out.text; input = c.decoder; phase = c.reader; join = c.join } };
+    ghost view = { λ c. record { target = c.target; outcome = c.outcome; progress = c.progress; notes = c.notes; out = c.out.text; input = c.decoder; phase = c.reader; join = c.join } };
 
     // While the job runs there is room for its end, and for a START where that may come with no reply.
     // The decoder has answered no fault, and the reader is not behind the end.
@@ -51,31 +53,31 @@ impl Model for Client {
 impl Client {
     ghost use Rattle.std.specs.Prelude.{◌≡◌, ◌==◌, ◌≤◌, true, false, Some, [], IfOk, IfErr, if◌then◌else◌, length, take, drop, min};
     ghost use Rattle.std.specs.Prelude.{OnOk, OnErr};
-    ghost use Rattle.frame_join.specs.FrameHistory.{Past};
-    ghost use Rattle.frame_join.specs.Joining.{Stands};
-    ghost use Rattle.net_client.specs.Hearing.{HearsReply, IsChoked, IsStarved, StandsStarved, StopsReading, Heeds};
-    ghost use Rattle.client_rules.specs.declared.progress.Progress.TheVariants as stages;
-    ghost use Rattle.client_rules.specs.Standing.{StandsClear};
-    ghost use Rattle.client_rules.specs.Talking.{unjoined};
-    ghost use Rattle.client_rules.specs.Talks.{next_outcome, scans, IsWithin};
+    ghost use Rattle.frame_join.specs.FrameHistory.{JoinHistory};
+    ghost use Rattle.frame_join.specs.JoinStates.{Represents};
+    ghost use Rattle.net_client.specs.ReplyPieces.{HearsReply, EndsOutOfMemoryHere, EndsOutOfMemory, RepresentsOrOutOfMemory, StopsReading, Heeds};
+    ghost use Rattle.client_replies.specs.declared.progress.Progress.TheVariants as stages;
+    ghost use Rattle.client_replies.specs.ClearJoins.{RepresentsClear};
+    ghost use Rattle.client_replies.specs.ReplyTurns.{stop_unjoined};
+    ghost use Rattle.client_replies.specs.ProtocolStates.{next_outcome, scans, IsWithinFrame};
     ghost use Rattle.std.specs.Prelude.{not};
     ghost use Rattle.scan_job.specs.Outcomes.{IsOver};
-    ghost use Rattle.client_rules.specs.Talks.{is_ended, turns};
-    ghost use Rattle.net_client.specs.Talker.{TakesPage, TurnsPage};
+    ghost use Rattle.client_replies.specs.ProtocolStates.{is_ended, turns};
+    ghost use Rattle.net_client.specs.ClientStates.{TakesPage, TurnsPage};
     ghost use Rattle.net_client.specs.Taking.{GivesPicture, TakesFile};
-    ghost use Rattle.client_rules.specs.Talks.{is_receiving};
-    ghost use Rattle.net_client.specs.Imaging.{EndsFrame, IsBehindFrame, Receives};
+    ghost use Rattle.client_replies.specs.ProtocolStates.{is_receiving};
+    ghost use Rattle.net_client.specs.FramePieces.{TakesEndRecord, IsBehindFrame, Receives};
     ghost use Rattle.std.specs.Prelude.{IfSome, IsNone};
-    ghost use Rattle.wire_format.specs.Limit.{limited};
-    ghost use Rattle.wire_format.specs.Lawful.{Takes};
+    ghost use Rattle.wire_format.specs.Limit.{limited_format};
+    ghost use Rattle.wire_format.specs.Lawful.{SpellsFront};
     ghost use Rattle.wire_message.specs.Message.{message_limit, reply};
     ghost use Rattle.wire_format.specs.Writer.{behind};
     ghost use Rattle.scan_job.specs.declared.outcome.Outcome.{Outcome as AnyOutcome};
-    ghost use Rattle.net_client.specs.Sending.{request_text, requests_text};
-    ghost use Rattle.client_rules.specs.Asking.{asked, goodbye, farewell};
-    ghost use Rattle.client_rules.specs.Talks.{is_running, reports_of, options_shown, IsWait, heard_at, is_lost_by, wanted, connected};
-    ghost use Rattle.net_client.specs.Talker.{Settles, ended, starved, IsFresh, Serves, phase_connected};
-    ghost use Rattle.scan_job.specs.JobSize.{HasFault};
+    ghost use Rattle.net_client.specs.Sending.{optional_request_text, requests_text};
+    ghost use Rattle.client_replies.specs.Asking.{request_for, goodbye, farewell};
+    ghost use Rattle.client_replies.specs.ProtocolStates.{is_running, reports_of, options_shown, IsWait, heard_at, is_lost_by, wanted_port, progress_connected};
+    ghost use Rattle.net_client.specs.ClientStates.{GoesOnBy, after_client_end, after_out_of_memory, IsNewClient, ClientRepresents, phase_connected};
+    ghost use Rattle.scan_job.specs.JobSize.{HasJobFault};
 
     fn is_running(&self) -> bool
         ensures { result ≡ is_running self.now.outcome }
@@ -88,8 +90,8 @@ impl Client {
 
     /// A client of a job. A job that is refused comes back.
     pub fn new(alloc: Global, job: Job) -> Result<Client, (JobFault, Job)>
-        ensures fresh { IfOk result (λ c. IsFresh job c) }
-        ensures fault { IfErr result (λ e. HasFault job (Some e.0)) }
+        ensures fresh { IfOk result (λ c. IsNewClient job c) }
+        ensures fault { IfErr result (λ e. HasJobFault job (Some e.0)) }
         ensures back { IfErr result (λ e. e.1 ≡ job) }
     {
         if let Some(fault) = job.fault() {
@@ -102,20 +104,20 @@ impl Client {
             settings,
             task,
         } = job;
-        let errand = Errand {
+        let target = JobTarget {
             user,
             password,
             device,
             task,
         };
         let mut out = Outbox::new(alloc);
-        if ask(alloc, &mut out, &errand, 0, &Progress::Greeting).is_err() {
-            let Errand {
+        if ask(alloc, &mut out, &target, 0, &Progress::Greeting).is_err() {
+            let JobTarget {
                 user,
                 password,
                 device,
                 task,
-            } = errand;
+            } = target;
             let job = Job {
                 user,
                 password,
@@ -127,14 +129,14 @@ impl Client {
         }
         Ok(Client {
             alloc,
-            errand,
+            target,
             outcome: Outcome::Running,
             progress: Progress::Greeting,
             notes: Notes {
                 word: 0,
                 left: Queue::from_vec(settings),
-                reports: Listed::none(alloc),
-                known: Listed::none(alloc),
+                reports: ItemList::none(alloc),
+                known: ItemList::none(alloc),
                 file: 1,
             },
             out,
@@ -171,27 +173,27 @@ impl Client {
 
     /// The job ends so.
     fn stop(&mut self, status: Status, why: Why)
-        ensures { self.new ≡ ended status why self.old }
+        ensures { self.new ≡ after_client_end status why self.old }
     {
         self.outcome = Outcome::Ended(status, why);
         self.progress = Progress::Over;
     }
 
-    fn options_shown(&mut self) -> Listed<(Descriptor, Option<Value>)>
-        ensures shown { result ≡ options_shown self.old.errand.task self.old.notes.known }
+    fn options_shown(&mut self) -> ItemList<(Descriptor, Option<Value>)>
+        ensures shown { result ≡ options_shown self.old.target.task self.old.notes.known }
         ensures rest { self.new ≡ record self.old { notes = record self.old.notes { known = [] } } }
     {
         let known = self.notes.known.take_all(self.alloc);
-        match self.errand.task {
+        match self.target.task {
             Task::Show => known,
-            _ => Listed::none(self.alloc),
+            _ => ItemList::none(self.alloc),
         }
     }
 
     /// The job is done, and found these devices.
-    fn finish(&mut self, devices: Listed<DeviceInfo>)
+    fn finish(&mut self, devices: ItemList<DeviceInfo>)
         requires { is_running self.old.outcome ≡ true }
-        ensures { Settles self.old (Next.Finish devices) self.new }
+        ensures { GoesOnBy self.old (Next.Finish devices) self.new }
     {
         let options = self.options_shown();
         let settings = self.notes.reports.take_all(self.alloc);
@@ -201,14 +203,14 @@ impl Client {
             options,
         });
         self.progress = Progress::Over;
-        say_goodbye(&mut self.out, self.errand.task, self.notes.word);
+        say_goodbye(&mut self.out, self.target.task, self.notes.word);
     }
 
-    /// The job goes on so; false where memory was wanting.
+    /// The job goes on so; false where memory ran out.
     fn settle(&mut self, next: Next) -> bool
         requires { is_running self.old.outcome ≡ true }
-        ensures settled { result ≡ true → Settles self.old next self.new }
-        ensures starved { result ≡ false → self.new ≡ starved self.old }
+        ensures settled { result ≡ true → GoesOnBy self.old next self.new }
+        ensures starved { result ≡ false → self.new ≡ after_out_of_memory self.old }
         ensures waits { result ≡ false → IsWait next }
     {
         match next {
@@ -216,7 +218,7 @@ impl Client {
                 if ask(
                     self.alloc,
                     &mut self.out,
-                    &self.errand,
+                    &self.target,
                     self.notes.word,
                     &progress,
                 )
@@ -243,7 +245,7 @@ impl Client {
     /// waits. A job that is over ignores them.
     pub fn feed_control(&mut self, piece: &[u8])
         ensures over { is_running self.old.outcome ≡ false → self.new ≡ self.old }
-        ensures heeds { is_running self.old.outcome ≡ true → (past : Past) → Serves past self.old → Heeds self.old past piece.now self.new }
+        ensures heeds { is_running self.old.outcome ≡ true → (past : JoinHistory) → ClientRepresents past self.old → Heeds self.old past piece.now self.new }
     {
         if !self.is_running() {
             return;
@@ -254,7 +256,7 @@ impl Client {
             return;
         }
         while self.is_running() {
-            let Some(procedure) = awaited(&self.progress) else {
+            let Some(procedure) = awaited_procedure(&self.progress) else {
                 return;
             };
             let Some(reply) = self.read(procedure) else {
@@ -269,7 +271,7 @@ impl Client {
     /// The next reply, to a procedure. Where there can be none the job ends.
     fn read(&mut self, procedure: Procedure) -> Option<Reply>
         requires { is_running self.old.outcome ≡ true }
-        ensures some { IfSome result (λ r. (self.new ≡ record self.old { input = self.new.input }) × Takes (limited message_limit (reply procedure)) self.old.input.rest self.new.input.rest r) }
+        ensures some { IfSome result (λ r. (self.new ≡ record self.old { input = self.new.input }) × SpellsFront (limited_format message_limit (reply procedure)) self.old.input.rest self.new.input.rest r) }
         ensures none { IsNone result → StopsReading procedure self.old self.new }
     {
         match self.decoder.next_reply(self.alloc, procedure) {
@@ -282,11 +284,11 @@ impl Client {
         }
     }
 
-    /// A reply comes; false where memory was wanting.
+    /// A reply comes; false where memory ran out.
     fn hear(&mut self, reply: Reply) -> bool
         requires { is_running self.old.outcome ≡ true }
-        ensures heard { result ≡ true → (past : Past) → Serves past self.old → HearsReply self.old past reply self.new }
-        ensures starved { result ≡ false → (past : Past) → Serves past self.old → IsChoked self.old past self.new }
+        ensures heard { result ≡ true → (past : JoinHistory) → ClientRepresents past self.old → HearsReply self.old past reply self.new }
+        ensures starved { result ≡ false → (past : JoinHistory) → ClientRepresents past self.old → EndsOutOfMemoryHere self.old past self.new }
         ensures input { self.new.input ≡ self.old.input }
     {
         let next = self.next_by(reply);
@@ -301,18 +303,18 @@ impl Client {
 
     /// What a reply makes of the job, which waits for nothing then.
     fn next_by(&mut self, reply: Reply) -> Result<Next, NoMem>
-        ensures next { (past : Past) → StandsClear past self.old.join → IfOk result (λ next. next ≡ (heard_at self.old.progress self.old.errand self.old.notes past reply).turn.next) }
-        ensures notes { (past : Past) → StandsClear past self.old.join → OnOk result (self.new.notes ≡ (heard_at self.old.progress self.old.errand self.old.notes past reply).turn.notes) }
-        ensures past { (past : Past) → StandsClear past self.old.join → OnOk result (Stands (heard_at self.old.progress self.old.errand self.old.notes past reply).past self.new.join) }
-        ensures starved { (past : Past) → StandsClear past self.old.join → OnErr result (StandsStarved past self.new.join) }
+        ensures next { (past : JoinHistory) → RepresentsClear past self.old.join → IfOk result (λ next. next ≡ (heard_at self.old.progress self.old.target self.old.notes past reply).turn.next) }
+        ensures notes { (past : JoinHistory) → RepresentsClear past self.old.join → OnOk result (self.new.notes ≡ (heard_at self.old.progress self.old.target self.old.notes past reply).turn.notes) }
+        ensures past { (past : JoinHistory) → RepresentsClear past self.old.join → OnOk result (Represents (heard_at self.old.progress self.old.target self.old.notes past reply).history self.new.join) }
+        ensures starved { (past : JoinHistory) → RepresentsClear past self.old.join → OnErr result (RepresentsOrOutOfMemory past self.new.join) }
         ensures rest { self.new ≡ record self.old { progress = self.new.progress; notes = self.new.notes; join = self.new.join } }
     {
         let progress = std::mem::replace(&mut self.progress, Progress::Over);
         match progress {
             Progress::Shaping { port, order } => {
-                shaped(self.alloc, &mut self.join, port, order, reply)
+                after_params_reply(self.alloc, &mut self.join, port, order, reply)
             }
-            progress => hear(self.alloc, &self.errand, &mut self.notes, progress, reply),
+            progress => hear(self.alloc, &self.target, &mut self.notes, progress, reply),
         }
     }
 
@@ -347,15 +349,15 @@ impl Client {
     /// frame. What comes behind it, and where no data is wanted, is ignored.
     pub fn feed_data(&mut self, piece: &[u8])
         ensures idle { is_receiving self.old.outcome self.old.progress ≡ false → self.new ≡ self.old }
-        ensures receives { is_receiving self.old.outcome self.old.progress ≡ true → (past : Past) → Serves past self.old → Receives self.old past piece.now self.new }
+        ensures receives { is_receiving self.old.outcome self.old.progress ≡ true → (past : JoinHistory) → ClientRepresents past self.old → Receives self.old past piece.now self.new }
     {
         if !self.is_receiving() {
             return;
         }
         match read_on(&mut self.reader, &mut self.join, piece) {
-            Came::More => {}
-            Came::Fault(fault) => self.fail(fault),
-            Came::End(status) => {
+            PieceResult::More => {}
+            PieceResult::Fault(fault) => self.fail(fault),
+            PieceResult::End(status) => {
                 self.reader = RecordReader::new();
                 self.end_frame(status);
             }
@@ -364,7 +366,7 @@ impl Client {
 
     /// The frames make no picture.
     fn fail(&mut self, fault: JoinFault)
-        ensures { self.new ≡ record self.old { outcome = next_outcome self.old.errand.task self.old.notes (unjoined fault); progress = stages.Over } }
+        ensures { self.new ≡ record self.old { outcome = next_outcome self.old.target.task self.old.notes (stop_unjoined fault); progress = stages.Over } }
     {
         match fault {
             JoinFault::Shape => self.stop(Status::IoError, Why::Malformed),
@@ -377,12 +379,12 @@ impl Client {
     /// The end record of a frame comes. It takes no memory.
     fn end_frame(&mut self, status: u8)
         requires { is_receiving self.old.outcome self.old.progress ≡ true }
-        ensures { (past : Past) → Stands past self.old.join → scans self.old.errand.task ≡ true → IsWithin past → EndsFrame self.old past status self.new }
+        ensures { (past : JoinHistory) → Represents past self.old.join → scans self.old.target.task ≡ true → IsWithinFrame past → TakesEndRecord self.old past status self.new }
     {
         let next = frame_ended(
             self.alloc,
             &mut self.join,
-            self.errand.task,
+            self.target.task,
             self.notes.file,
             status,
         );
@@ -397,7 +399,7 @@ impl Client {
     fn wait_behind(&mut self, progress: Progress)
         requires { is_receiving self.old.outcome self.old.progress ≡ true }
         ensures rest { self.new ≡ record self.old { progress = progress; out = self.new.out } }
-        ensures text { IsBehindFrame progress → behind self.old.out (request_text (asked self.old.errand self.old.notes.word progress)) ≡ Some self.new.out }
+        ensures text { IsBehindFrame progress → behind self.old.out (optional_request_text (request_for self.old.target self.old.notes.word progress)) ≡ Some self.new.out }
     {
         if is_starting(&progress) {
             say_start(&mut self.out, self.notes.word);
@@ -439,7 +441,7 @@ impl Client {
         ensures ended { is_ended self.old.outcome ≡ true → (result ≡ 0) × (self.new ≡ self.old) }
         ensures outcome { self.new.outcome ≡ self.old.outcome }
         ensures same { is_ended self.old.outcome ≡ false → turns self.old.outcome self.old.progress ≡ false → self.new ≡ record self.old { join = self.new.join } }
-        ensures taken { (past : Past) → Serves past self.old → TakesFile self.old past (length buf.old) result (take result buf.new) self.new }
+        ensures taken { (past : JoinHistory) → ClientRepresents past self.old → TakesFile self.old past (length buf.old) result (take result buf.new) self.new }
     {
         not_whole_before();
         if self.is_ended() {
@@ -457,8 +459,8 @@ impl Client {
         ensures count { result ≤ length buf.old }
         ensures rest { drop result buf.new ≡ drop result buf.old }
         ensures outcome { self.new.outcome ≡ self.old.outcome }
-        ensures page { (past : Past) → Serves past self.old → TakesPage self.old past (take result buf.new) self.new }
-        ensures picture { (past : Past) → Stands past self.old.join → GivesPicture past (length buf.old) result (take result buf.new) }
+        ensures page { (past : JoinHistory) → ClientRepresents past self.old → TakesPage self.old past (take result buf.new) self.new }
+        ensures picture { (past : JoinHistory) → Represents past self.old.join → GivesPicture past (length buf.old) result (take result buf.new) }
     {
         let count = self.file.pull(&mut self.join, buf);
         if self.join.has_given_all() {
@@ -483,9 +485,9 @@ impl Client {
     /// The job is given up: one that runs ends so, and tells the daemon. It takes no memory.
     pub fn cancel(&mut self)
         ensures over { is_running self.old.outcome ≡ false → self.new ≡ self.old }
-        ensures ended { is_running self.old.outcome ≡ true → self.new ≡ record (ended Status.Cancelled Why.Cancelled self.old) { out = self.new.out } }
+        ensures ended { is_running self.old.outcome ≡ true → self.new ≡ record (after_client_end Status.Cancelled Why.Cancelled self.old) { out = self.new.out } }
         ensures text { is_running self.old.outcome ≡ true → behind self.old.out (requests_text (farewell self.old.notes.word self.old.progress)) ≡ Some self.new.out }
-        ensures serves { (past : Past) → Serves past self.old → Serves past self.new }
+        ensures serves { (past : JoinHistory) → ClientRepresents past self.old → ClientRepresents past self.new }
     {
         if !self.is_running() {
             return;
@@ -497,8 +499,8 @@ impl Client {
 
     /// A connection is lost. That of the data counts from the wanted port to the end record.
     pub fn link_lost(&mut self, link: Link)
-        ensures lost { self.new ≡ (if is_lost_by link self.old.outcome self.old.progress then ended Status.IoError Why.Lost self.old else self.old) }
-        ensures serves { (past : Past) → Serves past self.old → Serves past self.new }
+        ensures lost { self.new ≡ (if is_lost_by link self.old.outcome self.old.progress then after_client_end Status.IoError Why.Lost self.old else self.old) }
+        ensures serves { (past : JoinHistory) → ClientRepresents past self.old → ClientRepresents past self.new }
     {
         if self.is_lost_by(link) {
             self.stop(Status::IoError, Why::Lost);
@@ -516,7 +518,7 @@ impl Client {
 
     /// The port of the data connection that is wanted.
     pub fn data_wanted(&self) -> Option<u16>
-        ensures { result ≡ wanted self.now.progress }
+        ensures { result ≡ wanted_port self.now.progress }
     {
         match self.progress {
             Progress::Imaging {
@@ -529,8 +531,8 @@ impl Client {
 
     /// The data connection that was wanted is made.
     pub fn data_opened(&mut self)
-        ensures opened { self.new ≡ record self.old { progress = connected self.old.progress; phase = phase_connected self.old.progress self.old.phase } }
-        ensures serves { (past : Past) → Serves past self.old → Serves past self.new }
+        ensures opened { self.new ≡ record self.old { progress = progress_connected self.old.progress; phase = phase_connected self.old.progress self.old.phase } }
+        ensures serves { (past : JoinHistory) → ClientRepresents past self.old → ClientRepresents past self.new }
     {
         if let Some(port) = self.data_wanted() {
             self.progress = Progress::Imaging { port, opened: true };
@@ -558,8 +560,8 @@ fn is_imaging(progress: &Progress) -> bool
 }
 
 /// The procedure whose reply is waited for.
-fn awaited(progress: &Progress) -> Option<Procedure>
-    ensures { result ≡ awaited progress.now }
+fn awaited_procedure(progress: &Progress) -> Option<Procedure>
+    ensures { result ≡ awaited_procedure progress.now }
 {
     match progress {
         Progress::Greeting => Some(Procedure::Init),

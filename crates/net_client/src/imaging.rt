@@ -1,15 +1,15 @@
 ghost use Rattle.std.specs.Prelude.{◌≡◌, ◌≤◌, ◌<◌, length};
 ghost use Rattle.page_picture.specs.Shows.{Frame};
-ghost use Rattle.frame_join.specs.FrameHistory.{Past};
+ghost use Rattle.frame_join.specs.FrameHistory.{JoinHistory};
 ghost use Rattle.data_records.specs.Records.{HasEnded};
-ghost use Rattle.net_client.specs.Imaging.{HasRead, HasNotEnded, StandsWithin};
+ghost use Rattle.net_client.specs.FramePieces.{HasRead, HasNotEnded, RepresentsWithin};
 
 use data_records::{RecordReader, Step};
 use frame_join::{FrameJoin, JoinFault};
 
 /// What a piece of the data brought.
 #[derive(Clone, Copy)]
-pub enum Came {
+pub enum PieceResult {
     /// Bytes, and more are to come.
     More,
     /// Bytes that make a fault.
@@ -19,9 +19,9 @@ pub enum Came {
 }
 
 /// Reads on in the records of a frame, and the join takes what they give.
-pub(crate) fn read_on(reader: &mut RecordReader, join: &mut FrameJoin, piece: &[u8]) -> Came
+pub(crate) fn read_on(reader: &mut RecordReader, join: &mut FrameJoin, piece: &[u8]) -> PieceResult
     requires { HasEnded reader.old → ⊥ }
-    ensures read { (past : Past) (frame : Frame) → StandsWithin past frame join.old → HasRead reader.old past frame piece.now result reader.new join.new }
+    ensures read { (past : JoinHistory) (frame : Frame) → RepresentsWithin past frame join.old → HasRead reader.old past frame piece.now result reader.new join.new }
     ensures open { HasNotEnded result reader.new }
 {
     let mut at = 0;
@@ -33,12 +33,12 @@ pub(crate) fn read_on(reader: &mut RecordReader, join: &mut FrameJoin, piece: &[
             Step::Bytes(from, to) => {
                 join.feed(&rest[from..to]);
                 if let Some(fault) = join.fault() {
-                    return Came::Fault(fault);
+                    return PieceResult::Fault(fault);
                 }
             }
-            Step::End(status) => return Came::End(status),
+            Step::End(status) => return PieceResult::End(status),
         }
         at += used;
     }
-    Came::More
+    PieceResult::More
 }

@@ -12,9 +12,9 @@ pub struct Outbox {
 
 impl Model for Outbox {
     ghost use Rattle.std.specs.Prelude.{◌≤◌, ◌-◌, length, drop, vec_len, vec_capacity};
-    ghost use Rattle.net_client.specs.Outgoing.{Outgoing};
+    ghost use Rattle.net_client.specs.Outboxes.{OutboxState};
 
-    ghost Value = { Outgoing };
+    ghost Value = { OutboxState };
 
     ghost view = { λ o. record { text = drop o.start o.bytes.items; room = vec_capacity o.bytes - vec_len o.bytes } };
 

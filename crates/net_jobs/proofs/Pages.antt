@@ -5,47 +5,47 @@ use Rattle.std.proofs.lemmas.List.{append-nil, take-append-drop, length-drop}
 use Rattle.netpbm.specs.Picture.{Picture}
 use Rattle.netpbm.specs.Pnm.{Denotes, IsWhole}
 use Rattle.page_picture.specs.Shows.{ShowsFrames}
-use Rattle.frame_join.specs.FrameHistory.{Past, IsJoined, after_pull}
-use Rattle.frame_join.specs.Joining.{Joining, Stands}
-use Rattle.scan_job.specs.Shelves.{Stock, Taken}
+use Rattle.frame_join.specs.FrameHistory.{JoinHistory, IsJoined, after_pull}
+use Rattle.frame_join.specs.JoinStates.{JoinState, Represents}
+use Rattle.scan_job.specs.Shelves.{Stock, ReturnedOutput}
 use Rattle.scan_job.specs.declared.job.Task.{Task}
 use Rattle.scan_job.specs.declared.job.Task.TheVariants as tasks
 use Rattle.scan_job.specs.declared.outcome.Outcome.{Outcome}
 use Rattle.scan_job.specs.declared.outcome.Outcome.TheVariants.{Running, Done, Ended}
-use Rattle.client_rules.specs.declared.progress.Progress.{Progress}
-use Rattle.client_rules.specs.declared.progress.Progress.TheVariants as stages
-use Rattle.client_rules.specs.Talks.{Fits, FitsDone, IsBetween, scans, is_running, is_ended, turns}
-use Rattle.net_client.specs.Talker.{Talker, Serves, TakesPage, Stays, Turns, TurnsPage}
+use Rattle.client_replies.specs.declared.progress.Progress.{Progress}
+use Rattle.client_replies.specs.declared.progress.Progress.TheVariants as stages
+use Rattle.client_replies.specs.ProtocolStates.{HistoryFits, FitsDone, IsBetweenFrames, scans, is_running, is_ended, turns}
+use Rattle.net_client.specs.ClientStates.{ClientState, ClientRepresents, TakesPage, Stays, Turns, TurnsPage}
 use Rattle.net_client.proofs.Hearings.{calm_at}
-use Rattle.net_jobs.specs.Outputs.{TakesBack, HasTaken, IsUnderWay, GivesBack, output_of}
-use Rattle.net_jobs.specs.Paging.{GoesOn, TurnsOn, FallsShort}
-use Rattle.net_jobs.proofs.Drains.{joined_calm, pulled_none, pulled_twice, join_only, not_ended, unmoved}
+use Rattle.net_jobs.specs.Outputs.{TakesBack, HasTaken, OutputIsUnderWay, GivesBack, output_of}
+use Rattle.net_jobs.specs.Paging.{PageGoesOn, TurnsOn, FallsShort}
+use Rattle.net_jobs.proofs.NetDrains.{joined_calm, pulled_none, pulled_twice, join_only, not_ended, unmoved}
 use Rattle.net_jobs.proofs.Shelves.{given_back}
 
 -- ---- no fault stands in a job that scans and has not ended otherwise
 
-done_calm : (past : Past) → IsJoined past ⊎ IsBetween past → past.fault ≡ None
+done_calm : (past : JoinHistory) → IsJoined past ⊎ IsBetweenFrames past → past.fault ≡ None
 done_calm past (inl joined) = joined_calm past.fault past.under past.ended joined
 done_calm past (inr between) = between.0
 
-calm_done : (task : Task) (past : Past) → scans task ≡ true → FitsDone task past → past.fault ≡ None
+calm_done : (task : Task) (past : JoinHistory) → scans task ≡ true → FitsDone task past → past.fault ≡ None
 calm_done tasks.List past e f = absurd (let clash : false ≡ true = e in cc)
 calm_done tasks.Show past e f = absurd (let clash : false ≡ true = e in cc)
 calm_done tasks.SetOnly past e f = absurd (let clash : false ≡ true = e in cc)
 calm_done tasks.Scan past e f = joined_calm past.fault past.under past.ended f
 calm_done (tasks.Batch count) past e f = done_calm past f
 
-calm_by : (task : Task) (outcome : Outcome) (progress : Progress) (past : Past) → scans task ≡ true → Fits task outcome progress past → is_ended outcome ≡ false → past.fault ≡ None
+calm_by : (task : Task) (outcome : Outcome) (progress : Progress) (past : JoinHistory) → scans task ≡ true → HistoryFits task outcome progress past → is_ended outcome ≡ false → past.fault ≡ None
 calm_by task Running progress past s f e = calm_at progress past f.1
 calm_by task (Done reports) progress past s f e = calm_done task past s f
 calm_by task (Ended status why) progress past s f e = absurd (let clash : true ≡ false = e in cc)
 
-pub calm : (v : Talker) (past : Past) → scans v.errand.task ≡ true → is_ended v.outcome ≡ false → Serves past v → past.fault ≡ None
-calm v past scanning e s = calm_by v.errand.task v.outcome v.progress past scanning s.fits e
+pub calm : (v : ClientState) (past : JoinHistory) → scans v.target.task ≡ true → is_ended v.outcome ≡ false → ClientRepresents past v → past.fault ≡ None
+calm v past scanning e s = calm_by v.target.task v.outcome v.progress past scanning s.fits e
 
 -- ---- a job that waits for its page's file to be taken
 
-pub turning_fits : (task : Task) (outcome : Outcome) (progress : Progress) (past : Past) → turns outcome progress ≡ true → Fits task outcome progress past → IsJoined past × (IsWhole past.given → ⊥)
+pub turning_fits : (task : Task) (outcome : Outcome) (progress : Progress) (past : JoinHistory) → turns outcome progress ≡ true → HistoryFits task outcome progress past → IsJoined past × (IsWhole past.given → ⊥)
 turning_fits task Running stages.Turning past e f = f.1
 turning_fits task Running progress past e f = absurd (let clash : false ≡ true = e in cc)
 turning_fits task (Done reports) progress past e f = absurd (let clash : false ≡ true = e in cc)
@@ -55,64 +55,64 @@ shut : (b : Bool) → (b && false) ≡ false
 shut true = refl
 shut false = refl
 
-has_turned : (was now : Talker) → TurnsPage was now → turns now.outcome now.progress ≡ false
-has_turned was now t = ap (λ (v : Talker). turns v.outcome v.progress) t.rest ∙ shut (is_running was.outcome)
+has_turned : (was now : ClientState) → TurnsPage was now → turns now.outcome now.progress ≡ false
+has_turned was now t = ap (λ (v : ClientState). turns v.outcome v.progress) t.rest ∙ shut (is_running was.outcome)
 
 -- ---- after so many pulls
 
-pub record IsPulled (past : Past) (old : Talker) (k : ℕ) (before : Option Stock) (outputs : List Taken) (pulls : ℕ) (now : Talker) (stock : Option Stock) (out : Option (Option (List ℕ))) : Type 0 where
+pub record IsPulled (past : JoinHistory) (old : ClientState) (k : ℕ) (before : Option Stock) (outputs : List ReturnedOutput) (pulls : ℕ) (now : ClientState) (stock : Option Stock) (out : Option (Option (List ℕ))) : Type 0 where
   pub bytes : List ℕ
-  pub serves : Serves (after_pull bytes past) now
+  pub serves : ClientRepresents (after_pull bytes past) now
   pub rest : now ≡ record old { join = now.join }
-  pub under_way : IsUnderWay before outputs stock out k (past.given ++ bytes)
+  pub under_way : OutputIsUnderWay before outputs stock out k (past.given ++ bytes)
   pub some : pulls ≤ length bytes
   pub alive : 0 < pulls → is_ended old.outcome ≡ false
 
-pub begun : (past : Past) (old : Talker) (k : ℕ) (before : Option Stock) (outputs : List Taken) (stock : Option Stock) (out : Option (Option (List ℕ))) → Serves past old → IsUnderWay before outputs stock out k past.given
+pub begun : (past : JoinHistory) (old : ClientState) (k : ℕ) (before : Option Stock) (outputs : List ReturnedOutput) (stock : Option Stock) (out : Option (Option (List ℕ))) → ClientRepresents past old → OutputIsUnderWay before outputs stock out k past.given
     → IsPulled past old k before outputs 0 old stock out
 begun past old k before outputs stock out serves under_way = record {
   bytes = [];
-  serves = subst (λ (q : Past). Serves q old) (sym (pulled_none past)) serves;
+  serves = subst (λ (q : JoinHistory). ClientRepresents q old) (sym (pulled_none past)) serves;
   rest = refl;
-  under_way = subst (λ (l : List ℕ). IsUnderWay before outputs stock out k l) (sym (append-nil past.given)) under_way;
+  under_way = subst (λ (l : List ℕ). OutputIsUnderWay before outputs stock out k l) (sym (append-nil past.given)) under_way;
   some = omega arith;
   alive = λ positive. absurd (omega (arith, positive));
 }
 
 -- what a pull makes of a client, as the contract of `take_file` tells it
-pub record Pulls (was : Talker) (piece : List ℕ) (n : ℕ) (now : Talker) : Type 0 where
-  pub carried : (q : Past) → Serves q was → turns was.outcome was.progress ≡ false → Serves (after_pull piece q) now
+pub record Pulls (was : ClientState) (piece : List ℕ) (n : ℕ) (now : ClientState) : Type 0 where
+  pub carried : (q : JoinHistory) → ClientRepresents q was → turns was.outcome was.progress ≡ false → ClientRepresents (after_pull piece q) now
   pub ended : is_ended was.outcome ≡ true → (n ≡ 0) × (now ≡ was)
   pub same : is_ended was.outcome ≡ false → turns was.outcome was.progress ≡ false → now ≡ record was { join = now.join }
-  pub page : turns was.outcome was.progress ≡ true → (q : Past) → Serves q was → TakesPage was q piece now
+  pub page : turns was.outcome was.progress ≡ true → (q : JoinHistory) → ClientRepresents q was → TakesPage was q piece now
   pub size : length piece ≡ n
 
-pulls_alive : (was now : Talker) (piece : List ℕ) (n : ℕ) → Pulls was piece n now → n ≢ 0 → is_ended was.outcome ≡ false
+pulls_alive : (was now : ClientState) (piece : List ℕ) (n : ℕ) → Pulls was piece n now → n ≢ 0 → is_ended was.outcome ≡ false
 pulls_alive was now piece n p some = not_ended (is_ended was.outcome) n some (λ e. (p.ended e).0)
 
 some_piece : (had piece : List ℕ) (n : ℕ) → n ≢ 0 → length piece ≡ n → had ++ piece ≢ []
 some_piece had piece n some size e = some (omega (arith, sym size, ap (λ (l : List ℕ). length l) e, length-append had piece))
 
 -- one that turns no page
-stays_by : (was now : Talker) (q : Past) (piece : List ℕ) → (turns now.outcome now.progress ≡ true) → TakesPage was q piece now → Serves (after_pull piece q) now × (now ≡ record was { join = now.join })
+stays_by : (was now : ClientState) (q : JoinHistory) (piece : List ℕ) → (turns now.outcome now.progress ≡ true) → TakesPage was q piece now → ClientRepresents (after_pull piece q) now × (now ≡ record was { join = now.join })
 stays_by was now q piece still (Stays not_whole rest serves) = (serves, rest)
 stays_by was now q piece still (Turns whole denotes client serves) = absurd (let clash : true ≡ false = sym still ∙ has_turned was now client in cc)
 
-goes_by : (turning : Bool) (was now : Talker) (q : Past) (piece : List ℕ) (n : ℕ) → turns was.outcome was.progress ≡ turning → Pulls was piece n now → is_ended was.outcome ≡ false → (turns was.outcome was.progress ≡ true → turns now.outcome now.progress ≡ true)
-    → Serves q was → Serves (after_pull piece q) now × (now ≡ record was { join = now.join })
+goes_by : (turning : Bool) (was now : ClientState) (q : JoinHistory) (piece : List ℕ) (n : ℕ) → turns was.outcome was.progress ≡ turning → Pulls was piece n now → is_ended was.outcome ≡ false → (turns was.outcome was.progress ≡ true → turns now.outcome now.progress ≡ true)
+    → ClientRepresents q was → ClientRepresents (after_pull piece q) now × (now ≡ record was { join = now.join })
 goes_by true was now q piece n e p alive still serves = stays_by was now q piece (still e) (p.page e q serves)
 goes_by false was now q piece n e p alive still serves = (p.carried q serves e, p.same alive e)
 
-was_file : (old was : Talker) (k file : ℕ) → file ≡ was.notes.file → was ≡ record old { join = was.join } → (is_ended old.outcome ≡ false → old.notes.file ≡ k) → is_ended was.outcome ≡ false → file ≡ k
-was_file old was k file e rest number alive = e ∙ ap (λ (v : Talker). v.notes.file) rest ∙ number (sym (ap (λ (v : Talker). is_ended v.outcome) rest) ∙ alive)
+was_file : (old was : ClientState) (k file : ℕ) → file ≡ was.notes.file → was ≡ record old { join = was.join } → (is_ended old.outcome ≡ false → old.notes.file ≡ k) → is_ended was.outcome ≡ false → file ≡ k
+was_file old was k file e rest number alive = e ∙ ap (λ (v : ClientState). v.notes.file) rest ∙ number (sym (ap (λ (v : ClientState). is_ended v.outcome) rest) ∙ alive)
 
 -- what an output took of a piece under the number that the client tells
-took_as : (k file : ℕ) (before : Option Stock) (outputs : List Taken) (was now : Option Stock) (out new : Option (Option (List ℕ))) (had piece : List ℕ) → file ≡ k
+took_as : (k file : ℕ) (before : Option Stock) (outputs : List ReturnedOutput) (was now : Option Stock) (out new : Option (Option (List ℕ))) (had piece : List ℕ) → file ≡ k
     → (HasTaken before outputs was out file had → HasTaken before outputs now new file (had ++ piece)) → HasTaken before outputs was out k had → HasTaken before outputs now new k (had ++ piece)
 took_as k file before outputs was now out new had piece e took h =
     subst (λ (i : ℕ). HasTaken before outputs now new i (had ++ piece)) e (took (subst (λ (i : ℕ). HasTaken before outputs was out i had) (sym e) h))
 
-pub one_more : (past : Past) (old was now : Talker) (k i n file : ℕ) (before : Option Stock) (outputs : List Taken) (stock then_ : Option Stock) (out new : Option (Option (List ℕ))) (piece : List ℕ) → n ≢ 0 → Pulls was piece n now
+pub one_more : (past : JoinHistory) (old was now : ClientState) (k i n file : ℕ) (before : Option Stock) (outputs : List ReturnedOutput) (stock then_ : Option Stock) (out new : Option (Option (List ℕ))) (piece : List ℕ) → n ≢ 0 → Pulls was piece n now
     → (turns was.outcome was.progress ≡ true → turns now.outcome now.progress ≡ true) → file ≡ was.notes.file → (is_ended old.outcome ≡ false → old.notes.file ≡ k)
     → ((had : List ℕ) → HasTaken before outputs stock out file had → HasTaken before outputs then_ new file (had ++ piece))
     → IsPulled past old k before outputs i was stock out → IsPulled past old k before outputs (i + 1) now then_ new
@@ -121,61 +121,61 @@ one_more past old was now k i n file before outputs stock then_ out new piece so
     let goes = goes_by (turns was.outcome was.progress) was now (after_pull u.bytes past) piece n refl p alive still u.serves in
     record {
       bytes = u.bytes ++ piece;
-      serves = subst (λ (q : Past). Serves q now) (pulled_twice past u.bytes piece) goes.0;
+      serves = subst (λ (q : JoinHistory). ClientRepresents q now) (pulled_twice past u.bytes piece) goes.0;
       rest = join_only old was now u.rest goes.1;
-      under_way = subst (λ (l : List ℕ). IsUnderWay before outputs then_ new k l) (append_assoc past.given u.bytes piece) (record {
+      under_way = subst (λ (l : List ℕ). OutputIsUnderWay before outputs then_ new k l) (append_assoc past.given u.bytes piece) (record {
         taken = took_as k file before outputs stock then_ out new (past.given ++ u.bytes) piece (was_file old was k file file_is u.rest number alive) (took (past.given ++ u.bytes)) u.under_way.taken;
         asked = λ none. absurd (some_piece (past.given ++ u.bytes) piece n some p.size none);
       });
       some = omega (arith, length-append u.bytes piece, p.size, u.some, λ (e : n ≡ 0). some e);
-      alive = λ positive. sym (ap (λ (v : Talker). is_ended v.outcome) u.rest) ∙ alive;
+      alive = λ positive. sym (ap (λ (v : ClientState). is_ended v.outcome) u.rest) ∙ alive;
     }
 
 -- nothing more comes
-dry_page : (was now : Talker) (q : Past) (piece : List ℕ) → piece ≡ [] → (IsWhole q.given → ⊥) → TakesPage was q piece now → Serves (after_pull piece q) now × (now ≡ record was { join = now.join })
+dry_page : (was now : ClientState) (q : JoinHistory) (piece : List ℕ) → piece ≡ [] → (IsWhole q.given → ⊥) → TakesPage was q piece now → ClientRepresents (after_pull piece q) now × (now ≡ record was { join = now.join })
 dry_page was now q piece none not_whole (Stays part rest serves) = (serves, rest)
 dry_page was now q piece none not_whole (Turns whole denotes client serves) = absurd (not_whole (subst (λ (l : List ℕ). IsWhole l) (ap (λ (l : List ℕ). q.given ++ l) none ∙ append-nil q.given) whole))
 
-dry_by : (turning : Bool) (was now : Talker) (q : Past) (piece : List ℕ) (n : ℕ) → turns was.outcome was.progress ≡ turning → piece ≡ [] → Pulls was piece n now → Serves q was
-    → Serves (after_pull piece q) now × (now ≡ record was { join = now.join })
-dry_by true was now q piece n e none p serves = dry_page was now q piece none (turning_fits was.errand.task was.outcome was.progress q e serves.fits).1 (p.page e q serves)
+dry_by : (turning : Bool) (was now : ClientState) (q : JoinHistory) (piece : List ℕ) (n : ℕ) → turns was.outcome was.progress ≡ turning → piece ≡ [] → Pulls was piece n now → ClientRepresents q was
+    → ClientRepresents (after_pull piece q) now × (now ≡ record was { join = now.join })
+dry_by true was now q piece n e none p serves = dry_page was now q piece none (turning_fits was.target.task was.outcome was.progress q e serves.fits).1 (p.page e q serves)
 dry_by false was now q piece n e none p serves = (p.carried q serves e, unmoved (is_ended was.outcome) was now refl (λ x. (p.ended x).1) (λ x. p.same x e))
 
-pub at_end : (past : Past) (old was now : Talker) (k i n : ℕ) (before : Option Stock) (outputs : List Taken) (stock : Option Stock) (out : Option (Option (List ℕ))) (piece : List ℕ) → piece ≡ [] → Pulls was piece n now
-    → ((q : Past) → Serves q was → is_ended was.outcome ≡ false → IsJoined q → (p : Picture) → ShowsFrames q.ended p → Denotes q.given p)
-    → IsPulled past old k before outputs i was stock out → GoesOn past old k before outputs now stock out
+pub at_end : (past : JoinHistory) (old was now : ClientState) (k i n : ℕ) (before : Option Stock) (outputs : List ReturnedOutput) (stock : Option Stock) (out : Option (Option (List ℕ))) (piece : List ℕ) → piece ≡ [] → Pulls was piece n now
+    → ((q : JoinHistory) → ClientRepresents q was → is_ended was.outcome ≡ false → IsJoined q → (p : Picture) → ShowsFrames q.ended p → Denotes q.given p)
+    → IsPulled past old k before outputs i was stock out → PageGoesOn past old k before outputs now stock out
 at_end past old was now k i n before outputs stock out piece none p denotes u =
     let goes = dry_by (turns was.outcome was.progress) was now (after_pull u.bytes past) piece n refl none p u.serves in
     record {
       bytes = u.bytes;
-      serves = subst (λ (q : Past). Serves q now) (ap (λ (l : List ℕ). after_pull l (after_pull u.bytes past)) none ∙ pulled_none (after_pull u.bytes past)) goes.0;
+      serves = subst (λ (q : JoinHistory). ClientRepresents q now) (ap (λ (l : List ℕ). after_pull l (after_pull u.bytes past)) none ∙ pulled_none (after_pull u.bytes past)) goes.0;
       rest = join_only old was now u.rest goes.1;
       under_way = u.under_way;
-      denotes = λ e joined p shows. denotes (after_pull u.bytes past) u.serves (ap (λ (v : Talker). is_ended v.outcome) u.rest ∙ e) joined p shows;
+      denotes = λ e joined p shows. denotes (after_pull u.bytes past) u.serves (ap (λ (v : ClientState). is_ended v.outcome) u.rest ∙ e) joined p shows;
     }
 
 -- ---- the last bytes of a page
 
-turned_by : (past : Past) (old was now : Talker) (k n : ℕ) (before : Option Stock) (outputs : List Taken) (stock then_ : Option Stock) (out : Option (Option (List ℕ))) (bytes piece : List ℕ) → was ≡ record old { join = was.join }
+turned_by : (past : JoinHistory) (old was now : ClientState) (k n : ℕ) (before : Option Stock) (outputs : List ReturnedOutput) (stock then_ : Option Stock) (out : Option (Option (List ℕ))) (bytes piece : List ℕ) → was ≡ record old { join = was.join }
     → turns was.outcome was.progress ≡ true → turns now.outcome now.progress ≡ false → HasTaken before outputs stock out k ((past.given ++ bytes) ++ piece) → (past.given ++ bytes) ++ piece ≢ [] → GivesBack stock out then_
     → TakesPage was (after_pull bytes past) piece now → TurnsOn past old k before outputs now then_ None
 turned_by past old was now k n before outputs stock then_ out bytes piece rest turning turned taken some back (Stays not_whole same serves) =
-    absurd (let clash : true ≡ false = sym (ap (λ (v : Talker). turns v.outcome v.progress) same ∙ turning) ∙ turned in cc)
+    absurd (let clash : true ≡ false = sym (ap (λ (v : ClientState). turns v.outcome v.progress) same ∙ turning) ∙ turned in cc)
 turned_by past old was now k n before outputs stock then_ out bytes piece rest turning turned taken some back (Turns whole denotes client serves) =
     let text : (past.given ++ bytes) ++ piece ≡ past.given ++ (bytes ++ piece) = append_assoc past.given bytes piece in
     record {
       bytes = bytes ++ piece;
-      turning = sym (ap (λ (v : Talker). turns v.outcome v.progress) rest) ∙ turning;
+      turning = sym (ap (λ (v : ClientState). turns v.outcome v.progress) rest) ∙ turning;
       whole = subst (λ (l : List ℕ). IsWhole l) text whole;
       denotes = λ p shows. subst (λ (l : List ℕ). Denotes l p) text (denotes p shows);
       join = was.join;
-      client = subst (λ (v : Talker). TurnsPage v now) rest client;
+      client = subst (λ (v : ClientState). TurnsPage v now) rest client;
       serves = serves;
       taken = subst (λ (l : List ℕ). TakesBack before (outputs ++ output_of k l ∷ []) then_) text (given_back before stock then_ outputs k ((past.given ++ bytes) ++ piece) out some taken back);
       none = refl;
     }
 
-pub turned : (past : Past) (old was now : Talker) (k i n file : ℕ) (before : Option Stock) (outputs : List Taken) (first stock then_ : Option Stock) (under out : Option (Option (List ℕ))) (piece : List ℕ) → n ≢ 0 → Pulls was piece n now
+pub turned : (past : JoinHistory) (old was now : ClientState) (k i n file : ℕ) (before : Option Stock) (outputs : List ReturnedOutput) (first stock then_ : Option Stock) (under out : Option (Option (List ℕ))) (piece : List ℕ) → n ≢ 0 → Pulls was piece n now
     → turns was.outcome was.progress ≡ true → turns now.outcome now.progress ≡ false → file ≡ was.notes.file → (is_ended old.outcome ≡ false → old.notes.file ≡ k)
     → ((had : List ℕ) → HasTaken before outputs first under file had → HasTaken before outputs stock out file (had ++ piece)) → GivesBack stock out then_
     → IsPulled past old k before outputs i was first under → TurnsOn past old k before outputs now then_ None
@@ -192,28 +192,28 @@ cut_at given piece m = ap (λ (l : List ℕ). given ++ l) (sym (take-append-drop
 some_dropped : (piece : List ℕ) (m : ℕ) → m < length piece → drop m piece ≢ []
 some_dropped piece m less e = omega (arith, ap (λ (l : List ℕ). length l) e, length-drop m piece, less)
 
-short_by : (now : Talker) (q : Past) (piece : List ℕ) (m : ℕ) → ((q : Past) (join : Joining) (front more : List ℕ) → Stands q join → q.fault ≡ None → q.given ≡ front ++ more → more ≢ [] → IsWhole front → ⊥)
-    → q.fault ≡ None → m < length piece → Serves (after_pull piece q) now → IsWhole (q.given ++ take m piece) → ⊥
+short_by : (now : ClientState) (q : JoinHistory) (piece : List ℕ) (m : ℕ) → ((q : JoinHistory) (join : JoinState) (front more : List ℕ) → Represents q join → q.fault ≡ None → q.given ≡ front ++ more → more ≢ [] → IsWhole front → ⊥)
+    → q.fault ≡ None → m < length piece → ClientRepresents (after_pull piece q) now → IsWhole (q.given ++ take m piece) → ⊥
 short_by now q piece m law calm less serves = law (after_pull piece q) now.join (q.given ++ take m piece) (drop m piece) serves.stands calm (cut_at q.given piece m) (some_dropped piece m less)
 
-short_page : (was now : Talker) (q : Past) (piece : List ℕ) (m : ℕ) → ((q : Past) (join : Joining) (front more : List ℕ) → Stands q join → q.fault ≡ None → q.given ≡ front ++ more → more ≢ [] → IsWhole front → ⊥)
+short_page : (was now : ClientState) (q : JoinHistory) (piece : List ℕ) (m : ℕ) → ((q : JoinHistory) (join : JoinState) (front more : List ℕ) → Represents q join → q.fault ≡ None → q.given ≡ front ++ more → more ≢ [] → IsWhole front → ⊥)
     → ((front more : List ℕ) → IsWhole front → IsWhole (front ++ more) → more ≡ [])
     → q.fault ≡ None → m < length piece → TakesPage was q piece now → IsWhole (q.given ++ take m piece) → ⊥
 short_page was now q piece m law prefix calm less (Stays not_whole rest serves) w = short_by now q piece m law calm less serves w
 short_page was now q piece m law prefix calm less (Turns whole denotes client serves) w =
     some_dropped piece m less (prefix (q.given ++ take m piece) (drop m piece) w (subst (λ (l : List ℕ). IsWhole l) (cut_at q.given piece m) whole))
 
-short_at : (turning : Bool) (was now : Talker) (q : Past) (piece : List ℕ) (n m : ℕ) → turns was.outcome was.progress ≡ turning
-    → ((q : Past) (join : Joining) (front more : List ℕ) → Stands q join → q.fault ≡ None → q.given ≡ front ++ more → more ≢ [] → IsWhole front → ⊥)
+short_at : (turning : Bool) (was now : ClientState) (q : JoinHistory) (piece : List ℕ) (n m : ℕ) → turns was.outcome was.progress ≡ turning
+    → ((q : JoinHistory) (join : JoinState) (front more : List ℕ) → Represents q join → q.fault ≡ None → q.given ≡ front ++ more → more ≢ [] → IsWhole front → ⊥)
     → ((front more : List ℕ) → IsWhole front → IsWhole (front ++ more) → more ≡ [])
-    → q.fault ≡ None → m < length piece → Pulls was piece n now → Serves q was → IsWhole (q.given ++ take m piece) → ⊥
+    → q.fault ≡ None → m < length piece → Pulls was piece n now → ClientRepresents q was → IsWhole (q.given ++ take m piece) → ⊥
 short_at true was now q piece n m e law prefix calm less p serves = short_page was now q piece m law prefix calm less (p.page e q serves)
 short_at false was now q piece n m e law prefix calm less p serves = short_by now q piece m law calm less (p.carried q serves e)
 
-pub stopped : (past : Past) (old was now : Talker) (k i n file : ℕ) (before : Option Stock) (outputs : List Taken) (stock then_ : Option Stock) (out new : Option (Option (List ℕ))) (piece : List ℕ) → n ≢ 0 → Pulls was piece n now
-    → ((q : Past) (join : Joining) (front more : List ℕ) → Stands q join → q.fault ≡ None → q.given ≡ front ++ more → more ≢ [] → IsWhole front → ⊥)
+pub stopped : (past : JoinHistory) (old was now : ClientState) (k i n file : ℕ) (before : Option Stock) (outputs : List ReturnedOutput) (stock then_ : Option Stock) (out new : Option (Option (List ℕ))) (piece : List ℕ) → n ≢ 0 → Pulls was piece n now
+    → ((q : JoinHistory) (join : JoinState) (front more : List ℕ) → Represents q join → q.fault ≡ None → q.given ≡ front ++ more → more ≢ [] → IsWhole front → ⊥)
     → ((front more : List ℕ) → IsWhole front → IsWhole (front ++ more) → more ≡ [])
-    → scans old.errand.task ≡ true → file ≡ was.notes.file → (is_ended old.outcome ≡ false → old.notes.file ≡ k)
+    → scans old.target.task ≡ true → file ≡ was.notes.file → (is_ended old.outcome ≡ false → old.notes.file ≡ k)
     → ((had : List ℕ) → HasTaken before outputs stock out file had → (m : ℕ) × (m < length piece) × HasTaken before outputs then_ new file (had ++ take m piece))
     → IsPulled past old k before outputs i was stock out → FallsShort k before outputs then_ new
 stopped past old was now k i n file before outputs stock then_ out new piece some p law prefix scanning file_is number took u =
@@ -221,15 +221,15 @@ stopped past old was now k i n file before outputs stock then_ out new piece som
     let number_is = was_file old was k file file_is u.rest number alive in
     let q = after_pull u.bytes past in
     let short = took (past.given ++ u.bytes) (subst (λ (j : ℕ). HasTaken before outputs stock out j (past.given ++ u.bytes)) (sym number_is) u.under_way.taken) in
-    let calm = calm was q (ap (λ (v : Talker). scans v.errand.task) u.rest ∙ scanning) alive u.serves in
+    let calm = calm was q (ap (λ (v : ClientState). scans v.target.task) u.rest ∙ scanning) alive u.serves in
     record {
       text = (past.given ++ u.bytes) ++ take short.0 piece;
       taken = subst (λ (j : ℕ). HasTaken before outputs then_ new j ((past.given ++ u.bytes) ++ take short.0 piece)) number_is short.2;
       not_whole = short_at (turns was.outcome was.progress) was now q piece n short.0 refl law prefix calm short.1 p u.serves;
     }
 
-pub never : (past : Past) (old now : Talker) (k i : ℕ) (before : Option Stock) (outputs : List Taken) (stock : Option Stock) (out : Option (Option (List ℕ))) → scans old.errand.task ≡ true → 2 ^ 40 ≤ i
-    → ((q : Past) (join : Joining) → Stands q join → q.fault ≡ None → length q.given < 2 ^ 40) → IsPulled past old k before outputs i now stock out → ⊥
+pub never : (past : JoinHistory) (old now : ClientState) (k i : ℕ) (before : Option Stock) (outputs : List ReturnedOutput) (stock : Option Stock) (out : Option (Option (List ℕ))) → scans old.target.task ≡ true → 2 ^ 40 ≤ i
+    → ((q : JoinHistory) (join : JoinState) → Represents q join → q.fault ≡ None → length q.given < 2 ^ 40) → IsPulled past old k before outputs i now stock out → ⊥
 never past old now k i before outputs stock out scanning many law u =
-    let no_fault : past.fault ≡ None = calm now (after_pull u.bytes past) (ap (λ (v : Talker). scans v.errand.task) u.rest ∙ scanning) (ap (λ (v : Talker). is_ended v.outcome) u.rest ∙ u.alive (omega (arith, many))) u.serves in
+    let no_fault : past.fault ≡ None = calm now (after_pull u.bytes past) (ap (λ (v : ClientState). scans v.target.task) u.rest ∙ scanning) (ap (λ (v : ClientState). is_ended v.outcome) u.rest ∙ u.alive (omega (arith, many))) u.serves in
     omega (arith, law (after_pull u.bytes past) now.join u.serves.stands no_fault, length-append past.given u.bytes, u.some, many)

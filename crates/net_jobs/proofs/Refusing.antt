@@ -10,16 +10,16 @@ use Rattle.sane_fixed.specs.declared.byte_order.ByteOrder.{ByteOrder}
 use Rattle.sane_fixed.specs.declared.params.Params.{Params}
 use Rattle.option_desc.specs.declared.descriptor.Descriptor.{Descriptor}
 use Rattle.option_desc.specs.declared.value.Value.{Value}
-use Rattle.option_desc.specs.Reads.{read}
+use Rattle.option_desc.specs.Reads.{read_value}
 use Rattle.device_api.specs.Options.{has_cap}
 use Rattle.md5_auth.specs.ChallengeReading.{answer_of}
 use Rattle.frame_join.specs.declared.join_stage.JoinFault.{JoinFault}
 use Rattle.frame_join.specs.declared.join_stage.JoinFault.TheVariants.{Shape, Long, Short, NoMem}
-use Rattle.frame_join.specs.FrameHistory.{Past, IsJoined, after_begin, after_pull}
+use Rattle.frame_join.specs.FrameHistory.{JoinHistory, IsJoined, after_begin, after_pull}
 use Rattle.wire_message.specs.declared.message.Reply.{Reply}
 use Rattle.wire_message.specs.declared.message.Reply.TheVariants as replies
 use Rattle.wire_message.specs.declared.message.WireValue.{WireValue}
-use Rattle.scan_job.specs.Shown.{with_value}
+use Rattle.scan_job.specs.KnownValues.{with_known_value}
 use Rattle.scan_job.specs.Outcomes.{IfEnded}
 use Rattle.scan_job.specs.declared.job.Job.{Job}
 use Rattle.scan_job.specs.declared.job.Task.{Task}
@@ -28,16 +28,16 @@ use Rattle.scan_job.specs.declared.report.Reports.{Reports}
 use Rattle.scan_job.specs.declared.outcome.Why.TheVariants as whys
 use Rattle.scan_job.specs.declared.outcome.Outcome.{Outcome}
 use Rattle.scan_job.specs.declared.outcome.Outcome.TheVariants.{Running, Done, Ended}
-use Rattle.client_rules.specs.WireValues.{given_like, value_in}
-use Rattle.client_rules.specs.declared.progress.Errand.{Errand}
-use Rattle.client_rules.specs.declared.progress.Progress.{Progress}
-use Rattle.client_rules.specs.declared.progress.Progress.TheVariants as stages
-use Rattle.client_rules.specs.declared.progress.Notes.{Notes}
-use Rattle.client_rules.specs.declared.progress.Next.{Next}
-use Rattle.client_rules.specs.declared.progress.Next.TheVariants.{Wait, Finish, Stop}
-use Rattle.client_rules.specs.Talking.{Turn, turn, answered, if_good, after_greeting, greeted, listed, challenged, admitted, opened_with, opened, allowed, few, wants_value, gets_at, gets, after_settings, named, puts, puts_at, puts_named, next_of, next_setting, described, after_put, given_to, of_kind, put_good, put_told, was_put, got, got_good, got_told, was_got, is_all, started_by, started_with, started, unjoined, begun_by, status_of, page_whole, frame_joined, frame_ended_by}
-use Rattle.client_rules.specs.Talks.{is_running, lists, shows, next_outcome, errand_of, next_notes, next_progress, shaped_by, shaped, heard_at, answer_to, after_reply, connected, turns, next_file}
-use Rattle.net_jobs.specs.Courses.{Event, Replied, Opened, Came, Finished, Gave, Turned, Course, Runs, Lives, begun, end_at}
+use Rattle.client_replies.specs.WireValues.{given_like, wire_value_in}
+use Rattle.client_replies.specs.declared.progress.JobTarget.{JobTarget}
+use Rattle.client_replies.specs.declared.progress.Progress.{Progress}
+use Rattle.client_replies.specs.declared.progress.Progress.TheVariants as stages
+use Rattle.client_replies.specs.declared.progress.Notes.{Notes}
+use Rattle.client_replies.specs.declared.progress.Next.{Next}
+use Rattle.client_replies.specs.declared.progress.Next.TheVariants.{Wait, Finish, Stop}
+use Rattle.client_replies.specs.ReplyTurns.{Turn, turn, stop_by_answer, if_good, after_greeting, after_init_reply, after_list_reply, after_challenge, after_admission, opened_with, after_open_reply, after_authorize_reply, element_number, wants_value, gets_at, gets, after_settings, option_number_of, puts, puts_at, puts_named, next_of, next_setting, after_describe_reply, after_put, given_to, of_kind, put_good, put_without_resource, was_put, after_get_value, got_good, got_without_resource, was_got, is_all, started_by, started_with, after_start_reply, stop_unjoined, begun_by, status_of, page_whole, frame_joined, frame_ended_by}
+use Rattle.client_replies.specs.ProtocolStates.{is_running, lists, shows, next_outcome, target_of, next_notes, next_progress, shaped_by, after_params_reply, heard_at, answer_to, after_reply, progress_connected, turns, next_file}
+use Rattle.net_jobs.specs.JobTraces.{TraceEvent, Replied, Opened, Came, Finished, Gave, Turned, JobTrace, EventsLead, EventLeads, initial_trace, frame_end_at}
 
 abbrev refuses : Status → Bool
 refuses statuses.Good = false
@@ -53,19 +53,19 @@ if_good_stops : (status : Status) (next : Next) → Refuses next → Refuses (if
 if_good_stops statuses.Good next r = r
 if_good_stops status next r = refl
 
-greets : (task : Task) (r : Reply) → Refuses (greeted task r)
+greets : (task : Task) (r : Reply) → Refuses (after_init_reply task r)
 greets task (replies.Init status version) = if_good_stops status (Wait (after_greeting task)) tt
 greets task r = refl
 
-lists_stop : (r : Reply) → Refuses (listed r)
+lists_stop : (r : Reply) → Refuses (after_list_reply r)
 lists_stop (replies.GetDevices status devices) = if_good_stops status (Finish devices) tt
 lists_stop r = refl
 
-challenges : (resource : List ℕ) (answer : Option (List ℕ)) → Refuses (challenged resource answer)
+challenges : (resource : List ℕ) (answer : Option (List ℕ)) → Refuses (after_challenge resource answer)
 challenges resource (Some answer) = tt
 challenges resource None = refl
 
-admits : (notes : Notes) (status : Status) (word : ℕ) → Refuses (admitted notes status word).next
+admits : (notes : Notes) (status : Status) (word : ℕ) → Refuses (after_admission notes status word).next
 admits notes statuses.Good word = tt
 admits notes status word = refl
 
@@ -73,11 +73,11 @@ opens_with : (password : List ℕ) (notes : Notes) (status : Status) (word : ℕ
 opens_with password notes status word [] = admits notes status word
 opens_with password notes status word (b ∷ bytes) = challenges (b ∷ bytes) (answer_of (b ∷ bytes) password)
 
-opens : (password : List ℕ) (notes : Notes) (r : Reply) → Refuses (opened password notes r).next
+opens : (password : List ℕ) (notes : Notes) (r : Reply) → Refuses (after_open_reply password notes r).next
 opens password notes (replies.Open status word resource) = opens_with password notes status word resource
 opens password notes r = refl
 
-allows : (r : Reply) → Refuses (allowed r)
+allows : (r : Reply) → Refuses (after_authorize_reply r)
 allows replies.Authorize = tt
 allows r = refl
 
@@ -91,7 +91,7 @@ gets_next known (Some n) = gets_one (slice_get known n) n
 
 settings_end : (task : Task) (known : List (Descriptor × Option Value)) → Refuses (after_settings task known)
 settings_end tasks.List known = tt
-settings_end tasks.Show known = gets_next known (few (position wants_value known))
+settings_end tasks.Show known = gets_next known (element_number (position wants_value known))
 settings_end tasks.SetOnly known = tt
 settings_end tasks.Scan known = tt
 settings_end (tasks.Batch count) known = tt
@@ -102,7 +102,7 @@ puts_one name n kind (Some value) = tt
 
 puts_one_at : (name text : List ℕ) (n : ℕ) (option : Option (Descriptor × Option Value)) → Refuses (puts_at name text n option)
 puts_one_at name text n None = refl
-puts_one_at name text n (Some option) = puts_one name n option.0.kind (read option.0 text)
+puts_one_at name text n (Some option) = puts_one name n option.0.kind (read_value option.0 text)
 
 puts_one_named : (name text : List ℕ) (known : List (Descriptor × Option Value)) (place : Option ℕ) → Refuses (puts_named name text known place)
 puts_one_named name text known None = refl
@@ -110,13 +110,13 @@ puts_one_named name text known (Some n) = puts_one_at name text n (slice_get kno
 
 goes_on_by : (task : Task) (notes : Notes) (left : List (List ℕ × List ℕ)) → Refuses (next_of task notes left).next
 goes_on_by task notes [] = settings_end task notes.known
-goes_on_by task notes (setting ∷ left) = puts_one_named setting.0 setting.1 notes.known (named setting.0 notes.known)
+goes_on_by task notes (setting ∷ left) = puts_one_named setting.0 setting.1 notes.known (option_number_of setting.0 notes.known)
 
 goes_on : (task : Task) (notes : Notes) → Refuses (next_setting task notes).next
 unfolding next_setting
 goes_on task notes = goes_on_by task notes notes.left
 
-describes : (task : Task) (notes : Notes) (r : Reply) → Refuses (described task notes r).next
+describes : (task : Task) (notes : Notes) (r : Reply) → Refuses (after_describe_reply task notes r).next
 describes task notes (replies.GetOptionDescriptors descriptors) = goes_on task _
 describes task notes r = refl
 
@@ -132,7 +132,7 @@ puts_good : (task : Task) (notes : Notes) (kind : Kind) (name : List ℕ) (value
 puts_good task notes kind name value statuses.Good info given found = puts_given task notes kind name value info (of_kind kind given (given_like value found))
 puts_good task notes kind name value status info given found = refl
 
-puts_told : (task : Task) (notes : Notes) (kind : Kind) (name : List ℕ) (value : Value) (status : Status) (info : Info) (given : Kind) (found : WireValue) (resource : List ℕ) → Refuses (put_told task notes kind name value status info given found resource).next
+puts_told : (task : Task) (notes : Notes) (kind : Kind) (name : List ℕ) (value : Value) (status : Status) (info : Info) (given : Kind) (found : WireValue) (resource : List ℕ) → Refuses (put_without_resource task notes kind name value status info given found resource).next
 puts_told task notes kind name value status info given found [] = puts_good task notes kind name value status info given found
 puts_told task notes kind name value status info given found (x ∷ bytes) = refl
 
@@ -140,15 +140,15 @@ puts_reply : (task : Task) (notes : Notes) (kind : Kind) (name : List ℕ) (valu
 puts_reply task notes kind name value (replies.ControlOption status info given found resource) = puts_told task notes kind name value status info given found resource
 puts_reply task notes kind name value r = refl
 
-gets_found : (notes : Notes) (n : ℕ) (found : Option Value) → Refuses (got notes n found).next
+gets_found : (notes : Notes) (n : ℕ) (found : Option Value) → Refuses (after_get_value notes n found).next
 gets_found notes n None = refl
-gets_found notes n (Some value) = gets_next (with_value n value notes.known) (few (position wants_value (with_value n value notes.known)))
+gets_found notes n (Some value) = gets_next (with_known_value n value notes.known) (element_number (position wants_value (with_known_value n value notes.known)))
 
 gets_good : (notes : Notes) (n : ℕ) (kind : Kind) (status : Status) (given : Kind) (found : WireValue) → Refuses (got_good notes n kind status given found).next
-gets_good notes n kind statuses.Good given found = gets_found notes n (of_kind kind given (value_in kind found))
+gets_good notes n kind statuses.Good given found = gets_found notes n (of_kind kind given (wire_value_in kind found))
 gets_good notes n kind status given found = refl
 
-gets_told : (notes : Notes) (n : ℕ) (kind : Kind) (status : Status) (given : Kind) (found : WireValue) (resource : List ℕ) → Refuses (got_told notes n kind status given found resource).next
+gets_told : (notes : Notes) (n : ℕ) (kind : Kind) (status : Status) (given : Kind) (found : WireValue) (resource : List ℕ) → Refuses (got_without_resource notes n kind status given found resource).next
 gets_told notes n kind status given found [] = gets_good notes n kind status given found
 gets_told notes n kind status given found (x ∷ bytes) = refl
 
@@ -156,7 +156,7 @@ gets_reply : (notes : Notes) (n : ℕ) (kind : Kind) (r : Reply) → Refuses (wa
 gets_reply notes n kind (replies.ControlOption status info given found resource) = gets_told notes n kind status given found resource
 gets_reply notes n kind r = refl
 
-no_docs : (all : Bool) → Refuses (if all then Finish [] else answered statuses.NoDocs)
+no_docs : (all : Bool) → Refuses (if all then Finish [] else stop_by_answer statuses.NoDocs)
 no_docs true = tt
 no_docs false = refl
 
@@ -169,11 +169,11 @@ starts_with : (all : Bool) (status : Status) (port : ℕ) (order : ByteOrder) (r
 starts_with all status port order [] = starts_by all status port order
 starts_with all status port order (x ∷ bytes) = refl
 
-starts : (task : Task) (first : Bool) (file : ℕ) (r : Reply) → Refuses (started task first file r)
+starts : (task : Task) (first : Bool) (file : ℕ) (r : Reply) → Refuses (after_start_reply task first file r)
 starts task first file (replies.Start status port order resource) = starts_with (is_all task first file) status port order resource
 starts task first file r = refl
 
-unjoined_stops : (fault : JoinFault) → Refuses (unjoined fault)
+unjoined_stops : (fault : JoinFault) → Refuses (stop_unjoined fault)
 unjoined_stops Shape = refl
 unjoined_stops Long = refl
 unjoined_stops Short = refl
@@ -183,28 +183,28 @@ begins : (fault : Option JoinFault) (port : ℕ) → Refuses (begun_by fault por
 begins None port = tt
 begins (Some fault) port = unjoined_stops fault
 
-shapes_by : (status : Status) (port : ℕ) (order : ByteOrder) (params : Params) (past : Past) → Refuses (shaped_by status port order params past).next
+shapes_by : (status : Status) (port : ℕ) (order : ByteOrder) (params : Params) (past : JoinHistory) → Refuses (shaped_by status port order params past).next
 shapes_by statuses.Good port order params past = begins (after_begin params order false past).fault port
 shapes_by status port order params past = refl
 
-shapes : (port : ℕ) (order : ByteOrder) (past : Past) (r : Reply) → Refuses (shaped port order past r).next
+shapes : (port : ℕ) (order : ByteOrder) (past : JoinHistory) (r : Reply) → Refuses (after_params_reply port order past r).next
 shapes port order past (replies.GetParameters status params) = shapes_by status port order params past
 shapes port order past r = refl
 
-reply_refuses : (progress : Progress) (errand : Errand) (notes : Notes) (past : Past) (r : Reply) → Refuses (heard_at progress errand notes past r).turn.next
-reply_refuses stages.Greeting errand notes past r = greets errand.task r
-reply_refuses stages.Listing errand notes past r = lists_stop r
-reply_refuses stages.Opening errand notes past r = opens errand.password notes r
-reply_refuses (stages.Allowing resource answer) errand notes past r = allows r
-reply_refuses stages.Reopening errand notes past r = opens errand.password notes r
-reply_refuses stages.Describing errand notes past r = describes errand.task notes r
-reply_refuses (stages.Putting n kind name value) errand notes past r = puts_reply errand.task notes kind name value r
-reply_refuses (stages.Getting n kind size) errand notes past r = gets_reply notes n kind r
-reply_refuses (stages.Starting first) errand notes past r = starts errand.task first notes.file r
-reply_refuses (stages.Shaping port order) errand notes past r = shapes port order past r
-reply_refuses (stages.Imaging port opened) errand notes past r = refl
-reply_refuses stages.Turning errand notes past r = refl
-reply_refuses stages.Over errand notes past r = refl
+reply_refuses : (progress : Progress) (target : JobTarget) (notes : Notes) (past : JoinHistory) (r : Reply) → Refuses (heard_at progress target notes past r).turn.next
+reply_refuses stages.Greeting target notes past r = greets target.task r
+reply_refuses stages.Listing target notes past r = lists_stop r
+reply_refuses stages.Opening target notes past r = opens target.password notes r
+reply_refuses (stages.Allowing resource answer) target notes past r = allows r
+reply_refuses stages.Reopening target notes past r = opens target.password notes r
+reply_refuses stages.Describing target notes past r = describes target.task notes r
+reply_refuses (stages.Putting n kind name value) target notes past r = puts_reply target.task notes kind name value r
+reply_refuses (stages.Getting n kind size) target notes past r = gets_reply notes n kind r
+reply_refuses (stages.Starting first) target notes past r = starts target.task first notes.file r
+reply_refuses (stages.Shaping port order) target notes past r = shapes port order past r
+reply_refuses (stages.Imaging port after_open_reply) target notes past r = refl
+reply_refuses stages.Turning target notes past r = refl
+reply_refuses stages.Over target notes past r = refl
 
 -- ---- a frame's end
 
@@ -221,7 +221,7 @@ joined_refuses task file (Ok true) = page_refuses task file
 joined_refuses task file (Ok false) = tt
 joined_refuses task file (Err fault) = unjoined_stops fault
 
-frame_refuses : (task : Task) (file : ℕ) (past : Past) (status : Option Status) → Refuses (frame_ended_by task file past status).next
+frame_refuses : (task : Task) (file : ℕ) (past : JoinHistory) (status : Option Status) → Refuses (frame_ended_by task file past status).next
 frame_refuses task file past None = refl
 frame_refuses task file past (Some statuses.Good) = refl
 frame_refuses task file past (Some statuses.Eof) = joined_refuses task file _
@@ -239,19 +239,19 @@ outcome_names task notes (Wait progress) r = tt
 outcome_names task notes (Finish devices) r = tt
 outcome_names task notes (Stop status why) r = r
 
-names_on : (errand : Errand) (was now : Course) (event : Event) → Names was.talk.outcome → Lives errand was event now → Names now.talk.outcome
-names_on errand was now (Replied r) n l =
-    subst (λ (x : Course). Names x.talk.outcome) (sym l.5) (outcome_names errand.task (answer_to errand was.talk r).turn.notes (answer_to errand was.talk r).turn.next (reply_refuses was.talk.progress errand was.talk.notes was.talk.past r))
-names_on errand was now Opened n l = subst (λ (x : Course). Names x.talk.outcome) (sym l.1) n
-names_on errand was now (Came bytes) n l = subst (λ (x : Course). Names x.talk.outcome) (sym l.3) n
-names_on errand was now (Finished status) n l =
-    subst (λ (x : Course). Names x.talk.outcome) (sym l.7) (outcome_names errand.task was.talk.notes (end_at errand was.talk status).next (frame_refuses errand.task was.talk.notes.file was.talk.past (status_of status)))
-names_on errand was now (Gave bytes) n l = subst (λ (x : Course). Names x.talk.outcome) (sym l) n
-names_on errand was now (Turned bytes) n l = subst (λ (x : Course). Names x.talk.outcome) (sym l.4) n
+names_on : (target : JobTarget) (was now : JobTrace) (event : TraceEvent) → Names was.protocol.outcome → EventLeads target was event now → Names now.protocol.outcome
+names_on target was now (Replied r) n l =
+    subst (λ (x : JobTrace). Names x.protocol.outcome) (sym l.5) (outcome_names target.task (answer_to target was.protocol r).turn.notes (answer_to target was.protocol r).turn.next (reply_refuses was.protocol.progress target was.protocol.notes was.protocol.history r))
+names_on target was now Opened n l = subst (λ (x : JobTrace). Names x.protocol.outcome) (sym l.1) n
+names_on target was now (Came bytes) n l = subst (λ (x : JobTrace). Names x.protocol.outcome) (sym l.3) n
+names_on target was now (Finished status) n l =
+    subst (λ (x : JobTrace). Names x.protocol.outcome) (sym l.7) (outcome_names target.task was.protocol.notes (frame_end_at target was.protocol status).next (frame_refuses target.task was.protocol.notes.file was.protocol.history (status_of status)))
+names_on target was now (Gave bytes) n l = subst (λ (x : JobTrace). Names x.protocol.outcome) (sym l) n
+names_on target was now (Turned bytes) n l = subst (λ (x : JobTrace). Names x.protocol.outcome) (sym l.4) n
 
-names_by : (errand : Errand) (first : Course) (events : List Event) (course : Course) → Names first.talk.outcome → Runs errand first events course → Names course.talk.outcome
-names_by errand first [] course n r = subst (λ (x : Course). Names x.talk.outcome) (sym r) n
-names_by errand first (event ∷ before) course n r = names_on errand r.0 course event (names_by errand first before r.0 n r.1) r.2
+names_by : (target : JobTarget) (first : JobTrace) (events : List TraceEvent) (trace : JobTrace) → Names first.protocol.outcome → EventsLead target first events trace → Names trace.protocol.outcome
+names_by target first [] trace n r = subst (λ (x : JobTrace). Names x.protocol.outcome) (sym r) n
+names_by target first (event ∷ before) trace n r = names_on target r.0 trace event (names_by target first before r.0 n r.1) r.2
 
 not_good : (status : Status) → refuses status ≡ true → status ≢ statuses.Good
 not_good statuses.Good r e = absurd (let clash : false ≡ true = r in cc)
@@ -263,5 +263,5 @@ named_ends (Done reports) n = tt
 named_ends (Ended status why) n = not_good status n
 
 -- whatever the daemon says, a job that has ended otherwise has another status than GOOD
-pub course_refuses : (job : Job) (events : List Event) (course : Course) → Runs (errand_of job) (begun job) events course → IfEnded course.talk.outcome (λ status why. status ≢ statuses.Good)
-course_refuses job events course r = named_ends course.talk.outcome (names_by (errand_of job) (begun job) events course tt r)
+pub course_refuses : (job : Job) (events : List TraceEvent) (trace : JobTrace) → EventsLead (target_of job) (initial_trace job) events trace → IfEnded trace.protocol.outcome (λ status why. status ≢ statuses.Good)
+course_refuses job events trace r = named_ends trace.protocol.outcome (names_by (target_of job) (initial_trace job) events trace tt r)

@@ -2,10 +2,10 @@
 use Rattle.std.proofs.Common.{◌≡◌, ◌≢◌, ◌∙◌, ℕ, suc, ◌+◌, ◌<◌, Option, Some, None, List, [], ◌∷◌, ◌++◌, take, length, refl, sym, ap, subst, arith, append_assoc}
 use Rattle.std.specs.Io.KnownBytes.{Appends}
 use Rattle.std.proofs.lemmas.List.{append-nil}
-use Rattle.scan_job.specs.Shelves.{Stock, Taken, Opens, IsTold, Shelves}
+use Rattle.scan_job.specs.Shelves.{Stock, ReturnedOutput, OpensOutput, IsNewOutput, Shelves}
 use Rattle.netpbm.specs.Pnm.{IsWhole}
-use Rattle.frame_join.specs.FrameHistory.{Past}
-use Rattle.net_jobs.specs.Outputs.{TakesBack, HasTaken, AreLeft, GivesBack, output_of, outputs_from}
+use Rattle.frame_join.specs.FrameHistory.{JoinHistory}
+use Rattle.net_jobs.specs.Outputs.{TakesBack, HasTaken, AreLeft, GivesBack, output_of, page_outputs_from}
 
 -- an output that was had now
 told : (contents after : Option (List ℕ)) (bytes : List ℕ) → contents ≡ Some [] → Appends contents after bytes → after ≡ Some bytes
@@ -15,44 +15,44 @@ told contents (Some xs) bytes e a = ap (λ (l : List ℕ). Some l) (subst (λ (c
 had_nothing : (had bytes : List ℕ) → had ≡ [] → bytes ≡ had ++ bytes
 had_nothing had bytes e = ap (λ (l : List ℕ). l ++ bytes) (sym e)
 
-first_on : (b was : Stock) (new : Option Stock) (outputs : List Taken) (k : ℕ) (had bytes : List ℕ) (contents after : Option (List ℕ)) → (was.taken ≡ b.taken ++ outputs) × (had ≡ [])
-    → new ≡ Some (record was { number = k }) → IsTold new contents → Appends contents after bytes → HasTaken (Some b) outputs new (Some after) k (had ++ bytes)
+first_on : (b was : Stock) (new : Option Stock) (outputs : List ReturnedOutput) (k : ℕ) (had bytes : List ℕ) (contents after : Option (List ℕ)) → (was.taken ≡ b.taken ++ outputs) × (had ≡ [])
+    → new ≡ Some (record was { number = k }) → IsNewOutput new contents → Appends contents after bytes → HasTaken (Some b) outputs new (Some after) k (had ++ bytes)
 first_on b was new outputs k had bytes contents after h e is_told a =
     subst (λ (o : Option Stock). HasTaken (Some b) outputs o (Some after) k (had ++ bytes)) (sym e)
-    (h.0, (refl, told contents after bytes (subst (λ (o : Option Stock). IsTold o contents) e is_told) a ∙ ap (λ (l : List ℕ). Some l) (had_nothing had bytes h.1)))
+    (h.0, (refl, told contents after bytes (subst (λ (o : Option Stock). IsNewOutput o contents) e is_told) a ∙ ap (λ (l : List ℕ). Some l) (had_nothing had bytes h.1)))
 
-pub first_taken : (before old new : Option Stock) (outputs : List Taken) (k : ℕ) (had bytes : List ℕ) (contents after : Option (List ℕ)) (out : Option (Option (List ℕ))) → out ≡ None
-    → Opens old k new → IsTold new contents → Appends contents after bytes → HasTaken before outputs old out k had → HasTaken before outputs new (Some after) k (had ++ bytes)
+pub first_taken : (before old new : Option Stock) (outputs : List ReturnedOutput) (k : ℕ) (had bytes : List ℕ) (contents after : Option (List ℕ)) (out : Option (Option (List ℕ))) → out ≡ None
+    → OpensOutput old k new → IsNewOutput new contents → Appends contents after bytes → HasTaken before outputs old out k had → HasTaken before outputs new (Some after) k (had ++ bytes)
 first_taken None old new outputs k had bytes contents after out none opens is_told a h = tt
 first_taken (Some b) None new outputs k had bytes contents after out none opens is_told a h = absurd h
 first_taken (Some b) (Some was) new outputs k had bytes contents after out none opens is_told a h =
     first_on b was new outputs k had bytes contents after (subst (λ (o : Option (Option (List ℕ))). HasTaken (Some b) outputs (Some was) o k had) none h) opens is_told a
 
 -- none could be had
-none_on : (b was : Stock) (new : Option Stock) (outputs : List Taken) (k : ℕ) (had : List ℕ) → (was.taken ≡ b.taken ++ outputs) × (had ≡ []) → new ≡ Some (record was { number = k }) → HasTaken (Some b) outputs new None k (had ++ [])
+none_on : (b was : Stock) (new : Option Stock) (outputs : List ReturnedOutput) (k : ℕ) (had : List ℕ) → (was.taken ≡ b.taken ++ outputs) × (had ≡ []) → new ≡ Some (record was { number = k }) → HasTaken (Some b) outputs new None k (had ++ [])
 none_on b was new outputs k had h e = subst (λ (o : Option Stock). HasTaken (Some b) outputs o None k (had ++ [])) (sym e) (h.0, append-nil had ∙ h.1)
 
-none_taken : (before old new : Option Stock) (outputs : List Taken) (k : ℕ) (had : List ℕ) → Opens old k new → HasTaken before outputs old None k had → HasTaken before outputs new None k (had ++ [])
+none_taken : (before old new : Option Stock) (outputs : List ReturnedOutput) (k : ℕ) (had : List ℕ) → OpensOutput old k new → HasTaken before outputs old None k had → HasTaken before outputs new None k (had ++ [])
 none_taken None old new outputs k had opens h = tt
 none_taken (Some b) None new outputs k had opens h = absurd h
 none_taken (Some b) (Some was) new outputs k had opens h = none_on b was new outputs k had h opens
 
-pub nothing_taken : (before old new : Option Stock) (outputs : List Taken) (k : ℕ) (had bytes : List ℕ) (out : Option (Option (List ℕ))) → out ≡ None → 0 < length bytes → Opens old k new → HasTaken before outputs old out k had
+pub nothing_taken : (before old new : Option Stock) (outputs : List ReturnedOutput) (k : ℕ) (had bytes : List ℕ) (out : Option (Option (List ℕ))) → out ≡ None → 0 < length bytes → OpensOutput old k new → HasTaken before outputs old out k had
     → (n : ℕ) × (n < length bytes) × HasTaken before outputs new out k (had ++ take n bytes)
 nothing_taken before old new outputs k had bytes out none some opens h =
     (0, some, subst (λ (o : Option (Option (List ℕ))). HasTaken before outputs new o k (had ++ [])) (sym none) (none_taken before old new outputs k had opens (subst (λ (o : Option (Option (List ℕ))). HasTaken before outputs old o k had) none h)))
 
 -- an output is taken back
-back_on : (b m : Stock) (new : Option Stock) (outputs : List Taken) (k : ℕ) (text : List ℕ) (contents : Option (List ℕ)) → (m.taken ≡ b.taken ++ outputs) × ((m.number ≡ k) × (contents ≡ Some text)) → Shelves (Some m) contents new
+back_on : (b m : Stock) (new : Option Stock) (outputs : List ReturnedOutput) (k : ℕ) (text : List ℕ) (contents : Option (List ℕ)) → (m.taken ≡ b.taken ++ outputs) × ((m.number ≡ k) × (contents ≡ Some text)) → Shelves (Some m) contents new
     → TakesBack (Some b) (outputs ++ output_of k text ∷ []) new
 back_on b m new outputs k text contents h e =
     subst (λ (o : Option Stock). TakesBack (Some b) (outputs ++ output_of k text ∷ []) o) (sym e)
-    (ap (λ (l : List Taken). l ++ record { number = m.number; text = contents } ∷ []) h.0
+    (ap (λ (l : List ReturnedOutput). l ++ record { number = m.number; text = contents } ∷ []) h.0
     ∙ append_assoc b.taken outputs (record { number = m.number; text = contents } ∷ [])
     ∙ ap (λ (n : ℕ). b.taken ++ (outputs ++ record { number = n; text = contents } ∷ [])) h.1.0
     ∙ ap (λ (t : Option (List ℕ)). b.taken ++ (outputs ++ record { number = k; text = t } ∷ [])) h.1.1)
 
-pub given_back : (before was new : Option Stock) (outputs : List Taken) (k : ℕ) (text : List ℕ) (out : Option (Option (List ℕ))) → text ≢ [] → HasTaken before outputs was out k text → GivesBack was out new
+pub given_back : (before was new : Option Stock) (outputs : List ReturnedOutput) (k : ℕ) (text : List ℕ) (out : Option (Option (List ℕ))) → text ≢ [] → HasTaken before outputs was out k text → GivesBack was out new
     → TakesBack before (outputs ++ output_of k text ∷ []) new
 given_back None was new outputs k text out some h e = tt
 given_back (Some b) None new outputs k text out some h e = absurd h
@@ -62,7 +62,7 @@ given_back (Some b) (Some m) new outputs k text (Some contents) some h e = back_
 -- ---- what was taken back in all
 
 -- no output is under way
-pub none_under_way : (before now : Option Stock) (outputs : List Taken) (k : ℕ) → TakesBack before outputs now → HasTaken before outputs now None k []
+pub none_under_way : (before now : Option Stock) (outputs : List ReturnedOutput) (k : ℕ) → TakesBack before outputs now → HasTaken before outputs now None k []
 none_under_way None now outputs k t = tt
 none_under_way (Some b) None outputs k t = absurd t
 none_under_way (Some b) (Some m) outputs k t = (t, refl)
@@ -74,24 +74,24 @@ nothing_back (Some b) = sym (append-nil b.taken)
 pub begins_with_none : (before : Option Stock) (k : ℕ) → HasTaken before [] before None k []
 begins_with_none before k = none_under_way before before [] k (nothing_back before)
 
-none_on_back : (b m : Stock) (new : Option Stock) (outputs : List Taken) → m.taken ≡ b.taken ++ outputs → new ≡ Some m → TakesBack (Some b) outputs new
+none_on_back : (b m : Stock) (new : Option Stock) (outputs : List ReturnedOutput) → m.taken ≡ b.taken ++ outputs → new ≡ Some m → TakesBack (Some b) outputs new
 none_on_back b m new outputs h e = subst (λ (o : Option Stock). TakesBack (Some b) outputs o) (sym e) h
 
-pub none_back : (before was new : Option Stock) (outputs : List Taken) (k : ℕ) (bytes : List ℕ) (out : Option (Option (List ℕ))) → out ≡ None → HasTaken before outputs was out k bytes → GivesBack was out new → TakesBack before outputs new
+pub none_back : (before was new : Option Stock) (outputs : List ReturnedOutput) (k : ℕ) (bytes : List ℕ) (out : Option (Option (List ℕ))) → out ≡ None → HasTaken before outputs was out k bytes → GivesBack was out new → TakesBack before outputs new
 none_back None was new outputs k bytes out none h e = tt
 none_back (Some b) None new outputs k bytes out none h e = absurd h
 none_back (Some b) (Some m) new outputs k bytes out none h e = none_on_back b m new outputs h.0 (let P : Option (Option (List ℕ)) → Type 0 = λ o. GivesBack (Some m) o new in subst P none e)
 
 -- what was under way is given back as the job ends otherwise
-pub left_behind : (before was new : Option Stock) (outputs : List Taken) (k : ℕ) (text : List ℕ) (out : Option (Option (List ℕ))) → HasTaken before outputs was out k text → GivesBack was out new → (IsWhole text → ⊥)
-    → (left : List Taken) × AreLeft k left × TakesBack before (outputs ++ left) new
+pub left_behind : (before was new : Option Stock) (outputs : List ReturnedOutput) (k : ℕ) (text : List ℕ) (out : Option (Option (List ℕ))) → HasTaken before outputs was out k text → GivesBack was out new → (IsWhole text → ⊥)
+    → (left : List ReturnedOutput) × AreLeft k left × TakesBack before (outputs ++ left) new
 left_behind None was new outputs k text out h e short = ([], tt, tt)
 left_behind (Some b) None new outputs k text out h e short = absurd h
-left_behind (Some b) (Some m) new outputs k text None h e short = ([], tt, subst (λ (l : List Taken). TakesBack (Some b) l new) (sym (append-nil outputs)) (none_on_back b m new outputs h.0 e))
+left_behind (Some b) (Some m) new outputs k text None h e short = ([], tt, subst (λ (l : List ReturnedOutput). TakesBack (Some b) l new) (sym (append-nil outputs)) (none_on_back b m new outputs h.0 e))
 left_behind (Some b) (Some m) new outputs k text (Some contents) h e short = (output_of k text ∷ [], (text, refl, short), back_on b m new outputs k text contents h e)
 
 -- one page more
-pub outputs_more : (k : ℕ) (pages : List Past) (page : Past) → outputs_from k (pages ++ page ∷ []) ≡ outputs_from k pages ++ output_of (length pages + k) page.given ∷ []
+pub outputs_more : (k : ℕ) (pages : List JoinHistory) (page : JoinHistory) → page_outputs_from k (pages ++ page ∷ []) ≡ page_outputs_from k pages ++ output_of (length pages + k) page.given ∷ []
 outputs_more k [] page = ap (λ (i : ℕ). output_of i page.given ∷ []) (omega arith)
 outputs_more k (p ∷ pages) page =
-    ap (λ (l : List Taken). output_of k p.given ∷ l) (outputs_more (suc k) pages page ∙ ap (λ (i : ℕ). outputs_from (suc k) pages ++ output_of i page.given ∷ []) (omega arith))
+    ap (λ (l : List ReturnedOutput). output_of k p.given ∷ l) (outputs_more (suc k) pages page ∙ ap (λ (i : ℕ). page_outputs_from (suc k) pages ++ output_of i page.given ∷ []) (omega arith))

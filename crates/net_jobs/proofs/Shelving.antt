@@ -9,90 +9,90 @@ use Rattle.sane_fixed.specs.declared.status.Status.TheVariants as statuses
 use Rattle.netpbm.specs.Picture.{Picture}
 use Rattle.netpbm.specs.Pnm.{Denotes, IsWhole}
 use Rattle.page_picture.specs.Shows.{ShowsFrames}
-use Rattle.frame_join.specs.FrameHistory.{Past, IsJoined, no_past, after_pull}
-use Rattle.frame_join.specs.Joining.{Joining, Stands}
+use Rattle.frame_join.specs.FrameHistory.{JoinHistory, IsJoined, empty_history, after_pull}
+use Rattle.frame_join.specs.JoinStates.{JoinState, Represents}
 use Rattle.scan_job.specs.JobSize.{HasCount}
-use Rattle.scan_job.specs.Shelves.{Stock, Taken}
+use Rattle.scan_job.specs.Shelves.{Stock, ReturnedOutput}
 use Rattle.scan_job.specs.declared.job.Job.{Job}
 use Rattle.scan_job.specs.declared.job.Task.{Task}
 use Rattle.scan_job.specs.declared.job.Task.TheVariants as tasks
 use Rattle.scan_job.specs.declared.outcome.Outcome.{Outcome}
 use Rattle.scan_job.specs.declared.outcome.Outcome.TheVariants.{Running, Done, Ended}
 use Rattle.scan_job.specs.declared.outcome.Why.TheVariants as whys
-use Rattle.client_rules.specs.declared.progress.Errand.{Errand}
-use Rattle.client_rules.specs.declared.progress.Link.TheVariants as links
-use Rattle.client_rules.specs.declared.progress.Progress.{Progress}
-use Rattle.client_rules.specs.declared.progress.Progress.TheVariants as stages
-use Rattle.client_rules.specs.Asking.{asked}
-use Rattle.client_rules.specs.Talks.{Talk, errand_of, is_running, is_receiving, is_ended, is_lost_by, scans, turns, FitsEnded}
-use Rattle.net_client.specs.Sending.{request_text}
-use Rattle.net_client.specs.Talker.{Talker, Serves, IsFresh, TurnsPage, talk_of, ended}
-use Rattle.net_jobs.specs.Courses.{Course, Lives, Turned, turned}
-use Rattle.net_jobs.specs.Going.{Linked, Follows, Falls, Given, nothing, Stage, Going, EndsBy, ByLoss, ByMemory, ByGarble, ByShape}
+use Rattle.client_replies.specs.declared.progress.JobTarget.{JobTarget}
+use Rattle.client_replies.specs.declared.progress.Link.TheVariants as links
+use Rattle.client_replies.specs.declared.progress.Progress.{Progress}
+use Rattle.client_replies.specs.declared.progress.Progress.TheVariants as stages
+use Rattle.client_replies.specs.Asking.{request_for}
+use Rattle.client_replies.specs.ProtocolStates.{ProtocolState, target_of, is_running, is_receiving, is_ended, is_lost_by, scans, turns, FitsEnded}
+use Rattle.net_client.specs.Sending.{optional_request_text}
+use Rattle.net_client.specs.ClientStates.{ClientState, ClientRepresents, IsNewClient, TurnsPage, protocol_of, after_client_end}
+use Rattle.net_jobs.specs.JobTraces.{JobTrace, EventLeads, Turned, protocol_of_next_page}
+use Rattle.net_jobs.specs.RunInvariants.{LinkMatchesTrace, ClientFollowsTrace, Falls, GivenFiles, no_files_given, RunInvariant, FullRunInvariant, EndsBy, ByLoss, ByMemory, ByGarble, ByShape}
 use Rattle.net_jobs.specs.Links.{Calls, Wrote, Failed}
-use Rattle.net_jobs.specs.Outputs.{TakesBack, HasTaken, IsUnderWay, outputs_from}
-use Rattle.net_jobs.specs.Paging.{IsFiling, GoesOn, TurnsOn, HasFiled}
+use Rattle.net_jobs.specs.Outputs.{TakesBack, HasTaken, OutputIsUnderWay, page_outputs_from}
+use Rattle.net_jobs.specs.Paging.{IsFiling, PageGoesOn, TurnsOn, HasFiled}
 use Rattle.net_jobs.specs.Batches.{IsPageFile}
-use Rattle.net_jobs.proofs.Coursing.{did_say}
-use Rattle.net_jobs.proofs.Staging.{following}
-use Rattle.net_jobs.proofs.Receiving.{behind_some, unjoined_ended}
-use Rattle.net_jobs.proofs.Going.{none_open, stage_wrote, stage_cut, going_begun}
-use Rattle.net_jobs.proofs.Counting.{Counts, counts, is_turning_at}
-use Rattle.net_jobs.proofs.Leaving.{NoneBefore, more_given, stage_gave_by, task_is, cut_out, cut_alive, running_ends}
+use Rattle.net_jobs.proofs.Tracing.{did_say}
+use Rattle.net_jobs.proofs.KeepingInvariant.{following}
+use Rattle.net_jobs.proofs.DataLoop.{behind_some, unjoined_ended}
+use Rattle.net_jobs.proofs.RunInvariants.{none_open, stage_wrote, stage_cut, going_begun}
+use Rattle.net_jobs.proofs.FileNumbers.{Counts, counts, is_turning_at}
+use Rattle.net_jobs.proofs.JobEnds.{NoneBefore, more_given, stage_gave_by, task_is, cut_out, cut_alive, running_ends}
 use Rattle.net_jobs.proofs.Pages.{turning_fits}
 use Rattle.net_jobs.proofs.Shelves.{begins_with_none, none_under_way, outputs_more}
 
 -- what a shelf holds of a job's files: the pages that were turned, each whole, and what was given of the one under way
-pub record OnShelf (whole : Bool) (job : Job) (before now : Option Stock) (out : Option (Option (List ℕ))) (given : Given) (c : Talker) (past : Past) : Type 0 where
-  pub under_way : IsUnderWay before (outputs_from 1 given.pages) now out (length given.pages + 1) given.bytes
+pub record OnShelf (whole : Bool) (job : Job) (before now : Option Stock) (out : Option (Option (List ℕ))) (given : GivenFiles) (c : ClientState) (past : JoinHistory) : Type 0 where
+  pub under_way : OutputIsUnderWay before (page_outputs_from 1 given.pages) now out (length given.pages + 1) given.bytes
   pub files : All IsPageFile given.pages
   pub none : scans job.task ≡ false → given.bytes ≡ []
   pub shown : whole ≡ true → scans job.task ≡ true → is_ended c.outcome ≡ false → IsJoined past → (p : Picture) → ShowsFrames past.ended p → Denotes given.bytes p
 
-pub record Laid {C R : Type 0} (remaining contents : C → Option (List ℕ)) (left_of : R → Option (List ℕ)) (job : Job) (first : C) (coming0 : Option (List (List ℕ))) (before : Option Stock) (failed whole : Bool) (control : C) (coming : Option (List (List ℕ))) (stream : Option R) (c : Talker) (now : Option Stock) (out : Option (Option (List ℕ))) : Type 0 where
-  pub given : Given
-  pub going : Going remaining contents left_of job first coming0 given failed control coming stream c
-  pub shelf : OnShelf whole job before now out given c going.stage.past
+pub record Laid {C R : Type 0} (remaining contents : C → Option (List ℕ)) (left_of : R → Option (List ℕ)) (job : Job) (first : C) (coming0 : Option (List (List ℕ))) (before : Option Stock) (failed whole : Bool) (control : C) (coming : Option (List (List ℕ))) (stream : Option R) (c : ClientState) (now : Option Stock) (out : Option (Option (List ℕ))) : Type 0 where
+  pub given : GivenFiles
+  pub going : FullRunInvariant remaining contents left_of job first coming0 given failed control coming stream c
+  pub shelf : OnShelf whole job before now out given c going.stage.history
 
-pub laid_first : {C R : Type 0} (remaining contents : C → Option (List ℕ)) (left_of : R → Option (List ℕ)) (job : Job) (control : C) (coming : Option (List (List ℕ))) (before : Option Stock) (out : Option (Option (List ℕ))) (c : Talker) → IsFresh job c → out ≡ None
+pub laid_first : {C R : Type 0} (remaining contents : C → Option (List ℕ)) (left_of : R → Option (List ℕ)) (job : Job) (control : C) (coming : Option (List (List ℕ))) (before : Option Stock) (out : Option (Option (List ℕ))) (c : ClientState) → IsNewClient job c → out ≡ None
     → Laid remaining contents left_of job control coming before false false control coming None c before out
 laid_first remaining contents left_of job control coming before out c f none =
     let g = going_begun remaining contents left_of job control coming c f in
     record {
-      given = nothing;
+      given = no_files_given;
       going = g.0;
       shelf = record {
         under_way = record { taken = subst (λ (o : Option (Option (List ℕ))). HasTaken before [] before o 1 []) (sym none) (begins_with_none before 1); asked = λ e. none };
         files = All-nil IsPageFile;
         none = λ other. refl;
-        shown = λ w scanning alive joined. absurd (let clash : Ok false ≡ Ok true = subst (λ (q : Past). IsJoined q) g.1 joined in cc);
+        shown = λ w scanning alive joined. absurd (let clash : Ok false ≡ Ok true = subst (λ (q : JoinHistory). IsJoined q) g.1 joined in cc);
       };
     }
 
 -- ---- the number of the file under way
 
-falls_ended : (talk : Talk) (rest : List ℕ) (outcome : Outcome) → EndsBy talk rest outcome → is_ended outcome ≡ true
-falls_ended talk rest outcome (ByLoss x) = ap is_ended x
-falls_ended talk rest outcome (ByMemory x) = ap is_ended x
-falls_ended talk rest outcome (ByGarble procedure awaits no_start x) = ap is_ended x
-falls_ended talk rest outcome (ByShape task fault x) = ap is_ended x ∙ unjoined_ended task talk.notes fault
+falls_ended : (protocol : ProtocolState) (rest : List ℕ) (outcome : Outcome) → EndsBy protocol rest outcome → is_ended outcome ≡ true
+falls_ended protocol rest outcome (ByLoss x) = ap is_ended x
+falls_ended protocol rest outcome (ByMemory x) = ap is_ended x
+falls_ended protocol rest outcome (ByGarble procedure awaits no_start x) = ap is_ended x
+falls_ended protocol rest outcome (ByShape task fault x) = ap is_ended x ∙ unjoined_ended task protocol.notes fault
 
-number_by : {R : Type 0} (left_of : R → Option (List ℕ)) (coming0 coming : Option (List (List ℕ))) (task : Task) (course : Course) (rest : List ℕ) (stream : Option R) (c : Talker) (past : Past) → Counts task course → is_ended c.outcome ≡ false
-    → Follows left_of coming0 coming course rest stream c past ⊎ Falls coming0 coming course rest c → c.notes.file ≡ length course.pages + 1
-number_by left_of coming0 coming task course rest stream c past n alive (inl f) = ap (λ (t : Talk). t.notes.file) f.talk_is ∙ n.number
-number_by left_of coming0 coming task course rest stream c past n alive (inr f) = absurd (let clash : true ≡ false = sym (falls_ended course.talk rest c.outcome f.cause) ∙ alive in cc)
+number_by : {R : Type 0} (left_of : R → Option (List ℕ)) (coming0 coming : Option (List (List ℕ))) (task : Task) (trace : JobTrace) (rest : List ℕ) (stream : Option R) (c : ClientState) (past : JoinHistory) → Counts task trace → is_ended c.outcome ≡ false
+    → ClientFollowsTrace left_of coming0 coming trace rest stream c past ⊎ Falls coming0 coming trace rest c → c.notes.file ≡ length trace.pages + 1
+number_by left_of coming0 coming task trace rest stream c past n alive (inl f) = ap (λ (t : ProtocolState). t.notes.file) f.protocol_is ∙ n.number
+number_by left_of coming0 coming task trace rest stream c past n alive (inr f) = absurd (let clash : true ≡ false = sym (falls_ended trace.protocol rest c.outcome f.cause) ∙ alive in cc)
 
-pub number_at : {R : Type 0} (left_of : R → Option (List ℕ)) (job : Job) (read_ wrote left : List ℕ) (coming0 coming : Option (List (List ℕ))) (given : Given) (stream : Option R) (c : Talker) → HasCount job.task → Stage left_of job read_ wrote left coming0 coming given stream c
+pub number_at : {R : Type 0} (left_of : R → Option (List ℕ)) (job : Job) (read_ wrote left : List ℕ) (coming0 coming : Option (List (List ℕ))) (given : GivenFiles) (stream : Option R) (c : ClientState) → HasCount job.task → RunInvariant left_of job read_ wrote left coming0 coming given stream c
     → is_ended c.outcome ≡ false → c.notes.file ≡ length given.pages + 1
 number_at left_of job read_ wrote left coming0 coming given stream c h s alive =
-    number_by left_of coming0 coming job.task s.course s.rest stream c s.past (counts job s.did.events s.course h s.did.runs) alive s.stands ∙ ap (λ (l : List Past). length l + 1) s.pages_is
+    number_by left_of coming0 coming job.task s.trace s.rest stream c s.history (counts job s.did.events s.trace h s.did.runs) alive s.stands ∙ ap (λ (l : List JoinHistory). length l + 1) s.pages_is
 
 -- ---- a page is turned
 
-abbrev turned_course : Course → List ℕ → List ℕ → Course
-turned_course course bytes said = record { text = course.text; streams = course.streams; pages = course.pages ++ after_pull bytes course.talk.past ∷ []; sent = course.sent ++ said; talk = turned course.talk }
+abbrev turned_course : JobTrace → List ℕ → List ℕ → JobTrace
+turned_course trace bytes said = record { text = trace.text; streams = trace.streams; pages = trace.pages ++ after_pull bytes trace.protocol.history ∷ []; sent = trace.sent ++ said; protocol = protocol_of_next_page trace.protocol }
 
-abbrev pub turned_given : Given → Past → Given
+abbrev pub turned_given : GivenFiles → JoinHistory → GivenFiles
 turned_given given page = record { pages = given.pages ++ page ∷ []; bytes = [] }
 
 turning_shut : (outcome : Outcome) (progress : Progress) → turns outcome progress ≡ true → is_receiving outcome progress ≡ false
@@ -104,39 +104,39 @@ turning_running Running progress e = refl
 turning_running (Done reports) progress e = absurd (let clash : false ≡ true = e in cc)
 turning_running (Ended status why) progress e = absurd (let clash : false ≡ true = e in cc)
 
-linked_none : {R : Type 0} (left_of : R → Option (List ℕ)) (coming0 coming : Option (List (List ℕ))) (streams : List (List ℕ)) (c new : Talker) (past : Past) → Linked left_of coming0 coming streams None c past → Linked left_of coming0 coming streams None new no_past
+linked_none : {R : Type 0} (left_of : R → Option (List ℕ)) (coming0 coming : Option (List (List ℕ))) (streams : List (List ℕ)) (c new : ClientState) (past : JoinHistory) → LinkMatchesTrace left_of coming0 coming streams None c past → LinkMatchesTrace left_of coming0 coming streams None new empty_history
 linked_none left_of coming0 coming streams c new past l = record { wholes = l.wholes; begin = l.begin; brought = l.brought; empty = λ port e. refl }
 
-linked_turned : {R : Type 0} (left_of : R → Option (List ℕ)) (coming0 coming : Option (List (List ℕ))) (streams : List (List ℕ)) (stream : Option R) (c new : Talker) (past : Past) → stream ≡ None → Linked left_of coming0 coming streams stream c past
-    → Linked left_of coming0 coming streams stream new no_past
+linked_turned : {R : Type 0} (left_of : R → Option (List ℕ)) (coming0 coming : Option (List (List ℕ))) (streams : List (List ℕ)) (stream : Option R) (c new : ClientState) (past : JoinHistory) → stream ≡ None → LinkMatchesTrace left_of coming0 coming streams stream c past
+    → LinkMatchesTrace left_of coming0 coming streams stream new empty_history
 linked_turned {R} left_of coming0 coming streams stream c new past none l =
-    subst (λ (o : Option R). Linked left_of coming0 coming streams o new no_past) (sym none) (linked_none left_of coming0 coming streams c new past (subst (λ (o : Option R). Linked left_of coming0 coming streams o c past) none l))
+    subst (λ (o : Option R). LinkMatchesTrace left_of coming0 coming streams o new empty_history) (sym none) (linked_none left_of coming0 coming streams c new past (subst (λ (o : Option R). LinkMatchesTrace left_of coming0 coming streams o c past) none l))
 
-pub stage_turned : {R : Type 0} (left_of : R → Option (List ℕ)) (job : Job) (read_ wrote left : List ℕ) (coming0 coming : Option (List (List ℕ))) (given : Given) (stream : Option R) (c new : Talker) (join : Joining) (bytes said : List ℕ)
-    → turns c.outcome c.progress ≡ true → (s : Stage left_of job read_ wrote left coming0 coming given stream c) → IsWhole (s.past.given ++ bytes) → TurnsPage (record c { join = join }) new → Serves no_past new
-    → request_text (asked c.errand c.notes.word (stages.Starting true)) ≡ Some said
-    → (t : Stage left_of job read_ wrote (left ++ said) coming0 coming (turned_given given (after_pull bytes s.past)) stream new) × (t.past ≡ no_past)
+pub stage_turned : {R : Type 0} (left_of : R → Option (List ℕ)) (job : Job) (read_ wrote left : List ℕ) (coming0 coming : Option (List (List ℕ))) (given : GivenFiles) (stream : Option R) (c new : ClientState) (join : JoinState) (bytes said : List ℕ)
+    → turns c.outcome c.progress ≡ true → (s : RunInvariant left_of job read_ wrote left coming0 coming given stream c) → IsWhole (s.history.given ++ bytes) → TurnsPage (record c { join = join }) new → ClientRepresents empty_history new
+    → optional_request_text (request_for c.target c.notes.word (stages.Starting true)) ≡ Some said
+    → (t : RunInvariant left_of job read_ wrote (left ++ said) coming0 coming (turned_given given (after_pull bytes s.history)) stream new) × (t.history ≡ empty_history)
 stage_turned left_of job read_ wrote left coming0 coming given stream c new join bytes said turning s whole page serves says =
-    let f = following left_of coming0 coming s.course s.rest stream c s.past (turning_running c.outcome c.progress turning) s.stands in
-    let course : Course = turned_course s.course bytes said in
-    let asks : request_text (asked (errand_of job) s.course.talk.notes.word (stages.Starting true)) ≡ Some said
-    = sym (ap (λ (t : Talk). request_text (asked (errand_of job) t.notes.word (stages.Starting true))) f.talk_is) ∙ sym (ap (λ (e : Errand). request_text (asked e c.notes.word (stages.Starting true))) s.errand) ∙ says in
-    let turns_there : turns s.course.talk.outcome s.course.talk.progress ≡ true = sym (ap (λ (t : Talk). turns t.outcome t.progress) f.talk_is) ∙ turning in
-    let whole_there : IsWhole (s.course.talk.past.given ++ bytes) = subst (λ (t : Talk). IsWhole (t.past.given ++ bytes)) f.talk_is whole in
-    let lives : Lives (errand_of job) s.course (Turned bytes) course = (said, turns_there, whole_there, asks, refl) in (
+    let f = following left_of coming0 coming s.trace s.rest stream c s.history (turning_running c.outcome c.progress turning) s.stands in
+    let trace : JobTrace = turned_course s.trace bytes said in
+    let asks : optional_request_text (request_for (target_of job) s.trace.protocol.notes.word (stages.Starting true)) ≡ Some said
+    = sym (ap (λ (t : ProtocolState). optional_request_text (request_for (target_of job) t.notes.word (stages.Starting true))) f.protocol_is) ∙ sym (ap (λ (e : JobTarget). optional_request_text (request_for e c.notes.word (stages.Starting true))) s.target) ∙ says in
+    let turns_there : turns s.trace.protocol.outcome s.trace.protocol.progress ≡ true = sym (ap (λ (t : ProtocolState). turns t.outcome t.progress) f.protocol_is) ∙ turning in
+    let whole_there : IsWhole (s.trace.protocol.history.given ++ bytes) = subst (λ (t : ProtocolState). IsWhole (t.history.given ++ bytes)) f.protocol_is whole in
+    let lives : EventLeads (target_of job) s.trace (Turned bytes) trace = (said, turns_there, whole_there, asks, refl) in (
       record {
-        errand = ap (λ (v : Talker). v.errand) page.rest ∙ s.errand;
-        past = no_past;
+        target = ap (λ (v : ClientState). v.target) page.rest ∙ s.target;
+        history = empty_history;
         serves = serves;
         given_is = refl;
-        course = course;
-        pages_is = ap (λ (l : List Past). l ++ after_pull bytes s.course.talk.past ∷ []) s.pages_is ∙ ap (λ (t : Talk). given.pages ++ after_pull bytes t.past ∷ []) (sym f.talk_is);
+        trace = trace;
+        pages_is = ap (λ (l : List JoinHistory). l ++ after_pull bytes s.trace.protocol.history ∷ []) s.pages_is ∙ ap (λ (t : ProtocolState). given.pages ++ after_pull bytes t.history ∷ []) (sym f.protocol_is);
         rest = s.rest;
-        did = did_say job s.course course (Turned bytes) read_ wrote s.rest left said lives refl refl s.did;
+        did = did_say job s.trace trace (Turned bytes) read_ wrote s.rest left said lives refl refl s.did;
         stands = inl (record {
-          talk_is = ap (λ (v : Talker). talk_of v no_past) page.rest ∙ ap (λ (t : Talk). turned t) f.talk_is;
-          rest_is = ap (λ (v : Talker). v.input.rest) page.rest ∙ f.rest_is;
-          linked = linked_turned left_of coming0 coming s.course.streams stream c new s.past (none_open left_of coming0 coming s.course.streams stream c s.past (turning_shut c.outcome c.progress turning) f.linked) f.linked;
+          protocol_is = ap (λ (v : ClientState). protocol_of v empty_history) page.rest ∙ ap (λ (t : ProtocolState). protocol_of_next_page t) f.protocol_is;
+          rest_is = ap (λ (v : ClientState). v.input.rest) page.rest ∙ f.rest_is;
+          linked = linked_turned left_of coming0 coming s.trace.streams stream c new s.history (none_open left_of coming0 coming s.trace.streams stream c s.history (turning_shut c.outcome c.progress turning) f.linked) f.linked;
         });
       },
       refl,
@@ -144,76 +144,76 @@ stage_turned left_of job read_ wrote left coming0 coming given stream c new join
 
 -- ---- a turn's end: what the job gave of its files
 
-laid_on : {C R : Type 0} (remaining contents : C → Option (List ℕ)) (left_of : R → Option (List ℕ)) (job : Job) (first : C) (coming0 : Option (List (List ℕ))) (before : Option Stock) (failed : Bool) (control : C) (coming : Option (List (List ℕ))) (stream : Option R) (c now : Talker) (then_ : Option Stock) (out : Option (Option (List ℕ))) (given : Given)
-    → scans job.task ≡ true → All IsPageFile given.pages → (g : Going remaining contents left_of job first coming0 given failed control coming stream c) → (e : GoesOn g.stage.past c (length given.pages + 1) before (outputs_from 1 given.pages) now then_ out)
-    → (s : Stage left_of job g.read_ g.wrote g.left coming0 coming (more_given given e.bytes) stream (record c { join = now.join })) → s.past ≡ after_pull e.bytes g.stage.past
+laid_on : {C R : Type 0} (remaining contents : C → Option (List ℕ)) (left_of : R → Option (List ℕ)) (job : Job) (first : C) (coming0 : Option (List (List ℕ))) (before : Option Stock) (failed : Bool) (control : C) (coming : Option (List (List ℕ))) (stream : Option R) (c now : ClientState) (then_ : Option Stock) (out : Option (Option (List ℕ))) (given : GivenFiles)
+    → scans job.task ≡ true → All IsPageFile given.pages → (g : FullRunInvariant remaining contents left_of job first coming0 given failed control coming stream c) → (e : PageGoesOn g.stage.history c (length given.pages + 1) before (page_outputs_from 1 given.pages) now then_ out)
+    → (s : RunInvariant left_of job g.read_ g.wrote g.left coming0 coming (more_given given e.bytes) stream (record c { join = now.join })) → s.history ≡ after_pull e.bytes g.stage.history
     → Laid remaining contents left_of job first coming0 before failed true control coming stream now then_ out
 laid_on remaining contents left_of job first coming0 before failed control coming stream c now then_ out given scanning files g e s past_is =
-    subst (λ (v : Talker). Laid remaining contents left_of job first coming0 before failed true control coming stream v then_ out) (sym e.rest) (record {
+    subst (λ (v : ClientState). Laid remaining contents left_of job first coming0 before failed true control coming stream v then_ out) (sym e.rest) (record {
       given = more_given given e.bytes;
       going = record { read_ = g.read_; wrote = g.wrote; left = g.left; calls = g.calls; stage = s; left_is = g.left_is };
       shelf = record {
-        under_way = subst (λ (l : List ℕ). IsUnderWay before (outputs_from 1 given.pages) then_ out (length given.pages + 1) (l ++ e.bytes)) g.stage.given_is e.under_way;
+        under_way = subst (λ (l : List ℕ). OutputIsUnderWay before (page_outputs_from 1 given.pages) then_ out (length given.pages + 1) (l ++ e.bytes)) g.stage.given_is e.under_way;
         files = files;
         none = λ other. absurd (let clash : true ≡ false = sym scanning ∙ other in cc);
         shown = λ w scan alive joined p shows.
-            subst (λ (l : List ℕ). Denotes (l ++ e.bytes) p) g.stage.given_is (e.denotes alive (subst (λ (q : Past). IsJoined q) past_is joined) p (subst (λ (q : Past). ShowsFrames q.ended p) past_is shows));
+            subst (λ (l : List ℕ). Denotes (l ++ e.bytes) p) g.stage.given_is (e.denotes alive (subst (λ (q : JoinHistory). IsJoined q) past_is joined) p (subst (λ (q : JoinHistory). ShowsFrames q.ended p) past_is shows));
       };
     })
 
 -- the file of a page that is turned
-turned_file : (past : Past) (join : Joining) (bytes : List ℕ) → ((past : Past) (join : Joining) → Stands past join → IsJoined past → (p : Picture) × ShowsFrames past.ended p) → Stands past join → IsJoined past
+turned_file : (past : JoinHistory) (join : JoinState) (bytes : List ℕ) → ((past : JoinHistory) (join : JoinState) → Represents past join → IsJoined past → (p : Picture) × ShowsFrames past.ended p) → Represents past join → IsJoined past
     → ((p : Picture) → ShowsFrames past.ended p → Denotes (past.given ++ bytes) p) → IsPageFile (after_pull bytes past)
 turned_file past join bytes shows stands joined denotes = let p = shows past join stands joined in record { picture = p.0; shows = p.1; file = denotes p.0 p.1 }
 
-pub one_file : (page : Past) → IsPageFile page → All IsPageFile (page ∷ [])
+pub one_file : (page : JoinHistory) → IsPageFile page → All IsPageFile (page ∷ [])
 one_file page file = All-from_recursion IsPageFile (page ∷ []) (file, tt)
 
-pub laid_next : {C R : Type 0} (remaining contents : C → Option (List ℕ)) (left_of : R → Option (List ℕ)) (job : Job) (first : C) (coming0 : Option (List (List ℕ))) (before : Option Stock) (failed : Bool) (control : C) (coming : Option (List (List ℕ))) (stream : Option R) (c now : Talker) (then_ : Option Stock) (out : Option (Option (List ℕ))) (given : Given)
-    → ((past : Past) (join : Joining) → Stands past join → IsJoined past → (p : Picture) × ShowsFrames past.ended p)
-    → scans job.task ≡ true → All IsPageFile given.pages → (g : Going remaining contents left_of job first coming0 given failed control coming stream c) → (e : TurnsOn g.stage.past c (length given.pages + 1) before (outputs_from 1 given.pages) now then_ out)
+pub laid_next : {C R : Type 0} (remaining contents : C → Option (List ℕ)) (left_of : R → Option (List ℕ)) (job : Job) (first : C) (coming0 : Option (List (List ℕ))) (before : Option Stock) (failed : Bool) (control : C) (coming : Option (List (List ℕ))) (stream : Option R) (c now : ClientState) (then_ : Option Stock) (out : Option (Option (List ℕ))) (given : GivenFiles)
+    → ((past : JoinHistory) (join : JoinState) → Represents past join → IsJoined past → (p : Picture) × ShowsFrames past.ended p)
+    → scans job.task ≡ true → All IsPageFile given.pages → (g : FullRunInvariant remaining contents left_of job first coming0 given failed control coming stream c) → (e : TurnsOn g.stage.history c (length given.pages + 1) before (page_outputs_from 1 given.pages) now then_ out)
     → (d : Laid remaining contents left_of job first coming0 before failed true control coming stream now then_ out) × (d.given.bytes ≡ [])
 laid_next remaining contents left_of job first coming0 before failed control coming stream c now then_ out given shows scanning files g e =
     let s = g.stage in
-    let says = behind_some c.out now.out (request_text (asked c.errand c.notes.word (stages.Starting true))) e.client.text in
+    let says = behind_some c.out now.out (optional_request_text (request_for c.target c.notes.word (stages.Starting true))) e.client.text in
     let t = stage_turned left_of job g.read_ g.wrote g.left coming0 coming given stream c now e.join e.bytes says.0 e.turning s e.whole e.client e.serves says.1 in
-    let page : Past = after_pull e.bytes s.past in
-    let fits = turning_fits c.errand.task c.outcome c.progress s.past e.turning s.serves.fits in
-    let file : IsPageFile page = turned_file s.past c.join e.bytes shows s.serves.stands fits.0 e.denotes in (
+    let page : JoinHistory = after_pull e.bytes s.history in
+    let fits = turning_fits c.target.task c.outcome c.progress s.history e.turning s.serves.fits in
+    let file : IsPageFile page = turned_file s.history c.join e.bytes shows s.serves.stands fits.0 e.denotes in (
       record {
         given = turned_given given page;
         going = record { read_ = g.read_; wrote = g.wrote; left = g.left ++ says.0; calls = g.calls; stage = t.0; left_is = λ x. ap (λ (l : List ℕ). l ++ says.0) (g.left_is x) ∙ sym says.2 };
         shelf = record {
           under_way = record {
-            taken = subst (λ (o : Option (Option (List ℕ))). HasTaken before (outputs_from 1 (given.pages ++ page ∷ [])) then_ o (length (given.pages ++ page ∷ []) + 1) []) (sym e.none)
-                (none_under_way before then_ (outputs_from 1 (given.pages ++ page ∷ [])) (length (given.pages ++ page ∷ []) + 1)
-                (subst (λ (l : List Taken). TakesBack before l then_) (sym (outputs_more 1 given.pages page)) e.taken));
+            taken = subst (λ (o : Option (Option (List ℕ))). HasTaken before (page_outputs_from 1 (given.pages ++ page ∷ [])) then_ o (length (given.pages ++ page ∷ []) + 1) []) (sym e.none)
+                (none_under_way before then_ (page_outputs_from 1 (given.pages ++ page ∷ [])) (length (given.pages ++ page ∷ []) + 1)
+                (subst (λ (l : List ReturnedOutput). TakesBack before l then_) (sym (outputs_more 1 given.pages page)) e.taken));
             asked = λ x. e.none;
           };
           files = All-append IsPageFile given.pages (page ∷ []) files (one_file page file);
           none = λ other. refl;
-          shown = λ w scan alive joined. absurd (let clash : Ok false ≡ Ok true = subst (λ (q : Past). IsJoined q) t.1 joined in cc);
+          shown = λ w scan alive joined. absurd (let clash : Ok false ≡ Ok true = subst (λ (q : JoinHistory). IsJoined q) t.1 joined in cc);
         };
       },
       refl,
     )
 
-pub laid_more : {C R : Type 0} (remaining contents : C → Option (List ℕ)) (left_of : R → Option (List ℕ)) (job : Job) (first : C) (coming0 : Option (List (List ℕ))) (before : Option Stock) (failed : Bool) (control : C) (coming : Option (List (List ℕ))) (stream : Option R) (c now : Talker) (then_ : Option Stock) (out : Option (Option (List ℕ))) (given : Given)
-    → ((past : Past) (join : Joining) → Stands past join → IsJoined past → (p : Picture) × ShowsFrames past.ended p)
-    → scans job.task ≡ true → All IsPageFile given.pages → (g : Going remaining contents left_of job first coming0 given failed control coming stream c)
-    → GoesOn g.stage.past c (length given.pages + 1) before (outputs_from 1 given.pages) now then_ out ⊎ TurnsOn g.stage.past c (length given.pages + 1) before (outputs_from 1 given.pages) now then_ out
+pub laid_more : {C R : Type 0} (remaining contents : C → Option (List ℕ)) (left_of : R → Option (List ℕ)) (job : Job) (first : C) (coming0 : Option (List (List ℕ))) (before : Option Stock) (failed : Bool) (control : C) (coming : Option (List (List ℕ))) (stream : Option R) (c now : ClientState) (then_ : Option Stock) (out : Option (Option (List ℕ))) (given : GivenFiles)
+    → ((past : JoinHistory) (join : JoinState) → Represents past join → IsJoined past → (p : Picture) × ShowsFrames past.ended p)
+    → scans job.task ≡ true → All IsPageFile given.pages → (g : FullRunInvariant remaining contents left_of job first coming0 given failed control coming stream c)
+    → PageGoesOn g.stage.history c (length given.pages + 1) before (page_outputs_from 1 given.pages) now then_ out ⊎ TurnsOn g.stage.history c (length given.pages + 1) before (page_outputs_from 1 given.pages) now then_ out
     → Laid remaining contents left_of job first coming0 before failed true control coming stream now then_ out
 laid_more remaining contents left_of job first coming0 before failed control coming stream c now then_ out given shows scanning files g (inl e) =
     let s = g.stage in
-    let serves = subst (λ (v : Talker). Serves (after_pull e.bytes s.past) v) e.rest e.serves in
-    let gave = stage_gave_by left_of job g.read_ g.wrote g.left coming0 coming given e.bytes stream c now.join s.errand s.past s.given_is serves s.course s.rest s.pages_is s.did s.stands in
+    let serves = subst (λ (v : ClientState). ClientRepresents (after_pull e.bytes s.history) v) e.rest e.serves in
+    let gave = stage_gave_by left_of job g.read_ g.wrote g.left coming0 coming given e.bytes stream c now.join s.target s.history s.given_is serves s.trace s.rest s.pages_is s.did s.stands in
     laid_on remaining contents left_of job first coming0 before failed control coming stream c now then_ out given scanning files g e gave.0 gave.1
 laid_more remaining contents left_of job first coming0 before failed control coming stream c now then_ out given shows scanning files g (inr e) =
     (laid_next remaining contents left_of job first coming0 before failed control coming stream c now then_ out given shows scanning files g e).0
 
 -- one that writes nothing
-pub laid_none : {C R : Type 0} {was_whole : Bool} (remaining contents : C → Option (List ℕ)) (left_of : R → Option (List ℕ)) (job : Job) (first : C) (coming0 : Option (List (List ℕ))) (before : Option Stock) (failed : Bool) (control : C) (coming : Option (List (List ℕ))) (stream : Option R) (c old : Talker) (now : Option Stock) (out : Option (Option (List ℕ))) (given : Given) (past : Past)
-    → scans job.task ≡ false → OnShelf was_whole job before now out given old past → Going remaining contents left_of job first coming0 given failed control coming stream c
+pub laid_none : {C R : Type 0} {was_whole : Bool} (remaining contents : C → Option (List ℕ)) (left_of : R → Option (List ℕ)) (job : Job) (first : C) (coming0 : Option (List (List ℕ))) (before : Option Stock) (failed : Bool) (control : C) (coming : Option (List (List ℕ))) (stream : Option R) (c old : ClientState) (now : Option Stock) (out : Option (Option (List ℕ))) (given : GivenFiles) (past : JoinHistory)
+    → scans job.task ≡ false → OnShelf was_whole job before now out given old past → FullRunInvariant remaining contents left_of job first coming0 given failed control coming stream c
     → Laid remaining contents left_of job first coming0 before failed true control coming stream c now out
 laid_none remaining contents left_of job first coming0 before failed control coming stream c old now out given past other shelf g = record {
   given = given;
@@ -221,13 +221,13 @@ laid_none remaining contents left_of job first coming0 before failed control com
   shelf = record { under_way = shelf.under_way; files = shelf.files; none = shelf.none; shown = λ w scan. absurd (let clash : true ≡ false = sym scan ∙ other in cc) };
 }
 
-pub laid_as : {C R : Type 0} {whole : Bool} (remaining contents : C → Option (List ℕ)) (left_of : R → Option (List ℕ)) (job : Job) (first : C) (coming0 : Option (List (List ℕ))) (before : Option Stock) (failed other : Bool) (control : C) (coming : Option (List (List ℕ))) (stream : Option R) (c : Talker) (now : Option Stock) (out : Option (Option (List ℕ))) → failed ≡ other
+pub laid_as : {C R : Type 0} {whole : Bool} (remaining contents : C → Option (List ℕ)) (left_of : R → Option (List ℕ)) (job : Job) (first : C) (coming0 : Option (List (List ℕ))) (before : Option Stock) (failed other : Bool) (control : C) (coming : Option (List (List ℕ))) (stream : Option R) (c : ClientState) (now : Option Stock) (out : Option (Option (List ℕ))) → failed ≡ other
     → Laid remaining contents left_of job first coming0 before failed whole control coming stream c now out → Laid remaining contents left_of job first coming0 before other whole control coming stream c now out
 laid_as {whole = whole} remaining contents left_of job first coming0 before failed other control coming stream c now out e d = subst (λ (b : Bool). Laid remaining contents left_of job first coming0 before b whole control coming stream c now out) e d
 
 -- the control connection is lost, if the job runs
-pub laid_cut : {C R : Type 0} {whole : Bool} (remaining contents : C → Option (List ℕ)) (left_of : R → Option (List ℕ)) (job : Job) (first : C) (coming0 : Option (List (List ℕ))) (before : Option Stock) (failed : Bool) (control : C) (coming : Option (List (List ℕ))) (stream : Option R) (c new : Talker) (now : Option Stock) (out : Option (Option (List ℕ)))
-    → new ≡ (if is_lost_by links.Control c.outcome c.progress then ended statuses.IoError whys.Lost c else c)
+pub laid_cut : {C R : Type 0} {whole : Bool} (remaining contents : C → Option (List ℕ)) (left_of : R → Option (List ℕ)) (job : Job) (first : C) (coming0 : Option (List (List ℕ))) (before : Option Stock) (failed : Bool) (control : C) (coming : Option (List (List ℕ))) (stream : Option R) (c new : ClientState) (now : Option Stock) (out : Option (Option (List ℕ)))
+    → new ≡ (if is_lost_by links.Control c.outcome c.progress then after_client_end statuses.IoError whys.Lost c else c)
     → Laid remaining contents left_of job first coming0 before failed whole control coming stream c now out → Laid remaining contents left_of job first coming0 before failed whole control coming stream new now out
 laid_cut remaining contents left_of job first coming0 before failed control coming stream c new now out lost d =
     let g = d.going in
@@ -239,36 +239,36 @@ laid_cut remaining contents left_of job first coming0 before failed control comi
         under_way = d.shelf.under_way;
         files = d.shelf.files;
         none = d.shelf.none;
-        shown = λ w scan alive joined p shows. d.shelf.shown w scan (cut_alive (is_running c.outcome) c new lost alive) (subst (λ (q : Past). IsJoined q) s.1 joined) p (subst (λ (q : Past). ShowsFrames q.ended p) s.1 shows);
+        shown = λ w scan alive joined p shows. d.shelf.shown w scan (cut_alive (is_running c.outcome) c new lost alive) (subst (λ (q : JoinHistory). IsJoined q) s.1 joined) p (subst (λ (q : JoinHistory). ShowsFrames q.ended p) s.1 shows);
       };
     }
 
 -- ---- the end
 
 -- what a job that is over did, before its outcome is told
-pub record Shut {C R : Type 0} (remaining contents : C → Option (List ℕ)) (left_of : R → Option (List ℕ)) (job : Job) (first : C) (coming0 : Option (List (List ℕ))) (before : Option Stock) (whole : Bool) (control : C) (coming : Option (List (List ℕ))) (stream : Option R) (c : Talker) (now : Option Stock) (out : Option (Option (List ℕ))) : Type 0 where
-  pub given : Given
+pub record Shut {C R : Type 0} (remaining contents : C → Option (List ℕ)) (left_of : R → Option (List ℕ)) (job : Job) (first : C) (coming0 : Option (List (List ℕ))) (before : Option Stock) (whole : Bool) (control : C) (coming : Option (List (List ℕ))) (stream : Option R) (c : ClientState) (now : Option Stock) (out : Option (Option (List ℕ))) : Type 0 where
+  pub given : GivenFiles
   pub read_ : List ℕ
   pub wrote : List ℕ
   pub left : List ℕ
   pub failed : Bool
   pub calls : Calls remaining contents first read_ wrote failed control
-  pub stage : Stage left_of job read_ wrote left coming0 coming given stream c
+  pub stage : RunInvariant left_of job read_ wrote left coming0 coming given stream c
   pub all : failed ≡ false → left ≡ []
-  pub shelf : OnShelf whole job before now out given c stage.past
+  pub shelf : OnShelf whole job before now out given c stage.history
 
-same_shelf : {whole : Bool} (job : Job) (before now : Option Stock) (out : Option (Option (List ℕ))) (given : Given) (c : Talker) (past then_ : Past) → then_ ≡ past → OnShelf whole job before now out given c past → OnShelf whole job before now out given c then_
+same_shelf : {whole : Bool} (job : Job) (before now : Option Stock) (out : Option (Option (List ℕ))) (given : GivenFiles) (c : ClientState) (past then_ : JoinHistory) → then_ ≡ past → OnShelf whole job before now out given c past → OnShelf whole job before now out given c then_
 same_shelf job before now out given c past then_ same s = record {
   under_way = s.under_way;
   files = s.files;
   none = s.none;
-  shown = λ w scan alive joined p shows. s.shown w scan alive (subst (λ (q : Past). IsJoined q) same joined) p (subst (λ (q : Past). ShowsFrames q.ended p) same shows);
+  shown = λ w scan alive joined p shows. s.shown w scan alive (subst (λ (q : JoinHistory). IsJoined q) same joined) p (subst (λ (q : JoinHistory). ShowsFrames q.ended p) same shows);
 }
 
 -- the last bytes, or a front of them, were written
-shut_by : {C R : Type 0} {whole : Bool} (remaining contents : C → Option (List ℕ)) (left_of : R → Option (List ℕ)) (job : Job) (first : C) (coming0 : Option (List (List ℕ))) (before : Option Stock) (control then_ : C) (coming : Option (List (List ℕ))) (stream : Option R) (c : Talker) (now : Option Stock) (out : Option (Option (List ℕ))) (n : ℕ) (short : Bool)
+shut_by : {C R : Type 0} {whole : Bool} (remaining contents : C → Option (List ℕ)) (left_of : R → Option (List ℕ)) (job : Job) (first : C) (coming0 : Option (List (List ℕ))) (before : Option Stock) (control then_ : C) (coming : Option (List (List ℕ))) (stream : Option R) (c : ClientState) (now : Option Stock) (out : Option (Option (List ℕ))) (n : ℕ) (short : Bool)
     → nat_lt n (length c.out) ≡ short → n ≤ length c.out → Appends (contents control) (contents then_) (take n c.out) → (d : Laid remaining contents left_of job first coming0 before false whole control coming stream c now out)
-    → (s : Stage left_of job d.going.read_ (d.going.wrote ++ take n c.out) (drop n c.out) coming0 coming d.given stream c) → s.past ≡ d.going.stage.past
+    → (s : RunInvariant left_of job d.going.read_ (d.going.wrote ++ take n c.out) (drop n c.out) coming0 coming d.given stream c) → s.history ≡ d.going.stage.history
     → Shut remaining contents left_of job first coming0 before whole then_ coming stream c now out
 shut_by remaining contents left_of job first coming0 before control then_ coming stream c now out n true short within took d s same = record {
   given = d.given;
@@ -279,7 +279,7 @@ shut_by remaining contents left_of job first coming0 before control then_ coming
   calls = Failed d.going.read_ d.going.wrote false control then_ (take n c.out) d.going.calls took;
   stage = s;
   all = λ e. absurd (let clash : true ≡ false = e in cc);
-  shelf = same_shelf job before now out d.given c d.going.stage.past s.past same d.shelf;
+  shelf = same_shelf job before now out d.given c d.going.stage.history s.history same d.shelf;
 }
 shut_by remaining contents left_of job first coming0 before control then_ coming stream c now out n false short within took d s same = record {
   given = d.given;
@@ -290,10 +290,10 @@ shut_by remaining contents left_of job first coming0 before control then_ coming
   calls = Wrote d.going.read_ d.going.wrote false control then_ (take n c.out) d.going.calls took;
   stage = s;
   all = λ e. drop_all n c.out (ltb-false n (length c.out) short);
-  shelf = same_shelf job before now out d.given c d.going.stage.past s.past same d.shelf;
+  shelf = same_shelf job before now out d.given c d.going.stage.history s.history same d.shelf;
 }
 
-pub shut_left : {C R : Type 0} {whole : Bool} (remaining contents : C → Option (List ℕ)) (left_of : R → Option (List ℕ)) (job : Job) (first : C) (coming0 : Option (List (List ℕ))) (before : Option Stock) (control then_ : C) (coming : Option (List (List ℕ))) (stream : Option R) (c : Talker) (now : Option Stock) (out : Option (Option (List ℕ)))
+pub shut_left : {C R : Type 0} {whole : Bool} (remaining contents : C → Option (List ℕ)) (left_of : R → Option (List ℕ)) (job : Job) (first : C) (coming0 : Option (List (List ℕ))) (before : Option Stock) (control then_ : C) (coming : Option (List (List ℕ))) (stream : Option R) (c : ClientState) (now : Option Stock) (out : Option (Option (List ℕ)))
     → (n : ℕ) × (n ≤ length c.out) × Appends (contents control) (contents then_) (take n c.out) → Laid remaining contents left_of job first coming0 before false whole control coming stream c now out
     → Shut remaining contents left_of job first coming0 before whole then_ coming stream c now out
 shut_left remaining contents left_of job first coming0 before control then_ coming stream c now out w d =
@@ -302,7 +302,7 @@ shut_left remaining contents left_of job first coming0 before control then_ comi
     shut_by remaining contents left_of job first coming0 before control then_ coming stream c now out w.0 (nat_lt w.0 (length c.out)) refl w.1 w.2 d s.0 s.1
 
 -- a write failed before
-pub shut_cut : {C R : Type 0} {whole : Bool} (remaining contents : C → Option (List ℕ)) (left_of : R → Option (List ℕ)) (job : Job) (first : C) (coming0 : Option (List (List ℕ))) (before : Option Stock) (control : C) (coming : Option (List (List ℕ))) (stream : Option R) (c : Talker) (now : Option Stock) (out : Option (Option (List ℕ)))
+pub shut_cut : {C R : Type 0} {whole : Bool} (remaining contents : C → Option (List ℕ)) (left_of : R → Option (List ℕ)) (job : Job) (first : C) (coming0 : Option (List (List ℕ))) (before : Option Stock) (control : C) (coming : Option (List (List ℕ))) (stream : Option R) (c : ClientState) (now : Option Stock) (out : Option (Option (List ℕ)))
     → Laid remaining contents left_of job first coming0 before true whole control coming stream c now out → Shut remaining contents left_of job first coming0 before whole control coming stream c now out
 shut_cut remaining contents left_of job first coming0 before control coming stream c now out d = record {
   given = d.given;
@@ -319,44 +319,44 @@ shut_cut remaining contents left_of job first coming0 before control coming stre
 -- ---- a turn's end, whatever the task
 
 -- how far the job is before its files are filled, as the contract wants it
-under_way_at : {was_whole : Bool} (job : Job) (before was : Option Stock) (under : Option (Option (List ℕ))) (given : Given) (old : Talker) (past then_ : Past) → then_.given ≡ given.bytes → OnShelf was_whole job before was under given old past
-    → IsUnderWay before (outputs_from 1 given.pages) was under (length given.pages + 1) then_.given
-under_way_at job before was under given old past then_ given_is s = subst (λ (l : List ℕ). IsUnderWay before (outputs_from 1 given.pages) was under (length given.pages + 1) l) (sym given_is) s.under_way
+under_way_at : {was_whole : Bool} (job : Job) (before was : Option Stock) (under : Option (Option (List ℕ))) (given : GivenFiles) (old : ClientState) (past then_ : JoinHistory) → then_.given ≡ given.bytes → OnShelf was_whole job before was under given old past
+    → OutputIsUnderWay before (page_outputs_from 1 given.pages) was under (length given.pages + 1) then_.given
+under_way_at job before was under given old past then_ given_is s = subst (λ (l : List ℕ). OutputIsUnderWay before (page_outputs_from 1 given.pages) was under (length given.pages + 1) l) (sym given_is) s.under_way
 
 -- what a contract of this kind says of the file under way
-pub from_here : {C R : Type 0} {was_whole : Bool} (remaining contents : C → Option (List ℕ)) (left_of : R → Option (List ℕ)) (job : Job) (first : C) (coming0 : Option (List (List ℕ))) (before was : Option Stock) (failed : Bool) (control : C) (coming : Option (List (List ℕ))) (stream : Option R) (c old : Talker) (under : Option (Option (List ℕ))) (given : Given) (past : Past)
-    (Then : Option Stock → List Taken → ℕ → Past → Type 0) → scans job.task ≡ true → HasCount job.task → OnShelf was_whole job before was under given old past → (g : Going remaining contents left_of job first coming0 given failed control coming stream c)
-    → ((before : Option Stock) (outputs : List Taken) (k : ℕ) (q : Past) → IsFiling q c k before outputs was under → Then before outputs k q)
-    → Then before (outputs_from 1 given.pages) (length given.pages + 1) g.stage.past
+pub from_here : {C R : Type 0} {was_whole : Bool} (remaining contents : C → Option (List ℕ)) (left_of : R → Option (List ℕ)) (job : Job) (first : C) (coming0 : Option (List (List ℕ))) (before was : Option Stock) (failed : Bool) (control : C) (coming : Option (List (List ℕ))) (stream : Option R) (c old : ClientState) (under : Option (Option (List ℕ))) (given : GivenFiles) (past : JoinHistory)
+    (Then : Option Stock → List ReturnedOutput → ℕ → JoinHistory → Type 0) → scans job.task ≡ true → HasCount job.task → OnShelf was_whole job before was under given old past → (g : FullRunInvariant remaining contents left_of job first coming0 given failed control coming stream c)
+    → ((before : Option Stock) (outputs : List ReturnedOutput) (k : ℕ) (q : JoinHistory) → IsFiling q c k before outputs was under → Then before outputs k q)
+    → Then before (page_outputs_from 1 given.pages) (length given.pages + 1) g.stage.history
 from_here remaining contents left_of job first coming0 before was failed control coming stream c old under given past Then scanning h shelf g goes =
-    goes before (outputs_from 1 given.pages) (length given.pages + 1) g.stage.past (record {
-      scanning = ap scans (task_is c job g.stage.errand) ∙ scanning;
+    goes before (page_outputs_from 1 given.pages) (length given.pages + 1) g.stage.history (record {
+      scanning = ap scans (task_is c job g.stage.target) ∙ scanning;
       number = λ alive. number_at left_of job g.read_ g.wrote g.left coming0 coming given stream c h g.stage alive;
       serves = g.stage.serves;
-      under_way = under_way_at job before was under given old past g.stage.past g.stage.given_is shelf;
+      under_way = under_way_at job before was under given old past g.stage.history g.stage.given_is shelf;
     })
 
-laid_by : {C R : Type 0} {was_whole : Bool} (remaining contents : C → Option (List ℕ)) (left_of : R → Option (List ℕ)) (job : Job) (first : C) (coming0 : Option (List (List ℕ))) (before was : Option Stock) (failed : Bool) (control : C) (coming : Option (List (List ℕ))) (stream : Option R) (c old now : Talker) (then_ : Option Stock) (under out : Option (Option (List ℕ))) (given : Given) (past : Past) (is_scanning b : Bool)
-    → is_scanning ≡ b → is_scanning ≡ scans job.task → HasCount job.task → ((past : Past) (join : Joining) → Stands past join → IsJoined past → (p : Picture) × ShowsFrames past.ended p)
-    → OnShelf was_whole job before was under given old past → (g : Going remaining contents left_of job first coming0 given failed control coming stream c)
+laid_by : {C R : Type 0} {was_whole : Bool} (remaining contents : C → Option (List ℕ)) (left_of : R → Option (List ℕ)) (job : Job) (first : C) (coming0 : Option (List (List ℕ))) (before was : Option Stock) (failed : Bool) (control : C) (coming : Option (List (List ℕ))) (stream : Option R) (c old now : ClientState) (then_ : Option Stock) (under out : Option (Option (List ℕ))) (given : GivenFiles) (past : JoinHistory) (is_scanning b : Bool)
+    → is_scanning ≡ b → is_scanning ≡ scans job.task → HasCount job.task → ((past : JoinHistory) (join : JoinState) → Represents past join → IsJoined past → (p : Picture) × ShowsFrames past.ended p)
+    → OnShelf was_whole job before was under given old past → (g : FullRunInvariant remaining contents left_of job first coming0 given failed control coming stream c)
     → (is_scanning ≡ false → (now ≡ c) × (then_ ≡ was) × (out ≡ under))
-    → (is_scanning ≡ true → (before : Option Stock) (outputs : List Taken) (k : ℕ) (q : Past) → IsFiling q c k before outputs was under → HasFiled q c k before outputs now then_ out)
+    → (is_scanning ≡ true → (before : Option Stock) (outputs : List ReturnedOutput) (k : ℕ) (q : JoinHistory) → IsFiling q c k before outputs was under → HasFiled q c k before outputs now then_ out)
     → Laid remaining contents left_of job first coming0 before failed true control coming stream now then_ out
 laid_by remaining contents left_of job first coming0 before was failed control coming stream c old now then_ under out given past is_scanning true e scanning h shows shelf g none goes =
     laid_more remaining contents left_of job first coming0 before failed control coming stream c now then_ out given shows (sym scanning ∙ e) shelf.files g
     (from_here remaining contents left_of job first coming0 before was failed control coming stream c old under given past (λ b outputs k q. HasFiled q c k b outputs now then_ out) (sym scanning ∙ e) h shelf g (goes e))
 laid_by remaining contents left_of job first coming0 before was failed control coming stream c old now then_ under out given past is_scanning false e scanning h shows shelf g none goes =
     let same = none e in
-    subst (λ (v : Talker). Laid remaining contents left_of job first coming0 before failed true control coming stream v then_ out) (sym same.0)
+    subst (λ (v : ClientState). Laid remaining contents left_of job first coming0 before failed true control coming stream v then_ out) (sym same.0)
     (subst (λ (o : Option Stock). Laid remaining contents left_of job first coming0 before failed true control coming stream c o out) (sym same.1)
     (subst (λ (o : Option (Option (List ℕ))). Laid remaining contents left_of job first coming0 before failed true control coming stream c was o) (sym same.2)
     (laid_none remaining contents left_of job first coming0 before failed control coming stream c old was under given past (sym scanning ∙ e) shelf g)))
 
-pub laid_then : {C R : Type 0} {was_whole : Bool} (remaining contents : C → Option (List ℕ)) (left_of : R → Option (List ℕ)) (job : Job) (first : C) (coming0 : Option (List (List ℕ))) (before was : Option Stock) (failed : Bool) (control : C) (coming : Option (List (List ℕ))) (stream : Option R) (c old now : Talker) (then_ : Option Stock) (under out : Option (Option (List ℕ))) (given : Given) (past : Past) (is_scanning : Bool)
-    → is_scanning ≡ scans job.task → HasCount job.task → ((past : Past) (join : Joining) → Stands past join → IsJoined past → (p : Picture) × ShowsFrames past.ended p)
-    → OnShelf was_whole job before was under given old past → (g : Going remaining contents left_of job first coming0 given failed control coming stream c)
+pub laid_then : {C R : Type 0} {was_whole : Bool} (remaining contents : C → Option (List ℕ)) (left_of : R → Option (List ℕ)) (job : Job) (first : C) (coming0 : Option (List (List ℕ))) (before was : Option Stock) (failed : Bool) (control : C) (coming : Option (List (List ℕ))) (stream : Option R) (c old now : ClientState) (then_ : Option Stock) (under out : Option (Option (List ℕ))) (given : GivenFiles) (past : JoinHistory) (is_scanning : Bool)
+    → is_scanning ≡ scans job.task → HasCount job.task → ((past : JoinHistory) (join : JoinState) → Represents past join → IsJoined past → (p : Picture) × ShowsFrames past.ended p)
+    → OnShelf was_whole job before was under given old past → (g : FullRunInvariant remaining contents left_of job first coming0 given failed control coming stream c)
     → (is_scanning ≡ false → (now ≡ c) × (then_ ≡ was) × (out ≡ under))
-    → (is_scanning ≡ true → (before : Option Stock) (outputs : List Taken) (k : ℕ) (q : Past) → IsFiling q c k before outputs was under → HasFiled q c k before outputs now then_ out)
+    → (is_scanning ≡ true → (before : Option Stock) (outputs : List ReturnedOutput) (k : ℕ) (q : JoinHistory) → IsFiling q c k before outputs was under → HasFiled q c k before outputs now then_ out)
     → Laid remaining contents left_of job first coming0 before failed true control coming stream now then_ out
 laid_then remaining contents left_of job first coming0 before was failed control coming stream c old now then_ under out given past is_scanning scanning h shows shelf g none goes =
     laid_by remaining contents left_of job first coming0 before was failed control coming stream c old now then_ under out given past is_scanning is_scanning refl scanning h shows shelf g none goes
@@ -364,30 +364,30 @@ laid_then remaining contents left_of job first coming0 before was failed control
 -- ---- a job whose last bytes are not given
 
 -- the shelf has what was given, and that of the file under way is no whole file
-pub record Lying {C R : Type 0} (remaining contents : C → Option (List ℕ)) (left_of : R → Option (List ℕ)) (job : Job) (first : C) (coming0 : Option (List (List ℕ))) (before : Option Stock) (failed : Bool) (control : C) (coming : Option (List (List ℕ))) (stream : Option R) (c : Talker) (now : Option Stock) (out : Option (Option (List ℕ))) : Type 0 where
+pub record Lying {C R : Type 0} (remaining contents : C → Option (List ℕ)) (left_of : R → Option (List ℕ)) (job : Job) (first : C) (coming0 : Option (List (List ℕ))) (before : Option Stock) (failed : Bool) (control : C) (coming : Option (List (List ℕ))) (stream : Option R) (c : ClientState) (now : Option Stock) (out : Option (Option (List ℕ))) : Type 0 where
   pub laid : Laid remaining contents left_of job first coming0 before failed false control coming stream c now out
   pub not_whole : IsWhole laid.given.bytes → ⊥
 
-pub ended_part : (task : Task) (past : Past) → FitsEnded task past → IsJoined past → IsWhole past.given → ⊥
+pub ended_part : (task : Task) (past : JoinHistory) → FitsEnded task past → IsJoined past → IsWhole past.given → ⊥
 ended_part tasks.List past f joined w = f joined
 ended_part tasks.Show past f joined w = f joined
 ended_part tasks.SetOnly past f joined w = f joined
 ended_part tasks.Scan past f joined w = f joined
 ended_part (tasks.Batch count) past f joined w = f joined w
 
-running_short : {R : Type 0} (left_of : R → Option (List ℕ)) (job : Job) (read_ wrote left : List ℕ) (coming0 coming : Option (List (List ℕ))) (given : Given) (stream : Option R) (c : Talker) → NoneBefore → is_running c.outcome ≡ true
-    → Stage left_of job read_ wrote left coming0 coming given stream c → IsWhole given.bytes → ⊥
+running_short : {R : Type 0} (left_of : R → Option (List ℕ)) (job : Job) (read_ wrote left : List ℕ) (coming0 coming : Option (List (List ℕ))) (given : GivenFiles) (stream : Option R) (c : ClientState) → NoneBefore → is_running c.outcome ≡ true
+    → RunInvariant left_of job read_ wrote left coming0 coming given stream c → IsWhole given.bytes → ⊥
 running_short left_of job read_ wrote left coming0 coming given stream c law runs s =
-    subst (λ (l : List ℕ). IsWhole l → ⊥) s.given_is (λ w. law s.past c.join s.serves.stands (λ joined. ended_part c.errand.task s.past (running_ends c.outcome c.errand.task c.progress s.past runs s.serves.fits) joined w) w)
+    subst (λ (l : List ℕ). IsWhole l → ⊥) s.given_is (λ w. law s.history c.join s.serves.stands (λ joined. ended_part c.target.task s.history (running_ends c.outcome c.target.task c.progress s.history runs s.serves.fits) joined w) w)
 
-pub lying_first : {C R : Type 0} (remaining contents : C → Option (List ℕ)) (left_of : R → Option (List ℕ)) (job : Job) (control : C) (coming : Option (List (List ℕ))) (before : Option Stock) (out : Option (Option (List ℕ))) (c : Talker) → NoneBefore → IsFresh job c → out ≡ None
+pub lying_first : {C R : Type 0} (remaining contents : C → Option (List ℕ)) (left_of : R → Option (List ℕ)) (job : Job) (control : C) (coming : Option (List (List ℕ))) (before : Option Stock) (out : Option (Option (List ℕ))) (c : ClientState) → NoneBefore → IsNewClient job c → out ≡ None
     → Lying remaining contents left_of job control coming before false control coming None c before out
 lying_first remaining contents left_of job control coming before out c law f none =
     let d = laid_first remaining contents left_of job control coming before out c f none in
-    record { laid = d; not_whole = running_short left_of job d.going.read_ d.going.wrote d.going.left coming coming d.given None c law (ap (λ (v : Talker). is_running v.outcome) f.value) d.going.stage }
+    record { laid = d; not_whole = running_short left_of job d.going.read_ d.going.wrote d.going.left coming coming d.given None c law (ap (λ (v : ClientState). is_running v.outcome) f.value) d.going.stage }
 
 -- a turn in which the shelf took what was given, and the job runs on
-pub lying_gave : {C R : Type 0} (remaining contents : C → Option (List ℕ)) (left_of : R → Option (List ℕ)) (job : Job) (first : C) (coming0 : Option (List (List ℕ))) (before : Option Stock) (failed : Bool) (control : C) (coming : Option (List (List ℕ))) (stream : Option R) (c : Talker) (now : Option Stock) (out : Option (Option (List ℕ))) → NoneBefore → is_running c.outcome ≡ true
+pub lying_gave : {C R : Type 0} (remaining contents : C → Option (List ℕ)) (left_of : R → Option (List ℕ)) (job : Job) (first : C) (coming0 : Option (List (List ℕ))) (before : Option Stock) (failed : Bool) (control : C) (coming : Option (List (List ℕ))) (stream : Option R) (c : ClientState) (now : Option Stock) (out : Option (Option (List ℕ))) → NoneBefore → is_running c.outcome ≡ true
     → Laid remaining contents left_of job first coming0 before failed true control coming stream c now out → Lying remaining contents left_of job first coming0 before failed control coming stream c now out
 lying_gave remaining contents left_of job first coming0 before failed control coming stream c now out law runs d = record {
   laid = record { given = d.given; going = d.going; shelf = record { under_way = d.shelf.under_way; files = d.shelf.files; none = d.shelf.none; shown = λ w. absurd (let clash : false ≡ true = w in cc) } };
@@ -395,27 +395,27 @@ lying_gave remaining contents left_of job first coming0 before failed control co
 }
 
 -- one in which nothing was given
-pub lying_went : {C R : Type 0} (remaining contents : C → Option (List ℕ)) (left_of : R → Option (List ℕ)) (job : Job) (first : C) (coming0 : Option (List (List ℕ))) (before : Option Stock) (failed then_ : Bool) (control next : C) (coming come : Option (List (List ℕ))) (stream behind : Option R) (c new : Talker) (now : Option Stock) (out : Option (Option (List ℕ)))
-    → (p : Lying remaining contents left_of job first coming0 before failed control coming stream c now out) → Going remaining contents left_of job first coming0 p.laid.given then_ next come behind new
+pub lying_went : {C R : Type 0} (remaining contents : C → Option (List ℕ)) (left_of : R → Option (List ℕ)) (job : Job) (first : C) (coming0 : Option (List (List ℕ))) (before : Option Stock) (failed then_ : Bool) (control next : C) (coming come : Option (List (List ℕ))) (stream behind : Option R) (c new : ClientState) (now : Option Stock) (out : Option (Option (List ℕ)))
+    → (p : Lying remaining contents left_of job first coming0 before failed control coming stream c now out) → FullRunInvariant remaining contents left_of job first coming0 p.laid.given then_ next come behind new
     → Lying remaining contents left_of job first coming0 before then_ next come behind new now out
 lying_went remaining contents left_of job first coming0 before failed then_ control next coming come stream behind c new now out p g = record {
   laid = record { given = p.laid.given; going = g; shelf = record { under_way = p.laid.shelf.under_way; files = p.laid.shelf.files; none = p.laid.shelf.none; shown = λ w. absurd (let clash : false ≡ true = w in cc) } };
   not_whole = p.not_whole;
 }
 
-pub lying_as : {C R : Type 0} (remaining contents : C → Option (List ℕ)) (left_of : R → Option (List ℕ)) (job : Job) (first : C) (coming0 : Option (List (List ℕ))) (before : Option Stock) (failed other : Bool) (control : C) (coming : Option (List (List ℕ))) (stream : Option R) (c : Talker) (now : Option Stock) (out : Option (Option (List ℕ))) → failed ≡ other
+pub lying_as : {C R : Type 0} (remaining contents : C → Option (List ℕ)) (left_of : R → Option (List ℕ)) (job : Job) (first : C) (coming0 : Option (List (List ℕ))) (before : Option Stock) (failed other : Bool) (control : C) (coming : Option (List (List ℕ))) (stream : Option R) (c : ClientState) (now : Option Stock) (out : Option (Option (List ℕ))) → failed ≡ other
     → Lying remaining contents left_of job first coming0 before failed control coming stream c now out → Lying remaining contents left_of job first coming0 before other control coming stream c now out
 lying_as remaining contents left_of job first coming0 before failed other control coming stream c now out e p = subst (λ (b : Bool). Lying remaining contents left_of job first coming0 before b control coming stream c now out) e p
 
-pub lying_cut : {C R : Type 0} (remaining contents : C → Option (List ℕ)) (left_of : R → Option (List ℕ)) (job : Job) (first : C) (coming0 : Option (List (List ℕ))) (before : Option Stock) (failed : Bool) (control : C) (coming : Option (List (List ℕ))) (stream : Option R) (c new : Talker) (now : Option Stock) (out : Option (Option (List ℕ)))
-    → new ≡ (if is_lost_by links.Control c.outcome c.progress then ended statuses.IoError whys.Lost c else c)
+pub lying_cut : {C R : Type 0} (remaining contents : C → Option (List ℕ)) (left_of : R → Option (List ℕ)) (job : Job) (first : C) (coming0 : Option (List (List ℕ))) (before : Option Stock) (failed : Bool) (control : C) (coming : Option (List (List ℕ))) (stream : Option R) (c new : ClientState) (now : Option Stock) (out : Option (Option (List ℕ)))
+    → new ≡ (if is_lost_by links.Control c.outcome c.progress then after_client_end statuses.IoError whys.Lost c else c)
     → Lying remaining contents left_of job first coming0 before failed control coming stream c now out → Lying remaining contents left_of job first coming0 before failed control coming stream new now out
 unfolding laid_cut
 lying_cut remaining contents left_of job first coming0 before failed control coming stream c new now out lost p =
     record { laid = laid_cut remaining contents left_of job first coming0 before failed control coming stream c new now out lost p.laid; not_whole = p.not_whole }
 
 -- leave was taken of the daemon, where no write had failed
-pub shut_parted : {whole : Bool} {C R : Type 0} (remaining contents : C → Option (List ℕ)) (left_of : R → Option (List ℕ)) (job : Job) (first : C) (coming0 : Option (List (List ℕ))) (before : Option Stock) (is_up : Bool) (control then_ : C) (coming : Option (List (List ℕ))) (stream : Option R) (c : Talker) (now : Option Stock) (out : Option (Option (List ℕ)))
+pub shut_parted : {whole : Bool} {C R : Type 0} (remaining contents : C → Option (List ℕ)) (left_of : R → Option (List ℕ)) (job : Job) (first : C) (coming0 : Option (List (List ℕ))) (before : Option Stock) (is_up : Bool) (control then_ : C) (coming : Option (List (List ℕ))) (stream : Option R) (c : ClientState) (now : Option Stock) (out : Option (Option (List ℕ)))
     → (is_up ≡ true → (n : ℕ) × (n ≤ length c.out) × Appends (contents control) (contents then_) (take n c.out)) → (is_up ≡ false → then_ ≡ control)
     → Laid remaining contents left_of job first coming0 before (not is_up) whole control coming stream c now out → Shut remaining contents left_of job first coming0 before whole then_ coming stream c now out
 shut_parted remaining contents left_of job first coming0 before true control then_ coming stream c now out wrote still d = shut_left remaining contents left_of job first coming0 before control then_ coming stream c now out (wrote refl) d
@@ -431,15 +431,15 @@ shut_parted remaining contents left_of job first coming0 before false control th
   shelf = d.shelf;
 }
 
-shut_by_given : {whole : Bool} {C R : Type 0} (remaining contents : C → Option (List ℕ)) (left_of : R → Option (List ℕ)) (job : Job) (first : C) (coming0 : Option (List (List ℕ))) (before : Option Stock) (control then_ : C) (coming : Option (List (List ℕ))) (stream : Option R) (c : Talker) (now : Option Stock) (out : Option (Option (List ℕ))) (n : ℕ) (short : Bool)
+shut_by_given : {whole : Bool} {C R : Type 0} (remaining contents : C → Option (List ℕ)) (left_of : R → Option (List ℕ)) (job : Job) (first : C) (coming0 : Option (List (List ℕ))) (before : Option Stock) (control then_ : C) (coming : Option (List (List ℕ))) (stream : Option R) (c : ClientState) (now : Option Stock) (out : Option (Option (List ℕ))) (n : ℕ) (short : Bool)
     → (is : nat_lt n (length c.out) ≡ short) → (within : n ≤ length c.out) → (took : Appends (contents control) (contents then_) (take n c.out)) → (d : Laid remaining contents left_of job first coming0 before false whole control coming stream c now out)
-    → (s : Stage left_of job d.going.read_ (d.going.wrote ++ take n c.out) (drop n c.out) coming0 coming d.given stream c) → (same : s.past ≡ d.going.stage.past)
+    → (s : RunInvariant left_of job d.going.read_ (d.going.wrote ++ take n c.out) (drop n c.out) coming0 coming d.given stream c) → (same : s.history ≡ d.going.stage.history)
     → (shut_by remaining contents left_of job first coming0 before control then_ coming stream c now out n short is within took d s same).given ≡ d.given
 unfolding shut_by
 shut_by_given remaining contents left_of job first coming0 before control then_ coming stream c now out n true is within took d s same = refl
 shut_by_given remaining contents left_of job first coming0 before control then_ coming stream c now out n false is within took d s same = refl
 
-pub shut_parted_given : {whole : Bool} {C R : Type 0} (remaining contents : C → Option (List ℕ)) (left_of : R → Option (List ℕ)) (job : Job) (first : C) (coming0 : Option (List (List ℕ))) (before : Option Stock) (is_up : Bool) (control then_ : C) (coming : Option (List (List ℕ))) (stream : Option R) (c : Talker) (now : Option Stock) (out : Option (Option (List ℕ)))
+pub shut_parted_given : {whole : Bool} {C R : Type 0} (remaining contents : C → Option (List ℕ)) (left_of : R → Option (List ℕ)) (job : Job) (first : C) (coming0 : Option (List (List ℕ))) (before : Option Stock) (is_up : Bool) (control then_ : C) (coming : Option (List (List ℕ))) (stream : Option R) (c : ClientState) (now : Option Stock) (out : Option (Option (List ℕ)))
     → (wrote : is_up ≡ true → (n : ℕ) × (n ≤ length c.out) × Appends (contents control) (contents then_) (take n c.out)) → (still : is_up ≡ false → then_ ≡ control)
     → (d : Laid remaining contents left_of job first coming0 before (not is_up) whole control coming stream c now out) → (shut_parted remaining contents left_of job first coming0 before is_up control then_ coming stream c now out wrote still d).given ≡ d.given
 unfolding shut_parted shut_left

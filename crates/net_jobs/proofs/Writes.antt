@@ -5,8 +5,8 @@ use Rattle.std.specs.Io.KnownBytes.{Appends}
 use Rattle.std.proofs.KnownBytes.{Appends-trans, Appends-nil}
 use Rattle.std.proofs.lemmas.List.{length-drop, take_all, drop-drop, take-take}
 use Rattle.std.proofs.Math.Seq.{take-add}
-use Rattle.net_client.specs.Talker.{Talker}
-use Rattle.net_jobs.specs.Writing.{WritesTo}
+use Rattle.net_client.specs.ClientStates.{ClientState}
+use Rattle.net_jobs.specs.ControlWriting.{WritesTo}
 
 pub none_written : (first : List ℕ) (contents : Option (List ℕ)) → WritesTo first contents contents first
 none_written first contents = record { at = 0; within = omega arith; left_is = refl; written = Appends-nil contents }
@@ -31,9 +31,9 @@ stopped_short first before old new left bytes n k w within bytes_is less wrote =
   subst (Appends before new) (sym (take-add w.at k first)) (Appends-trans before old new (take w.at first) (take k (drop w.at first)) w.written (subst (Appends old new) (ap (take k) bytes_is ∙ take-take k n left (omega arith) ∙ ap (take k) w.left_is) wrote)),
 )
 
-pub only_out : (first now new : Talker) (left : List ℕ) → now ≡ record first { out = now.out } → new ≡ record now { out = left } → new ≡ record first { out = new.out }
+pub only_out : (first now new : ClientState) (left : List ℕ) → now ≡ record first { out = now.out } → new ≡ record now { out = left } → new ≡ record first { out = new.out }
 only_out first now new left a b =
-    b ∙ ap (λ (v : Talker). record v { out = left }) a ∙ ap (λ (l : List ℕ). record first { out = l }) (sym (ap (λ (v : Talker). v.out) b))
+    b ∙ ap (λ (v : ClientState). record v { out = left }) a ∙ ap (λ (l : List ℕ). record first { out = l }) (sym (ap (λ (v : ClientState). v.out) b))
 
 -- how many bytes went in all
 pub some_went : (taken : Bool) (before after_ : Option (List ℕ)) (out : List ℕ) → (taken ≡ true → Appends before after_ out) → (taken ≡ false → (n : ℕ) × (n < length out) × Appends before after_ (take n out))

@@ -5,7 +5,7 @@ use Rattle.netpbm.specs.Picture.{Picture}
 use Rattle.netpbm.specs.Pnm.{Denotes}
 use Rattle.page_picture.specs.Shows.{ShowsFrames}
 use Rattle.frame_join.specs.declared.join_stage.JoinFault.{JoinFault}
-use Rattle.frame_join.specs.FrameHistory.{Past, answer_of}
+use Rattle.frame_join.specs.FrameHistory.{JoinHistory, answer_of_end}
 use Rattle.scan_job.specs.declared.job.Job.{Job}
 use Rattle.scan_job.specs.declared.job.JobFault.{JobFault}
 use Rattle.scan_job.specs.declared.job.Task.{Task}
@@ -14,29 +14,29 @@ use Rattle.scan_job.specs.declared.outcome.Outcome.{Outcome}
 use Rattle.scan_job.specs.declared.outcome.Outcome.TheVariants.{Running, Done, Ended}
 use Rattle.scan_job.specs.declared.outcome.Why.TheVariants as whys
 use Rattle.scan_job.specs.declared.report.Reports.{Reports}
-use Rattle.scan_job.specs.JobSize.{HasFault}
-use Rattle.scan_job.specs.Shelves.{Stock, Taken}
-use Rattle.net_jobs.specs.Courses.{Course, EndWell}
-use Rattle.net_jobs.specs.Going.{EndsBy}
-use Rattle.net_jobs.specs.Outputs.{TakesBack, AreLeft, outputs_from}
-use Rattle.net_jobs.specs.Promised.{Ran, HasRefusal, refused_as}
+use Rattle.scan_job.specs.JobSize.{HasJobFault}
+use Rattle.scan_job.specs.Shelves.{Stock, ReturnedOutput}
+use Rattle.net_jobs.specs.JobTraces.{JobTrace, EndWell}
+use Rattle.net_jobs.specs.RunInvariants.{EndsBy}
+use Rattle.net_jobs.specs.Outputs.{TakesBack, AreLeft, page_outputs_from}
+use Rattle.net_jobs.specs.RunPromises.{RanWithTrace, HasRefusal, refused_as}
 
 -- what was given of a page is a whole file, that of the picture that its frames show
-pub record IsPageFile (page : Past) : Type 0 where
+pub record IsPageFile (page : JoinHistory) : Type 0 where
   pub picture : Picture
   pub shows : ShowsFrames page.ended picture
   pub file : Denotes page.given picture
 
 -- the page under way, if its picture is whole
-abbrev pub last_of : Result Bool JoinFault → Past → List Past
-last_of (Ok true) page = page ∷ []
-last_of (Ok false) page = []
-last_of (Err fault) page = []
+abbrev pub last_whole_page : Result Bool JoinFault → JoinHistory → List JoinHistory
+last_whole_page (Ok true) page = page ∷ []
+last_whole_page (Ok false) page = []
+last_whole_page (Err fault) page = []
 
 -- The pages of a job that is done: those behind which another was asked for, and the last one. A batch that found no further
 -- page has no such last one, nor has a job that scans none.
-abbrev pub pages_of : Course → List Past
-pages_of course = course.pages ++ last_of (answer_of course.talk.past) course.talk.past
+abbrev pub pages_of : JobTrace → List JoinHistory
+pages_of trace = trace.pages ++ last_whole_page (answer_of_end trace.protocol.history) trace.protocol.history
 
 -- as many pages as the job may scan: a batch at least one
 abbrev pub MayScan : Task → ℕ → Type 0
@@ -53,35 +53,35 @@ closed_as outcome is_taken = outcome
 -- data connection began with its frame's records, which ended with EOF; and the shelf took back one output for each page, in
 -- their order, numbered from 1, each with the whole file of the picture that the page's frames show, and no other.
 pub record BatchDone {C : Type 0} (remaining contents : C → Option (List ℕ)) (job : Job) (first : C) (coming0 : Option (List (List ℕ))) (now : C) (coming : Option (List (List ℕ))) (before after : Option Stock) (outcome : Outcome) : Type 0 where
-  pub ran : Ran remaining contents job first coming0 now coming
-  pub told : ran.course.talk.outcome ≡ outcome
+  pub ran : RanWithTrace remaining contents job first coming0 now coming
+  pub told : ran.trace.protocol.outcome ≡ outcome
   pub all : ran.failed ≡ false → ran.left ≡ []
   pub read_all : ran.unread ≡ []
   pub end_well : EndWell ran.did.events
-  pub count : MayScan job.task (length (pages_of ran.course))
-  pub files : All IsPageFile (pages_of ran.course)
-  pub outputs : TakesBack before (outputs_from 1 (pages_of ran.course)) after
+  pub count : MayScan job.task (length (pages_of ran.trace))
+  pub files : All IsPageFile (pages_of ran.trace)
+  pub outputs : TakesBack before (page_outputs_from 1 (pages_of ran.trace)) after
 
 -- The pages whose files came to their end: those behind which another was asked for; and the last one of a job that was done
 -- but for the shelf, which refused to take its output back.
-abbrev pub AreFinished : Course → List Past → List Taken → Outcome → Type 0
-AreFinished course pages left outcome =
-    (pages ≡ course.pages)
-    ⊎ ((pages ≡ pages_of course) × (left ≡ []) × (outcome ≡ Ended statuses.IoError whys.Sink) × ((reports : Reports) × (course.talk.outcome ≡ Done reports)))
+abbrev pub AreFinished : JobTrace → List JoinHistory → List ReturnedOutput → Outcome → Type 0
+AreFinished trace pages left outcome =
+    (pages ≡ trace.pages)
+    ⊎ ((pages ≡ pages_of trace) × (left ≡ []) × (outcome ≡ Ended statuses.IoError whys.Sink) × ((reports : Reports) × (trace.protocol.outcome ≡ Done reports)))
 
 -- The job has ended otherwise: by a reply or a frame's end, as the client's rules have it, by another cause, or since an output
 -- could not be had, did not take its file, or was not taken back. The pages before have whole files, and at most one more output
 -- stands, which took no whole file.
 pub record BatchEnded {C : Type 0} (remaining contents : C → Option (List ℕ)) (job : Job) (first : C) (coming0 : Option (List (List ℕ))) (now : C) (coming : Option (List (List ℕ))) (before after : Option Stock) (outcome : Outcome) : Type 0 where
-  pub ran : Ran remaining contents job first coming0 now coming
-  pub cause : (ran.course.talk.outcome ≡ outcome) ⊎ (EndsBy ran.course.talk ran.rest outcome ⊎ (outcome ≡ Ended statuses.IoError whys.Sink))
+  pub ran : RanWithTrace remaining contents job first coming0 now coming
+  pub cause : (ran.trace.protocol.outcome ≡ outcome) ⊎ (EndsBy ran.trace.protocol ran.rest outcome ⊎ (outcome ≡ Ended statuses.IoError whys.Sink))
   pub refusal : HasRefusal outcome
-  pub pages : List Past
-  pub left : List Taken
-  pub finished : AreFinished ran.course pages left outcome
+  pub pages : List JoinHistory
+  pub left : List ReturnedOutput
+  pub finished : AreFinished ran.trace pages left outcome
   pub files : All IsPageFile pages
   pub is_left : AreLeft (length pages + 1) left
-  pub outputs : TakesBack before (outputs_from 1 pages ++ left) after
+  pub outputs : TakesBack before (page_outputs_from 1 pages ++ left) after
 
 -- how such a job is over
 abbrev pub HasBatchRun : {C : Type 0} → (C → Option (List ℕ)) → (C → Option (List ℕ)) → Job → C → Option (List (List ℕ)) → C → Option (List (List ℕ)) → Option Stock → Option Stock → Outcome → Type 0
@@ -91,7 +91,7 @@ HasBatchRun remaining contents job first coming0 now coming before after (Ended 
 
 -- a job that is refused, for a fault or since there is no memory for its buffers, touches no stream and no shelf
 pub record RefusesBatch {C D S : Type 0} (job : Job) (outcome : Outcome) (control control_then : C) (dial dial_then : D) (shelf shelf_then : S) : Type 0 where
-  pub why : ((fault : JobFault) × HasFault job (Some fault) × (outcome ≡ refused_as fault)) ⊎ (outcome ≡ Ended statuses.NoMem whys.Memory)
+  pub why : ((fault : JobFault) × HasJobFault job (Some fault) × (outcome ≡ refused_as fault)) ⊎ (outcome ≡ Ended statuses.NoMem whys.Memory)
   pub control_is : control_then ≡ control
   pub dial_is : dial_then ≡ dial
   pub shelf_is : shelf_then ≡ shelf

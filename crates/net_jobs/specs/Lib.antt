@@ -1,9 +1,9 @@
-pub mod Writing
-pub mod Courses
-pub mod Going
+pub mod ControlWriting
+pub mod JobTraces
+pub mod RunInvariants
 pub mod Links
-pub mod Promised
-pub mod Draining
+pub mod RunPromises
+pub mod NetDraining
 pub mod Outputs
 pub mod Batches
 pub mod Paging

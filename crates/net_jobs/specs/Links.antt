@@ -11,10 +11,10 @@ pub data Calls {C : Type 0} (remaining contents : C → Option (List ℕ)) (firs
   Failed : (read_ wrote : List ℕ) (failed : Bool) (was now : C) (piece : List ℕ) → Calls remaining contents first read_ wrote failed was → Appends (contents was) (contents now) piece → Calls remaining contents first read_ (wrote ++ piece) true now
 
 -- The bytes of the connections that are to come, one dial after another, where they are known: a dial brings the first.
-abbrev pub Brings : Option (List (List ℕ)) → Option (List (List ℕ)) → Option (List ℕ) → Type 0
-Brings None now remaining = Unit {0}
-Brings (Some []) now remaining = ⊥
-Brings (Some (whole ∷ others)) now remaining = (now ≡ Some others) × (remaining ≡ Some whole)
+abbrev pub DialBrings : Option (List (List ℕ)) → Option (List (List ℕ)) → Option (List ℕ) → Type 0
+DialBrings None now remaining = Unit {0}
+DialBrings (Some []) now remaining = ⊥
+DialBrings (Some (whole ∷ others)) now remaining = (now ≡ Some others) × (remaining ≡ Some whole)
 
 -- those that came are the first of what was to come
 abbrev pub HasBrought : Option (List (List ℕ)) → Option (List (List ℕ)) → List (List ℕ) → Type 0

@@ -1,26 +1,26 @@
 -- The outputs of a job's files, as far as their shelf tells of them.
 use Rattle.std.specs.Prelude.{ℕ, suc, ◌≡◌, ◌<◌, ⊤, Option, Some, None, List, [], ◌∷◌, ◌++◌, length, take}
 use Rattle.netpbm.specs.Pnm.{IsWhole}
-use Rattle.frame_join.specs.FrameHistory.{Past}
-use Rattle.scan_job.specs.Shelves.{Stock, Taken, Shelves}
+use Rattle.frame_join.specs.FrameHistory.{JoinHistory}
+use Rattle.scan_job.specs.Shelves.{Stock, ReturnedOutput, Shelves}
 
 -- the outputs that a shelf took back since, where it is known
-abbrev pub TakesBack : Option Stock → List Taken → Option Stock → Type 0
+abbrev pub TakesBack : Option Stock → List ReturnedOutput → Option Stock → Type 0
 TakesBack None outputs new = ⊤
 TakesBack (Some old) outputs None = ⊥
 TakesBack (Some old) outputs (Some new) = new.taken ≡ old.taken ++ outputs
 
 -- the output of the file of that number, with these bytes
-abbrev pub output_of : ℕ → List ℕ → Taken
+abbrev pub output_of : ℕ → List ℕ → ReturnedOutput
 output_of k text = record { number = k; text = Some text }
 
 -- the outputs of the files of these pages, numbered from k on
-abbrev pub outputs_from : ℕ → List Past → List Taken
-outputs_from k [] = []
-outputs_from k (page ∷ more) = output_of k page.given ∷ outputs_from (suc k) more
+abbrev pub page_outputs_from : ℕ → List JoinHistory → List ReturnedOutput
+page_outputs_from k [] = []
+page_outputs_from k (page ∷ more) = output_of k page.given ∷ page_outputs_from (suc k) more
 
 -- what is left of the file of that number which did not come to its end: no output, or one that took no whole file
-abbrev pub AreLeft : ℕ → List Taken → Type 0
+abbrev pub AreLeft : ℕ → List ReturnedOutput → Type 0
 AreLeft k [] = Unit {0}
 AreLeft k (output ∷ []) = (text : List ℕ) × (output ≡ output_of k text) × (IsWhole text → ⊥)
 AreLeft k (_ ∷ _ ∷ _) = ⊥
@@ -28,29 +28,29 @@ AreLeft k (_ ∷ _ ∷ _) = ⊥
 -- ---- an output under way
 
 -- it was asked for under that number, and took these bytes; there is none before the first of them
-abbrev pub IsHeld : Option (Option (List ℕ)) → ℕ → ℕ → List ℕ → Type 0
-IsHeld None number k bytes = bytes ≡ []
-IsHeld (Some contents) number k bytes = (number ≡ k) × (contents ≡ Some bytes)
+abbrev pub HoldsOutput : Option (Option (List ℕ)) → ℕ → ℕ → List ℕ → Type 0
+HoldsOutput None number k bytes = bytes ≡ []
+HoldsOutput (Some contents) number k bytes = (number ≡ k) × (contents ≡ Some bytes)
 
 -- where it is known what a shelf took: these outputs were taken back since, and one is under way
-abbrev pub HasTaken : Option Stock → List Taken → Option Stock → Option (Option (List ℕ)) → ℕ → List ℕ → Type 0
+abbrev pub HasTaken : Option Stock → List ReturnedOutput → Option Stock → Option (Option (List ℕ)) → ℕ → List ℕ → Type 0
 HasTaken None outputs now out k bytes = ⊤
 HasTaken (Some old) outputs None out k bytes = ⊥
-HasTaken (Some old) outputs (Some now) out k bytes = (now.taken ≡ old.taken ++ outputs) × IsHeld out now.number k bytes
+HasTaken (Some old) outputs (Some now) out k bytes = (now.taken ≡ old.taken ++ outputs) × HoldsOutput out now.number k bytes
 
 -- and it was asked for at the first
-pub record IsUnderWay (before : Option Stock) (outputs : List Taken) (now : Option Stock) (out : Option (Option (List ℕ))) (k : ℕ) (bytes : List ℕ) : Type 0 where
+pub record OutputIsUnderWay (before : Option Stock) (outputs : List ReturnedOutput) (now : Option Stock) (out : Option (Option (List ℕ))) (k : ℕ) (bytes : List ℕ) : Type 0 where
   pub taken : HasTaken before outputs now out k bytes
   pub asked : bytes ≡ [] → out ≡ None
 
 -- whatever it took before, with what the shelf took back, it took these bytes more
 abbrev pub TakesMore : Option Stock → Option (Option (List ℕ)) → Option Stock → Option (Option (List ℕ)) → ℕ → List ℕ → Type 0
-TakesMore was out now new k bytes = (before : Option Stock) (outputs : List Taken) (had : List ℕ) → HasTaken before outputs was out k had → HasTaken before outputs now new k (had ++ bytes)
+TakesMore was out now new k bytes = (before : Option Stock) (outputs : List ReturnedOutput) (had : List ℕ) → HasTaken before outputs was out k had → HasTaken before outputs now new k (had ++ bytes)
 
 -- or only a proper front of them
 abbrev pub TakesFront : Option Stock → Option (Option (List ℕ)) → Option Stock → Option (Option (List ℕ)) → ℕ → List ℕ → Type 0
 TakesFront was out now new k bytes =
-    (before : Option Stock) (outputs : List Taken) (had : List ℕ) → HasTaken before outputs was out k had → (n : ℕ) × (n < length bytes) × HasTaken before outputs now new k (had ++ take n bytes)
+    (before : Option Stock) (outputs : List ReturnedOutput) (had : List ℕ) → HasTaken before outputs was out k had → (n : ℕ) × (n < length bytes) × HasTaken before outputs now new k (had ++ take n bytes)
 
 -- one that stands is taken back, with what it holds
 abbrev pub GivesBack : Option Stock → Option (Option (List ℕ)) → Option Stock → Type 0

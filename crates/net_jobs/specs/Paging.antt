@@ -4,87 +4,87 @@ use Rattle.sane_fixed.specs.declared.status.Status.TheVariants as statuses
 use Rattle.netpbm.specs.Picture.{Picture}
 use Rattle.netpbm.specs.Pnm.{Denotes, IsWhole}
 use Rattle.page_picture.specs.Shows.{ShowsFrames}
-use Rattle.frame_join.specs.FrameHistory.{Past, IsJoined, no_past, after_pull}
-use Rattle.frame_join.specs.Joining.{Joining}
+use Rattle.frame_join.specs.FrameHistory.{JoinHistory, IsJoined, empty_history, after_pull}
+use Rattle.frame_join.specs.JoinStates.{JoinState}
 use Rattle.scan_job.specs.declared.job.Job.{Job}
 use Rattle.scan_job.specs.declared.outcome.Outcome.{Outcome}
 use Rattle.scan_job.specs.declared.outcome.Outcome.TheVariants.{Running, Done, Ended}
 use Rattle.scan_job.specs.declared.outcome.Why.TheVariants as whys
-use Rattle.scan_job.specs.Shelves.{Stock, Taken}
-use Rattle.client_rules.specs.Talks.{is_ended, scans, turns}
-use Rattle.net_client.specs.Talker.{Talker, Serves, TurnsPage}
-use Rattle.net_jobs.specs.Courses.{EndWell}
-use Rattle.net_jobs.specs.Going.{EndsBy}
-use Rattle.net_jobs.specs.Outputs.{TakesBack, HasTaken, IsUnderWay, output_of, outputs_from}
-use Rattle.net_jobs.specs.Promised.{Ran, HasRefusal}
+use Rattle.scan_job.specs.Shelves.{Stock, ReturnedOutput}
+use Rattle.client_replies.specs.ProtocolStates.{is_ended, scans, turns}
+use Rattle.net_client.specs.ClientStates.{ClientState, ClientRepresents, TurnsPage}
+use Rattle.net_jobs.specs.JobTraces.{EndWell}
+use Rattle.net_jobs.specs.RunInvariants.{EndsBy}
+use Rattle.net_jobs.specs.Outputs.{TakesBack, HasTaken, OutputIsUnderWay, output_of, page_outputs_from}
+use Rattle.net_jobs.specs.RunPromises.{RanWithTrace, HasRefusal}
 use Rattle.net_jobs.specs.Batches.{IsPageFile, MayScan, pages_of}
 
 -- a client that scans stands for what was told to it and given, and the output of the file under way, which is number k, took
 -- what was given of that
-pub record IsFiling (past : Past) (client : Talker) (k : ℕ) (before : Option Stock) (outputs : List Taken) (now : Option Stock) (out : Option (Option (List ℕ))) : Type 0 where
-  pub scanning : scans client.errand.task ≡ true
+pub record IsFiling (past : JoinHistory) (client : ClientState) (k : ℕ) (before : Option Stock) (outputs : List ReturnedOutput) (now : Option Stock) (out : Option (Option (List ℕ))) : Type 0 where
+  pub scanning : scans client.target.task ≡ true
   pub number : is_ended client.outcome ≡ false → client.notes.file ≡ k
-  pub serves : Serves past client
-  pub under_way : IsUnderWay before outputs now out k past.given
+  pub serves : ClientRepresents past client
+  pub under_way : OutputIsUnderWay before outputs now out k past.given
 
 -- the client gave bytes of its file, not the last ones of a page, and the output took them
-pub record GoesOn (past : Past) (old : Talker) (k : ℕ) (before : Option Stock) (outputs : List Taken) (new : Talker) (after : Option Stock) (out : Option (Option (List ℕ))) : Type 0 where
+pub record PageGoesOn (past : JoinHistory) (old : ClientState) (k : ℕ) (before : Option Stock) (outputs : List ReturnedOutput) (new : ClientState) (after : Option Stock) (out : Option (Option (List ℕ))) : Type 0 where
   pub bytes : List ℕ
-  pub serves : Serves (after_pull bytes past) new
+  pub serves : ClientRepresents (after_pull bytes past) new
   pub rest : new ≡ record old { join = new.join }
-  pub under_way : IsUnderWay before outputs after out k (past.given ++ bytes)
+  pub under_way : OutputIsUnderWay before outputs after out k (past.given ++ bytes)
   pub denotes : is_ended old.outcome ≡ false → IsJoined past → (p : Picture) → ShowsFrames past.ended p → Denotes (past.given ++ bytes) p
 
 -- the client gave the last bytes of a page's file and turned to the next page, and the file's output was given back
-pub record TurnsOn (past : Past) (old : Talker) (k : ℕ) (before : Option Stock) (outputs : List Taken) (new : Talker) (after : Option Stock) (out : Option (Option (List ℕ))) : Type 0 where
+pub record TurnsOn (past : JoinHistory) (old : ClientState) (k : ℕ) (before : Option Stock) (outputs : List ReturnedOutput) (new : ClientState) (after : Option Stock) (out : Option (Option (List ℕ))) : Type 0 where
   pub bytes : List ℕ
   pub turning : turns old.outcome old.progress ≡ true
   pub whole : IsWhole (past.given ++ bytes)
   pub denotes : (p : Picture) → ShowsFrames past.ended p → Denotes (past.given ++ bytes) p
-  pub join : Joining
+  pub join : JoinState
   pub client : TurnsPage (record old { join = join }) new
-  pub serves : Serves no_past new
+  pub serves : ClientRepresents empty_history new
   pub taken : TakesBack before (outputs ++ output_of k (past.given ++ bytes) ∷ []) after
   pub none : out ≡ None
 
 -- an output could not be had, or did not take all bytes: what it took is no whole file
-pub record FallsShort (k : ℕ) (before : Option Stock) (outputs : List Taken) (after : Option Stock) (out : Option (Option (List ℕ))) : Type 0 where
+pub record FallsShort (k : ℕ) (before : Option Stock) (outputs : List ReturnedOutput) (after : Option Stock) (out : Option (Option (List ℕ))) : Type 0 where
   pub text : List ℕ
   pub taken : HasTaken before outputs after out k text
   pub not_whole : IsWhole text → ⊥
 
 -- all that was given was taken: the client goes on with its file, or it turned to the next page
-abbrev pub HasFiled : Past → Talker → ℕ → Option Stock → List Taken → Talker → Option Stock → Option (Option (List ℕ)) → Type 0
-HasFiled past old k before outputs new after out = GoesOn past old k before outputs new after out ⊎ TurnsOn past old k before outputs new after out
+abbrev pub HasFiled : JoinHistory → ClientState → ℕ → Option Stock → List ReturnedOutput → ClientState → Option Stock → Option (Option (List ℕ)) → Type 0
+HasFiled past old k before outputs new after out = PageGoesOn past old k before outputs new after out ⊎ TurnsOn past old k before outputs new after out
 
 -- not all was: an output fell short, or the shelf refused the one that was given back as the client turned to the next page
-abbrev pub HasFiledShort : Past → Talker → ℕ → Option Stock → List Taken → Talker → Option Stock → Option (Option (List ℕ)) → Type 0
+abbrev pub HasFiledShort : JoinHistory → ClientState → ℕ → Option Stock → List ReturnedOutput → ClientState → Option Stock → Option (Option (List ℕ)) → Type 0
 HasFiledShort past old k before outputs new after out = FallsShort k before outputs after out ⊎ TurnsOn past old k before outputs new after out
 
 -- ---- a job that is over, before the output under way is given back
 
-pub record CameDone {C : Type 0} (remaining contents : C → Option (List ℕ)) (job : Job) (first : C) (coming0 : Option (List (List ℕ))) (now : C) (coming : Option (List (List ℕ))) (before after : Option Stock) (out : Option (Option (List ℕ))) (outcome : Outcome) : Type 0 where
-  pub ran : Ran remaining contents job first coming0 now coming
-  pub told : ran.course.talk.outcome ≡ outcome
+pub record BatchCameDone {C : Type 0} (remaining contents : C → Option (List ℕ)) (job : Job) (first : C) (coming0 : Option (List (List ℕ))) (now : C) (coming : Option (List (List ℕ))) (before after : Option Stock) (out : Option (Option (List ℕ))) (outcome : Outcome) : Type 0 where
+  pub ran : RanWithTrace remaining contents job first coming0 now coming
+  pub told : ran.trace.protocol.outcome ≡ outcome
   pub all : ran.failed ≡ false → ran.left ≡ []
   pub read_all : ran.unread ≡ []
   pub end_well : EndWell ran.did.events
-  pub count : MayScan job.task (length (pages_of ran.course))
-  pub files : All IsPageFile (pages_of ran.course)
-  pub taken : HasTaken before (outputs_from 1 ran.course.pages) after out (length ran.course.pages + 1) ran.course.talk.past.given
-  pub none : (IsJoined ran.course.talk.past → ⊥) → out ≡ None
-  pub last : IsJoined ran.course.talk.past → IsPageFile ran.course.talk.past
+  pub count : MayScan job.task (length (pages_of ran.trace))
+  pub files : All IsPageFile (pages_of ran.trace)
+  pub taken : HasTaken before (page_outputs_from 1 ran.trace.pages) after out (length ran.trace.pages + 1) ran.trace.protocol.history.given
+  pub none : (IsJoined ran.trace.protocol.history → ⊥) → out ≡ None
+  pub last : IsJoined ran.trace.protocol.history → IsPageFile ran.trace.protocol.history
 
-pub record CameEnded {C : Type 0} (remaining contents : C → Option (List ℕ)) (job : Job) (first : C) (coming0 : Option (List (List ℕ))) (now : C) (coming : Option (List (List ℕ))) (before after : Option Stock) (out : Option (Option (List ℕ))) (outcome : Outcome) : Type 0 where
-  pub ran : Ran remaining contents job first coming0 now coming
-  pub cause : (ran.course.talk.outcome ≡ outcome) ⊎ (EndsBy ran.course.talk ran.rest outcome ⊎ (outcome ≡ Ended statuses.IoError whys.Sink))
+pub record BatchCameEnded {C : Type 0} (remaining contents : C → Option (List ℕ)) (job : Job) (first : C) (coming0 : Option (List (List ℕ))) (now : C) (coming : Option (List (List ℕ))) (before after : Option Stock) (out : Option (Option (List ℕ))) (outcome : Outcome) : Type 0 where
+  pub ran : RanWithTrace remaining contents job first coming0 now coming
+  pub cause : (ran.trace.protocol.outcome ≡ outcome) ⊎ (EndsBy ran.trace.protocol ran.rest outcome ⊎ (outcome ≡ Ended statuses.IoError whys.Sink))
   pub refusal : HasRefusal outcome
-  pub files : All IsPageFile ran.course.pages
+  pub files : All IsPageFile ran.trace.pages
   pub text : List ℕ
-  pub taken : HasTaken before (outputs_from 1 ran.course.pages) after out (length ran.course.pages + 1) text
+  pub taken : HasTaken before (page_outputs_from 1 ran.trace.pages) after out (length ran.trace.pages + 1) text
   pub not_whole : IsWhole text → ⊥
 
-abbrev pub HasCome : {C : Type 0} → (C → Option (List ℕ)) → (C → Option (List ℕ)) → Job → C → Option (List (List ℕ)) → C → Option (List (List ℕ)) → Option Stock → Option Stock → Option (Option (List ℕ)) → Outcome → Type 0
-HasCome remaining contents job first coming0 now coming before after out Running = ⊥
-HasCome remaining contents job first coming0 now coming before after out (Done reports) = CameDone remaining contents job first coming0 now coming before after out (Done reports)
-HasCome remaining contents job first coming0 now coming before after out (Ended status why) = CameEnded remaining contents job first coming0 now coming before after out (Ended status why)
+abbrev pub BatchHasCome : {C : Type 0} → (C → Option (List ℕ)) → (C → Option (List ℕ)) → Job → C → Option (List (List ℕ)) → C → Option (List (List ℕ)) → Option Stock → Option Stock → Option (Option (List ℕ)) → Outcome → Type 0
+BatchHasCome remaining contents job first coming0 now coming before after out Running = ⊥
+BatchHasCome remaining contents job first coming0 now coming before after out (Done reports) = BatchCameDone remaining contents job first coming0 now coming before after out (Done reports)
+BatchHasCome remaining contents job first coming0 now coming before after out (Ended status why) = BatchCameEnded remaining contents job first coming0 now coming before after out (Ended status why)

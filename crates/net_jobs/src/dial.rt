@@ -9,7 +9,7 @@ pub struct DialFault;
 /// Makes the data connections of a job.
 pub trait Dial {
     ghost use Rattle.std.specs.Prelude.{◌≡◌, ℕ, List, Option, None, IfOk, OnErr};
-    ghost use Rattle.net_jobs.specs.Links.{Brings};
+    ghost use Rattle.net_jobs.specs.Links.{DialBrings};
 
     type Conn: Read + Drop;
 
@@ -18,6 +18,6 @@ pub trait Dial {
 
     /// A connection to that port of the host of the control connection.
     fn dial(&mut self, port: u16) -> Result<Self::Conn, DialFault>
-        ensures brings { IfOk result (λ conn. Brings (coming self.old) (coming self.new) (Self.Conn.remaining conn)) }
+        ensures brings { IfOk result (λ conn. DialBrings (coming self.old) (coming self.new) (Self.Conn.remaining conn)) }
         ensures none { OnErr result (coming self.new ≡ coming self.old) };
 }

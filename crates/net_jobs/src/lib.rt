@@ -2,10 +2,10 @@
 //! its files.
 #![tactic(auto)]
 
-mod batch;
 mod dial;
+mod net_batch;
 mod running;
 
-pub use batch::{run_batch, run_batch_with};
 pub use dial::{Dial, DialFault};
+pub use net_batch::{run_batch, run_batch_with};
 pub use running::{run_job, run_job_with};

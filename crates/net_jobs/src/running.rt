@@ -6,12 +6,12 @@ ghost use Rattle.scan_job.specs.declared.job.Task.TheVariants as tasks;
 ghost use Rattle.scan_job.specs.declared.outcome.Outcome.TheVariants.{Done, Ended};
 ghost use Rattle.scan_job.specs.declared.report.Reports.{Reports as ReportsValue};
 ghost use Rattle.scan_job.specs.Outcomes.{IsOver, over_as};
-ghost use Rattle.frame_join.specs.FrameHistory.{Past};
-ghost use Rattle.client_rules.specs.Talks.{is_running, is_receiving, is_batch, wanted};
-ghost use Rattle.net_client.specs.Talker.{Serves, IsFresh};
-ghost use Rattle.net_jobs.specs.Draining.{HoldsGiven, IsDrainedTo, StopsShort};
-ghost use Rattle.net_jobs.specs.Going.{StageGoesOn, TurnGoesOn, HeardOrLost};
-ghost use Rattle.net_jobs.specs.Promised.{HasRun, Refuses, EndsAs, refused_as};
+ghost use Rattle.frame_join.specs.FrameHistory.{JoinHistory};
+ghost use Rattle.client_replies.specs.ProtocolStates.{is_running, is_receiving, is_batch, wanted_port};
+ghost use Rattle.net_client.specs.ClientStates.{ClientRepresents, IsNewClient};
+ghost use Rattle.net_jobs.specs.NetDraining.{HoldsGiven, IsDrainedTo, StopsShort};
+ghost use Rattle.net_jobs.specs.RunInvariants.{RunInvariantIsKept, TurnGoesOn, HeardOrLost};
+ghost use Rattle.net_jobs.specs.RunPromises.{HasRun, RefusesJob, StopsAs, refused_as};
 
 use crate::dial::Dial;
 use byte_output::put;
@@ -39,7 +39,7 @@ pub(crate) fn piece(alloc: Global) -> Result<Vec<u8>, AllocError>
 }
 
 /// How a job that is refused ends.
-pub(crate) fn refused(fault: JobFault) -> Stop
+pub(crate) fn stop_of_fault(fault: JobFault) -> Stop
     ensures { Ended result.status result.why ≡ refused_as fault }
 {
     match fault {
@@ -108,7 +108,7 @@ fn read_piece<R: Read>(stream: &mut R, piece: &mut [u8], reads: &mut u64) -> usi
 fn hear<C: Read>(client: &mut Client, control: &mut C, piece: &mut [u8], reads: &mut u64)
     requires { is_running client.old.outcome ≡ true }
     ensures room { length piece.new ≡ length piece.old }
-    ensures heard { (past : Past) → Serves past client.old → HeardOrLost (C.remaining control.old) (C.remaining control.new) client.old past client.new }
+    ensures heard { (past : JoinHistory) → ClientRepresents past client.old → HeardOrLost (C.remaining control.old) (C.remaining control.new) client.old past client.new }
 {
     let n = read_piece(control, piece, reads);
     if n == 0 {
@@ -127,7 +127,7 @@ fn see<R: Read + Drop>(
 )
     requires { is_receiving client.old.outcome client.old.progress ≡ true }
     ensures room { length piece.new ≡ length piece.old }
-    ensures stage { (coming : Option (List (List ℕ))) → StageGoesOn R.remaining coming coming stream.old stream.new client.old client.new }
+    ensures stage { (coming : Option (List (List ℕ))) → RunInvariantIsKept R.remaining coming coming stream.old stream.new client.old client.new }
 {
     let Some(mut conn) = stream.take() else {
         client.link_lost(Link::Image);
@@ -147,8 +147,8 @@ fn see<R: Read + Drop>(
 /// Makes the data connection of a frame.
 fn connect<D: Dial>(client: &mut Client, dial: &mut D, stream: &mut Option<D::Conn>, port: u16)
     requires running { is_running client.old.outcome ≡ true }
-    requires wanted { wanted client.old.progress ≡ Some port }
-    ensures stage { StageGoesOn D.Conn.remaining (D.coming dial.old) (D.coming dial.new) stream.old stream.new client.old client.new }
+    requires wanted { wanted_port client.old.progress ≡ Some port }
+    ensures stage { RunInvariantIsKept D.Conn.remaining (D.coming dial.old) (D.coming dial.new) stream.old stream.new client.old client.new }
 {
     match dial.dial(port) {
         Ok(conn) => {
@@ -203,8 +203,8 @@ fn drain<W: Write>(client: &mut Client, room: &mut [u8], out: &mut W, reads: &mu
     ensures room { length room.new ≡ length room.old }
     ensures outcome { client.new.outcome ≡ client.old.outcome }
     // `first` is what the output held before the file, and `past` what the client was told and gave.
-    ensures drained { result ≡ true → (first : Option (List ℕ)) (past : Past) → HoldsGiven past client.old first (W.contents out.old) → IsDrainedTo past client.old first client.new (W.contents out.new) }
-    ensures short { result ≡ false → (first : Option (List ℕ)) (past : Past) → HoldsGiven past client.old first (W.contents out.old) → StopsShort first (W.contents out.new) }
+    ensures drained { result ≡ true → (first : Option (List ℕ)) (past : JoinHistory) → HoldsGiven past client.old first (W.contents out.old) → IsDrainedTo past client.old first client.new (W.contents out.new) }
+    ensures short { result ≡ false → (first : Option (List ℕ)) (past : JoinHistory) → HoldsGiven past client.old first (W.contents out.old) → StopsShort first (W.contents out.new) }
 {
     no_file_is_endless();
     no_front_is_whole();
@@ -232,8 +232,8 @@ fn give<W: Write>(
     ensures room { length room.new ≡ length room.old }
     ensures outcome { client.new.outcome ≡ client.old.outcome }
     ensures none { is_scan ≡ false → (result ≡ true) × (client.new ≡ client.old) × (W.contents out.new ≡ W.contents out.old) }
-    ensures drained { is_scan ≡ true → result ≡ true → (first : Option (List ℕ)) (past : Past) → HoldsGiven past client.old first (W.contents out.old) → IsDrainedTo past client.old first client.new (W.contents out.new) }
-    ensures short { result ≡ false → (first : Option (List ℕ)) (past : Past) → HoldsGiven past client.old first (W.contents out.old) → StopsShort first (W.contents out.new) }
+    ensures drained { is_scan ≡ true → result ≡ true → (first : Option (List ℕ)) (past : JoinHistory) → HoldsGiven past client.old first (W.contents out.old) → IsDrainedTo past client.old first client.new (W.contents out.new) }
+    ensures short { result ≡ false → (first : Option (List ℕ)) (past : JoinHistory) → HoldsGiven past client.old first (W.contents out.old) → StopsShort first (W.contents out.new) }
 {
     if !is_scan {
         return true;
@@ -268,7 +268,7 @@ pub(crate) fn told_of<T: Drop, F: FnOnce(&Reports) -> Result<T, NoMem> + Drop>(
     requires tell { F.IsAlwaysCallable tell }
     ensures told { IfOk result (λ told. (reports : ReportsValue) × (outcome.now ≡ Done reports)
         × FnOnceReturnsAt F.FnOnce tell reports (Ok told)) }
-    ensures ended { IfErr result (λ stop. EndsAs outcome.now stop) }
+    ensures ended { IfErr result (λ stop. StopsAs outcome.now stop) }
 {
     match outcome {
         Outcome::Done(reports) => Ok(tell(reports)?),
@@ -324,7 +324,7 @@ where
     F: FnOnce(&Reports) -> Result<T, NoMem> + Drop,
     requires room { 0 < length room.old }
     requires tell { F.IsAlwaysCallable tell }
-    ensures ran { (job : JobValue) → IsFresh job client → is_batch job.task ≡ false
+    ensures ran { (job : JobValue) → IsNewClient job client → is_batch job.task ≡ false
         → (is_scan ≡ true ↔ job.task ≡ tasks.Scan)
         → HasRun C.remaining C.contents job control.old (D.coming dial.old)
         control.new (D.coming dial.new) (W.contents out.old) (W.contents out.new) (over_as result) }
@@ -382,7 +382,7 @@ where
     F: FnOnce(&Reports) -> Result<T, NoMem> + Drop,
     requires tell { F.IsAlwaysCallable tell }
     // A job that is refused, or finds no memory for its buffers, touches no stream.
-    ensures ran { Refuses job (over_as result) control.old control.new dial.old dial.new out.old out.new
+    ensures ran { RefusesJob job (over_as result) control.old control.new dial.old dial.new out.old out.new
         ⊎ ((is_batch job.task ≡ false) × HasRun C.remaining C.contents job control.old
         (D.coming dial.old) control.new (D.coming dial.new)
         (W.contents out.old) (W.contents out.new) (over_as result)) }
@@ -408,7 +408,7 @@ where
             room.as_mut_slice(),
             tell,
         ),
-        Err((fault, _job)) => Err(refused(fault)),
+        Err((fault, _job)) => Err(stop_of_fault(fault)),
     }
 }
 
@@ -424,7 +424,7 @@ pub fn run_job<C: Read + Write, D: Dial, W: Write>(
 ) -> Outcome
     ensures over { IsOver result }
     // A job that is refused, or finds no memory for its buffers, touches no stream.
-    ensures ran { Refuses job result control.old control.new dial.old dial.new out.old out.new
+    ensures ran { RefusesJob job result control.old control.new dial.old dial.new out.old out.new
         ⊎ ((is_batch job.task ≡ false) × HasRun C.remaining C.contents job control.old (D.coming dial.old) control.new (D.coming dial.new) (W.contents out.old) (W.contents out.new) result) }
 {
     match run_job_with(alloc, job, control, dial, out, |_| Ok(())) {

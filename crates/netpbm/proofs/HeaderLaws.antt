@@ -7,8 +7,8 @@ use Rattle.std.proofs.lemmas.Bool.Decides.{nat_tests}
 use Rattle.std.proofs.lemmas.List.{take_at, drop_at, take-append-drop, length-take}
 use Rattle.std.proofs.lemmas.Option.{cond_some, option_and_then_some, some_pair_parts}
 use Rattle.std.proofs.lemmas.Bool.{and_parts}
-use Rattle.netpbm.specs.declared.format.Format.{Format}
-use Rattle.netpbm.specs.declared.format.Format.TheVariants.{Pbm, Pgm, Ppm}
+use Rattle.netpbm.specs.declared.format.PnmFormat.{PnmFormat}
+use Rattle.netpbm.specs.declared.format.PnmFormat.TheVariants.{Pbm, Pgm, Ppm}
 use Rattle.netpbm.specs.declared.format.Header.{Header}
 use Rattle.netpbm.specs.Pnm.{is_white, ends_comment, NoneEnds, IsFiller, nothing, white, comment, IsGap, IsNumber, IsField, IsHeader, IsMaxval, magic, Begins}
 use Rattle.netpbm.specs.HeaderReading.{format_of, after_filler, number_at, field_at, end_at, maxval_at, header_at}
@@ -266,28 +266,28 @@ steps_found text h raster e =
     }))))))
 
 -- a header of the grammar is read, whatever follows it
-pub maxval_at-grammar : (f : Format) (field rest : List ℕ) (m : ℕ) → IsMaxval f field m → digit_count rest ≡ 0 → maxval_at f (field ++ rest) ≡ Some (m, rest)
+pub maxval_at-grammar : (f : PnmFormat) (field rest : List ℕ) (m : ℕ) → IsMaxval f field m → digit_count rest ≡ 0 → maxval_at f (field ++ rest) ≡ Some (m, rest)
 unfolding maxval_at
 maxval_at-grammar Pbm field rest m is none = rw (is.0, is.1) refl
 maxval_at-grammar Pgm field rest m is none = field_at-field field rest m is.0 none
 maxval_at-grammar Ppm field rest m is none = field_at-field field rest m is.0 none
 
-maxval_limits : (f : Format) (field : List ℕ) (m : ℕ) → IsMaxval f field m → (1 ≤ m) × (m ≤ 65535)
+maxval_limits : (f : PnmFormat) (field : List ℕ) (m : ℕ) → IsMaxval f field m → (1 ≤ m) × (m ≤ 65535)
 maxval_limits Pbm field m is = (omega (arith, is.1), omega (arith, is.1))
 maxval_limits Pgm field m is = (is.1, is.2)
 maxval_limits Ppm field m is = (is.1, is.2)
 
-digit_count-maxval : (f : Format) (field rest : List ℕ) (m : ℕ) → IsMaxval f field m → digit_count rest ≡ 0 → digit_count (field ++ rest) ≡ 0
+digit_count-maxval : (f : PnmFormat) (field rest : List ℕ) (m : ℕ) → IsMaxval f field m → digit_count rest ≡ 0 → digit_count (field ++ rest) ≡ 0
 digit_count-maxval Pbm field rest m is none = rw (is.0) none
 digit_count-maxval Pgm field rest m is none = digit_count-field field rest m is.0
 digit_count-maxval Ppm field rest m is none = digit_count-field field rest m is.0
 
-format_of-magic : (f : Format) (rest : List ℕ) → format_of (magic f ++ rest) ≡ Some f
+format_of-magic : (f : PnmFormat) (rest : List ℕ) → format_of (magic f ++ rest) ≡ Some f
 format_of-magic Pbm rest = refl
 format_of-magic Pgm rest = refl
 format_of-magic Ppm rest = refl
 
-drop-magic : (f : Format) (rest : List ℕ) → drop 2 (magic f ++ rest) ≡ rest
+drop-magic : (f : PnmFormat) (rest : List ℕ) → drop 2 (magic f ++ rest) ≡ rest
 drop-magic Pbm rest = refl
 drop-magic Pgm rest = refl
 drop-magic Ppm rest = refl
@@ -327,7 +327,7 @@ header_at-begins text h raster b =
     rw (b.text_is) (header_at-steps (b.head ++ raster) h raster (steps_from_header b.head h raster b.is_header))
 
 -- the first two bytes
-pub format_found : (text : List ℕ) (f : Format) → format_of text ≡ Some f → text ≡ magic f ++ drop 2 text
+pub format_found : (text : List ℕ) (f : PnmFormat) → format_of text ≡ Some f → text ≡ magic f ++ drop 2 text
 format_found [] f e = absurd (not_none _ e)
 format_found (p ∷ []) f e = absurd (not_none _ e)
 format_found (p ∷ k ∷ rest) f e =
@@ -352,19 +352,19 @@ format_found (p ∷ k ∷ rest) f e =
     is_byte : (b n : ℕ) → (b == n) ≡ true → b ≡ n
     is_byte b n h = grind (arith, nat_tests)
 
-    told : (p k n : ℕ) (x f : Format) (rest : List ℕ) → p ≡ 80 → k ≡ n → magic x ≡ 80 ∷ n ∷ [] → ◌≡◌ {A = Option Format} (Some x) (Some f) → p ∷ k ∷ rest ≡ magic f ++ rest
+    told : (p k n : ℕ) (x f : PnmFormat) (rest : List ℕ) → p ≡ 80 → k ≡ n → magic x ≡ 80 ∷ n ∷ [] → ◌≡◌ {A = Option PnmFormat} (Some x) (Some f) → p ∷ k ∷ rest ≡ magic f ++ rest
     told p k n x f rest a b m e =
         let same : x ≡ f = (cc) in
         let magic_is : magic f ≡ 80 ∷ n ∷ [] = ap magic (sym same) ∙ m in
         rw (a, b, magic_is) refl
 
 -- what is read is in the grammar
-pub record FoundMaxval (f : Format) (bytes : List ℕ) (m : ℕ) (rest : List ℕ) : Type 0 where
+pub record FoundMaxval (f : PnmFormat) (bytes : List ℕ) (m : ℕ) (rest : List ℕ) : Type 0 where
   pub field : List ℕ
   pub bytes_are : bytes ≡ field ++ rest
   pub is_maxval : IsMaxval f field m
 
-maxval_found : (f : Format) (bytes : List ℕ) (m : ℕ) (rest : List ℕ) → maxval_at f bytes ≡ Some (m, rest) → 1 ≤ m → m ≤ 65535 → FoundMaxval f bytes m rest
+maxval_found : (f : PnmFormat) (bytes : List ℕ) (m : ℕ) (rest : List ℕ) → maxval_at f bytes ≡ Some (m, rest) → 1 ≤ m → m ≤ 65535 → FoundMaxval f bytes m rest
 unfolding maxval_at
 maxval_found Pbm bytes m rest e low high =
     let p = some_pair_parts 1 m bytes rest e in

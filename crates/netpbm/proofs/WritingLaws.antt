@@ -6,48 +6,48 @@ use Rattle.std.proofs.lemmas.Bool.Decides.{nat_tests}
 use Rattle.std.proofs.lemmas.List.{append-nil, get_or_append_left, get_or-append-add}
 use Rattle.std.proofs.lemmas.Nat.{mul-add-lt}
 use Rattle.std.proofs.lemmas.Fmt.{decimal_is_IsNumeral, length-decimal-le}
-use Rattle.netpbm.specs.declared.format.Format.{Format}
-use Rattle.netpbm.specs.declared.format.Format.TheVariants.{Pbm, Pgm, Ppm}
+use Rattle.netpbm.specs.declared.format.PnmFormat.{PnmFormat}
+use Rattle.netpbm.specs.declared.format.PnmFormat.TheVariants.{Pbm, Pgm, Ppm}
 use Rattle.netpbm.specs.declared.format.Header.{Header}
 use Rattle.netpbm.specs.Picture.{Picture, IsPlace}
 use Rattle.netpbm.specs.Pnm.{is_white, NoneEnds, nothing, comment, IsNumber, IsField, IsHeader, Denotes, raster_length, sample_in, channels_of, number_in, sample_bytes, bit_row}
-use Rattle.netpbm.specs.FileText.{joined, header_text, sample_text, samples_text, row_text, raster_text, file_text, binary, bits_byte, Suits}
+use Rattle.netpbm.specs.FileText.{concat_up_to, header_text, sample_text, samples_text, row_text, raster_text, file_text, binary, bits_byte, Suits}
 
 -- ---- lists one after another
 
-pub joined-zero : (f : ℕ → List ℕ) → joined f 0 ≡ []
-unfolding joined
+pub joined-zero : (f : ℕ → List ℕ) → concat_up_to f 0 ≡ []
+unfolding concat_up_to
 joined-zero f = refl
 
-pub joined-more : (f : ℕ → List ℕ) (n : ℕ) → joined f (n + 1) ≡ joined f n ++ f n
-unfolding joined
+pub joined-more : (f : ℕ → List ℕ) (n : ℕ) → concat_up_to f (n + 1) ≡ concat_up_to f n ++ f n
+unfolding concat_up_to
 joined-more f n = rw add-one refl
 
 -- before a loop that adds the lists one after another
-pub joined_none : (f : ℕ → List ℕ) (before : List ℕ) → before ≡ before ++ joined f 0
+pub joined_none : (f : ℕ → List ℕ) (before : List ℕ) → before ≡ before ++ concat_up_to f 0
 joined_none f before = sym (ap (λ l. before ++ l) (joined-zero f) ∙ append-nil before)
 
 -- a loop that adds the lists one after another
-pub joined_step : (f : ℕ → List ℕ) (before now after : List ℕ) (n : ℕ) → now ≡ before ++ joined f n → after ≡ now ++ f n → after ≡ before ++ joined f (n + 1)
+pub joined_step : (f : ℕ → List ℕ) (before now after : List ℕ) (n : ℕ) → now ≡ before ++ concat_up_to f n → after ≡ now ++ f n → after ≡ before ++ concat_up_to f (n + 1)
 joined_step f before now after n e s =
-    s ∙ (ap (λ l. l ++ f n) e ∙ (append_assoc before (joined f n) (f n) ∙ ap (λ l. before ++ l) (sym (joined-more f n))))
+    s ∙ (ap (λ l. l ++ f n) e ∙ (append_assoc before (concat_up_to f n) (f n) ∙ ap (λ l. before ++ l) (sym (joined-more f n))))
 
-pub length-joined : (f : ℕ → List ℕ) (size n : ℕ) → ((i : ℕ) → length (f i) ≡ size) → length (joined f n) ≡ n * size
-unfolding joined
+pub length-joined : (f : ℕ → List ℕ) (size n : ℕ) → ((i : ℕ) → length (f i) ≡ size) → length (concat_up_to f n) ≡ n * size
+unfolding concat_up_to
 length-joined f size zero all = omega arith
-length-joined f size (suc n) all = omega (arith, length-append (joined f n) (f n), all n, length-joined f size n all)
+length-joined f size (suc n) all = omega (arith, length-append (concat_up_to f n) (f n), all n, length-joined f size n all)
 
-pub joined_at : (f : ℕ → List ℕ) (size n i j : ℕ) → ((i : ℕ) → length (f i) ≡ size) → i < n → j < size → get_or (joined f n) (i * size + j) 0 ≡ get_or (f i) j 0
-unfolding joined
+pub joined_at : (f : ℕ → List ℕ) (size n i j : ℕ) → ((i : ℕ) → length (f i) ≡ size) → i < n → j < size → get_or (concat_up_to f n) (i * size + j) 0 ≡ get_or (f i) j 0
+unfolding concat_up_to
 joined_at f size zero i j all a b = absurd (omega arith)
 joined_at f size (suc n) i j all a b =
     let front = length-joined f size n all in
-    elim (cases_lt i n) as (λ _. get_or (joined f n ++ f n) (i * size + j) 0 ≡ get_or (f i) j 0) [
-      | inl less ↦ get_or_append_left (joined f n) (f n) 0 (i * size + j) (omega (arith, mul-add-lt i size j n less b)) ∙ joined_at f size n i j all less b
+    elim (cases_lt i n) as (λ _. get_or (concat_up_to f n ++ f n) (i * size + j) 0 ≡ get_or (f i) j 0) [
+      | inl less ↦ get_or_append_left (concat_up_to f n) (f n) 0 (i * size + j) (omega (arith, mul-add-lt i size j n less b)) ∙ joined_at f size n i j all less b
       | inr more ↦
           let same : i ≡ n = omega arith in
-          let place : i * size + j ≡ length (joined f n) + j = omega (arith, ap (λ (k : ℕ). k * size) same) in
-          ap (λ (k : ℕ). get_or (joined f n ++ f n) k 0) place ∙ (get_or-append-add (joined f n) (f n) j 0 ∙ ap (λ (k : ℕ). get_or (f k) j 0) (sym same))
+          let place : i * size + j ≡ length (concat_up_to f n) + j = omega (arith, ap (λ (k : ℕ). k * size) same) in
+          ap (λ (k : ℕ). get_or (concat_up_to f n ++ f n) k 0) place ∙ (get_or-append-add (concat_up_to f n) (f n) j 0 ∙ ap (λ (k : ℕ). get_or (f k) j 0) (sym same))
     ]
 
 -- ---- the header
@@ -68,7 +68,7 @@ comment_inside = search rules
 pub comment_field : (n : ℕ) → n ≤ 65536 → IsField (10 ∷ codes "# SANE data follows" ++ (10 ∷ decimal n)) n
 comment_field n small = record { gap = 10 ∷ codes "# SANE data follows" ++ (10 ∷ []); number = decimal n; bytes_are = refl; is_gap = record { first = 10; filler = codes "# SANE data follows" ++ (10 ∷ []); bytes_are = refl; is_first = refl; is_filler = comment (codes " SANE data follows") 10 [] comment_inside refl nothing }; is_number = decimal_number n small }
 
-pub header_parts : (f : Format) (w h m : ℕ) → w ≤ 65536 → h ≤ 65536 → 1 ≤ w → 1 ≤ h → 1 ≤ m → m ≤ 65535 → (f ≡ Pbm → m ≡ 1) → IsHeader (header_text (record { format = f; width = w; height = h; maxval = m })) (record { format = f; width = w; height = h; maxval = m })
+pub header_parts : (f : PnmFormat) (w h m : ℕ) → w ≤ 65536 → h ≤ 65536 → 1 ≤ w → 1 ≤ h → 1 ≤ m → m ≤ 65535 → (f ≡ Pbm → m ≡ 1) → IsHeader (header_text (record { format = f; width = w; height = h; maxval = m })) (record { format = f; width = w; height = h; maxval = m })
 header_parts Pbm w h m a b c d e g one = record {
   width_field = 10 ∷ codes "# SANE data follows" ++ (10 ∷ decimal w);
   height_field = 32 ∷ decimal h;
@@ -134,30 +134,30 @@ number_in_is m raster i v each =
           omega arith
     ] each
 
-length-pixel : (c m : ℕ) (at : ℕ → ℕ) → length (joined (λ k. sample_text m (at k)) c) ≡ c * sample_bytes m
+length-pixel : (c m : ℕ) (at : ℕ → ℕ) → length (concat_up_to (λ k. sample_text m (at k)) c) ≡ c * sample_bytes m
 length-pixel c m at = length-joined (λ k. sample_text m (at k)) (sample_bytes m) c (λ k. length-sample_text m (at k))
 
 length-row : (c m w : ℕ) (at : ℕ → ℕ → ℕ) → length (samples_text c m w at) ≡ w * (c * sample_bytes m)
-length-row c m w at = length-joined (λ x. joined (λ k. sample_text m (at x k)) c) (c * sample_bytes m) w (λ x. length-pixel c m (at x))
+length-row c m w at = length-joined (λ x. concat_up_to (λ k. sample_text m (at x k)) c) (c * sample_bytes m) w (λ x. length-pixel c m (at x))
 
-length-rows : (c m w h : ℕ) (at : ℕ → ℕ → ℕ → ℕ) → length (joined (λ y. samples_text c m w (λ x k. at x y k)) h) ≡ h * (w * (c * sample_bytes m))
+length-rows : (c m w h : ℕ) (at : ℕ → ℕ → ℕ → ℕ) → length (concat_up_to (λ y. samples_text c m w (λ x k. at x y k)) h) ≡ h * (w * (c * sample_bytes m))
 length-rows c m w h at = length-joined (λ y. samples_text c m w (λ x k. at x y k)) (w * (c * sample_bytes m)) h (λ y. length-row c m w (λ x k. at x y k))
 
 -- the byte j of the sample at x, y, k
-byte_at : (c m w h : ℕ) (at : ℕ → ℕ → ℕ → ℕ) (x y k j : ℕ) → x < w → y < h → k < c → j < sample_bytes m → get_or (joined (λ y. samples_text c m w (λ x k. at x y k)) h) (((y * w + x) * c + k) * sample_bytes m + j) 0 ≡ get_or (sample_text m (at x y k)) j 0
+byte_at : (c m w h : ℕ) (at : ℕ → ℕ → ℕ → ℕ) (x y k j : ℕ) → x < w → y < h → k < c → j < sample_bytes m → get_or (concat_up_to (λ y. samples_text c m w (λ x k. at x y k)) h) (((y * w + x) * c + k) * sample_bytes m + j) 0 ≡ get_or (sample_text m (at x y k)) j 0
 byte_at c m w h at x y k j column row channel inside =
     let s = sample_bytes m in
     let in_pixel : k * s + j < c * s = omega (arith, mul-add-lt k s j c channel inside) in
     let in_row : x * (c * s) + (k * s + j) < w * (c * s) = omega (arith, mul-add-lt x (c * s) (k * s + j) w column in_pixel) in
     let place : ((y * w + x) * c + k) * s + j ≡ y * (w * (c * s)) + (x * (c * s) + (k * s + j)) = omega arith in
-    ap (λ (i : ℕ). get_or (joined (λ y. samples_text c m w (λ x k. at x y k)) h) i 0) place
+    ap (λ (i : ℕ). get_or (concat_up_to (λ y. samples_text c m w (λ x k. at x y k)) h) i 0) place
     ∙ (joined_at (λ y. samples_text c m w (λ x k. at x y k)) (w * (c * s)) h y (x * (c * s) + (k * s + j)) (λ y. length-row c m w (λ x k. at x y k)) row in_row
-    ∙ (joined_at (λ x. joined (λ k. sample_text m (at x y k)) c) (c * s) w x (k * s + j) (λ x. length-pixel c m (at x y)) column in_pixel
+    ∙ (joined_at (λ x. concat_up_to (λ k. sample_text m (at x y k)) c) (c * s) w x (k * s + j) (λ x. length-pixel c m (at x y)) column in_pixel
     ∙ joined_at (λ k. sample_text m (at x y k)) s c k j (λ k. length-sample_text m (at x y k)) channel inside))
 
-pub sample_back : (c m w h : ℕ) (at : ℕ → ℕ → ℕ → ℕ) (x y k : ℕ) → x < w → y < h → k < c → number_in m (joined (λ y. samples_text c m w (λ x k. at x y k)) h) ((y * w + x) * c + k) ≡ at x y k
+pub sample_back : (c m w h : ℕ) (at : ℕ → ℕ → ℕ → ℕ) (x y k : ℕ) → x < w → y < h → k < c → number_in m (concat_up_to (λ y. samples_text c m w (λ x k. at x y k)) h) ((y * w + x) * c + k) ≡ at x y k
 sample_back c m w h at x y k column row channel =
-    number_in_is m (joined (λ y. samples_text c m w (λ x k. at x y k)) h) ((y * w + x) * c + k) (at x y k) (λ j inside. byte_at c m w h at x y k j column row channel inside)
+    number_in_is m (concat_up_to (λ y. samples_text c m w (λ x k. at x y k)) h) ((y * w + x) * c + k) (at x y k) (λ j inside. byte_at c m w h at x y k j column row channel inside)
 
 -- ---- bits
 
@@ -172,14 +172,14 @@ binary_bit f all (suc (suc (suc (suc (suc (suc zero)))))) h = omega (arith, all 
 binary_bit f all (suc (suc (suc (suc (suc (suc (suc zero))))))) h = omega (arith, all 0, all 1, all 2, all 3, all 4, all 5, all 6, all 7)
 binary_bit f all (suc (suc (suc (suc (suc (suc (suc (suc j)))))))) h = absurd (omega arith)
 
-length-bit_row : (w : ℕ) (at : ℕ → ℕ) → length (joined (λ b. bits_byte w at b ∷ []) (bit_row w)) ≡ bit_row w
+length-bit_row : (w : ℕ) (at : ℕ → ℕ) → length (concat_up_to (λ b. bits_byte w at b ∷ []) (bit_row w)) ≡ bit_row w
 length-bit_row w at = omega (arith, length-joined (λ b. bits_byte w at b ∷ []) 1 (bit_row w) (λ b. refl))
 
-bit_byte_at : (w h : ℕ) (at : ℕ → ℕ → ℕ) (x y : ℕ) → x < w → y < h → get_or (joined (λ y. joined (λ b. bits_byte w (λ x. at x y) b ∷ []) (bit_row w)) h) (y * bit_row w + x / 8) 0 ≡ bits_byte w (λ x. at x y) (x / 8)
+bit_byte_at : (w h : ℕ) (at : ℕ → ℕ → ℕ) (x y : ℕ) → x < w → y < h → get_or (concat_up_to (λ y. concat_up_to (λ b. bits_byte w (λ x. at x y) b ∷ []) (bit_row w)) h) (y * bit_row w + x / 8) 0 ≡ bits_byte w (λ x. at x y) (x / 8)
 bit_byte_at w h at x y column row =
     let inside : x / 8 < bit_row w = omega arith in
-    joined_at (λ y. joined (λ b. bits_byte w (λ x. at x y) b ∷ []) (bit_row w)) (bit_row w) h y (x / 8) (λ y. length-bit_row w (λ x. at x y)) row inside
-    ∙ (ap (λ (i : ℕ). get_or (joined (λ b. bits_byte w (λ x. at x y) b ∷ []) (bit_row w)) i 0) (let p : x / 8 ≡ x / 8 * 1 + 0 = omega arith in p)
+    joined_at (λ y. concat_up_to (λ b. bits_byte w (λ x. at x y) b ∷ []) (bit_row w)) (bit_row w) h y (x / 8) (λ y. length-bit_row w (λ x. at x y)) row inside
+    ∙ (ap (λ (i : ℕ). get_or (concat_up_to (λ b. bits_byte w (λ x. at x y) b ∷ []) (bit_row w)) i 0) (let p : x / 8 ≡ x / 8 * 1 + 0 = omega arith in p)
     ∙ joined_at (λ b. bits_byte w (λ x. at x y) b ∷ []) 1 (bit_row w) (x / 8) 0 (λ b. refl) inside (omega arith))
 
 -- a bit of the row, or 0 past its end
@@ -197,7 +197,7 @@ bit_in w at x inside =
     let test : nat_lt x w ≡ true = grind (arith, nat_tests) in
     rw (place, test) refl
 
-pub bit_back : (w h : ℕ) (at : ℕ → ℕ → ℕ) → ((x y : ℕ) → x < w → y < h → at x y ≤ 1) → (x y : ℕ) → x < w → y < h → get_or (joined (λ y. joined (λ b. bits_byte w (λ x. at x y) b ∷ []) (bit_row w)) h) (y * bit_row w + x / 8) 0 / 2 ^ (7 - x % 8) % 2 ≡ at x y
+pub bit_back : (w h : ℕ) (at : ℕ → ℕ → ℕ) → ((x y : ℕ) → x < w → y < h → at x y ≤ 1) → (x y : ℕ) → x < w → y < h → get_or (concat_up_to (λ y. concat_up_to (λ b. bits_byte w (λ x. at x y) b ∷ []) (bit_row w)) h) (y * bit_row w + x / 8) 0 / 2 ^ (7 - x % 8) % 2 ≡ at x y
 bit_back w h at all x y column row =
     let f : ℕ → ℕ = λ j. if nat_lt (8 * (x / 8) + j) w then at (8 * (x / 8) + j) y else 0 in
     ap (λ (b : ℕ). b / 2 ^ (7 - x % 8) % 2) (bit_byte_at w h at x y column row)
@@ -206,11 +206,11 @@ bit_back w h at all x y column row =
 
 -- ---- the whole file
 
-record RasterShows (f : Format) (w h m : ℕ) (raster : List ℕ) (at : ℕ → ℕ → ℕ → ℕ) : Type 0 where
+record RasterShows (f : PnmFormat) (w h m : ℕ) (raster : List ℕ) (at : ℕ → ℕ → ℕ → ℕ) : Type 0 where
   size : length raster ≡ raster_length f w h m
   samples : (x y k : ℕ) → x < w → y < h → k < channels_of f → at x y k ≡ sample_in f w m raster x y k
 
-raster_shows : (f : Format) (w h m : ℕ) (at : ℕ → ℕ → ℕ → ℕ) → (f ≡ Pbm → m ≡ 1) → ((x y k : ℕ) → x < w → y < h → k < channels_of f → at x y k ≤ m) → RasterShows f w h m (joined (λ y. row_text f m w (λ x k. at x y k)) h) at
+raster_shows : (f : PnmFormat) (w h m : ℕ) (at : ℕ → ℕ → ℕ → ℕ) → (f ≡ Pbm → m ≡ 1) → ((x y k : ℕ) → x < w → y < h → k < channels_of f → at x y k ≤ m) → RasterShows f w h m (concat_up_to (λ y. row_text f m w (λ x k. at x y k)) h) at
 raster_shows Pbm w h m at one all = record {
   size = omega (arith, length-joined (λ y. row_text Pbm m w (λ x k. at x y k)) (bit_row w) h (λ y. length-bit_row w (λ x. at x y 0)));
   samples = λ x y k a b c.
@@ -222,7 +222,7 @@ raster_shows Pgm w h m at one all = record {
   size = omega (arith, length-rows 1 m w h at);
   samples = λ x y k a b c.
       let place : (y * w + x) * 1 + k ≡ y * w + x = omega arith in
-      sym (ap (number_in m (joined (λ y. samples_text 1 m w (λ x k. at x y k)) h)) (sym place) ∙ sample_back 1 m w h at x y k a b c);
+      sym (ap (number_in m (concat_up_to (λ y. samples_text 1 m w (λ x k. at x y k)) h)) (sym place) ∙ sample_back 1 m w h at x y k a b c);
 }
 raster_shows Ppm w h m at one all = record {
   size = omega (arith, length-rows 3 m w h at);

@@ -1,17 +1,17 @@
 -- The text that the writer gives for a picture.
 use Rattle.std.specs.Prelude.{ℕ, zero, suc, ◌+◌, ◌*◌, ◌/◌, ◌%◌, ◌≡◌, ◌≤◌, nat_lt, if◌then◌else◌, List, [], ◌∷◌, ◌++◌, codes, decimal}
-use Rattle.netpbm.specs.declared.format.Format.{Format}
-use Rattle.netpbm.specs.declared.format.Format.TheVariants.{Pbm, Pgm, Ppm}
+use Rattle.netpbm.specs.declared.format.PnmFormat.{PnmFormat}
+use Rattle.netpbm.specs.declared.format.PnmFormat.TheVariants.{Pbm, Pgm, Ppm}
 use Rattle.netpbm.specs.declared.format.Header.{Header}
 use Rattle.netpbm.specs.Picture.{Picture, IsPlace}
 use Rattle.netpbm.specs.Pnm.{magic, bit_row, channels_of}
 
 -- the lists f 0, f 1 and so on, n of them, one after another
-unfoldable pub joined : (ℕ → List ℕ) → ℕ → List ℕ
-joined f zero = []
-joined f (suc n) = joined f n ++ f n
+unfoldable pub concat_up_to : (ℕ → List ℕ) → ℕ → List ℕ
+concat_up_to f zero = []
+concat_up_to f (suc n) = concat_up_to f n ++ f n
 
-abbrev pub maxval_text : Format → ℕ → List ℕ
+abbrev pub maxval_text : PnmFormat → ℕ → List ℕ
 maxval_text Pbm _ = []
 maxval_text Pgm m = decimal m ++ 10 ∷ []
 maxval_text Ppm m = decimal m ++ 10 ∷ []
@@ -31,20 +31,20 @@ binary f (suc n) = 2 * binary f n + f n
 
 -- the samples of one row, `at x k` in column x and each of the channels k
 abbrev pub samples_text : ℕ → ℕ → ℕ → (ℕ → ℕ → ℕ) → List ℕ
-samples_text channels maxval width at = joined (λ x. joined (λ k. sample_text maxval (at x k)) channels) width
+samples_text channels maxval width at = concat_up_to (λ x. concat_up_to (λ k. sample_text maxval (at x k)) channels) width
 
 -- the byte of the eight bits from column 8 * b on, the leftmost as the most significant, with 0 past the row's end
 abbrev pub bits_byte : ℕ → (ℕ → ℕ) → ℕ → ℕ
 bits_byte width at b = binary (λ j. if nat_lt (8 * b + j) width then at (8 * b + j) else 0) 8
 
-abbrev pub row_text : Format → ℕ → ℕ → (ℕ → ℕ → ℕ) → List ℕ
-row_text Pbm maxval width at = joined (λ b. bits_byte width (λ x. at x 0) b ∷ []) (bit_row width)
+abbrev pub row_text : PnmFormat → ℕ → ℕ → (ℕ → ℕ → ℕ) → List ℕ
+row_text Pbm maxval width at = concat_up_to (λ b. bits_byte width (λ x. at x 0) b ∷ []) (bit_row width)
 row_text Pgm maxval width at = samples_text 1 maxval width at
 row_text Ppm maxval width at = samples_text 3 maxval width at
 
 -- the rows from the top
 abbrev pub raster_text : Header → (ℕ → ℕ → ℕ → ℕ) → List ℕ
-raster_text h at = joined (λ y. row_text h.format h.maxval h.width (λ x k. at x y k)) h.height
+raster_text h at = concat_up_to (λ y. row_text h.format h.maxval h.width (λ x k. at x y k)) h.height
 
 -- the whole file
 abbrev pub file_text : Header → (ℕ → ℕ → ℕ → ℕ) → List ℕ

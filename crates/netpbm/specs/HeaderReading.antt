@@ -2,8 +2,8 @@
 use Rattle.std.specs.Prelude.{ℕ, Bool, true, false, ◌&&◌, ◌==◌, nat_le, if◌then◌else◌, Option, Some, None, option_and_then, List, [], ◌∷◌, take, drop}
 use Rattle.std.specs.Str.Parse.{digits_value}
 use Rattle.sane_fixed.specs.Digits.{digit_count}
-use Rattle.netpbm.specs.declared.format.Format.{Format}
-use Rattle.netpbm.specs.declared.format.Format.TheVariants.{Pbm, Pgm, Ppm}
+use Rattle.netpbm.specs.declared.format.PnmFormat.{PnmFormat}
+use Rattle.netpbm.specs.declared.format.PnmFormat.TheVariants.{Pbm, Pgm, Ppm}
 use Rattle.netpbm.specs.declared.format.Header.{Header}
 use Rattle.netpbm.specs.Pnm.{is_white, ends_comment}
 
@@ -12,7 +12,7 @@ abbrev pub ◌>>=◌ : {A B : Type 0} → Option A → (A → Option B) → Opti
 o >>= f = option_and_then f o
 
 -- the format, told by the first two bytes
-abbrev pub format_of : List ℕ → Option Format
+abbrev pub format_of : List ℕ → Option PnmFormat
 format_of (p ∷ kind ∷ _) =
     if p == 80 then (if kind == 52 then Some Pbm else (if kind == 53 then Some Pgm else (if kind == 54 then Some Ppm else None))) else None
 format_of _ = None
@@ -41,7 +41,7 @@ end_at [] = None
 end_at (b ∷ bytes) = if is_white b then Some bytes else None
 
 -- the greatest value, and what follows
-unfoldable pub maxval_at : Format → List ℕ → Option (ℕ × List ℕ)
+unfoldable pub maxval_at : PnmFormat → List ℕ → Option (ℕ × List ℕ)
 maxval_at Pbm bytes = Some (1, bytes)
 maxval_at Pgm bytes = field_at bytes
 maxval_at Ppm bytes = field_at bytes

@@ -2,8 +2,8 @@
 use Rattle.std.specs.Prelude.{ℕ, ◌+◌, ◌-◌, ◌*◌, ◌/◌, ◌%◌, ◌^◌, ◌≤◌, ◌≡◌, Bool, true, false, ◌||◌, ◌==◌, nat_lt, if◌then◌else◌, IsTrue, List, [], ◌∷◌, ◌++◌, length, slice_index}
 use Rattle.std.specs.Str.Parse.{digits_value, AllDigits}
 use Rattle.netpbm.specs.Picture.{Picture, IsPlace}
-use Rattle.netpbm.specs.declared.format.Format.{Format}
-use Rattle.netpbm.specs.declared.format.Format.TheVariants.{Pbm, Pgm, Ppm}
+use Rattle.netpbm.specs.declared.format.PnmFormat.{PnmFormat}
+use Rattle.netpbm.specs.declared.format.PnmFormat.TheVariants.{Pbm, Pgm, Ppm}
 use Rattle.netpbm.specs.declared.format.Header.{Header}
 
 -- space, tab, line feed, carriage return, vertical tab, form feed
@@ -49,13 +49,13 @@ pub record IsField (bytes : List ℕ) (n : ℕ) : Type 0 where
   pub is_number : IsNumber number n
 
 -- `P4`, `P5` or `P6`
-abbrev pub magic : Format → List ℕ
+abbrev pub magic : PnmFormat → List ℕ
 magic Pbm = 80 ∷ 52 ∷ []
 magic Pgm = 80 ∷ 53 ∷ []
 magic Ppm = 80 ∷ 54 ∷ []
 
 -- what stands for the greatest value: nothing for bits, whose greatest value is 1, else a field
-abbrev pub IsMaxval : Format → List ℕ → ℕ → Type 0
+abbrev pub IsMaxval : PnmFormat → List ℕ → ℕ → Type 0
 IsMaxval Pbm bytes m = (bytes ≡ []) × (m ≡ 1)
 IsMaxval Pgm bytes m = IsField bytes m × (1 ≤ m) × (m ≤ 65535)
 IsMaxval Ppm bytes m = IsField bytes m × (1 ≤ m) × (m ≤ 65535)
@@ -76,7 +76,7 @@ pub record IsHeader (head : List ℕ) (h : Header) : Type 0 where
   pub height_some : 1 ≤ h.height
   pub height_most : h.height ≤ 65536
 
-abbrev pub channels_of : Format → ℕ
+abbrev pub channels_of : PnmFormat → ℕ
 channels_of Pbm = 1
 channels_of Pgm = 1
 channels_of Ppm = 3
@@ -90,7 +90,7 @@ abbrev pub bit_row : ℕ → ℕ
 bit_row width = (width + 7) / 8
 
 -- how many bytes the raster has
-abbrev pub raster_length : Format → ℕ → ℕ → ℕ → ℕ
+abbrev pub raster_length : PnmFormat → ℕ → ℕ → ℕ → ℕ
 raster_length Pbm width height _ = bit_row width * height
 raster_length Pgm width height maxval = width * height * sample_bytes maxval
 raster_length Ppm width height maxval = width * height * 3 * sample_bytes maxval
@@ -102,7 +102,7 @@ number_in maxval raster i =
     else 256 * slice_index raster (2 * i) + slice_index raster (2 * i + 1)
 
 -- the sample at column x of row y and channel k of a raster that is so wide and has that greatest value
-abbrev pub sample_in : Format → ℕ → ℕ → List ℕ → ℕ → ℕ → ℕ → ℕ
+abbrev pub sample_in : PnmFormat → ℕ → ℕ → List ℕ → ℕ → ℕ → ℕ → ℕ
 sample_in Pbm width maxval raster x y k = slice_index raster (y * bit_row width + x / 8) / 2 ^ (7 - x % 8) % 2
 sample_in Pgm width maxval raster x y k = number_in maxval raster (y * width + x)
 sample_in Ppm width maxval raster x y k = number_in maxval raster ((y * width + x) * 3 + k)

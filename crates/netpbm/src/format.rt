@@ -1,6 +1,6 @@
 /// The three formats of a Netpbm file with a binary raster: `P4`, `P5` and `P6`.
 #[derive(Clone, Copy, Debug, PartialEq, Eq)]
-pub enum Format {
+pub enum PnmFormat {
     /// Bits, 1 for black (pbm(5)).
     Pbm,
     /// Grays (pgm(5)).
@@ -12,7 +12,7 @@ pub enum Format {
 /// What the header of a Netpbm file tells.
 #[derive(Clone, Copy, Debug, PartialEq, Eq)]
 pub struct Header {
-    pub format: Format,
+    pub format: PnmFormat,
     /// The number of columns, 1 to 65,536.
     pub width: u32,
     /// The number of rows, 1 to 65,536.

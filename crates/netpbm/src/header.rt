@@ -3,7 +3,7 @@ ghost use Rattle.netpbm.specs.Pnm.{is_white, ends_comment, Begins};
 ghost use Rattle.netpbm.specs.declared.format.Header.{Header};
 ghost use Rattle.netpbm.specs.HeaderReading.{format_of, after_filler, number_at, field_at, end_at, maxval_at, header_at};
 
-use crate::format::{Format, Header};
+use crate::format::{Header, PnmFormat};
 use sane_fixed::{digit_count, value_of_digits};
 
 /// Whether a byte is white space: space, tab, line feed, carriage return, vertical tab or form feed.
@@ -21,13 +21,13 @@ pub fn ends_comment(b: u8) -> bool
 }
 
 /// The format that the first two bytes tell.
-pub fn format_of(text: &[u8]) -> Option<Format>
+pub fn format_of(text: &[u8]) -> Option<PnmFormat>
     ensures { result ≡ format_of text.now }
 {
     match text {
-        [b'P', b'4', ..] => Some(Format::Pbm),
-        [b'P', b'5', ..] => Some(Format::Pgm),
-        [b'P', b'6', ..] => Some(Format::Ppm),
+        [b'P', b'4', ..] => Some(PnmFormat::Pbm),
+        [b'P', b'5', ..] => Some(PnmFormat::Pgm),
+        [b'P', b'6', ..] => Some(PnmFormat::Ppm),
         _ => None,
     }
 }
@@ -77,12 +77,12 @@ fn field(bytes: &[u8]) -> Option<(u64, &[u8])>
 
 /// The greatest value at the front, and what follows it.
 #[tactic(auto, unfolding(crate::specs::HeaderReading::maxval_at))]
-fn maxval(format: Format, bytes: &[u8]) -> Option<(u64, &[u8])>
+fn maxval(format: PnmFormat, bytes: &[u8]) -> Option<(u64, &[u8])>
     ensures { option_map (λ f. (f.0, f.1.now)) result ≡ maxval_at format bytes.now }
 {
     match format {
-        Format::Pbm => Some((1, bytes)),
-        Format::Pgm | Format::Ppm => field(bytes),
+        PnmFormat::Pbm => Some((1, bytes)),
+        PnmFormat::Pgm | PnmFormat::Ppm => field(bytes),
     }
 }
 

@@ -2,7 +2,7 @@ ghost use Rattle.std.specs.Prelude.{◌≡◌, ◌≤◌, ◌<◌, ◌*◌, ◌^
 ghost use Rattle.netpbm.specs.Pnm.{number_in, sample_bytes};
 ghost use Rattle.netpbm.specs.Raster.{SomeAbove, NoneAbove, sample_count, raster_size};
 
-use crate::format::{Format, Header};
+use crate::format::{Header, PnmFormat};
 
 /// The number at place `i` of a raster of `count` numbers up to `maxval`: a byte, or two, the more
 /// significant first.
@@ -73,8 +73,8 @@ pub fn sample_count(header: &Header) -> usize
 {
     let places = header.width as usize * header.height as usize;
     match header.format {
-        Format::Pbm | Format::Pgm => places,
-        Format::Ppm => places * 3,
+        PnmFormat::Pbm | PnmFormat::Pgm => places,
+        PnmFormat::Ppm => places * 3,
     }
 }
 
@@ -88,8 +88,8 @@ pub fn raster_size(header: &Header) -> usize
     let height = header.height as usize;
     let bytes = if header.maxval < 256 { 1 } else { 2 };
     match header.format {
-        Format::Pbm => width.div_ceil(8) * height,
-        Format::Pgm => width * height * bytes,
-        Format::Ppm => width * height * 3 * bytes,
+        PnmFormat::Pbm => width.div_ceil(8) * height,
+        PnmFormat::Pgm => width * height * bytes,
+        PnmFormat::Ppm => width * height * 3 * bytes,
     }
 }

@@ -2,7 +2,7 @@
 use Rattle.std.proofs.Common.{◌≡◌, ℤ, ℕ, Bool, true, false, cond, List, [], ◌∷◌, map, get_or, inl, inr, refl, sym, ap, ◌∙◌, subst}
 use Rattle.std.specs.Prelude.{Option, Some, None, IfSome, option_map, option_and_then, slice_get}
 use Rattle.std.proofs.lemmas.Option.{option_and_then_some, get_or_from_slice_get}
-use Rattle.constraint.specs.Nearest.{PlaceByPlace, NearestEntry, TellsDifference}
+use Rattle.constraint.specs.Nearest.{PlaceByPlace, NearestEntry, FlagsDifference}
 use Rattle.constraint.specs.NearestComputed.{nearest_entry}
 use Rattle.constraint.proofs.RangeLaws.{NearestInRange-nearest_in_range, NearestInRange-unique}
 use Rattle.constraint.proofs.ListLaws.{NearestInList-nearest_in_list, NearestInList-unique, PlaceByPlace-map, PlaceByPlace-unique}
@@ -12,7 +12,7 @@ use Rattle.option_desc.specs.declared.descriptor.Constraint.TheVariants.{Free, S
 use Rattle.option_desc.specs.declared.descriptor.Descriptor.{Descriptor}
 use Rattle.option_desc.specs.declared.value.Value.{Value}
 use Rattle.option_desc.specs.declared.value.Value.TheVariants.{Flag, Int, Fixed, Words, Text}
-use Rattle.option_desc.specs.Sound.{IsSound}
+use Rattle.option_desc.specs.WellFormed.{IsWellFormed}
 use Rattle.option_desc.specs.Fits.{fits_of}
 use Rattle.option_desc.specs.Put.{NearestWord, NearestText, NearestValue, Puts, nearest_word, nearest_text, nearest_value, resolve}
 use Rattle.option_desc.proofs.FitsLaws.{fits_of-Decides}
@@ -25,7 +25,7 @@ no_some a e = (cc)
 
 -- ---- words
 
-pub NearestWord-nearest_word : (c : Constraint) (asked : ℤ) → IsSound c → NearestWord c asked (nearest_word c asked)
+pub NearestWord-nearest_word : (c : Constraint) (asked : ℤ) → IsWellFormed c → NearestWord c asked (nearest_word c asked)
 NearestWord-nearest_word Free asked sound = refl
 NearestWord-nearest_word (Span range) asked sound = NearestInRange-nearest_in_range range asked sound
 NearestWord-nearest_word (WordsOf entries) asked sound = NearestInList-nearest_in_list entries asked sound.some
@@ -58,20 +58,20 @@ text_found : (c : Constraint) (asked : List ℕ) (given : Value) (o : Option (Li
 text_found c asked given None e f = absurd (no_some given f)
 text_found c asked given (Some text) e f = (text, NearestText-found c asked text e, sym (some_is (Text text) given f))
 
-NearestValue-found : (c : Constraint) (asked given : Value) → IsSound c → nearest_value c asked ≡ Some given → NearestValue c asked given
+NearestValue-found : (c : Constraint) (asked given : Value) → IsWellFormed c → nearest_value c asked ≡ Some given → NearestValue c asked given
 NearestValue-found c (Flag b) given sound e = sym (some_is (Flag b) given e)
 NearestValue-found c (Int v) given sound e = (nearest_word c v, NearestWord-nearest_word c v sound, sym (some_is (Int (nearest_word c v)) given e))
 NearestValue-found c (Fixed v) given sound e = (nearest_word c v.0, NearestWord-nearest_word c v.0 sound, sym (some_is (Fixed (record { 0 = nearest_word c v.0 })) given e))
 NearestValue-found c (Words vs) given sound e = (map (nearest_word c) vs, PlaceByPlace-map (NearestWord c) (nearest_word c) vs (λ v. NearestWord-nearest_word c v sound), sym (some_is (Words (map (nearest_word c) vs)) given e))
 NearestValue-found c (Text t) given sound e = text_found c t given (nearest_text c t) refl e
 
-word_is : (c : Constraint) (v w : ℤ) → IsSound c → NearestWord c v w → nearest_word c v ≡ w
+word_is : (c : Constraint) (v w : ℤ) → IsWellFormed c → NearestWord c v w → nearest_word c v ≡ w
 word_is c v w sound n = NearestWord-unique c v (nearest_word c v) w (NearestWord-nearest_word c v sound) n
 
-words_are : (c : Constraint) (vs ws : List ℤ) → IsSound c → PlaceByPlace (NearestWord c) vs ws → map (nearest_word c) vs ≡ ws
+words_are : (c : Constraint) (vs ws : List ℤ) → IsWellFormed c → PlaceByPlace (NearestWord c) vs ws → map (nearest_word c) vs ≡ ws
 words_are c vs ws sound n = PlaceByPlace-unique (NearestWord c) vs (map (nearest_word c) vs) ws (NearestWord-unique c) (PlaceByPlace-map (NearestWord c) (nearest_word c) vs (λ v. NearestWord-nearest_word c v sound)) n
 
-NearestValue-is : (c : Constraint) (asked given : Value) → IsSound c → NearestValue c asked given → nearest_value c asked ≡ Some given
+NearestValue-is : (c : Constraint) (asked given : Value) → IsWellFormed c → NearestValue c asked given → nearest_value c asked ≡ Some given
 NearestValue-is c (Flag b) given sound n = ap Some (sym n)
 NearestValue-is c (Int v) given sound n = ap (λ w. Some (Int w)) (word_is c v n.0 sound n.1) ∙ ap Some (sym n.2)
 NearestValue-is c (Fixed v) given sound n = ap (λ w. Some (Fixed (record { 0 = w }))) (word_is c v.0 n.0 sound n.1) ∙ ap Some (sym n.2)
@@ -87,7 +87,7 @@ NearestValue-unique c (Text t) a b x y = x.2 ∙ ap (λ u. Text u) (some_is x.0 
 
 -- ---- what is put
 
-pub Puts-resolve : (desc : Descriptor) (asked given : Value) → IsSound desc.constraint → resolve desc asked ≡ Some given → Puts desc asked given
+pub Puts-resolve : (desc : Descriptor) (asked given : Value) → IsWellFormed desc.constraint → resolve desc asked ≡ Some given → Puts desc asked given
 unfolding resolve
 Puts-resolve desc asked given sound e =
     let P : Bool → Type 0 = λ t. fits_of desc asked ≡ t → cond t (nearest_value desc.constraint asked) None ≡ Some given → Puts desc asked given in
@@ -96,11 +96,11 @@ Puts-resolve desc asked given sound e =
       | false ↦ λ f e. absurd (no_some given e)
     ] refl e
 
-pub resolve-Puts : (desc : Descriptor) (asked given : Value) → IsSound desc.constraint → Puts desc asked given → resolve desc asked ≡ Some given
+pub resolve-Puts : (desc : Descriptor) (asked given : Value) → IsWellFormed desc.constraint → Puts desc asked given → resolve desc asked ≡ Some given
 unfolding resolve
 resolve-Puts desc asked given sound p = rw ((fits_of-Decides desc asked).1 p.fits) (NearestValue-is desc.constraint asked given sound p.nearest)
 
-pub resolve-none : (desc : Descriptor) (asked : Value) → IsSound desc.constraint → resolve desc asked ≡ None → (given : Value) → Puts desc asked given → ⊥
+pub resolve-none : (desc : Descriptor) (asked : Value) → IsWellFormed desc.constraint → resolve desc asked ≡ None → (given : Value) → Puts desc asked given → ⊥
 resolve-none desc asked sound e given p = no_some given (sym e ∙ resolve-Puts desc asked given sound p)
 
 pub resolve-fits : (desc : Descriptor) (asked : Value) → fits_of desc asked ≡ true → resolve desc asked ≡ nearest_value desc.constraint asked
@@ -135,5 +135,5 @@ pub given_text : (c : Constraint) (entries : List (List ℕ)) (asked : List ℕ)
 given_text c entries asked place given is at found =
     ap (λ k. nearest_text k asked) is ∙ ap (option_and_then (slice_get entries)) (sym at) ∙ found
 
-pub given_differs : (entries : List (List ℕ)) (asked : List ℕ) (place : ℕ) (given : List ℕ) (differs : Bool) → slice_get entries place ≡ Some given → IfSome (slice_get entries place) (TellsDifference differs asked) → TellsDifference differs asked given
-given_differs entries asked place given differs at tells = subst (λ o. IfSome o (TellsDifference differs asked)) at tells
+pub given_differs : (entries : List (List ℕ)) (asked : List ℕ) (place : ℕ) (given : List ℕ) (differs : Bool) → slice_get entries place ≡ Some given → IfSome (slice_get entries place) (FlagsDifference differs asked) → FlagsDifference differs asked given
+given_differs entries asked place given differs at tells = subst (λ o. IfSome o (FlagsDifference differs asked)) at tells

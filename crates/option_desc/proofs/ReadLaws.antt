@@ -14,7 +14,7 @@ use Rattle.sane_fixed.proofs.TextLaws.{IsText-none, IsText-cons}
 use Rattle.option_desc.specs.declared.descriptor.Descriptor.{Descriptor}
 use Rattle.option_desc.specs.declared.value.Value.{Value}
 use Rattle.option_desc.specs.declared.value.Value.TheVariants.{Flag, Int, Fixed, Words, Text}
-use Rattle.option_desc.specs.Reads.{SpellsInteger, SpellsWord, SpellsEach, SpellsWords, Reads, flag_of, word_in, words_in, pieces_of, one_word, number_of, text_of, read_as, read}
+use Rattle.option_desc.specs.Reads.{SpellsInteger, SpellsWord, SpellsEach, SpellsWords, ReadsAsValue, flag_of, word_in, words_in, pieces_of, one_word, number_of, text_value_of, read_as, read_value}
 use Rattle.option_desc.proofs.ReadsLaws.{some_is, no_some, word_found, word_is, spells_found, spells_is}
 
 -- ---- a NUL
@@ -96,7 +96,7 @@ number_at k size text value true more number o m e = one_at k size text value (w
 number_at k size text value false true number o m e = more_at k size text value (words_in k (pieces_of text)) (above_four size m) refl e
 number_at k size text value false false number o m e = absurd (no_some value e)
 
-text_found : (text : List ℕ) (size : ℕ) (value : Value) → text_of text ≡ Some value → ReadsAs kind.String size text value
+text_found : (text : List ℕ) (size : ℕ) (value : Value) → text_value_of text ≡ Some value → ReadsAs kind.String size text value
 text_found text size value e =
     let P : Bool → Type 0 = λ t. list_any is_nul text ≡ t → cond t None (Some (Text text)) ≡ Some value → ReadsAs kind.String size text value in
     elim (list_any is_nul text) as P [
@@ -144,7 +144,7 @@ as_is k size text (Fixed fixed) r = rw (r.0, r.1) (ap (option_map (one_word kind
 as_is k size text (Words words) r = words_back k size text words r.0 r.1
 as_is k size text (Text own) r = rw (r.0, text_is_text text r.2, r.1) refl
 
-same_reads : (desc : Descriptor) (text : List ℕ) (value : Value) → ReadsAs desc.kind desc.size text value → Reads desc text value
+same_reads : (desc : Descriptor) (text : List ℕ) (value : Value) → ReadsAs desc.kind desc.size text value → ReadsAsValue desc text value
 same_reads desc text (Flag true) r = r
 same_reads desc text (Flag false) r = r
 same_reads desc text (Int word) r = r
@@ -152,7 +152,7 @@ same_reads desc text (Fixed fixed) r = r
 same_reads desc text (Words words) r = r
 same_reads desc text (Text own) r = r
 
-same_reads_as : (desc : Descriptor) (text : List ℕ) (value : Value) → Reads desc text value → ReadsAs desc.kind desc.size text value
+same_reads_as : (desc : Descriptor) (text : List ℕ) (value : Value) → ReadsAsValue desc text value → ReadsAs desc.kind desc.size text value
 same_reads_as desc text (Flag true) r = r
 same_reads_as desc text (Flag false) r = r
 same_reads_as desc text (Int word) r = r
@@ -160,26 +160,26 @@ same_reads_as desc text (Fixed fixed) r = r
 same_reads_as desc text (Words words) r = r
 same_reads_as desc text (Text own) r = r
 
-pub Reads-read : (desc : Descriptor) (text : List ℕ) (value : Value) → read desc text ≡ Some value → Reads desc text value
-unfolding read
+pub Reads-read : (desc : Descriptor) (text : List ℕ) (value : Value) → read_value desc text ≡ Some value → ReadsAsValue desc text value
+unfolding read_value
 Reads-read desc text value e = same_reads desc text value (as_found desc.kind desc.size text value e)
 
-pub read-Reads : (desc : Descriptor) (text : List ℕ) (value : Value) → Reads desc text value → read desc text ≡ Some value
-unfolding read
+pub read-Reads : (desc : Descriptor) (text : List ℕ) (value : Value) → ReadsAsValue desc text value → read_value desc text ≡ Some value
+unfolding read_value
 read-Reads desc text value r = as_is desc.kind desc.size text value (same_reads_as desc text value r)
 
-pub read-none : (desc : Descriptor) (text : List ℕ) → read desc text ≡ None → (value : Value) → Reads desc text value → ⊥
+pub read-none : (desc : Descriptor) (text : List ℕ) → read_value desc text ≡ None → (value : Value) → ReadsAsValue desc text value → ⊥
 read-none desc text e value r = no_some value (sym e ∙ read-Reads desc text value r)
 
-pub Reads-unique : (desc : Descriptor) (text : List ℕ) (a b : Value) → Reads desc text a → Reads desc text b → a ≡ b
+pub Reads-unique : (desc : Descriptor) (text : List ℕ) (a b : Value) → ReadsAsValue desc text a → ReadsAsValue desc text b → a ≡ b
 Reads-unique desc text a b x y = some_is a b (sym (read-Reads desc text a x) ∙ read-Reads desc text b y)
 
 -- ---- a text is taken over
 
-pub text_taken : (text own : List ℕ) → own ≡ text → ((IsText text → ⊥) → ⊥) → text_of text ≡ Some (Text own)
+pub text_taken : (text own : List ℕ) → own ≡ text → ((IsText text → ⊥) → ⊥) → text_value_of text ≡ Some (Text own)
 text_taken text own same clean =
     let none : list_any is_nul text ≡ false = one_of (list_any is_nul text) (λ e. clean (λ is. is (has_nul text e))) in
     rw (none, same) refl
 
-pub text_some : (text : List ℕ) → ((IsText text → ⊥) → ⊥) → IsSome (text_of text)
+pub text_some : (text : List ℕ) → ((IsText text → ⊥) → ⊥) → IsSome (text_value_of text)
 text_some text clean = ap is_some (text_taken text text refl clean)

@@ -19,10 +19,10 @@ use Rattle.option_desc.specs.declared.descriptor.Descriptor.{Descriptor}
 use Rattle.option_desc.specs.declared.value.Value.{Value}
 use Rattle.option_desc.specs.declared.value.Value.TheVariants.{Flag, Int, Fixed, Words, Text}
 use Rattle.option_desc.specs.Fits.{Fits}
-use Rattle.option_desc.specs.Held.{IsHeld}
-use Rattle.option_desc.specs.Reads.{SpellsInteger, SpellsWord, SpellsEach, SpellsWords, Reads, read}
+use Rattle.option_desc.specs.Representable.{IsRepresentable}
+use Rattle.option_desc.specs.Reads.{SpellsInteger, SpellsWord, SpellsEach, SpellsWords, ReadsAsValue, read_value}
 use Rattle.option_desc.proofs.ReadLaws.{read-Reads}
-use Rattle.option_desc.specs.Shown.{word_text, shown}
+use Rattle.option_desc.specs.ShownText.{word_text, shown_text}
 
 -- ---- integers
 
@@ -90,7 +90,7 @@ words_read k words one some all = elim one [
 some_words : (size n : ℕ) → 4 < size → n ≡ size / 4 → 1 ≤ n
 some_words size n more is = omega arith
 
-pub Reads-shown : (desc : Descriptor) (value : Value) → Fits desc value → IsHeld value → Reads desc (shown desc value) value
+pub Reads-shown : (desc : Descriptor) (value : Value) → Fits desc value → IsRepresentable value → ReadsAsValue desc (shown_text desc value) value
 Reads-shown desc (Flag true) fits held = (fits.0, refl)
 Reads-shown desc (Flag false) fits held = (fits.0, refl)
 Reads-shown desc (Int word) fits held = (fits.0, fits.1, SpellsInteger-signed_decimal word held)
@@ -137,34 +137,34 @@ join-next k (w ∷ words) word some = ap (join_with_byte 44) (map-push k (w ∷ 
 front_length : (words : List ℤ) (i : ℕ) → i < length words → length (take i words) ≡ i
 front_length words i within = omega (arith, length-take i words)
 
-pub ShownBelow-first : (k : Kind) (words : List ℤ) (i : ℕ) (word : ℤ) (old new shown : List ℕ) → i < length words → word ≡ get_or words i word → FitsSigned w32 word → i ≡ 0 → ShownBelow k words i old → shown ≡ word_text k word → IsText shown → new ≡ old ++ shown → ShownBelow k words (i + 1) new
-ShownBelow-first k words i word old new shown within at fits first below is clean made =
+pub ShownBelow-first : (k : Kind) (words : List ℤ) (i : ℕ) (word : ℤ) (old new shown_text : List ℕ) → i < length words → word ≡ get_or words i word → FitsSigned w32 word → i ≡ 0 → ShownBelow k words i old → shown_text ≡ word_text k word → IsText shown_text → new ≡ old ++ shown_text → ShownBelow k words (i + 1) new
+ShownBelow-first k words i word old new shown_text within at fits first below is clean made =
     let more : take (i + 1) words ≡ take i words ++ word ∷ [] = take_more words i word within ∙ ap (λ w. take i words ++ w ∷ []) (sym at) in
     let none : length (take i words) ≡ 0 = front_length words i within ∙ first in
     let empty : old ≡ [] = below.joined ∙ ap (λ n. join_with_byte 44 (map (word_text k) (take n words))) first in
     record {
-      joined = made ∙ ap (λ l. l ++ shown) empty ∙ is ∙ sym (ap (λ ws. join_with_byte 44 (map (word_text k) ws)) more ∙ join-first k (take i words) word none);
+      joined = made ∙ ap (λ l. l ++ shown_text) empty ∙ is ∙ sym (ap (λ ws. join_with_byte 44 (map (word_text k) ws)) more ∙ join-first k (take i words) word none);
       held = subst (All (FitsSigned w32)) (sym more) (All-push (FitsSigned w32) (take i words) word below.held fits);
-      clean = subst IsText (sym made) (IsText-append old shown below.clean clean);
+      clean = subst IsText (sym made) (IsText-append old shown_text below.clean clean);
     }
 
-pub ShownBelow-next : (k : Kind) (words : List ℤ) (i : ℕ) (word : ℤ) (old mid new shown : List ℕ) → i < length words → word ≡ get_or words i word → FitsSigned w32 word → 0 < i → ShownBelow k words i old → shown ≡ word_text k word → IsText shown → mid ≡ old ++ 44 ∷ [] → new ≡ mid ++ shown → ShownBelow k words (i + 1) new
-ShownBelow-next k words i word old mid new shown within at fits later below is clean comma made =
+pub ShownBelow-next : (k : Kind) (words : List ℤ) (i : ℕ) (word : ℤ) (old mid new shown_text : List ℕ) → i < length words → word ≡ get_or words i word → FitsSigned w32 word → 0 < i → ShownBelow k words i old → shown_text ≡ word_text k word → IsText shown_text → mid ≡ old ++ 44 ∷ [] → new ≡ mid ++ shown_text → ShownBelow k words (i + 1) new
+ShownBelow-next k words i word old mid new shown_text within at fits later below is clean comma made =
     let more : take (i + 1) words ≡ take i words ++ word ∷ [] = take_more words i word within ∙ ap (λ w. take i words ++ w ∷ []) (sym at) in
     let some : 0 < length (take i words) = omega (arith, front_length words i within) in
-    let whole : new ≡ old ++ 44 ∷ shown = made ∙ ap (λ l. l ++ shown) comma ∙ append_assoc old (44 ∷ []) shown in
+    let whole : new ≡ old ++ 44 ∷ shown_text = made ∙ ap (λ l. l ++ shown_text) comma ∙ append_assoc old (44 ∷ []) shown_text in
     record {
-      joined = whole ∙ ap (λ l. l ++ 44 ∷ shown) below.joined ∙ ap (λ s. join_with_byte 44 (map (word_text k) (take i words)) ++ 44 ∷ s) is ∙ sym (ap (λ ws. join_with_byte 44 (map (word_text k) ws)) more ∙ join-next k (take i words) word some);
+      joined = whole ∙ ap (λ l. l ++ 44 ∷ shown_text) below.joined ∙ ap (λ s. join_with_byte 44 (map (word_text k) (take i words)) ++ 44 ∷ s) is ∙ sym (ap (λ ws. join_with_byte 44 (map (word_text k) ws)) more ∙ join-next k (take i words) word some);
       held = subst (All (FitsSigned w32)) (sym more) (All-push (FitsSigned w32) (take i words) word below.held fits);
-      clean = subst IsText (sym whole) (IsText-append old (44 ∷ shown) below.clean (IsText-cons 44 shown (omega arith) clean));
+      clean = subst IsText (sym whole) (IsText-append old (44 ∷ shown_text) below.clean (IsText-cons 44 shown_text (omega arith) clean));
     }
 
 -- ---- what is shown of a value in memory
 
-pub shown_reads : {E : Type 0} (desc : Descriptor) (value own : Value) (r : Result (List ℕ) E) → value ≡ own → IfOk r (λ text. text ≡ shown desc own) → OnOk r (IsHeld own) → Fits desc value → IfOk r (λ text. read desc text ≡ Some value)
+pub shown_reads : {E : Type 0} (desc : Descriptor) (value own : Value) (r : Result (List ℕ) E) → value ≡ own → IfOk r (λ text. text ≡ shown_text desc own) → OnOk r (IsRepresentable own) → Fits desc value → IfOk r (λ text. read_value desc text ≡ Some value)
 shown_reads desc value own (Ok text) same is held fits =
-    subst (λ v. read desc text ≡ Some v) (sym same)
-    (ap (read desc) is ∙ read-Reads desc (shown desc own) own (Reads-shown desc own (subst (Fits desc) same fits) held))
+    subst (λ v. read_value desc text ≡ Some v) (sym same)
+    (ap (read_value desc) is ∙ read-Reads desc (shown_text desc own) own (Reads-shown desc own (subst (Fits desc) same fits) held))
 shown_reads desc value own (Err e) same is held fits = tt
 
 pub always_held : {E A : Type 0} (r : Result A E) (P : Type 0) → P → OnOk r P
@@ -176,7 +176,7 @@ ShownBelow-all k words i text all s =
     let whole = take_all i words all in
     (s.joined ∙ ap (λ ws. join_with_byte 44 (map (word_text k) ws)) whole, subst (All (FitsSigned w32)) whole s.held)
 
-pub flag_held : {E : Type 0} (r : Result (List ℕ) E) (desc : Descriptor) (flag : Bool) → IfOk r (λ text. text ≡ (if flag then codes "yes" else codes "no")) → IfOk r (λ text. text ≡ shown desc (Flag flag))
+pub flag_held : {E : Type 0} (r : Result (List ℕ) E) (desc : Descriptor) (flag : Bool) → IfOk r (λ text. text ≡ (if flag then codes "yes" else codes "no")) → IfOk r (λ text. text ≡ shown_text desc (Flag flag))
 flag_held (Ok text) desc true is = is
 flag_held (Ok text) desc false is = is
 flag_held (Err e) desc flag is = tt

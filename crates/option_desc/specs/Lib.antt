@@ -1,7 +1,7 @@
-pub mod Sound
+pub mod WellFormed
 pub mod Fits
 pub mod Put
 pub mod Reads
-pub mod Shown
+pub mod ShownText
 pub mod Refuses
-pub mod Held
+pub mod Representable

@@ -44,13 +44,13 @@ pub record SpellsWords (k : Kind) (text : List ℕ) (words : List ℤ) : Type 0 
   pub each : SpellsEach k pieces words
 
 -- the text reads as that value of the option; how many words there may be is a matter of what fits
-abbrev pub Reads : Descriptor → List ℕ → Value → Type 0
-Reads desc text (Flag true) = (desc.kind ≡ kind.Bool) × (text ≡ codes "yes")
-Reads desc text (Flag false) = (desc.kind ≡ kind.Bool) × (text ≡ codes "no")
-Reads desc text (Int word) = (desc.kind ≡ kind.Int) × (desc.size ≡ 4) × SpellsInteger text word
-Reads desc text (Fixed fixed) = (desc.kind ≡ kind.Fixed) × (desc.size ≡ 4) × SpellsFixed text fixed.0
-Reads desc text (Words words) = (4 < desc.size) × SpellsWords desc.kind text words
-Reads desc text (Text own) = (desc.kind ≡ kind.String) × (own ≡ text) × IsText text
+abbrev pub ReadsAsValue : Descriptor → List ℕ → Value → Type 0
+ReadsAsValue desc text (Flag true) = (desc.kind ≡ kind.Bool) × (text ≡ codes "yes")
+ReadsAsValue desc text (Flag false) = (desc.kind ≡ kind.Bool) × (text ≡ codes "no")
+ReadsAsValue desc text (Int word) = (desc.kind ≡ kind.Int) × (desc.size ≡ 4) × SpellsInteger text word
+ReadsAsValue desc text (Fixed fixed) = (desc.kind ≡ kind.Fixed) × (desc.size ≡ 4) × SpellsFixed text fixed.0
+ReadsAsValue desc text (Words words) = (4 < desc.size) × SpellsWords desc.kind text words
+ReadsAsValue desc text (Text own) = (desc.kind ≡ kind.String) × (own ≡ text) × IsText text
 
 -- The same by computing, for definitions that go on from it; the laws say that both agree.
 
@@ -87,17 +87,17 @@ number_of k size text =
     if size == 4 then option_map (λ word. one_word k word) (word_in k text)
     else (if nat_lt 4 size then option_map (λ words. Words words) (words_in k (pieces_of text)) else None)
 
-abbrev pub text_of : List ℕ → Option Value
-text_of text = if list_any (λ b. b == 0) text then None else Some (Text text)
+abbrev pub text_value_of : List ℕ → Option Value
+text_value_of text = if list_any (λ b. b == 0) text then None else Some (Text text)
 
 abbrev pub read_as : Kind → ℕ → List ℕ → Option Value
 read_as kind.Bool size text = flag_of text
 read_as kind.Int size text = number_of kind.Int size text
 read_as kind.Fixed size text = number_of kind.Fixed size text
-read_as kind.String size text = text_of text
+read_as kind.String size text = text_value_of text
 read_as kind.Button size text = None
 read_as kind.Group size text = None
 
 -- what a text reads as, if anything
-unfoldable pub read : Descriptor → List ℕ → Option Value
-read desc text = read_as desc.kind desc.size text
+unfoldable pub read_value : Descriptor → List ℕ → Option Value
+read_value desc text = read_as desc.kind desc.size text

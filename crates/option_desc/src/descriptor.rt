@@ -17,12 +17,12 @@ pub enum Constraint {
 
 impl Constraint {
     ghost use Rattle.std.specs.Prelude.{◌≡◌, true, IfOk, OnErr};
-    ghost use Rattle.option_desc.specs.Sound.{IsSound};
-    ghost use Rattle.option_desc.specs.Held.{lists_take_memory};
+    ghost use Rattle.option_desc.specs.WellFormed.{IsWellFormed};
+    ghost use Rattle.option_desc.specs.Representable.{lists_take_memory};
 
     /// A law: what the constructors of ranges and lists promise.
     pub fn keeps(&self)
-        ensures { IsSound self.now }
+        ensures { IsWellFormed self.now }
     {
         match self {
             Constraint::Free => {}
@@ -38,7 +38,7 @@ impl Constraint {
         }
     }
 
-    /// An equal constraint. The only error is want of memory, of a list.
+    /// An equal constraint. The only error is out of memory, of a list.
     pub fn try_clone(&self, alloc: Global) -> Result<Constraint, NoMem>
         ensures equal { IfOk result (λ copy. copy ≡ self.now) }
         ensures memory { OnErr result (lists_take_memory self.now ≡ true) }
@@ -70,7 +70,7 @@ pub struct Descriptor {
 impl Descriptor {
     ghost use Rattle.std.specs.Prelude.{◌≡◌, IfOk};
 
-    /// An equal descriptor. The only error is want of memory.
+    /// An equal descriptor. The only error is out of memory.
     pub fn try_clone(&self, alloc: Global) -> Result<Descriptor, NoMem>
         ensures { IfOk result (λ copy. copy ≡ self.now) }
     {

@@ -1,7 +1,7 @@
 ghost use Rattle.std.specs.Prelude.{◌≡◌, ◌↔◌, ◌/◌, ◌==◌, ◌&&◌, nat_lt, length, map, true, IfOk, MatchResult, IsTrue, Some, option_map};
-ghost use Rattle.constraint.specs.Nearest.{PlaceByPlace, TellsDifference};
+ghost use Rattle.constraint.specs.Nearest.{PlaceByPlace, FlagsDifference};
 ghost use Rattle.option_desc.specs.declared.value.Value.{Value as AnyValue};
-ghost use Rattle.option_desc.specs.Held.{takes_memory};
+ghost use Rattle.option_desc.specs.Representable.{takes_memory};
 ghost use Rattle.option_desc.specs.Fits.{Fits, fits_of, has_room_for};
 ghost use Rattle.option_desc.specs.Put.{Puts, nearest_word, nearest_text, nearest_value, resolve};
 ghost use Rattle.option_desc.specs.Refuses.{Refuses};
@@ -47,7 +47,7 @@ fn fits_text(desc: &Descriptor, text: &Text) -> bool
 /// The word that the constraint lets stand for one, and whether it differs.
 fn nearest_word(constraint: &Constraint, word: i32) -> (i32, bool)
     ensures value { result.0 ≡ nearest_word constraint.now word }
-    ensures differs { TellsDifference result.1 word result.0 }
+    ensures differs { FlagsDifference result.1 word result.0 }
 {
     match constraint {
         Constraint::Span(range) => range.nearest_word(word),
@@ -59,7 +59,7 @@ fn nearest_word(constraint: &Constraint, word: i32) -> (i32, bool)
 /// The same in each place.
 fn nearest_words(constraint: &Constraint, words: &mut [i32]) -> bool
     ensures value { words.new ≡ map (nearest_word constraint.now) words.old }
-    ensures differs { TellsDifference result words.old words.new }
+    ensures differs { FlagsDifference result words.old words.new }
 {
     match constraint {
         Constraint::Span(range) => range.nearest_words(words),
@@ -74,7 +74,7 @@ fn nearest_text(alloc: Global, constraint: &Constraint, text: &Text) -> Result<(
     ensures value { MatchResult result
         (λ given. nearest_text constraint.now text.now ≡ Some given.0)
         (λ status. Refuses status (nearest_text constraint.now text.now)) }
-    ensures differs { IfOk result (λ given. TellsDifference given.1 text.now given.0) }
+    ensures differs { IfOk result (λ given. FlagsDifference given.1 text.now given.0) }
 {
     match constraint {
         Constraint::Strings(list) => match list.match_string(text.as_bytes()) {
@@ -91,7 +91,7 @@ fn put_value(alloc: Global, constraint: &Constraint, value: &Value) -> Result<(V
         (λ given. nearest_value constraint.now value.now ≡ Some given.0)
         (λ status. Refuses status (nearest_value constraint.now value.now)) }
     ensures memory { result ≡ Err Status.NoMem → takes_memory value.now ≡ true }
-    ensures differs { IfOk result (λ given. TellsDifference given.1 value.now given.0) }
+    ensures differs { IfOk result (λ given. FlagsDifference given.1 value.now given.0) }
 {
     match value {
         Value::Flag(flag) => Ok((Value::Flag(*flag), false)),
@@ -116,10 +116,10 @@ fn put_value(alloc: Global, constraint: &Constraint, value: &Value) -> Result<(V
 }
 
 /// The nearest value that the option admits, and whether it differs from `value`. `Inval` where the value
-/// does not fit or is matched by no text of the option's list, and `NoMem` for want of memory.
+/// does not fit or is matched by no text of the option's list, and `NoMem` for lack of memory.
 pub fn put(alloc: Global, desc: &Descriptor, value: &Value) -> Result<(Value, bool), Status>
     ensures ok { IfOk result (λ given. Puts desc.now value.now given.0) }
-    ensures differs { IfOk result (λ given. TellsDifference given.1 value.now given.0) }
+    ensures differs { IfOk result (λ given. FlagsDifference given.1 value.now given.0) }
     ensures inval { (result ≡ Err Status.Inval)
         ↔ ((given : AnyValue) → Puts desc.now value.now given → ⊥) }
     // The same as a computation, for definitions that go on from it.

@@ -2,8 +2,8 @@ ghost use Rattle.std.specs.Prelude.{◌≡◌, ◌↔◌, option_map, is_some, t
 ghost use Rattle.sane_fixed.specs.Decimal.{word_of};
 ghost use Rattle.sane_fixed.specs.DecimalReading.{sign_at};
 ghost use Rattle.option_desc.specs.declared.value.Value.{Value as AnyValue};
-ghost use Rattle.option_desc.specs.Reads.{Reads, flag_of, integer_of, word_in, words_in, pieces_of, number_of, one_word, text_of, read_as, read};
-ghost use Rattle.option_desc.specs.Held.{takes_memory};
+ghost use Rattle.option_desc.specs.Reads.{ReadsAsValue, flag_of, integer_of, word_in, words_in, pieces_of, number_of, one_word, text_value_of, read_as, read_value};
+ghost use Rattle.option_desc.specs.Representable.{takes_memory};
 ghost use Rattle.option_desc.specs.Refuses.{Refuses};
 
 use crate::descriptor::Descriptor;
@@ -140,8 +140,8 @@ fn one_word(kind: Kind, word: i32) -> Value
 
 fn read_string(alloc: Global, text: &[u8]) -> Result<Value, Status>
     ensures { MatchResult result
-        (λ value. text_of text.now ≡ Some value)
-        (λ status. Refuses status (text_of text.now)) }
+        (λ value. text_value_of text.now ≡ Some value)
+        (λ status. Refuses status (text_value_of text.now)) }
 {
     match Text::new(alloc, text) {
         Ok(text) => Ok(Value::Text(text)),
@@ -152,17 +152,17 @@ fn read_string(alloc: Global, text: &[u8]) -> Result<Value, Status>
 
 /// The value of the option that a text spells: `yes` or `no`; an optional `-` and 1 to 10 digits within
 /// 32 bits; a decimal; several of these joined by commas; any text without NUL. `Inval` where it spells
-/// none, and `NoMem` for want of memory.
+/// none, and `NoMem` for lack of memory.
 pub fn read_text(alloc: Global, desc: &Descriptor, text: &[u8]) -> Result<Value, Status>
-    ensures ok { IfOk result (λ value. Reads desc.now text.now value) }
+    ensures ok { IfOk result (λ value. ReadsAsValue desc.now text.now value) }
     ensures inval { (result ≡ Err Status.Inval)
-        ↔ ((value : AnyValue) → Reads desc.now text.now value → ⊥) }
+        ↔ ((value : AnyValue) → ReadsAsValue desc.now text.now value → ⊥) }
     // The same as a computation, for definitions that go on from it.
     ensures value { MatchResult result
-        (λ value. read desc.now text.now ≡ Some value)
-        (λ status. Refuses status (read desc.now text.now)) }
+        (λ value. read_value desc.now text.now ≡ Some value)
+        (λ status. Refuses status (read_value desc.now text.now)) }
     // One word is read without memory.
-    ensures memory { result ≡ Err Status.NoMem → (value : AnyValue) → read desc.now text.now ≡ Some value → takes_memory value ≡ true }
+    ensures memory { result ≡ Err Status.NoMem → (value : AnyValue) → read_value desc.now text.now ≡ Some value → takes_memory value ≡ true }
 {
     read_as(alloc, desc.kind, desc.size, text)
 }

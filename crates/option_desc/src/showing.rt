@@ -3,8 +3,8 @@ ghost use Rattle.std.specs.Int.{w32};
 ghost use Rattle.std.specs.Fmt.{signed_decimal};
 ghost use Rattle.std.specs.List.{join_with_byte};
 ghost use Rattle.option_desc.specs.Fits.{Fits};
-ghost use Rattle.option_desc.specs.Reads.{read};
-ghost use Rattle.option_desc.specs.Shown.{word_text, shown};
+ghost use Rattle.option_desc.specs.Reads.{read_value};
+ghost use Rattle.option_desc.specs.ShownText.{word_text, shown_text};
 
 use crate::descriptor::Descriptor;
 use crate::value::Value;
@@ -12,11 +12,11 @@ use sane_fixed::{Fixed, Kind, NoMem, Text};
 use std::alloc::Global;
 
 /// The text of the value, which reads as the value where it fits: `yes` or `no`, a number, numbers joined
-/// by commas, or the text itself. The only error is want of memory.
+/// by commas, or the text itself. The only error is out of memory.
 pub fn show_text(alloc: Global, desc: &Descriptor, value: &Value) -> Result<Text, NoMem>
     ensures reads { Fits desc.now value.now
-        → IfOk result (λ text. read desc.now text ≡ Some value.now) }
-    ensures value { IfOk result (λ text. text ≡ shown desc.now value.now) }
+        → IfOk result (λ text. read_value desc.now text ≡ Some value.now) }
+    ensures value { IfOk result (λ text. text ≡ shown_text desc.now value.now) }
 {
     match value {
         Value::Flag(flag) => show_flag(alloc, *flag),

@@ -63,7 +63,7 @@ impl Words {
         self.words.as_slice()
     }
 
-    /// Equal words. The only error is want of memory.
+    /// Equal words. The only error is out of memory.
     pub fn try_clone(&self, alloc: Global) -> Result<Words, NoMem>
         ensures { IfOk result (λ words. words ≡ self.now) }
     {
@@ -85,9 +85,9 @@ pub enum Value {
 
 impl Value {
     ghost use Rattle.std.specs.Prelude.{◌≡◌, true, IfOk, OnErr};
-    ghost use Rattle.option_desc.specs.Held.{takes_memory};
+    ghost use Rattle.option_desc.specs.Representable.{takes_memory};
 
-    /// An equal value. The only error is want of memory, of words in a row and of texts.
+    /// An equal value. The only error is out of memory, of words in a row and of texts.
     pub fn try_clone(&self, alloc: Global) -> Result<Value, NoMem>
         ensures equal { IfOk result (λ copy. copy ≡ self.now) }
         ensures memory { OnErr result (takes_memory self.now ≡ true) }

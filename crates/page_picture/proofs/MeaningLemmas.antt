@@ -7,7 +7,7 @@ use Rattle.std.proofs.lemmas.Nat.{div_below, le-div, mod_below, div-add-mod'}
 use Rattle.std.proofs.Math.Nat.{mul-le-mul_right}
 use Rattle.std.proofs.lemmas.Bool.Decides.{nat_tests}
 use Rattle.sane_fixed.specs.Length.{px_of}
-use Rattle.page_picture.specs.Page.{Sheet, IsSheet, sheet_at}
+use Rattle.page_picture.specs.Page.{PageView, IsPageView, page_sample_at}
 use Rattle.netpbm.specs.Picture.{IsPicture}
 use Rattle.page_picture.specs.declared.scene.Mode.{Mode}
 use Rattle.page_picture.specs.declared.scene.Mode.TheVariants.{Gray, Color}
@@ -38,26 +38,26 @@ pub side_from_test : (n : ℕ) → is_side n ≡ true → (1 ≤ n) × (n ≤ 65
 side_from_test n h = let p = and_parts (nat_le 1 n) (nat_le n 65536) h in (grind (arith, nat_tests), grind (arith, nat_tests))
 
 -- the sides of an extent
-pub record HasExtent (sheet : Sheet) (scene : Scene) (size : ℕ × ℕ) : Type 0 where
+pub record HasExtent (page_view : PageView) (scene : Scene) (size : ℕ × ℕ) : Type 0 where
   pub width : across scene.kind scene ≡ size.0
-  pub height : down scene.kind sheet.height sheet.dpi scene ≡ size.1
+  pub height : down scene.kind page_view.height page_view.dpi scene ≡ size.1
   pub width_in : (1 ≤ size.0) × (size.0 ≤ 65536)
   pub height_in : (1 ≤ size.1) × (size.1 ≤ 65536)
 
-pub has_extent : (sheet : Sheet) (scene : Scene) (size : ℕ × ℕ) → extent_of sheet scene ≡ Some size → HasExtent sheet scene size
-has_extent sheet scene size e =
-    let found = cond_some (shows_depth scene.mode scene.depth && (is_side (across scene.kind scene) && is_side (down scene.kind sheet.height sheet.dpi scene))) (across scene.kind scene, down scene.kind sheet.height sheet.dpi scene) size e in
-    let shown = and_parts (shows_depth scene.mode scene.depth) (is_side (across scene.kind scene) && is_side (down scene.kind sheet.height sheet.dpi scene)) found.0 in
-    let sides = and_parts (is_side (across scene.kind scene)) (is_side (down scene.kind sheet.height sheet.dpi scene)) shown.1 in
+pub has_extent : (page_view : PageView) (scene : Scene) (size : ℕ × ℕ) → extent_of page_view scene ≡ Some size → HasExtent page_view scene size
+has_extent page_view scene size e =
+    let found = cond_some (shows_depth scene.mode scene.depth && (is_side (across scene.kind scene) && is_side (down scene.kind page_view.height page_view.dpi scene))) (across scene.kind scene, down scene.kind page_view.height page_view.dpi scene) size e in
+    let shown = and_parts (shows_depth scene.mode scene.depth) (is_side (across scene.kind scene) && is_side (down scene.kind page_view.height page_view.dpi scene)) found.0 in
+    let sides = and_parts (is_side (across scene.kind scene)) (is_side (down scene.kind page_view.height page_view.dpi scene)) shown.1 in
     let w : across scene.kind scene ≡ size.0 = ap (λ (p : ℕ × ℕ). p.0) found.1 in
-    let h : down scene.kind sheet.height sheet.dpi scene ≡ size.1 = ap (λ (p : ℕ × ℕ). p.1) found.1 in
+    let h : down scene.kind page_view.height page_view.dpi scene ≡ size.1 = ap (λ (p : ℕ × ℕ). p.1) found.1 in
     let a = side_from_test (across scene.kind scene) sides.0 in
-    let b = side_from_test (down scene.kind sheet.height sheet.dpi scene) sides.1 in
+    let b = side_from_test (down scene.kind page_view.height page_view.dpi scene) sides.1 in
     record { width = w; height = h; width_in = (omega arith, omega arith); height_in = (omega arith, omega arith) }
 
-pub resolution_from_inside : (sheet : Sheet) (scene : Scene) (x y : ℕ) → IsInside sheet scene x y → 1 ≤ scene.resolution
-resolution_from_inside sheet scene x y inside =
-    let e = has_extent sheet scene inside.size inside.extent in
+pub resolution_from_inside : (page_view : PageView) (scene : Scene) (x y : ℕ) → IsInside page_view scene x y → 1 ≤ scene.resolution
+resolution_from_inside page_view scene x y inside =
+    let e = has_extent page_view scene inside.size inside.extent in
     resolution_from_across scene.kind scene (omega arith)
 
 -- a quotient is below a number just where the dividend is below the multiple
@@ -76,10 +76,10 @@ lines_over-from height dpi resolution y a b less =
 
 -- ---- samples are in range
 
-pub dot_limit : (sheet : Sheet) (column row k : ℕ) → IsSheet sheet → dot_at sheet column row k < 2 ^ 16
-dot_limit sheet column row k is =
-    let P : Bool → Type 0 = λ t. (if t then sheet_at sheet column row k else 65535) < 2 ^ 16 in
-    elim (nat_lt column sheet.width && nat_lt row sheet.height) as P [ true ↦ is.sixteen_bits ((row * sheet.width + column) * 3 + k) | false ↦ omega arith ]
+pub dot_limit : (page_view : PageView) (column row k : ℕ) → IsPageView page_view → dot_at page_view column row k < 2 ^ 16
+dot_limit page_view column row k is =
+    let P : Bool → Type 0 = λ t. (if t then page_sample_at page_view column row k else 65535) < 2 ^ 16 in
+    elim (nat_lt column page_view.width && nat_lt row page_view.height) as P [ true ↦ is.sixteen_bits ((row * page_view.width + column) * 3 + k) | false ↦ omega arith ]
 
 pub brightness_limit : (mode : Mode) (seen : ℕ → ℕ) (k : ℕ) → ((k : ℕ) → seen k < 2 ^ 16) → brightness mode seen k < 2 ^ 16
 brightness_limit Gray seen k all = omega (arith, all 0, all 1, all 2)
@@ -117,10 +117,10 @@ greatest_limits depth =
     elim (depth == 16) as P [ true ↦ (omega arith, omega arith) | false ↦ elim (depth == 8) as Q [ true ↦ (omega arith, omega arith) | false ↦ (omega arith, omega arith) ] ]
 
 -- what a scene means on a page is a picture
-pub is_picture : (sheet : Sheet) (scene : Scene) (size : ℕ × ℕ) → IsSheet sheet → ((i : ℕ) → slice_index scene.gamma i < 2 ^ 8) → AreBytes scene.channel_gamma → extent_of sheet scene ≡ Some size → IsPicture (picture_of sheet scene size)
+pub is_picture : (page_view : PageView) (scene : Scene) (size : ℕ × ℕ) → IsPageView page_view → ((i : ℕ) → slice_index scene.gamma i < 2 ^ 8) → AreBytes scene.channel_gamma → extent_of page_view scene ≡ Some size → IsPicture (picture_of page_view scene size)
 unfolding sample_of
-is_picture sheet scene size is bytes channels e =
-    let sides = has_extent sheet scene size e in
+is_picture page_view scene size is bytes channels e =
+    let sides = has_extent page_view scene size e in
     let limits = greatest_limits scene.depth in
     record {
       width_some = sides.width_in.0;
@@ -131,10 +131,10 @@ is_picture sheet scene size is bytes channels e =
       greatest_most = limits.1;
       in_range = λ x y k place.
           channel_limit scene.mode scene.depth scene.channel_gamma k _
-          (tone_limit scene.depth scene.gamma (brightness scene.mode (seen_at sheet scene x y) k) (brightness_limit scene.mode (seen_at sheet scene x y) k (λ k. dot_limit sheet _ _ k is)) bytes) channels;
+          (tone_limit scene.depth scene.gamma (brightness scene.mode (seen_at page_view scene x y) k) (brightness_limit scene.mode (seen_at page_view scene x y) k (λ k. dot_limit page_view _ _ k is)) bytes) channels;
     }
 
 -- where the extent is some, what the scene means is a picture
-pub is_picture_where : (r : Option (ℕ × ℕ)) (sheet : Sheet) (scene : Scene) → IsSheet sheet → ((i : ℕ) → slice_index scene.gamma i < 2 ^ 8) → AreBytes scene.channel_gamma → r ≡ extent_of sheet scene → IfSome r (λ size. IsPicture (picture_of sheet scene size))
-is_picture_where None sheet scene is bytes channels e = tt
-is_picture_where (Some size) sheet scene is bytes channels e = is_picture sheet scene size is bytes channels (sym e)
+pub is_picture_where : (r : Option (ℕ × ℕ)) (page_view : PageView) (scene : Scene) → IsPageView page_view → ((i : ℕ) → slice_index scene.gamma i < 2 ^ 8) → AreBytes scene.channel_gamma → r ≡ extent_of page_view scene → IfSome r (λ size. IsPicture (picture_of page_view scene size))
+is_picture_where None page_view scene is bytes channels e = tt
+is_picture_where (Some size) page_view scene is bytes channels e = is_picture page_view scene size is bytes channels (sym e)

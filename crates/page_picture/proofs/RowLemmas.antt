@@ -8,15 +8,15 @@ use Rattle.std.proofs.Math.Nat.{mul-le-mul_right, mul-le-mul_left}
 use Rattle.std.proofs.lemmas.Bool.Decides.{nat_tests}
 use borrow.Rule.Slice.PartMut.{put_mid, post_of}
 use Rattle.std.specs.Prelude.{Some}
-use Rattle.netpbm.specs.declared.format.Format.{Format}
-use Rattle.netpbm.specs.declared.format.Format.TheVariants.{Pbm, Pgm, Ppm}
+use Rattle.netpbm.specs.declared.format.PnmFormat.{PnmFormat}
+use Rattle.netpbm.specs.declared.format.PnmFormat.TheVariants.{Pbm, Pgm, Ppm}
 use Rattle.netpbm.specs.declared.format.Header.{Header}
 use Rattle.netpbm.specs.Pnm.{number_in, sample_bytes, raster_length, channels_of}
 use Rattle.netpbm.specs.Raster.{NoneAbove, SomeAbove, raster_size, sample_count}
 use Rattle.page_picture.specs.declared.sources.open_fault.OpenFault.{OpenFault}
 use Rattle.page_picture.specs.declared.sources.open_fault.OpenFault.TheVariants.{Device}
 use Rattle.page_picture.specs.PageFile.{IsPageFormat}
-use Rattle.page_picture.specs.PageRows.{row_size, row_count, GivesRowOf, HasRows, IsPageHeader, IsRaster, ReadsRaster, ShowsRow, unused}
+use Rattle.page_picture.specs.PageRows.{file_row_size, row_count, GivesRowOf, HasRows, IsPageHeader, IsRaster, ReadsRaster, ShowsRow, unused_bytes}
 
 -- what holds wherever the fault is the reader's
 pub of_device : {A : Type 0} (r : Result A OpenFault) (X : Type 0) → X → IfErr r (λ fault. fault ≡ Device → X)
@@ -38,19 +38,19 @@ slice_range-put_mid a k n xs ys within fits =
 
 -- ---- the rows that are held
 
-pub unused_none : (size : ℕ) (room left : List ℕ) → unused size 0 room left ≡ left
+pub unused_none : (size : ℕ) (room left : List ℕ) → unused_bytes size 0 room left ≡ left
 unused_none size room left =
     let place : length room - 0 * size ≡ length room = omega arith in
     ap (λ n. drop n room ++ left) place ∙ ap (λ l. l ++ left) (drop_of_length-le room (le_refl (length room)))
 
-pub length-unused : (size held : ℕ) (room left : List ℕ) → held * size ≤ length room → length (unused size held room left) ≡ held * size + length left
+pub length-unused : (size held : ℕ) (room left : List ℕ) → held * size ≤ length room → length (unused_bytes size held room left) ≡ held * size + length left
 length-unused size held room left within =
     let n = held * size in
     let back : length room - (length room - n) ≡ n = omega arith in
     length-append (drop (length room - n) room) left ∙ ap (λ k. k + length left) (length-drop (length room - n) room ∙ back)
 
 -- the first of them, and the others
-pub unused_next : (size held next from : ℕ) (room left : List ℕ) → held ≡ next + 1 → held * size ≤ length room → from ≡ length room - held * size → unused size held room left ≡ slice_range room from (from + size) ++ unused size next room left
+pub unused_next : (size held next from : ℕ) (room left : List ℕ) → held ≡ next + 1 → held * size ≤ length room → from ≡ length room - held * size → unused_bytes size held room left ≡ slice_range room from (from + size) ++ unused_bytes size next room left
 unused_next size held next from room left e within at =
     let all : held * size ≡ next * size + size = ap (λ k. k * size) e ∙ omega arith in
     let place : from + size ≡ length room - next * size = omega arith in
@@ -60,14 +60,14 @@ unused_next size held next from room left e within at =
     let cut : drop from room ≡ row ++ rest = sym (take-append-drop size (drop from room)) ∙ ap (λ l. row ++ l) (drop-drop size from room ∙ ap (λ n. drop n room) place) in
     ap (λ n. drop n room ++ left) (sym at) ∙ ap (λ l. l ++ left) cut ∙ append_assoc row rest left ∙ ap (λ n. take n (drop from room) ++ (rest ++ left)) (sym same)
 
-pub unused_zero : (size held : ℕ) (room left : List ℕ) → held ≡ 0 → unused size held room left ≡ left
-unused_zero size held room left e = ap (λ k. unused size k room left) e ∙ unused_none size room left
+pub unused_zero : (size held : ℕ) (room left : List ℕ) → held ≡ 0 → unused_bytes size held room left ≡ left
+unused_zero size held room left e = ap (λ k. unused_bytes size k room left) e ∙ unused_none size room left
 
 -- what is not used yet stays the same while rows are read into the room, and then begins with the row that is taken
-pub row_taken : (h : Header) (size held0 held1 next : ℕ) (room0 room1 left0 left1 : List ℕ) → size ≡ row_size h → unused size held0 room0 left0 ≡ unused size held1 room1 left1 → held1 ≡ next + 1 → held1 * size ≤ length room1 → unused (row_size h) held0 room0 left0 ≡ slice_range room1 (length room1 - held1 * size) (length room1 - held1 * size + size) ++ unused (row_size h) next room1 left1
+pub row_taken : (h : Header) (size held0 held1 next : ℕ) (room0 room1 left0 left1 : List ℕ) → size ≡ file_row_size h → unused_bytes size held0 room0 left0 ≡ unused_bytes size held1 room1 left1 → held1 ≡ next + 1 → held1 * size ≤ length room1 → unused_bytes (file_row_size h) held0 room0 left0 ≡ slice_range room1 (length room1 - held1 * size) (length room1 - held1 * size + size) ++ unused_bytes (file_row_size h) next room1 left1
 row_taken h size held0 held1 next room0 room1 left0 left1 same e one within =
     let from = length room1 - held1 * size in
-    subst (λ s. unused s held0 room0 left0 ≡ slice_range room1 from (from + size) ++ unused s next room1 left1) same (e ∙ unused_next size held1 next from room1 left1 one within refl)
+    subst (λ s. unused_bytes s held0 room0 left0 ≡ slice_range room1 from (from + size) ++ unused_bytes s next room1 left1) same (e ∙ unused_next size held1 next from room1 left1 one within refl)
 
 pub length-row_taken : (size held next : ℕ) (room : List ℕ) → held ≡ next + 1 → held * size ≤ length room → length (slice_range room (length room - held * size) (length room - held * size + size)) ≡ size
 length-row_taken size held next room e within =
@@ -129,15 +129,15 @@ some_here m y n at raster bytes more e place size (i, inside, above) =
 
 -- ---- the whole raster
 
-pub row_size-count : (h : Header) → IsPageFormat (Some h.format) → row_size h ≡ row_count h * sample_bytes h.maxval
+pub row_size-count : (h : Header) → IsPageFormat (Some h.format) → file_row_size h ≡ row_count h * sample_bytes h.maxval
 row_size-count h is = by_format h.format h.width h.maxval is
   where
-    by_format : (f : Format) (w m : ℕ) → IsPageFormat (Some f) → raster_length f w 1 m ≡ w * 1 * channels_of f * sample_bytes m
+    by_format : (f : PnmFormat) (w m : ℕ) → IsPageFormat (Some f) → raster_length f w 1 m ≡ w * 1 * channels_of f * sample_bytes m
     by_format Pbm w m is = absurd is
     by_format Pgm w m is = omega arith
     by_format Ppm w m is = refl
 
-pub row_size-most : (h : Header) → IsPageFormat (Some h.format) → h.width ≤ 16384 → row_size h ≤ 98304
+pub row_size-most : (h : Header) → IsPageFormat (Some h.format) → h.width ≤ 16384 → file_row_size h ≤ 98304
 row_size-most h is most = by_format h.format h.width h.maxval is most
   where
     bytes : (m : ℕ) → sample_bytes m ≤ 2
@@ -146,15 +146,15 @@ row_size-most h is most = by_format h.format h.width h.maxval is most
     product : (n b : ℕ) → b ≤ 2 → n * b ≤ n * 2
     product n b h = mul-le-mul_left n h
 
-    by_format : (f : Format) (w m : ℕ) → IsPageFormat (Some f) → w ≤ 16384 → raster_length f w 1 m ≤ 98304
+    by_format : (f : PnmFormat) (w m : ℕ) → IsPageFormat (Some f) → w ≤ 16384 → raster_length f w 1 m ≤ 98304
     by_format Pbm w m is most = absurd is
     by_format Pgm w m is most = let two = product (w * 1) (sample_bytes m) (bytes m) in omega arith
     by_format Ppm w m is most = let two = product (w * 1 * 3) (sample_bytes m) (bytes m) in omega arith
 
-pub raster_size-rows : (h : Header) → IsPageFormat (Some h.format) → raster_size h ≡ h.height * row_size h
+pub raster_size-rows : (h : Header) → IsPageFormat (Some h.format) → raster_size h ≡ h.height * file_row_size h
 raster_size-rows h is = by_format h.format h.width h.height h.maxval is
   where
-    by_format : (f : Format) (w y m : ℕ) → IsPageFormat (Some f) → raster_length f w y m ≡ y * raster_length f w 1 m
+    by_format : (f : PnmFormat) (w y m : ℕ) → IsPageFormat (Some f) → raster_length f w y m ≡ y * raster_length f w 1 m
     by_format Pbm w y m is = absurd is
     by_format Pgm w y m is = omega arith
     by_format Ppm w y m is = omega arith
@@ -165,45 +165,45 @@ sample_count-rows h = omega arith
 -- y rows of the raster were read, and the others are left
 pub record RowsRead (h : Header) (raster left : List ℕ) (y : ℕ) : Type 0 where
   pub page : IsPageFormat (Some h.format)
-  pub left_is : left ≡ drop (y * row_size h) raster
-  pub within : y * row_size h ≤ length raster
+  pub left_is : left ≡ drop (y * file_row_size h) raster
+  pub within : y * file_row_size h ≤ length raster
 
 -- the bytes that are left, and those of the rows
-pub rows_left : (h : Header) (raster left : List ℕ) (y : ℕ) → RowsRead h raster left y → length left + y * row_size h ≡ length raster
-rows_left h raster left y r = let size = length-drop (y * row_size h) raster in let same = ap length r.left_is in let low = r.within in omega arith
+pub rows_left : (h : Header) (raster left : List ℕ) (y : ℕ) → RowsRead h raster left y → length left + y * file_row_size h ≡ length raster
+rows_left h raster left y r = let size = length-drop (y * file_row_size h) raster in let same = ap length r.left_is in let low = r.within in omega arith
 
-pub rows_short : (h : Header) (raster left : List ℕ) (y rows : ℕ) → RowsRead h raster left y → rows + y ≡ h.height → length left < rows * row_size h → length raster < raster_size h
+pub rows_short : (h : Header) (raster left : List ℕ) (y rows : ℕ) → RowsRead h raster left y → rows + y ≡ h.height → length left < rows * file_row_size h → length raster < raster_size h
 rows_short h raster left y rows r all short =
-    let both : (rows + y) * row_size h ≡ h.height * row_size h = ap (λ k. k * row_size h) all in
+    let both : (rows + y) * file_row_size h ≡ h.height * file_row_size h = ap (λ k. k * file_row_size h) all in
     omega (arith, rows_left h raster left y r, raster_size-rows h r.page)
 
-pub rows_next : (h : Header) (raster left bytes more : List ℕ) (y : ℕ) → RowsRead h raster left y → left ≡ bytes ++ more → length bytes ≡ row_size h → RowsRead h raster more (y + 1)
+pub rows_next : (h : Header) (raster left bytes more : List ℕ) (y : ℕ) → RowsRead h raster left y → left ≡ bytes ++ more → length bytes ≡ file_row_size h → RowsRead h raster more (y + 1)
 rows_next h raster left bytes more y r e size =
-    let place : y * row_size h + row_size h ≡ (y + 1) * row_size h = omega arith in
+    let place : y * file_row_size h + file_row_size h ≡ (y + 1) * file_row_size h = omega arith in
     record {
       page = r.page;
-      left_is = sym (drop-row (y * row_size h) (row_size h) raster bytes more (sym r.left_is ∙ e) size) ∙ ap (λ k. drop k raster) place;
+      left_is = sym (drop-row (y * file_row_size h) (file_row_size h) raster bytes more (sym r.left_is ∙ e) size) ∙ ap (λ k. drop k raster) place;
       within = let all = rows_left h raster left y r in let both = ap length e ∙ length-append bytes more in omega arith;
     }
 
-row_place : (h : Header) (y : ℕ) → IsPageFormat (Some h.format) → y * row_size h ≡ y * (row_count h * sample_bytes h.maxval)
+row_place : (h : Header) (y : ℕ) → IsPageFormat (Some h.format) → y * file_row_size h ≡ y * (row_count h * sample_bytes h.maxval)
 row_place h y is = ap (λ k. y * k) (row_size-count h is)
 
-pub none_step : (h : Header) (raster left bytes more : List ℕ) (y : ℕ) (fit fits : Bool) → RowsRead h raster left y → left ≡ bytes ++ more → length bytes ≡ row_size h → (fit ≡ true → NoneAbove h.maxval raster (y * row_count h)) → MatchBool fits (NoneAbove h.maxval bytes (row_count h)) (SomeAbove h.maxval bytes (row_count h)) → (fit && fits) ≡ true → NoneAbove h.maxval raster ((y + 1) * row_count h)
+pub none_step : (h : Header) (raster left bytes more : List ℕ) (y : ℕ) (fit fits : Bool) → RowsRead h raster left y → left ≡ bytes ++ more → length bytes ≡ file_row_size h → (fit ≡ true → NoneAbove h.maxval raster (y * row_count h)) → MatchBool fits (NoneAbove h.maxval bytes (row_count h)) (SomeAbove h.maxval bytes (row_count h)) → (fit && fits) ≡ true → NoneAbove h.maxval raster ((y + 1) * row_count h)
 none_step h raster left bytes more y true true r e size before here both =
-    none_more h.maxval y (row_count h) (y * row_size h) raster bytes more (sym r.left_is ∙ e) (row_place h y r.page) (size ∙ row_size-count h r.page) (before refl) here
+    none_more h.maxval y (row_count h) (y * file_row_size h) raster bytes more (sym r.left_is ∙ e) (row_place h y r.page) (size ∙ row_size-count h r.page) (before refl) here
 none_step h raster left bytes more y true false r e size before here both = cc both
 none_step h raster left bytes more y false fits r e size before here both = cc both
 
-pub some_step : (h : Header) (raster left bytes more : List ℕ) (y : ℕ) (fit fits : Bool) → RowsRead h raster left y → left ≡ bytes ++ more → length bytes ≡ row_size h → (fit ≡ false → SomeAbove h.maxval raster (y * row_count h)) → MatchBool fits (NoneAbove h.maxval bytes (row_count h)) (SomeAbove h.maxval bytes (row_count h)) → (fit && fits) ≡ false → SomeAbove h.maxval raster ((y + 1) * row_count h)
+pub some_step : (h : Header) (raster left bytes more : List ℕ) (y : ℕ) (fit fits : Bool) → RowsRead h raster left y → left ≡ bytes ++ more → length bytes ≡ file_row_size h → (fit ≡ false → SomeAbove h.maxval raster (y * row_count h)) → MatchBool fits (NoneAbove h.maxval bytes (row_count h)) (SomeAbove h.maxval bytes (row_count h)) → (fit && fits) ≡ false → SomeAbove h.maxval raster ((y + 1) * row_count h)
 some_step h raster left bytes more y true true r e size before here both = cc both
 some_step h raster left bytes more y true false r e size before here both =
-    some_here h.maxval y (row_count h) (y * row_size h) raster bytes more (sym r.left_is ∙ e) (row_place h y r.page) (size ∙ row_size-count h r.page) here
+    some_here h.maxval y (row_count h) (y * file_row_size h) raster bytes more (sym r.left_is ∙ e) (row_place h y r.page) (size ∙ row_size-count h r.page) here
 some_step h raster left bytes more y false fits r e size before here both = some_before h.maxval y (row_count h) raster (before refl)
 
 pub rows_all : (h : Header) (raster left : List ℕ) (y : ℕ) → RowsRead h raster left y → y ≡ h.height → ReadsRaster h raster left
 rows_all h raster left y r all =
-    let size : y * row_size h ≡ raster_size h = ap (λ k. k * row_size h) all ∙ sym (raster_size-rows h r.page) in
+    let size : y * file_row_size h ≡ raster_size h = ap (λ k. k * file_row_size h) all ∙ sym (raster_size-rows h r.page) in
     let within = r.within in
     record { size = omega arith; left_is = r.left_is ∙ ap (λ k. drop k raster) size }
 
@@ -217,26 +217,26 @@ rows_fit h raster y fit all none some =
     by_fit false none some count = subst (SomeAbove h.maxval raster) count (some refl)
 
 -- a row that stands at the front is the one that is read, and no number of it is above the greatest
-pub row_fits : (h : Header) (rows : ℕ) (left bytes more : List ℕ) → HasRows h rows left → left ≡ bytes ++ more → length bytes ≡ row_size h → SomeAbove h.maxval bytes (row_count h) → ⊥
+pub row_fits : (h : Header) (rows : ℕ) (left bytes more : List ℕ) → HasRows h rows left → left ≡ bytes ++ more → length bytes ≡ file_row_size h → SomeAbove h.maxval bytes (row_count h) → ⊥
 row_fits h rows left bytes more row e size (i, inside, above) =
-    let front : take (row_size h) left ≡ bytes = ap (take (row_size h)) e ∙ ap (λ n. take n (bytes ++ more)) (sym size) ∙ take-append_seam bytes more in
+    let front : take (file_row_size h) left ≡ bytes = ap (take (file_row_size h)) e ∙ ap (λ n. take n (bytes ++ more)) (sym size) ∙ take-append_seam bytes more in
     let below : number_in h.maxval bytes i ≤ h.maxval = subst (λ l. number_in h.maxval l i ≤ h.maxval) front (row.none_above i inside) in
     omega arith
 
 -- the row at the front was used
-pub gives_row : (h : Header) (left bytes more row : List ℕ) → left ≡ bytes ++ more → length bytes ≡ row_size h → ShowsRow h bytes row → GivesRowOf h left more row
+pub gives_row : (h : Header) (left bytes more row : List ℕ) → left ≡ bytes ++ more → length bytes ≡ file_row_size h → ShowsRow h bytes row → GivesRowOf h left more row
 gives_row h left bytes more row e size shows =
-    let front : take (row_size h) left ≡ bytes = ap (take (row_size h)) e ∙ ap (λ n. take n (bytes ++ more)) (sym size) ∙ take-append_seam bytes more in
+    let front : take (file_row_size h) left ≡ bytes = ap (take (file_row_size h)) e ∙ ap (λ n. take n (bytes ++ more)) (sym size) ∙ take-append_seam bytes more in
     record {
       size = let both = ap length e ∙ length-append bytes more in omega arith;
-      after_is = sym (ap (drop (row_size h)) e ∙ ap (λ n. drop n (bytes ++ more)) (sym size) ∙ drop-append_seam bytes more);
+      after_is = sym (ap (drop (file_row_size h)) e ∙ ap (λ n. drop n (bytes ++ more)) (sym size) ∙ drop-append_seam bytes more);
       shows = subst (λ l. ShowsRow h l row) (sym front) shows;
     }
 
 -- the next rows of a whole raster stand at the front of what is left
-pub has_rows : (h : Header) (raster left : List ℕ) (y rows : ℕ) → IsPageHeader h → IsRaster h raster → y < h.height → rows ≡ h.height - y → left ≡ drop (y * row_size h) raster → HasRows h rows left
+pub has_rows : (h : Header) (raster left : List ℕ) (y rows : ℕ) → IsPageHeader h → IsRaster h raster → y < h.height → rows ≡ h.height - y → left ≡ drop (y * file_row_size h) raster → HasRows h rows left
 has_rows h raster left y rows page is less count_is e =
-    let n = row_size h in
+    let n = file_row_size h in
     let all : length raster ≡ h.height * n = is.size ∙ raster_size-rows h page.format in
     let rest : length left ≡ length raster - y * n = ap length e ∙ length-drop (y * n) raster in
     let up : suc y * n ≤ h.height * n = mul-le-mul_right n less in

@@ -6,30 +6,30 @@ use Rattle.std.proofs.lemmas.Nat.{div-mul-add, mul-add-lt}
 use Rattle.std.proofs.Math.Nat.{div-le_of_le-mul}
 use Rattle.std.proofs.lemmas.Bool.{cases_lt}
 use Rattle.std.proofs.lemmas.List.{get_or_past}
-use Rattle.netpbm.specs.declared.format.Format.{Format}
-use Rattle.netpbm.specs.declared.format.Format.TheVariants.{Pbm, Pgm, Ppm}
+use Rattle.netpbm.specs.declared.format.PnmFormat.{PnmFormat}
+use Rattle.netpbm.specs.declared.format.PnmFormat.TheVariants.{Pbm, Pgm, Ppm}
 use Rattle.netpbm.specs.declared.format.Header.{Header}
 use Rattle.netpbm.specs.Pnm.{number_in, channels_of}
-use Rattle.netpbm.specs.FileText.{joined}
+use Rattle.netpbm.specs.FileText.{concat_up_to}
 use Rattle.netpbm.proofs.WritingLaws.{length-joined, joined_at}
 use Rattle.page_picture.specs.declared.page_file.PageFault.TheVariants.{BadMagic, BadHeader, SampleTooLarge, Short, Trailing, BadDpi, NoMem}
 use Rattle.page_picture.specs.declared.sources.open_fault.OpenFault.{OpenFault}
 use Rattle.page_picture.specs.declared.sources.open_fault.OpenFault.TheVariants.{Page, Device}
-use Rattle.page_picture.specs.Page.{IsShaped, IsSheet, IsRow}
+use Rattle.page_picture.specs.Page.{IsShaped, IsPageView, IsRow}
 use Rattle.page_picture.specs.PageFile.{BeginsPage, IsDpi, IsPageFormat, TellsPage}
 use Rattle.page_picture.specs.PageReading.{ArePageSamples, page_number, source}
-use Rattle.page_picture.specs.PageRows.{IsPageHeader, IsRaster, ShowsRow, page_shown, samples_shown, row_count, row_size}
+use Rattle.page_picture.specs.PageRows.{IsPageHeader, IsRaster, ShowsRow, page_shown, samples_shown, row_count, file_row_size}
 use Rattle.page_picture.specs.Opening.{HasHeaderFault, HasOpenFault, HasOpenFaultAfter}
 use Rattle.page_picture.proofs.PageLemmas.{tells_page}
 use Rattle.page_picture.proofs.RowLemmas.{drop-row, number_in_row, row_size-count}
 
-numbers_length : (f : ℕ → ℕ) (n : ℕ) → length (joined (λ j. f j ∷ []) n) ≡ n
+numbers_length : (f : ℕ → ℕ) (n : ℕ) → length (concat_up_to (λ j. f j ∷ []) n) ≡ n
 numbers_length f n = let all = length-joined (λ j. f j ∷ []) 1 n (λ i. refl) in omega arith
 
-numbers_at : (f : ℕ → ℕ) (n i : ℕ) → i < n → slice_index (joined (λ j. f j ∷ []) n) i ≡ f i
+numbers_at : (f : ℕ → ℕ) (n i : ℕ) → i < n → slice_index (concat_up_to (λ j. f j ∷ []) n) i ≡ f i
 numbers_at f n i h =
     let place : i ≡ i * 1 + 0 = omega arith in
-    ap (slice_index (joined (λ j. f j ∷ []) n)) place ∙ joined_at (λ j. f j ∷ []) 1 n i 0 (λ i. refl) h (omega arith)
+    ap (slice_index (concat_up_to (λ j. f j ∷ []) n)) place ∙ joined_at (λ j. f j ∷ []) 1 n i 0 (λ i. refl) h (omega arith)
 
 pub shown_shaped : (h : Header) (dpi : ℕ) (raster : List ℕ) → IsPageHeader h → IsDpi dpi → IsShaped (page_shown h dpi raster)
 unfolding samples_shown
@@ -46,15 +46,15 @@ shown_shaped h dpi raster page dots = record {
 pub shown_tells : (text raster : List ℕ) (h : Header) (dpi : ℕ) → BeginsPage text h raster → IsRaster h raster → TellsPage text dpi (page_shown h dpi raster)
 unfolding samples_shown
 shown_tells text raster h dpi begins is =
-    let are : ArePageSamples h raster (joined (λ j. page_number h raster j ∷ []) (h.width * h.height * 3)) = record {
+    let are : ArePageSamples h raster (concat_up_to (λ j. page_number h raster j ∷ []) (h.width * h.height * 3)) = record {
       size = numbers_length (page_number h raster) (h.width * h.height * 3);
       each = numbers_at (page_number h raster) (h.width * h.height * 3);
     } in
-    tells_page text h raster dpi (joined (λ j. page_number h raster j ∷ []) (h.width * h.height * 3)) begins is.size is.none_above are
+    tells_page text h raster dpi (concat_up_to (λ j. page_number h raster j ∷ []) (h.width * h.height * 3)) begins is.size is.none_above are
 
 -- ---- a row
 
-source_row : (f : Format) (w x y k : ℕ) → IsPageFormat (Some f) → k < 3 → source f ((y * w + x) * 3 + k) ≡ y * (w * 1 * channels_of f) + source f (3 * x + k)
+source_row : (f : PnmFormat) (w x y k : ℕ) → IsPageFormat (Some f) → k < 3 → source f ((y * w + x) * 3 + k) ≡ y * (w * 1 * channels_of f) + source f (3 * x + k)
 source_row Pbm w x y k is h = absurd is
 source_row Pgm w x y k is h =
     let place : 3 * x + k ≡ x * 3 + k = omega arith in
@@ -63,7 +63,7 @@ source_row Pgm w x y k is h =
     omega arith
 source_row Ppm w x y k is h = omega arith
 
-source_inside : (f : Format) (w x k : ℕ) → IsPageFormat (Some f) → x < w → k < 3 → source f (3 * x + k) < w * 1 * channels_of f
+source_inside : (f : PnmFormat) (w x k : ℕ) → IsPageFormat (Some f) → x < w → k < 3 → source f (3 * x + k) < w * 1 * channels_of f
 source_inside Pbm w x k is a h = absurd is
 source_inside Pgm w x k is a h =
     let place : 3 * x + k ≡ x * 3 + k = omega arith in
@@ -71,7 +71,7 @@ source_inside Pgm w x k is a h =
     omega arith
 source_inside Ppm w x k is a h = omega arith
 
-pub shown_row : (h : Header) (dpi y : ℕ) (raster bytes more row : List ℕ) → IsPageHeader h → y < h.height → drop (y * row_size h) raster ≡ bytes ++ more → length bytes ≡ row_size h → ShowsRow h bytes row → IsRow (page_shown h dpi raster) y row
+pub shown_row : (h : Header) (dpi y : ℕ) (raster bytes more row : List ℕ) → IsPageHeader h → y < h.height → drop (y * file_row_size h) raster ≡ bytes ++ more → length bytes ≡ file_row_size h → ShowsRow h bytes row → IsRow (page_shown h dpi raster) y row
 unfolding samples_shown
 shown_row h dpi y raster bytes more row page less e size shows = record {
   each = λ x k column channel.
@@ -81,7 +81,7 @@ shown_row h dpi y raster bytes more row page less e size shows = record {
       let count = row_size-count h page.format in
       let number : number_in h.maxval raster (source h.format far) ≡ number_in h.maxval bytes (source h.format j) =
       ap (number_in h.maxval raster) (source_row h.format h.width x y k page.format channel)
-      ∙ number_in_row h.maxval y (row_count h) (y * row_size h) (source h.format j) raster bytes more e (ap (λ n. y * n) count) (size ∙ count) (source_inside h.format h.width x k page.format column channel) in
+      ∙ number_in_row h.maxval y (row_count h) (y * file_row_size h) (source h.format j) raster bytes more e (ap (λ n. y * n) count) (size ∙ count) (source_inside h.format h.width x k page.format column channel) in
       shows.each j (omega arith) ∙ ap (λ n. n * 65535 / h.maxval) (sym number) ∙ sym (numbers_at (page_number h raster) (h.width * h.height * 3) far inside);
 }
 
@@ -130,7 +130,7 @@ from_first size left raster e = let none : 0 ≡ 0 * size = omega arith in e ∙
 
 -- ---- its samples
 
-source_counted : (f : Format) (w h j : ℕ) → IsPageFormat (Some f) → j < w * h * 3 → source f j < w * h * channels_of f
+source_counted : (f : PnmFormat) (w h j : ℕ) → IsPageFormat (Some f) → j < w * h * 3 → source f j < w * h * channels_of f
 source_counted Pbm w h j is less = absurd is
 source_counted Pgm w h j is less = let n = w * h in omega arith
 source_counted Ppm w h j is less = less
@@ -141,7 +141,7 @@ scaled_limit maxval v some most =
     omega arith
 
 -- a raster without a number above its greatest shows a page
-pub shown_sheet : (h : Header) (dpi : ℕ) (raster : List ℕ) → IsPageHeader h → IsDpi dpi → IsRaster h raster → IsSheet (page_shown h dpi raster)
+pub shown_sheet : (h : Header) (dpi : ℕ) (raster : List ℕ) → IsPageHeader h → IsDpi dpi → IsRaster h raster → IsPageView (page_shown h dpi raster)
 unfolding samples_shown
 shown_sheet h dpi raster page dots is = record {
   shape = shown_shaped h dpi raster page dots;
@@ -149,6 +149,6 @@ shown_sheet h dpi raster page dots is = record {
       let n = h.width * h.height * 3 in
       elim (cases_lt i n) [
         | inl less ↦ rw (numbers_at (page_number h raster) n i less) (scaled_limit h.maxval _ page.maxval_some (is.none_above (source h.format i) (source_counted h.format h.width h.height i page.format less)))
-        | inr past ↦ rw (get_or_past (joined (λ j. page_number h raster j ∷ []) n) i 0 (omega (arith, numbers_length (page_number h raster) n, past))) (omega arith)
+        | inr past ↦ rw (get_or_past (concat_up_to (λ j. page_number h raster j ∷ []) n) i 0 (omega (arith, numbers_length (page_number h raster) n, past))) (omega arith)
       ];
 }

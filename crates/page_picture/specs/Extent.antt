@@ -2,7 +2,7 @@
 -- and down.
 use Rattle.std.specs.Prelude.{ℕ, ◌+◌, ◌-◌, ◌*◌, ◌/◌, ◌<◌, ◌≡◌, ℤ, pos, ◌-ℤ◌, Bool, true, not, ◌&&◌, ◌==◌, nat_le, if◌then◌else◌, Option, Some, None}
 use Rattle.sane_fixed.specs.Length.{px_of}
-use Rattle.page_picture.specs.Page.{Sheet}
+use Rattle.page_picture.specs.Page.{PageView}
 use Rattle.page_picture.specs.declared.scene.DeviceKind.{DeviceKind}
 use Rattle.page_picture.specs.declared.scene.DeviceKind.TheVariants.{Flatbed, Hand, ThreePass, Feeder}
 use Rattle.page_picture.specs.declared.scene.Mode.{Mode}
@@ -60,12 +60,12 @@ extent_on height dpi scene =
     then Some (across scene.kind scene, down scene.kind height dpi scene)
     else None
 
-abbrev pub extent_of : Sheet → Scene → Option (ℕ × ℕ)
-extent_of sheet scene = extent_on sheet.height sheet.dpi scene
+abbrev pub extent_of : PageView → Scene → Option (ℕ × ℕ)
+extent_of page_view scene = extent_on page_view.height page_view.dpi scene
 
 -- the place lies inside the extent
-pub record IsInside (sheet : Sheet) (scene : Scene) (x y : ℕ) : Type 0 where
+pub record IsInside (page_view : PageView) (scene : Scene) (x y : ℕ) : Type 0 where
   pub size : ℕ × ℕ
-  pub extent : extent_of sheet scene ≡ Some size
+  pub extent : extent_of page_view scene ≡ Some size
   pub column : x < size.0
   pub row : y < size.1

@@ -2,19 +2,19 @@
 -- readers of a number or a gap see by it that they are through.
 use Rattle.std.specs.Prelude.{ℕ, ◌+◌, ◌*◌, ◌≡◌, ◌≤◌, ◌&&◌, nat_le, if◌then◌else◌, Bool, List, [], ◌∷◌, Option, Some, None, drop}
 use Rattle.std.specs.Char.{is_ascii_digit, digit_value}
-use Rattle.netpbm.specs.declared.format.Format.{Format}
+use Rattle.netpbm.specs.declared.format.PnmFormat.{PnmFormat}
 use Rattle.netpbm.specs.declared.format.Header.{Header}
 use Rattle.netpbm.specs.HeaderReading.{field_at, end_at, ◌>>=◌}
 
 -- whether the reader keeps its bytes, the bytes, how many of them were read, and how many calls of the reader failed
-pub record Scanned : Type 0 where
+pub record HeaderScanState : Type 0 where
   pub kept : Bool
   pub text : List ℕ
   pub at : ℕ
   pub faults : ℕ
 
 -- the bytes that are not read yet
-abbrev pub rest_of : Scanned → List ℕ
+abbrev pub rest_of : HeaderScanState → List ℕ
 rest_of scan = drop scan.at scan.text
 
 -- the byte in hand and what follows it; none is in hand at the end
@@ -33,16 +33,16 @@ digit_in (Some b) = if is_ascii_digit b then Some (digit_value b) else None
 digit_in None = None
 
 -- so many digits of a number were read, which stand for v, and no more follow
-abbrev pub ended : ℕ → ℕ → List ℕ → Option (ℕ × List ℕ)
-ended count v rest = if nat_le 1 count && nat_le count 10 then Some (v, rest) else None
+abbrev pub number_end : ℕ → ℕ → List ℕ → Option (ℕ × List ℕ)
+number_end count v rest = if nat_le 1 count && nat_le count 10 then Some (v, rest) else None
 
 -- the number of which so many digits, which stand for v, were read before these bytes, and what follows it
 abbrev pub more_digits : ℕ → ℕ → List ℕ → Option (ℕ × List ℕ)
-more_digits count v [] = ended count v []
-more_digits count v (b ∷ bytes) = if is_ascii_digit b then more_digits (count + 1) (v * 10 + digit_value b) bytes else ended count v (b ∷ bytes)
+more_digits count v [] = number_end count v []
+more_digits count v (b ∷ bytes) = if is_ascii_digit b then more_digits (count + 1) (v * 10 + digit_value b) bytes else number_end count v (b ∷ bytes)
 
 -- the header of that format whose two first bytes were read before these, and what follows it
-unfoldable pub header_from : Format → List ℕ → Option (Header × List ℕ)
+unfoldable pub header_from : PnmFormat → List ℕ → Option (Header × List ℕ)
 header_from format bytes = do
   width ← field_at bytes
   height ← field_at width.1
@@ -56,7 +56,7 @@ FindsHeader there (Some header) rest = there ≡ Some (header, rest)
 FindsHeader there None _ = there ≡ None
 
 -- the limits of what a header tells
-pub record HasLimits (header : Header) : Type 0 where
+pub record HasHeaderLimits (header : Header) : Type 0 where
   pub width_some : 1 ≤ header.width
   pub width_most : header.width ≤ 65536
   pub height_some : 1 ≤ header.height

@@ -11,9 +11,9 @@ pub mod Opening
 pub mod Source
 pub mod Failing
 pub mod PnmState
-pub mod Kept
+pub mod KnownBytes
 pub mod HeaderScan
-pub mod Shown
+pub mod SourceView
 pub mod Columns
 pub use Rattle.netpbm.specs.Picture
 pub use Rattle.netpbm.specs.Pnm

@@ -1,7 +1,7 @@
 -- The picture that a scene means on a page.
 use Rattle.std.specs.Prelude.{ℕ, ◌==◌, if◌then◌else◌, Option, option_map}
 use Rattle.netpbm.specs.Picture.{Picture}
-use Rattle.page_picture.specs.Page.{Sheet}
+use Rattle.page_picture.specs.Page.{PageView}
 use Rattle.page_picture.specs.Extent.{extent_of}
 use Rattle.page_picture.specs.Seen.{seen_at}
 use Rattle.page_picture.specs.Tone.{brightness, in_channel, tone}
@@ -10,9 +10,9 @@ use Rattle.page_picture.specs.declared.scene.Mode.TheVariants.{Gray, Color}
 use Rattle.page_picture.specs.declared.scene.Scene.{Scene}
 
 -- the tone of what is seen at column x of row y, in channel k
-unfoldable pub sample_of : Sheet → Scene → ℕ → ℕ → ℕ → ℕ
-sample_of sheet scene x y k =
-    in_channel scene.mode scene.depth scene.channel_gamma k (tone scene.depth scene.gamma (brightness scene.mode (seen_at sheet scene x y) k))
+unfoldable pub sample_of : PageView → Scene → ℕ → ℕ → ℕ → ℕ
+sample_of page_view scene x y k =
+    in_channel scene.mode scene.depth scene.channel_gamma k (tone scene.depth scene.gamma (brightness scene.mode (seen_at page_view scene x y) k))
 
 abbrev pub channels_in : Mode → ℕ
 channels_in Gray = 1
@@ -22,15 +22,15 @@ channels_in Color = 3
 abbrev pub greatest_at : ℕ → ℕ
 greatest_at depth = if depth == 16 then 65535 else (if depth == 8 then 255 else 1)
 
-abbrev pub picture_of : Sheet → Scene → ℕ × ℕ → Picture
-picture_of sheet scene size = record {
+abbrev pub picture_of : PageView → Scene → ℕ × ℕ → Picture
+picture_of page_view scene size = record {
   width = size.0;
   height = size.1;
   channels = channels_in scene.mode;
   greatest = greatest_at scene.depth;
-  at = λ x y k. sample_of sheet scene x y k;
+  at = λ x y k. sample_of page_view scene x y k;
 }
 
 -- none where the scene has no extent on the page
-abbrev pub meaning_of : Sheet → Scene → Option Picture
-meaning_of sheet scene = option_map (picture_of sheet scene) (extent_of sheet scene)
+abbrev pub meaning_of : PageView → Scene → Option Picture
+meaning_of page_view scene = option_map (picture_of page_view scene) (extent_of page_view scene)

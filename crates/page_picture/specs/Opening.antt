@@ -6,13 +6,13 @@ use Rattle.page_picture.specs.declared.page_file.PageFault.{PageFault}
 use Rattle.page_picture.specs.declared.page_file.PageFault.TheVariants.{BadMagic, BadHeader, SampleTooLarge, Short, Trailing, BadDpi, NoMem}
 use Rattle.page_picture.specs.declared.sources.open_fault.OpenFault.{OpenFault}
 use Rattle.page_picture.specs.declared.sources.open_fault.OpenFault.TheVariants.{Page, Device}
-use Rattle.page_picture.specs.PageFile.{HasFault, IsPageFormat, BeginsPage}
+use Rattle.page_picture.specs.PageFile.{HasPageFault, IsPageFormat, BeginsPage}
 use Rattle.page_picture.specs.PageRows.{IsRaster}
 use Rattle.netpbm.specs.HeaderReading.{format_of}
 
 -- the text has the fault
 abbrev pub HasOpenFault : OpenFault → List ℕ → ℕ → Type 0
-HasOpenFault (Page fault) text dpi = HasFault fault text dpi
+HasOpenFault (Page fault) text dpi = HasPageFault fault text dpi
 HasOpenFault Device text dpi = Unit {0}
 
 -- the fault is not in the dots per inch that were asked for

@@ -2,14 +2,14 @@
 use Rattle.std.specs.Prelude.{ℕ, ◌+◌, ◌*◌, ◌^◌, ◌<◌, ◌≤◌, ◌≡◌, List, length, slice_index}
 
 -- the samples stand row by row from the top, the three of a place side by side
-pub record Sheet : Type 0 where
+pub record PageView : Type 0 where
   pub width : ℕ
   pub height : ℕ
   pub dpi : ℕ
   pub samples : List ℕ
 
 -- the limits of a page
-pub record IsShaped (s : Sheet) : Type 0 where
+pub record IsShaped (s : PageView) : Type 0 where
   pub width_some : 1 ≤ s.width
   pub width_most : s.width ≤ 16384
   pub height_some : 1 ≤ s.height
@@ -19,14 +19,14 @@ pub record IsShaped (s : Sheet) : Type 0 where
   pub size : length s.samples ≡ s.width * s.height * 3
 
 -- a page: its limits, and samples of 0 to 65535
-pub record IsSheet (s : Sheet) : Type 0 where
+pub record IsPageView (s : PageView) : Type 0 where
   pub shape : IsShaped s
   pub sixteen_bits : (i : ℕ) → slice_index s.samples i < 2 ^ 16
 
 -- the sample of channel k at column x of row y
-abbrev pub sheet_at : Sheet → ℕ → ℕ → ℕ → ℕ
-sheet_at s x y k = slice_index s.samples ((y * s.width + x) * 3 + k)
+abbrev pub page_sample_at : PageView → ℕ → ℕ → ℕ → ℕ
+page_sample_at s x y k = slice_index s.samples ((y * s.width + x) * 3 + k)
 
 -- these are the samples of row y, from the left
-pub record IsRow (s : Sheet) (y : ℕ) (row : List ℕ) : Type 0 where
-  pub each : (x k : ℕ) → x < s.width → k < 3 → slice_index row (3 * x + k) ≡ sheet_at s x y k
+pub record IsRow (s : PageView) (y : ℕ) (row : List ℕ) : Type 0 where
+  pub each : (x k : ℕ) → x < s.width → k < 3 → slice_index row (3 * x + k) ≡ page_sample_at s x y k

@@ -1,12 +1,12 @@
 -- How a page's samples are computed from the raster of its file.
 use Rattle.std.specs.Prelude.{ℕ, ◌*◌, ◌/◌, ◌<◌, ◌≡◌, List, length, slice_index}
-use Rattle.netpbm.specs.declared.format.Format.{Format}
-use Rattle.netpbm.specs.declared.format.Format.TheVariants.{Pbm, Pgm, Ppm}
+use Rattle.netpbm.specs.declared.format.PnmFormat.{PnmFormat}
+use Rattle.netpbm.specs.declared.format.PnmFormat.TheVariants.{Pbm, Pgm, Ppm}
 use Rattle.netpbm.specs.declared.format.Header.{Header}
 use Rattle.netpbm.specs.Pnm.{number_in}
 
 -- the place among the file's samples of the number that the page has at place j of its samples
-abbrev pub source : Format → ℕ → ℕ
+abbrev pub source : PnmFormat → ℕ → ℕ
 source Pbm j = j / 3
 source Pgm j = j / 3
 source Ppm j = j

@@ -2,8 +2,8 @@
 use Rattle.std.specs.Prelude.{ℕ, ◌-◌, ◌*◌, ◌++◌, ◌^◌, ◌<◌, ◌≤◌, ◌≡◌, Some, List, [], ◌∷◌, length, take, drop, slice_index}
 use Rattle.netpbm.specs.declared.format.Header.{Header}
 use Rattle.netpbm.specs.Raster.{raster_size, sample_count, NoneAbove}
-use Rattle.netpbm.specs.FileText.{joined}
-use Rattle.page_picture.specs.Page.{Sheet}
+use Rattle.netpbm.specs.FileText.{concat_up_to}
+use Rattle.page_picture.specs.Page.{PageView}
 use Rattle.page_picture.specs.PageFile.{IsPageFormat}
 use Rattle.page_picture.specs.PageReading.{page_number}
 
@@ -12,8 +12,8 @@ abbrev pub row_header : Header → Header
 row_header h = record { format = h.format; width = h.width; height = 1; maxval = h.maxval }
 
 -- the bytes and the numbers of one row
-abbrev pub row_size : Header → ℕ
-row_size h = raster_size (row_header h)
+abbrev pub file_row_size : Header → ℕ
+file_row_size h = raster_size (row_header h)
 
 abbrev pub row_count : Header → ℕ
 row_count h = sample_count (row_header h)
@@ -33,27 +33,27 @@ pub record ShowsRow (h : Header) (bytes row : List ℕ) : Type 0 where
   pub each : (j : ℕ) → j < 3 * h.width → slice_index row j ≡ page_number h bytes j
 
 -- the bytes that are not used yet, where the last rows of a room are held and those of the reader are left
-abbrev pub unused : ℕ → ℕ → List ℕ → List ℕ → List ℕ
-unused size held room left = drop (length room - held * size) room ++ left
+abbrev pub unused_bytes : ℕ → ℕ → List ℕ → List ℕ → List ℕ
+unused_bytes size held room left = drop (length room - held * size) room ++ left
 
 -- of the bytes that were not used yet those of one row were, and these are the samples that they show
 pub record GivesRowOf (h : Header) (before after row : List ℕ) : Type 0 where
-  pub size : row_size h ≤ length before
-  pub after_is : after ≡ drop (row_size h) before
-  pub shows : ShowsRow h (take (row_size h) before) row
+  pub size : file_row_size h ≤ length before
+  pub after_is : after ≡ drop (file_row_size h) before
+  pub shows : ShowsRow h (take (file_row_size h) before) row
 
 -- so many rows stand at the front of these bytes, fewer than 2^40, and no number of the first is above the greatest
 pub record HasRows (h : Header) (rows : ℕ) (bytes : List ℕ) : Type 0 where
-  pub size : rows * row_size h ≤ length bytes
+  pub size : rows * file_row_size h ≤ length bytes
   pub few : length bytes < 2 ^ 40
-  pub none_above : NoneAbove h.maxval (take (row_size h) bytes) (row_count h)
+  pub none_above : NoneAbove h.maxval (take (file_row_size h) bytes) (row_count h)
 
 -- the samples of the page that a raster shows
 unfoldable pub samples_shown : Header → List ℕ → List ℕ
-samples_shown h raster = joined (λ j. page_number h raster j ∷ []) (h.width * h.height * 3)
+samples_shown h raster = concat_up_to (λ j. page_number h raster j ∷ []) (h.width * h.height * 3)
 
 -- the page that a raster shows at so many dots per inch
-abbrev pub page_shown : Header → ℕ → List ℕ → Sheet
+abbrev pub page_shown : Header → ℕ → List ℕ → PageView
 page_shown h dpi raster = record {
   width = h.width;
   height = h.height;

@@ -1,13 +1,13 @@
 -- What a scene sees of a page at a place of its picture.
 use Rattle.std.specs.Prelude.{ℕ, ◌+◌, ◌*◌, ◌/◌, ◌&&◌, nat_lt, if◌then◌else◌}
-use Rattle.page_picture.specs.Page.{Sheet, sheet_at}
+use Rattle.page_picture.specs.Page.{PageView, page_sample_at}
 use Rattle.page_picture.specs.Extent.{left_of, top_of}
 use Rattle.page_picture.specs.declared.scene.Scene.{Scene}
 
 -- the page's sample, or white off the page
-abbrev pub dot_at : Sheet → ℕ → ℕ → ℕ → ℕ
-dot_at sheet column row k =
-    if nat_lt column sheet.width && nat_lt row sheet.height then sheet_at sheet column row k else 65535
+abbrev pub dot_at : PageView → ℕ → ℕ → ℕ → ℕ
+dot_at page_view column row k =
+    if nat_lt column page_view.width && nat_lt row page_view.height then page_sample_at page_view column row k else 65535
 
 -- the page's column and row that column x and row y of the picture show
 abbrev pub column_seen : Scene → ℕ → ℕ → ℕ
@@ -17,5 +17,5 @@ abbrev pub row_seen : Scene → ℕ → ℕ → ℕ
 row_seen scene dpi y = (top_of scene + y) * dpi / scene.resolution
 
 -- the sample of channel k that is seen at column x of row y
-abbrev pub seen_at : Sheet → Scene → ℕ → ℕ → ℕ → ℕ
-seen_at sheet scene x y k = dot_at sheet (column_seen scene sheet.dpi x) (row_seen scene sheet.dpi y) k
+abbrev pub seen_at : PageView → Scene → ℕ → ℕ → ℕ → ℕ
+seen_at page_view scene x y k = dot_at page_view (column_seen scene page_view.dpi x) (row_seen scene page_view.dpi y) k

@@ -1,15 +1,15 @@
 -- A source of a page's rows, as contracts see it, and what each of its calls does.
 use Rattle.std.specs.Prelude.{ℕ, ◌+◌, ◌-◌, ◌^◌, ◌<◌, ◌≡◌, ◌⊎◌, Bool, true, false, List, Result, Ok, Err}
-use Rattle.page_picture.specs.Page.{Sheet, IsRow}
+use Rattle.page_picture.specs.Page.{PageView, IsRow}
 use Rattle.page_picture.specs.declared.sources.SourceFault.{SourceFault}
 
 -- the page, how many of its rows were given since the last rewind, whether the source gives the page's rows at each
 -- pass, whether it can never fail, and how often it failed
 pub record SourceState : Type 0 where
-  pub page : Sheet
+  pub page : PageView
   pub given : ℕ
   pub steady : Bool
-  pub firm : Bool
+  pub infallible : Bool
   pub failures : ℕ
 
 -- one failure was counted, or the count stands at its greatest
@@ -18,7 +18,7 @@ CountsFailure old new = (new ≡ old + 1) ⊎ ((old ≡ 2 ^ 64 - 1) × (new ≡ 
 
 -- the call of a source that can fail failed: that was counted, and nothing else is changed
 pub record Fails (old new : SourceState) : Type 0 where
-  pub not_firm : old.firm ≡ false
+  pub fallible : old.infallible ≡ false
   pub counted : CountsFailure old.failures new.failures
   pub rest : new ≡ record old { failures = new.failures }
 

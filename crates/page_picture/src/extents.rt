@@ -1,6 +1,6 @@
 ghost use Rattle.std.specs.Prelude.{◌≡◌, ◌≤◌, ◌<◌, ◌^◌, ℕ, [], get_or, slice_index, IfSome};
 ghost use Rattle.netpbm.specs.Picture.{IsPicture};
-ghost use Rattle.page_picture.specs.Page.{IsSheet};
+ghost use Rattle.page_picture.specs.Page.{IsPageView};
 ghost use Rattle.page_picture.specs.Extent.{extent_on, extent_of, down, is_side, shows_depth, lines_over};
 ghost use Rattle.page_picture.specs.Meaning.{picture_of};
 

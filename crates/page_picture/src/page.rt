@@ -1,7 +1,7 @@
 use std::marker::Model;
 
 /// A page to be scanned: three samples of 16 bits (red, green, blue) at each place, 1 to 16,384 columns and rows, and
-/// its dots per inch, 1 to 1,200. Contracts see a `Sheet`.
+/// its dots per inch, 1 to 1,200. Contracts see a `PageView`.
 #[derive(Drop)]
 pub struct Page {
     width: u32,
@@ -11,13 +11,13 @@ pub struct Page {
 }
 
 impl Model for Page {
-    ghost use Rattle.page_picture.specs.Page.{Sheet, IsSheet};
+    ghost use Rattle.page_picture.specs.Page.{PageView, IsPageView};
 
-    ghost Value = { Sheet };
+    ghost Value = { PageView };
 
     ghost view = { λ p. record { width = p.width; height = p.height; dpi = p.dpi; samples = p.samples.items } };
 
-    ghost invariant = { λ p. IsSheet (record { width = p.width; height = p.height; dpi = p.dpi; samples = p.samples.items }) };
+    ghost invariant = { λ p. IsPageView (record { width = p.width; height = p.height; dpi = p.dpi; samples = p.samples.items }) };
 }
 
 impl Page {
@@ -37,7 +37,7 @@ impl Page {
     }
 
     ghost use Rattle.std.specs.Prelude.{◌*◌, length};
-    ghost use Rattle.page_picture.specs.Page.{IsSheet, IsShaped, IsRow, sheet_at};
+    ghost use Rattle.page_picture.specs.Page.{IsPageView, IsShaped, IsRow, page_sample_at};
 
     /// The number of columns, 1 to 16,384.
     pub fn width(&self) -> u32
@@ -56,7 +56,7 @@ impl Page {
     /// The dots per inch, 1 to 1,200.
     pub fn dpi(&self) -> u32
         ensures value { result ≡ self.now.dpi }
-        ensures limits { IsSheet self.now }
+        ensures limits { IsPageView self.now }
     {
         self.dpi
     }
@@ -67,7 +67,7 @@ impl Page {
         requires column { x < self.now.width }
         requires row { y < self.now.height }
         requires channel { k < 3 }
-        ensures { result ≡ sheet_at self.now x y k }
+        ensures { result ≡ page_sample_at self.now x y k }
     {
         let place = y as usize * self.width as usize + x as usize;
         self.samples[place * 3 + k as usize]

@@ -1,12 +1,12 @@
 ghost use Rattle.std.specs.Prelude.{◌≡◌, ◌≤◌, ◌<◌, ◌*◌, ◌/◌, ◌^◌, length, IfOk, IfErr, MatchBool};
 ghost use Rattle.netpbm.specs.Pnm.{sample_bytes};
 ghost use Rattle.netpbm.specs.Raster.{sample_count, NoneAbove};
-ghost use Rattle.page_picture.specs.PageFile.{HasFault, TellsPage, IsPageFormat, IsDpi, BeginsPage};
+ghost use Rattle.page_picture.specs.PageFile.{HasPageFault, TellsPage, IsPageFormat, IsDpi, BeginsPage};
 ghost use Rattle.page_picture.specs.PageReading.{source, page_number, ArePageSamples};
 
 use crate::page::Page;
 use netpbm::{
-    Format, Header, format_of, none_above, number_at, raster_size, read_header, sample_count,
+    Header, PnmFormat, format_of, none_above, number_at, raster_size, read_header, sample_count,
 };
 use std::alloc::{AllocError, Global};
 use thiserror::Error;
@@ -63,12 +63,12 @@ impl From<AllocError> for PageFault {
 }
 
 /// The place among the file's samples of the number that the page has at place `j`.
-fn source(format: Format, j: usize) -> usize
+fn source(format: PnmFormat, j: usize) -> usize
     ensures { result ≡ source format j }
 {
     match format {
-        Format::Pbm | Format::Pgm => j / 3,
-        Format::Ppm => j,
+        PnmFormat::Pbm | PnmFormat::Pgm => j / 3,
+        PnmFormat::Ppm => j,
     }
 }
 
@@ -119,12 +119,12 @@ fn page_samples(alloc: Global, header: &Header, raster: &[u8]) -> Result<Vec<u16
 }
 
 /// Whether a file of that format can be a page.
-pub fn is_page_format(format: Option<Format>) -> bool
+pub fn is_page_format(format: Option<PnmFormat>) -> bool
     ensures { MatchBool result (IsPageFormat format) (¬ IsPageFormat format) }
 {
     match format {
-        None | Some(Format::Pbm) => false,
-        Some(Format::Pgm | Format::Ppm) => true,
+        None | Some(PnmFormat::Pbm) => false,
+        Some(PnmFormat::Pgm | PnmFormat::Ppm) => true,
     }
 }
 
@@ -132,7 +132,7 @@ pub fn is_page_format(format: Option<Format>) -> bool
 fn page_header(text: &[u8], dpi: u32) -> Result<(Header, &[u8]), PageFault>
     ensures dots { IfOk result (λ _. IsDpi dpi) }
     ensures found { IfOk result (λ f. BeginsPage text.now f.0 f.1.now) }
-    ensures fault { IfErr result (λ fault. HasFault fault text.now dpi) }
+    ensures fault { IfErr result (λ fault. HasPageFault fault text.now dpi) }
 {
     if dpi < 1 || dpi > 1200 {
         return Err(PageFault::BadDpi);
@@ -155,7 +155,7 @@ pub fn read_page(alloc: Global, text: &[u8], dpi: u32) -> Result<Page, PageFault
     // What is read is the page of the picture that the whole text denotes.
     ensures found { IfOk result (λ page. TellsPage text.now dpi page) }
     // A refusal says the first fault that the text has.
-    ensures fault { IfErr result (λ fault. HasFault fault text.now dpi) }
+    ensures fault { IfErr result (λ fault. HasPageFault fault text.now dpi) }
 {
     let (header, raster) = page_header(text, dpi)?;
     let size = raster_size(&header);

@@ -2,7 +2,7 @@ ghost use Rattle.std.specs.Prelude.{◌≡◌, Bool, List, ℕ, Some, [], OnOk, 
 ghost use Rattle.std.specs.Io.{ReadsAtMost};
 ghost use Rattle.std.specs.Io.KnownBytes.{ReadConsumes};
 ghost use Rattle.std.specs.Io.Cursor.{cursor_inner, cursor_position};
-ghost use Rattle.page_picture.specs.Kept.{are_told, bytes_told, CountsFault};
+ghost use Rattle.page_picture.specs.KnownBytes.{are_known, known_bytes, CountsFault};
 
 use std::fs::File;
 use std::io;
@@ -53,11 +53,11 @@ impl Rereadable for File {
 
 /// Bytes in memory.
 impl<T: AsBytes> Rereadable for Cursor<T> {
-    ghost is_kept = { λ c. are_told (T.bytes (cursor_inner c)) };
+    ghost is_kept = { λ c. are_known (T.bytes (cursor_inner c)) };
 
-    ghost text = { λ c. bytes_told (T.bytes (cursor_inner c)) };
+    ghost text = { λ c. known_bytes (T.bytes (cursor_inner c)) };
 
-    ghost left = { λ c. drop (cursor_position c) (bytes_told (T.bytes (cursor_inner c))) };
+    ghost left = { λ c. drop (cursor_position c) (known_bytes (T.bytes (cursor_inner c))) };
 
     fn read_on(&mut self, buf: &mut [u8]) -> io::Result<usize> {
         self.read(buf)

@@ -1,7 +1,7 @@
 //! Where a virtual scanner reads the rows of its page from.
 
 ghost use Rattle.std.specs.Prelude.{◌≡◌, ◌*◌, true, length};
-ghost use Rattle.page_picture.specs.Page.{IsShaped, IsSheet};
+ghost use Rattle.page_picture.specs.Page.{IsShaped, IsPageView};
 ghost use Rattle.page_picture.specs.Source.{SourceState, GivesRow, Rewinds};
 
 mod failing_page;
@@ -38,7 +38,7 @@ pub trait PageSource: Drop {
         ensures value { result ≡ ((source self.now).page.width, (source self.now).page.height) }
         ensures limits { IsShaped (source self.now).page }
         // The page of a source that gives its rows is one: its samples have 16 bits.
-        ensures sheet { (source self.now).steady ≡ true → IsSheet (source self.now).page };
+        ensures page_view { (source self.now).steady ≡ true → IsPageView (source self.now).page };
 
     /// The dots per inch of the page, 1 to 1,200. They never change.
     fn dpi(&self) -> u32

@@ -7,7 +7,7 @@ use sane_fixed::{ByteOrder, FrameFormat, Params};
 use std::alloc::Global;
 use std::test::Fail;
 
-fn told(format: FrameFormat, depth: u32, line: u32, width: u32, lines: u32) -> Params {
+fn join_answers(format: FrameFormat, depth: u32, line: u32, width: u32, lines: u32) -> Params {
     Params {
         format,
         last_frame: true,
@@ -62,14 +62,14 @@ fn frames_in_pieces(rt: HostRuntime) -> Result<(), Fail> {
     let little = b"\x01\0\x02\0\x03\0\x04\0\x05\0\0\x01".as_slice();
     for piece in [1, 2, 5, 100] {
         // Two colors and three lost pixels.
-        let colors = told(FrameFormat::Rgb, 8, 15, 2, 1);
+        let colors = join_answers(FrameFormat::Rgb, 8, 15, 2, 1);
         let file = file_of(rt.alloc(), &colors, ByteOrder::Little, lost, piece)?;
         assert!(rt;
             file.as_slice()
                 == b"P6\n# SANE data follows\n2 1\n255\n\x01\x02\x03\x04\x05\x06".as_slice()
         );
         // Two colors of sixteen bits in both byte orders.
-        let wide = told(FrameFormat::Rgb, 16, 12, 2, 1);
+        let wide = join_answers(FrameFormat::Rgb, 16, 12, 2, 1);
         for (order, payload) in [(ByteOrder::Big, big), (ByteOrder::Little, little)] {
             let file = file_of(rt.alloc(), &wide, order, payload, piece)?;
             assert!(rt;
@@ -78,7 +78,7 @@ fn frames_in_pieces(rt: HostRuntime) -> Result<(), Fail> {
             );
         }
         // Nine bits a row: two bytes of the file, where the frame has three; filled with zeros.
-        let bits = told(FrameFormat::Gray, 1, 3, 9, 2);
+        let bits = join_answers(FrameFormat::Gray, 1, 3, 9, 2);
         let file = file_of(
             rt.alloc(),
             &bits,
@@ -160,7 +160,7 @@ fn last_row_waits_for_the_end(rt: HostRuntime) -> Result<(), Fail> {
 }
 
 /// What stands after these calls: whether each answered as it should, the fault, and how many bytes may go out at most.
-fn stands_after(alloc: Global, calls: &[Call]) -> (bool, Option<JoinFault>, usize) {
+fn answers_after(alloc: Global, calls: &[Call]) -> (bool, Option<JoinFault>, usize) {
     let mut join = FrameJoin::new(alloc);
     let mut as_it_should = true;
     for call in calls {
@@ -198,14 +198,14 @@ const FAULTS: &[(&[Call<'static>], Option<JoinFault>)] = &[
 #[test]
 fn faults_of_frames(rt: HostRuntime) {
     for (calls, fault) in FAULTS {
-        assert!(rt; stands_after(rt.alloc(), calls) == (true, *fault, 0));
+        assert!(rt; answers_after(rt.alloc(), calls) == (true, *fault, 0));
     }
 }
 
 /// A frame's format, depth, bytes and pixels of a line, and lines.
-type Told = (FrameFormat, u32, u32, u32, u32);
+type JoinAnswers = (FrameFormat, u32, u32, u32, u32);
 
-const NO_SHAPES: &[Told] = &[
+const NO_SHAPES: &[JoinAnswers] = &[
     (FrameFormat::Rgb, 1, 3, 1, 2),
     (FrameFormat::Gray, 4, 3, 1, 2),
     (FrameFormat::Gray, 8, 1, 2, 1),
@@ -218,7 +218,7 @@ const NO_SHAPES: &[Told] = &[
     (FrameFormat::Gray, 8, 1_048_577, 1, 1),
 ];
 
-const SHAPES: &[Told] = &[
+const SHAPES: &[JoinAnswers] = &[
     (FrameFormat::Gray, 8, 1_048_576, 1, 65536),
     (FrameFormat::Rgb, 16, 393_216, 65536, 1),
     (FrameFormat::Gray, 1, 2, 9, 1),
@@ -235,7 +235,7 @@ fn first_fault(alloc: Global, params: &Params) -> (Option<JoinFault>, Result<boo
 fn shapes_refused(rt: HostRuntime) {
     let refused = (Some(JoinFault::Shape), Err(JoinFault::Shape));
     for &(format, depth, line, width, lines) in NO_SHAPES {
-        let params = told(format, depth, line, width, lines);
+        let params = join_answers(format, depth, line, width, lines);
         assert!(rt; first_fault(rt.alloc(), &params) == refused);
     }
     let early = Params {
@@ -244,7 +244,7 @@ fn shapes_refused(rt: HostRuntime) {
     };
     assert!(rt; first_fault(rt.alloc(), &early) == refused);
     for &(format, depth, line, width, lines) in SHAPES {
-        let params = told(format, depth, line, width, lines);
+        let params = join_answers(format, depth, line, width, lines);
         assert!(rt; first_fault(rt.alloc(), &params).0 == None);
     }
 }

@@ -1,10 +1,10 @@
 ghost use Rattle.std.specs.Prelude.{◌≡◌};
 
 use netpbm::{
-    Format, Header, format_of, none_above, number_at, raster_size, read_header, sample_count,
+    Header, PnmFormat, format_of, none_above, number_at, raster_size, read_header, sample_count,
 };
 
-fn header(format: Format, width: u32, height: u32, maxval: u32) -> Header
+fn header(format: PnmFormat, width: u32, height: u32, maxval: u32) -> Header
     ensures width { result.width ≡ width }
     ensures height { result.height ≡ height }
 {
@@ -27,7 +27,7 @@ const HEADERS: &[(&[u8], &[u8])] = &[
 
 #[test]
 fn headers(rt: HostRuntime) {
-    let small = header(Format::Pgm, 1, 2, 255);
+    let small = header(PnmFormat::Pgm, 1, 2, 255);
     for (text, rest) in HEADERS {
         match read_header(text) {
             Some((found, raster)) => {
@@ -40,9 +40,9 @@ fn headers(rt: HostRuntime) {
     // Bits have no greatest value in the header.
     match read_header(b"P4\n9 1\n\x80\x00") {
         Some((found, raster)) => {
-            assert!(rt; found == header(Format::Pbm, 9, 1, 1));
+            assert!(rt; found == header(PnmFormat::Pbm, 9, 1, 1));
             assert!(rt; raster == b"\x80\x00".as_slice());
-            assert!(rt; raster_size(&header(Format::Pbm, 9, 1, 1)) == 2);
+            assert!(rt; raster_size(&header(PnmFormat::Pbm, 9, 1, 1)) == 2);
         }
         None => panic!(rt; "no header"),
     }
@@ -69,13 +69,13 @@ fn no_headers(rt: HostRuntime) {
     for text in NO_HEADERS {
         assert!(rt; read_header(text).is_none(), "at {text:?}");
     }
-    assert!(rt; format_of(b"P6") == Some(Format::Ppm));
+    assert!(rt; format_of(b"P6") == Some(PnmFormat::Ppm));
     assert!(rt; format_of(b"P7") == None);
 }
 
 #[test]
 fn rasters(rt: HostRuntime) {
-    let wide = header(Format::Ppm, 2, 3, 256);
+    let wide = header(PnmFormat::Ppm, 2, 3, 256);
     assert!(rt; sample_count(&wide) == 18);
     assert!(rt; raster_size(&wide) == 36);
     assert!(rt; number_at(256, b"\x01\x02\x00\xFF", 1, 2) == 255);

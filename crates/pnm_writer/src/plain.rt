@@ -2,10 +2,10 @@ ghost use Rattle.std.specs.Prelude.{if◌then◌else◌, nat_lt, string_bytes, �
 ghost use Rattle.page_picture.specs.Extent.{extent_of, IsInside};
 ghost use Rattle.page_picture.specs.Meaning.{meaning_of, sample_of, greatest_at, channels_in};
 ghost use Rattle.netpbm.specs.Pnm.{Denotes};
-ghost use Rattle.netpbm.specs.FileText.{joined, bits_byte, header_text, sample_text, samples_text, row_text, file_text};
-ghost use Rattle.pnm_writer.specs.Writing.{format_in, header_of, IsPlainFile};
+ghost use Rattle.netpbm.specs.FileText.{concat_up_to, bits_byte, header_text, sample_text, samples_text, row_text, file_text};
+ghost use Rattle.pnm_writer.specs.PnmWriting.{format_in, header_of, IsPlainFile};
 
-use netpbm::{Format, Header};
+use netpbm::{Header, PnmFormat};
 use page_picture::{Mode, Page, Scene, extent, greatest, sample};
 use std::alloc::{AllocError, Global};
 use thiserror::Error;
@@ -44,9 +44,13 @@ fn header_bytes(alloc: Global, header: &Header) -> Result<String, AllocError>
     let height = header.height;
     let maxval = header.maxval;
     match header.format {
-        Format::Pbm => format!(in alloc; "P4\n# SANE data follows\n{width} {height}\n"),
-        Format::Pgm => format!(in alloc; "P5\n# SANE data follows\n{width} {height}\n{maxval}\n"),
-        Format::Ppm => format!(in alloc; "P6\n# SANE data follows\n{width} {height}\n{maxval}\n"),
+        PnmFormat::Pbm => format!(in alloc; "P4\n# SANE data follows\n{width} {height}\n"),
+        PnmFormat::Pgm => format!(in alloc;
+            "P5\n# SANE data follows\n{width} {height}\n{maxval}\n"
+        ),
+        PnmFormat::Ppm => format!(in alloc;
+            "P6\n# SANE data follows\n{width} {height}\n{maxval}\n"
+        ),
     }
 }
 
@@ -73,13 +77,13 @@ fn channels(mode: Mode) -> u32
     }
 }
 
-fn format_in(mode: Mode, depth: u32) -> Format
+fn format_in(mode: Mode, depth: u32) -> PnmFormat
     ensures { result ≡ format_in mode depth }
 {
     match mode {
-        Mode::Gray if depth == 1 => Format::Pbm,
-        Mode::Gray => Format::Pgm,
-        Mode::Color => Format::Ppm,
+        Mode::Gray if depth == 1 => PnmFormat::Pbm,
+        Mode::Gray => PnmFormat::Pgm,
+        Mode::Color => PnmFormat::Ppm,
     }
 }
 
@@ -94,7 +98,7 @@ fn push_place(
     requires known { scene.now.resolution ≤ 1200 }
     requires inside { IsInside page.now scene.now x y }
     ensures { OnOk result (file.new.items ≡ file.old.items
-        ++ joined (λ k. sample_text (greatest_at scene.now.depth) (sample_of page.now scene.now x y k)) (channels_in scene.now.mode)) }
+        ++ concat_up_to (λ k. sample_text (greatest_at scene.now.depth) (sample_of page.now scene.now x y k)) (channels_in scene.now.mode)) }
 {
     for k in 0..channels(scene.mode) {
         push_sample(file, greatest(scene.depth), sample(page, scene, x, y, k))?;
@@ -170,7 +174,7 @@ fn push_bits(
     requires gray { scene.now.mode ≡ Mode.Gray }
     requires depth { scene.now.depth ≡ 1 }
     ensures { OnOk result (file.new.items ≡ file.old.items
-        ++ row_text Format.Pbm 1 size.0 (λ x k. sample_of page.now scene.now x y k)) }
+        ++ row_text PnmFormat.Pbm 1 size.0 (λ x k. sample_of page.now scene.now x y k)) }
 {
     for b in 0..size.0.div_ceil(8) {
         file.push(packed(page, scene, size, b, y))?;

@@ -1,11 +1,11 @@
 ghost use Rattle.std.specs.Prelude.{◌≡◌, ◌≤◌, ◌<◌, ◌*◌, ◌^◌, [], ◌∷◌, ◌++◌, length, IfOk, IfErr, OnOk};
 ghost use Rattle.netpbm.specs.Pnm.{Denotes, sample_in, channels_of, sample_bytes};
-ghost use Rattle.netpbm.specs.FileText.{joined, samples_text};
+ghost use Rattle.netpbm.specs.FileText.{concat_up_to, samples_text};
 ghost use Rattle.netpbm.specs.Raster.{raster_size, sample_count};
-ghost use Rattle.pnm_writer.specs.Reading.{shown, HasFault};
+ghost use Rattle.pnm_writer.specs.PnmReading.{picture_of_held, HasPnmFault};
 
 use netpbm::{
-    Format, Header, format_of, none_above, number_at, raster_size, read_header, sample_count,
+    Header, PnmFormat, format_of, none_above, number_at, raster_size, read_header, sample_count,
 };
 use std::alloc::{AllocError, Global};
 use std::marker::Model;
@@ -112,12 +112,12 @@ impl From<AllocError> for PnmFault {
     }
 }
 
-fn channels(format: Format) -> u32
+fn channels(format: PnmFormat) -> u32
     ensures { result ≡ channels_of format }
 {
     match format {
-        Format::Pbm | Format::Pgm => 1,
-        Format::Ppm => 3,
+        PnmFormat::Pbm | PnmFormat::Pgm => 1,
+        PnmFormat::Ppm => 3,
     }
 }
 
@@ -135,12 +135,12 @@ fn sample_at(header: &Header, raster: &[u8], x: u32, y: u32, k: u32) -> u16
     let place = y as usize * width + x as usize;
     let count = sample_count(header);
     match header.format {
-        Format::Pbm => {
+        PnmFormat::Pbm => {
             let byte = raster[y as usize * width.div_ceil(8) + x as usize / 8];
             u16::from(byte >> (7 - x % 8) & 1)
         }
-        Format::Pgm => number_at(header.maxval, raster, place, count) as u16,
-        Format::Ppm => number_at(header.maxval, raster, place * 3 + k as usize, count) as u16,
+        PnmFormat::Pgm => number_at(header.maxval, raster, place, count) as u16,
+        PnmFormat::Ppm => number_at(header.maxval, raster, place * 3 + k as usize, count) as u16,
     }
 }
 
@@ -158,7 +158,7 @@ fn push_place(
     requires column { x < header.now.width }
     requires row { y < header.now.height }
     ensures { OnOk result (samples.new.items ≡ samples.old.items
-        ++ joined (λ k. sample_in header.now.format header.now.width header.now.maxval raster.now x y k ∷ []) (channels_of header.now.format)) }
+        ++ concat_up_to (λ k. sample_in header.now.format header.now.width header.now.maxval raster.now x y k ∷ []) (channels_of header.now.format)) }
 {
     for k in 0..channels(header.format) {
         samples.push(sample_at(header, raster, x, y, k))?;
@@ -192,7 +192,7 @@ fn read_samples(alloc: Global, header: &Header, raster: &[u8]) -> Result<Samples
     requires height { header.now.height ≤ 65536 }
     requires size { length raster.now ≡ raster_size header.now }
     ensures { IfOk result (λ samples. samples
-        ≡ joined (λ y. samples_text (channels_of header.now.format) 0 header.now.width (λ x k. sample_in header.now.format header.now.width header.now.maxval raster.now x y k)) header.now.height) }
+        ≡ concat_up_to (λ y. samples_text (channels_of header.now.format) 0 header.now.width (λ x k. sample_in header.now.format header.now.width header.now.maxval raster.now x y k)) header.now.height) }
 {
     let mut items = Vec::new(alloc);
     for y in 0..header.height {
@@ -205,11 +205,11 @@ fn read_samples(alloc: Global, header: &Header, raster: &[u8]) -> Result<Samples
 /// is answered in the order `BadMagic`, `BadHeader`, `Short`, `Trailing`, `SampleTooLarge`; `NoMem` where a growth is
 /// refused, of a text that has no fault.
 pub fn read_pnm(alloc: Global, text: &[u8]) -> Result<Picture, PnmFault>
-    ensures found { IfOk result (λ picture. Denotes text.now (shown picture)) }
+    ensures found { IfOk result (λ picture. Denotes text.now (picture_of_held picture)) }
     // It holds a sample for each channel of each place, and no more.
     ensures size { IfOk result (λ picture. length picture.samples ≡ picture.width * picture.height * picture.channels) }
     // A refusal says the first fault that the text has.
-    ensures fault { IfErr result (λ fault. HasFault fault text.now) }
+    ensures fault { IfErr result (λ fault. HasPnmFault fault text.now) }
 {
     if format_of(text).is_none() {
         return Err(PnmFault::BadMagic);
@@ -225,8 +225,8 @@ pub fn read_pnm(alloc: Global, text: &[u8]) -> Result<Picture, PnmFault>
         return Err(PnmFault::Trailing);
     }
     match header.format {
-        Format::Pbm => {}
-        Format::Pgm | Format::Ppm => {
+        PnmFormat::Pbm => {}
+        PnmFormat::Pgm | PnmFormat::Ppm => {
             if !none_above(header.maxval, raster, sample_count(&header)) {
                 return Err(PnmFault::SampleTooLarge);
             }

@@ -11,7 +11,7 @@ use Rattle.std.proofs.Math.Nat.{pow-le-pow_right}
 use Rattle.std.proofs.lemmas.Nat.{div-mul-add}
 use Rattle.std.specs.Int.{w32}
 use Rattle.std.specs.Prelude.{FitsSigned}
-use Rattle.sane_fixed.specs.Decimal.{sign_text, fraction_text, rounded, magnitude_of, word_of, SpellsFixed}
+use Rattle.sane_fixed.specs.Decimal.{sign_text, fraction_text, rounded_quotient, magnitude_of, word_of, SpellsFixed}
 use Rattle.sane_fixed.specs.DecimalReading.{fixed_of}
 use Rattle.sane_fixed.specs.ExactDecimal.{is_below_zero, IsExactDecimal, fraction_digits, exact_decimal}
 use Rattle.sane_fixed.specs.Text.{IsText}
@@ -210,7 +210,7 @@ IsExactDecimal-exact_decimal word fits =
 
 -- ---- read again
 
-rounded-whole : (m u : ℕ) → 0 < u → rounded (m * u) u ≡ m
+rounded-whole : (m u : ℕ) → 0 < u → rounded_quotient (m * u) u ≡ m
 rounded-whole m u some =
     let e : 2 * (m * u) + u ≡ m * (2 * u) + u = omega arith in
     let h : u < 2 * u = omega arith in
@@ -220,7 +220,7 @@ ten_some : (n : ℕ) → 0 < 10 ^ n
 ten_some n = let h : 10 ^ 0 ≤ 10 ^ n = pow-le-pow_right {n = 10} (omega arith) {i = 0} {j = n} (omega arith) in omega arith
 
 magnitude-exact : (w f : List ℕ) (m : ℕ) → (digits_value 10 w * 10 ^ length f + digits_value 10 f) * 65536 ≡ m * 10 ^ length f → magnitude_of w f ≡ m
-magnitude-exact w f m e = ap (λ x. rounded x (10 ^ length f)) e ∙ rounded-whole m (10 ^ length f) (ten_some (length f))
+magnitude-exact w f m e = ap (λ x. rounded_quotient x (10 ^ length f)) e ∙ rounded-whole m (10 ^ length f) (ten_some (length f))
 
 word_of-least : (n : ℕ) → nat_le (suc n) (2 ^ 31) ≡ true → word_of true (suc n) ≡ Some (negsuc n)
 word_of-least n e = ap (λ t. cond t (Some (negsuc n)) None) e

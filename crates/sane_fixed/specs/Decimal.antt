@@ -22,12 +22,12 @@ pub record IsDecimal (text : List ℕ) (negative : Bool) (whole fraction : List 
   pub fraction_most : length fraction ≤ 16
 
 -- n / d rounded to the nearest whole number, halves up
-abbrev pub rounded : ℕ → ℕ → ℕ
-rounded n d = (2 * n + d) / (2 * d)
+abbrev pub rounded_quotient : ℕ → ℕ → ℕ
+rounded_quotient n d = (2 * n + d) / (2 * d)
 
 -- what the digits before and after the point stand for, in units of 1/65536
 abbrev pub magnitude_of : List ℕ → List ℕ → ℕ
-magnitude_of whole fraction = rounded ((digits_value 10 whole * 10 ^ length fraction + digits_value 10 fraction) * 65536) (10 ^ length fraction)
+magnitude_of whole fraction = rounded_quotient ((digits_value 10 whole * 10 ^ length fraction + digits_value 10 fraction) * 65536) (10 ^ length fraction)
 
 -- the word of that sign, if it fits in 32 bits
 abbrev pub word_of : Bool → ℕ → Option ℤ

@@ -179,7 +179,7 @@ impl Fixed {
     }
 
     /// The number's exact decimal: `-` before a negative one, no zeros but one before the point,
-    /// no zero last after it, and no point where the number is whole. The only error is want of memory.
+    /// no zero last after it, and no point where the number is whole. The only error is out of memory.
     pub fn to_text(self, alloc: Global) -> Result<Text, NoMem>
         ensures exact { IfOk result (λ text. IsExactDecimal text self.0) }
         ensures reads { IfOk result (λ text. fixed_of text ≡ Some self.0) }

@@ -2,7 +2,7 @@ use crate::status::Status;
 use std::alloc::{AllocError, AllocFailed};
 use thiserror::Error;
 
-/// Want of memory.
+/// Out of memory.
 #[derive(Clone, Copy, Debug, PartialEq, Eq, Error)]
 #[error("out of memory")]
 pub struct NoMem;

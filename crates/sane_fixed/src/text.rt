@@ -121,7 +121,7 @@ impl Text {
         self.bytes.as_slice()
     }
 
-    /// An equal text. The only error is want of memory.
+    /// An equal text. The only error is out of memory.
     pub fn try_clone(&self, alloc: Global) -> Result<Self, NoMem>
         ensures equal { IfOk result (λ text. text ≡ self.now) }
         ensures text { IsText self.now }

@@ -1,44 +1,44 @@
-use config_pages::{NoPage, SourceFault, page_source};
+use config_pages::{NoPage, PageSourceFault, page_source};
 use dispatch::ConfigLine;
 use flatbed_dev::{Feeder, Flatbed};
 use hand_dev::HandScanner;
 use page_picture::Source;
 use sane_fixed::{ByteOrder, Text};
-use saned_cli::Ending;
+use saned_cli::DaemonEnding;
 use threepass_dev::ThreePass;
 
 /// A page that a config line names.
-fn page(rt: &HostRuntime, line: &ConfigLine, text: &Text) -> Result<Source, Ending> {
+fn page(rt: &HostRuntime, line: &ConfigLine, text: &Text) -> Result<Source, DaemonEnding> {
     match page_source(rt, text.as_bytes(), line.dpi) {
         Ok(source) => Ok(source),
-        Err(SourceFault::NoMem) => Err(Ending::NoMemory),
-        Err(SourceFault::NoPage(why)) => Err(Ending::Page(line.line, why)),
+        Err(PageSourceFault::NoMem) => Err(DaemonEnding::NoMemory),
+        Err(PageSourceFault::NoPage(why)) => Err(DaemonEnding::Page(line.line, why)),
         // The dots per inch of a config are 1 to 1,200.
-        Err(SourceFault::BadDpi) => Err(Ending::Page(line.line, NoPage::CannotRead)),
+        Err(PageSourceFault::BadDpi) => Err(DaemonEnding::Page(line.line, NoPage::CannotRead)),
     }
 }
 
 /// The name of the device of a config line.
-fn name(rt: &HostRuntime, line: &ConfigLine) -> Result<Text, Ending> {
-    line.name(rt.alloc()).map_err(|_| Ending::NoMemory)
+fn name(rt: &HostRuntime, line: &ConfigLine) -> Result<Text, DaemonEnding> {
+    line.name(rt.alloc()).map_err(|_| DaemonEnding::NoMemory)
 }
 
 /// The name of the device of a config line, and its one page.
-fn parts(rt: &HostRuntime, line: &ConfigLine) -> Result<(Text, Source), Ending> {
+fn parts(rt: &HostRuntime, line: &ConfigLine) -> Result<(Text, Source), DaemonEnding> {
     // A config has one page for each of these devices.
     let Some(text) = line.pages.first() else {
-        return Err(Ending::Page(line.line, NoPage::CannotRead));
+        return Err(DaemonEnding::Page(line.line, NoPage::CannotRead));
     };
     let source = page(rt, line, text)?;
     Ok((name(rt, line)?, source))
 }
 
 /// The pages of a config line, in their order.
-fn pages(rt: &HostRuntime, line: &ConfigLine) -> Result<Vec<Source>, Ending> {
+fn pages(rt: &HostRuntime, line: &ConfigLine) -> Result<Vec<Source>, DaemonEnding> {
     let mut sources = Vec::new(rt.alloc());
     for text in &line.pages {
         let source = page(rt, line, text)?;
-        sources.push(source).map_err(|_| Ending::NoMemory)?;
+        sources.push(source).map_err(|_| DaemonEnding::NoMemory)?;
     }
     Ok(sources)
 }
@@ -48,11 +48,11 @@ pub fn flatbed(
     rt: &HostRuntime,
     line: &ConfigLine,
     order: ByteOrder,
-) -> Result<Box<Flatbed>, Ending> {
+) -> Result<Box<Flatbed>, DaemonEnding> {
     let (name, source) = parts(rt, line)?;
     match Flatbed::new(rt.alloc(), name, source, order) {
-        Ok(device) => Box::new(rt.alloc(), device).map_err(|_| Ending::NoMemory),
-        Err(_) => Err(Ending::NoMemory),
+        Ok(device) => Box::new(rt.alloc(), device).map_err(|_| DaemonEnding::NoMemory),
+        Err(_) => Err(DaemonEnding::NoMemory),
     }
 }
 
@@ -61,11 +61,11 @@ pub fn hand_scanner(
     rt: &HostRuntime,
     line: &ConfigLine,
     order: ByteOrder,
-) -> Result<Box<HandScanner>, Ending> {
+) -> Result<Box<HandScanner>, DaemonEnding> {
     let (name, source) = parts(rt, line)?;
     match HandScanner::new(rt.alloc(), name, source, order) {
-        Ok(device) => Box::new(rt.alloc(), device).map_err(|_| Ending::NoMemory),
-        Err(_) => Err(Ending::NoMemory),
+        Ok(device) => Box::new(rt.alloc(), device).map_err(|_| DaemonEnding::NoMemory),
+        Err(_) => Err(DaemonEnding::NoMemory),
     }
 }
 
@@ -74,11 +74,11 @@ pub fn three_pass(
     rt: &HostRuntime,
     line: &ConfigLine,
     order: ByteOrder,
-) -> Result<Box<ThreePass>, Ending> {
+) -> Result<Box<ThreePass>, DaemonEnding> {
     let (name, source) = parts(rt, line)?;
     match ThreePass::new(rt.alloc(), name, source, order) {
-        Ok(device) => Box::new(rt.alloc(), device).map_err(|_| Ending::NoMemory),
-        Err(_) => Err(Ending::NoMemory),
+        Ok(device) => Box::new(rt.alloc(), device).map_err(|_| DaemonEnding::NoMemory),
+        Err(_) => Err(DaemonEnding::NoMemory),
     }
 }
 
@@ -87,10 +87,10 @@ pub fn feeder(
     rt: &HostRuntime,
     line: &ConfigLine,
     order: ByteOrder,
-) -> Result<Box<Feeder>, Ending> {
+) -> Result<Box<Feeder>, DaemonEnding> {
     let sources = pages(rt, line)?;
     match Feeder::new(rt.alloc(), name(rt, line)?, sources, order) {
-        Ok(device) => Box::new(rt.alloc(), device).map_err(|_| Ending::NoMemory),
-        Err(_) => Err(Ending::NoMemory),
+        Ok(device) => Box::new(rt.alloc(), device).map_err(|_| DaemonEnding::NoMemory),
+        Err(_) => Err(DaemonEnding::NoMemory),
     }
 }

@@ -1,15 +1,15 @@
 //! `saned`: serves the virtual scanners of a config to clients on 127.0.0.1.
 #![tactic(auto)]
 
-mod command_line;
+mod daemon_command_line;
 mod devices;
 
-use crate::command_line::{command_line, config_lines, seed, users};
+use crate::daemon_command_line::{command_line, config_lines, seed, users};
 use crate::devices::{feeder, flatbed, hand_scanner, three_pass};
 use device_api::Device;
 use dispatch::Registry;
 use page_picture::DeviceKind;
-use saned_cli::{Ending, LocalNet, Options, ServeEnd, serve};
+use saned_cli::{DaemonEnding, DaemonOptions, LocalNet, ServeEnd, serve};
 use saned_core::Daemon;
 use std::fs::File;
 use std::io::ErrorKind;
@@ -19,14 +19,18 @@ use std::process::ExitCode;
 const ROOT: &str = "/";
 
 /// Listens, says where, and serves.
-fn serve_at(rt: &HostRuntime, options: &Options, daemon: &mut Daemon) -> Result<(), Ending> {
+fn serve_at(
+    rt: &HostRuntime,
+    options: &DaemonOptions,
+    daemon: &mut Daemon,
+) -> Result<(), DaemonEnding> {
     let mut net = match LocalNet::bind(*rt, rt.alloc(), options.port) {
         Ok(net) => net,
-        Err(e) if e.kind() == ErrorKind::OutOfMemory => return Err(Ending::NoMemory),
-        Err(_) => return Err(Ending::CannotListen),
+        Err(e) if e.kind() == ErrorKind::OutOfMemory => return Err(DaemonEnding::NoMemory),
+        Err(_) => return Err(DaemonEnding::CannotListen),
     };
     let Ok(port) = net.port() else {
-        return Err(Ending::CannotListen);
+        return Err(DaemonEnding::CannotListen);
     };
     // Nobody need read it: the daemon serves all the same.
     let _ = println!(rt; "port {port}");
@@ -37,43 +41,43 @@ fn serve_at(rt: &HostRuntime, options: &Options, daemon: &mut Daemon) -> Result<
         options.sessions,
         options.idle_turns,
     ) {
-        ServeEnd::NoMem => Err(Ending::NoMemory),
+        ServeEnd::NoMem => Err(DaemonEnding::NoMemory),
         ServeEnd::Sessions | ServeEnd::Idle | ServeEnd::Turns => Ok(()),
     }
 }
 
 /// Reads the command line, the config and the users, makes the devices, and serves.
-fn run(rt: &HostRuntime) -> Result<(), Ending> {
+fn run(rt: &HostRuntime) -> Result<(), DaemonEnding> {
     let options = command_line(rt)?;
     let seed = seed(&options)?;
     let lines = config_lines(rt, &options)?;
     let order = options.byte_order;
     let mut devices: Vec<Box<dyn Device>> = Vec::with_capacity(rt.alloc(), lines.len()).map_err(
-        |_| Ending::NoMemory,
+        |_| DaemonEnding::NoMemory,
     )?;
     // Boxes of devices are made here, since a function that hands them out would hide what it made.
     for line in &lines {
         match line.kind {
             DeviceKind::Flatbed => {
                 let device = flatbed(rt, line, order)?;
-                devices.push(device).map_err(|_| Ending::NoMemory)?;
+                devices.push(device).map_err(|_| DaemonEnding::NoMemory)?;
             }
             DeviceKind::Hand => {
                 let device = hand_scanner(rt, line, order)?;
-                devices.push(device).map_err(|_| Ending::NoMemory)?;
+                devices.push(device).map_err(|_| DaemonEnding::NoMemory)?;
             }
             DeviceKind::ThreePass => {
                 let device = three_pass(rt, line, order)?;
-                devices.push(device).map_err(|_| Ending::NoMemory)?;
+                devices.push(device).map_err(|_| DaemonEnding::NoMemory)?;
             }
             DeviceKind::Feeder => {
                 let device = feeder(rt, line, order)?;
-                devices.push(device).map_err(|_| Ending::NoMemory)?;
+                devices.push(device).map_err(|_| DaemonEnding::NoMemory)?;
             }
         }
     }
     let users = users(rt, &options)?;
-    let registry = Registry::new(rt.alloc(), devices).map_err(|_| Ending::NoMemory)?;
+    let registry = Registry::new(rt.alloc(), devices).map_err(|_| DaemonEnding::NoMemory)?;
     let mut daemon = Daemon::new(registry, users, seed);
     serve_at(rt, &options, &mut daemon)
 }
@@ -89,7 +93,7 @@ fn main(rt: HostRuntime) -> ExitCode {
         Ok(()) => ExitCode::from(0),
         Err(ending) => {
             let _ = ending.tell(&mut rt.stderr());
-            ExitCode::from(ending.exit_status())
+            ExitCode::from(ending.daemon_exit_status())
         }
     }
 }

@@ -1,2 +1,2 @@
-pub mod Fronts
-pub mod Plain
+pub mod LimitedReads
+pub mod PlainNumbers

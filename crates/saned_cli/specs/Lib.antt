@@ -1,3 +1,3 @@
-pub mod Options
-pub mod Words
-pub mod Ending
+pub mod OptionsOfDaemon
+pub mod OptionWords
+pub mod DaemonEndings

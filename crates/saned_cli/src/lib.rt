@@ -2,17 +2,17 @@
 //! connections on 127.0.0.1.
 #![tactic(auto)]
 
-mod ending;
+mod daemon_ending;
+mod daemon_options;
+mod daemon_words;
+mod limited_reading;
 mod local;
-mod options;
 mod pace;
-mod reading;
 mod seed;
-mod words;
 
-pub use ending::Ending;
+pub use daemon_ending::DaemonEnding;
+pub use daemon_options::{DaemonOptions, DaemonOptionsFault, read_options};
+pub use limited_reading::{MOST_OF_CONFIG, MOST_OF_USERS, text_of};
 pub use local::{LocalNet, LocalSocket};
-pub use options::{Options, OptionsFault, read_options};
-pub use reading::{MOST_OF_CONFIG, MOST_OF_USERS, text_of};
 pub use saned_serve::{Got, Listeners, ServeEnd, Socket, serve};
 pub use seed::read_seed;

@@ -1,8 +1,8 @@
 ghost use Rattle.std.specs.Prelude.{◌≡◌, ◌≤◌, ◌<◌, ◌==◌, ◌↔◌, ◌⊎◌, if◌then◌else◌, length, is_some, [], IfOk, IfErr, IsTrue};
 ghost use Rattle.std.specs.IoError.{error_kind};
-ghost use Rattle.saned_serve.specs.Talk.{MovesWithin, after_read, after_write, IsTold};
-ghost use Rattle.saned_serve.specs.Ledger.{noticed};
-ghost use Rattle.saned_serve.specs.Ledger.Notice.{Asked, Port, Forgot, Dialed, Shut, Back};
+ghost use Rattle.saned_serve.specs.ConnectionTraces.{MovesWithin, after_read, after_write, IsTrace};
+ghost use Rattle.saned_serve.specs.ListenerTraces.{with_notice};
+ghost use Rattle.saned_serve.specs.ListenerTraces.Notice.{Asked, Port, Forgot, Dialed, Shut, Back};
 
 use crate::pace::Pace;
 use mio::net::{TcpListener, TcpStream};

@@ -4,8 +4,8 @@ use Rattle.std.specs.List.{position, position_or_len, list_any}
 use Rattle.std.proofs.lemmas.List.Quantifiers.{position-Some}
 use Rattle.std.proofs.lemmas.List.Sums.{fails_before_first}
 use Rattle.std.proofs.lemmas.Bool.Decides.{nat_tests}
-use Rattle.saned_core.specs.Loading.{first_tells, on_first, IsFirstOf, IsNoneOf}
-use Rattle.saned_core.proofs.Numbers.{not_some}
+use Rattle.saned_core.specs.Loading.{first_answer_of, on_first, IsFirstOf, IsNoneOf}
+use Rattle.saned_core.proofs.SlotNumbers.{not_some}
 
 pub first_found : {A : Type 0} (p : A → Bool) (xs : List A) (k : ℕ) → position p xs ≡ Some k → IsFirstOf p xs k
 first_found p xs k e = record {
@@ -23,8 +23,8 @@ none_found p xs e =
     let past : nat_lt (position_or_len p xs) (length xs) ≡ false = not_some (nat_lt (position_or_len p xs) (length xs)) _ e in
     λ k d l. fails_before_first p xs k d (grind (arith, nat_tests))
 
-pub first_told : {A B C : Type 0} (see : A → B) (p : B → Bool) (tells : B → C) (xs : List A) (k : ℕ) (here : A) (other : C) → IsFirstOf (λ x. p (see x)) xs k → here ≡ slice_index_or xs k here → first_tells p tells (map see xs) other ≡ tells (see here)
-unfolding first_tells
+pub first_told : {A B C : Type 0} (see : A → B) (p : B → Bool) (tells : B → C) (xs : List A) (k : ℕ) (here : A) (other : C) → IsFirstOf (λ x. p (see x)) xs k → here ≡ slice_index_or xs k here → first_answer_of p tells (map see xs) other ≡ tells (see here)
+unfolding first_answer_of
 first_told see p tells [] k here other i e = absurd (omega (arith, i.within))
 first_told see p tells (x ∷ xs) zero here other i e =
     let own : p (see x) ≡ true = i.is x in
@@ -52,8 +52,8 @@ first_any see p (x ∷ xs) (suc k) i =
     let not_own : p (see x) ≡ false = i.before 0 x (omega arith) in
     rw not_own (first_any see p xs k (record { within = (let l : suc k < length (x ∷ xs) = i.within in omega arith); is = i.is; before = λ j d l. i.before (suc j) d (omega arith) }))
 
-pub none_told : {A B C : Type 0} (see : A → B) (p : B → Bool) (tells : B → C) (xs : List A) (other : C) → IsNoneOf (λ x. p (see x)) xs → first_tells p tells (map see xs) other ≡ other
-unfolding first_tells
+pub none_told : {A B C : Type 0} (see : A → B) (p : B → Bool) (tells : B → C) (xs : List A) (other : C) → IsNoneOf (λ x. p (see x)) xs → first_answer_of p tells (map see xs) other ≡ other
+unfolding first_answer_of
 none_told see p tells [] other h = refl
 none_told see p tells (x ∷ xs) other h =
     let not_own : p (see x) ≡ false = h 0 x (omega arith) in

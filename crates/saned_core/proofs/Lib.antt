@@ -1,10 +1,10 @@
 pub mod Streaming
-pub mod Numbers
-pub mod Desks
+pub mod SlotNumbers
+pub mod ContextFeeds
 pub mod Progress
 pub mod Apart
-pub mod Pieces
+pub mod FedPieces
 pub mod Saying
-pub mod Seated
+pub mod TakenSlots
 pub mod Firsts
-pub mod Limits
+pub mod DaemonLimits

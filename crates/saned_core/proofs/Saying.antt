@@ -2,9 +2,9 @@
 use Rattle.std.proofs.Common.{◌≡◌, ℕ, List, [], ◌∷◌, ◌++◌, append_assoc, Some, None, refl, ap, ◌∙◌, sym}
 use Rattle.std.proofs.lemmas.List.{append-nil}
 use Rattle.wire_message.specs.declared.message.Reply.{Reply}
-use Rattle.saned_desk.specs.declared.said.Said.TheVariants.{One, Two, Last}
-use Rattle.saned_core.specs.declared.seat.Fed.{Fed as What}
-use Rattle.saned_core.specs.declared.seat.Fed.TheVariants.{Standing, Over, Starved}
+use Rattle.saned_requests.specs.declared.request_answer.RequestAnswer.TheVariants.{One, Two, Last}
+use Rattle.saned_core.specs.declared.session_slot.Fed.{Fed as What}
+use Rattle.saned_core.specs.declared.session_slot.Fed.TheVariants.{Standing, Over, Starved}
 use Rattle.saned_core.specs.Feeding.{IsSaid, IsUnsaid, SaidAs}
 use Rattle.saned_core.specs.Feeding.EndsWith.{Done, Cut}
 

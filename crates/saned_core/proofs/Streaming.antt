@@ -7,19 +7,19 @@ use Rattle.std.proofs.lemmas.List.{take-append-le}
 use Rattle.sane_fixed.specs.declared.status.Status.{Status}
 use Rattle.device_api.specs.State.{DeviceState, Reads}
 use Rattle.dispatch.specs.declared.table.place.Lease.{Lease}
-use Rattle.saned_desk.specs.declared.session.Carriage.{Carriage}
-use Rattle.saned_desk.specs.declared.session.Carriage.TheVariants.{Streaming}
-use Rattle.saned_core.specs.declared.seat.DataStep.{DataStep}
-use Rattle.saned_core.specs.declared.seat.DataStep.TheVariants.{Idle}
-use Rattle.saned_desk.specs.declared.session.Session.{Session}
-use Rattle.saned_desk.specs.Holding.{held_by, on_word}
-use Rattle.saned_desk.proofs.Words.{on_word-none}
-use Rattle.saned_core.specs.Turns.{ReadsLease, ReadsWord, Records, carriage_after, StreamsFrom, StreamsIn, Streams}
+use Rattle.saned_requests.specs.declared.session.DataPhase.{DataPhase}
+use Rattle.saned_requests.specs.declared.session.DataPhase.TheVariants.{Streaming}
+use Rattle.saned_core.specs.declared.session_slot.DataStep.{DataStep}
+use Rattle.saned_core.specs.declared.session_slot.DataStep.TheVariants.{Idle}
+use Rattle.saned_requests.specs.declared.session.Session.{Session}
+use Rattle.saned_requests.specs.Holding.{held_by, on_word}
+use Rattle.saned_requests.proofs.LeaseWords.{on_word-none}
+use Rattle.saned_core.specs.Turns.{ReadsLease, ReadsWord, Records, data_phase_after, StreamsFrom, StreamsIn, TurnsStream}
 
 -- a read that gave an answer
 answered : (l lease : Option (Lease DeviceState)) (s : Session DeviceState) (word : ℕ) (answer : Result ℕ Status) (window buf : List ℕ) (step : DataStep)
     → ReadsLease l (Some answer) lease window → length window ≤ 65536 → Records answer window step buf
-    → StreamsFrom l word s step (record s { held = on_word (λ _. lease) s.held word; carriage = carriage_after s.carriage answer }) buf
+    → StreamsFrom l word s step (record s { held = on_word (λ _. lease) s.held word; transfer = data_phase_after s.transfer answer }) buf
 answered None lease s word answer window buf step r n w = absurd (let e : Some answer ≡ None = r.0 in cc)
 answered (Some l) lease s word answer window buf step r n w =
     let e : answer ≡ r.answer = (let t : Some answer ≡ Some r.answer = r.told_is in cc) in
@@ -30,7 +30,7 @@ answered (Some l) lease s word answer window buf step r n w =
       most = n;
       reads = subst (λ (a : Result ℕ Status). Reads l.device a r.after window) (sym e) r.reads;
       written = w;
-      new_is = ap (λ (x : Option (Lease DeviceState)). record s { held = on_word (λ _. x) s.held word; carriage = carriage_after s.carriage answer }) r.new_is;
+      new_is = ap (λ (x : Option (Lease DeviceState)). record s { held = on_word (λ _. x) s.held word; transfer = data_phase_after s.transfer answer }) r.new_is;
     }
 
 -- a read of a word that stands for nothing
@@ -42,24 +42,24 @@ unanswered None lease s word window buf e r =
 unanswered (Some l) lease s word window buf e r = absurd (let t : None ≡ Some r.answer = r.told_is in cc)
 
 pub streams_answer : (s : Session DeviceState) (word : ℕ) (told : Option (Result ℕ Status)) (answer : Result ℕ Status) (held : List (Option (Lease DeviceState))) (window buf : List ℕ) (step : DataStep)
-    → s.carriage ≡ Streaming word → ReadsWord s.held word told held window → told ≡ Some answer → length window ≤ 65536 → Records answer window step buf
-    → Streams s step (record s { held = held; carriage = carriage_after s.carriage answer }) buf
+    → s.transfer ≡ Streaming word → ReadsWord s.held word told held window → told ≡ Some answer → length window ≤ 65536 → Records answer window step buf
+    → TurnsStream s step (record s { held = held; transfer = data_phase_after s.transfer answer }) buf
 streams_answer s word told answer held window buf step c r t n w =
     let reads = subst (λ (x : Option (Result ℕ Status)). ReadsLease (held_by s.held word) x r.lease window) t r.reads in
     let from = answered (held_by s.held word) r.lease s word answer window buf step reads n w in
-    let at : StreamsIn s.carriage s step (record s { held = on_word (λ _. r.lease) s.held word; carriage = carriage_after s.carriage answer }) buf =
-    subst (λ (x : Carriage). StreamsIn x s step (record s { held = on_word (λ _. r.lease) s.held word; carriage = carriage_after s.carriage answer }) buf) (sym c) from in
-    subst (λ (x : List (Option (Lease DeviceState))). Streams s step (record s { held = x; carriage = carriage_after s.carriage answer }) buf) (sym r.new_is) at
+    let at : StreamsIn s.transfer s step (record s { held = on_word (λ _. r.lease) s.held word; transfer = data_phase_after s.transfer answer }) buf =
+    subst (λ (x : DataPhase). StreamsIn x s step (record s { held = on_word (λ _. r.lease) s.held word; transfer = data_phase_after s.transfer answer }) buf) (sym c) from in
+    subst (λ (x : List (Option (Lease DeviceState))). TurnsStream s step (record s { held = x; transfer = data_phase_after s.transfer answer }) buf) (sym r.new_is) at
 
 pub streams_nothing : (s : Session DeviceState) (word : ℕ) (told : Option (Result ℕ Status)) (held : List (Option (Lease DeviceState))) (window buf : List ℕ)
-    → s.carriage ≡ Streaming word → ReadsWord s.held word told held window → told ≡ None
-    → Streams s Idle (record s { held = held }) buf
+    → s.transfer ≡ Streaming word → ReadsWord s.held word told held window → told ≡ None
+    → TurnsStream s Idle (record s { held = held }) buf
 streams_nothing s word told held window buf c r t =
     let reads = subst (λ (x : Option (Result ℕ Status)). ReadsLease (held_by s.held word) x r.lease window) t r.reads in
     let from = unanswered (held_by s.held word) r.lease s word window buf refl reads in
-    let at : StreamsIn s.carriage s Idle (record s { held = on_word (λ _. r.lease) s.held word }) buf =
-    subst (λ (x : Carriage). StreamsIn x s Idle (record s { held = on_word (λ _. r.lease) s.held word }) buf) (sym c) from in
-    subst (λ (x : List (Option (Lease DeviceState))). Streams s Idle (record s { held = x }) buf) (sym r.new_is) at
+    let at : StreamsIn s.transfer s Idle (record s { held = on_word (λ _. r.lease) s.held word }) buf =
+    subst (λ (x : DataPhase). StreamsIn x s Idle (record s { held = on_word (λ _. r.lease) s.held word }) buf) (sym c) from in
+    subst (λ (x : List (Option (Lease DeviceState))). TurnsStream s Idle (record s { held = x }) buf) (sym r.new_is) at
 
 -- a head before what was read
 pub record_written : (head xs ys : List ℕ) (k n : ℕ) → length head ≡ 4 → 4 ≤ length xs → n ≤ length ys → take (4 + n) (head ++ drop 4 (put_mid 4 k xs ys)) ≡ head ++ take n ys

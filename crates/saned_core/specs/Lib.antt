@@ -1,5 +1,5 @@
-pub mod State
+pub mod DaemonStates
 pub mod Turns
 pub mod Feeding
 pub mod Loading
-pub mod Limits
+pub mod DaemonLimits

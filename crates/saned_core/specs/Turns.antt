@@ -6,15 +6,15 @@ use Rattle.sane_fixed.specs.declared.status.Status.TheVariants.{Cancelled}
 use Rattle.sane_fixed.specs.Status.{status_code}
 use Rattle.device_api.specs.State.{DeviceState, Reads}
 use Rattle.dispatch.specs.declared.table.place.Lease.{Lease}
-use Rattle.data_records.specs.Records.{ending}
-use Rattle.saned_desk.specs.declared.session.Carriage.{Carriage}
-use Rattle.saned_desk.specs.declared.session.Carriage.TheVariants.{Quiet, Waiting, Streaming, Ending}
-use Rattle.saned_core.specs.declared.seat.DataStep.{DataStep}
-use Rattle.saned_core.specs.declared.seat.DataStep.TheVariants.{Idle, Bytes, Last}
-use Rattle.saned_desk.specs.declared.session.Session.{Session}
-use Rattle.saned_core.specs.declared.seat.Seat.{Seat}
-use Rattle.saned_desk.specs.Holding.{held_by, on_word, with_device}
-use Rattle.saned_core.specs.State.{Core, seat_of, session_in, on_seat, with_session}
+use Rattle.data_records.specs.Records.{end_record}
+use Rattle.saned_requests.specs.declared.session.DataPhase.{DataPhase}
+use Rattle.saned_requests.specs.declared.session.DataPhase.TheVariants.{Quiet, Waiting, Streaming, Ending}
+use Rattle.saned_core.specs.declared.session_slot.DataStep.{DataStep}
+use Rattle.saned_core.specs.declared.session_slot.DataStep.TheVariants.{Idle, Bytes, Last}
+use Rattle.saned_requests.specs.declared.session.Session.{Session}
+use Rattle.saned_core.specs.declared.session_slot.SessionSlot.{SessionSlot}
+use Rattle.saned_requests.specs.Holding.{held_by, on_word, with_device}
+use Rattle.saned_core.specs.DaemonStates.{Core, session_slot_of, session_in, on_session_slot, with_session}
 
 -- one read of a device, where there is one
 pub record ReadsDevice (lease : Lease DeviceState) (told : Option (Result ℕ Status)) (new : Option (Lease DeviceState)) (window : List ℕ) : Type 0 where
@@ -35,17 +35,17 @@ pub record ReadsWord (held : List (Option (Lease DeviceState))) (word : ℕ) (to
   pub new_is : new ≡ on_word (λ _. lease) held word
 
 -- the status that ends the data, behind the length that no record has
-abbrev pub Ends : Status → DataStep → List ℕ → Type 0
-Ends status step buf = (step ≡ Last 5) × (take 5 buf ≡ ending (status_code status))
+abbrev pub WritesEndRecord : Status → DataStep → List ℕ → Type 0
+WritesEndRecord status step buf = (step ≡ Last 5) × (take 5 buf ≡ end_record (status_code status))
 
 -- a record of what was read, or the end
 abbrev pub Records : Result ℕ Status → List ℕ → DataStep → List ℕ → Type 0
 Records (Ok n) window step buf = (step ≡ Bytes (4 + n)) × (take (4 + n) buf ≡ to_be_bytes w32 n ++ take n window)
-Records (Err status) window step buf = Ends status step buf
+Records (Err status) window step buf = WritesEndRecord status step buf
 
-abbrev pub carriage_after : Carriage → Result ℕ Status → Carriage
-carriage_after c (Ok n) = c
-carriage_after c (Err status) = Quiet
+abbrev pub data_phase_after : DataPhase → Result ℕ Status → DataPhase
+data_phase_after c (Ok n) = c
+data_phase_after c (Err status) = Quiet
 
 -- one read of at most 65,536 bytes, and its record
 pub record StreamsOn (lease : Lease DeviceState) (word : ℕ) (old : Session DeviceState) (step : DataStep) (new : Session DeviceState) (buf : List ℕ) : Type 0 where
@@ -55,38 +55,38 @@ pub record StreamsOn (lease : Lease DeviceState) (word : ℕ) (old : Session Dev
   pub most : length window ≤ 65536
   pub reads : Reads lease.device answer after window
   pub written : Records answer window step buf
-  pub new_is : new ≡ record old { held = on_word (λ _. with_device lease after) old.held word; carriage = carriage_after old.carriage answer }
+  pub new_is : new ≡ record old { held = on_word (λ _. with_device lease after) old.held word; transfer = data_phase_after old.transfer answer }
 
 abbrev pub StreamsFrom : Option (Lease DeviceState) → ℕ → Session DeviceState → DataStep → Session DeviceState → List ℕ → Type 0
 StreamsFrom None word old step new buf = (step ≡ Idle) × (new ≡ old)
 StreamsFrom (Some lease) word old step new buf = StreamsOn lease word old step new buf
 
-abbrev pub StreamsIn : Carriage → Session DeviceState → DataStep → Session DeviceState → List ℕ → Type 0
+abbrev pub StreamsIn : DataPhase → Session DeviceState → DataStep → Session DeviceState → List ℕ → Type 0
 StreamsIn Quiet old step new buf = (step ≡ Idle) × (new ≡ old)
 StreamsIn (Waiting word) old step new buf = (step ≡ Idle) × (new ≡ old)
 StreamsIn (Streaming word) old step new buf = StreamsFrom (held_by old.held word) word old step new buf
-StreamsIn Ending old step new buf = Ends Cancelled step buf × (new ≡ record old { carriage = Quiet })
+StreamsIn Ending old step new buf = WritesEndRecord Cancelled step buf × (new ≡ record old { transfer = Quiet })
 
-abbrev pub Streams : Session DeviceState → DataStep → Session DeviceState → List ℕ → Type 0
-Streams old step new buf = StreamsIn old.carriage old step new buf
+abbrev pub TurnsStream : Session DeviceState → DataStep → Session DeviceState → List ℕ → Type 0
+TurnsStream old step new buf = StreamsIn old.transfer old step new buf
 
--- the same of a seat; one whose session is over does nothing
-abbrev pub TurnsSession : Option (Session DeviceState) → Option (Seat DeviceState) → DataStep → Option (Seat DeviceState) → List ℕ → Type 0
+-- the same of a slot; one whose session is over does nothing
+abbrev pub TurnsSession : Option (Session DeviceState) → Option (SessionSlot DeviceState) → DataStep → Option (SessionSlot DeviceState) → List ℕ → Type 0
 TurnsSession None old step new buf = (step ≡ Idle) × (new ≡ old)
-TurnsSession (Some s) old step new buf = (t : Session DeviceState) × Streams s step t buf × (new ≡ option_and_then (with_session t) old)
+TurnsSession (Some s) old step new buf = (t : Session DeviceState) × TurnsStream s step t buf × (new ≡ option_and_then (with_session t) old)
 
-abbrev pub TurnsSeat : Option (Seat DeviceState) → DataStep → Option (Seat DeviceState) → List ℕ → Type 0
-TurnsSeat old step new buf = TurnsSession (session_in old) old step new buf
+abbrev pub TurnsSlot : Option (SessionSlot DeviceState) → DataStep → Option (SessionSlot DeviceState) → List ℕ → Type 0
+TurnsSlot old step new buf = TurnsSession (session_in old) old step new buf
 
 -- the same of one among those that stand
-abbrev pub TurnsSessions : Option (Session DeviceState) → ℕ → List (Option (Seat DeviceState)) → DataStep → List (Option (Seat DeviceState)) → List ℕ → Type 0
+abbrev pub TurnsSessions : Option (Session DeviceState) → ℕ → List (Option (SessionSlot DeviceState)) → DataStep → List (Option (SessionSlot DeviceState)) → List ℕ → Type 0
 TurnsSessions None n old step new buf = (step ≡ Idle) × (new ≡ old)
-TurnsSessions (Some s) n old step new buf = (t : Session DeviceState) × Streams s step t buf × (new ≡ on_seat (with_session t) n old)
+TurnsSessions (Some s) n old step new buf = (t : Session DeviceState) × TurnsStream s step t buf × (new ≡ on_session_slot (with_session t) n old)
 
-abbrev pub TurnsSeats : ℕ → List (Option (Seat DeviceState)) → DataStep → List (Option (Seat DeviceState)) → List ℕ → Type 0
-TurnsSeats n old step new buf = TurnsSessions (session_in (seat_of old n)) n old step new buf
+abbrev pub TurnsSlots : ℕ → List (Option (SessionSlot DeviceState)) → DataStep → List (Option (SessionSlot DeviceState)) → List ℕ → Type 0
+TurnsSlots n old step new buf = TurnsSessions (session_in (session_slot_of old n)) n old step new buf
 
 -- and of a daemon, of which nothing else changes
 pub record Turns (n : ℕ) (old : Core) (step : DataStep) (new : Core) (buf : List ℕ) : Type 0 where
-  pub seats : TurnsSeats n old.seats step new.seats buf
-  pub others : new ≡ record old { seats = new.seats }
+  pub slots : TurnsSlots n old.slots step new.slots buf
+  pub others : new ≡ record old { slots = new.slots }

@@ -2,18 +2,19 @@ ghost use Rattle.std.specs.Prelude.{◌≡◌, ◌==◌, ◌++◌, ◌⊎◌, �
 ghost use Rattle.device_api.specs.State.{DeviceState};
 ghost use Rattle.md5_auth.specs.Challenges.{HasGiven};
 ghost use Rattle.page_picture.specs.Source.{SourceState};
-ghost use Rattle.dispatch.specs.Table.{told_of, table, seen_unplug, unplug_answer, after_unplug};
-ghost use Rattle.saned_desk.specs.Holding.{seen_session};
-ghost use Rattle.saned_core.specs.State.{opened, is_closed, replies_of, after_taken, ended, core, is_number, seat_of, session_of, on_seat, on_session, if_standing, frame_in, is_waiting, after_connected, after_lost, seen_seat, session_in};
+ghost use Rattle.dispatch.specs.Table.{without_return, table, seen_unplug, unplug_answer, after_unplug};
+ghost use Rattle.saned_requests.specs.Holding.{seen_session};
+ghost use Rattle.saned_core.specs.DaemonStates.{after_open_session, is_closed, replies_of, after_taken, after_end_session, core, is_slot_number, session_slot_of, session_of, on_session_slot, on_session, kept_if_open, frame_in, is_waiting, after_connected, after_lost, seen_session_slot, session_in};
 ghost use Rattle.saned_core.specs.Feeding.{Feeds};
-ghost use Rattle.saned_core.specs.Loading.{load_told, loaded};
+ghost use Rattle.saned_core.specs.Loading.{daemon_load_answer, core_after_load};
 ghost use Rattle.saned_core.specs.Turns.{Turns};
 
-use crate::giving_back::drop_seats;
-use crate::loading::{holder, load_at};
-use crate::seat::{DataStep, Fed, FrameState, OpenFault, Seat, SessionId};
-use crate::seats::{
-    connect_at, end_at, feed_at, frame_at, lose_at, replies_wait, seat_first, take_at, turn_at,
+use crate::daemon_loading::{holder, load_at};
+use crate::session_giving_back::drop_slots;
+use crate::session_slot::{DataStep, Fed, FrameState, OpenFault, SessionId, SessionSlot};
+use crate::session_slots::{
+    connect_at, end_at, feed_at, frame_at, lose_at, put_in_first_slot, replies_wait, take_at,
+    turn_at,
 };
 use device_api::Device;
 use dispatch::Registry;
@@ -24,34 +25,34 @@ use std::alloc::Global;
 use std::marker::Model;
 
 /// The devices, and the sessions that hold leases of them.
-pub struct Hall<D> {
+pub struct SessionTable<D> {
     registry: Registry<D>,
-    seats: [Option<Seat<D>>; 8],
+    slots: [Option<SessionSlot<D>>; 8],
 }
 
 /// The table is retired, and all leases of it go with it.
-impl<D: Drop> Drop for Hall<D> {
+impl<D: Drop> Drop for SessionTable<D> {
     fn drop(self) {
-        let Hall { registry, seats } = self;
-        drop_seats(&registry.retire(), seats);
+        let SessionTable { registry, slots } = self;
+        drop_slots(&registry.retire(), slots);
     }
 }
 
 /// Sessions over one table of devices. Contracts see it as a `DaemonState`, and its devices by `core`.
 #[derive(Drop)]
 pub struct Daemon<D = Box<dyn Device>> {
-    hall: Hall<D>,
+    sessions: SessionTable<D>,
     users: Users,
     challenger: Challenger,
     opened: u64,
 }
 
 impl<D> Model for Daemon<D> {
-    ghost use Rattle.saned_core.specs.State.{DaemonState};
+    ghost use Rattle.saned_core.specs.DaemonStates.{DaemonState};
 
     ghost Value = { DaemonState D };
 
-    ghost view = { λ d. record { seats = d.hall.seats; registry = d.hall.registry; users = d.users; stream = d.challenger; opened = d.opened } };
+    ghost view = { λ d. record { slots = d.sessions.slots; registry = d.sessions.registry; users = d.users; stream = d.challenger; opened = d.opened } };
 }
 
 impl<D: Device> Daemon<D> {
@@ -60,13 +61,13 @@ impl<D: Device> Daemon<D> {
         ensures registry { (core D.state result).registry ≡ table D.state registry }
         ensures users { result.users ≡ users }
         ensures seed { HasGiven seed 0 result.stream }
-        ensures none { result.seats ≡ None ∷ None ∷ None ∷ None ∷ None ∷ None ∷ None ∷ None ∷ [] }
+        ensures none { result.slots ≡ None ∷ None ∷ None ∷ None ∷ None ∷ None ∷ None ∷ None ∷ [] }
         ensures opened { result.opened ≡ 0 }
     {
         Daemon {
-            hall: Hall {
+            sessions: SessionTable {
                 registry,
-                seats: [None, None, None, None, None, None, None, None],
+                slots: [None, None, None, None, None, None, None, None],
             },
             users,
             challenger: Challenger::new(seed),
@@ -80,23 +81,23 @@ impl<D: Device> Daemon<D> {
     pub fn frame(&self, id: SessionId) -> FrameState
         ensures { result ≡ frame_in (session_of (core D.state self.now) id.number) }
     {
-        frame_at(&self.hall.seats, id.number)
+        frame_at(&self.sessions.slots, id.number)
     }
 
     /// A data connection is made, where a frame waits for one; answers whether one does.
     pub fn data_connected(&mut self, id: SessionId) -> bool
         ensures answer { result ≡ is_waiting (frame_in (session_of (core D.state self.old) id.number)) }
-        ensures after { core D.state self.new ≡ record (core D.state self.old) { seats = on_seat (on_session after_connected) id.number (core D.state self.old).seats } }
+        ensures after { core D.state self.new ≡ record (core D.state self.old) { slots = on_session_slot (on_session after_connected) id.number (core D.state self.old).slots } }
     {
-        connect_at(&mut self.hall.seats, id.number)
+        connect_at(&mut self.sessions.slots, id.number)
     }
 
     /// The data connection is lost: a frame that streams or is to be ended is at its end, and a device that
     /// still streams it is cancelled.
     pub fn data_lost(&mut self, id: SessionId)
-        ensures { core D.state self.new ≡ record (core D.state self.old) { seats = on_seat (on_session after_lost) id.number (core D.state self.old).seats } }
+        ensures { core D.state self.new ≡ record (core D.state self.old) { slots = on_session_slot (on_session after_lost) id.number (core D.state self.old).slots } }
     {
-        lose_at(&mut self.hall.seats, id.number)
+        lose_at(&mut self.sessions.slots, id.number)
     }
 
     /// One turn of the data connection: one read of the device, of at most 65,536 bytes and what the buffer
@@ -105,13 +106,13 @@ impl<D: Device> Daemon<D> {
         requires { 8 ≤ length buf.old }
         ensures { Turns id.number (core D.state self.old) result (core D.state self.new) buf.new }
     {
-        turn_at(&mut self.hall.seats, id.number, buf)
+        turn_at(&mut self.sessions.slots, id.number, buf)
     }
 
     /// Opens a session, whose data connections are accepted at that port. `Full` where eight stand, or 2^64-1 were
-    /// opened. Its place is there from the start, so no memory is wanting.
+    /// opened. Its place is there from the start, so memory cannot run out.
     pub fn open_session(&mut self, alloc: Global, port: u16) -> Result<SessionId, OpenFault>
-        ensures ok { IfOk result (λ id. (id.number ≡ self.old.opened) × (core D.state self.new ≡ opened (core D.state self.old) port)) }
+        ensures ok { IfOk result (λ id. (id.number ≡ self.old.opened) × (core D.state self.new ≡ after_open_session (core D.state self.old) port)) }
         ensures room { OnOk result (is_closed (core D.state self.old) ≡ false) }
         ensures full { OnErr result ((is_closed (core D.state self.old) ≡ true) × (core D.state self.new ≡ core D.state self.old)) }
         ensures err { IfErr result (λ e. e ≡ OpenFault.Full) }
@@ -120,9 +121,9 @@ impl<D: Device> Daemon<D> {
             return Err(OpenFault::Full);
         }
         let number = self.opened;
-        if !seat_first(
-            &mut self.hall.registry,
-            &mut self.hall.seats,
+        if !put_in_first_slot(
+            &mut self.sessions.registry,
+            &mut self.sessions.slots,
             alloc,
             number,
             port,
@@ -134,16 +135,16 @@ impl<D: Device> Daemon<D> {
     }
 
     /// Takes the next piece of what the session's connection brings, at most 4,096 bytes, and answers each request
-    /// that is whole with it. `Starved` where want of memory ended the session in this call; else `Over` where it is
-    /// over. Its replies can still be taken, but not where it starved.
+    /// that is whole with it. `Starved` where out of memory ended the session in this call; else `Over` where it is
+    /// over. Its replies can still be taken, but not where it ran out of memory.
     pub fn feed(&mut self, alloc: Global, id: SessionId, piece: &[u8]) -> Fed
         requires { length piece.now ≤ 4096 }
         ensures { Feeds id.number (core D.state self.old) piece.now result (core D.state self.new) }
     {
         feed_at(
             alloc,
-            &mut self.hall.registry,
-            &mut self.hall.seats,
+            &mut self.sessions.registry,
+            &mut self.sessions.slots,
             &self.users,
             &mut self.challenger,
             id.number,
@@ -155,7 +156,7 @@ impl<D: Device> Daemon<D> {
     pub fn has_replies(&self, id: SessionId) -> bool
         ensures { result ≡ not (length (replies_of (core D.state self.now) id.number) == 0) }
     {
-        replies_wait(&self.hall.seats, id.number)
+        replies_wait(&self.sessions.slots, id.number)
     }
 
     /// Takes as many bytes of the replies as the buffer has room for, and says how many.
@@ -164,11 +165,11 @@ impl<D: Device> Daemon<D> {
         ensures all { result ≤ length (replies_of (core D.state self.old) id.number) }
         ensures most { (result ≡ length buf.old) ⊎ (result ≡ length (replies_of (core D.state self.old) id.number)) }
         ensures bytes { buf.new ≡ take result (replies_of (core D.state self.old) id.number) ++ drop result buf.old }
-        ensures after { core D.state self.new ≡ record (core D.state self.old) { seats = on_seat (after_taken result) id.number (core D.state self.old).seats } }
+        ensures after { core D.state self.new ≡ record (core D.state self.old) { slots = on_session_slot (after_taken result) id.number (core D.state self.old).slots } }
     {
         take_at(
-            &mut self.hall.registry,
-            &mut self.hall.seats,
+            &mut self.sessions.registry,
+            &mut self.sessions.slots,
             id.number,
             buf,
         )
@@ -176,22 +177,26 @@ impl<D: Device> Daemon<D> {
 
     /// Ends the session: its leases go back, and its replies are dropped.
     pub fn end_session(&mut self, id: SessionId)
-        ensures { core D.state self.new ≡ ended (core D.state self.old) id.number }
+        ensures { core D.state self.new ≡ after_end_session (core D.state self.old) id.number }
     {
-        end_at(&mut self.hall.registry, &mut self.hall.seats, id.number)
+        end_at(
+            &mut self.sessions.registry,
+            &mut self.sessions.slots,
+            id.number,
+        )
     }
 
     /// Puts another page into the device of that name, also while it is leased; a feeder's tray gets it behind its others.
     /// `Inval` where none is listed under it, `DeviceBusy` where it is not at rest or has a full tray; then the page comes
     /// back.
     pub fn load(&mut self, name: &[u8], page: Source) -> Result<(), (Status, Source)>
-        ensures answer { told_of result ≡ load_told (core D.state self.old) name.now }
-        ensures after { core D.state self.new ≡ loaded (core D.state self.old) name.now (⟦<Source as PageSource>⟧.source page) }
+        ensures answer { without_return result ≡ daemon_load_answer (core D.state self.old) name.now }
+        ensures after { core D.state self.new ≡ core_after_load (core D.state self.old) name.now (⟦<Source as PageSource>⟧.source page) }
         ensures given_back { IfErr result (λ e. e.1 ≡ page) }
     {
-        match holder(&self.hall.seats, name) {
-            Some(k) => load_at(&mut self.hall.seats, k, name, page),
-            None => self.hall.registry.load(name, page),
+        match holder(&self.sessions.slots, name) {
+            Some(k) => load_at(&mut self.sessions.slots, k, name, page),
+            None => self.sessions.registry.load(name, page),
         }
     }
 
@@ -201,6 +206,6 @@ impl<D: Device> Daemon<D> {
         ensures answer { seen_unplug D.state result ≡ unplug_answer (core D.state self.old).registry name.now }
         ensures after { core D.state self.new ≡ record (core D.state self.old) { registry = after_unplug (core D.state self.old).registry name.now } }
     {
-        self.hall.registry.unplug(name)
+        self.sessions.registry.unplug(name)
     }
 }

@@ -2,40 +2,40 @@
 
 ghost use Rattle.std.specs.Prelude.{◌≡◌, ◌<◌, ◌≤◌, IfOk, IfSome, option_map, take, length};
 ghost use Rattle.sane_fixed.specs.Status.{status_code};
-ghost use Rattle.data_records.specs.Records.{ending};
+ghost use Rattle.data_records.specs.Records.{end_record};
 ghost use Rattle.dispatch.specs.Table.{seen_lease};
-ghost use Rattle.saned_desk.specs.Holding.{cancelled_lease, seen_held, seen_session, with_cancelled, held_by};
-ghost use Rattle.saned_core.specs.State.{after_connected, after_lost, frame_of, connected};
-ghost use Rattle.saned_core.specs.Turns.{ReadsLease, ReadsWord, Streams, Ends};
+ghost use Rattle.saned_requests.specs.Holding.{cancelled_lease, seen_held, seen_session, with_cancelled, held_by};
+ghost use Rattle.saned_core.specs.DaemonStates.{after_connected, after_lost, frame_state_of, data_phase_connected};
+ghost use Rattle.saned_core.specs.Turns.{ReadsLease, ReadsWord, TurnsStream, WritesEndRecord};
 
-use crate::seat::{DataStep, FrameState};
+use crate::session_slot::{DataStep, FrameState};
 use device_api::Device;
 use dispatch::Lease;
 use sane_fixed::Status;
-use saned_desk::{Carriage, Session, cancel_word};
+use saned_requests::{DataPhase, Session, cancel_word};
 use wire_codec::{record_end, record_head};
 
 /// The most bytes of a record.
 const RECORD_LIMIT: usize = 65536;
 
 /// What callers see of a frame.
-pub fn state_of(carriage: Carriage) -> FrameState
-    ensures { result ≡ frame_of carriage }
+pub fn state_of(transfer: DataPhase) -> FrameState
+    ensures { result ≡ frame_state_of transfer }
 {
-    match carriage {
-        Carriage::Quiet => FrameState::Quiet,
-        Carriage::Waiting(_) => FrameState::Waiting,
-        Carriage::Streaming(_) => FrameState::Streaming,
-        Carriage::Ending => FrameState::Ending,
+    match transfer {
+        DataPhase::Quiet => FrameState::Quiet,
+        DataPhase::Waiting(_) => FrameState::Waiting,
+        DataPhase::Streaming(_) => FrameState::Streaming,
+        DataPhase::Ending => FrameState::Ending,
     }
 }
 
 /// A connection for what waits for one.
-pub fn connected(carriage: Carriage) -> Carriage
-    ensures { result ≡ connected carriage }
+pub fn data_phase_connected(transfer: DataPhase) -> DataPhase
+    ensures { result ≡ data_phase_connected transfer }
 {
-    match carriage {
-        Carriage::Waiting(word) => Carriage::Streaming(word),
+    match transfer {
+        DataPhase::Waiting(word) => DataPhase::Streaming(word),
         other => other,
     }
 }
@@ -75,7 +75,7 @@ fn read_word<D: Device>(
 /// Writes the end record.
 fn put_end(buf: &mut [u8], status: Status) -> DataStep
     requires { 8 ≤ length buf.old }
-    ensures { Ends status result buf.new }
+    ensures { WritesEndRecord status result buf.new }
 {
     buf[..5].copy_from_slice(&record_end(status));
     DataStep::Last(5)
@@ -84,11 +84,11 @@ fn put_end(buf: &mut [u8], status: Status) -> DataStep
 /// One turn of the data connection.
 pub fn turn<D: Device>(session: &mut Session<D>, buf: &mut [u8]) -> DataStep
     requires { 8 ≤ length buf.old }
-    ensures { Streams (seen_session D.state session.old) result (seen_session D.state session.new) buf.new }
+    ensures { TurnsStream (seen_session D.state session.old) result (seen_session D.state session.new) buf.new }
 {
-    match session.carriage {
-        Carriage::Quiet | Carriage::Waiting(_) => DataStep::Idle,
-        Carriage::Streaming(word) => {
+    match session.transfer {
+        DataPhase::Quiet | DataPhase::Waiting(_) => DataStep::Idle,
+        DataPhase::Streaming(word) => {
             let room = (buf.len() - 4).min(RECORD_LIMIT);
             match read_word(&mut session.held, word, &mut buf[4..4 + room]) {
                 None => DataStep::Idle,
@@ -97,13 +97,13 @@ pub fn turn<D: Device>(session: &mut Session<D>, buf: &mut [u8]) -> DataStep
                     DataStep::Bytes(4 + n)
                 }
                 Some(Err(status)) => {
-                    session.carriage = Carriage::Quiet;
+                    session.transfer = DataPhase::Quiet;
                     put_end(buf, status)
                 }
             }
         }
-        Carriage::Ending => {
-            session.carriage = Carriage::Quiet;
+        DataPhase::Ending => {
+            session.transfer = DataPhase::Quiet;
             put_end(buf, Status::Cancelled)
         }
     }
@@ -113,12 +113,12 @@ pub fn turn<D: Device>(session: &mut Session<D>, buf: &mut [u8]) -> DataStep
 pub fn lose<D: Device>(session: &mut Session<D>)
     ensures { seen_session D.state session.new ≡ after_lost (seen_session D.state session.old) }
 {
-    match session.carriage {
-        Carriage::Quiet | Carriage::Waiting(_) => {}
-        Carriage::Streaming(word) => {
+    match session.transfer {
+        DataPhase::Quiet | DataPhase::Waiting(_) => {}
+        DataPhase::Streaming(word) => {
             cancel_word(&mut session.held, word);
-            session.carriage = Carriage::Quiet;
+            session.transfer = DataPhase::Quiet;
         }
-        Carriage::Ending => session.carriage = Carriage::Quiet,
+        DataPhase::Ending => session.transfer = DataPhase::Quiet,
     }
 }

@@ -2,17 +2,17 @@
 
 ghost use Rattle.std.specs.Prelude.{◌≡◌, None, option_map};
 ghost use Rattle.dispatch.specs.Table.{table};
-ghost use Rattle.saned_desk.specs.Holding.{seen_session};
-ghost use Rattle.saned_desk.specs.Rules.{desk};
-ghost use Rattle.saned_core.specs.State.{seen_seat, session_let_go};
+ghost use Rattle.saned_requests.specs.Holding.{seen_session};
+ghost use Rattle.saned_requests.specs.RequestAnswers.{request_context};
+ghost use Rattle.saned_core.specs.DaemonStates.{seen_session_slot, session_let_go};
 ghost use Rattle.saned_core.specs.Feeding.{FeedsOne, FeedsReplies, no_input, IsSaid, IsUnsaid, SaidAs};
 
 use crate::replies::Replies;
-use crate::seat::{Fed, Seat};
+use crate::session_slot::{Fed, SessionSlot};
 use device_api::Device;
 use dispatch::Registry;
 use md5_auth::{Challenger, Users};
-use saned_desk::{Said, Session, answer, let_go};
+use saned_requests::{RequestAnswer, Session, answer, let_go};
 use std::alloc::Global;
 use std::mem;
 use wire_codec::{Decoder, Reply, WireFault, encode_reply};
@@ -35,18 +35,18 @@ fn say(alloc: Global, replies: &mut Replies, reply: &Reply) -> Fed
 }
 
 /// Puts what is said behind the replies that wait.
-fn say_all(alloc: Global, replies: &mut Replies, said: Said) -> Fed
+fn say_all(alloc: Global, replies: &mut Replies, said: RequestAnswer) -> Fed
     ensures { SaidAs said replies.old result replies.new }
 {
     match said {
-        Said::One(reply) => say(alloc, replies, &reply),
-        Said::Two(first, second) => match say(alloc, replies, &first) {
+        RequestAnswer::One(reply) => say(alloc, replies, &reply),
+        RequestAnswer::Two(first, second) => match say(alloc, replies, &first) {
             Fed::Standing => say(alloc, replies, &second),
             Fed::Over => Fed::Over,
             Fed::Starved => Fed::Starved,
         },
-        Said::Last(None) => Fed::Over,
-        Said::Last(Some(reply)) => match say(alloc, replies, &reply) {
+        RequestAnswer::Last(None) => Fed::Over,
+        RequestAnswer::Last(Some(reply)) => match say(alloc, replies, &reply) {
             Fed::Standing => Fed::Over,
             Fed::Over => Fed::Over,
             Fed::Starved => Fed::Starved,
@@ -65,7 +65,7 @@ fn feed_session<D: Device>(
     challenger: &mut Challenger,
     piece: &[u8],
 ) -> Fed
-    ensures desk { FeedsReplies result users.now (desk D.state session.old registry.old challenger.old) input.old.rest piece.now input.new.rest (desk D.state session.new registry.new challenger.new) replies.old replies.new }
+    ensures desk { FeedsReplies result users.now (request_context D.state session.old registry.old challenger.old) input.old.rest piece.now input.new.rest (request_context D.state session.new registry.new challenger.new) replies.old replies.new }
     ensures fault { result ≡ Fed.Standing → input.new.fault ≡ None }
 {
     match input.feed(piece) {
@@ -93,37 +93,37 @@ fn feed_session<D: Device>(
     }
 }
 
-/// Ends the session of a seat: its leases go back, and what came and was not answered is dropped.
-fn close<D: Device>(alloc: Global, seat: &mut Seat<D>, registry: &mut Registry<D>)
-    ensures seat { seat.new ≡ record seat.old { input = no_input; session = None } }
-    ensures registry { table D.state registry.new ≡ session_let_go (table D.state registry.old) (option_map (seen_session D.state) seat.old.session) }
+/// Ends the session of a slot: its leases go back, and what came and was not answered is dropped.
+fn close<D: Device>(alloc: Global, slot: &mut SessionSlot<D>, registry: &mut Registry<D>)
+    ensures seat { slot.new ≡ record slot.old { input = no_input; session = None } }
+    ensures registry { table D.state registry.new ≡ session_let_go (table D.state registry.old) (option_map (seen_session D.state) slot.old.session) }
 {
-    seat.input = Decoder::new(alloc);
-    match mem::replace(&mut seat.session, None) {
+    slot.input = Decoder::new(alloc);
+    match mem::replace(&mut slot.session, None) {
         None => {}
         Some(session) => let_go(registry, session),
     }
 }
 
-/// Feeds the session of a seat, if it goes on.
-pub fn feed_seat<D: Device>(
+/// Feeds the session of a slot, if it goes on.
+pub fn feed_slot<D: Device>(
     alloc: Global,
-    seat: &mut Seat<D>,
+    slot: &mut SessionSlot<D>,
     registry: &mut Registry<D>,
     users: &Users,
     challenger: &mut Challenger,
     piece: &[u8],
 ) -> Fed
-    ensures { FeedsOne (option_map (seen_session D.state) seat.old.session) users.now (seen_seat D.state seat.old) (table D.state registry.old) challenger.old piece.now result (seen_seat D.state seat.new) (table D.state registry.new) challenger.new }
+    ensures { FeedsOne (option_map (seen_session D.state) slot.old.session) users.now (seen_session_slot D.state slot.old) (table D.state registry.old) challenger.old piece.now result (seen_session_slot D.state slot.new) (table D.state registry.new) challenger.new }
 {
-    let Some(session) = &mut seat.session else {
+    let Some(session) = &mut slot.session else {
         return Fed::Over;
     };
     match feed_session(
         alloc,
-        &mut seat.input,
+        &mut slot.input,
         session,
-        &mut seat.replies,
+        &mut slot.replies,
         registry,
         users,
         challenger,
@@ -131,12 +131,12 @@ pub fn feed_seat<D: Device>(
     ) {
         Fed::Standing => Fed::Standing,
         Fed::Over => {
-            close(alloc, seat, registry);
+            close(alloc, slot, registry);
             Fed::Over
         }
         Fed::Starved => {
-            close(alloc, seat, registry);
-            seat.replies.clear();
+            close(alloc, slot, registry);
+            slot.replies.clear();
             Fed::Starved
         }
     }

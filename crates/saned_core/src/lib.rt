@@ -3,18 +3,19 @@
 #![tactic(auto)]
 
 mod daemon;
+mod daemon_loading;
 mod data;
 mod feeding;
-mod giving_back;
 mod laws;
-mod loading;
 mod replies;
-mod seat;
-mod seats;
+mod session_giving_back;
+mod session_slot;
+mod session_slots;
 
 pub use daemon::Daemon;
 pub use laws::{
-    a_request_uses_bytes, requests_are_answered_in_order, sessions_stand_apart, the_limits_stand,
+    a_request_uses_bytes, requests_are_answered_in_order, sessions_are_independent,
+    the_limits_are_kept,
 };
 pub use replies::Replies;
-pub use seat::{DataStep, Fed, FrameState, OpenFault, SessionId};
+pub use session_slot::{DataStep, Fed, FrameState, OpenFault, SessionId};

@@ -1,8 +1,8 @@
-pub mod Counting
-pub mod Steps
+pub mod SlotCounts
+pub mod ActionSteps
 pub mod Daemon
 pub mod Ranges
-pub mod Seating
+pub mod SlotGreeting
 pub mod Greeting
 pub mod Summing
-pub mod Holding
+pub mod NoTwoHolders

@@ -1,7 +1,7 @@
 -- Parts of lists.
 use Rattle.std.proofs.Common.{◌≡◌, ◌≤◌, ℕ, ◌+◌, ◌-◌, List, ◌++◌, length, take, drop, slice_range, arith, sym, ◌∙◌, ap}
 use Rattle.std.proofs.Math.Seq.{take-add}
-use Rattle.saned_serve.proofs.Seating.{take_front}
+use Rattle.saned_serve.proofs.SlotGreeting.{take_front}
 use Rattle.std.proofs.lemmas.List.{drop-take, drop-drop, length-take, length-drop}
 
 pub range_on : (xs : List ℕ) (i j n : ℕ) → i + n ≤ j → slice_range xs (i + n) j ≡ drop n (slice_range xs i j)

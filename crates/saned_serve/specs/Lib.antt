@@ -1,8 +1,8 @@
-pub mod Talk
-pub mod Ledger
-pub mod Acts
-pub mod Story
-pub mod Goes
-pub mod Stands
-pub mod Summary
-pub mod Held
+pub mod ConnectionTraces
+pub mod ListenerTraces
+pub mod SessionActions
+pub mod Journal
+pub mod JournalSteps
+pub mod LoopInvariants
+pub mod JournalSummary
+pub mod HeldLeases

@@ -3,8 +3,8 @@
 
 mod laws;
 mod link;
+mod link_slots;
 mod pending;
-mod seats;
 mod serving;
 mod sockets;
 

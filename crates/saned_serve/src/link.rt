@@ -1,14 +1,14 @@
 //! One session's connections, and one turn of them.
 
 ghost use Rattle.std.specs.Prelude.{◌≡◌, ◌≤◌, ℕ, Bool, true, false, not, ◌||◌, ◌&&◌, Option, None, Some, [], length, IsSome};
-ghost use Rattle.saned_core.specs.State.{Core, core, frame_in, session_of, is_waiting as waits};
-ghost use Rattle.saned_serve.specs.Ledger.{Ledger, noticed};
-ghost use Rattle.saned_serve.specs.Ledger.Notice.{Back};
-ghost use Rattle.saned_serve.specs.Acts.{is_over};
-ghost use Rattle.saned_serve.specs.Goes.{Goes, Attends, Sends, Parts, hung_up};
-ghost use Rattle.saned_serve.specs.Goes.Phase.{Due, Filled, Heard, Ready, Spoken, Dialed, Loaded, Shown};
+ghost use Rattle.saned_core.specs.DaemonStates.{Core, core, frame_in, session_of, is_waiting as waits};
+ghost use Rattle.saned_serve.specs.ListenerTraces.{ListenerTrace, with_notice};
+ghost use Rattle.saned_serve.specs.ListenerTraces.Notice.{Back};
+ghost use Rattle.saned_serve.specs.SessionActions.{ends_session};
+ghost use Rattle.saned_serve.specs.JournalSteps.{JournalGoesOn, Attends, SendsRecords, LeavesSession, hung_up};
+ghost use Rattle.saned_serve.specs.JournalSteps.TurnPhase.{Due, Filled, Heard, Ready, Spoken, Dialed, Loaded, Shown};
 
-use crate::pending::{Pending, is_end};
+use crate::pending::{PendingBytes, is_end};
 use crate::{Got, Listeners, Socket};
 use device_api::Device;
 use saned_core::{Daemon, Fed, FrameState, SessionId};
@@ -21,15 +21,15 @@ pub const MOST_REPLY: usize = 4096;
 pub const MOST_RECORD: usize = 65_540;
 
 /// A session with its control connection, its data port and the data connection of its frame.
-pub struct Link<C> {
+pub struct SessionLink<C> {
     pub conn: C,
     pub id: SessionId,
     pub port: u16,
     pub is_over: bool,
     /// Its control connection is lost, or its session is over and all its replies are written.
     pub is_done: bool,
-    pub replies: Pending<MOST_REPLY>,
-    pub records: Pending<MOST_RECORD>,
+    pub replies: PendingBytes<MOST_REPLY>,
+    pub records: PendingBytes<MOST_RECORD>,
     pub image: Option<C>,
     /// The end record was taken.
     pub is_last: bool,
@@ -40,7 +40,7 @@ const PIECE: usize = 4096;
 
 /// Whether a session is over once a piece was fed to it.
 fn over_after(was_over: bool, fed: Fed) -> bool
-    ensures { result ≡ (was_over || is_over fed) }
+    ensures { result ≡ (was_over || ends_session fed) }
 {
     match fed {
         Fed::Standing => was_over,
@@ -70,14 +70,14 @@ fn attend<D: Device, L: Listeners>(
     alloc: Global,
     daemon: &mut Daemon<D>,
     net: &mut L,
-    link: &mut Link<L::Conn>,
+    link: &mut SessionLink<L::Conn>,
     piece: &[u8],
 )
     requires { length piece.now ≤ 4096 }
     ensures link { link.new ≡ record link.old { is_over = link.new.is_over } }
     ensures attends { Attends link.old.id.number link.old.port piece.now (core D.state daemon.old)
-        (L.ledger net.old) link.old.is_over link.new.is_over (core D.state daemon.new)
-        (L.ledger net.new) }
+        (L.trace net.old) link.old.is_over link.new.is_over (core D.state daemon.new)
+        (L.trace net.new) }
 {
     let was_waiting = is_waiting(daemon, link.id);
     let fed = daemon.feed(alloc, link.id, piece);
@@ -92,11 +92,11 @@ fn hear<D: Device, L: Listeners>(
     alloc: Global,
     daemon: &mut Daemon<D>,
     net: &mut L,
-    link: &mut Link<L::Conn>,
+    link: &mut SessionLink<L::Conn>,
 ) -> bool
     requires { link.old.replies ≡ [] }
-    ensures { Goes L.Conn.history Filled Heard (core D.state daemon.old) (L.ledger net.old) link.old
-        result (core D.state daemon.new) (L.ledger net.new) link.new }
+    ensures { JournalGoesOn L.Conn.history Filled Heard (core D.state daemon.old) (L.trace net.old) link.old
+        result (core D.state daemon.new) (L.trace net.new) link.new }
 {
     let mut room = [0u8; PIECE];
     match link.conn.read(&mut room) {
@@ -113,10 +113,10 @@ fn hear<D: Device, L: Listeners>(
 }
 
 /// Takes replies where none wait.
-fn fill_replies<D: Device, C: Socket>(daemon: &mut Daemon<D>, link: &mut Link<C>)
-    ensures first { (n : Option Ledger) → Goes C.history Due Filled (core D.state daemon.old) n
+fn fill_replies<D: Device, C: Socket>(daemon: &mut Daemon<D>, link: &mut SessionLink<C>)
+    ensures first { (n : Option ListenerTrace) → JournalGoesOn C.history Due Filled (core D.state daemon.old) n
         link.old false (core D.state daemon.new) n link.new }
-    ensures again { (n : Option Ledger) → Goes C.history Heard Ready (core D.state daemon.old) n
+    ensures again { (n : Option ListenerTrace) → JournalGoesOn C.history Heard Ready (core D.state daemon.old) n
         link.old false (core D.state daemon.new) n link.new }
 {
     if link.replies.is_empty() {
@@ -130,10 +130,10 @@ fn listen<D: Device, L: Listeners>(
     alloc: Global,
     daemon: &mut Daemon<D>,
     net: &mut L,
-    link: &mut Link<L::Conn>,
+    link: &mut SessionLink<L::Conn>,
 ) -> bool
-    ensures { Goes L.Conn.history Due Heard (core D.state daemon.old) (L.ledger net.old) link.old
-        result (core D.state daemon.new) (L.ledger net.new) link.new }
+    ensures { JournalGoesOn L.Conn.history Due Heard (core D.state daemon.old) (L.trace net.old) link.old
+        result (core D.state daemon.new) (L.trace net.new) link.new }
 {
     fill_replies(daemon, link);
     if link.replies.is_empty() {
@@ -144,7 +144,7 @@ fn listen<D: Device, L: Listeners>(
 }
 
 /// A session that is over is done once none of its replies wait.
-fn finish<C>(link: &mut Link<C>)
+fn finish<C>(link: &mut SessionLink<C>)
     ensures { link.new ≡ record link.old { is_done = link.old.is_done || link.old.is_over } }
 {
     if link.is_over {
@@ -153,9 +153,9 @@ fn finish<C>(link: &mut Link<C>)
 }
 
 /// One write of the replies that wait.
-fn send_replies<C: Socket>(link: &mut Link<C>) -> bool
-    ensures { (d : Core) (n : Option Ledger)
-        → Goes C.history Ready Spoken d n link.old result d n link.new }
+fn send_replies<C: Socket>(link: &mut SessionLink<C>) -> bool
+    ensures { (d : Core) (n : Option ListenerTrace)
+        → JournalGoesOn C.history Ready Spoken d n link.old result d n link.new }
 {
     if link.replies.is_empty() {
         finish(link);
@@ -172,8 +172,8 @@ fn send_replies<C: Socket>(link: &mut Link<C>) -> bool
 }
 
 /// One write of replies, which are taken from the daemon where none wait.
-fn speak<D: Device, C: Socket>(daemon: &mut Daemon<D>, link: &mut Link<C>) -> bool
-    ensures { (n : Option Ledger) → Goes C.history Heard Spoken (core D.state daemon.old) n link.old
+fn speak<D: Device, C: Socket>(daemon: &mut Daemon<D>, link: &mut SessionLink<C>) -> bool
+    ensures { (n : Option ListenerTrace) → JournalGoesOn C.history Heard Spoken (core D.state daemon.old) n link.old
         result (core D.state daemon.new) n link.new }
 {
     fill_replies(daemon, link);
@@ -181,8 +181,8 @@ fn speak<D: Device, C: Socket>(daemon: &mut Daemon<D>, link: &mut Link<C>) -> bo
 }
 
 /// Hands the data connection back.
-fn hang_up<L: Listeners>(net: &mut L, link: &mut Link<L::Conn>)
-    ensures net { L.ledger net.new ≡ hung_up L.Conn.history link.old.image (L.ledger net.old) }
+fn hang_up<L: Listeners>(net: &mut L, link: &mut SessionLink<L::Conn>)
+    ensures net { L.trace net.new ≡ hung_up L.Conn.history link.old.image (L.trace net.old) }
     ensures link { link.new ≡ record link.old { image = None } }
 {
     if let Some(conn) = link.image.take() {
@@ -194,10 +194,10 @@ fn hang_up<L: Listeners>(net: &mut L, link: &mut Link<L::Conn>)
 fn dial<D: Device, L: Listeners>(
     daemon: &mut Daemon<D>,
     net: &mut L,
-    link: &mut Link<L::Conn>,
+    link: &mut SessionLink<L::Conn>,
 ) -> bool
-    ensures { Goes L.Conn.history Spoken Dialed (core D.state daemon.old) (L.ledger net.old)
-        link.old result (core D.state daemon.new) (L.ledger net.new) link.new }
+    ensures { JournalGoesOn L.Conn.history Spoken Dialed (core D.state daemon.old) (L.trace net.old)
+        link.old result (core D.state daemon.new) (L.trace net.new) link.new }
 {
     if link.image.is_some() {
         return false;
@@ -222,9 +222,9 @@ fn dial<D: Device, L: Listeners>(
 }
 
 /// Takes a record where none waits.
-fn fill_records<D: Device, C: Socket>(daemon: &mut Daemon<D>, link: &mut Link<C>)
+fn fill_records<D: Device, C: Socket>(daemon: &mut Daemon<D>, link: &mut SessionLink<C>)
     requires { IsSome link.old.image }
-    ensures { (n : Option Ledger) → Goes C.history Dialed Loaded (core D.state daemon.old) n
+    ensures { (n : Option ListenerTrace) → JournalGoesOn C.history Dialed Loaded (core D.state daemon.old) n
         link.old false (core D.state daemon.new) n link.new }
 {
     if link.records.is_empty() {
@@ -234,8 +234,8 @@ fn fill_records<D: Device, C: Socket>(daemon: &mut Daemon<D>, link: &mut Link<C>
 }
 
 /// One write of the record that waits.
-fn send_records<C: Socket>(link: &mut Link<C>) -> Got
-    ensures { Sends C.history result link.old link.new }
+fn send_records<C: Socket>(link: &mut SessionLink<C>) -> Got
+    ensures { SendsRecords C.history result link.old link.new }
 {
     match &mut link.image {
         Some(conn) if !link.records.is_empty() => link.records.write_to(conn),
@@ -247,10 +247,10 @@ fn send_records<C: Socket>(link: &mut Link<C>) -> Got
 fn show<D: Device, L: Listeners>(
     daemon: &mut Daemon<D>,
     net: &mut L,
-    link: &mut Link<L::Conn>,
+    link: &mut SessionLink<L::Conn>,
 ) -> bool
-    ensures { Goes L.Conn.history Dialed Shown (core D.state daemon.old) (L.ledger net.old) link.old
-        result (core D.state daemon.new) (L.ledger net.new) link.new }
+    ensures { JournalGoesOn L.Conn.history Dialed Shown (core D.state daemon.old) (L.trace net.old) link.old
+        result (core D.state daemon.new) (L.trace net.new) link.new }
 {
     if link.image.is_none() {
         return false;
@@ -277,10 +277,10 @@ pub fn converse<D: Device, L: Listeners>(
     alloc: Global,
     daemon: &mut Daemon<D>,
     net: &mut L,
-    link: &mut Link<L::Conn>,
+    link: &mut SessionLink<L::Conn>,
 ) -> bool
-    ensures { Goes L.Conn.history Due Shown (core D.state daemon.old) (L.ledger net.old) link.old
-        result (core D.state daemon.new) (L.ledger net.new) link.new }
+    ensures { JournalGoesOn L.Conn.history Due Shown (core D.state daemon.old) (L.trace net.old) link.old
+        result (core D.state daemon.new) (L.trace net.new) link.new }
 {
     let has_heard = listen(alloc, daemon, net, link);
     let has_spoken = speak(daemon, link);
@@ -292,16 +292,16 @@ pub fn converse<D: Device, L: Listeners>(
 /// Room for what waits on a session's two connections.
 #[derive(Drop)]
 pub struct Rooms {
-    pub replies: Pending<MOST_REPLY>,
-    pub records: Pending<MOST_RECORD>,
+    pub replies: PendingBytes<MOST_REPLY>,
+    pub records: PendingBytes<MOST_RECORD>,
 }
 
 /// Hands the control connection back.
-pub fn part<L: Listeners>(net: &mut L, link: Link<L::Conn>) -> Rooms
+pub fn part<L: Listeners>(net: &mut L, link: SessionLink<L::Conn>) -> Rooms
     requires { link.image ≡ None }
-    ensures { L.ledger net.new ≡ noticed (Back (L.Conn.history link.conn)) (L.ledger net.old) }
+    ensures { L.trace net.new ≡ with_notice (Back (L.Conn.history link.conn)) (L.trace net.old) }
 {
-    let Link {
+    let SessionLink {
         conn,
         id: _,
         port: _,
@@ -329,10 +329,10 @@ pub fn part<L: Listeners>(net: &mut L, link: Link<L::Conn>) -> Rooms
 pub fn leave<D: Device, L: Listeners>(
     daemon: &mut Daemon<D>,
     net: &mut L,
-    mut link: Link<L::Conn>,
+    mut link: SessionLink<L::Conn>,
 ) -> Rooms
-    ensures { Parts L.Conn.history (core D.state daemon.old) (L.ledger net.old) link
-        (core D.state daemon.new) (L.ledger net.new) }
+    ensures { LeavesSession L.Conn.history (core D.state daemon.old) (L.trace net.old) link
+        (core D.state daemon.new) (L.trace net.new) }
 {
     hang_up(net, &mut link);
     net.close_data(link.port);

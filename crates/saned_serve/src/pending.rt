@@ -1,10 +1,10 @@
 //! Bytes that wait to be written, in room that was made before.
 
 ghost use Rattle.std.specs.Prelude.{◌≡◌, ◌≤◌, ℕ, List, [], length, drop, slice_range, vec_len, IfOk, IsTrue, ◌↔◌};
-ghost use Rattle.saned_core.specs.State.{core};
-ghost use Rattle.saned_serve.specs.Talk.{moved, MovesWithin, after_write};
-ghost use Rattle.saned_serve.specs.Acts.{Does, written_by, is_last};
-ghost use Rattle.saned_serve.specs.Acts.Act.{Take, Turn};
+ghost use Rattle.saned_core.specs.DaemonStates.{core};
+ghost use Rattle.saned_serve.specs.ConnectionTraces.{bytes_moved, MovesWithin, after_write};
+ghost use Rattle.saned_serve.specs.SessionActions.{ActsOn, written_by, is_end_record};
+ghost use Rattle.saned_serve.specs.SessionActions.SessionAction.{Take, Turn};
 
 use crate::{Got, Socket};
 use device_api::Device;
@@ -14,13 +14,13 @@ use std::marker::Model;
 
 /// Contracts see the list of the bytes that wait.
 #[derive(Drop)]
-pub struct Pending<const ROOM: usize> {
+pub struct PendingBytes<const ROOM: usize> {
     room: Vec<u8>,
     from: usize,
     to: usize,
 }
 
-impl<const ROOM: usize> Model for Pending<ROOM> {
+impl<const ROOM: usize> Model for PendingBytes<ROOM> {
     ghost Value = { List ℕ };
 
     ghost view = { λ p. slice_range p.room.items p.from p.to };
@@ -40,7 +40,7 @@ fn written(step: DataStep) -> usize
 
 /// Whether a turn wrote the end record.
 pub fn is_end(step: DataStep) -> bool
-    ensures { result ≡ is_last step }
+    ensures { result ≡ is_end_record step }
 {
     match step {
         DataStep::Idle | DataStep::Bytes(_) => false,
@@ -48,14 +48,14 @@ pub fn is_end(step: DataStep) -> bool
     }
 }
 
-impl<const ROOM: usize> Pending<ROOM> {
+impl<const ROOM: usize> PendingBytes<ROOM> {
     /// Room of which no bytes wait.
-    pub fn new(alloc: Global) -> Result<Pending<ROOM>, AllocError>
+    pub fn new(alloc: Global) -> Result<PendingBytes<ROOM>, AllocError>
         requires { 8 ≤ ROOM }
         ensures { IfOk result (λ p. p ≡ []) }
     {
         let room = vec![in alloc; 0u8; ROOM]?;
-        Ok(Pending {
+        Ok(PendingBytes {
             room,
             from: 0,
             to: 0,
@@ -79,7 +79,7 @@ impl<const ROOM: usize> Pending<ROOM> {
 
     /// One write of what waits.
     pub fn write_to<S: Socket>(&mut self, conn: &mut S) -> Got
-        ensures rest { self.new ≡ drop (moved result) self.old }
+        ensures rest { self.new ≡ drop (bytes_moved result) self.old }
         ensures within { MovesWithin result (length self.old) }
         ensures told { S.history conn.new ≡ after_write result self.old (S.history conn.old) }
     {
@@ -92,7 +92,7 @@ impl<const ROOM: usize> Pending<ROOM> {
 
     /// Takes replies of a session, in place of what waits.
     pub fn take_reply<D: Device>(&mut self, daemon: &mut Daemon<D>, id: SessionId)
-        ensures { Does id.number (core D.state daemon.old) (Take ROOM self.new)
+        ensures { ActsOn id.number (core D.state daemon.old) (Take ROOM self.new)
             (core D.state daemon.new) }
     {
         let n = daemon.take_reply(id, self.room.as_mut_slice());
@@ -102,7 +102,7 @@ impl<const ROOM: usize> Pending<ROOM> {
 
     /// Takes a record of a session, in place of what waits.
     pub fn take_record<D: Device>(&mut self, daemon: &mut Daemon<D>, id: SessionId) -> DataStep
-        ensures { Does id.number (core D.state daemon.old) (Turn ROOM result self.new)
+        ensures { ActsOn id.number (core D.state daemon.old) (Turn ROOM result self.new)
             (core D.state daemon.new) }
     {
         let step = daemon.data_turn(id, self.room.as_mut_slice());

@@ -1,47 +1,47 @@
 //! Turn after turn, until enough sessions left or nothing moves.
 
 ghost use Rattle.std.specs.Prelude.{◌≡◌, ◌≢◌, ◌≤◌, ◌<◌, ◌+◌, cond, Bool, true, false, List, [], Option, All, length};
-ghost use Rattle.saned_core.specs.State.{Core, core};
-ghost use Rattle.saned_serve.specs.Ledger.{Ledger};
-ghost use Rattle.saned_serve.specs.Stands.{Stands, IsRoomed, TookTurn, Ran, Served, most_turns};
-ghost use Rattle.saned_serve.specs.Story.{Deed, has_asked, most_sessions};
+ghost use Rattle.saned_core.specs.DaemonStates.{Core, core};
+ghost use Rattle.saned_serve.specs.ListenerTraces.{ListenerTrace};
+ghost use Rattle.saned_serve.specs.LoopInvariants.{LoopInvariant, HasRooms, TookTurn, HasTakenAllTurns, HasServed, most_turns};
+ghost use Rattle.saned_serve.specs.Journal.{LoopAction, has_asked, most_sessions};
 
 use crate::Listeners;
-use crate::seats::{Seat, close_all, seats_for, turn_at, welcome};
+use crate::link_slots::{LinkSlot, close_all, link_slots, turn_at, welcome};
 use device_api::Device;
 use saned_core::Daemon;
 use std::alloc::Global;
 
 /// What a turn came to: whether something moved, and how many sessions left.
 #[derive(Clone, Copy)]
-struct Turned {
+struct TurnResult {
     has_moved: bool,
     left: u64,
 }
 
-/// One accept while a seat is empty, and one turn of each session.
+/// One accept while a slot is empty, and one turn of each session.
 fn take_turn<D: Device, L: Listeners>(
     alloc: Global,
     daemon: &mut Daemon<D>,
     net: &mut L,
-    seats: &mut [Seat<L::Conn>],
-) -> Turned
-    requires len { length seats.old ≡ most_sessions }
-    requires roomed { All IsRoomed seats.old }
-    ensures roomed { All IsRoomed seats.new }
-    ensures turned { (d0 : Core) (n0 : Option Ledger) (past : List Deed) → has_asked past ≡ false
-        → Stands L.Conn.history d0 n0 past (core D.state daemon.old) (L.ledger net.old) 0 seats.old
-        → TookTurn L.Conn.history d0 n0 past result.left result.has_moved (core D.state daemon.new) (L.ledger net.new) seats.new }
-    ensures few { result.left ≤ length seats.old }
+    slots: &mut [LinkSlot<L::Conn>],
+) -> TurnResult
+    requires len { length slots.old ≡ most_sessions }
+    requires roomed { All HasRooms slots.old }
+    ensures roomed { All HasRooms slots.new }
+    ensures turned { (d0 : Core) (n0 : Option ListenerTrace) (past : List LoopAction) → has_asked past ≡ false
+        → LoopInvariant L.Conn.history d0 n0 past (core D.state daemon.old) (L.trace net.old) 0 slots.old
+        → TookTurn L.Conn.history d0 n0 past result.left result.has_moved (core D.state daemon.new) (L.trace net.new) slots.new }
+    ensures few { result.left ≤ length slots.old }
 {
-    let mut has_moved = welcome(alloc, daemon, net, seats);
+    let mut has_moved = welcome(alloc, daemon, net, slots);
     let mut left = 0u64;
-    for i in 0..seats.len() {
-        let visit = turn_at(alloc, daemon, net, seats, i);
+    for i in 0..slots.len() {
+        let visit = turn_at(alloc, daemon, net, slots, i);
         has_moved |= visit.has_moved;
         left += u64::from(visit.has_left);
     }
-    Turned { has_moved, left }
+    TurnResult { has_moved, left }
 }
 
 /// Why `serve` ended.
@@ -71,21 +71,21 @@ fn take_turns<D: Device, L: Listeners>(
     alloc: Global,
     daemon: &mut Daemon<D>,
     net: &mut L,
-    seats: &mut [Seat<L::Conn>],
+    slots: &mut [LinkSlot<L::Conn>],
     sessions: u64,
     idle_turns: u64,
 ) -> ServeEnd
-    requires len { length seats.old ≡ most_sessions }
-    requires roomed { All IsRoomed seats.old }
-    ensures ran { (d0 : Core) (n0 : Option Ledger)
-        → Stands L.Conn.history d0 n0 [] (core D.state daemon.old) (L.ledger net.old) 0 seats.old
-        → Ran L.Conn.history d0 n0 result sessions idle_turns (core D.state daemon.new) (L.ledger net.new) seats.new }
+    requires len { length slots.old ≡ most_sessions }
+    requires roomed { All HasRooms slots.old }
+    ensures ran { (d0 : Core) (n0 : Option ListenerTrace)
+        → LoopInvariant L.Conn.history d0 n0 [] (core D.state daemon.old) (L.trace net.old) 0 slots.old
+        → HasTakenAllTurns L.Conn.history d0 n0 result sessions idle_turns (core D.state daemon.new) (L.trace net.new) slots.new }
     ensures memory { result ≢ ServeEnd.NoMem }
 {
     let mut all_left = 0u64;
     let mut idle = 0u64;
     for _turn in 0..MOST_TURNS {
-        let turned = take_turn(alloc, daemon, net, seats);
+        let turned = take_turn(alloc, daemon, net, slots);
         all_left += turned.left;
         if sessions > 0 && all_left >= sessions {
             return ServeEnd::Sessions;
@@ -113,23 +113,23 @@ pub fn serve<D: Device, L: Listeners>(
     sessions: u64,
     idle_turns: u64,
 ) -> ServeEnd
-    ensures served { Served (core D.state daemon.old) (L.ledger net.old) (core D.state daemon.new)
-        (L.ledger net.new) result sessions idle_turns }
+    ensures served { HasServed (core D.state daemon.old) (L.trace net.old) (core D.state daemon.new)
+        (L.trace net.new) result sessions idle_turns }
     ensures memory { result ≡ ServeEnd.NoMem → (daemon.new ≡ daemon.old)
-        × (L.ledger net.new ≡ L.ledger net.old) }
+        × (L.trace net.new ≡ L.trace net.old) }
 {
-    let mut seats: Vec<Seat<L::Conn>> = match seats_for(alloc) {
-        Ok(seats) => seats,
+    let mut slots: Vec<LinkSlot<L::Conn>> = match link_slots(alloc) {
+        Ok(slots) => slots,
         Err(_) => return ServeEnd::NoMem,
     };
     let end = take_turns(
         alloc,
         daemon,
         net,
-        seats.as_mut_slice(),
+        slots.as_mut_slice(),
         sessions,
         idle_turns,
     );
-    close_all(daemon, net, seats);
+    close_all(daemon, net, slots);
     end
 }

@@ -1,9 +1,9 @@
 //! Connections that never wait, and whence they come.
 
 ghost use Rattle.std.specs.Prelude.{◌≡◌, ◌≤◌, ◌<◌, ℕ, Option, None, Some, IfSome, is_some, [], length};
-ghost use Rattle.saned_serve.specs.Talk.{Talk, MovesWithin, after_read, after_write, IsTold};
-ghost use Rattle.saned_serve.specs.Ledger.{Ledger, noticed, IsForgotten};
-ghost use Rattle.saned_serve.specs.Ledger.Notice.{Asked, Port, Dialed, Shut, Back};
+ghost use Rattle.saned_serve.specs.ConnectionTraces.{ConnectionTrace, MovesWithin, after_read, after_write, IsTrace};
+ghost use Rattle.saned_serve.specs.ListenerTraces.{ListenerTrace, with_notice, IsForgotten};
+ghost use Rattle.saned_serve.specs.ListenerTraces.Notice.{Asked, Port, Dialed, Shut, Back};
 
 /// What a call on a socket came to.
 #[derive(Clone, Copy, Debug, PartialEq, Eq)]
@@ -19,7 +19,7 @@ pub enum Got {
 /// A connection whose calls come back at once.
 pub trait Socket {
     /// All calls of it so far with what they came to, the newest first, where it tells them.
-    ghost history: { Self → Option Talk } = { λ _. None };
+    ghost history: { Self → Option ConnectionTrace } = { λ _. None };
 
     /// Reads to the start of the buffer, at most as many bytes as it has.
     fn read(&mut self, buf: &mut [u8]) -> Got
@@ -38,36 +38,36 @@ pub trait Listeners {
     type Conn: Socket;
 
     /// All that it was asked, the newest first, where it tells it.
-    ghost ledger: { Self → Option Ledger } = { λ _. None };
+    ghost trace: { Self → Option ListenerTrace } = { λ _. None };
 
     /// The next control connection, where one is there.
     fn accept(&mut self) -> Option<Self::Conn>
-        ensures told { ledger self.new ≡ noticed (Asked (is_some result)) (ledger self.old) }
-        ensures fresh { IfSome result (λ conn. IsTold (Self.Conn.history conn) []) };
+        ensures told { trace self.new ≡ with_notice (Asked (is_some result)) (trace self.old) }
+        ensures fresh { IfSome result (λ conn. IsTrace (Self.Conn.history conn) []) };
 
     /// A new port that waits for data connections.
     fn open_data(&mut self) -> Option<u16>
-        ensures { ledger self.new ≡ noticed (Port result) (ledger self.old) };
+        ensures { trace self.new ≡ with_notice (Port result) (trace self.old) };
 
     /// A frame begins that will wait at that port, and nobody was told so yet: connections there
     /// that their peers have ended by now are of no frame. What takes connections only as they are
     /// dialled has none such, and does nothing.
     fn forget_ended(&mut self, port: u16)
-        ensures { IsForgotten port (ledger self.old) (ledger self.new) }
+        ensures { IsForgotten port (trace self.old) (trace self.new) }
     {
         let _ = port;
     }
 
     /// A connection at such a port, where one is there.
     fn accept_data(&mut self, port: u16) -> Option<Self::Conn>
-        ensures told { ledger self.new ≡ noticed (Dialed port (is_some result)) (ledger self.old) }
-        ensures fresh { IfSome result (λ conn. IsTold (Self.Conn.history conn) []) };
+        ensures told { trace self.new ≡ with_notice (Dialed port (is_some result)) (trace self.old) }
+        ensures fresh { IfSome result (λ conn. IsTrace (Self.Conn.history conn) []) };
 
     /// No further connection is awaited at that port.
     fn close_data(&mut self, port: u16)
-        ensures { ledger self.new ≡ noticed (Shut port) (ledger self.old) };
+        ensures { trace self.new ≡ with_notice (Shut port) (trace self.old) };
 
     /// Takes a connection back, and closes it.
     fn close(&mut self, conn: Self::Conn)
-        ensures { ledger self.new ≡ noticed (Back (Self.Conn.history conn)) (ledger self.old) };
+        ensures { trace self.new ≡ with_notice (Back (Self.Conn.history conn)) (trace self.old) };
 }

@@ -6,7 +6,7 @@ use Rattle.std.proofs.lemmas.Bool.Decides.{nat_tests}
 use Rattle.std.proofs.lemmas.Nat.{mul-le}
 use Rattle.sane_fixed.specs.declared.frame_format.FrameFormat.{FrameFormat}
 use Rattle.sane_fixed.specs.declared.frame_format.FrameFormat.TheVariants.{Gray as GrayFrame, Rgb as RgbFrame, Red as RedFrame, Green as GreenFrame, Blue as BlueFrame}
-use Rattle.page_picture.specs.Page.{Sheet}
+use Rattle.page_picture.specs.Page.{PageView}
 use Rattle.page_picture.specs.Extent.{is_side, shows_depth}
 use Rattle.page_picture.specs.Shows.{channels_within}
 use Rattle.page_picture.specs.Source.{SourceState}
@@ -16,8 +16,8 @@ use Rattle.scan_frames.specs.declared.setup.Setup.{Setup}
 use Rattle.scan_frames.specs.Line.{packing_of, line_size}
 use Rattle.scan_frames.specs.Frames.{has_picture, height_of, width_of, format_at, bytes_per_line, pass_length}
 use Rattle.scan_frames.specs.Samples.{HasZeros, IsZeroFrom}
-use Rattle.scan_frames.specs.Reading.{FrameState, IsFrame, IsCounted, HasBegun, given_in}
-use Rattle.scan_frames.specs.Buffers.{IsFresh, MakesLine, KeepsCount, HasBytes}
+use Rattle.scan_frames.specs.PassReading.{FrameProgress, IsFrame, IsLineCounted, HasBegunPass, given_in}
+use Rattle.scan_frames.specs.Buffers.{IsNewFrame, MakesLine, KeepsCount, HasLineBytes}
 use Rattle.scan_frames.proofs.Scans.{mul-split, left_in_line, left_whole, made_not_given}
 
 -- ---- a picture has bytes
@@ -41,14 +41,14 @@ side_limits n e =
     (grind (arith, nat_tests), grind (arith, nat_tests))
 
 -- what the tests of a picture say
-pub record Picturesque (setup : Setup) (page : Sheet) : Type 0 where
+pub record Picturesque (setup : Setup) (page : PageView) : Type 0 where
   pub depth : shows_depth setup.scene.mode setup.scene.depth ≡ true
   pub width_some : 1 ≤ width_of setup
   pub width_most : width_of setup ≤ 65536
   pub height_some : 1 ≤ height_of setup page
   pub height_most : height_of setup page ≤ 65536
 
-pub has_sides : (setup : Setup) (page : Sheet) → has_picture setup page ≡ true → Picturesque setup page
+pub has_sides : (setup : Setup) (page : PageView) → has_picture setup page ≡ true → Picturesque setup page
 has_sides setup page e =
     let tests = picture_tests (shows_depth setup.scene.mode setup.scene.depth) (is_side (width_of setup)) (is_side (height_of setup page)) e in
     let wide = side_limits (width_of setup) tests.1.0 in
@@ -68,7 +68,7 @@ some_size Words RedFrame pixels some = omega arith
 some_size Words GreenFrame pixels some = omega arith
 some_size Words BlueFrame pixels some = omega arith
 
-pub some_bytes : (s : SourceState) (setup : Setup) (f : FrameState) → IsFrame s setup f → 0 < length f.line
+pub some_bytes : (s : SourceState) (setup : Setup) (f : FrameProgress) → IsFrame s setup f → 0 < length f.line
 some_bytes s setup f is =
     let sides = has_sides setup s.page is.picture in
     let wide : 1 ≤ width_of setup + setup.loss = let w = sides.width_some in omega arith in
@@ -90,13 +90,13 @@ size_most Words RedFrame pixels few = omega arith
 size_most Words GreenFrame pixels few = omega arith
 size_most Words BlueFrame pixels few = omega arith
 
-pub line_most : (setup : Setup) (page : Sheet) (pass : ℕ) → has_picture setup page ≡ true → setup.loss ≤ 64 → bytes_per_line setup pass ≤ 1048576
+pub line_most : (setup : Setup) (page : PageView) (pass : ℕ) → has_picture setup page ≡ true → setup.loss ≤ 64 → bytes_per_line setup pass ≤ 1048576
 line_most setup page pass picture loss =
     let sides = has_sides setup page picture in
     let few : width_of setup + setup.loss ≤ 65600 = let w = sides.width_most in omega arith in
     size_most (packing_of setup.scene.depth) (format_at setup pass) (width_of setup + setup.loss) few
 
-pub short_line : (s : SourceState) (setup : Setup) (f : FrameState) → IsFrame s setup f → setup.loss ≤ 64 → length f.line ≤ 1048576
+pub short_line : (s : SourceState) (setup : Setup) (f : FrameProgress) → IsFrame s setup f → setup.loss ≤ 64 → length f.line ≤ 1048576
 short_line s setup f is loss = let most = line_most setup s.page f.pass is.picture loss in let size = is.line in omega arith
 
 -- ---- the beginning
@@ -106,7 +106,7 @@ all_zeros Bits i line zeros = tt
 all_zeros Bytes i line zeros = λ j h. zeros j (omega arith)
 all_zeros Words i line zeros = λ j h. zeros j (omega arith)
 
-pub first_frame : (s t : SourceState) (setup : Setup) (pass height : ℕ) (f : FrameState) → t ≡ record s { given = 0 } → has_picture setup s.page ≡ true → height ≡ height_of setup s.page → IsFresh s.page setup pass height f → HasBegun s setup pass f t
+pub first_frame : (s t : SourceState) (setup : Setup) (pass height : ℕ) (f : FrameProgress) → t ≡ record s { given = 0 } → has_picture setup s.page ≡ true → height ≡ height_of setup s.page → IsNewFrame s.page setup pass height f → HasBegunPass s setup pass f t
 first_frame s t setup pass height f after picture tall fresh =
     let frame : IsFrame (record s { given = 0 }) setup f = record {
       picture = picture;
@@ -131,7 +131,7 @@ first_frame s t setup pass height f after picture tall fresh =
       after = after;
     }
 
-pub first_count : (page : Sheet) (setup : Setup) (pass height : ℕ) (f : FrameState) → IsFresh page setup pass height f → IsCounted f
+pub first_count : (page : PageView) (setup : Setup) (pass height : ℕ) (f : FrameProgress) → IsNewFrame page setup pass height f → IsLineCounted f
 first_count page setup pass height f fresh = record {
   none = λ e. fresh.left;
   begun = λ some. absurd (let e = fresh.made in omega arith);
@@ -139,7 +139,7 @@ first_count page setup pass height f fresh = record {
 
 -- ---- a line to give from
 
-pub ready_left : (s : SourceState) (setup : Setup) (f : FrameState) → IsFrame s setup f → IsCounted f → 0 < f.left → HasBytes s setup f s f
+pub ready_left : (s : SourceState) (setup : Setup) (f : FrameProgress) → IsFrame s setup f → IsLineCounted f → 0 < f.left → HasLineBytes s setup f s f
 ready_left s setup f is counted some = record {
   source = record { further = omega arith; after = refl };
   frame = is;
@@ -150,13 +150,13 @@ ready_left s setup f is counted some = record {
   made = elim (cases_lt 0 f.made) as (λ _. 0 < f.made) [ inl more ↦ more | inr none ↦ absurd (let e : f.left ≡ 0 = counted.none (omega arith) in omega arith) ];
 }
 
-pub ready_end : (s : SourceState) (setup : Setup) (f : FrameState) → IsFrame s setup f → f.left ≡ 0 → f.made ≡ f.height → given_in f ≡ pass_length setup s.page f.pass
+pub ready_end : (s : SourceState) (setup : Setup) (f : FrameProgress) → IsFrame s setup f → f.left ≡ 0 → f.made ≡ f.height → given_in f ≡ pass_length setup s.page f.pass
 ready_end s setup f is none all =
     ap (λ (n : ℕ). f.made * length f.line - n) none
     ∙ (ap (λ (n : ℕ). n * length f.line - 0) (all ∙ is.height)
     ∙ (ap (λ (n : ℕ). height_of setup s.page * n - 0) is.line ∙ omega arith))
 
-pub ready_made : (s t : SourceState) (setup : Setup) (f g : FrameState) → IsFrame s setup f → f.left ≡ 0 → MakesLine s setup f t g → HasBytes s setup f t g
+pub ready_made : (s t : SourceState) (setup : Setup) (f g : FrameProgress) → IsFrame s setup f → f.left ≡ 0 → MakesLine s setup f t g → HasLineBytes s setup f t g
 ready_made s t setup f g is none made =
     let some = some_bytes s setup f is in
     let whole = left_whole f none some in
@@ -173,7 +173,7 @@ ready_made s t setup f g is none made =
       made = omega arith;
     }
 
-pub more_left : (s : SourceState) (setup : Setup) (f : FrameState) → IsFrame s setup f → f.left ≡ 0 → f.made < f.height → given_in f < pass_length setup s.page f.pass
+pub more_left : (s : SourceState) (setup : Setup) (f : FrameProgress) → IsFrame s setup f → f.left ≡ 0 → f.made < f.height → given_in f < pass_length setup s.page f.pass
 more_left s setup f is none more =
     let b = length f.line in
     let some = some_bytes s setup f is in
@@ -182,7 +182,7 @@ more_left s setup f is none more =
     let all : f.height * b ≡ pass_length setup s.page f.pass = ap (λ (n : ℕ). n * b) is.height ∙ ap (λ (n : ℕ). height_of setup s.page * n) is.line in
     omega arith
 
-pub same_count : (f g : FrameState) → IsCounted f → KeepsCount f g → IsCounted g
+pub same_count : (f g : FrameProgress) → IsLineCounted f → KeepsCount f g → IsLineCounted g
 same_count f g counted same = record {
   none = λ e. same.left ∙ counted.none (sym same.made ∙ e);
   begun = λ some.
@@ -193,7 +193,7 @@ same_count f g counted same = record {
 }
 
 -- nothing was given exactly where no line was made
-pub given_none : (f : FrameState) → IsCounted f → (f.made == 0) ≡ (given_in f == 0)
+pub given_none : (f : FrameProgress) → IsLineCounted f → (f.made == 0) ≡ (given_in f == 0)
 given_none f is =
     let b = length f.line in
     elim (cases_lt 0 f.made) as (λ _. (f.made == 0) ≡ (given_in f == 0)) [

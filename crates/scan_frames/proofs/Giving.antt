@@ -6,24 +6,24 @@ use Rattle.std.proofs.lemmas.Bool.Decides.{nat_tests}
 use Rattle.std.proofs.lemmas.List.{drop-drop}
 use Rattle.std.proofs.lemmas.Nat.{mul-le}
 use Rattle.std.proofs.Math.Seq.{take-add}
-use Rattle.page_picture.specs.Page.{Sheet}
+use Rattle.page_picture.specs.Page.{PageView}
 use Rattle.page_picture.specs.Source.{SourceState, CountsFailure}
 use Rattle.scan_frames.specs.declared.setup.Setup.{Setup}
 use Rattle.scan_frames.specs.Frames.{height_of, bytes_per_line, line_bytes, payload, pass_length}
 use Rattle.scan_frames.specs.Rows.{TakesRows, StopsFailing}
-use Rattle.scan_frames.specs.Reading.{FrameState, IsFrame, IsCounted, GivesBytes, given_in}
-use Rattle.scan_frames.specs.Buffers.{HasBytes, GivesLine, HasGiven, GivesOfLine, is_over}
+use Rattle.scan_frames.specs.PassReading.{FrameProgress, IsFrame, IsLineCounted, GivesFrameBytes, given_in}
+use Rattle.scan_frames.specs.Buffers.{HasLineBytes, GivesLine, HasGivenOfFrame, GivesOfLine, is_frame_over}
 use Rattle.scan_frames.proofs.Scans.{length-line_bytes, joined_part, mul-split, lines_and_front}
 use Rattle.scan_frames.proofs.Frames.{more_left, ready_end}
 
 -- ---- whether a frame is over
 
 -- a frame that is over was given whole
-pub over_whole : (s : SourceState) (setup : Setup) (f : FrameState) → IsFrame s setup f → is_over f ≡ true → given_in f ≡ pass_length setup s.page f.pass
+pub over_whole : (s : SourceState) (setup : Setup) (f : FrameProgress) → IsFrame s setup f → is_frame_over f ≡ true → given_in f ≡ pass_length setup s.page f.pass
 over_whole s setup f is over = ready_end s setup f is (grind (arith, nat_tests)) (grind (arith, nat_tests))
 
 -- where no byte of the last line is left, another line is to be made
-pub another_line : (s : SourceState) (setup : Setup) (f : FrameState) → IsFrame s setup f → is_over f ≡ false → f.left ≡ 0 → f.made < f.height
+pub another_line : (s : SourceState) (setup : Setup) (f : FrameProgress) → IsFrame s setup f → is_frame_over f ≡ false → f.left ≡ 0 → f.made < f.height
 another_line s setup f is more none =
     let within = is.made in
     elim (cases_lt f.made f.height) as (λ _. f.made < f.height) [
@@ -32,7 +32,7 @@ another_line s setup f is more none =
     ]
 
 -- what was given is inside the frame
-pub given_inside : (s : SourceState) (setup : Setup) (f : FrameState) → IsFrame s setup f → given_in f ≤ pass_length setup s.page f.pass
+pub given_inside : (s : SourceState) (setup : Setup) (f : FrameProgress) → IsFrame s setup f → given_in f ≤ pass_length setup s.page f.pass
 given_inside s setup f is =
     let b = length f.line in
     let up : f.made * b ≤ f.height * b = mul-le f.made b f.height b is.made (omega arith) in
@@ -40,7 +40,7 @@ given_inside s setup f is =
     omega arith
 
 -- and some byte is not given where it is not over
-pub more_to_give : (s : SourceState) (setup : Setup) (f : FrameState) → IsFrame s setup f → IsCounted f → is_over f ≡ false → given_in f < pass_length setup s.page f.pass
+pub more_to_give : (s : SourceState) (setup : Setup) (f : FrameProgress) → IsFrame s setup f → IsLineCounted f → is_frame_over f ≡ false → given_in f < pass_length setup s.page f.pass
 more_to_give s setup f is counted more =
     let b = length f.line in
     elim (cases_lt 0 f.left) as (λ _. given_in f < pass_length setup s.page f.pass) [
@@ -56,7 +56,7 @@ more_to_give s setup f is counted more =
 
 -- ---- a piece of a line
 
-pub gives_of_line : (s t : SourceState) (setup : Setup) (old mid new : FrameState) (n : ℕ) (buf : List ℕ) → 0 < length buf → HasBytes s setup old t mid → GivesLine mid n new buf → GivesOfLine s setup old n t new buf
+pub gives_of_line : (s t : SourceState) (setup : Setup) (old mid new : FrameProgress) (n : ℕ) (buf : List ℕ) → 0 < length buf → HasLineBytes s setup old t mid → GivesLine mid n new buf → GivesOfLine s setup old n t new buf
 gives_of_line s t setup old mid new n buf room has gives =
     let is = has.frame in
     let b = bytes_per_line setup mid.pass in
@@ -89,7 +89,7 @@ gives_of_line s t setup old mid new n buf room has gives =
       left = omega arith;
       bytes = is.bytes;
     } in
-    let counted : IsCounted (record mid { left = mid.left - n }) = record {
+    let counted : IsLineCounted (record mid { left = mid.left - n }) = record {
       none = λ e. absurd (omega arith);
       begun = λ some. omega arith;
     } in
@@ -98,13 +98,13 @@ gives_of_line s t setup old mid new n buf room has gives =
       some = some;
       given = record {
         source = has.source;
-        frame = subst (λ (f : FrameState). IsFrame t setup f) (sym gives.after) after;
-        counted = subst IsCounted (sym gives.after) counted;
-        pass_is = ap (λ (f : FrameState). f.pass) gives.after ∙ has.pass_is;
+        frame = subst (λ (f : FrameProgress). IsFrame t setup f) (sym gives.after) after;
+        counted = subst IsLineCounted (sym gives.after) counted;
+        pass_is = ap (λ (f : FrameProgress). f.pass) gives.after ∙ has.pass_is;
         further = ap given_in gives.after ∙ omega arith;
         bytes = λ steady.
             let steady_too : t.steady ≡ true = ap (λ (u : SourceState). u.steady) has.source.after ∙ steady in
-            let line : mid.line ≡ line_bytes setup s.page mid.pass (mid.made - 1) = is.bytes steady_too some_made ∙ ap (λ (p : Sheet). line_bytes setup p mid.pass (mid.made - 1)) page in
+            let line : mid.line ≡ line_bytes setup s.page mid.pass (mid.made - 1) = is.bytes steady_too some_made ∙ ap (λ (p : PageView). line_bytes setup p mid.pass (mid.made - 1)) page in
             let last : mid.made - 1 < h = omega (arith, is.made) in
             let part = joined_part (line_bytes setup s.page mid.pass) b h (mid.made - 1) (b - mid.left) n (length-line_bytes setup s.page mid.pass) last (omega arith) in
             let place : given_in old ≡ (mid.made - 1) * b + (b - mid.left) = sym given ∙ (front ∙ ap (λ (k : ℕ). (mid.made - 1) * k + (k - mid.left)) size) in
@@ -120,7 +120,7 @@ gives_of_line s t setup old mid new n buf room has gives =
 -- ---- line after line
 
 -- nothing was given yet
-pub gives_none : (s : SourceState) (setup : Setup) (f : FrameState) (buf : List ℕ) → IsFrame s setup f → IsCounted f → HasGiven s setup f 0 s f buf
+pub gives_none : (s : SourceState) (setup : Setup) (f : FrameProgress) (buf : List ℕ) → IsFrame s setup f → IsLineCounted f → HasGivenOfFrame s setup f 0 s f buf
 gives_none s setup f buf is counted = record {
   source = record { further = omega arith; after = refl };
   frame = is;
@@ -139,19 +139,19 @@ goes_on s t u a b = record {
 -- a source that gave rows and then failed
 pub stops_on : (s t u : SourceState) → TakesRows s t → StopsFailing t u → StopsFailing s u
 stops_on s t u a b = record {
-  not_firm = sym (ap (λ (v : SourceState). v.firm) a.after) ∙ b.not_firm;
+  fallible = sym (ap (λ (v : SourceState). v.infallible) a.after) ∙ b.fallible;
   further = let x = a.further in let y = b.further in omega arith;
   counted = subst (λ (n : ℕ). CountsFailure n u.failures) (ap (λ (v : SourceState). v.failures) a.after) b.counted;
   after = b.after ∙ ap (λ (v : SourceState). record v { given = u.given; failures = u.failures }) a.after;
 }
 
 -- the length of a pass is that of the page as it was
-same_length : (s t : SourceState) (setup : Setup) (old cur : FrameState) (n : ℕ) (buf : List ℕ) → HasGiven s setup old n t cur buf → pass_length setup t.page cur.pass ≡ pass_length setup s.page old.pass
+same_length : (s t : SourceState) (setup : Setup) (old cur : FrameProgress) (n : ℕ) (buf : List ℕ) → HasGivenOfFrame s setup old n t cur buf → pass_length setup t.page cur.pass ≡ pass_length setup s.page old.pass
 same_length s t setup old cur n buf has =
     ap (λ (u : SourceState). pass_length setup u.page cur.pass) has.source.after ∙ ap (pass_length setup s.page) has.pass_is
 
 -- m bytes behind the n that were given
-pub gives_on : (s t u : SourceState) (setup : Setup) (old cur new : FrameState) (n m : ℕ) (buf piece after : List ℕ) → HasGiven s setup old n t cur buf → HasGiven t setup cur m u new piece → take n after ≡ take n buf → take m (drop n after) ≡ take m piece → HasGiven s setup old (n + m) u new after
+pub gives_on : (s t u : SourceState) (setup : Setup) (old cur new : FrameProgress) (n m : ℕ) (buf piece after : List ℕ) → HasGivenOfFrame s setup old n t cur buf → HasGivenOfFrame t setup cur m u new piece → take n after ≡ take n buf → take m (drop n after) ≡ take m piece → HasGivenOfFrame s setup old (n + m) u new after
 gives_on s t u setup old cur new n m buf piece after a b front back = record {
   source = goes_on s t u a.source b.source;
   frame = b.frame;
@@ -175,7 +175,7 @@ gives_on s t u setup old cur new n m buf piece after a b front back = record {
 }
 
 -- all that one read may give
-pub gives_all : (s t : SourceState) (setup : Setup) (old cur : FrameState) (n most : ℕ) (buf : List ℕ) → most ≡ min (length buf) setup.limit → n ≤ most → (n < most → is_over cur ≡ true) → 0 < n → HasGiven s setup old n t cur buf → GivesBytes s setup old n t cur buf
+pub gives_all : (s t : SourceState) (setup : Setup) (old cur : FrameProgress) (n most : ℕ) (buf : List ℕ) → most ≡ min (length buf) setup.limit → n ≤ most → (n < most → is_frame_over cur ≡ true) → 0 < n → HasGivenOfFrame s setup old n t cur buf → GivesFrameBytes s setup old n t cur buf
 gives_all s t setup old cur n most buf most_is within over some has =
     let all = pass_length setup s.page old.pass in
     let inside : given_in cur ≤ all = let e = same_length s t setup old cur n buf has in let h = given_inside t setup cur has.frame in omega arith in
@@ -199,7 +199,7 @@ gives_all s t setup old cur n most buf most_is within over some has =
     }
 
 -- a failure before the last byte
-pub fails_before_the_end : (s t : SourceState) (setup : Setup) (old cur : FrameState) (n : ℕ) (buf : List ℕ) → HasGiven s setup old n t cur buf → is_over cur ≡ false → given_in old < pass_length setup s.page old.pass
+pub fails_before_the_end : (s t : SourceState) (setup : Setup) (old cur : FrameProgress) (n : ℕ) (buf : List ℕ) → HasGivenOfFrame s setup old n t cur buf → is_frame_over cur ≡ false → given_in old < pass_length setup s.page old.pass
 fails_before_the_end s t setup old cur n buf has more =
     let same = same_length s t setup old cur n buf has in
     let less = more_to_give t setup cur has.frame has.counted more in

@@ -11,7 +11,7 @@ use Rattle.page_picture.specs.declared.scene.Mode.TheVariants.{Gray}
 use Rattle.scan_frames.specs.declared.setup.Packing.TheVariants.{Bits, Bytes, Words}
 use Rattle.scan_frames.specs.Line.{packing_of}
 use Rattle.scan_frames.specs.Tables.{IsSame}
-use Rattle.scan_frames.specs.Samples.{IsGrayDot, IsGrayRow, bit_in, bits_in, dark, gray_in, value_in}
+use Rattle.scan_frames.specs.Samples.{IsGrayDot, IsGrayRow, bit_in, bits_in, dark, gray_in, sample_in_row}
 use Rattle.scan_frames.proofs.Eights.{binary_same}
 
 -- the gray of a dot whose three samples are the same is that sample
@@ -96,7 +96,7 @@ bit_inside false v e = cc
 inside : (x n : ℕ) → x < n → nat_lt x n ≡ true
 inside x n less = grind (arith, nat_tests)
 
-value_in_gray : (scene : Scene) (row : List ℕ) (place k : ℕ) → scene.mode ≡ Gray → value_in scene row place k ≡ tone scene.depth scene.gamma (gray_in row place)
+value_in_gray : (scene : Scene) (row : List ℕ) (place k : ℕ) → scene.mode ≡ Gray → sample_in_row scene row place k ≡ tone scene.depth scene.gamma (gray_in row place)
 value_in_gray scene row place k mode =
     let by_mode = ap (λ (m : Mode). in_channel m scene.depth scene.channel_gamma k (tone scene.depth scene.gamma (brightness m (λ i. slice_index row (3 * place + i)) k))) mode in
     let at : 3 * place + 0 ≡ 3 * place = omega arith in
@@ -109,8 +109,8 @@ unfolding bit_in
 dark_is_bit scene row places k first x depth mode same even run less small =
     let v = slice_index row (3 * (first + x)) in
     let entry : slice_index scene.gamma (v / 256) ≡ v / 256 = same (v / 256) (omega (arith, small)) in
-    bit_inside (nat_lt x (length places)) (value_in scene row (slice_index places x) k) (inside x (length places) less)
-    ∙ (ap (λ p. value_in scene row p k) run
+    bit_inside (nat_lt x (length places)) (sample_in_row scene row (slice_index places x) k) (inside x (length places) less)
+    ∙ (ap (λ p. sample_in_row scene row p k) run
     ∙ (value_in_gray scene row (first + x) k mode
     ∙ (ap (tone scene.depth scene.gamma) (gray_of_even row (first + x) even)
     ∙ (tone_of_bits scene.depth scene.gamma v depth ∙ half_of_byte (slice_index scene.gamma (v / 256)) v entry))))

@@ -3,7 +3,7 @@ pub mod Seen
 pub mod Scans
 pub mod Frames
 pub mod Giving
-pub mod Shown
+pub mod FramesShow
 pub mod Zeros
 pub mod Passes
 pub mod Grays

@@ -21,8 +21,8 @@ use Rattle.page_picture.specs.declared.scene.DeviceKind.{DeviceKind}
 use Rattle.page_picture.specs.declared.scene.DeviceKind.TheVariants.{Flatbed, Hand, ThreePass, Feeder}
 use Rattle.scan_frames.specs.declared.setup.Setup.{Setup}
 use Rattle.scan_frames.specs.Line.{packing_of, line_byte, numbers, line_of, half}
-use Rattle.scan_frames.specs.Frames.{channel_in, color_at, format_at, format_of, takes_colors}
-use Rattle.scan_frames.specs.Samples.{HasSample, HasZeros, value_in, value_at, gray_in, bit_in, bits_in}
+use Rattle.scan_frames.specs.Frames.{channel_in, color_at, format_at, frame_format_of, takes_colors}
+use Rattle.scan_frames.specs.Samples.{HasSample, HasZeros, sample_in_row, value_at, gray_in, bit_in, bits_in}
 
 pub length-numbers : (f : ℕ → ℕ) (n : ℕ) → length (numbers f n) ≡ n
 length-numbers f n = omega (arith, length-joined (λ i. f i ∷ []) 1 n (λ i. refl))
@@ -103,12 +103,12 @@ binary-same f g zero same = refl
 binary-same f g (suc n) same = omega (arith, binary-same f g n same, same n)
 
 -- a line whose bytes are those of its bits
-pub line_from_bits : (order : ByteOrder) (c : ℕ) (scene : Scene) (row places : List ℕ) (channel w : ℕ) (at : ℕ → ℕ → ℕ) (line : List ℕ) (n : ℕ) → length line ≡ n → length places ≡ w → ((x : ℕ) → x < w → value_in scene row (slice_index places x) channel ≡ at x 0) → ((b : ℕ) → b < n → slice_index line b ≡ bits_in scene row places channel b) → line ≡ line_of Bits order c w at n
+pub line_from_bits : (order : ByteOrder) (c : ℕ) (scene : Scene) (row places : List ℕ) (channel w : ℕ) (at : ℕ → ℕ → ℕ) (line : List ℕ) (n : ℕ) → length line ≡ n → length places ≡ w → ((x : ℕ) → x < w → sample_in_row scene row (slice_index places x) channel ≡ at x 0) → ((b : ℕ) → b < n → slice_index line b ≡ bits_in scene row places channel b) → line ≡ line_of Bits order c w at n
 unfolding bits_in bit_in
 line_from_bits order c scene row places channel w at line n size count each bytes =
     let bit : (x : ℕ) → bit_in scene row places channel x ≡ (if nat_lt x w then at x 0 else 0) =
-    λ x. subst (λ (t : ℕ). (if nat_lt x t then value_in scene row (slice_index places x) channel else 0) ≡ (if nat_lt x w then at x 0 else 0)) (sym count)
-    (let P : Bool → Type 0 = λ t. (if t then value_in scene row (slice_index places x) channel else 0) ≡ (if t then at x 0 else 0) in
+    λ x. subst (λ (t : ℕ). (if nat_lt x t then sample_in_row scene row (slice_index places x) channel else 0) ≡ (if nat_lt x w then at x 0 else 0)) (sym count)
+    (let P : Bool → Type 0 = λ t. (if t then sample_in_row scene row (slice_index places x) channel else 0) ≡ (if t then at x 0 else 0) in
     elim (nat_lt x w) as (λ t. nat_lt x w ≡ t → P t) [ true ↦ λ e. each x (grind (arith, nat_tests)) | false ↦ λ e. refl ] refl)
     in
     line_is Bits order c w at n line size (λ b h. bytes b h ∙ binary-same (λ j. bit_in scene row places channel (8 * b + j)) (λ j. if nat_lt (8 * b + j) w then at (8 * b + j) 0 else 0) 8 (λ j. bit (8 * b + j)))
@@ -125,16 +125,16 @@ IsLine order format scene row columns line n =
 pub bits_line : (order : ByteOrder) (format : FrameFormat) (scene : Scene) (row places : List ℕ) (channel : ℕ) (columns : Columns) (line : List ℕ) (n : ℕ) → packing_of scene.depth ≡ Bits → channel ≡ channel_in format 0 → length line ≡ n → length places ≡ columns.count → ArePlaces columns places → ((b : ℕ) → b < n → slice_index line b ≡ bits_in scene row places channel b) → IsLine order format scene row columns line n
 bits_line order format scene row places channel columns line n is of size count each bytes =
     subst (λ (p : Packing). line ≡ line_of p order (channels_within format) columns.count (value_at scene format row columns) n) (sym is)
-    (line_from_bits order (channels_within format) scene row places channel columns.count (value_at scene format row columns) line n size count (λ x h. ap (λ (t : ℕ). value_in scene row t channel) (each x h) ∙ ap (value_in scene row (place_at columns x)) of) bytes)
+    (line_from_bits order (channels_within format) scene row places channel columns.count (value_at scene format row columns) line n size count (λ x h. ap (λ (t : ℕ). sample_in_row scene row t channel) (each x h) ∙ ap (sample_in_row scene row (place_at columns x)) of) bytes)
 
-pub samples_line : (order : ByteOrder) (format : FrameFormat) (scene : Scene) (row places : List ℕ) (columns : Columns) (line : List ℕ) (n : ℕ) (p : Packing) → p ≡ packing_of scene.depth → (p ≡ Bits → ⊥) → length line ≡ n → length places ≡ columns.count → ArePlaces columns places → ((x k : ℕ) → x < length places → k < channels_within format → HasSample p order line (channels_within format * x + k) (value_in scene row (slice_index places x) (channel_in format k))) → HasZeros (packing_of scene.depth) (channels_within format * columns.count) line → IsLine order format scene row columns line n
+pub samples_line : (order : ByteOrder) (format : FrameFormat) (scene : Scene) (row places : List ℕ) (columns : Columns) (line : List ℕ) (n : ℕ) (p : Packing) → p ≡ packing_of scene.depth → (p ≡ Bits → ⊥) → length line ≡ n → length places ≡ columns.count → ArePlaces columns places → ((x k : ℕ) → x < length places → k < channels_within format → HasSample p order line (channels_within format * x + k) (sample_in_row scene row (slice_index places x) (channel_in format k))) → HasZeros (packing_of scene.depth) (channels_within format * columns.count) line → IsLine order format scene row columns line n
 samples_line order format scene row places columns line n p is not size count each here zeros =
     subst (λ (p : Packing). line ≡ line_of p order (channels_within format) columns.count (value_at scene format row columns) n) is
     (line_from_samples p order format columns.count (value_at scene format row columns) line n size not
-    (λ x k h less. subst (λ (t : ℕ). HasSample p order line (channels_within format * x + k) (value_in scene row t (channel_in format k))) (each x h) (here x k (subst (λ (t : ℕ). x < t) (sym count) h) less)) (subst (λ (q : Packing). HasZeros q (channels_within format * columns.count) line) (sym is) zeros))
+    (λ x k h less. subst (λ (t : ℕ). HasSample p order line (channels_within format * x + k) (sample_in_row scene row t (channel_in format k))) (each x h) (here x k (subst (λ (t : ℕ). x < t) (sym count) h) less)) (subst (λ (q : Packing). HasZeros q (channels_within format * columns.count) line) (sym is) zeros))
 
 -- the same, where the samples were put by an equal format
-pub samples_line_by : (order : ByteOrder) (g format : FrameFormat) (scene : Scene) (row places : List ℕ) (columns : Columns) (line : List ℕ) (n : ℕ) (p : Packing) → g ≡ format → p ≡ packing_of scene.depth → (p ≡ Bits → ⊥) → length line ≡ n → length places ≡ columns.count → ArePlaces columns places → ((x k : ℕ) → x < length places → k < channels_within g → HasSample p order line (channels_within g * x + k) (value_in scene row (slice_index places x) (channel_in g k))) → HasZeros (packing_of scene.depth) (channels_within format * columns.count) line → IsLine order format scene row columns line n
+pub samples_line_by : (order : ByteOrder) (g format : FrameFormat) (scene : Scene) (row places : List ℕ) (columns : Columns) (line : List ℕ) (n : ℕ) (p : Packing) → g ≡ format → p ≡ packing_of scene.depth → (p ≡ Bits → ⊥) → length line ≡ n → length places ≡ columns.count → ArePlaces columns places → ((x k : ℕ) → x < length places → k < channels_within g → HasSample p order line (channels_within g * x + k) (sample_in_row scene row (slice_index places x) (channel_in g k))) → HasZeros (packing_of scene.depth) (channels_within format * columns.count) line → IsLine order format scene row columns line n
 samples_line_by order g format scene row places columns line n p same is not size count each here zeros =
     subst (λ (f : FrameFormat). HasZeros (packing_of scene.depth) (channels_within f * columns.count) line → IsLine order f scene row columns line n) same
     (λ z. samples_line order g scene row places columns line n p is not size count each here z) zeros
@@ -148,7 +148,7 @@ tone_bytes depth table v =
       | false ↦ elim (depth == 8) as (λ b. P false b) [ true ↦ λ e. refl | false ↦ λ e. cc ]
     ]
 
-gray_value : (scene : Scene) (row : List ℕ) (place k : ℕ) → packing_of scene.depth ≡ Bytes → scene.mode ≡ Gray → value_in scene row place k ≡ slice_index scene.gamma (gray_in row place / 256)
+gray_value : (scene : Scene) (row : List ℕ) (place k : ℕ) → packing_of scene.depth ≡ Bytes → scene.mode ≡ Gray → sample_in_row scene row place k ≡ slice_index scene.gamma (gray_in row place / 256)
 gray_value scene row place k is mode =
     ap (λ (m : Mode). in_channel m scene.depth scene.channel_gamma k (tone scene.depth scene.gamma (brightness scene.mode (λ i. slice_index row (3 * place + i)) k))) mode
     ∙ tone_bytes scene.depth scene.gamma (brightness scene.mode (λ i. slice_index row (3 * place + i)) k) is
@@ -158,7 +158,7 @@ gray_value scene row place k is mode =
 -- the frames of a gray picture are gray
 pub gray_format : (kind : DeviceKind) (s : Setup) (pass : ℕ) → s.scene.kind ≡ kind → s.scene.mode ≡ Gray → format_at s pass ≡ GrayFrame
 gray_format kind s pass of mode =
-    ap (λ (m : Mode). if takes_colors s.scene.kind m then color_at s.passes pass else format_of m) mode
+    ap (λ (m : Mode). if takes_colors s.scene.kind m then color_at s.passes pass else frame_format_of m) mode
     ∙ ap (λ (k : DeviceKind). if takes_colors k Gray then color_at s.passes pass else GrayFrame) of
     ∙ by_kind kind
   where
@@ -170,7 +170,7 @@ gray_format kind s pass of mode =
 
 pub grays_line : (order : ByteOrder) (format : FrameFormat) (scene : Scene) (row places : List ℕ) (columns : Columns) (line : List ℕ) (n : ℕ) → packing_of scene.depth ≡ Bytes → scene.mode ≡ Gray → format ≡ GrayFrame → length line ≡ n → length places ≡ columns.count → ArePlaces columns places → ((x : ℕ) → x < length places → slice_index line x ≡ slice_index scene.gamma (gray_in row (slice_index places x) / 256)) → HasZeros (packing_of scene.depth) (channels_within format * columns.count) line → IsLine order format scene row columns line n
 grays_line order format scene row places columns line n is mode gray size count each here zeros =
-    let at : (x k : ℕ) → x < length places → k < channels_within format → HasSample Bytes order line (channels_within format * x + k) (value_in scene row (slice_index places x) (channel_in format k)) =
+    let at : (x k : ℕ) → x < length places → k < channels_within format → HasSample Bytes order line (channels_within format * x + k) (sample_in_row scene row (slice_index places x) (channel_in format k)) =
     λ x k h less.
     let one : channels_within format ≡ 1 = ap channels_within gray in
     let first : k ≡ 0 = omega arith in

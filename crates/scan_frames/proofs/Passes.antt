@@ -1,7 +1,7 @@
 -- The frames of a scan are those of its passes.
 use Rattle.std.proofs.Common.{◌≡◌, ℕ, zero, suc, ◌+◌, ◌≤◌, Bool, true, false, List, [], ◌∷◌, length, arith, refl}
 use Rattle.std.specs.Prelude.{Some, slice_get, if◌then◌else◌}
-use Rattle.page_picture.specs.Page.{Sheet}
+use Rattle.page_picture.specs.Page.{PageView}
 use Rattle.page_picture.specs.Shows.{Frame}
 use Rattle.scan_frames.specs.declared.setup.Setup.{Setup}
 use Rattle.scan_frames.specs.Frames.{frame_of, frames_of, last_pass, takes_colors}
@@ -13,7 +13,7 @@ passes three f = if three then f 0 ∷ f 1 ∷ f 2 ∷ [] else f 0 ∷ []
 abbrev last : Bool → ℕ
 last three = if three then 2 else 0
 
-pub count : (setup : Setup) (page : Sheet) → length (frames_of setup page) ≡ last_pass setup + 1
+pub count : (setup : Setup) (page : PageView) → length (frames_of setup page) ≡ last_pass setup + 1
 count setup page =
     elim (takes_colors setup.scene.kind setup.scene.mode) as (λ t. length (passes t (frame_of setup page)) ≡ last t + 1) [ true ↦ refl | false ↦ refl ]
 
@@ -25,5 +25,5 @@ nth true f (suc (suc (suc pass))) h = absurd (omega arith)
 nth false f zero h = refl
 nth false f (suc pass) h = absurd (omega arith)
 
-pub each : (setup : Setup) (page : Sheet) (pass : ℕ) → pass ≤ last_pass setup → slice_get (frames_of setup page) pass ≡ Some (frame_of setup page pass)
+pub each : (setup : Setup) (page : PageView) (pass : ℕ) → pass ≤ last_pass setup → slice_get (frames_of setup page) pass ≡ Some (frame_of setup page pass)
 each setup page pass h = nth (takes_colors setup.scene.kind setup.scene.mode) (frame_of setup page) pass h

@@ -7,12 +7,12 @@ use Rattle.std.proofs.lemmas.List.{ext_get_or, get_or-take, get_or-drop, length-
 use Rattle.std.proofs.lemmas.Nat.{le-div, mul-le, mod-mul-add}
 use Rattle.std.proofs.Math.Nat.{div-mul-le_self}
 use Rattle.std.proofs.Math.Seq.{take-append_seam}
-use Rattle.netpbm.specs.FileText.{joined}
+use Rattle.netpbm.specs.FileText.{concat_up_to}
 use Rattle.netpbm.proofs.WritingLaws.{joined_at, length-joined}
 use Rattle.sane_fixed.specs.declared.byte_order.ByteOrder.{ByteOrder}
 use Rattle.sane_fixed.specs.declared.frame_format.FrameFormat.{FrameFormat}
 use Rattle.sane_fixed.specs.declared.frame_format.FrameFormat.TheVariants.{Gray as GrayFrame, Rgb as RgbFrame, Red as RedFrame, Green as GreenFrame, Blue as BlueFrame}
-use Rattle.page_picture.specs.Page.{Sheet, IsRow}
+use Rattle.page_picture.specs.Page.{PageView, IsRow}
 use Rattle.page_picture.specs.Extent.{top_of}
 use Rattle.page_picture.specs.Seen.{dot_at, seen_at, row_seen, column_seen}
 use Rattle.page_picture.specs.Tone.{tone, brightness, in_channel}
@@ -29,9 +29,9 @@ use Rattle.scan_frames.specs.declared.setup.Setup.{Setup}
 use Rattle.scan_frames.specs.Line.{packing_of, line_byte, numbers, line_of, half}
 use Rattle.scan_frames.specs.Frames.{width_of, channel_in, format_at, bytes_per_line, line_bytes}
 use Rattle.scan_frames.specs.Samples.{HasZeros, value_at}
-use Rattle.scan_frames.specs.Rows.{IsSeen, Sees, HasRow, IsWhiteBehind, TakesRows}
+use Rattle.scan_frames.specs.Rows.{IsSeen, SeesRow, HasRow, IsWhiteBehind, TakesRows}
 use Rattle.scan_frames.specs.Tables.{AreComposed}
-use Rattle.scan_frames.specs.Reading.{FrameState, IsFrame, IsCounted, given_in, row_of}
+use Rattle.scan_frames.specs.PassReading.{FrameProgress, IsFrame, IsLineCounted, given_in, row_of}
 use Rattle.scan_frames.specs.Buffers.{MakesLine, left_of_line}
 use Rattle.scan_frames.proofs.Lines.{length-numbers, numbers_at, sample_place, binary-same}
 use Rattle.scan_frames.proofs.Seen.{off_page}
@@ -100,7 +100,7 @@ brightness-same : (m : Mode) (f g : ℕ → ℕ) (k : ℕ) → k < 3 → ((i : �
 brightness-same Gray f g k h same = let a = same 0 (omega arith) in let b = same 1 (omega arith) in let c = same 2 (omega arith) in cc
 brightness-same Color f g k h same = same k h
 
-place_seen : (page : Sheet) (scene : Scene) (row : List ℕ) (x y i : ℕ) → IsSeen page (row_seen scene page.dpi y) row → i < 3 → slice_index row (3 * place_at (columns_of scene page.width page.dpi) x + i) ≡ seen_at page scene x y i
+place_seen : (page : PageView) (scene : Scene) (row : List ℕ) (x y i : ℕ) → IsSeen page (row_seen scene page.dpi y) row → i < 3 → slice_index row (3 * place_at (columns_of scene page.width page.dpi) x + i) ≡ seen_at page scene x y i
 place_seen page scene row x y i seen less =
     let d = column_seen scene page.dpi x in
     let r = row_seen scene page.dpi y in
@@ -110,31 +110,31 @@ place_seen page scene row x y i seen less =
       | false ↦ λ e. seen.each page.width i (omega arith) less ∙ (off_page page page.width r i (omega arith) ∙ sym (off_page page d r i (grind (arith, nat_tests))))
     ] refl
 
-value_seen : (page : Sheet) (scene : Scene) (format : FrameFormat) (row : List ℕ) (x y k : ℕ) → IsSeen page (row_seen scene page.dpi y) row → k < channels_within format → value_at scene format row (columns_of scene page.width page.dpi) x k ≡ sample_of page scene x y (channel_in format k)
+value_seen : (page : PageView) (scene : Scene) (format : FrameFormat) (row : List ℕ) (x y k : ℕ) → IsSeen page (row_seen scene page.dpi y) row → k < channels_within format → value_at scene format row (columns_of scene page.width page.dpi) x k ≡ sample_of page scene x y (channel_in format k)
 unfolding sample_of
 value_seen page scene format row x y k seen less =
     ap (λ v. in_channel scene.mode scene.depth scene.channel_gamma (channel_in format k) (tone scene.depth scene.gamma v)) (brightness-same scene.mode (λ i. slice_index row (3 * place_at (columns_of scene page.width page.dpi) x + i)) (seen_at page scene x y) (channel_in format k) (three_channels format k less) (λ i h. place_seen page scene row x y i seen h))
 
 -- the line that was made is the line of the frame
-pub made_line : (page : Sheet) (setup : Setup) (pass : ℕ) (row : List ℕ) (y n : ℕ) → IsSeen page (row_of setup page y) row → n ≡ bytes_per_line setup pass → line_of (packing_of setup.scene.depth) setup.order (channels_within (format_at setup pass)) (width_of setup) (value_at setup.scene (format_at setup pass) row (columns_of setup.scene page.width page.dpi)) n ≡ line_bytes setup page pass y
+pub made_line : (page : PageView) (setup : Setup) (pass : ℕ) (row : List ℕ) (y n : ℕ) → IsSeen page (row_of setup page y) row → n ≡ bytes_per_line setup pass → line_of (packing_of setup.scene.depth) setup.order (channels_within (format_at setup pass)) (width_of setup) (value_at setup.scene (format_at setup pass) row (columns_of setup.scene page.width page.dpi)) n ≡ line_bytes setup page pass y
 made_line page setup pass row y n seen size =
     let format = format_at setup pass in
     let at : ℕ → ℕ → ℕ = λ x k. sample_of page setup.scene x y (channel_in format k) in
     line-same (packing_of setup.scene.depth) setup.order format (width_of setup) (value_at setup.scene format row (columns_of setup.scene page.width page.dpi)) at n (λ x k h less. value_seen page setup.scene format row x y k seen less)
     ∙ ap (line_of (packing_of setup.scene.depth) setup.order (channels_within format) (width_of setup) at) size
 
-pub length-line_bytes : (setup : Setup) (page : Sheet) (pass y : ℕ) → length (line_bytes setup page pass y) ≡ bytes_per_line setup pass
+pub length-line_bytes : (setup : Setup) (page : PageView) (pass y : ℕ) → length (line_bytes setup page pass y) ≡ bytes_per_line setup pass
 length-line_bytes setup page pass y =
     length-line_of (packing_of setup.scene.depth) setup.order (channels_within (format_at setup pass)) (width_of setup) (λ x k. sample_of page setup.scene x y (channel_in (format_at setup pass) k)) (bytes_per_line setup pass)
 
-rows_grow : (setup : Setup) (page : Sheet) (y : ℕ) → 1 ≤ setup.scene.resolution → row_of setup page y ≤ row_of setup page (y + 1)
+rows_grow : (setup : Setup) (page : PageView) (y : ℕ) → 1 ≤ setup.scene.resolution → row_of setup page y ≤ row_of setup page (y + 1)
 rows_grow setup page y some =
     let n = (top_of setup.scene + y) * page.dpi in
     let more : (top_of setup.scene + (y + 1)) * page.dpi ≡ n + page.dpi = omega arith in
     let below : n / setup.scene.resolution * setup.scene.resolution ≤ (top_of setup.scene + (y + 1)) * page.dpi = omega (arith, div-mul-le_self n setup.scene.resolution) in
     le-div (n / setup.scene.resolution) ((top_of setup.scene + (y + 1)) * page.dpi) setup.scene.resolution (omega arith) below
 
-pub next_frame : (s t : SourceState) (setup : Setup) (f g : FrameState) (n : ℕ) → 1 ≤ setup.scene.resolution → IsFrame s setup f → f.made < f.height → t ≡ record s { given = n } → f.taken ≤ n → n ≤ s.page.height → IsWhiteBehind s.page.width g.row → Sees s (row_of setup s.page f.made) g.row → HasRow s (row_of setup s.page f.made) n g.row → n ≤ row_of setup s.page f.made + 1 → HasZeros (packing_of setup.scene.depth) (channels_within (format_at setup f.pass) * f.columns.count) g.line → g.line ≡ line_of (packing_of setup.scene.depth) setup.order (channels_within (format_at setup f.pass)) f.columns.count (value_at setup.scene (format_at setup f.pass) g.row f.columns) (length f.line) → g.pass ≡ f.pass → g.columns ≡ f.columns → g.tables ≡ f.tables → g.height ≡ f.height → g.taken ≡ n → g.made ≡ f.made + 1 → g.left ≡ length g.line → MakesLine s setup f t g
+pub next_frame : (s t : SourceState) (setup : Setup) (f g : FrameProgress) (n : ℕ) → 1 ≤ setup.scene.resolution → IsFrame s setup f → f.made < f.height → t ≡ record s { given = n } → f.taken ≤ n → n ≤ s.page.height → IsWhiteBehind s.page.width g.row → SeesRow s (row_of setup s.page f.made) g.row → HasRow s (row_of setup s.page f.made) n g.row → n ≤ row_of setup s.page f.made + 1 → HasZeros (packing_of setup.scene.depth) (channels_within (format_at setup f.pass) * f.columns.count) g.line → g.line ≡ line_of (packing_of setup.scene.depth) setup.order (channels_within (format_at setup f.pass)) f.columns.count (value_at setup.scene (format_at setup f.pass) g.row f.columns) (length f.line) → g.pass ≡ f.pass → g.columns ≡ f.columns → g.tables ≡ f.tables → g.height ≡ f.height → g.taken ≡ n → g.made ≡ f.made + 1 → g.left ≡ length g.line → MakesLine s setup f t g
 next_frame s t setup f g n some is more after further within white sees has behind zeros bytes gp gc gs gh gt gm gf =
     let grows = rows_grow setup s.page f.made some in
     let next : row_of setup s.page g.made ≡ row_of setup s.page (f.made + 1) = ap (row_of setup s.page) gm in
@@ -178,14 +178,14 @@ next_frame s t setup f g n some is more after further within white sees has behi
     }
 
 -- a line that shows the same row of the page is the same
-line_again : (setup : Setup) (page : Sheet) (pass y z : ℕ) → row_of setup page y ≡ row_of setup page z → line_bytes setup page pass y ≡ line_bytes setup page pass z
+line_again : (setup : Setup) (page : PageView) (pass y z : ℕ) → row_of setup page y ≡ row_of setup page z → line_bytes setup page pass y ≡ line_bytes setup page pass z
 unfolding sample_of
 line_again setup page pass y z same =
     let format = format_at setup pass in
     let scene = setup.scene in
     ap (λ (r : ℕ). line_of (packing_of scene.depth) setup.order (channels_within format) (width_of setup) (λ x k. in_channel scene.mode scene.depth scene.channel_gamma (channel_in format k) (tone scene.depth scene.gamma (brightness scene.mode (dot_at page (column_seen scene page.dpi x) r) (channel_in format k)))) (bytes_per_line setup pass)) same
 
-pub frame_again : (s : SourceState) (setup : Setup) (f : FrameState) → 1 ≤ setup.scene.resolution → IsFrame s setup f → f.made < f.height → 0 < f.made → row_of setup s.page (f.made - 1) ≡ row_of setup s.page f.made → MakesLine s setup f s (record f { made = f.made + 1; left = length f.line })
+pub frame_again : (s : SourceState) (setup : Setup) (f : FrameProgress) → 1 ≤ setup.scene.resolution → IsFrame s setup f → f.made < f.height → 0 < f.made → row_of setup s.page (f.made - 1) ≡ row_of setup s.page f.made → MakesLine s setup f s (record f { made = f.made + 1; left = length f.line })
 frame_again s setup f some is more begun same =
     let grows = rows_grow setup s.page f.made some in
     let last : f.made ≡ f.made + 1 - 1 = omega arith in
@@ -216,19 +216,19 @@ frame_again s setup f some is more begun same =
 -- ---- what is given
 
 -- a part of one of many lists of one size
-pub joined_part : (f : ℕ → List ℕ) (size n i a k : ℕ) → ((i : ℕ) → length (f i) ≡ size) → i < n → a + k ≤ size → take k (drop (i * size + a) (joined f n)) ≡ take k (drop a (f i))
+pub joined_part : (f : ℕ → List ℕ) (size n i a k : ℕ) → ((i : ℕ) → length (f i) ≡ size) → i < n → a + k ≤ size → take k (drop (i * size + a) (concat_up_to f n)) ≡ take k (drop a (f i))
 joined_part f size n i a k all inside fits =
     let whole = length-joined f size n all in
     let rows : (i + 1) * size ≤ n * size = mul-le (i + 1) size n size (omega arith) (omega arith) in
     let more : (i + 1) * size ≡ i * size + size = omega arith in
-    let left : length (take k (drop (i * size + a) (joined f n))) ≡ k = length-take-le k (drop (i * size + a) (joined f n)) (omega (arith, length-drop (i * size + a) (joined f n))) in
+    let left : length (take k (drop (i * size + a) (concat_up_to f n))) ≡ k = length-take-le k (drop (i * size + a) (concat_up_to f n)) (omega (arith, length-drop (i * size + a) (concat_up_to f n))) in
     let right : length (take k (drop a (f i))) ≡ k = length-take-le k (drop a (f i)) (omega (arith, length-drop a (f i), all i)) in
-    ext_get_or 0 (take k (drop (i * size + a) (joined f n))) (take k (drop a (f i))) (left ∙ sym right) (λ j h.
+    ext_get_or 0 (take k (drop (i * size + a) (concat_up_to f n))) (take k (drop a (f i))) (left ∙ sym right) (λ j h.
     let less : j < k = omega arith in
     let place : i * size + a + j ≡ i * size + (a + j) = omega arith in
-    get_or-take k (drop (i * size + a) (joined f n)) j 0 less
-    ∙ (get_or-drop (i * size + a) (joined f n) j 0
-    ∙ (ap (λ (p : ℕ). get_or (joined f n) p 0) place
+    get_or-take k (drop (i * size + a) (concat_up_to f n)) j 0 less
+    ∙ (get_or-drop (i * size + a) (concat_up_to f n) j 0
+    ∙ (ap (λ (p : ℕ). get_or (concat_up_to f n) p 0) place
     ∙ (joined_at f size n i (a + j) all inside (omega arith)
     ∙ sym (get_or-take k (drop a (f i)) j 0 less ∙ get_or-drop a (f i) j 0)))))
 
@@ -245,7 +245,7 @@ lines_and_front m b left some fits =
     omega arith
 
 -- inside a line what is left of it is what was not given
-pub left_in_line : (f : FrameState) → IsCounted f → 0 < f.left → f.left ≡ left_of_line f
+pub left_in_line : (f : FrameProgress) → IsLineCounted f → 0 < f.left → f.left ≡ left_of_line f
 left_in_line f is some =
     let some_made : 1 ≤ f.made = elim (cases_lt 0 f.made) as (λ _. 1 ≤ f.made) [ inl more ↦ more | inr none ↦ absurd (let e : f.left ≡ 0 = is.none (omega arith) in omega arith) ] in
     let less : f.left < length f.line = is.begun some_made in
@@ -254,14 +254,14 @@ left_in_line f is some =
     omega arith
 
 -- between two lines the whole next one is left
-pub left_whole : (f : FrameState) → f.left ≡ 0 → 0 < length f.line → length f.line ≡ left_of_line f
+pub left_whole : (f : FrameProgress) → f.left ≡ 0 → 0 < length f.line → length f.line ≡ left_of_line f
 left_whole f none some =
     let whole : given_in f ≡ f.made * length f.line + 0 = omega arith in
     let part : given_in f % length f.line ≡ 0 = ap (λ (t : ℕ). t % length f.line) whole ∙ mod-mul-add f.made (length f.line) 0 some in
     omega arith
 
 -- a whole line that was made and not given
-pub made_not_given : (f g : FrameState) → f.left ≡ 0 → length g.line ≡ length f.line → g.made ≡ f.made + 1 → g.left ≡ length g.line → given_in g ≡ given_in f
+pub made_not_given : (f g : FrameProgress) → f.left ≡ 0 → length g.line ≡ length f.line → g.made ≡ f.made + 1 → g.left ≡ length g.line → given_in g ≡ given_in f
 made_not_given f g none line made left =
     let b = length f.line in
     let e : (f.made + 1) * b ≡ f.made * b + b = omega arith in

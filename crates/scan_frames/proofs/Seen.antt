@@ -3,7 +3,7 @@ use Rattle.std.proofs.Common.{◌≡◌, ℕ, ◌<◌, ◌≤◌, ◌+◌, ◌-�
 use Rattle.std.specs.Prelude.{nat_lt, ◌&&◌, slice_index, if◌then◌else◌}
 use Rattle.std.proofs.lemmas.Bool.{cases_lt}
 use Rattle.std.proofs.lemmas.Bool.Decides.{nat_tests}
-use Rattle.page_picture.specs.Page.{Sheet, IsRow, sheet_at}
+use Rattle.page_picture.specs.Page.{PageView, IsRow, page_sample_at}
 use Rattle.page_picture.specs.Seen.{dot_at}
 use Rattle.page_picture.specs.Source.{SourceState}
 use Rattle.scan_frames.specs.Rows.{KnowsRow, KeepsRow, IsWhiteBehind, IsSeen}
@@ -15,19 +15,19 @@ has_row s given target before after e known inside keeps steady =
     subst (λ (t : ℕ). IsRow s.page t before) last (known steady inside (omega arith)))
 
 -- a dot of the page, or white
-on_page : (p : Sheet) (c height k : ℕ) → c < p.width → height < p.height → dot_at p c height k ≡ sheet_at p c height k
+on_page : (p : PageView) (c height k : ℕ) → c < p.width → height < p.height → dot_at p c height k ≡ page_sample_at p c height k
 on_page p c height k a b =
-    let P : Bool → Bool → Type 0 = λ s t. (if s && t then sheet_at p c height k else 65535) ≡ sheet_at p c height k in
+    let P : Bool → Bool → Type 0 = λ s t. (if s && t then page_sample_at p c height k else 65535) ≡ page_sample_at p c height k in
     let left : nat_lt c p.width ≡ true = grind (arith, nat_tests) in
     let right : nat_lt height p.height ≡ true = grind (arith, nat_tests) in
     subst (λ s. P s (nat_lt height p.height)) (sym left) (subst (λ t. P true t) (sym right) refl)
 
-pub off_page : (p : Sheet) (c height k : ℕ) → p.width ≤ c → dot_at p c height k ≡ 65535
+pub off_page : (p : PageView) (c height k : ℕ) → p.width ≤ c → dot_at p c height k ≡ 65535
 off_page p c height k a =
     let left : nat_lt c p.width ≡ false = grind (arith, nat_tests) in
-    subst (λ s. (if s && nat_lt height p.height then sheet_at p c height k else 65535) ≡ 65535) (sym left) refl
+    subst (λ s. (if s && nat_lt height p.height then page_sample_at p c height k else 65535) ≡ 65535) (sym left) refl
 
-pub sees_row : (p : Sheet) (height : ℕ) (row : List ℕ) → height < p.height → IsRow p height row → IsWhiteBehind p.width row → IsSeen p height row
+pub sees_row : (p : PageView) (height : ℕ) (row : List ℕ) → height < p.height → IsRow p height row → IsWhiteBehind p.width row → IsSeen p height row
 sees_row p height row inside is white = record {
   each = λ c k most less.
       elim (cases_lt c p.width) as (λ _. slice_index row (3 * c + k) ≡ dot_at p c height k) [

@@ -1,17 +1,17 @@
 -- The buffers of a frame, step by step.
 use Rattle.std.specs.Prelude.{ℕ, ◌+◌, ◌-◌, ◌%◌, ◌<◌, ◌≡◌, ◌==◌, ◌&&◌, Bool, true, List, length, take, drop, min}
-use Rattle.page_picture.specs.Page.{Sheet}
+use Rattle.page_picture.specs.Page.{PageView}
 use Rattle.page_picture.specs.Columns.{columns_of}
 use Rattle.page_picture.specs.Source.{SourceState}
 use Rattle.scan_frames.specs.Frames.{bytes_per_line, payload}
 use Rattle.scan_frames.specs.Samples.{IsZeroFrom}
 use Rattle.scan_frames.specs.Tables.{AreComposed}
 use Rattle.scan_frames.specs.Rows.{IsWhiteBehind, TakesRows}
-use Rattle.scan_frames.specs.Reading.{FrameState, IsFrame, IsCounted, given_in}
+use Rattle.scan_frames.specs.PassReading.{FrameProgress, IsFrame, IsLineCounted, given_in}
 use Rattle.scan_frames.specs.declared.buffers.Buffers.{Buffers}
 use Rattle.scan_frames.specs.declared.setup.Setup.{Setup}
 
-abbrev pub state_of : Buffers → FrameState
+abbrev pub state_of : Buffers → FrameProgress
 state_of b = record {
   pass = b.pass;
   columns = b.columns;
@@ -25,7 +25,7 @@ state_of b = record {
 }
 
 -- buffers for the frame of a pass, before its first row
-pub record IsFresh (page : Sheet) (setup : Setup) (pass height : ℕ) (f : FrameState) : Type 0 where
+pub record IsNewFrame (page : PageView) (setup : Setup) (pass height : ℕ) (f : FrameProgress) : Type 0 where
   pub pass_is : f.pass ≡ pass
   pub columns : f.columns ≡ columns_of setup.scene page.width page.dpi
   pub tables : AreComposed setup.scene f.tables
@@ -38,7 +38,7 @@ pub record IsFresh (page : Sheet) (setup : Setup) (pass height : ℕ) (f : Frame
   pub left : f.left ≡ 0
 
 -- the next line was made, and nothing of it given
-pub record MakesLine (s : SourceState) (setup : Setup) (old : FrameState) (t : SourceState) (new : FrameState) : Type 0 where
+pub record MakesLine (s : SourceState) (setup : Setup) (old : FrameProgress) (t : SourceState) (new : FrameProgress) : Type 0 where
   pub source : TakesRows s t
   pub frame : IsFrame t setup new
   pub pass_is : new.pass ≡ old.pass
@@ -47,21 +47,21 @@ pub record MakesLine (s : SourceState) (setup : Setup) (old : FrameState) (t : S
   pub left : new.left ≡ length new.line
 
 -- no line was made
-pub record KeepsCount (old new : FrameState) : Type 0 where
+pub record KeepsCount (old new : FrameProgress) : Type 0 where
   pub line : new.line ≡ old.line
   pub made : new.made ≡ old.made
   pub left : new.left ≡ old.left
 
 -- the bytes that are left of the line that is given next
-abbrev pub left_of_line : FrameState → ℕ
+abbrev pub left_of_line : FrameProgress → ℕ
 left_of_line f = length f.line - given_in f % length f.line
 
 -- all lines were made and given
-abbrev pub is_over : FrameState → Bool
-is_over f = (f.left == 0) && (f.made == f.height)
+abbrev pub is_frame_over : FrameProgress → Bool
+is_frame_over f = (f.left == 0) && (f.made == f.height)
 
 -- some byte of the last line is left
-pub record HasBytes (s : SourceState) (setup : Setup) (old : FrameState) (t : SourceState) (new : FrameState) : Type 0 where
+pub record HasLineBytes (s : SourceState) (setup : Setup) (old : FrameProgress) (t : SourceState) (new : FrameProgress) : Type 0 where
   pub source : TakesRows s t
   pub frame : IsFrame t setup new
   pub pass_is : new.pass ≡ old.pass
@@ -71,22 +71,22 @@ pub record HasBytes (s : SourceState) (setup : Setup) (old : FrameState) (t : So
   pub made : 0 < new.made
 
 -- n bytes of the last line were given
-pub record GivesLine (old : FrameState) (n : ℕ) (new : FrameState) (buf : List ℕ) : Type 0 where
+pub record GivesLine (old : FrameProgress) (n : ℕ) (new : FrameProgress) (buf : List ℕ) : Type 0 where
   pub count : n ≡ min old.left (length buf)
   pub bytes : take n buf ≡ take n (drop (length old.line - old.left) old.line)
   pub after : new ≡ record old { left = old.left - n }
 
 -- n bytes of the frame were written, behind those that were given before
-pub record HasGiven (s : SourceState) (setup : Setup) (old : FrameState) (n : ℕ) (t : SourceState) (new : FrameState) (buf : List ℕ) : Type 0 where
+pub record HasGivenOfFrame (s : SourceState) (setup : Setup) (old : FrameProgress) (n : ℕ) (t : SourceState) (new : FrameProgress) (buf : List ℕ) : Type 0 where
   pub source : TakesRows s t
   pub frame : IsFrame t setup new
-  pub counted : IsCounted new
+  pub counted : IsLineCounted new
   pub pass_is : new.pass ≡ old.pass
   pub further : given_in new ≡ given_in old + n
   pub bytes : s.steady ≡ true → take n buf ≡ take n (drop (given_in old) (payload setup s.page old.pass))
 
 -- they are all that is left of a line, but no more than the buffer holds
-pub record GivesOfLine (s : SourceState) (setup : Setup) (old : FrameState) (n : ℕ) (t : SourceState) (new : FrameState) (buf : List ℕ) : Type 0 where
+pub record GivesOfLine (s : SourceState) (setup : Setup) (old : FrameProgress) (n : ℕ) (t : SourceState) (new : FrameProgress) (buf : List ℕ) : Type 0 where
   pub count : n ≡ min (left_of_line old) (length buf)
   pub some : 0 < n
-  pub given : HasGiven s setup old n t new buf
+  pub given : HasGivenOfFrame s setup old n t new buf

@@ -1,10 +1,10 @@
 -- The frames that a scan gives: what is told of each, and its bytes (SANE Standard 1.06, "Scan parameters").
 use Rattle.std.specs.Prelude.{ℕ, ◌+◌, ◌*◌, ◌≤◌, ◌≡◌, ◌==◌, ◌⊎◌, ◌&&◌, Bool, true, false, if◌then◌else◌, Option, Some, None, List, [], ◌∷◌}
-use Rattle.netpbm.specs.FileText.{joined}
+use Rattle.netpbm.specs.FileText.{concat_up_to}
 use Rattle.sane_fixed.specs.declared.frame_format.FrameFormat.{FrameFormat}
 use Rattle.sane_fixed.specs.declared.frame_format.FrameFormat.TheVariants.{Gray as GrayFrame, Rgb as RgbFrame, Red as RedFrame, Green as GreenFrame, Blue as BlueFrame}
 use Rattle.sane_fixed.specs.declared.params.Params.{Params}
-use Rattle.page_picture.specs.Page.{Sheet}
+use Rattle.page_picture.specs.Page.{PageView}
 use Rattle.page_picture.specs.Extent.{across, down, is_side, shows_depth}
 use Rattle.page_picture.specs.Meaning.{sample_of}
 use Rattle.page_picture.specs.Shows.{Frame, channels_within}
@@ -33,14 +33,14 @@ width_of s = across s.scene.kind s.scene
 abbrev pub height_on : Setup → ℕ → ℕ → ℕ
 height_on s rows dpi = down s.scene.kind rows dpi s.scene
 
-abbrev pub height_of : Setup → Sheet → ℕ
+abbrev pub height_of : Setup → PageView → ℕ
 height_of s page = height_on s page.height page.dpi
 
 -- whether the scene means a picture on the page
 abbrev pub has_picture_on : Setup → ℕ → ℕ → Bool
 has_picture_on s rows dpi = shows_depth s.scene.mode s.scene.depth && (is_side (width_of s) && is_side (height_on s rows dpi))
 
-abbrev pub has_picture : Setup → Sheet → Bool
+abbrev pub has_picture : Setup → PageView → Bool
 has_picture s page = has_picture_on s page.height page.dpi
 
 -- a three-pass scanner takes colors one by one, in three passes
@@ -68,12 +68,12 @@ color_at Brg pass = nth_color BlueFrame RedFrame GreenFrame pass
 color_at Bgr pass = nth_color BlueFrame GreenFrame RedFrame pass
 
 -- the format of a frame that shows the whole picture
-abbrev pub format_of : Mode → FrameFormat
-format_of Gray = GrayFrame
-format_of Color = RgbFrame
+abbrev pub frame_format_of : Mode → FrameFormat
+frame_format_of Gray = GrayFrame
+frame_format_of Color = RgbFrame
 
 abbrev pub format_at : Setup → ℕ → FrameFormat
-format_at s pass = if takes_colors s.scene.kind s.scene.mode then color_at s.passes pass else format_of s.scene.mode
+format_at s pass = if takes_colors s.scene.kind s.scene.mode then color_at s.passes pass else frame_format_of s.scene.mode
 
 -- the picture's channel that stands as number k in a frame of the format
 abbrev pub channel_in : FrameFormat → ℕ → ℕ
@@ -87,24 +87,24 @@ abbrev pub bytes_per_line : Setup → ℕ → ℕ
 bytes_per_line s pass = line_size (packing_of s.scene.depth) (channels_within (format_at s pass)) (width_of s + s.loss)
 
 -- line y of a pass
-abbrev pub line_bytes : Setup → Sheet → ℕ → ℕ → List ℕ
+abbrev pub line_bytes : Setup → PageView → ℕ → ℕ → List ℕ
 line_bytes s page pass y =
     line_of (packing_of s.scene.depth) s.order (channels_within (format_at s pass)) (width_of s)
     (λ x k. sample_of page s.scene x y (channel_in (format_at s pass) k)) (bytes_per_line s pass)
 
 -- the bytes of a pass, and their number
-abbrev pub payload : Setup → Sheet → ℕ → List ℕ
-payload s page pass = joined (line_bytes s page pass) (height_of s page)
+abbrev pub payload : Setup → PageView → ℕ → List ℕ
+payload s page pass = concat_up_to (line_bytes s page pass) (height_of s page)
 
-abbrev pub pass_length : Setup → Sheet → ℕ → ℕ
+abbrev pub pass_length : Setup → PageView → ℕ → ℕ
 pass_length s page pass = height_of s page * bytes_per_line s pass
 
 -- a hand scanner does not know its lines before the end
-abbrev pub lines_told : DeviceKind → ℕ → Option ℕ
-lines_told Flatbed lines = Some lines
-lines_told Hand _ = None
-lines_told ThreePass lines = Some lines
-lines_told Feeder lines = Some lines
+abbrev pub lines_in_params : DeviceKind → ℕ → Option ℕ
+lines_in_params Flatbed lines = Some lines
+lines_in_params Hand _ = None
+lines_in_params ThreePass lines = Some lines
+lines_in_params Feeder lines = Some lines
 
 -- what is told of a pass, with 0 in the places of width, lines and bytes where there is no picture
 abbrev pub if_picture : Bool → ℕ → ℕ
@@ -116,7 +116,7 @@ params_on s rows dpi pass = record {
   last_frame = last_pass s == pass;
   bytes_per_line = if_picture (has_picture_on s rows dpi) (bytes_per_line s pass);
   pixels_per_line = if_picture (has_picture_on s rows dpi) (width_of s);
-  lines = if has_picture_on s rows dpi then lines_told s.scene.kind (height_on s rows dpi) else Some 0;
+  lines = if has_picture_on s rows dpi then lines_in_params s.scene.kind (height_on s rows dpi) else Some 0;
   depth = s.scene.depth;
 }
 
@@ -131,10 +131,10 @@ params_without s pass = record {
   depth = s.scene.depth;
 }
 
-abbrev pub params_at : Setup → Sheet → ℕ → Params
+abbrev pub params_at : Setup → PageView → ℕ → Params
 params_at s page pass = params_on s page.height page.dpi pass
 
-abbrev pub frame_of : Setup → Sheet → ℕ → Frame
+abbrev pub frame_of : Setup → PageView → ℕ → Frame
 frame_of s page pass = record {
   params = params_at s page pass;
   order = s.order;
@@ -142,7 +142,7 @@ frame_of s page pass = record {
 }
 
 -- all frames of a scan, in the order of its passes
-abbrev pub frames_of : Setup → Sheet → List Frame
+abbrev pub frames_of : Setup → PageView → List Frame
 frames_of s page =
     if takes_colors s.scene.kind s.scene.mode
     then frame_of s page 0 ∷ frame_of s page 1 ∷ frame_of s page 2 ∷ []

@@ -4,6 +4,6 @@ pub mod Filler
 pub mod Samples
 pub mod Tables
 pub mod Rows
-pub mod Reading
+pub mod PassReading
 pub mod Buffers
-pub mod Answered
+pub mod StatusOf

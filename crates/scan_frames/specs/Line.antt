@@ -1,6 +1,6 @@
 -- The bytes of a line of a frame (SANE Standard 1.06, "Frame Formats").
 use Rattle.std.specs.Prelude.{ℕ, ◌+◌, ◌*◌, ◌/◌, ◌%◌, nat_lt, ◌==◌, if◌then◌else◌, List, [], ◌∷◌}
-use Rattle.netpbm.specs.FileText.{joined, bits_byte}
+use Rattle.netpbm.specs.FileText.{concat_up_to, bits_byte}
 use Rattle.sane_fixed.specs.declared.byte_order.ByteOrder.{ByteOrder}
 use Rattle.sane_fixed.specs.declared.byte_order.ByteOrder.TheVariants.{Little, Big}
 use Rattle.scan_frames.specs.declared.setup.Packing.{Packing}
@@ -29,7 +29,7 @@ line_byte Words order channels width at j =
 
 -- the numbers f 0, f 1 and so on, n of them
 abbrev pub numbers : (ℕ → ℕ) → ℕ → List ℕ
-numbers f n = joined (λ i. f i ∷ []) n
+numbers f n = concat_up_to (λ i. f i ∷ []) n
 
 -- such a line of `size` bytes
 unfoldable pub line_of : Packing → ByteOrder → ℕ → ℕ → (ℕ → ℕ → ℕ) → ℕ → List ℕ

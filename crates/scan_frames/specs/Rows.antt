@@ -1,6 +1,6 @@
 -- The row of a page that a line shows.
 use Rattle.std.specs.Prelude.{ℕ, ◌+◌, ◌-◌, ◌*◌, ◌<◌, ◌≤◌, ◌≡◌, true, false, List, length, slice_index}
-use Rattle.page_picture.specs.Page.{Sheet, IsRow}
+use Rattle.page_picture.specs.Page.{PageView, IsRow}
 use Rattle.page_picture.specs.Seen.{dot_at}
 use Rattle.page_picture.specs.Source.{SourceState, CountsFailure}
 
@@ -11,7 +11,7 @@ pub record TakesRows (old new : SourceState) : Type 0 where
 
 -- rows were taken, then a call failed, of a source that can fail: that was counted, and nothing else happened
 pub record StopsFailing (old new : SourceState) : Type 0 where
-  pub not_firm : old.firm ≡ false
+  pub fallible : old.infallible ≡ false
   pub further : old.given ≤ new.given
   pub counted : CountsFailure old.failures new.failures
   pub after : new ≡ record old { given = new.given; failures = new.failures }
@@ -27,11 +27,11 @@ pub record IsWhiteBehind (width : ℕ) (row : List ℕ) : Type 0 where
   pub white : (k : ℕ) → k < 3 → slice_index row (3 * width + k) ≡ 65535
 
 -- the row holds what is seen at that height, on the page or off it
-pub record IsSeen (page : Sheet) (height : ℕ) (row : List ℕ) : Type 0 where
+pub record IsSeen (page : PageView) (height : ℕ) (row : List ℕ) : Type 0 where
   pub each : (c k : ℕ) → c ≤ page.width → k < 3 → slice_index row (3 * c + k) ≡ dot_at page c height k
 
-abbrev pub Sees : SourceState → ℕ → List ℕ → Type 0
-Sees s target row = s.steady ≡ true → IsSeen s.page target row
+abbrev pub SeesRow : SourceState → ℕ → List ℕ → Type 0
+SeesRow s target row = s.steady ≡ true → IsSeen s.page target row
 
 -- where row `target` is on the page and rows were taken, this is the last of them
 abbrev pub KnowsRow : SourceState → ℕ → List ℕ → Type 0

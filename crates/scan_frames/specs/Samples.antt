@@ -18,10 +18,10 @@ HasSample Bytes order line i v = slice_index line i ≡ v
 HasSample Words order line i v = (slice_index line (2 * i) ≡ half order 0 v) × (slice_index line (2 * i + 1) ≡ half order 1 v)
 
 -- how many bytes the first i samples of a line take
-abbrev pub end_of : Packing → ℕ → ℕ
-end_of Bits i = 0
-end_of Bytes i = i
-end_of Words i = 2 * i
+abbrev pub sample_end : Packing → ℕ → ℕ
+sample_end Bits i = 0
+sample_end Bytes i = i
+sample_end Words i = 2 * i
 
 -- all bytes from there on are zero
 abbrev pub IsZeroFrom : ℕ → List ℕ → Type 0
@@ -50,13 +50,13 @@ abbrev pub IsGrayRow : List ℕ → Type 0
 IsGrayRow row = (p : ℕ) → 3 * p + 2 < length row → IsGrayDot row p
 
 -- the sample that a scene makes of a place in a row, in a channel of the picture
-abbrev pub value_in : Scene → List ℕ → ℕ → ℕ → ℕ
-value_in scene row place k =
+abbrev pub sample_in_row : Scene → List ℕ → ℕ → ℕ → ℕ
+sample_in_row scene row place k =
     in_channel scene.mode scene.depth scene.channel_gamma k (tone scene.depth scene.gamma (brightness scene.mode (λ i. slice_index row (3 * place + i)) k))
 
 -- the sample that stands as number k at column x of a frame's line
 abbrev pub value_at : Scene → FrameFormat → List ℕ → Columns → ℕ → ℕ → ℕ
-value_at scene format row columns x k = value_in scene row (place_at columns x) (channel_in format k)
+value_at scene format row columns x k = sample_in_row scene row (place_at columns x) (channel_in format k)
 
 -- one of a sample below half of the greatest, and zero of any other
 abbrev pub dark : ℕ → ℕ
@@ -68,7 +68,7 @@ darks_from row i = binary (λ j. dark (slice_index row (i + 3 * j))) 8
 
 -- the bit of a column, zero behind the last
 unfoldable pub bit_in : Scene → List ℕ → List ℕ → ℕ → ℕ → ℕ
-bit_in scene row places k x = if nat_lt x (length places) then value_in scene row (slice_index places x) k else 0
+bit_in scene row places k x = if nat_lt x (length places) then sample_in_row scene row (slice_index places x) k else 0
 
 -- the byte of eight columns
 unfoldable pub bits_in : Scene → List ℕ → List ℕ → ℕ → ℕ → ℕ

@@ -4,15 +4,15 @@ ghost use Rattle.std.specs.Prelude.{◌≡◌, ◌==◌, ◌≤◌, ◌<◌, ◌
 ghost use Rattle.scan_frames.specs.Rows.{IsWhiteBehind, StopsFailing};
 ghost use Rattle.scan_frames.specs.Samples.{IsZeroFrom};
 ghost use Rattle.scan_frames.specs.Frames.{IsSetup};
-ghost use Rattle.scan_frames.specs.Reading.{IsFrame, IsCounted, ReadsFrame, row_of};
-ghost use Rattle.scan_frames.specs.Buffers.{IsFresh, MakesLine, KeepsCount, HasBytes, GivesLine, GivesOfLine, is_over, state_of};
+ghost use Rattle.scan_frames.specs.PassReading.{IsFrame, IsLineCounted, ReadsFrame, row_of};
+ghost use Rattle.scan_frames.specs.Buffers.{IsNewFrame, MakesLine, KeepsCount, HasLineBytes, GivesLine, GivesOfLine, is_frame_over, state_of};
 
 use crate::faults::ReadEnd;
+use crate::gamma_tables::color_tables;
 use crate::line::make_line;
 use crate::pass::bytes_per_line;
 use crate::rows::see;
 use crate::setup::Setup;
-use crate::tables::color_tables;
 use page_picture::{ColumnMap, PageSource, SourceFault};
 use sane_fixed::NoMem;
 use std::alloc::{AllocError, Global};
@@ -62,7 +62,7 @@ pub fn reserve<S: PageSource>(
     height: u32,
 ) -> Result<Buffers, NoMem>
     requires { IsSetup setup.now }
-    ensures { IfOk result (λ b. IsFresh (S.source source.now).page setup.now pass height (state_of b)) }
+    ensures { IfOk result (λ b. IsNewFrame (S.source source.now).page setup.now pass height (state_of b)) }
 {
     let (width, _) = source.size();
     let columns = ColumnMap::new(alloc, &setup.scene, width, source.dpi())?;
@@ -161,11 +161,11 @@ fn make_ready<S: PageSource>(
 ) -> Result<(), SourceFault>
     requires setup { IsSetup setup.now }
     requires frame { IsFrame (S.source source.old) setup.now (state_of buffers.old) }
-    requires counted { IsCounted (state_of buffers.old) }
-    requires more { is_over (state_of buffers.old) ≡ false }
-    ensures ok { OnOk result (HasBytes (S.source source.old) setup.now (state_of buffers.old) (S.source source.new) (state_of buffers.new)) }
+    requires counted { IsLineCounted (state_of buffers.old) }
+    requires more { is_frame_over (state_of buffers.old) ≡ false }
+    ensures ok { OnOk result (HasLineBytes (S.source source.old) setup.now (state_of buffers.old) (S.source source.new) (state_of buffers.new)) }
     ensures err { OnErr result (StopsFailing (S.source source.old) (S.source source.new)) }
-    ensures counted { OnErr result (IsCounted (state_of buffers.new)) }
+    ensures counted { OnErr result (IsLineCounted (state_of buffers.new)) }
 {
     if buffers.left > 0 {
         return Ok(());
@@ -194,20 +194,20 @@ fn give_of_line<S: PageSource>(
 ) -> Result<usize, SourceFault>
     requires setup { IsSetup setup.now }
     requires frame { IsFrame (S.source source.old) setup.now (state_of buffers.old) }
-    requires counted { IsCounted (state_of buffers.old) }
-    requires more { is_over (state_of buffers.old) ≡ false }
+    requires counted { IsLineCounted (state_of buffers.old) }
+    requires more { is_frame_over (state_of buffers.old) ≡ false }
     requires buf { 0 < length buf.old }
     ensures ok { IfOk result (λ n. GivesOfLine (S.source source.old) setup.now (state_of buffers.old) n (S.source source.new) (state_of buffers.new) buf.new) }
     ensures err { OnErr result (StopsFailing (S.source source.old) (S.source source.new)) }
-    ensures counted { OnErr result (IsCounted (state_of buffers.new)) }
+    ensures counted { OnErr result (IsLineCounted (state_of buffers.new)) }
 {
     make_ready(buffers, source, setup)?;
     Ok(give(buffers, buf))
 }
 
 /// Whether all bytes of the frame were given.
-fn is_over(buffers: &Buffers) -> bool
-    ensures { result ≡ is_over (state_of buffers.now) }
+fn is_frame_over(buffers: &Buffers) -> bool
+    ensures { result ≡ is_frame_over (state_of buffers.now) }
 {
     buffers.left == 0 && buffers.made == buffers.height
 }
@@ -221,14 +221,14 @@ pub fn read_on<S: PageSource>(
 ) -> Result<usize, ReadEnd>
     requires setup { IsSetup setup.now }
     requires frame { IsFrame (S.source source.old) setup.now (state_of buffers.old) }
-    requires counted { IsCounted (state_of buffers.old) }
+    requires counted { IsLineCounted (state_of buffers.old) }
     requires buf { 0 < length buf.old }
     ensures read { ReadsFrame (S.source source.old) setup.now (state_of buffers.old) result (S.source source.new) (state_of buffers.new) buf.new }
-    ensures counted { IsCounted (state_of buffers.new) }
+    ensures counted { IsLineCounted (state_of buffers.new) }
 {
     let most = buf.len().min(setup.limit as usize);
     let mut n = 0;
-    while n < most && !is_over(buffers) {
+    while n < most && !is_frame_over(buffers) {
         match give_of_line(buffers, source, setup, &mut buf[n..most]) {
             Ok(given) => n += given,
             Err(_) => return Err(ReadEnd::SourceFailed),

@@ -27,7 +27,7 @@ pub enum ReadEnd {
 
 impl From<BeginFault> for Status {
     ghost use Rattle.std.specs.Prelude.{◌≡◌};
-    ghost use Rattle.scan_frames.specs.Answered.{begin_status};
+    ghost use Rattle.scan_frames.specs.StatusOf.{begin_status};
 
     ghost from_gives = { λ fault status. status ≡ begin_status fault };
 
@@ -42,7 +42,7 @@ impl From<BeginFault> for Status {
 
 impl From<ReadEnd> for Status {
     ghost use Rattle.std.specs.Prelude.{◌≡◌};
-    ghost use Rattle.scan_frames.specs.Answered.{end_status};
+    ghost use Rattle.scan_frames.specs.StatusOf.{end_status};
 
     ghost from_gives = { λ end status. status ≡ end_status end };
 

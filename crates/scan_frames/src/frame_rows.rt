@@ -1,6 +1,6 @@
 ghost use Rattle.std.specs.Prelude.{◌≡◌, ◌==◌, ◌<◌, length};
 ghost use Rattle.scan_frames.specs.Frames.{IsSetup};
-ghost use Rattle.scan_frames.specs.Reading.{Begins, IsFrame, ReadsFrame, given_in};
+ghost use Rattle.scan_frames.specs.PassReading.{BeginsPass, IsFrame, ReadsFrame, given_in};
 
 use crate::buffers::{Buffers, read_on, reserve};
 use crate::faults::{BeginFault, ReadEnd};
@@ -18,16 +18,16 @@ pub struct FrameRows {
 }
 
 impl Model for FrameRows {
-    ghost use Rattle.scan_frames.specs.Reading.{FrameState};
+    ghost use Rattle.scan_frames.specs.PassReading.{FrameProgress};
 
-    ghost Value = { FrameState };
+    ghost Value = { FrameProgress };
 
-    ghost use Rattle.scan_frames.specs.Reading.{IsCounted};
+    ghost use Rattle.scan_frames.specs.PassReading.{IsLineCounted};
     ghost use Rattle.scan_frames.specs.Buffers.{state_of};
 
     ghost view = { λ f. state_of f.buffers };
 
-    ghost invariant = { λ f. IsCounted (state_of f.buffers) };
+    ghost invariant = { λ f. IsLineCounted (state_of f.buffers) };
 }
 
 impl FrameRows {
@@ -44,7 +44,7 @@ impl FrameRows {
         pass: u32,
     ) -> Result<Self, BeginFault>
         requires { IsSetup setup.now }
-        ensures { Begins (S.source source.old) setup.now pass result (S.source source.new) }
+        ensures { BeginsPass (S.source source.old) setup.now pass result (S.source source.new) }
     {
         let Some((_, height)) = sides(source, setup) else {
             return Err(BeginFault::NoPicture);

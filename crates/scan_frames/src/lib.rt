@@ -2,8 +2,10 @@
 #![tactic(auto)]
 
 mod buffers;
+mod byte_words;
 mod faults;
 mod frame_rows;
+mod gamma_tables;
 mod gray_rows;
 mod lanes;
 mod laws;
@@ -11,8 +13,6 @@ mod line;
 mod pass;
 mod rows;
 mod setup;
-mod tables;
-mod words;
 
 pub use faults::{BeginFault, ReadEnd};
 pub use frame_rows::FrameRows;

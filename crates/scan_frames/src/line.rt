@@ -7,13 +7,13 @@ ghost use Rattle.page_picture.specs.Tone.{brightness};
 ghost use Rattle.scan_frames.specs.Line.{packing_of, line_of};
 ghost use Rattle.scan_frames.specs.Frames.{channel_in, format_at};
 ghost use Rattle.scan_frames.specs.Tables.{AreComposed, IsPlain, IsSame};
-ghost use Rattle.scan_frames.specs.Samples.{HasSample, HasZeros, IsGrayRow, bit_in, bits_in, end_of, gray_in, value_at, value_in};
+ghost use Rattle.scan_frames.specs.Samples.{HasSample, HasZeros, IsGrayRow, bit_in, bits_in, sample_end, gray_in, value_at, sample_in_row};
 
+use crate::byte_words::{put_channel_words, put_samples, put_word};
 use crate::gray_rows::is_gray;
 use crate::lanes::{eights, put_darks, put_eights, put_sum_eights};
 use crate::pass::{channel_in, channels_within, format_at};
 use crate::setup::{Packing, Setup, packing_of};
-use crate::words::{put_channel_words, put_samples, put_word};
 use page_picture::{ColumnMap, Mode, Scene, in_channel, toned};
 use sane_fixed::{ByteOrder, FrameFormat};
 
@@ -51,11 +51,11 @@ fn light(mode: Mode, row: &[u16], place: u32, k: u32) -> u16
 
 /// Puts sample `i` into a line.
 fn put(layout: Layout, line: &mut [u8], i: usize, v: u16)
-    requires room { end_of layout.packing (i + 1) ≤ length line.old }
+    requires room { sample_end layout.packing (i + 1) ≤ length line.old }
     requires fits { layout.packing ≡ Packing.Bytes → v < 256 }
     ensures here { HasSample layout.packing layout.order line.new i v }
     ensures before { (j u : ℕ) → j < i → HasSample layout.packing layout.order line.old j u → HasSample layout.packing layout.order line.new j u }
-    ensures behind { (j : ℕ) → end_of layout.packing (i + 1) ≤ j → slice_index line.new j ≡ slice_index line.old j }
+    ensures behind { (j : ℕ) → sample_end layout.packing (i + 1) ≤ j → slice_index line.new j ≡ slice_index line.old j }
 {
     match layout.packing {
         Packing::Bits => {}
@@ -71,10 +71,10 @@ fn put_place(scene: &Scene, layout: Layout, row: &[u16], place: u32, first: usiz
     requires packing { layout.packing ≡ packing_of scene.now.depth }
     requires place { 3 * place + 2 < length row.now }
     requires few { first ≤ 2 ^ 32 }
-    requires room { end_of layout.packing (first + channels_within layout.format) ≤ length line.old }
-    ensures here { (k : ℕ) → k < channels_within layout.format → HasSample layout.packing layout.order line.new (first + k) (value_in scene.now row.now place (channel_in layout.format k)) }
+    requires room { sample_end layout.packing (first + channels_within layout.format) ≤ length line.old }
+    ensures here { (k : ℕ) → k < channels_within layout.format → HasSample layout.packing layout.order line.new (first + k) (sample_in_row scene.now row.now place (channel_in layout.format k)) }
     ensures before { (j u : ℕ) → j < first → HasSample layout.packing layout.order line.old j u → HasSample layout.packing layout.order line.new j u }
-    ensures behind { (j : ℕ) → end_of layout.packing (first + channels_within layout.format) ≤ j → slice_index line.new j ≡ slice_index line.old j }
+    ensures behind { (j : ℕ) → sample_end layout.packing (first + channels_within layout.format) ≤ j → slice_index line.new j ≡ slice_index line.old j }
 {
     for k in 0..channels_within(layout.format) {
         let channel = channel_in(layout.format, k);
@@ -314,7 +314,7 @@ fn put_bytes(
     requires places { (x : ℕ) → x < length places.now → 3 * slice_index places.now x + 2 < length row.now }
     requires few { length places.now ≤ 65536 }
     requires room { channels_within layout.format * length places.now ≤ length line.old }
-    ensures here { (x k : ℕ) → x < length places.now → k < channels_within layout.format → slice_index line.new (channels_within layout.format * x + k) ≡ value_in scene.now row.now (slice_index places.now x) (channel_in layout.format k) }
+    ensures here { (x k : ℕ) → x < length places.now → k < channels_within layout.format → slice_index line.new (channels_within layout.format * x + k) ≡ sample_in_row scene.now row.now (slice_index places.now x) (channel_in layout.format k) }
     ensures behind { (j : ℕ) → channels_within layout.format * length places.now ≤ j → slice_index line.new j ≡ slice_index line.old j }
 {
     match layout.format {
@@ -333,9 +333,9 @@ fn put_each(scene: &Scene, layout: Layout, row: &[u16], places: &[u32], line: &m
     requires packing { layout.packing ≡ packing_of scene.now.depth }
     requires places { (x : ℕ) → x < length places.now → 3 * slice_index places.now x + 2 < length row.now }
     requires few { length places.now ≤ 65536 }
-    requires room { end_of layout.packing (channels_within layout.format * length places.now) ≤ length line.old }
-    ensures here { (x k : ℕ) → x < length places.now → k < channels_within layout.format → HasSample layout.packing layout.order line.new (channels_within layout.format * x + k) (value_in scene.now row.now (slice_index places.now x) (channel_in layout.format k)) }
-    ensures behind { (j : ℕ) → end_of layout.packing (channels_within layout.format * length places.now) ≤ j → slice_index line.new j ≡ slice_index line.old j }
+    requires room { sample_end layout.packing (channels_within layout.format * length places.now) ≤ length line.old }
+    ensures here { (x k : ℕ) → x < length places.now → k < channels_within layout.format → HasSample layout.packing layout.order line.new (channels_within layout.format * x + k) (sample_in_row scene.now row.now (slice_index places.now x) (channel_in layout.format k)) }
+    ensures behind { (j : ℕ) → sample_end layout.packing (channels_within layout.format * length places.now) ≤ j → slice_index line.new j ≡ slice_index line.old j }
 {
     let step = channels_within(layout.format) as usize;
     for (x, place) in places.iter().enumerate() {
@@ -356,9 +356,9 @@ fn put_all(
     requires run { IfSome first (λ f. (x : ℕ) → x < length places.now → slice_index places.now x ≡ f + x) }
     requires places { (x : ℕ) → x < length places.now → 3 * slice_index places.now x + 2 < length row.now }
     requires few { length places.now ≤ 65536 }
-    requires room { end_of layout.packing (channels_within layout.format * length places.now) ≤ length line.old }
-    ensures here { (x k : ℕ) → x < length places.now → k < channels_within layout.format → HasSample layout.packing layout.order line.new (channels_within layout.format * x + k) (value_in scene.now row.now (slice_index places.now x) (channel_in layout.format k)) }
-    ensures behind { (j : ℕ) → end_of layout.packing (channels_within layout.format * length places.now) ≤ j → slice_index line.new j ≡ slice_index line.old j }
+    requires room { sample_end layout.packing (channels_within layout.format * length places.now) ≤ length line.old }
+    ensures here { (x k : ℕ) → x < length places.now → k < channels_within layout.format → HasSample layout.packing layout.order line.new (channels_within layout.format * x + k) (sample_in_row scene.now row.now (slice_index places.now x) (channel_in layout.format k)) }
+    ensures behind { (j : ℕ) → sample_end layout.packing (channels_within layout.format * length places.now) ≤ j → slice_index line.new j ≡ slice_index line.old j }
 {
     match (layout.packing, layout.format, scene.mode) {
         (Packing::Words, FrameFormat::Rgb, Mode::Color) => {
@@ -669,7 +669,7 @@ pub fn make_line(
     requires few { columns.now.count ≤ 65536 }
     requires short { length line.old ≤ 1048576 }
     requires bits { packing_of setup.now.scene.depth ≡ Packing.Bits → length line.old ≤ 65536 }
-    requires room { end_of (packing_of setup.now.scene.depth) (channels_within (format_at setup.now pass) * columns.now.count) ≤ length line.old }
+    requires room { sample_end (packing_of setup.now.scene.depth) (channels_within (format_at setup.now pass) * columns.now.count) ≤ length line.old }
     requires zeros { HasZeros (packing_of setup.now.scene.depth) (channels_within (format_at setup.now pass) * columns.now.count) line.old }
     ensures zeros { HasZeros (packing_of setup.now.scene.depth) (channels_within (format_at setup.now pass) * columns.now.count) line.new }
     ensures bytes { line.new ≡ line_of (packing_of setup.now.scene.depth) setup.now.order (channels_within (format_at setup.now pass)) columns.now.count (value_at setup.now.scene (format_at setup.now pass) row.now columns.now) (length line.old) }

@@ -2,7 +2,7 @@
 
 ghost use Rattle.std.specs.Prelude.{◌≡◌, ◌≤◌, ◌<◌, is_some, IfSome};
 ghost use Rattle.page_picture.specs.Shows.{channels_within};
-ghost use Rattle.scan_frames.specs.Frames.{IsSetup, takes_colors, last_pass, nth_color, color_at, format_at, channel_in, bytes_per_line, width_of, height_of, has_picture, lines_told, params_at, params_without};
+ghost use Rattle.scan_frames.specs.Frames.{IsSetup, takes_colors, last_pass, nth_color, color_at, format_at, channel_in, bytes_per_line, width_of, height_of, has_picture, lines_in_params, params_at, params_without};
 
 use crate::setup::{Packing, PassOrder, Setup, packing_of};
 use page_picture::{DeviceKind, Mode, PageSource, extent_at};
@@ -139,7 +139,7 @@ pub fn params<S: PageSource>(source: &S, setup: &Setup, pass: u32) -> Params
                 last_frame,
                 bytes_per_line: bytes_per_line(setup, pass) as u32,
                 pixels_per_line: width,
-                lines: lines_told(setup.scene.kind, height),
+                lines: lines_in_params(setup.scene.kind, height),
                 depth: setup.scene.depth,
             }
         }
@@ -162,8 +162,8 @@ pub fn params_without(setup: &Setup, pass: u32) -> Params
 }
 
 /// The lines that are told before the end: a hand scanner does not know them.
-fn lines_told(kind: DeviceKind, lines: u32) -> Option<u32>
-    ensures { result ≡ lines_told kind lines }
+fn lines_in_params(kind: DeviceKind, lines: u32) -> Option<u32>
+    ensures { result ≡ lines_in_params kind lines }
 {
     match kind {
         DeviceKind::Flatbed | DeviceKind::ThreePass | DeviceKind::Feeder => Some(lines),

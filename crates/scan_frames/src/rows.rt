@@ -1,7 +1,7 @@
 //! The row of a page that a line shows.
 
 ghost use Rattle.std.specs.Prelude.{◌≡◌, ◌≤◌, ◌<◌, ◌+◌, ◌*◌, ℕ, length, slice_index, OnOk, OnErr, IfOk};
-ghost use Rattle.scan_frames.specs.Rows.{StopsFailing, KeepsRow, KnowsRow, IsWhiteBehind, Sees, HasRow};
+ghost use Rattle.scan_frames.specs.Rows.{StopsFailing, KeepsRow, KnowsRow, IsWhiteBehind, SeesRow, HasRow};
 
 use page_picture::{PageSource, SourceFault};
 
@@ -46,7 +46,7 @@ pub fn see<S: PageSource>(
     requires behind { taken ≤ target + 1 }
     requires known { KnowsRow (S.source source.old) target row.old }
     ensures row { OnOk result (IsWhiteBehind (S.source source.old).page.width row.new) }
-    ensures seen { OnOk result (Sees (S.source source.old) target row.new) }
+    ensures seen { OnOk result (SeesRow (S.source source.old) target row.new) }
     ensures known { IfOk result (λ n. HasRow (S.source source.old) target n row.new) }
     ensures after { IfOk result (λ n. S.source source.new ≡ record (S.source source.old) { given = n }) }
     ensures further { IfOk result (λ n. taken ≤ n) }

@@ -7,16 +7,16 @@ use Rattle.scan_job.specs.declared.job.Task.{Task}
 use Rattle.scan_job.specs.declared.job.Task.TheVariants as tasks
 
 -- a text of a job
-abbrev pub IsShort : List ℕ → Type 0
-IsShort text = length text ≤ 1023
+abbrev pub IsJobText : List ℕ → Type 0
+IsJobText text = length text ≤ 1023
 
 -- at most 64 settings, and short texts
 pub record HasJobSize (job : Job) : Type 0 where
   pub few : length job.settings.items ≤ 64
-  pub user : IsShort job.user
-  pub password : IsShort job.password
-  pub device : IsShort job.device
-  pub settings : All (λ setting. IsShort setting.0 × IsShort setting.1) job.settings.items
+  pub user : IsJobText job.user
+  pub password : IsJobText job.password
+  pub device : IsJobText job.device
+  pub settings : All (λ setting. IsJobText setting.0 × IsJobText setting.1) job.settings.items
 
 -- the task scans pages to a file each
 abbrev pub IsBatch : Task → Type 0
@@ -35,10 +35,10 @@ HasCount tasks.Scan = Unit {0}
 HasCount (tasks.Batch count) = (1 ≤ count) × (count ≤ 16)
 
 -- the fault of a job that is refused, or none
-abbrev pub HasFault : Job → Option JobFault → Type 0
-HasFault job None = HasJobSize job × HasCount job.task
-HasFault job (Some TooManySettings) = 64 < length job.settings.items
-HasFault job (Some TextTooLong) = (length job.settings.items ≤ 64) × (HasJobSize job → ⊥)
--- want of memory comes last
-HasFault job (Some NoMem) = HasJobSize job × HasCount job.task
-HasFault job (Some BadCount) = HasJobSize job × (HasCount job.task → ⊥)
+abbrev pub HasJobFault : Job → Option JobFault → Type 0
+HasJobFault job None = HasJobSize job × HasCount job.task
+HasJobFault job (Some TooManySettings) = 64 < length job.settings.items
+HasJobFault job (Some TextTooLong) = (length job.settings.items ≤ 64) × (HasJobSize job → ⊥)
+-- out of memory comes last
+HasJobFault job (Some NoMem) = HasJobSize job × HasCount job.task
+HasJobFault job (Some BadCount) = HasJobSize job × (HasCount job.task → ⊥)

@@ -1,6 +1,6 @@
 pub mod Why
 pub mod JobSize
 pub mod Outcomes
-pub mod Shown
+pub mod KnownValues
 pub mod Shelves
 pub mod Stops

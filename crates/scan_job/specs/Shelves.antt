@@ -2,13 +2,13 @@
 use Rattle.std.specs.Prelude.{ℕ, ◌≡◌, ⊤, Option, Some, None, List, [], ◌∷◌, ◌++◌}
 
 -- an output that was taken back: the number of its file, and the bytes that it took, where they are known
-pub record Taken : Type 0 where
+pub record ReturnedOutput : Type 0 where
   pub number : ℕ
   pub text : Option (List ℕ)
 
 -- the outputs that were taken back, in their order, and the number that the last one was asked for
 pub record Stock : Type 0 where
-  pub taken : List Taken
+  pub taken : List ReturnedOutput
   pub number : ℕ
 
 -- a new output has no bytes
@@ -17,14 +17,14 @@ IsEmpty None = ⊤
 IsEmpty (Some bytes) = bytes ≡ []
 
 -- where it is known what was put on a shelf, a new output tells that it has no bytes
-abbrev pub IsTold : Option Stock → Option (List ℕ) → Type 0
-IsTold None contents = ⊤
-IsTold (Some stock) contents = contents ≡ Some []
+abbrev pub IsNewOutput : Option Stock → Option (List ℕ) → Type 0
+IsNewOutput None contents = ⊤
+IsNewOutput (Some stock) contents = contents ≡ Some []
 
 -- an output of that number was asked for
-abbrev pub Opens : Option Stock → ℕ → Option Stock → Type 0
-Opens None k new = ⊤
-Opens (Some old) k new = new ≡ Some (record old { number = k })
+abbrev pub OpensOutput : Option Stock → ℕ → Option Stock → Type 0
+OpensOutput None k new = ⊤
+OpensOutput (Some old) k new = new ≡ Some (record old { number = k })
 
 -- an output that took these bytes was taken back
 abbrev pub Shelves : Option Stock → Option (List ℕ) → Option Stock → Type 0

@@ -3,7 +3,7 @@ use Rattle.sane_fixed.specs.declared.status.Status.TheVariants.{NoMem, IoError}
 use Rattle.scan_job.specs.declared.outcome.Why.TheVariants.{Memory, Sink}
 use Rattle.scan_job.specs.declared.stop.Stop.{Stop}
 
--- for want of memory
+-- for lack of memory
 abbrev pub no_memory : Stop
 no_memory = record { status = NoMem; why = Memory }
 

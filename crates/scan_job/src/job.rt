@@ -1,5 +1,5 @@
 ghost use Rattle.std.specs.Prelude.{◌↔◌, IsTrue, All};
-ghost use Rattle.scan_job.specs.JobSize.{IsShort};
+ghost use Rattle.scan_job.specs.JobSize.{IsJobText};
 
 use sane_fixed::Text;
 use thiserror::Error;
@@ -93,7 +93,7 @@ pub const LONGEST_TEXT: usize = 1023;
 
 impl Job {
     ghost use Rattle.std.specs.Prelude.{◌↔◌, IsTrue};
-    ghost use Rattle.scan_job.specs.JobSize.{HasFault, HasJobSize};
+    ghost use Rattle.scan_job.specs.JobSize.{HasJobFault, HasJobSize};
 
     /// Whether the job has at most 64 settings, and no text of more than 1,023 bytes.
     pub fn has_size(&self) -> bool
@@ -106,10 +106,10 @@ impl Job {
             && are_short(&self.settings)
     }
 
-    /// Why the job is refused, want of memory aside: the first of too many settings, a text that is too long, and
+    /// Why the job is refused, out of memory aside: the first of too many settings, a text that is too long, and
     /// a batch's count.
     pub fn fault(&self) -> Option<JobFault>
-        ensures { HasFault self.now result }
+        ensures { HasJobFault self.now result }
     {
         if self.settings.len() > MOST_SETTINGS {
             Some(JobFault::TooManySettings)
@@ -124,13 +124,13 @@ impl Job {
 }
 
 fn is_short(text: &Text) -> bool
-    ensures { IsTrue result ↔ IsShort text.now }
+    ensures { IsTrue result ↔ IsJobText text.now }
 {
     text.as_bytes().len() <= LONGEST_TEXT
 }
 
 fn are_short(settings: &[(Text, Text)]) -> bool
-    ensures { IsTrue result ↔ All (λ setting. IsShort setting.0 × IsShort setting.1) settings.now }
+    ensures { IsTrue result ↔ All (λ setting. IsJobText setting.0 × IsJobText setting.1) settings.now }
 {
     settings
         .iter()

@@ -10,7 +10,7 @@ mod shown;
 mod stop;
 
 pub use job::{Job, JobFault, MOST_PAGES, Task};
-pub use listed::Listed;
+pub use listed::ItemList;
 pub use outcome::{Outcome, Why};
 pub use report::{Report, Reports};
 pub use shelf::{Shelf, ShelfFault};

@@ -5,11 +5,11 @@ use std::marker::Model;
 
 /// Things in their order. Contracts see the list.
 #[derive(Drop)]
-pub struct Listed<T> {
+pub struct ItemList<T> {
     items: Vec<T>,
 }
 
-impl<T> Model for Listed<T> {
+impl<T> Model for ItemList<T> {
     ghost use Rattle.std.specs.Prelude.{List};
 
     ghost Value = { List T };
@@ -17,23 +17,23 @@ impl<T> Model for Listed<T> {
     ghost view = { λ l. l.items.items };
 }
 
-impl<T> Listed<T> {
+impl<T> ItemList<T> {
     ghost use Rattle.std.specs.Prelude.{◌≡◌, ◌++◌, ◌∷◌, [], OnOk, OnErr};
 
     /// Nothing.
-    pub fn none(alloc: Global) -> Listed<T>
+    pub fn none(alloc: Global) -> ItemList<T>
         ensures { result ≡ [] }
     {
-        Listed {
+        ItemList {
             items: Vec::new(alloc),
         }
     }
 
     /// These things; it takes no memory.
-    pub fn from_vec(items: Vec<T>) -> Listed<T>
+    pub fn from_vec(items: Vec<T>) -> ItemList<T>
         ensures { result ≡ items.items }
     {
-        Listed { items }
+        ItemList { items }
     }
 
     /// The things in their order.
@@ -55,24 +55,24 @@ impl<T> Listed<T> {
     }
 
     /// The things, which leave; it takes no memory.
-    pub fn take_all(&mut self, alloc: Global) -> Listed<T>
+    pub fn take_all(&mut self, alloc: Global) -> ItemList<T>
         ensures all { result ≡ self.old }
         ensures none { self.new ≡ [] }
     {
-        let none = Listed {
+        let none = ItemList {
             items: Vec::new(alloc),
         };
         std::mem::replace(self, none)
     }
 }
 
-impl Listed<(Descriptor, Option<Value>)> {
+impl ItemList<(Descriptor, Option<Value>)> {
     ghost use Rattle.std.specs.Prelude.{◌≡◌};
-    ghost use Rattle.scan_job.specs.Shown.{with_value};
+    ghost use Rattle.scan_job.specs.KnownValues.{with_known_value};
 
     /// The option at that place has that value.
     pub fn tell(&mut self, n: usize, value: Value)
-        ensures { self.new ≡ with_value n value self.old }
+        ensures { self.new ≡ with_known_value n value self.old }
     {
         if n < self.items.len() {
             let option = &mut self.items[n];

@@ -14,13 +14,13 @@ pub trait Shelf {
     ghost stock: { Self → Option Stock } = { λ _. None };
 
     ghost use Rattle.std.specs.Prelude.{Option, None, IfOk};
-    ghost use Rattle.scan_job.specs.Shelves.{Stock, Opens, Shelves, IsEmpty, IsTold};
+    ghost use Rattle.scan_job.specs.Shelves.{Stock, OpensOutput, Shelves, IsEmpty, IsNewOutput};
 
     /// The output of the batch's file of that number, from 1. It is asked for at the file's first byte.
     fn open(&mut self, k: u32) -> Result<Self::Out, ShelfFault>
-        ensures stock { Opens (stock self.old) k (stock self.new) }
+        ensures stock { OpensOutput (stock self.old) k (stock self.new) }
         ensures empty { IfOk result (λ out. IsEmpty (Self.Out.contents out)) }
-        ensures told { IfOk result (λ out. IsTold (stock self.new) (Self.Out.contents out)) };
+        ensures told { IfOk result (λ out. IsNewOutput (stock self.new) (Self.Out.contents out)) };
 
     /// Takes an output back, after its file's last byte or as the job ends. Its buffers are flushed here.
     fn close(&mut self, out: Self::Out) -> Result<(), ShelfFault>

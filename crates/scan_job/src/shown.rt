@@ -1,5 +1,5 @@
 ghost use Rattle.std.specs.Prelude.{◌≡◌};
-ghost use Rattle.scan_job.specs.Shown.{has_one_value, tells_value};
+ghost use Rattle.scan_job.specs.KnownValues.{has_one_value, tells_value};
 
 use device_api::has_cap;
 use option_desc::Descriptor;

@@ -7,5 +7,5 @@ pub mod Owns
 pub mod Whole
 pub mod Ruled
 pub mod Goes
-pub mod Nearest
-pub mod Limits
+pub mod NearestSet
+pub mod PageLimits

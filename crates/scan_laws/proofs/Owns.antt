@@ -16,7 +16,7 @@ use Rattle.device_api.specs.declared.choice.Choice.TheVariants as choice
 use Rattle.device_api.specs.declared.scan_option.ScanOption.{ScanOption}
 use Rattle.device_api.specs.declared.scan_option.ScanOption.TheVariants.{NumOptions, Mode, Depth, Resolution, TlX, TlY, BrX, BrY, GammaTable, RedGammaTable, GreenGammaTable, BlueGammaTable, ThreePassOrder, PplLoss, ReadLimitSize, ReadReturnValue, HandScanner}
 use Rattle.device_api.specs.Options.{options_of, option_at, choices_of, choice_text, is_active, option_caps, has_cap}
-use Rattle.device_api.specs.Values.{defaults, with_number, with_length, with_table, with_choice, choice_of, with_chosen, with_value, with_given, passing, setup_after}
+use Rattle.device_api.specs.Values.{defaults, with_number, with_length, with_table, with_choice, choice_of, with_chosen, with_value, with_given, option_passing, setup_after}
 use Rattle.device_api.proofs.SameLaws.{value_same}
 use Rattle.scan_laws.specs.Own.{HasOwnAlone, IsOwn}
 
@@ -137,7 +137,7 @@ table_own ThreePass s _ t e h = h
 abbrev IsChoice : DeviceKind → Choice → Type 0
 IsChoice k (choice.Mode _) = Unit {0}
 IsChoice k (choice.Passes _) = k ≡ ThreePass
-IsChoice k (choice.Told _) = has k ReadReturnValue ≡ true
+IsChoice k (choice.ReadStatus _) = has k ReadReturnValue ≡ true
 
 choice_own : (k : DeviceKind) (s : Setup) (c : Choice) → IsChoice k c → HasOwnAlone k s → HasOwnAlone k (with_choice s c)
 unfolding has
@@ -145,14 +145,14 @@ choice_own Flatbed s (choice.Mode m) i h = h
 choice_own Feeder s (choice.Mode m) i h = h
 choice_own Flatbed s (choice.Passes p) i h = absurd cc
 choice_own Feeder s (choice.Passes p) i h = absurd cc
-choice_own Flatbed s (choice.Told t) i h = h
-choice_own Feeder s (choice.Told t) i h = h
+choice_own Flatbed s (choice.ReadStatus t) i h = h
+choice_own Feeder s (choice.ReadStatus t) i h = h
 choice_own Hand s (choice.Mode m) i h = (h.0, record { loss = h.1.loss; limit = h.1.limit; told = h.1.told }, record { gamma = h.2.gamma; channels = h.2.channels; tl_x = h.2.tl_x; tl_y = h.2.tl_y; br_x = h.2.br_x; br_y = h.2.br_y })
 choice_own Hand s (choice.Passes p) i h = absurd cc
-choice_own Hand s (choice.Told t) i h = absurd cc
+choice_own Hand s (choice.ReadStatus t) i h = absurd cc
 choice_own ThreePass s (choice.Mode m) i h = record { loss = h.loss; limit = h.limit; told = h.told }
 choice_own ThreePass s (choice.Passes p) i h = record { loss = h.loss; limit = h.limit; told = h.told }
-choice_own ThreePass s (choice.Told t) i h = absurd cc
+choice_own ThreePass s (choice.ReadStatus t) i h = absurd cc
 
 chosen_own : (k : DeviceKind) (s : Setup) (cs : List Choice) (text : List ℕ) → AllByRecursion (IsChoice k) cs → HasOwnAlone k s → HasOwnAlone k (with_chosen s (choice_of cs text))
 chosen_own k s [] text all h = h
@@ -183,7 +183,7 @@ value_own k s o (Fixed l) e h = length_own k s o l e h
 value_own k s o (Words ws) e h = table_own k s o (map (λ w. unsigned_abs w) ws) e h
 value_own k s o (Text t) e h = chosen_own k s (choices_of o) t (own_choices k o e) h
 
-given_own : (s : Setup) (v : Value) (o : Option ScanOption) (b : ScanOption → Bool) → ((x : ScanOption) → o ≡ Some x → has s.scene.kind x ≡ true) → IsOwn s → IsOwn (with_given s (passing b o) v)
+given_own : (s : Setup) (v : Value) (o : Option ScanOption) (b : ScanOption → Bool) → ((x : ScanOption) → o ≡ Some x → has s.scene.kind x ≡ true) → IsOwn s → IsOwn (with_given s (option_passing b o) v)
 given_own s v None b all h = h
 given_own s v (Some o) b all h = pick (b o)
   where

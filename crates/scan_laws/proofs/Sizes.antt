@@ -7,13 +7,13 @@ use Rattle.sane_fixed.specs.Length.{px_of}
 use Rattle.sane_fixed.specs.declared.fixed.Fixed.{Fixed as Length}
 use Rattle.sane_fixed.specs.declared.frame_format.FrameFormat.{FrameFormat}
 use Rattle.sane_fixed.specs.declared.frame_format.FrameFormat.TheVariants.{Gray as GrayFrame, Rgb as RgbFrame, Red as RedFrame, Green as GreenFrame, Blue as BlueFrame}
-use Rattle.page_picture.specs.Page.{Sheet}
+use Rattle.page_picture.specs.Page.{PageView}
 use Rattle.page_picture.specs.Extent.{across, down, hand_width}
 use Rattle.page_picture.specs.Shows.{Frame, channels_within}
 use Rattle.page_picture.specs.declared.scene.DeviceKind.{DeviceKind}
 use Rattle.page_picture.specs.declared.scene.DeviceKind.TheVariants.{Flatbed, Hand, ThreePass, Feeder}
 use Rattle.page_picture.specs.declared.scene.DeviceKind.TheVariants.{Feeder, Hand, ThreePass}
-use Rattle.scan_frames.specs.Frames.{bytes_per_line, color_at, format_at, format_of, nth_color, frame_of, frames_of, has_picture, height_of, payload, takes_colors, width_of}
+use Rattle.scan_frames.specs.Frames.{bytes_per_line, color_at, format_at, frame_format_of, nth_color, frame_of, frames_of, has_picture, height_of, payload, takes_colors, width_of}
 use Rattle.scan_frames.specs.Line.{packing_of, line_size}
 use Rattle.scan_frames.specs.declared.setup.Packing.{Packing}
 use Rattle.scan_frames.specs.declared.setup.Packing.TheVariants.{Bits, Bytes, Words}
@@ -21,7 +21,7 @@ use Rattle.scan_frames.specs.declared.setup.PassOrder.{PassOrder}
 use Rattle.scan_frames.specs.declared.setup.PassOrder.TheVariants.{Rgb, Rbg, Gbr, Grb, Brg, Bgr}
 use Rattle.scan_frames.specs.declared.setup.Setup.{Setup}
 use Rattle.scan_frames.proofs.Frames.{has_sides}
-use Rattle.device_api.specs.Allowed.{IsAllowed, IsOnBed, greatest_resolution}
+use Rattle.device_api.specs.ScannerLimits.{IsAllowed, IsOnBed, greatest_resolution}
 use Rattle.device_api.proofs.RunLaws.{length-payload}
 use Rattle.scan_laws.specs.Weights.{weight, greatest_weight}
 
@@ -60,7 +60,7 @@ line_by Words GreenFrame pixels = omega arith
 line_by Words BlueFrame pixels = omega arith
 
 -- the lines of a picture and the bytes of a line of it, by the kind of scanner
-height_by : (kind : DeviceKind) (s : Setup) (page : Sheet) → s.scene.kind ≡ kind → IsAllowed s → has_picture s page ≡ true → (w h : ℕ) × (width_of s ≤ w) × (height_of s page ≤ h) × (h * (6 * (w + 64)) ≤ greatest_weight)
+height_by : (kind : DeviceKind) (s : Setup) (page : PageView) → s.scene.kind ≡ kind → IsAllowed s → has_picture s page ≡ true → (w h : ℕ) × (width_of s ≤ w) × (height_of s page ≤ h) × (h * (6 * (w + 64)) ≤ greatest_weight)
 height_by Flatbed s page is a there =
     let r = a.limits.resolution_most in
     let w : width_of s ≤ 9448 = subst (λ (k : DeviceKind). across k s.scene ≤ 9448) (sym is) (bed s.scene.tl_x s.scene.br_x s.scene.resolution a.tl_x a.br_x r) in
@@ -84,7 +84,7 @@ height_by Hand s page is a there =
 -- ---- all frames
 
 -- a frame alone
-pass_by : (s : Setup) (page : Sheet) (pass w h : ℕ) → IsAllowed s → width_of s ≤ w → height_of s page ≤ h → length (payload s page pass) ≤ h * (6 * (w + 64))
+pass_by : (s : Setup) (page : PageView) (pass w h : ℕ) → IsAllowed s → width_of s ≤ w → height_of s page ≤ h → length (payload s page pass) ≤ h * (6 * (w + 64))
 pass_by s page pass w h a wide high =
     let size : length (payload s page pass) ≡ height_of s page * bytes_per_line s pass = length-payload s page pass in
     let line : bytes_per_line s pass ≤ 6 * (width_of s + s.loss) = line_by (packing_of s.scene.depth) (format_at s pass) (width_of s + s.loss) in
@@ -115,10 +115,10 @@ one_channel Grb pass = nth_one GreenFrame RedFrame BlueFrame pass refl refl refl
 one_channel Brg pass = nth_one BlueFrame RedFrame GreenFrame pass refl refl refl
 one_channel Bgr pass = nth_one BlueFrame GreenFrame RedFrame pass refl refl refl
 
-color_by : (s : Setup) (page : Sheet) (pass w h : ℕ) → takes_colors s.scene.kind s.scene.mode ≡ true → IsAllowed s → width_of s ≤ w → height_of s page ≤ h → length (payload s page pass) ≤ h * (2 * (w + 64))
+color_by : (s : Setup) (page : PageView) (pass w h : ℕ) → takes_colors s.scene.kind s.scene.mode ≡ true → IsAllowed s → width_of s ≤ w → height_of s page ≤ h → length (payload s page pass) ≤ h * (2 * (w + 64))
 color_by s page pass w h three a wide high =
     let size : length (payload s page pass) ≡ height_of s page * bytes_per_line s pass = length-payload s page pass in
-    let format : format_at s pass ≡ color_at s.passes pass = ap (λ (b : Bool). if b then color_at s.passes pass else format_of s.scene.mode) three in
+    let format : format_at s pass ≡ color_at s.passes pass = ap (λ (b : Bool). if b then color_at s.passes pass else frame_format_of s.scene.mode) three in
     let one : channels_within (format_at s pass) ≡ 1 = ap channels_within format ∙ one_channel s.passes pass in
     let line : bytes_per_line s pass ≤ 2 * (width_of s + s.loss) = third_by (packing_of s.scene.depth) (format_at s pass) (width_of s + s.loss) one in
     let loss = a.limits.loss in
@@ -126,10 +126,10 @@ color_by s page pass w h three a wide high =
     let most : height_of s page * bytes_per_line s pass ≤ h * (2 * (w + 64)) = mul-le (height_of s page) (bytes_per_line s pass) h (2 * (w + 64)) high room in
     omega arith
 
-frames : (three : Bool) → Setup → Sheet → List Frame
+frames : (three : Bool) → Setup → PageView → List Frame
 frames three s page = if three then frame_of s page 0 ∷ frame_of s page 1 ∷ frame_of s page 2 ∷ [] else frame_of s page 0 ∷ []
 
-all_by : (s : Setup) (page : Sheet) (three : Bool) (w h : ℕ) → takes_colors s.scene.kind s.scene.mode ≡ three → IsAllowed s → width_of s ≤ w → height_of s page ≤ h → weight (frames three s page) ≤ h * (6 * (w + 64))
+all_by : (s : Setup) (page : PageView) (three : Bool) (w h : ℕ) → takes_colors s.scene.kind s.scene.mode ≡ three → IsAllowed s → width_of s ≤ w → height_of s page ≤ h → weight (frames three s page) ≤ h * (6 * (w + 64))
 unfolding frames
 all_by s page true w h e a wide high =
     let first = color_by s page 0 w h e a wide high in
@@ -139,7 +139,7 @@ all_by s page true w h e a wide high =
     omega (arith, first, second, third, split)
 all_by s page false w h e a wide high = let first = pass_by s page 0 w h a wide high in omega (arith, first)
 
-pub weighs : (s : Setup) (page : Sheet) → IsAllowed s → has_picture s page ≡ true → weight (frames_of s page) ≤ greatest_weight
+pub weighs : (s : Setup) (page : PageView) → IsAllowed s → has_picture s page ≡ true → weight (frames_of s page) ≤ greatest_weight
 unfolding frames
 weighs s page a there =
     let b = height_by s.scene.kind s page refl a there in

@@ -6,14 +6,14 @@ use Rattle.std.proofs.lemmas.List.{length-replicate, get_or-replicate, get_or_pa
 use Rattle.std.proofs.Math.Nat.{mul-le-mul_right, mul-div_cancel, zero-div, one-le-mul}
 use Rattle.sane_fixed.specs.declared.frame_format.FrameFormat.{FrameFormat}
 use Rattle.sane_fixed.specs.declared.frame_format.FrameFormat.TheVariants.{Gray as GrayFrame, Rgb as RgbFrame, Red as RedFrame, Green as GreenFrame, Blue as BlueFrame}
-use Rattle.page_picture.specs.Page.{Sheet, IsShaped, IsSheet}
+use Rattle.page_picture.specs.Page.{PageView, IsShaped, IsPageView}
 use Rattle.page_picture.specs.Shows.{Frame, ShowsFrames, channels_within}
 use Rattle.page_picture.specs.declared.scene.DeviceKind.{DeviceKind}
 use Rattle.page_picture.specs.declared.scene.DeviceKind.TheVariants.{Flatbed, Hand, ThreePass, Feeder}
 use Rattle.page_picture.specs.declared.scene.DeviceKind.TheVariants.{Feeder, Hand, ThreePass}
 use Rattle.page_picture.specs.declared.scene.Mode.{Mode}
 use Rattle.page_picture.specs.declared.scene.Mode.TheVariants.{Gray, Color}
-use Rattle.scan_frames.specs.Frames.{bytes_per_line, color_at, format_at, format_of, frame_of, frames_of, has_picture, height_of, if_picture, lines_told, params_at, payload, takes_colors, width_of}
+use Rattle.scan_frames.specs.Frames.{bytes_per_line, color_at, format_at, frame_format_of, frame_of, frames_of, has_picture, height_of, if_picture, lines_in_params, params_at, payload, takes_colors, width_of}
 use Rattle.scan_frames.specs.Line.{packing_of, line_size}
 use Rattle.scan_frames.specs.declared.setup.Packing.{Packing}
 use Rattle.scan_frames.specs.declared.setup.Packing.TheVariants.{Bits, Bytes, Words}
@@ -21,17 +21,17 @@ use Rattle.scan_frames.specs.declared.setup.PassOrder.{PassOrder}
 use Rattle.scan_frames.specs.declared.setup.PassOrder.TheVariants.{Rgb, Rbg, Gbr, Grb, Brg, Bgr}
 use Rattle.scan_frames.specs.declared.setup.Setup.{Setup}
 use Rattle.scan_frames.proofs.Frames.{has_sides}
-use Rattle.scan_frames.proofs.Shown.{meant, shows_frames}
-use Rattle.device_api.specs.Allowed.{IsAllowed}
+use Rattle.scan_frames.proofs.FramesShow.{meant, shows_frames}
+use Rattle.device_api.specs.ScannerLimits.{IsAllowed}
 use Rattle.device_api.proofs.RunLaws.{length-payload}
 use Rattle.frame_join.specs.AloneFrame.{is_alone_format, most_bytes, most_lines, is_side as is_join_side}
 use Rattle.frame_join.specs.FrameHistory.{is_accepted, is_full, is_full_at, is_joined}
 use Rattle.frame_join.proofs.AcceptLaws.{shown_is_accepted, colors_are_accepted}
-use Rattle.scan_laws.specs.Joins.{is_last, Takes, TakesAll}
+use Rattle.scan_laws.specs.Joins.{no_frame_left, JoinTakes, TakesAll}
 
 -- ---- what is told of a frame does not depend on the page's samples: it is that of a black page
 
-black : Sheet → Sheet
+black : PageView → PageView
 black page = record { width = 1; height = page.height; dpi = page.dpi; samples = replicate (1 * page.height * 3) 0 }
 
 small : (n i : ℕ) → slice_index (replicate n 0) i < 2 ^ 16
@@ -47,7 +47,7 @@ small n i = by_place (nat_lt i n) refl
         let at : slice_index zeros i ≡ 0 = get_or_past zeros i 0 past in
         omega arith
 
-is_black : (page : Sheet) → IsShaped page → IsSheet (black page)
+is_black : (page : PageView) → IsShaped page → IsPageView (black page)
 unfolding black
 is_black page is = record {
   shape = record {
@@ -62,23 +62,23 @@ is_black page is = record {
   sixteen_bits = small (1 * page.height * 3);
 }
 
-frames : (three : Bool) → Setup → Sheet → List Frame
+frames : (three : Bool) → Setup → PageView → List Frame
 frames three s page = if three then frame_of s page 0 ∷ frame_of s page 1 ∷ frame_of s page 2 ∷ [] else frame_of s page 0 ∷ []
 
 -- the three frames, or the one, each behind those before it
-abbrev AllAccepted : Bool → Setup → Sheet → Type 0
+abbrev AllAccepted : Bool → Setup → PageView → Type 0
 AllAccepted true s page =
     (is_accepted [] (params_at s page 0) s.order ≡ true)
     × (is_accepted (frame_of s page 0 ∷ []) (params_at s page 1) s.order ≡ true)
     × (is_accepted (frame_of s page 0 ∷ frame_of s page 1 ∷ []) (params_at s page 2) s.order ≡ true)
 AllAccepted false s page = is_accepted [] (params_at s page 0) s.order ≡ true
 
-black_accepted : (three : Bool) (s : Setup) (page : Sheet) → ShowsFrames (frames three s (black page)) (meant s (black page)) → AllAccepted three s page
+black_accepted : (three : Bool) (s : Setup) (page : PageView) → ShowsFrames (frames three s (black page)) (meant s (black page)) → AllAccepted three s page
 unfolding black frames
 black_accepted true s page shows = colors_are_accepted (frame_of s (black page) 0) (frame_of s (black page) 1) (frame_of s (black page) 2) (meant s (black page)) shows
 black_accepted false s page shows = shown_is_accepted (frame_of s (black page) 0) (meant s (black page)) shows
 
-all_accepted : (s : Setup) (page : Sheet) → IsAllowed s → IsShaped page → has_picture s page ≡ true → AllAccepted (takes_colors s.scene.kind s.scene.mode) s page
+all_accepted : (s : Setup) (page : PageView) → IsAllowed s → IsShaped page → has_picture s page ≡ true → AllAccepted (takes_colors s.scene.kind s.scene.mode) s page
 unfolding black frames
 all_accepted s page a is there =
     black_accepted (takes_colors s.scene.kind s.scene.mode) s page (shows_frames s (black page) a.limits (is_black page is) a.gamma a.channel_gamma there)
@@ -98,15 +98,15 @@ some_size Words RedFrame pixels some = omega arith
 some_size Words GreenFrame pixels some = omega arith
 some_size Words BlueFrame pixels some = omega arith
 
-some_bytes : (s : Setup) (page : Sheet) (pass : ℕ) → has_picture s page ≡ true → 1 ≤ bytes_per_line s pass
+some_bytes : (s : Setup) (page : PageView) (pass : ℕ) → has_picture s page ≡ true → 1 ≤ bytes_per_line s pass
 some_bytes s page pass there =
     some_size (packing_of s.scene.depth) (format_at s pass) (width_of s + s.loss) (let w = (has_sides s page there).width_some in omega arith)
 
 -- the lines and the bytes of a line that are told of a frame, by the kind of scanner
-told_lines : (s : Setup) (page : Sheet) (pass : ℕ) → has_picture s page ≡ true → (params_at s page pass).lines ≡ lines_told s.scene.kind (height_of s page)
-told_lines s page pass there = ap (λ (b : Bool). if b then lines_told s.scene.kind (height_of s page) else Some 0) there
+told_lines : (s : Setup) (page : PageView) (pass : ℕ) → has_picture s page ≡ true → (params_at s page pass).lines ≡ lines_in_params s.scene.kind (height_of s page)
+told_lines s page pass there = ap (λ (b : Bool). if b then lines_in_params s.scene.kind (height_of s page) else Some 0) there
 
-told_bytes : (s : Setup) (page : Sheet) (pass : ℕ) → has_picture s page ≡ true → (params_at s page pass).bytes_per_line ≡ bytes_per_line s pass
+told_bytes : (s : Setup) (page : PageView) (pass : ℕ) → has_picture s page ≡ true → (params_at s page pass).bytes_per_line ≡ bytes_per_line s pass
 told_bytes s page pass there = ap (λ (b : Bool). if_picture b (bytes_per_line s pass)) there
 
 eq_true : (n : ℕ) → (n == n) ≡ true
@@ -119,7 +119,7 @@ side n low high = both (nat_le 1 n) (nat_le n 65536) (grind (arith, nat_tests)) 
     both true b e f = f
     both false b e f = e
 
-full_by : (kind : DeviceKind) (height line : ℕ) → 1 ≤ height → height ≤ 65536 → 1 ≤ line → is_full_at (lines_told kind height) line (height * line) ≡ true
+full_by : (kind : DeviceKind) (height line : ℕ) → 1 ≤ height → height ≤ 65536 → 1 ≤ line → is_full_at (lines_in_params kind height) line (height * line) ≡ true
 full_by Flatbed height line low high some = eq_true (height * line)
 full_by Feeder height line low high some = eq_true (height * line)
 full_by ThreePass height line low high some = eq_true (height * line)
@@ -127,25 +127,25 @@ full_by Hand height line low high some =
     let back : height * line / line ≡ height = mul-div_cancel height (omega arith) in
     ap (λ (n : ℕ). is_join_side n && (height * line == n * line)) back ∙ (let is = side height low high in let same = eq_true (height * line) in rw (is, same) refl)
 
-short_by : (kind : DeviceKind) (height line : ℕ) → 1 ≤ height → 1 ≤ line → is_full_at (lines_told kind height) line 0 ≡ false
+short_by : (kind : DeviceKind) (height line : ℕ) → 1 ≤ height → 1 ≤ line → is_full_at (lines_in_params kind height) line 0 ≡ false
 short_by Flatbed height line low some = let most : 1 ≤ height * line = one-le-mul low some in grind (arith, nat_tests)
 short_by Feeder height line low some = let most : 1 ≤ height * line = one-le-mul low some in grind (arith, nat_tests)
 short_by ThreePass height line low some = let most : 1 ≤ height * line = one-le-mul low some in grind (arith, nat_tests)
 short_by Hand height line low some = ap (λ (n : ℕ). is_join_side n && (0 == n * line)) (zero-div line)
 
-most_by : (kind : DeviceKind) (height line : ℕ) → height ≤ 65536 → height * line ≤ most_lines (lines_told kind height) * line
+most_by : (kind : DeviceKind) (height line : ℕ) → height ≤ 65536 → height * line ≤ most_lines (lines_in_params kind height) * line
 most_by Flatbed height line high = omega arith
 most_by Feeder height line high = omega arith
 most_by ThreePass height line high = omega arith
 most_by Hand height line high = mul-le-mul_right line high
 
 -- a frame of a scan, without its acceptance
-record IsTaken (s : Setup) (page : Sheet) (pass : ℕ) : Type 0 where
+record IsTaken (s : Setup) (page : PageView) (pass : ℕ) : Type 0 where
   fits : (front rest : List ℕ) → front ++ rest ≡ payload s page pass → length front ≤ most_bytes (params_at s page pass)
   full : is_full (frame_of s page pass) ≡ true
   none_is_short : is_full (record (frame_of s page pass) { payload = [] }) ≡ false
 
-is_taken : (s : Setup) (page : Sheet) (pass : ℕ) → has_picture s page ≡ true → IsTaken s page pass
+is_taken : (s : Setup) (page : PageView) (pass : ℕ) → has_picture s page ≡ true → IsTaken s page pass
 is_taken s page pass there =
     let sides = has_sides s page there in
     let height = height_of s page in
@@ -154,21 +154,21 @@ is_taken s page pass there =
     let lines = told_lines s page pass there in
     let bytes = told_bytes s page pass there in
     let size : length (payload s page pass) ≡ height * line = length-payload s page pass in
-    let at : (n : ℕ) → is_full_at (params_at s page pass).lines (params_at s page pass).bytes_per_line n ≡ is_full_at (lines_told s.scene.kind height) line n =
-    λ n. ap (λ (o : Option ℕ). is_full_at o (params_at s page pass).bytes_per_line n) lines ∙ ap (λ (b : ℕ). is_full_at (lines_told s.scene.kind height) b n) bytes in
-    let most : most_bytes (params_at s page pass) ≡ most_lines (lines_told s.scene.kind height) * line =
-    ap (λ (o : Option ℕ). most_lines o * (params_at s page pass).bytes_per_line) lines ∙ ap (λ (b : ℕ). most_lines (lines_told s.scene.kind height) * b) bytes in
+    let at : (n : ℕ) → is_full_at (params_at s page pass).lines (params_at s page pass).bytes_per_line n ≡ is_full_at (lines_in_params s.scene.kind height) line n =
+    λ n. ap (λ (o : Option ℕ). is_full_at o (params_at s page pass).bytes_per_line n) lines ∙ ap (λ (b : ℕ). is_full_at (lines_in_params s.scene.kind height) b n) bytes in
+    let most : most_bytes (params_at s page pass) ≡ most_lines (lines_in_params s.scene.kind height) * line =
+    ap (λ (o : Option ℕ). most_lines o * (params_at s page pass).bytes_per_line) lines ∙ ap (λ (b : ℕ). most_lines (lines_in_params s.scene.kind height) * b) bytes in
     record {
       fits = λ front rest all.
           let whole : length front + length rest ≡ length (payload s page pass) = sym (length-append front rest) ∙ ap length all in
           let room = most_by s.scene.kind height line sides.height_most in
           omega arith;
-      full = at (length (payload s page pass)) ∙ ap (λ (n : ℕ). is_full_at (lines_told s.scene.kind height) line n) size ∙ full_by s.scene.kind height line sides.height_some sides.height_most some;
+      full = at (length (payload s page pass)) ∙ ap (λ (n : ℕ). is_full_at (lines_in_params s.scene.kind height) line n) size ∙ full_by s.scene.kind height line sides.height_some sides.height_most some;
       none_is_short = at 0 ∙ short_by s.scene.kind height line sides.height_some some;
     }
 
-takes_it : (s : Setup) (page : Sheet) (pass : ℕ) (ended more : List Frame) → IsTaken s page pass → is_joined ended ≡ false → is_accepted ended (params_at s page pass) s.order ≡ true → (params_at s page pass).last_frame ≡ is_last more
-    → Takes ended (frame_of s page pass) more
+takes_it : (s : Setup) (page : PageView) (pass : ℕ) (ended more : List Frame) → IsTaken s page pass → is_joined ended ≡ false → is_accepted ended (params_at s page pass) s.order ≡ true → (params_at s page pass).last_frame ≡ no_frame_left more
+    → JoinTakes ended (frame_of s page pass) more
 takes_it s page pass ended more t unjoined accepted last =
     record { unjoined = unjoined; accepted = accepted; fits = t.fits; full = t.full; none_is_short = t.none_is_short; last = last }
 
@@ -182,17 +182,17 @@ one_color Grb = refl
 one_color Brg = refl
 one_color Bgr = refl
 
-all_channels : (m : Mode) → is_alone_format (format_of m) ≡ true
+all_channels : (m : Mode) → is_alone_format (frame_format_of m) ≡ true
 all_channels Gray = refl
 all_channels Color = refl
 
-last_told : (s : Setup) (page : Sheet) (three : Bool) (pass : ℕ) → takes_colors s.scene.kind s.scene.mode ≡ three → (params_at s page pass).last_frame ≡ ((if three then 2 else 0) == pass)
+last_told : (s : Setup) (page : PageView) (three : Bool) (pass : ℕ) → takes_colors s.scene.kind s.scene.mode ≡ three → (params_at s page pass).last_frame ≡ ((if three then 2 else 0) == pass)
 last_told s page three pass e = ap (λ (b : Bool). (if b then 2 else 0) == pass) e
 
-alone_told : (s : Setup) (three : Bool) → takes_colors s.scene.kind s.scene.mode ≡ three → is_alone_format (format_at s 0) ≡ is_alone_format (if three then color_at s.passes 0 else format_of s.scene.mode)
-alone_told s three e = ap (λ (b : Bool). is_alone_format (if b then color_at s.passes 0 else format_of s.scene.mode)) e
+alone_told : (s : Setup) (three : Bool) → takes_colors s.scene.kind s.scene.mode ≡ three → is_alone_format (format_at s 0) ≡ is_alone_format (if three then color_at s.passes 0 else frame_format_of s.scene.mode)
+alone_told s three e = ap (λ (b : Bool). is_alone_format (if b then color_at s.passes 0 else frame_format_of s.scene.mode)) e
 
-take_all : (s : Setup) (page : Sheet) (three : Bool) → takes_colors s.scene.kind s.scene.mode ≡ three → has_picture s page ≡ true → AllAccepted three s page → TakesAll [] (frames three s page)
+take_all : (s : Setup) (page : PageView) (three : Bool) → takes_colors s.scene.kind s.scene.mode ≡ three → has_picture s page ≡ true → AllAccepted three s page → TakesAll [] (frames three s page)
 unfolding frames
 take_all s page true e there a =
     let first = takes_it s page 0 [] (frame_of s page 1 ∷ frame_of s page 2 ∷ []) (is_taken s page 0 there) refl a.0 (last_told s page true 0 e) in
@@ -204,12 +204,12 @@ take_all s page false e there a = (
   alone_told s false e ∙ all_channels s.scene.mode,
 )
 
-pub takes_frames : (s : Setup) (page : Sheet) → IsAllowed s → IsShaped page → has_picture s page ≡ true → TakesAll [] (frames_of s page)
+pub takes_frames : (s : Setup) (page : PageView) → IsAllowed s → IsShaped page → has_picture s page ≡ true → TakesAll [] (frames_of s page)
 unfolding frames
 takes_frames s page a is there = take_all s page (takes_colors s.scene.kind s.scene.mode) refl there (all_accepted s page a is there)
 
 -- they are a whole picture
-pub joined_frames : (s : Setup) (page : Sheet) → is_joined (frames_of s page) ≡ true
+pub joined_frames : (s : Setup) (page : PageView) → is_joined (frames_of s page) ≡ true
 unfolding frames
 joined_frames s page = by_colors (takes_colors s.scene.kind s.scene.mode) refl
   where

@@ -8,22 +8,22 @@ use Rattle.sane_fixed.specs.declared.status.Status.{Status}
 use Rattle.sane_fixed.specs.declared.status.Status.TheVariants.{Good, Unsupported, Cancelled, DeviceBusy, Inval, Eof, Jammed, NoDocs, CoverOpen, IoError, NoMem, AccessDenied}
 use Rattle.std.specs.Prelude.{All}
 use Rattle.std.proofs.lemmas.List.Elements.{All-head}
-use Rattle.page_picture.specs.Page.{IsSheet, Sheet}
+use Rattle.page_picture.specs.Page.{IsPageView, PageView}
 use Rattle.scan_frames.specs.Frames.{has_picture, last_pass, frame_of, frames_of, params_at, payload, takes_colors}
 use Rattle.scan_frames.specs.declared.setup.Setup.{Setup}
 use Rattle.page_picture.specs.Shows.{Frame}
 use Rattle.scan_frames.proofs.Passes.{each}
 use Rattle.scan_frames.proofs.Zeros.{ends_in_zeros}
-use Rattle.device_api.specs.Allowed.{HasLimits, IsHeld}
-use Rattle.device_api.specs.State.{DeviceState, Phase, Starts, StartsIn, StartsFrame, Reads, ReadsIn, ReadsOn, FrameReads, told_at, after_pass, after_told, HasStopped, Held, StartsOn, first_of, goes_to, is_at_rest, page_of, params_in, params_of, pass_told, steady_of, stopped, stopped_in, with_failures, with_phase}
+use Rattle.device_api.specs.ScannerLimits.{HasLimits, IsHeldPage}
+use Rattle.device_api.specs.State.{DeviceState, Phase, Starts, StartsIn, StartsFrame, Reads, ReadsIn, ReadsOn, FrameReads, read_status_at, after_pass, after_read_status, HasStopped, HeldPage, StartsOn, first_page, goes_to, is_at_rest, page_of, params_in, params_of, reported_pass, steady_of, after_stop, stopped_in, with_failures, with_phase}
 use Rattle.device_api.specs.State.Phase.{AtRest, Between, Reading}
 use Rattle.device_api.proofs.RunLaws.{length-payload}
-use Rattle.scan_laws.specs.Runs.{Call, Start, Read, Set, Load, Cancel, Reset, Makes, GoesOn, heard_after, heard_in, IsHeardIn, started, EndsFrame, IsOfScan, ShowsOne}
+use Rattle.scan_laws.specs.ScanRuns.{DeviceCall, Start, Read, Set, Load, Cancel, Reset, Makes, ScanGoesOn, heard_after, heard_in, IsHeardIn, last_started, FrameIsHeard, IsOfScan, ShowsOne}
 use Rattle.scan_laws.proofs.Meant.{means_and_shows}
 
 -- ---- what was heard, by the phase
 
-abbrev IsHeard : Phase → Setup → Sheet → List ℕ → Type 0
+abbrev IsHeard : Phase → Setup → PageView → List ℕ → Type 0
 IsHeard (AtRest _) s page heard = ⊥
 IsHeard (Between zero) s page heard = ⊥
 IsHeard (Between (suc pass)) s page heard = (suc pass ≤ last_pass s) × ((heard ≡ payload s page pass) ⊎ ((s.told ≡ Some Eof) × (heard ≡ [])))
@@ -54,8 +54,8 @@ stops_at_rest (AtRest c) s = refl
 stops_at_rest (Between ended) s = refl
 stops_at_rest (Reading pass given) s = refl
 
-stopped_rests : {A : Type 0} (s new : DeviceState) → new ≡ stopped s → is_at_rest new.phase ≡ false → A
-stopped_rests s new is moves = at_rest new false (phase_of new (stopped s) is ∙ stops_at_rest s.phase s) moves
+stopped_rests : {A : Type 0} (s new : DeviceState) → new ≡ after_stop s → is_at_rest new.phase ≡ false → A
+stopped_rests s new is moves = at_rest new false (phase_of new (after_stop s) is ∙ stops_at_rest s.phase s) moves
 
 failed_rests : {A : Type 0} (s new : DeviceState) → HasStopped s new → is_at_rest new.phase ≡ false → A
 failed_rests s new h moves = stopped_rests (with_failures s h.failures) new h.after moves
@@ -77,7 +77,7 @@ frame_starts first new (Err NoDocs) heard pass few h moves = absurd h
 frame_starts first new (Err CoverOpen) heard pass few h moves = absurd h
 frame_starts first new (Err AccessDenied) heard pass few h moves = absurd h
 
-on_starts : (pages : List Held) (first new : DeviceState) (result : Result Unit Status) (heard : List ℕ) (pass : ℕ) → suc pass ≤ last_pass first.setup → StartsOn pages (with_phase first (Between (suc pass))) result new → is_at_rest new.phase ≡ false → IsUnder first new (heard_after heard (Start result))
+on_starts : (pages : List HeldPage) (first new : DeviceState) (result : Result Unit Status) (heard : List ℕ) (pass : ℕ) → suc pass ≤ last_pass first.setup → StartsOn pages (with_phase first (Between (suc pass))) result new → is_at_rest new.phase ≡ false → IsUnder first new (heard_after heard (Start result))
 on_starts [] first new result heard pass few h moves = stopped_rests (with_phase first (Between (suc pass))) new h.1 moves
 on_starts (held ∷ pages) first new result heard pass few h moves = frame_starts first new result heard pass few h moves
 
@@ -128,11 +128,11 @@ told_first : (told : Option Status) (given : ℕ) (status : Status) (b : Bool) �
 told_first told given status true e h = (eqb-true given 0 e, h)
 told_first told given status false e h = absurd cc
 
-told_ends : (first new : DeviceState) (pass given : ℕ) (status : Status) (heard : List ℕ) → heard ≡ [] → first.setup.told ≡ Some status → new ≡ goes_to (with_phase first (Reading pass given)) (after_told first.setup pass status) → is_at_rest new.phase ≡ false → IsUnder first new heard
+told_ends : (first new : DeviceState) (pass given : ℕ) (status : Status) (heard : List ℕ) → heard ≡ [] → first.setup.told ≡ Some status → new ≡ goes_to (with_phase first (Reading pass given)) (after_read_status first.setup pass status) → is_at_rest new.phase ≡ false → IsUnder first new heard
 told_ends first new pass given Eof heard none told is moves = pass_ends first new pass given heard is (inr (told, none)) moves
 told_ends first new pass given _ heard none told is moves = at_rest new false (phase_of new _ is) moves
 
-frame_reads : (o : Option Status) (first new : DeviceState) (pass given : ℕ) (result : Result ℕ Status) (buf heard : List ℕ) → told_at first.setup.told given ≡ o → steady_of first ≡ true → IsHeard (Reading pass given) first.setup (page_of first) heard
+frame_reads : (o : Option Status) (first new : DeviceState) (pass given : ℕ) (result : Result ℕ Status) (buf heard : List ℕ) → read_status_at first.setup.told given ≡ o → steady_of first ≡ true → IsHeard (Reading pass given) first.setup (page_of first) heard
     → FrameReads o (with_phase first (Reading pass given)) pass given result new buf → is_at_rest new.phase ≡ false → IsUnder first new (heard_after heard (Read result buf))
 frame_reads None first new pass given result buf heard told steady at h moves = on_reads first new pass given result buf heard steady at h moves
 frame_reads (Some status) first new pass given (Ok n) buf heard told steady at h moves = absurd (let clash : Ok n ≡ Err status = h.0 in cc)
@@ -147,7 +147,7 @@ idle_read first new phase (Err _) buf heard at h = comes_to first new phase hear
 
 -- ---- any call
 
-step : (phase : Phase) (call : Call) (first new : DeviceState) (heard : List ℕ) → steady_of first ≡ true → IsHeard phase first.setup (page_of first) heard → Makes (with_phase first phase) call new → is_at_rest new.phase ≡ false → IsUnder first new (heard_after heard call)
+step : (phase : Phase) (call : DeviceCall) (first new : DeviceState) (heard : List ℕ) → steady_of first ≡ true → IsHeard phase first.setup (page_of first) heard → Makes (with_phase first phase) call new → is_at_rest new.phase ≡ false → IsUnder first new (heard_after heard call)
 step (AtRest c) call first new heard steady at h moves = absurd at
 step (Between zero) call first new heard steady at h moves = absurd at
 step (Between (suc pass)) (Start result) first new heard steady at h moves = on_starts first.pages first new result heard pass at.0 h moves
@@ -159,7 +159,7 @@ step (Between (suc pass)) (Load source false) first new heard steady at h moves 
 step (Between (suc pass)) Cancel first new heard steady at h moves = at_rest new true (phase_of new _ h) moves
 step (Between (suc pass)) Reset first new heard steady at h moves = at_rest new false (phase_of new _ h) moves
 step (Reading pass given) (Start result) first new heard steady at h moves = busy_start first new result heard pass given at h
-step (Reading pass given) (Read result buf) first new heard steady at h moves = frame_reads (told_at first.setup.told given) first new pass given result buf heard refl steady at h moves
+step (Reading pass given) (Read result buf) first new heard steady at h moves = frame_reads (read_status_at first.setup.told given) first new pass given result buf heard refl steady at h moves
 step (Reading pass given) (Set n asked (Ok given_now)) first new heard steady at h moves = absurd (let clash : Err DeviceBusy ≡ Ok given_now = h.0 in cc)
 step (Reading pass given) (Set n asked (Err _)) first new heard steady at h moves = comes_to first new (Reading pass given) heard h at
 step (Reading pass given) (Load source true) first new heard steady at h moves = absurd (false≢true h.0)
@@ -167,7 +167,7 @@ step (Reading pass given) (Load source false) first new heard steady at h moves 
 step (Reading pass given) Cancel first new heard steady at h moves = at_rest new true (phase_of new _ h) moves
 step (Reading pass given) Reset first new heard steady at h moves = at_rest new false (phase_of new _ h) moves
 
-runs : (calls : List Call) (first now end : DeviceState) (heard : List ℕ) → steady_of first ≡ true → IsUnder first now heard → GoesOn now calls end → IsUnder first end (heard_in heard calls)
+runs : (calls : List DeviceCall) (first now end : DeviceState) (heard : List ℕ) → steady_of first ≡ true → IsUnder first now heard → ScanGoesOn now calls end → IsUnder first end (heard_in heard calls)
 runs [] first now end heard steady u h = subst (λ (d : DeviceState). IsUnder first d heard) (sym h) u
 runs (call ∷ calls) first now end heard steady u h =
     let made : Makes (with_phase first now.phase) call h.0 = subst (λ (d : DeviceState). Makes d call h.0) u.now_is h.1 in
@@ -175,7 +175,7 @@ runs (call ∷ calls) first now end heard steady u h =
 
 -- ---- the first start, and what is shown
 
-frame_of_start : (pages : List Held) (first begun : DeviceState) → StartsOn pages first (Ok tt) begun → StartsFrame first (Ok tt) begun
+frame_of_start : (pages : List HeldPage) (first begun : DeviceState) → StartsOn pages first (Ok tt) begun → StartsFrame first (Ok tt) begun
 frame_of_start [] first begun h = absurd (let clash : Ok tt ≡ Err NoDocs = h.0 in cc)
 frame_of_start (held ∷ pages) first begun h = h
 
@@ -195,8 +195,8 @@ first_start (Reading p g) first begun at rest h = absurd (false≢true rest)
 record IsOfFrame (first : DeviceState) (phase : Phase) (heard : List ℕ) : Type 0 where
   pass : ℕ
   few : pass ≤ last_pass first.setup
-  is_started : started phase ≡ pass
-  told : params_at first.setup (page_of first) (pass_told phase) ≡ params_at first.setup (page_of first) pass
+  is_started : last_started phase ≡ pass
+  told : params_at first.setup (page_of first) (reported_pass phase) ≡ params_at first.setup (page_of first) pass
   is_heard : IsHeardIn phase first.setup.told heard (frame_of first.setup (page_of first) pass)
 
 of_frame : (phase : Phase) (first : DeviceState) (heard : List ℕ) → IsHeard phase first.setup (page_of first) heard → IsOfFrame first phase heard
@@ -209,7 +209,7 @@ of_frame (Reading pass given) first heard h = record { pass = pass; few = h.0; i
 
 -- ---- the end of a frame
 
-last_rests : (s : Setup) (page : Sheet) (pass : ℕ) (phase : Phase) → pass ≤ last_pass s → phase ≡ after_pass s pass → is_at_rest phase ≡ (params_at s page pass).last_frame
+last_rests : (s : Setup) (page : PageView) (pass : ℕ) (phase : Phase) → pass ≤ last_pass s → phase ≡ after_pass s pass → is_at_rest phase ≡ (params_at s page pass).last_frame
 last_rests s page pass phase few is = ap is_at_rest is ∙ by_last (nat_lt pass (last_pass s)) refl
   where
     by_last : (b : Bool) → nat_lt pass (last_pass s) ≡ b → is_at_rest (if b then Between (pass + 1) else AtRest false) ≡ (last_pass s == pass)
@@ -226,7 +226,7 @@ record EndsPass (first after : DeviceState) (pass : ℕ) (heard : List ℕ) : Ty
   is_heard : (heard ≡ payload first.setup (page_of first) pass) ⊎ ((first.setup.told ≡ Some Eof) × (heard ≡ []))
   phase_is : after.phase ≡ after_pass first.setup pass
 
-ends_by : (o : Option Status) (first after : DeviceState) (pass given : ℕ) (buf heard : List ℕ) → told_at first.setup.told given ≡ o → IsHeard (Reading pass given) first.setup (page_of first) heard → FrameReads o (with_phase first (Reading pass given)) pass given (Err Eof) after buf → EndsPass first after pass heard
+ends_by : (o : Option Status) (first after : DeviceState) (pass given : ℕ) (buf heard : List ℕ) → read_status_at first.setup.told given ≡ o → IsHeard (Reading pass given) first.setup (page_of first) heard → FrameReads o (with_phase first (Reading pass given)) pass given (Err Eof) after buf → EndsPass first after pass heard
 ends_by None first after pass given buf heard told at h =
     let all = payload first.setup (page_of first) pass in
     let nothing : drop given all ≡ [] = drop_of_length-le all (let size = length-payload first.setup (page_of first) pass in let end = h.0 in omega (arith, size, end)) in
@@ -234,13 +234,13 @@ ends_by None first after pass given buf heard told at h =
 ends_by (Some status) first after pass given buf heard told at h =
     let same : status ≡ Eof = (let e : Err Eof ≡ Err status = h.0 in cc) in
     let is = told_first first.setup.told given status (given == 0) refl told in
-    record { is_heard = inr (is.1 ∙ ap (λ st. Some st) same, at.2 is.0); phase_is = phase_of after _ h.1 ∙ phase_gone (with_phase first (Reading pass given)) (after_told first.setup pass status) ∙ ap (λ (st : Status). after_told first.setup pass st) same }
+    record { is_heard = inr (is.1 ∙ ap (λ st. Some st) same, at.2 is.0); phase_is = phase_of after _ h.1 ∙ phase_gone (with_phase first (Reading pass given)) (after_read_status first.setup pass status) ∙ ap (λ (st : Status). after_read_status first.setup pass st) same }
 
-ends_in : (phase : Phase) (first after : DeviceState) (buf heard : List ℕ) → IsHeard phase first.setup (page_of first) heard → ReadsIn phase (with_phase first phase) (Err Eof) after buf → EndsFrame (frames_of first.setup (page_of first)) (with_phase first phase) after heard
+ends_in : (phase : Phase) (first after : DeviceState) (buf heard : List ℕ) → IsHeard phase first.setup (page_of first) heard → ReadsIn phase (with_phase first phase) (Err Eof) after buf → FrameIsHeard (frames_of first.setup (page_of first)) (with_phase first phase) after heard
 ends_in (AtRest c) first after buf heard at h = absurd at
 ends_in (Between n) first after buf heard at h = absurd (let clash : Err Eof ≡ Err Inval = h.0 in cc)
 ends_in (Reading pass given) first after buf heard at h =
-    let e = ends_by (told_at first.setup.told given) first after pass given buf heard refl at h in
+    let e = ends_by (read_status_at first.setup.told given) first after pass given buf heard refl at h in
     record {
       frame = frame_of first.setup (page_of first) pass;
       in_place = each first.setup (page_of first) pass at.0;
@@ -251,13 +251,13 @@ ends_in (Reading pass given) first after buf heard at h =
 -- ---- the scan
 
 -- a page whose source is steady is there
-steady_told : (pages : List Held) (s : Setup) (pass : ℕ) → (first_of pages).steady ≡ true → params_in pages s pass ≡ params_at s (first_of pages).page pass
+steady_told : (pages : List HeldPage) (s : Setup) (pass : ℕ) → (first_page pages).steady ≡ true → params_in pages s pass ≡ params_at s (first_page pages).page pass
 steady_told [] s pass steady = absurd (false≢true steady)
 steady_told (held ∷ pages) s pass steady = refl
 
-steady_sheet : (pages : List Held) → All IsHeld pages → (first_of pages).steady ≡ true → IsSheet (first_of pages).page
+steady_sheet : (pages : List HeldPage) → All IsHeldPage pages → (first_page pages).steady ≡ true → IsPageView (first_page pages).page
 steady_sheet [] all steady = absurd (false≢true steady)
-steady_sheet (held ∷ pages) all steady = (All-head IsHeld held pages all).sheet steady
+steady_sheet (held ∷ pages) all steady = (All-head IsHeldPage held pages all).view steady
 
 is_of_scan : (first now : DeviceState) (heard : List ℕ) → steady_of first ≡ true → IsUnder first now heard → IsOfScan (frames_of first.setup (page_of first)) now heard
 is_of_scan first now heard steady u =
@@ -266,15 +266,15 @@ is_of_scan first now heard steady u =
     record {
       frame = frame_of first.setup (page_of first) f.pass;
       in_place = ap (λ (n : ℕ). slice_get (frames_of first.setup (page_of first)) n) f.is_started ∙ each first.setup (page_of first) f.pass f.few;
-      told = ap (λ (d : DeviceState). params_of d) u.now_is ∙ steady_told first.pages first.setup (pass_told now.phase) steady ∙ f.told;
+      told = ap (λ (d : DeviceState). params_of d) u.now_is ∙ steady_told first.pages first.setup (reported_pass now.phase) steady ∙ f.told;
       order = ap (λ (s : Setup). s.order) setup;
       is_heard = subst (λ o. IsHeardIn now.phase o heard (frame_of first.setup (page_of first) f.pass)) (sym (ap (λ (s : Setup). s.told) setup)) f.is_heard;
     }
 
-ends_frame : (first now after : DeviceState) (buf heard : List ℕ) → IsUnder first now heard → Reads now (Err Eof) after buf → EndsFrame (frames_of first.setup (page_of first)) now after heard
+ends_frame : (first now after : DeviceState) (buf heard : List ℕ) → IsUnder first now heard → Reads now (Err Eof) after buf → FrameIsHeard (frames_of first.setup (page_of first)) now after heard
 ends_frame first now after buf heard u end =
     let here : Reads (with_phase first now.phase) (Err Eof) after buf = subst (λ (d : DeviceState). Reads d (Err Eof) after buf) u.now_is end in
-    subst (λ (d : DeviceState). EndsFrame (frames_of first.setup (page_of first)) d after heard) (sym u.now_is) (ends_in now.phase first after buf heard u.heard_is here)
+    subst (λ (d : DeviceState). FrameIsHeard (frames_of first.setup (page_of first)) d after heard) (sym u.now_is) (ends_in now.phase first after buf heard u.heard_is here)
 
 -- a frame of the list is that of its pass
 of_pass : (three : Bool) (f : ℕ → Frame) (pass : ℕ) (g : Frame) → slice_get (if three then f 0 ∷ f 1 ∷ f 2 ∷ [] else f 0 ∷ []) pass ≡ Some g → g ≡ f pass

@@ -7,7 +7,7 @@ use Rattle.scan_frames.specs.declared.setup.Setup.{Setup}
 use Rattle.device_api.specs.Values.{identity, mm}
 
 -- neither lost pixels, nor a limit of a read, nor a status that is told in place of bytes
-pub record TellsNothing (s : Setup) : Type 0 where
+pub record HasNoOwnOptions (s : Setup) : Type 0 where
   pub loss : s.loss ≡ 0
   pub limit : s.limit ≡ 65536
   pub told : s.told ≡ None
@@ -23,8 +23,8 @@ pub record SeesAll (s : Setup) : Type 0 where
 
 abbrev pub HasOwnAlone : DeviceKind → Setup → Type 0
 HasOwnAlone Flatbed s = s.passes ≡ Rgb
-HasOwnAlone Hand s = (s.passes ≡ Rgb) × TellsNothing s × SeesAll s
-HasOwnAlone ThreePass s = TellsNothing s
+HasOwnAlone Hand s = (s.passes ≡ Rgb) × HasNoOwnOptions s × SeesAll s
+HasOwnAlone ThreePass s = HasNoOwnOptions s
 HasOwnAlone Feeder s = s.passes ≡ Rgb
 
 abbrev pub IsOwn : Setup → Type 0

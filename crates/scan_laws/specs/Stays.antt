@@ -1,12 +1,12 @@
 -- What a call leaves as it was.
 use Rattle.std.specs.Prelude.{ℕ, ◌≡◌, ◌⊎◌, true, List}
-use Rattle.page_picture.specs.Page.{IsShaped, IsSheet}
+use Rattle.page_picture.specs.Page.{IsShaped, IsPageView}
 use Rattle.page_picture.specs.Source.{SourceState}
-use Rattle.device_api.specs.State.{DeviceState, Held, counted, feeds, is_at_rest, left_behind}
+use Rattle.device_api.specs.State.{DeviceState, HeldPage, with_failure_count, feeds, is_at_rest, left_behind}
 
 -- the same pages; of the first another count of failures may stand
-abbrev pub AreSamePages : List Held → List Held → Type 0
-AreSamePages old new = (new ≡ old) ⊎ ((n : ℕ) × (new ≡ counted n old))
+abbrev pub AreSamePages : List HeldPage → List HeldPage → Type 0
+AreSamePages old new = (new ≡ old) ⊎ ((n : ℕ) × (new ≡ with_failure_count n old))
 
 -- a feeder that is at rest let go of its first page
 pub record LetsGo (s t : DeviceState) : Type 0 where
@@ -24,4 +24,4 @@ pub record IsSameScan (s t : DeviceState) : Type 0 where
 -- the limits of a page source
 pub record IsSourceShaped (source : SourceState) : Type 0 where
   pub page : IsShaped source.page
-  pub sheet : source.steady ≡ true → IsSheet source.page
+  pub view : source.steady ≡ true → IsPageView source.page

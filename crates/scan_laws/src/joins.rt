@@ -1,52 +1,52 @@
 ghost use Rattle.std.specs.Prelude.{◌≡◌, ◌≤◌, ◌++◌, ◌∷◌, ℕ, Bool, List, [], None, Some, Ok, true, false, slice_index};
 ghost use Rattle.netpbm.specs.Picture.{Picture, SamePicture};
 ghost use Rattle.netpbm.specs.Pnm.{Denotes};
-ghost use Rattle.page_picture.specs.Page.{Sheet, IsShaped, IsSheet};
+ghost use Rattle.page_picture.specs.Page.{PageView, IsShaped, IsPageView};
 ghost use Rattle.page_picture.specs.Meaning.{meaning_of};
 ghost use Rattle.page_picture.specs.Shows.{Frame, ShowsFrames};
 ghost use Rattle.scan_frames.specs.Frames.{IsSetup, frames_of, has_picture};
 ghost use Rattle.scan_frames.specs.declared.setup.Setup.{Setup};
-ghost use Rattle.device_api.specs.Allowed.{HasLimits, IsAllowed};
+ghost use Rattle.device_api.specs.ScannerLimits.{HasLimits, IsAllowed};
 ghost use Rattle.device_api.specs.State.{DeviceState, Starts, is_at_rest, steady_of};
-ghost use Rattle.scan_laws.specs.Runs.{ShowsOne};
+ghost use Rattle.scan_laws.specs.ScanRuns.{ShowsOne};
 ghost use Rattle.frame_join.specs.FrameFile.{AllGone};
-ghost use Rattle.frame_join.specs.FrameHistory.{Past, after_begin, after_end, after_feed, failed};
+ghost use Rattle.frame_join.specs.FrameHistory.{JoinHistory, after_begin, after_end, after_feed, with_fault};
 ghost use Rattle.frame_join.specs.declared.join_stage.JoinFault.TheVariants.{Short};
-ghost use Rattle.frame_join.specs.Joining.{Joining, Stands};
-ghost use Rattle.scan_laws.specs.Joins.{IsOpen, Takes, TakesAll, goes_on, with_bytes};
+ghost use Rattle.frame_join.specs.JoinStates.{JoinState, Represents};
+ghost use Rattle.scan_laws.specs.Joins.{IsOpenJoin, JoinTakes, TakesAll, with_frame_begun, with_bytes};
 ghost use Rattle.scan_laws.specs.Weights.{greatest_weight, weight};
 
 /// A join takes the frames of a scan one after another, to the whole picture.
 pub fn a_join_takes_the_frames_of_a_scan()
-    ensures { (setup : Setup) (page : Sheet) → IsAllowed setup → IsShaped page → has_picture setup page ≡ true → TakesAll [] (frames_of setup page) }
+    ensures { (setup : Setup) (page : PageView) → IsAllowed setup → IsShaped page → has_picture setup page ≡ true → TakesAll [] (frames_of setup page) }
 {}
 
 /// A join goes through a frame that it takes: it begins, its bytes come in whatever pieces, and it ends; and an end before
 /// its first byte is short.
 pub fn a_join_goes_through_a_frame()
-    ensures begin { (ended more : List Frame) (f : Frame) (past : Past) (starved : Bool) → Takes ended f more → IsOpen ended None past
-        → after_begin f.params f.order starved past ≡ goes_on starved (with_bytes f []) past }
-    ensures feed { (ended more : List Frame) (f : Frame) (past : Past) (starved : Bool) (heard bytes rest : List ℕ) → Takes ended f more → IsOpen ended (Some (with_bytes f heard)) past
-        → (heard ++ bytes) ++ rest ≡ f.payload → after_feed bytes starved past ≡ goes_on starved (with_bytes f (heard ++ bytes)) past }
-    ensures end { (ended more : List Frame) (f : Frame) (past : Past) → Takes ended f more → IsOpen ended (Some f) past
+    ensures begin { (ended more : List Frame) (f : Frame) (past : JoinHistory) (starved : Bool) → JoinTakes ended f more → IsOpenJoin ended None past
+        → after_begin f.params f.order starved past ≡ with_frame_begun starved (with_bytes f []) past }
+    ensures feed { (ended more : List Frame) (f : Frame) (past : JoinHistory) (starved : Bool) (heard bytes rest : List ℕ) → JoinTakes ended f more → IsOpenJoin ended (Some (with_bytes f heard)) past
+        → (heard ++ bytes) ++ rest ≡ f.payload → after_feed bytes starved past ≡ with_frame_begun starved (with_bytes f (heard ++ bytes)) past }
+    ensures end { (ended more : List Frame) (f : Frame) (past : JoinHistory) → JoinTakes ended f more → IsOpenJoin ended (Some f) past
         → after_end past ≡ record past { ended = ended ++ f ∷ []; under = None } }
-    ensures short { (ended more : List Frame) (f : Frame) (past : Past) → Takes ended f more → IsOpen ended (Some (with_bytes f [])) past
-        → after_end past ≡ failed Short past }
+    ensures short { (ended more : List Frame) (f : Frame) (past : JoinHistory) → JoinTakes ended f more → IsOpenJoin ended (Some (with_bytes f [])) past
+        → after_end past ≡ with_fault Short past }
 {}
 
 /// No scan gives more bytes than the greatest of a flatbed: its whole bed in color at depth 16, with 64 lost pixels a line.
 pub fn no_scan_is_longer()
-    ensures { (setup : Setup) (page : Sheet) → IsAllowed setup → has_picture setup page ≡ true → weight (frames_of setup page) ≤ greatest_weight }
+    ensures { (setup : Setup) (page : PageView) → IsAllowed setup → has_picture setup page ≡ true → weight (frames_of setup page) ≤ greatest_weight }
 {}
 
 /// The frames of a scan, joined, are the picture that its scene means on its page: they show it, and their file
 /// denotes it.
 pub fn frames_join_to_the_meaning()
-    ensures there { (setup : Setup) (page : Sheet) → has_picture setup page ≡ false → meaning_of page setup.scene ≡ None }
-    ensures shows { (setup : Setup) (page : Sheet) → IsAllowed setup → IsSheet page → has_picture setup page ≡ true
+    ensures there { (setup : Setup) (page : PageView) → has_picture setup page ≡ false → meaning_of page setup.scene ≡ None }
+    ensures shows { (setup : Setup) (page : PageView) → IsAllowed setup → IsPageView page → has_picture setup page ≡ true
         → (p : Picture) × (meaning_of page setup.scene ≡ Some p) × ShowsFrames (frames_of setup page) p }
-    ensures file { (setup : Setup) (page : Sheet) (past : Past) (join : Joining) (p : Picture) → IsAllowed setup → IsSheet page
-        → meaning_of page setup.scene ≡ Some p → Stands past join → past.ended ≡ frames_of setup page → past.under ≡ None → past.fault ≡ None
+    ensures file { (setup : Setup) (page : PageView) (past : JoinHistory) (join : JoinState) (p : Picture) → IsAllowed setup → IsPageView page
+        → meaning_of page setup.scene ≡ Some p → Represents past join → past.ended ≡ frames_of setup page → past.under ≡ None → past.fault ≡ None
         → AllGone past.under past.ended past.given → Denotes past.given p }
 {}
 

@@ -1,10 +1,10 @@
 pub mod Pulls
 pub mod AllPulls
 pub mod Histories
-pub mod Numbers
-pub mod Standing
-pub mod Told
+pub mod PageNumbers
+pub mod FileInvariant
+pub mod Represented
 pub mod Deciding
 pub mod Events
 pub mod Falling
-pub mod Telling
+pub mod FilesSay

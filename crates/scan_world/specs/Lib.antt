@@ -1,7 +1,7 @@
-pub mod Posts
-pub mod Draining
-pub mod Deeds
-pub mod Standing
+pub mod Endpoints
+pub mod FileDraining
+pub mod JobEvents
+pub mod FileInvariant
 pub mod Worlds
-pub mod Moves
+pub mod JobMoves
 pub mod Rounds

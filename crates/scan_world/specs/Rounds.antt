@@ -3,71 +3,71 @@ use Rattle.std.specs.Prelude.{ℕ, ◌≡◌, ◌<◌, ◌≤◌, ◌+◌, ◌�
 use Rattle.page_picture.specs.Source.{SourceState}
 use Rattle.page_picture.specs.declared.sources.kinds.Source.{Source}
 use Rattle.scan_world.specs.declared.event.Event.{Event}
-use Rattle.scan_world.specs.declared.post.Post.{Post}
-use Rattle.scan_world.specs.Moves.{IsNextMove, left_of}
-use Rattle.scan_world.specs.Worlds.{Leads, Runs, Scene}
+use Rattle.scan_world.specs.declared.endpoint.Endpoint.{Endpoint}
+use Rattle.scan_world.specs.JobMoves.{IsNextMove, moves_left_of}
+use Rattle.scan_world.specs.Worlds.{Leads, Runs, WorldCore}
 
 -- the sum of the moves that all jobs may still take
-abbrev pub total_left : List Post → ℕ
+abbrev pub total_left : List Endpoint → ℕ
 total_left [] = 0
-total_left (p ∷ posts) = left_of p + total_left posts
+total_left (p ∷ endpoints) = moves_left_of p + total_left endpoints
 
 -- the next move of a job that has moves left
-pub record IsMoveOf (w : Scene) (i : ℕ) (event : Event) : Type 0 where
-  pub post : Post
-  pub at : slice_get w.posts i ≡ Some post
-  pub left : 0 < left_of post
-  pub next : IsNextMove w.daemon i post (Some event)
+pub record IsMoveOf (w : WorldCore) (i : ℕ) (event : Event) : Type 0 where
+  pub endpoint : Endpoint
+  pub at : slice_get w.endpoints i ≡ Some endpoint
+  pub left : 0 < moves_left_of endpoint
+  pub next : IsNextMove w.daemon i endpoint (Some event)
 
 -- the job of that place has no next move, or no moves left
-abbrev pub RestsAt : Scene → ℕ → Type 0
-RestsAt w i = (p : Post) → slice_get w.posts i ≡ Some p → IsNextMove w.daemon i p None ⊎ (left_of p ≡ 0)
+abbrev pub RestsAt : WorldCore → ℕ → Type 0
+RestsAt w i = (p : Endpoint) → slice_get w.endpoints i ≡ Some p → IsNextMove w.daemon i p None ⊎ (moves_left_of p ≡ 0)
 
 -- the turn of a job: its next move is made, where it has one and moves left
-abbrev pub TakesMove : (Source → SourceState) → ℕ → Option Event → Scene → Scene → Type 0
+abbrev pub TakesMove : (Source → SourceState) → ℕ → Option Event → WorldCore → WorldCore → Type 0
 TakesMove source i None w v = RestsAt w i × (v ≡ w)
 TakesMove source i (Some event) w v = IsMoveOf w i event × Leads source event w v
 
 -- the turns of the jobs from that place on, in their order
-abbrev pub TakesMoves : (Source → SourceState) → ℕ → List (Option Event) → Scene → Scene → Type 0
+abbrev pub TakesMoves : (Source → SourceState) → ℕ → List (Option Event) → WorldCore → WorldCore → Type 0
 TakesMoves source i [] w v = v ≡ w
-TakesMoves source i (turn ∷ turns) w v = (u : Scene) × TakesMove source i turn w u × TakesMoves source (i + 1) turns u v
+TakesMoves source i (turn ∷ turns) w v = (u : WorldCore) × TakesMove source i turn w u × TakesMoves source (i + 1) turns u v
 
 -- one turn of each job
-abbrev pub IsRound : (Source → SourceState) → List (Option Event) → Scene → Scene → Type 0
-IsRound source turns w v = (length turns ≡ length w.posts) × TakesMoves source 0 turns w v
+abbrev pub IsRound : (Source → SourceState) → List (Option Event) → WorldCore → WorldCore → Type 0
+IsRound source turns w v = (length turns ≡ length w.endpoints) × TakesMoves source 0 turns w v
 
-abbrev pub Rounds : (Source → SourceState) → List (List (Option Event)) → Scene → Scene → Type 0
+abbrev pub Rounds : (Source → SourceState) → List (List (Option Event)) → WorldCore → WorldCore → Type 0
 Rounds source [] w v = v ≡ w
-Rounds source (turns ∷ rounds) w v = (u : Scene) × IsRound source turns w u × Rounds source rounds u v
+Rounds source (turns ∷ rounds) w v = (u : WorldCore) × IsRound source turns w u × Rounds source rounds u v
 
 -- the moves that were made
-abbrev pub made : List (Option Event) → List Event
-made [] = []
-made (None ∷ turns) = made turns
-made (Some event ∷ turns) = event ∷ made turns
+abbrev pub moves_made : List (Option Event) → List Event
+moves_made [] = []
+moves_made (None ∷ turns) = moves_made turns
+moves_made (Some event ∷ turns) = event ∷ moves_made turns
 
 abbrev pub all_made : List (List (Option Event)) → List Event
 all_made [] = []
-all_made (turns ∷ rounds) = made turns ++ all_made rounds
+all_made (turns ∷ rounds) = moves_made turns ++ all_made rounds
 
 -- the turn of a job, with whether a move was made
-pub record HasTurn (source : Source → SourceState) (i : ℕ) (went : Bool) (w v : Scene) : Type 0 where
+pub record HasTurn (source : Source → SourceState) (i : ℕ) (went : Bool) (w v : WorldCore) : Type 0 where
   pub turn : Option Event
   pub takes : TakesMove source i turn w v
   pub went_is : went ≡ is_some turn
 
 -- a round, with whether a move was made in it
-pub record HasRound (source : Source → SourceState) (went : Bool) (w v : Scene) : Type 0 where
+pub record HasRound (source : Source → SourceState) (went : Bool) (w v : WorldCore) : Type 0 where
   pub turns : List (Option Event)
   pub is : IsRound source turns w v
-  pub some : went ≡ true → 0 < length (made turns)
+  pub some : went ≡ true → 0 < length (moves_made turns)
   pub none : went ≡ false → (v ≡ w) × ((i : ℕ) → RestsAt w i)
 
 -- Rounds, and then no job has a move. They made at most as many moves as all jobs had left, and each of them is an event.
-pub record RunsOut (source : Source → SourceState) (w v : Scene) : Type 0 where
+pub record RoundsRunOut (source : Source → SourceState) (w v : WorldCore) : Type 0 where
   pub rounds : List (List (Option Event))
   pub goes : Rounds source rounds w v
-  pub few : length (all_made rounds) ≤ total_left w.posts
+  pub few : length (all_made rounds) ≤ total_left w.endpoints
   pub events : Runs source (all_made rounds) w v
   pub rest : (i : ℕ) → RestsAt v i

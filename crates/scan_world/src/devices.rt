@@ -2,11 +2,11 @@
 
 ghost use Rattle.std.specs.Prelude.{◌≡◌, map, IfOk, IfErr, IfSome, IsNone, OnOk};
 ghost use Rattle.device_api.specs.State.{DeviceState};
-ghost use Rattle.dispatch.specs.RegistryFault.{MayStand};
+ghost use Rattle.dispatch.specs.RegistryFault.{AreRegistrable};
 ghost use Rattle.dispatch.specs.Table.{has_name, is_called, repeats};
-ghost use Rattle.scan_world.specs.Worlds.{Begins, HasFaultAmong, MayRun, seen};
+ghost use Rattle.scan_world.specs.Worlds.{IsInitialWorld, HasFaultAmong, MayRun, seen_world};
 
-use crate::world::{World, fault_of, posts_of};
+use crate::world::{World, endpoints_of, fault_of};
 use crate::world_fault::WorldFault;
 use device_api::Device;
 use dispatch::Registry;
@@ -50,7 +50,7 @@ fn repeats<D: Device>(devices: &[D]) -> bool
     false
 }
 
-/// Why no world is made of these devices and jobs, apart from want of memory.
+/// Why no world is made of these devices and jobs, apart from out of memory.
 fn fault_among<D: Device>(devices: &[D], jobs: &[Job]) -> Option<WorldFault>
     ensures some { IfSome result (λ f. HasFaultAmong f (map D.state devices.now) jobs.now) }
     ensures none { IsNone result → HasFaultAmong WorldFault.NoMem (map D.state devices.now) jobs.now }
@@ -76,23 +76,23 @@ impl World<Box<dyn Device>> {
         seed: [u8; 32],
         jobs: Vec<Job>,
     ) -> Result<World<Box<dyn Device>>, (WorldFault, Vec<Box<dyn Device>>)>
-        ensures begins { IfOk result (λ w. Begins (map ⟦<Box<dyn Device> as Device>⟧.state devices.items) users seed jobs.items (seen ⟦<Box<dyn Device> as Device>⟧.state w)) }
-        ensures accepted { OnOk result (MayStand (map ⟦<Box<dyn Device> as Device>⟧.state devices.items) × MayRun jobs.items) }
+        ensures begins { IfOk result (λ w. IsInitialWorld (map ⟦<Box<dyn Device> as Device>⟧.state devices.items) users seed jobs.items (seen_world ⟦<Box<dyn Device> as Device>⟧.state w)) }
+        ensures accepted { OnOk result (AreRegistrable (map ⟦<Box<dyn Device> as Device>⟧.state devices.items) × MayRun jobs.items) }
         ensures fault { IfErr result (λ e. HasFaultAmong e.0 (map ⟦<Box<dyn Device> as Device>⟧.state devices.items) jobs.items) }
         ensures back { IfErr result (λ e. e.1 ≡ devices) }
     {
         if let Some(fault) = fault_among(devices.as_slice(), jobs.as_slice()) {
             return Err((fault, devices));
         }
-        let posts = match posts_of(alloc, jobs) {
-            Ok(posts) => posts,
+        let endpoints = match endpoints_of(alloc, jobs) {
+            Ok(endpoints) => endpoints,
             Err(NoMem) => return Err((WorldFault::NoMem, devices)),
         };
         match Registry::new(alloc, devices) {
             Ok(registry) => Ok(World {
                 alloc,
                 daemon: Daemon::new(registry, users, seed),
-                posts,
+                endpoints,
             }),
             // The names and the number were tested above.
             Err((_, devices)) => Err((WorldFault::NoMem, devices)),

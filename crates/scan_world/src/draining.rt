@@ -1,14 +1,14 @@
 //! What a client gives of its files is laid down.
 
 ghost use Rattle.std.specs.Prelude.{◌≡◌, ◌<◌, List, true, length};
-ghost use Rattle.frame_join.specs.FrameHistory.{Past};
-ghost use Rattle.client_rules.specs.Talks.{scans, turns};
-ghost use Rattle.scan_world.specs.Posts.{IsKept, laid_by};
-ghost use Rattle.scan_world.specs.Draining.{Drains, HasPlace, Holds, IsLaid, Pulls, StaysStarved};
+ghost use Rattle.frame_join.specs.FrameHistory.{JoinHistory};
+ghost use Rattle.client_replies.specs.ProtocolStates.{scans, turns};
+ghost use Rattle.scan_world.specs.Endpoints.{IsKept, laid_by};
+ghost use Rattle.scan_world.specs.FileDraining.{Drains, HasPlace, HoldsHistory, IsLaid, Pulls, StaysOutOfMemory};
 
-use crate::deeds::PIECE;
+use crate::endpoint::Endpoint;
 use crate::file::File;
-use crate::post::Post;
+use crate::job_events::PIECE;
 use frame_join::{no_file_is_endless, whole_shows};
 use net_backend::Task;
 use std::alloc::Global;
@@ -22,10 +22,10 @@ pub enum Pull {
     More,
     Dry,
     /// A page was finished, and the client turned to the next.
-    Turned,
+    NextPage,
 }
 
-impl Post {
+impl Endpoint {
     /// Whether the job scans to files.
     fn has_files(&self) -> bool
         ensures { result ≡ scans self.now.task }
@@ -47,7 +47,7 @@ impl Post {
             return true;
         }
         self.file = None;
-        self.is_starved = true;
+        self.out_of_memory = true;
         false
     }
 
@@ -64,9 +64,9 @@ impl Post {
 
     /// The next bytes of the file.
     fn pull(&mut self, alloc: Global) -> Pull
-        ensures pulls { (past : Past) (pages : List Past) → scans self.old.task ≡ true → HasPlace self.old pages → Holds past pages self.old → Pulls past pages self.old result self.new }
+        ensures pulls { (past : JoinHistory) (pages : List JoinHistory) → scans self.old.task ≡ true → HasPlace self.old pages → HoldsHistory past pages self.old → Pulls past pages self.old result self.new }
         ensures rest { IsLaid self.old self.new }
-        ensures starved { StaysStarved self.old self.new }
+        ensures starved { StaysOutOfMemory self.old self.new }
     {
         if self.client.is_turning() {
             return self.pull_page(alloc);
@@ -80,9 +80,9 @@ impl Post {
     /// The next bytes of the file of a page that is whole.
     fn pull_page(&mut self, alloc: Global) -> Pull
         requires { turns self.old.client.outcome self.old.client.progress ≡ true }
-        ensures pulls { (past : Past) (pages : List Past) → scans self.old.task ≡ true → length pages < 16 → Holds past pages self.old → Pulls past pages self.old result self.new }
+        ensures pulls { (past : JoinHistory) (pages : List JoinHistory) → scans self.old.task ≡ true → length pages < 16 → HoldsHistory past pages self.old → Pulls past pages self.old result self.new }
         ensures rest { IsLaid self.old self.new }
-        ensures starved { StaysStarved self.old self.new }
+        ensures starved { StaysOutOfMemory self.old self.new }
     {
         whole_shows();
         let mut room = [0u8; PIECE];
@@ -90,7 +90,7 @@ impl Post {
         let _ = self.keep(&room[..count]);
         if !self.client.is_turning() {
             self.lay_by(alloc);
-            return Pull::Turned;
+            return Pull::NextPage;
         }
         if count == 0 { Pull::Dry } else { Pull::More }
     }
@@ -107,7 +107,7 @@ impl Post {
             match self.pull(alloc) {
                 Pull::More => {}
                 Pull::Dry => return,
-                Pull::Turned => return,
+                Pull::NextPage => return,
             }
         }
     }

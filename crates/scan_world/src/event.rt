@@ -30,7 +30,7 @@ pub enum Event {
 
 /// What may happen to one job.
 #[derive(Clone, Copy, Debug, PartialEq, Eq)]
-pub enum Deed {
+pub enum JobEvent {
     Connect,
     ToDaemon(usize),
     ToClient(usize),
@@ -42,24 +42,24 @@ pub enum Deed {
     Cancel,
 }
 
-impl Deed {
+impl JobEvent {
     ghost use Rattle.std.specs.Prelude.{◌≡◌};
-    ghost use Rattle.scan_world.specs.Deeds.{event_of};
+    ghost use Rattle.scan_world.specs.JobEvents.{job_event_of};
 
     /// The event that it is for a job.
     pub fn of(self, i: usize) -> Event
-        ensures { result ≡ event_of i self }
+        ensures { result ≡ job_event_of i self }
     {
         match self {
-            Deed::Connect => Event::Connect(i),
-            Deed::ToDaemon(n) => Event::ToDaemon(i, n),
-            Deed::ToClient(n) => Event::ToClient(i, n),
-            Deed::DataConnect => Event::DataConnect(i),
-            Deed::DataTurn => Event::DataTurn(i),
-            Deed::DataToClient(n) => Event::DataToClient(i, n),
-            Deed::LoseControl => Event::LoseControl(i),
-            Deed::LoseImage => Event::LoseImage(i),
-            Deed::Cancel => Event::Cancel(i),
+            JobEvent::Connect => Event::Connect(i),
+            JobEvent::ToDaemon(n) => Event::ToDaemon(i, n),
+            JobEvent::ToClient(n) => Event::ToClient(i, n),
+            JobEvent::DataConnect => Event::DataConnect(i),
+            JobEvent::DataTurn => Event::DataTurn(i),
+            JobEvent::DataToClient(n) => Event::DataToClient(i, n),
+            JobEvent::LoseControl => Event::LoseControl(i),
+            JobEvent::LoseImage => Event::LoseImage(i),
+            JobEvent::Cancel => Event::Cancel(i),
         }
     }
 }

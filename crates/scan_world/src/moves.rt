@@ -1,29 +1,29 @@
 //! The next moves of jobs.
 
 ghost use Rattle.std.specs.Prelude.{◌≡◌, true, false, List, [], ◌∷◌, Some, None, option_map, slice_get};
-ghost use Rattle.saned_core.specs.State.{core};
-ghost use Rattle.scan_world.specs.declared.post.Post.{Post};
-ghost use Rattle.scan_world.specs.declared.event.Deed.{Deed};
-ghost use Rattle.client_rules.specs.Talks.{is_running};
-ghost use Rattle.scan_world.specs.Deeds.{event_of};
-ghost use Rattle.scan_world.specs.Moves.{IsNext, IsNextMove, in_order, left_of};
-ghost use Rattle.scan_world.specs.Rounds.{HasRound, HasTurn, RunsOut};
-ghost use Rattle.scan_world.specs.Worlds.{seen};
+ghost use Rattle.saned_core.specs.DaemonStates.{core};
+ghost use Rattle.scan_world.specs.declared.endpoint.Endpoint.{Endpoint};
+ghost use Rattle.scan_world.specs.declared.event.JobEvent.{JobEvent};
+ghost use Rattle.client_replies.specs.ProtocolStates.{is_running};
+ghost use Rattle.scan_world.specs.JobEvents.{job_event_of};
+ghost use Rattle.scan_world.specs.JobMoves.{IsNext, IsNextMove, in_order, moves_left_of};
+ghost use Rattle.scan_world.specs.Rounds.{HasRound, HasTurn, RoundsRunOut};
+ghost use Rattle.scan_world.specs.Worlds.{seen_world};
 
-use crate::deeds::{PIECE, can};
-use crate::event::{Deed, Event};
-use crate::post::Post;
+use crate::endpoint::Endpoint;
+use crate::event::{Event, JobEvent};
+use crate::job_events::{PIECE, can};
 use crate::world::World;
 use device_api::Device;
 use page_picture::{PageSource, Source};
 use saned_core::Daemon;
 
 /// The loss of a control connection whose session the daemon has ended.
-fn last_move<D: Device>(daemon: &Daemon<D>, post: &Post) -> Option<Deed>
-    ensures { IsNext (core D.state daemon.now) post.now [] result }
+fn last_move<D: Device>(daemon: &Daemon<D>, endpoint: &Endpoint) -> Option<JobEvent>
+    ensures { IsNext (core D.state daemon.now) endpoint.now [] result }
 {
-    if post.is_over && can(daemon, post, Deed::LoseControl) {
-        return Some(Deed::LoseControl);
+    if endpoint.is_over && can(daemon, endpoint, JobEvent::LoseControl) {
+        return Some(JobEvent::LoseControl);
     }
     None
 }
@@ -31,49 +31,53 @@ fn last_move<D: Device>(daemon: &Daemon<D>, post: &Post) -> Option<Deed>
 /// This where it can happen, else what comes later.
 fn earlier<D: Device>(
     daemon: &Daemon<D>,
-    post: &Post,
-    deed: Deed,
-    later: Option<Deed>,
-) -> Option<Deed>
-    ensures { (ms : List Deed) → IsNext (core D.state daemon.now) post.now ms later → IsNext (core D.state daemon.now) post.now (deed ∷ ms) result }
+    endpoint: &Endpoint,
+    job_event: JobEvent,
+    later: Option<JobEvent>,
+) -> Option<JobEvent>
+    ensures { (ms : List JobEvent) → IsNext (core D.state daemon.now) endpoint.now ms later → IsNext (core D.state daemon.now) endpoint.now (job_event ∷ ms) result }
 {
-    if can(daemon, post, deed) {
-        return Some(deed);
+    if can(daemon, endpoint, job_event) {
+        return Some(job_event);
     }
     later
 }
 
 /// The first of its moves that can happen.
-fn move_of<D: Device>(daemon: &Daemon<D>, post: &Post) -> Option<Deed>
-    ensures runs { is_running post.now.client.outcome ≡ true → IsNext (core D.state daemon.now) post.now in_order result }
-    ensures over { is_running post.now.client.outcome ≡ false → result ≡ None }
+fn move_of<D: Device>(daemon: &Daemon<D>, endpoint: &Endpoint) -> Option<JobEvent>
+    ensures runs { is_running endpoint.now.client.outcome ≡ true → IsNext (core D.state daemon.now) endpoint.now in_order result }
+    ensures over { is_running endpoint.now.client.outcome ≡ false → result ≡ None }
 {
-    if !post.is_running() {
+    if !endpoint.is_running() {
         return None;
     }
-    let next = last_move(daemon, post);
-    let next = earlier(daemon, post, Deed::DataTurn, next);
-    let next = earlier(daemon, post, Deed::DataToClient(PIECE), next);
-    let next = earlier(daemon, post, Deed::DataConnect, next);
-    let next = earlier(daemon, post, Deed::ToClient(PIECE), next);
-    let next = earlier(daemon, post, Deed::ToDaemon(PIECE), next);
-    earlier(daemon, post, Deed::Connect, next)
+    let next = last_move(daemon, endpoint);
+    let next = earlier(daemon, endpoint, JobEvent::DataTurn, next);
+    let next = earlier(daemon, endpoint, JobEvent::DataToClient(PIECE), next);
+    let next = earlier(daemon, endpoint, JobEvent::DataConnect, next);
+    let next = earlier(daemon, endpoint, JobEvent::ToClient(PIECE), next);
+    let next = earlier(daemon, endpoint, JobEvent::ToDaemon(PIECE), next);
+    earlier(daemon, endpoint, JobEvent::Connect, next)
 }
 
 /// The event that a move of job i is.
-fn event_of(i: usize, deed: Option<Deed>) -> Option<Event>
-    ensures { result ≡ option_map (event_of i) deed }
+fn job_event_of(i: usize, job_event: Option<JobEvent>) -> Option<Event>
+    ensures { result ≡ option_map (job_event_of i) job_event }
 {
-    match deed {
-        Some(deed) => Some(deed.of(i)),
+    match job_event {
+        Some(job_event) => Some(job_event.of(i)),
         None => None,
     }
 }
 
-fn left_of(post: &Post) -> u64
-    ensures { result ≡ left_of post.now }
+fn moves_left_of(endpoint: &Endpoint) -> u64
+    ensures { result ≡ moves_left_of endpoint.now }
 {
-    if post.is_running() { post.budget } else { 0 }
+    if endpoint.is_running() {
+        endpoint.budget
+    } else {
+        0
+    }
 }
 
 impl<D: Device> World<D> {
@@ -81,29 +85,29 @@ impl<D: Device> World<D> {
     /// client, the data connection made, its bytes to the client and the daemon's turn of it; and then the loss of a control
     /// connection whose session the daemon has ended. None where the job does not run.
     pub fn next_move(&self, i: usize) -> Option<Event>
-        ensures is { (p : Post) → slice_get self.now.posts i ≡ Some p → IsNextMove (core D.state self.now.daemon) i p result }
-        ensures none { slice_get self.now.posts i ≡ None → result ≡ None }
+        ensures is { (p : Endpoint) → slice_get self.now.endpoints i ≡ Some p → IsNextMove (core D.state self.now.daemon) i p result }
+        ensures none { slice_get self.now.endpoints i ≡ None → result ≡ None }
     {
-        match self.post(i) {
-            Some(post) => event_of(i, move_of(&self.daemon, post)),
+        match self.endpoint(i) {
+            Some(endpoint) => job_event_of(i, move_of(&self.daemon, endpoint)),
             None => None,
         }
     }
 
     /// More moves than job i may still take; 0 where it does not run, or there is no such job.
     pub fn moves_left(&self, i: usize) -> u64
-        ensures is { (p : Post) → slice_get self.now.posts i ≡ Some p → result ≡ left_of p }
-        ensures none { slice_get self.now.posts i ≡ None → result ≡ 0 }
+        ensures is { (p : Endpoint) → slice_get self.now.endpoints i ≡ Some p → result ≡ moves_left_of p }
+        ensures none { slice_get self.now.endpoints i ≡ None → result ≡ 0 }
     {
-        match self.post(i) {
-            Some(post) => left_of(post),
+        match self.endpoint(i) {
+            Some(endpoint) => moves_left_of(endpoint),
             None => 0,
         }
     }
 
     /// The turn of job i: its next move is made, where it has one and may still take a move. Answers whether it was made.
     fn take_move(&mut self, i: usize) -> bool
-        ensures { HasTurn ⟦<Source as PageSource>⟧.source i result (seen D.state self.old) (seen D.state self.new) }
+        ensures { HasTurn ⟦<Source as PageSource>⟧.source i result (seen_world D.state self.old) (seen_world D.state self.new) }
     {
         if self.moves_left(i) == 0 {
             return false;
@@ -119,10 +123,10 @@ impl<D: Device> World<D> {
 
     /// A turn of each job, in their order. Answers whether a move was made.
     fn round(&mut self) -> bool
-        ensures { HasRound ⟦<Source as PageSource>⟧.source result (seen D.state self.old) (seen D.state self.new) }
+        ensures { HasRound ⟦<Source as PageSource>⟧.source result (seen_world D.state self.old) (seen_world D.state self.new) }
     {
         let mut goes_on = false;
-        for i in 0..self.posts.len() {
+        for i in 0..self.endpoints.len() {
             if self.take_move(i) {
                 goes_on = true;
             }
@@ -132,7 +136,7 @@ impl<D: Device> World<D> {
 
     /// Next moves of all jobs by turns, until none has one, or may still take one.
     pub fn run_all(&mut self)
-        ensures { RunsOut ⟦<Source as PageSource>⟧.source (seen D.state self.old) (seen D.state self.new) }
+        ensures { RoundsRunOut ⟦<Source as PageSource>⟧.source (seen_world D.state self.old) (seen_world D.state self.new) }
     {
         let mut goes_on = true;
         while goes_on {

@@ -1,13 +1,13 @@
 //! One daemon and the clients of some jobs.
 
 ghost use Rattle.std.specs.Prelude.{◌≡◌, ◌↔◌, Some, None, All, false, IfOk, IfErr, IfSome, IsNone, IsTrue, OnOk, min, option_and_then, option_map, slice_get};
-ghost use Rattle.scan_world.specs.declared.post.Post.{Post};
-ghost use Rattle.scan_world.specs.Posts.{page_of};
-ghost use Rattle.scan_world.specs.Worlds.{AreNew, At, HasFault, IsFit, Leads, MayRun, Runs, seen};
+ghost use Rattle.scan_world.specs.declared.endpoint.Endpoint.{Endpoint};
+ghost use Rattle.scan_world.specs.Endpoints.{finished_page};
+ghost use Rattle.scan_world.specs.Worlds.{AreNew, AtEndpoint, HasWorldFault, IsFitJob, Leads, MayRun, Runs, seen_world};
 
-use crate::deeds::happen;
-use crate::event::{Deed, Event};
-use crate::post::Post;
+use crate::endpoint::Endpoint;
+use crate::event::{Event, JobEvent};
+use crate::job_events::happen;
 use crate::world_fault::WorldFault;
 use device_api::Device;
 use net_backend::{Job, Outcome};
@@ -25,7 +25,7 @@ const MOST_JOBS: usize = 8;
 pub struct World<D = Box<dyn Device>> {
     pub(crate) alloc: Global,
     pub(crate) daemon: Daemon<D>,
-    pub(crate) posts: Vec<Post>,
+    pub(crate) endpoints: Vec<Endpoint>,
 }
 
 impl<D> Model for World<D> {
@@ -33,13 +33,13 @@ impl<D> Model for World<D> {
 
     ghost Value = { WorldState D };
 
-    ghost view = { λ w. record { daemon = w.daemon; posts = w.posts.items } };
+    ghost view = { λ w. record { daemon = w.daemon; endpoints = w.endpoints.items } };
 }
 
-/// Why no world is made for these jobs, apart from want of memory.
+/// Why no world is made for these jobs, apart from out of memory.
 pub(crate) fn fault_of(jobs: &[Job]) -> Option<WorldFault>
-    ensures some { IfSome result (λ f. HasFault f jobs.now) }
-    ensures none { IsNone result → HasFault WorldFault.NoMem jobs.now }
+    ensures some { IfSome result (λ f. HasWorldFault f jobs.now) }
+    ensures none { IsNone result → HasWorldFault WorldFault.NoMem jobs.now }
 {
     if jobs.len() > MOST_JOBS {
         return Some(WorldFault::TooManyJobs);
@@ -52,7 +52,7 @@ pub(crate) fn fault_of(jobs: &[Job]) -> Option<WorldFault>
 
 /// Whether clients take all the jobs.
 fn are_fit(jobs: &[Job]) -> bool
-    ensures { IsTrue result ↔ All IsFit jobs.now }
+    ensures { IsTrue result ↔ All IsFitJob jobs.now }
 {
     for job in jobs {
         if !is_fit(job) {
@@ -63,46 +63,46 @@ fn are_fit(jobs: &[Job]) -> bool
 }
 
 fn is_fit(job: &Job) -> bool
-    ensures { IsTrue result ↔ IsFit job.now }
+    ensures { IsTrue result ↔ IsFitJob job.now }
 {
     job.has_size() && job.task.has_count()
 }
 
-/// A post for each job.
-pub(crate) fn posts_of(alloc: Global, jobs: Vec<Job>) -> Result<Vec<Post>, NoMem>
-    ensures { IfOk result (λ posts. AreNew jobs.items posts.items) }
+/// AN endpoint for each job.
+pub(crate) fn endpoints_of(alloc: Global, jobs: Vec<Job>) -> Result<Vec<Endpoint>, NoMem>
+    ensures { IfOk result (λ endpoints. AreNew jobs.items endpoints.items) }
 {
-    let mut posts = Vec::new(alloc);
+    let mut endpoints = Vec::new(alloc);
     for job in jobs {
-        let Ok(post) = Post::new(alloc, job) else {
+        let Ok(endpoint) = Endpoint::new(alloc, job) else {
             return Err(NoMem);
         };
-        posts.push(post)?;
+        endpoints.push(endpoint)?;
     }
-    Ok(posts)
+    Ok(endpoints)
 }
 
 impl<D: Device> World<D> {
     /// The clients of these jobs beside a daemon; to none of them anything has happened. Where it is refused the daemon comes
     /// back: `TooManyJobs` above eight, `BadJob` where a client refuses one; `NoMem` comes only where neither stands.
-    pub fn over(
+    pub fn beside_daemon(
         alloc: Global,
         daemon: Daemon<D>,
         jobs: Vec<Job>,
     ) -> Result<World<D>, (WorldFault, Daemon<D>)>
-        ensures begins { IfOk result (λ w. (w.daemon ≡ daemon) × AreNew jobs.items w.posts) }
+        ensures begins { IfOk result (λ w. (w.daemon ≡ daemon) × AreNew jobs.items w.endpoints) }
         ensures accepted { OnOk result (MayRun jobs.items) }
-        ensures fault { IfErr result (λ e. HasFault e.0 jobs.items) }
+        ensures fault { IfErr result (λ e. HasWorldFault e.0 jobs.items) }
         ensures back { IfErr result (λ e. e.1 ≡ daemon) }
     {
         if let Some(fault) = fault_of(jobs.as_slice()) {
             return Err((fault, daemon));
         }
-        match posts_of(alloc, jobs) {
-            Ok(posts) => Ok(World {
+        match endpoints_of(alloc, jobs) {
+            Ok(endpoints) => Ok(World {
                 alloc,
                 daemon,
-                posts,
+                endpoints,
             }),
             Err(NoMem) => Err((WorldFault::NoMem, daemon)),
         }
@@ -110,7 +110,7 @@ impl<D: Device> World<D> {
 
     /// Events in this order. One that cannot happen changes nothing.
     pub fn run(&mut self, events: Vec<Event>)
-        ensures { Runs ⟦<Source as PageSource>⟧.source events.items (seen D.state self.old) (seen D.state self.new) }
+        ensures { Runs ⟦<Source as PageSource>⟧.source events.items (seen_world D.state self.old) (seen_world D.state self.new) }
     {
         for event in events {
             self.step(event);
@@ -118,28 +118,33 @@ impl<D: Device> World<D> {
     }
 
     /// An event of a job.
-    fn at(&mut self, i: usize, deed: Deed)
-        ensures { At (seen D.state self.old) i deed (seen D.state self.new) }
+    fn at(&mut self, i: usize, job_event: JobEvent)
+        ensures { AtEndpoint (seen_world D.state self.old) i job_event (seen_world D.state self.new) }
     {
-        if i < self.posts.len() {
-            happen(self.alloc, &mut self.daemon, &mut self.posts[i], deed);
+        if i < self.endpoints.len() {
+            happen(
+                self.alloc,
+                &mut self.daemon,
+                &mut self.endpoints[i],
+                job_event,
+            );
         }
     }
 
     /// An event.
     pub(crate) fn step(&mut self, event: Event)
-        ensures { Leads ⟦<Source as PageSource>⟧.source event (seen D.state self.old) (seen D.state self.new) }
+        ensures { Leads ⟦<Source as PageSource>⟧.source event (seen_world D.state self.old) (seen_world D.state self.new) }
     {
         match event {
-            Event::Connect(i) => self.at(i, Deed::Connect),
-            Event::ToDaemon(i, n) => self.at(i, Deed::ToDaemon(n)),
-            Event::ToClient(i, n) => self.at(i, Deed::ToClient(n)),
-            Event::DataConnect(i) => self.at(i, Deed::DataConnect),
-            Event::DataTurn(i) => self.at(i, Deed::DataTurn),
-            Event::DataToClient(i, n) => self.at(i, Deed::DataToClient(n)),
-            Event::LoseControl(i) => self.at(i, Deed::LoseControl),
-            Event::LoseImage(i) => self.at(i, Deed::LoseImage),
-            Event::Cancel(i) => self.at(i, Deed::Cancel),
+            Event::Connect(i) => self.at(i, JobEvent::Connect),
+            Event::ToDaemon(i, n) => self.at(i, JobEvent::ToDaemon(n)),
+            Event::ToClient(i, n) => self.at(i, JobEvent::ToClient(n)),
+            Event::DataConnect(i) => self.at(i, JobEvent::DataConnect),
+            Event::DataTurn(i) => self.at(i, JobEvent::DataTurn),
+            Event::DataToClient(i, n) => self.at(i, JobEvent::DataToClient(n)),
+            Event::LoseControl(i) => self.at(i, JobEvent::LoseControl),
+            Event::LoseImage(i) => self.at(i, JobEvent::LoseImage),
+            Event::Cancel(i) => self.at(i, JobEvent::Cancel),
             Event::Load(name, page) => {
                 let _ = self.daemon.load(name.as_bytes(), page);
             }
@@ -149,22 +154,22 @@ impl<D: Device> World<D> {
         }
     }
 
-    /// The post of job i.
-    pub(crate) fn post(&self, i: usize) -> Option<&Post>
-        ensures { option_map (λ p. p.now) result ≡ slice_get self.now.posts i }
+    /// The endpoint of job i.
+    pub(crate) fn endpoint(&self, i: usize) -> Option<&Endpoint>
+        ensures { option_map (λ p. p.now) result ≡ slice_get self.now.endpoints i }
     {
-        if i >= self.posts.len() {
+        if i >= self.endpoints.len() {
             return None;
         }
-        Some(&self.posts[i])
+        Some(&self.endpoints[i])
     }
 
     /// How far job i is; none where there is no such job.
     pub fn outcome(&self, i: usize) -> Option<&Outcome>
-        ensures { option_map (λ o. o.now) result ≡ option_map (λ p. p.client.outcome) (slice_get self.now.posts i) }
+        ensures { option_map (λ o. o.now) result ≡ option_map (λ p. p.client.outcome) (slice_get self.now.endpoints i) }
     {
-        match self.post(i) {
-            Some(post) => Some(post.client.outcome()),
+        match self.endpoint(i) {
+            Some(endpoint) => Some(endpoint.client.outcome()),
             None => None,
         }
     }
@@ -172,10 +177,10 @@ impl<D: Device> World<D> {
     /// The file of job i under way, as far as it has come: that of a batch's next page is empty. None where there is no such
     /// job, or a growth of the file was refused.
     pub fn file(&self, i: usize) -> Option<&[u8]>
-        ensures { option_map (λ f. f.now) result ≡ option_and_then (λ p. p.file) (slice_get self.now.posts i) }
+        ensures { option_map (λ f. f.now) result ≡ option_and_then (λ p. p.file) (slice_get self.now.endpoints i) }
     {
-        match self.post(i) {
-            Some(post) => post.file_now(),
+        match self.endpoint(i) {
+            Some(endpoint) => endpoint.file_now(),
             None => None,
         }
     }
@@ -183,32 +188,32 @@ impl<D: Device> World<D> {
     /// The file of the k-th finished page of a batch, from 1. None where k is 0 or above `finished`, or a growth of that file
     /// was refused.
     pub fn file_at(&self, i: usize, k: u32) -> Option<&[u8]>
-        ensures { option_map (λ f. f.now) result ≡ option_and_then (λ p. page_of p k) (slice_get self.now.posts i) }
+        ensures { option_map (λ f. f.now) result ≡ option_and_then (λ p. finished_page p k) (slice_get self.now.endpoints i) }
     {
-        match self.post(i) {
-            Some(post) => post.page(k as usize),
+        match self.endpoint(i) {
+            Some(endpoint) => endpoint.page(k as usize),
             None => None,
         }
     }
 
     /// How many pages of a batch are finished, at most 16; 0 where there is no such job.
     pub fn finished(&self, i: usize) -> u32
-        ensures is { (p : Post) → slice_get self.now.posts i ≡ Some p → result ≡ min p.finished 16 }
-        ensures none { slice_get self.now.posts i ≡ None → result ≡ 0 }
+        ensures is { (p : Endpoint) → slice_get self.now.endpoints i ≡ Some p → result ≡ min p.finished 16 }
+        ensures none { slice_get self.now.endpoints i ≡ None → result ≡ 0 }
     {
-        match self.post(i) {
-            Some(post) => post.finished.min(16) as u32,
+        match self.endpoint(i) {
+            Some(endpoint) => endpoint.finished.min(16) as u32,
             None => 0,
         }
     }
 
     /// Whether a growth was refused on a connection of job i, in its session or for a file of it.
     pub fn starved(&self, i: usize) -> bool
-        ensures is { (p : Post) → slice_get self.now.posts i ≡ Some p → result ≡ p.is_starved }
-        ensures none { slice_get self.now.posts i ≡ None → result ≡ false }
+        ensures is { (p : Endpoint) → slice_get self.now.endpoints i ≡ Some p → result ≡ p.out_of_memory }
+        ensures none { slice_get self.now.endpoints i ≡ None → result ≡ false }
     {
-        match self.post(i) {
-            Some(post) => post.is_starved,
+        match self.endpoint(i) {
+            Some(endpoint) => endpoint.out_of_memory,
             None => false,
         }
     }

@@ -6,21 +6,21 @@ use Rattle.scanimage_cli.specs.Doing.{DoesJob, DoesBatch}
 use Rattle.scanimage_cli.specs.NetDoing.{DoesNetJob}
 use Rattle.scanimage_cli.specs.Programs.{RanHere, RanThere}
 use Rattle.scanimage_cli.specs.declared.ending.Ending.{Ending}
-use Rattle.scanimage_cli.specs.declared.printed.Printed.{Printed}
+use Rattle.scanimage_cli.specs.declared.printed.Printout.{Printout}
 
-pub job_ran : {C D W : Type 0} (remaining contents : C → Option (List ℕ)) (coming : D → Option (List (List ℕ))) (holds : W → Option (List ℕ)) (job : Job) (host : List ℕ) (control control_then : C) (dial dial_then : D) (out out_then : W) (result : Result Printed Ending)
+pub job_ran : {C D W : Type 0} (remaining contents : C → Option (List ℕ)) (coming : D → Option (List (List ℕ))) (holds : W → Option (List ℕ)) (job : Job) (host : List ℕ) (control control_then : C) (dial dial_then : D) (out out_then : W) (result : Result Printout Ending)
     → IfOk result (DoesNetJob remaining contents coming holds job host control control_then dial dial_then out out_then) → IfOk result (RanThere job host)
-job_ran remaining contents coming holds job host control control_then dial dial_then out out_then (Ok printed) x = record { reports = x.reports; course = x.ran.ran.course; events = x.ran.ran.did.events; runs = x.ran.ran.did.runs; told = x.ran.told; prints = x.prints }
+job_ran remaining contents coming holds job host control control_then dial dial_then out out_then (Ok printed) x = record { reports = x.reports; trace = x.ran.ran.trace; events = x.ran.ran.did.events; runs = x.ran.ran.did.runs; told = x.ran.told; prints = x.prints }
 job_ran remaining contents coming holds job host control control_then dial dial_then out out_then (Err ending) x = x
 
 pub on_ok : {A E P : Type 0} (result : Result A E) → P → OnOk result P
 on_ok (Ok value) is = is
 on_ok (Err fault) is = tt
 
-pub job_here : (old new : DeviceState) (job : Job) (result : Result Printed Ending) → IfOk result (λ printed. DoesJob old job printed None None new) → IfOk result (RanHere job)
+pub job_here : (old new : DeviceState) (job : Job) (result : Result Printout Ending) → IfOk result (λ printed. DoesJob old job printed None None new) → IfOk result (RanHere job)
 job_here old new job (Ok printed) x = record { old = old; new = new; does = inl x }
 job_here old new job (Err ending) x = x
 
-pub batch_here : (old new : DeviceState) (job : Job) (result : Result Printed Ending) → IfOk result (λ printed. DoesBatch old job printed None None new) → IfOk result (RanHere job)
+pub batch_here : (old new : DeviceState) (job : Job) (result : Result Printout Ending) → IfOk result (λ printed. DoesBatch old job printed None None new) → IfOk result (RanHere job)
 batch_here old new job (Ok printed) x = record { old = old; new = new; does = inr x }
 batch_here old new job (Err ending) x = x

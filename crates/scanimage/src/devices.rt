@@ -1,7 +1,7 @@
 ghost use Rattle.std.specs.Prelude.{IfErr};
 ghost use Rattle.scanimage_cli.specs.Programs.{IsFailure};
 
-use config_pages::{NoPage, SourceFault, page_source};
+use config_pages::{NoPage, PageSourceFault, page_source};
 use dispatch::ConfigLine;
 use flatbed_dev::{Feeder, Flatbed};
 use hand_dev::HandScanner;
@@ -19,10 +19,10 @@ fn page(rt: &HostRuntime, line: &ConfigLine, text: &Text) -> Result<Source, Endi
 {
     match page_source(rt, text.as_bytes(), line.dpi) {
         Ok(source) => Ok(source),
-        Err(SourceFault::NoMem) => Err(Ending::no_memory()),
-        Err(SourceFault::NoPage(why)) => Err(Ending::Page(line.line, why)),
+        Err(PageSourceFault::NoMem) => Err(Ending::no_memory()),
+        Err(PageSourceFault::NoPage(why)) => Err(Ending::Page(line.line, why)),
         // The dots per inch of a config are 1 to 1,200.
-        Err(SourceFault::BadDpi) => Err(Ending::Page(line.line, NoPage::CannotRead)),
+        Err(PageSourceFault::BadDpi) => Err(Ending::Page(line.line, NoPage::CannotRead)),
     }
 }
 

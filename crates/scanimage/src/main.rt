@@ -6,9 +6,9 @@ ghost use Rattle.scanimage_cli.specs.Programs.{IsFailure};
 
 mod command_line;
 mod devices;
-mod job;
 mod net_task;
 mod printing;
+mod scanimage_job;
 mod task;
 
 use crate::command_line::{command_line, config_lines, password};

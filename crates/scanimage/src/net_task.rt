@@ -1,13 +1,13 @@
 ghost use Rattle.std.specs.Prelude.{[], if◌then◌else◌, IfOk, IfErr, OnOk};
 ghost use Rattle.scanimage_cli.specs.Programs.{HasDoneThere, IsFailure, IsJobAsked, RanThere};
 
-use crate::job::{output, text, user};
 use crate::printing::print_all;
+use crate::scanimage_job::{output, text, user};
 use net_backend::Dial;
 use sane_fixed::Text;
 use scan_job::{Job, Task};
 use scanimage_cli::{
-    Ending, Folder, HostDial, Options, Printed, do_net_batch, do_net_job, port_of, task_of,
+    Ending, Folder, HostDial, Options, Printout, do_net_batch, do_net_job, port_of, task_of,
 };
 
 /// The job that the options ask a host for. A list has no settings.
@@ -38,12 +38,14 @@ fn job_of(
 }
 
 /// Does a job on a host. A batch has files of its own.
-fn run_job(rt: &HostRuntime, host: &[u8], job: Job, options: &Options) -> Result<Printed, Ending>
+fn run_job(rt: &HostRuntime, host: &[u8], job: Job, options: &Options) -> Result<Printout, Ending>
     ensures ran { IfOk result (RanThere job host.now) }
     ensures failed { IfErr result IsFailure }
 {
-    let mut dial = HostDial::new(rt, host).ok_or(Ending::lost())?;
-    let mut control = dial.dial(port_of(options)).map_err(|_| Ending::lost())?;
+    let mut dial = HostDial::new(rt, host).ok_or(Ending::ending_of_loss())?;
+    let mut control = dial
+        .dial(port_of(options))
+        .map_err(|_| Ending::ending_of_loss())?;
     match job.task {
         Task::Batch(_) => do_net_batch(
             rt.alloc(),

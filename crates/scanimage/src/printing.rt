@@ -2,7 +2,7 @@ ghost use Rattle.std.specs.Prelude.{IfErr};
 ghost use Rattle.scanimage_cli.specs.Programs.{IsFailure};
 
 use local_job::{MOST_AGAIN, put};
-use scanimage_cli::{Ending, Printed};
+use scanimage_cli::{Ending, Printout};
 use std::io::Write;
 
 /// Prints a list or a table.
@@ -18,7 +18,7 @@ pub fn print(rt: &HostRuntime, lines: &[u8]) -> Result<(), Ending>
 }
 
 /// Prints what a job tells. Lines that standard error does not take are lost, and no more.
-pub fn print_all(rt: &HostRuntime, printed: &Printed) -> Result<(), Ending>
+pub fn print_all(rt: &HostRuntime, printed: &Printout) -> Result<(), Ending>
     ensures { IfErr result IsFailure }
 {
     print(rt, &printed.table)?;

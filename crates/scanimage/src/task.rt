@@ -1,14 +1,14 @@
 ghost use Rattle.std.specs.Prelude.{◌≡◌, IfOk, IfErr, IfSome, OnOk};
 ghost use Rattle.scanimage_cli.specs.Programs.{IsDoneHere, IsFailure, RanHere};
 
-use crate::job::{output, text, user};
 use crate::printing::{print, print_all};
+use crate::scanimage_job::{output, text, user};
 use device_api::Device;
 use dispatch::Registry;
 use sane_fixed::{Status, Text};
 use scan_job::{Job, Task, Why};
 use scanimage_cli::{
-    Ending, Folder, Options, Output, Printed, device_list, do_batch, do_job, task_of,
+    Ending, Folder, Options, Output, Printout, device_list, do_batch, do_job, task_of,
 };
 
 /// Does a job. A batch has files of its own.
@@ -17,7 +17,7 @@ fn run_job(
     device: &mut dyn Device,
     job: &Job,
     output: &mut Output<'_>,
-) -> Result<Printed, Ending>
+) -> Result<Printout, Ending>
     ensures done { IfOk result (RanHere job.now) }
     ensures failed { IfErr result IsFailure }
 {

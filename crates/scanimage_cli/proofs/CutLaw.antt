@@ -6,9 +6,9 @@ use Rattle.std.proofs.Math.Dec.{eqb}
 use Rattle.std.specs.Prelude.{codes, nat_eq, ◌==◌, if◌then◌else◌, option_map}
 use Rattle.std.specs.Str.{bytes_eq}
 use Rattle.std.specs.List.{filter_map}
-use Rattle.scanimage_cli.specs.WordCut.{long_word, program_word, is_option, cut, split_of, window_settings, measures_from, no_measures, repeats, named_setting}
-use Rattle.scanimage_cli.specs.Options.{after_equals, value_after, first_of, option_value, has_flag}
-use Rattle.scanimage_cli.specs.CutOptions.{value_in, is_flag_in, value_given, is_flag_given, GivesTheSame, IsOfTheCut}
+use Rattle.scanimage_cli.specs.WordCut.{long_word, program_word, is_option, cut, split_of, window_settings, measures_from, no_measures, repeats_option, named_setting}
+use Rattle.scanimage_cli.specs.ScanimageOptions.{after_equals, value_after, first_some, program_option_value, has_flag}
+use Rattle.scanimage_cli.specs.CutOptions.{item_value_of, is_flag_in, value_given, is_flag_given, GivesTheSame, IsOfTheCut}
 use Rattle.scanimage_cli.specs.declared.program_option.ProgramOption.{ProgramOption}
 use Rattle.scanimage_cli.specs.declared.program_option.ProgramOption.TheVariants.{ListDevices, AllOptions, DontScan, DeviceName, OutputFile, Config, Net, Port, User, PasswordFile, Batch, BatchCount}
 use Rattle.scanimage_cli.specs.declared.word_cut.Item.{Item}
@@ -95,15 +95,15 @@ no_flag (a ∷ cs) (b ∷ bs) value bare = no_second (eqb b a) (bytes_eq (bs ++ 
 
 -- ---- all pieces
 
-pub values_same : (option : ProgramOption) (items : List Item) → option_value option (filter_map program_word items) ≡ value_given option items
+pub values_same : (option : ProgramOption) (items : List Item) → program_option_value option (filter_map program_word items) ≡ value_given option items
 values_same option [] = refl
 values_same option (Flag other ∷ items) =
-    ap (λ (v : Option (List ℕ)). first_of v (option_value option (filter_map program_word items))) (value_of_none (long_word option) (long_word other) (long_words_are_bare other))
+    ap (λ (v : Option (List ℕ)). first_some v (program_option_value option (filter_map program_word items))) (value_of_none (long_word option) (long_word other) (long_words_are_bare other))
     ∙ values_same option items
 values_same option (Valued other value ∷ items) =
-    ap (λ (v : Option (List ℕ)). first_of v (option_value option (filter_map program_word items)))
+    ap (λ (v : Option (List ℕ)). first_some v (program_option_value option (filter_map program_word items)))
     (value_behind (long_word option) (long_word other) value (long_words_are_bare option) (long_words_are_bare other))
-    ∙ ap (λ (v : Option (List ℕ)). first_of (if is_option other (Some option) then Some value else None) v) (values_same option items)
+    ∙ ap (λ (v : Option (List ℕ)). first_some (if is_option other (Some option) then Some value else None) v) (values_same option items)
 values_same option (Measured geometry value ∷ items) = values_same option items
 values_same option (Setting name value ∷ items) = values_same option items
 
@@ -130,13 +130,13 @@ program_of program words settings named true (Some w) is = absurd (none-some _ i
 program_of program words settings named false (Some w) is = sym (some_pair_parts _ _ _ _ is).0
 
 abbrev split_pieces : List Item → Option (List (List ℕ) × List (List ℕ × List ℕ))
-split_pieces items = window_settings (measures_from no_measures items) >>= chosen (repeats items) (filter_map program_word items) (filter_map named_setting items)
+split_pieces items = window_settings (measures_from no_measures items) >>= chosen (repeats_option items) (filter_map program_word items) (filter_map named_setting items)
 
 pieces_of : (pieces : Option (List Item)) (program : List (List ℕ)) (settings : List (List ℕ × List ℕ))
     → (pieces >>= split_pieces) ≡ Some (program, settings) → (items : List Item) × (pieces ≡ Some items) × GivesTheSame items program
 pieces_of None program settings is = absurd (none-some _ is)
 pieces_of (Some items) program settings is =
-    let same : program ≡ filter_map program_word items = program_of program _ settings _ (repeats items) (window_settings (measures_from no_measures items)) is in
+    let same : program ≡ filter_map program_word items = program_of program _ settings _ (repeats_option items) (window_settings (measures_from no_measures items)) is in
     (items, refl, subst (GivesTheSame items) (sym same) (gives_the_same items))
 
 pub of_the_cut : (words program : List (List ℕ)) (settings : List (List ℕ × List ℕ)) → split_of words ≡ Some (program, settings) → IsOfTheCut words program

@@ -1,5 +1,5 @@
 pub mod CutLemmas
-pub mod Lines
+pub mod OutputLines
 pub mod Reading
 pub mod Finds
 pub mod CutLaw

@@ -11,10 +11,10 @@ use Rattle.local_job.specs.LocalRun.{IsDone, IsEndedBy}
 use Rattle.scanimage_cli.specs.Ending.{ended_by}
 use Rattle.scanimage_cli.specs.Printing.{Prints}
 use Rattle.scanimage_cli.specs.declared.ending.Ending.{Ending}
-use Rattle.scanimage_cli.specs.declared.printed.Printed.{Printed}
+use Rattle.scanimage_cli.specs.declared.printed.Printout.{Printout}
 
 -- the job is done, and what its reports come to is to be printed
-pub record DoesJob (old : DeviceState) (job : Job) (printed : Printed) (before after : Option (List ℕ)) (new : DeviceState) : Type 0 where
+pub record DoesJob (old : DeviceState) (job : Job) (printed : Printout) (before after : Option (List ℕ)) (new : DeviceState) : Type 0 where
   pub reports : Reports
   pub done : IsDone old job reports before after new
   pub prints : Prints job.task [] job.device reports printed
@@ -27,7 +27,7 @@ pub record EndsJob (old : DeviceState) (job : Job) (new : DeviceState) (ending :
   pub reason : IsEndedBy old job new stop
 
 -- the batch is done, its pages on the shelf, and what its reports come to is to be printed
-pub record DoesBatch (old : DeviceState) (job : Job) (printed : Printed) (before after : Option Stock) (new : DeviceState) : Type 0 where
+pub record DoesBatch (old : DeviceState) (job : Job) (printed : Printout) (before after : Option Stock) (new : DeviceState) : Type 0 where
   pub reports : Reports
   pub done : IsBatchDone old job reports before after new
   pub prints : Prints job.task [] job.device reports printed

@@ -6,9 +6,9 @@ use Rattle.sane_fixed.specs.declared.status.Status.TheVariants.{Inval}
 use Rattle.scan_job.specs.declared.job.Job.{Job}
 use Rattle.scan_job.specs.declared.outcome.Why.TheVariants.{Setting}
 use Rattle.scan_job.specs.declared.stop.Stop.{Stop}
-use Rattle.scan_job.specs.JobSize.{HasFault}
+use Rattle.scan_job.specs.JobSize.{HasJobFault}
 use Rattle.scan_job.specs.Why.{why_word}
-use Rattle.dispatch.specs.ConfigReasons.{reason_text}
+use Rattle.dispatch.specs.ConfigReasons.{config_reason_text}
 use Rattle.config_pages.specs.Texts.{no_page_text}
 use Rattle.scanimage_cli.specs.declared.ending.Ending.{Ending}
 use Rattle.scanimage_cli.specs.declared.ending.Ending.TheVariants.{BadCommandLine, CannotRead, Config, Page, Ended}
@@ -26,17 +26,17 @@ abbrev pub ended_by : Stop → Ending
 ended_by stop = Ended stop.status stop.why
 
 -- a job that is too large, or a batch of none or too many pages, ends as a setting that is refused
-abbrev pub IsRefusedAs : Job → Option Ending → Type 0
-IsRefusedAs job None = HasFault job None
-IsRefusedAs job (Some ending) = (ending ≡ Ended Inval Setting) × (HasFault job None → ⊥)
+abbrev pub JobIsRefusedAs : Job → Option Ending → Type 0
+JobIsRefusedAs job None = HasJobFault job None
+JobIsRefusedAs job (Some ending) = (ending ≡ Ended Inval Setting) × (HasJobFault job None → ⊥)
 
 -- a line of the config that is refused, and why
-abbrev pub line_told : ℕ → List ℕ → List ℕ
-line_told line reason = concat (codes "scanimage: config line " ∷ decimal line ∷ codes ": " ∷ reason ∷ codes "\n" ∷ [])
+abbrev pub config_line_text : ℕ → List ℕ → List ℕ
+config_line_text line reason = concat (codes "scanimage: config line " ∷ decimal line ∷ codes ": " ∷ reason ∷ codes "\n" ∷ [])
 
 abbrev pub ending_line : Ending → List ℕ
 ending_line BadCommandLine = codes "scanimage: bad command line\n"
 ending_line (CannotRead path) = concat (codes "scanimage: cannot read " ∷ path ∷ codes "\n" ∷ [])
-ending_line (Config fault) = line_told fault.line (reason_text fault.reason)
-ending_line (Page line why) = line_told line (no_page_text why)
+ending_line (Config fault) = config_line_text fault.line (config_reason_text fault.reason)
+ending_line (Page line why) = config_line_text line (no_page_text why)
 ending_line (Ended status why) = concat (codes "scanimage: " ∷ status_name status ∷ codes " (" ∷ why_word why ∷ codes ")\n" ∷ [])

@@ -2,7 +2,7 @@ pub mod Ending
 pub mod Asked
 pub mod DeviceList
 pub mod WordCut
-pub mod Options
+pub mod ScanimageOptions
 pub mod Password
 pub mod Rounding
 pub mod CutOptions

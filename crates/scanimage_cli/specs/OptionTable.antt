@@ -11,7 +11,7 @@ use Rattle.option_desc.specs.declared.descriptor.Constraint.{Constraint}
 use Rattle.option_desc.specs.declared.descriptor.Constraint.TheVariants.{Free, Span, Words, Strings}
 use Rattle.option_desc.specs.declared.descriptor.Descriptor.{Descriptor}
 use Rattle.option_desc.specs.declared.value.Value.{Value}
-use Rattle.option_desc.specs.Shown.{word_text, shown}
+use Rattle.option_desc.specs.ShownText.{word_text, shown_text}
 use Rattle.device_api.specs.Options.{has_cap}
 
 abbrev pub unit_text : Unit → List ℕ
@@ -24,29 +24,29 @@ unit_text units.Percent = codes "%"
 unit_text units.Microsecond = codes "us"
 
 -- the values of options of this kind are numbers
-abbrev pub is_number : Kind → Bool
-is_number kinds.Bool = false
-is_number kinds.Int = true
-is_number kinds.Fixed = true
-is_number kinds.String = false
-is_number kinds.Button = false
-is_number kinds.Group = false
+abbrev pub has_number_values : Kind → Bool
+has_number_values kinds.Bool = false
+has_number_values kinds.Int = true
+has_number_values kinds.Fixed = true
+has_number_values kinds.String = false
+has_number_values kinds.Button = false
+has_number_values kinds.Group = false
 
 -- numbers of more than one word
 abbrev pub is_vector : Descriptor → Bool
-is_vector desc = is_number desc.kind && nat_lt 4 desc.size
+is_vector desc = has_number_values desc.kind && nat_lt 4 desc.size
 
 -- the steps, where not all words are admitted
 abbrev pub steps_text : Kind → ℤ → List ℕ
 steps_text kind quant = if int_eq quant (pos 0) then [] else concat (codes " (in steps of " ∷ word_text kind quant ∷ codes ")" ∷ [])
 
 -- MIN..MAX and the unit
-abbrev pub bounds_text : Descriptor → Bounds → List ℕ
-bounds_text desc range = concat (word_text desc.kind range.min ∷ codes ".." ∷ word_text desc.kind range.max ∷ unit_text desc.unit ∷ [])
+abbrev pub option_bounds_text : Descriptor → Bounds → List ℕ
+option_bounds_text desc range = concat (word_text desc.kind range.min ∷ codes ".." ∷ word_text desc.kind range.max ∷ unit_text desc.unit ∷ [])
 
 -- the bounds, and the steps
-abbrev pub range_text : Descriptor → Bounds → List ℕ
-range_text desc range = bounds_text desc range ++ steps_text desc.kind range.quant
+abbrev pub option_range_text : Descriptor → Bounds → List ℕ
+option_range_text desc range = option_bounds_text desc range ++ steps_text desc.kind range.quant
 
 -- the texts joined by `|`, and the unit
 abbrev pub list_text : Descriptor → List (List ℕ) → List ℕ
@@ -64,7 +64,7 @@ any_value kinds.Group = codes ""
 -- the words of a range or a list, for an option whose values are numbers
 abbrev pub numbers_text : Descriptor → Constraint → List ℕ
 numbers_text desc Free = any_value desc.kind
-numbers_text desc (Span range) = range_text desc range
+numbers_text desc (Span range) = option_range_text desc range
 numbers_text desc (Words words) = list_text desc (map (word_text desc.kind) words)
 numbers_text desc (Strings texts) = any_value desc.kind
 
@@ -88,11 +88,11 @@ more_text desc = if is_vector desc then codes ",..." else codes ""
 
 abbrev pub value_or_unknown : Descriptor → Option Value → List ℕ
 value_or_unknown desc None = codes "unknown"
-value_or_unknown desc (Some value) = shown desc value
+value_or_unknown desc (Some value) = shown_text desc value
 
 -- what stands in brackets as an option's value: 32 is the bit of an inactive option, 4 that of one that can be read
-abbrev pub value_text : Descriptor → Option Value → List ℕ
-value_text desc value =
+abbrev pub option_value_text : Descriptor → Option Value → List ℕ
+option_value_text desc value =
     if has_cap desc.caps.0 32 then codes "inactive"
     else (if is_vector desc && has_cap desc.caps.0 4 then decimal (desc.size / 4) ++ codes " values"
     else value_or_unknown desc value)
@@ -102,7 +102,7 @@ abbrev pub read_only_text : Descriptor → List ℕ
 read_only_text desc = if has_cap desc.caps.0 1 then codes "" else codes " [read-only]"
 
 abbrev pub valued_line : Descriptor → Option Value → List ℕ
-valued_line desc value = concat (codes "    --" ∷ desc.name ∷ codes " " ∷ bound_text desc.kind desc ∷ more_text desc ∷ codes " [" ∷ value_text desc value ∷ codes "]" ∷ read_only_text desc ∷ codes "\n" ∷ [])
+valued_line desc value = concat (codes "    --" ∷ desc.name ∷ codes " " ∷ bound_text desc.kind desc ∷ more_text desc ∷ codes " [" ∷ option_value_text desc value ∷ codes "]" ∷ read_only_text desc ∷ codes "\n" ∷ [])
 
 -- a group by its title, an action by its name, and all else with its values
 abbrev pub line_of_kind : Kind → Descriptor → Option Value → List ℕ

@@ -7,5 +7,5 @@ head_or_none [] = []
 head_or_none (line ∷ lines) = line
 
 -- the first line of a text, and nothing of an empty one
-abbrev pub first_of : List ℕ → List ℕ
-first_of text = head_or_none (lines_of text)
+abbrev pub first_line_of : List ℕ → List ℕ
+first_line_of text = head_or_none (lines_of text)

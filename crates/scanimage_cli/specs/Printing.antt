@@ -6,17 +6,17 @@ use Rattle.scan_job.specs.declared.report.Reports.{Reports}
 use Rattle.scanimage_cli.specs.DeviceList.{device_lines}
 use Rattle.scanimage_cli.specs.OptionTable.{table_text}
 use Rattle.scanimage_cli.specs.RoundedLines.{rounded_text}
-use Rattle.scanimage_cli.specs.declared.printed.Printed.{Printed}
+use Rattle.scanimage_cli.specs.declared.printed.Printout.{Printout}
 
 -- a job that lists devices prints the list of them, one that shows options their table, and no other anything
-abbrev pub table_told : Task → List ℕ → List ℕ → Reports → List ℕ
-table_told ListTask prefix device reports = device_lines prefix reports.devices
-table_told Show prefix device reports = table_text device reports.options
-table_told SetOnly prefix device reports = []
-table_told Scan prefix device reports = []
-table_told (Batch count) prefix device reports = []
+abbrev pub printed_table : Task → List ℕ → List ℕ → Reports → List ℕ
+printed_table ListTask prefix device reports = device_lines prefix reports.devices
+printed_table Show prefix device reports = table_text device reports.options
+printed_table SetOnly prefix device reports = []
+printed_table Scan prefix device reports = []
+printed_table (Batch count) prefix device reports = []
 
 -- and beside it a line of each setting that was rounded
-pub record Prints (task : Task) (prefix device : List ℕ) (reports : Reports) (printed : Printed) : Type 0 where
-  pub table : printed.table.items ≡ table_told task prefix device reports
+pub record Prints (task : Task) (prefix device : List ℕ) (reports : Reports) (printed : Printout) : Type 0 where
+  pub table : printed.table.items ≡ printed_table task prefix device reports
   pub rounded : printed.rounded.items ≡ rounded_text reports.settings

@@ -4,8 +4,8 @@ use Rattle.device_api.specs.State.{DeviceState}
 use Rattle.scan_job.specs.declared.job.Job.{Job}
 use Rattle.scan_job.specs.declared.outcome.Outcome.TheVariants.{Done}
 use Rattle.scan_job.specs.declared.report.Reports.{Reports}
-use Rattle.client_rules.specs.Talks.{errand_of}
-use Rattle.net_jobs.specs.Courses.{Course, Event, Runs, begun}
+use Rattle.client_replies.specs.ProtocolStates.{target_of}
+use Rattle.net_jobs.specs.JobTraces.{JobTrace, TraceEvent, EventsLead, initial_trace}
 use Rattle.scanimage_cli.specs.Asked.{task_asked}
 use Rattle.scanimage_cli.specs.DeviceList.{net_prefix}
 use Rattle.scanimage_cli.specs.Doing.{DoesJob, DoesBatch}
@@ -13,7 +13,7 @@ use Rattle.scanimage_cli.specs.Ending.{exit_status}
 use Rattle.scanimage_cli.specs.Printing.{Prints}
 use Rattle.scanimage_cli.specs.declared.ending.Ending.{Ending}
 use Rattle.scanimage_cli.specs.declared.options.Options.{Options}
-use Rattle.scanimage_cli.specs.declared.printed.Printed.{Printed}
+use Rattle.scanimage_cli.specs.declared.printed.Printout.{Printout}
 
 -- an ending whose exit status is not 0
 abbrev pub IsFailure : Ending → Type 0
@@ -32,7 +32,7 @@ pub record IsJobAsked (options : Options) (settings : List (List ℕ × List ℕ
   pub task : job.task ≡ task_asked options
 
 -- the job, or the batch, is done on a scanner, and what its reports come to is to be printed; of the system's files nothing is known
-pub record RanHere (job : Job) (printed : Printed) : Type 0 where
+pub record RanHere (job : Job) (printed : Printout) : Type 0 where
   pub old : DeviceState
   pub new : DeviceState
   pub does : DoesJob old job printed None None new ⊎ DoesBatch old job printed None None new
@@ -43,23 +43,23 @@ pub record HasDoneHere (options : Options) (settings : List (List ℕ × List �
   pub job : Job
   pub asked : IsJobAsked options settings password device job
   pub named : IfSome options.device_name (λ name. device ≡ name)
-  pub printed : Printed
+  pub printed : Printout
   pub ran : RanHere job printed
 
 -- the job is done by the client's rules, for replies and frames that came, and what its reports come to is to be printed
-pub record RanThere (job : Job) (host : List ℕ) (printed : Printed) : Type 0 where
+pub record RanThere (job : Job) (host : List ℕ) (printed : Printout) : Type 0 where
   pub reports : Reports
-  pub course : Course
-  pub events : List Event
-  pub runs : Runs (errand_of job) (begun job) events course
-  pub told : course.talk.outcome ≡ Done reports
+  pub trace : JobTrace
+  pub events : List TraceEvent
+  pub runs : EventsLead (target_of job) (initial_trace job) events trace
+  pub told : trace.protocol.outcome ≡ Done reports
   pub prints : Prints job.task (net_prefix host) job.device reports printed
 
 -- such a job was done on a daemon of that host; one that lists devices has no settings
 pub record HasDoneThere (options : Options) (settings : List (List ℕ × List ℕ)) (password host device : List ℕ) : Type 0 where
   pub job : Job
   pub asked : IsJobAsked options (if options.list_devices then [] else settings) password device job
-  pub printed : Printed
+  pub printed : Printout
   pub ran : RanThere job host printed
 
 -- the options ask this machine for a list, or the job that they ask for was done here

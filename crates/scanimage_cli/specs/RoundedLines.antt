@@ -4,21 +4,21 @@ use Rattle.std.specs.List.{concat}
 use Rattle.sane_fixed.specs.declared.unit.Unit.TheVariants as units
 use Rattle.option_desc.specs.declared.descriptor.Constraint.TheVariants.{Free}
 use Rattle.option_desc.specs.declared.descriptor.Descriptor.{Descriptor}
-use Rattle.option_desc.specs.Shown.{shown}
+use Rattle.option_desc.specs.ShownText.{shown_text}
 use Rattle.scan_job.specs.declared.report.Report.{Report}
 use Rattle.scanimage_cli.specs.Rounding.{is_rounded}
 
 -- both values as an option shows them
 abbrev pub rounded_line : Report → Descriptor → List ℕ
-rounded_line report desc = concat (codes "scanimage: rounded value of " ∷ report.name ∷ codes " from " ∷ shown desc report.asked ∷ codes " to " ∷ shown desc report.given ∷ codes "\n" ∷ [])
+rounded_line report desc = concat (codes "scanimage: rounded value of " ∷ report.name ∷ codes " from " ∷ shown_text desc report.asked ∷ codes " to " ∷ shown_text desc report.given ∷ codes "\n" ∷ [])
 
 -- an option that has the name and the kind of what a report is of, and no more
-abbrev pub reported : Report → Descriptor
-reported report = record { name = report.name; title = []; about = []; kind = report.kind; unit = units.None; size = 4; caps = record { 0 = 1 }; constraint = Free }
+abbrev pub reported_option : Report → Descriptor
+reported_option report = record { name = report.name; title = []; about = []; kind = report.kind; unit = units.None; size = 4; caps = record { 0 = 1 }; constraint = Free }
 
 -- the line of a report; none where its setting was not rounded
 abbrev pub report_line : Report → List ℕ
-report_line report = if is_rounded report then rounded_line report (reported report) else []
+report_line report = if is_rounded report then rounded_line report (reported_option report) else []
 
 -- the lines of all
 abbrev pub rounded_text : List Report → List ℕ

@@ -13,10 +13,10 @@ use Rattle.scanimage_cli.specs.declared.geometry.Geometry.TheVariants.{Left, Top
 use Rattle.scanimage_cli.specs.declared.split.Measures.{Measures}
 use Rattle.scanimage_cli.specs.declared.word_cut.Item.{Item}
 use Rattle.scanimage_cli.specs.declared.word_cut.Item.TheVariants.{Flag, Valued, Measured, Setting}
-use Rattle.scanimage_cli.specs.declared.word_cut.Awaited.{Awaited}
-use Rattle.scanimage_cli.specs.declared.word_cut.Awaited.TheVariants.{ForOption, ForMeasure, ForSetting}
-use Rattle.scanimage_cli.specs.declared.word_cut.Told.{Told}
-use Rattle.scanimage_cli.specs.declared.word_cut.Told.TheVariants.{Whole, Awaits, Refused}
+use Rattle.scanimage_cli.specs.declared.word_cut.AwaitedValue.{AwaitedValue}
+use Rattle.scanimage_cli.specs.declared.word_cut.AwaitedValue.TheVariants.{ForOption, ForMeasure, ForSetting}
+use Rattle.scanimage_cli.specs.declared.word_cut.WordPart.{WordPart}
+use Rattle.scanimage_cli.specs.declared.word_cut.WordPart.TheVariants.{Whole, Awaits, Refused}
 
 -- ---- names
 
@@ -66,12 +66,12 @@ is_flag BatchCount = false
 abbrev pub all_options : List ProgramOption
 all_options = ListDevices ∷ AllOptions ∷ DontScan ∷ DeviceName ∷ OutputFile ∷ Config ∷ Net ∷ Port ∷ User ∷ PasswordFile ∷ Batch ∷ BatchCount ∷ []
 
-abbrev pub is_named : ProgramOption → List ℕ → Bool
-is_named option word = bytes_eq word (long_word option) || option_map_or (bytes_eq word) (short_word option) false
+abbrev pub is_name_of : ProgramOption → List ℕ → Bool
+is_name_of option word = bytes_eq word (long_word option) || option_map_or (bytes_eq word) (short_word option) false
 
 -- the option that a word names
 unfoldable pub option_named : List ℕ → Option ProgramOption
-option_named word = find (λ option. is_named option word) all_options
+option_named word = find (λ option. is_name_of option word) all_options
 
 -- the measure that a word names
 abbrev pub geometry_named : List ℕ → Option Geometry
@@ -92,50 +92,50 @@ is_empty [] = true
 is_empty (_ ∷ _) = false
 
 -- `--NAME=VALUE`: an option with its value, which is not empty, or a setting, whose name is not
-abbrev pub told_pair : Option ProgramOption → List ℕ → List ℕ → Told
-told_pair (Some option) name value = if is_flag option || is_empty value then Refused else Whole (Valued option value)
-told_pair None name value = if is_empty name then Refused else Whole (Setting name value)
+abbrev pub pair_part : Option ProgramOption → List ℕ → List ℕ → WordPart
+pair_part (Some option) name value = if is_flag option || is_empty value then Refused else Whole (Valued option value)
+pair_part None name value = if is_empty name then Refused else Whole (Setting name value)
 
 -- a word that begins with `--` and names no option, by the place of its first `=`: a name and a value, or a name
-abbrev pub told_at : Option ℕ → List ℕ → Told
-told_at (Some at) word = told_pair (option_named (take at word)) (drop 2 (take at word)) (drop (at + 1) word)
-told_at None word = if is_empty (drop 2 word) then Refused else Awaits (ForSetting (drop 2 word))
+abbrev pub part_at_equals : Option ℕ → List ℕ → WordPart
+part_at_equals (Some at) word = pair_part (option_named (take at word)) (drop 2 (take at word)) (drop (at + 1) word)
+part_at_equals None word = if is_empty (drop 2 word) then Refused else Awaits (ForSetting (drop 2 word))
 
-unfoldable pub told_long : List ℕ → Told
-told_long word = told_at (position is_equals word) word
+unfoldable pub long_part : List ℕ → WordPart
+long_part word = part_at_equals (position is_equals word) word
 
-abbrev pub told_other : Option Geometry → List ℕ → Told
-told_other (Some geometry) word = Awaits (ForMeasure geometry)
-told_other None word = if starts_with nat_eq word (codes "--") then told_long word else Refused
+abbrev pub other_part : Option Geometry → List ℕ → WordPart
+other_part (Some geometry) word = Awaits (ForMeasure geometry)
+other_part None word = if starts_with nat_eq word (codes "--") then long_part word else Refused
 
-abbrev pub told_option : Option ProgramOption → List ℕ → Told
-told_option (Some option) word = if is_flag option then Whole (Flag option) else Awaits (ForOption option)
-told_option None word = told_other (geometry_named word) word
+abbrev pub option_part : Option ProgramOption → List ℕ → WordPart
+option_part (Some option) word = if is_flag option then Whole (Flag option) else Awaits (ForOption option)
+option_part None word = other_part (geometry_named word) word
 
 -- what a word is that is no value: an item, the first half of one, or refused
-unfoldable pub told_by : List ℕ → Told
-told_by word = told_option (option_named word) word
+unfoldable pub part_of_word : List ℕ → WordPart
+part_of_word word = option_part (option_named word) word
 
 -- ---- two words, and all of them
 
 -- the item that a value completes, whatever it begins with
-unfoldable pub item_with : Awaited → List ℕ → Option Item
+unfoldable pub item_with : AwaitedValue → List ℕ → Option Item
 item_with (ForOption option) value = if is_empty value then None else Some (Valued option value)
 item_with (ForMeasure geometry) value = if is_some (fixed_of value) then Some (Measured geometry value) else None
 item_with (ForSetting name) value = Some (Setting name value)
 
-abbrev pub told_step : Told → Option (List Item × Option Awaited)
-told_step (Whole item) = Some (item ∷ [], None)
-told_step (Awaits awaited) = Some ([], Some awaited)
-told_step Refused = None
+abbrev pub step_of_part : WordPart → Option (List Item × Option AwaitedValue)
+step_of_part (Whole item) = Some (item ∷ [], None)
+step_of_part (Awaits awaited) = Some ([], Some awaited)
+step_of_part Refused = None
 
 -- one word, where a value is awaited or not: the items that it completes, and what is awaited then
-unfoldable pub cut_step : Option Awaited → List ℕ → Option (List Item × Option Awaited)
+unfoldable pub cut_step : Option AwaitedValue → List ℕ → Option (List Item × Option AwaitedValue)
 cut_step (Some awaited) word = option_map (λ item. (item ∷ [], None)) (item_with awaited word)
-cut_step None word = told_step (told_by word)
+cut_step None word = step_of_part (part_of_word word)
 
 -- all of the words; none where one is refused, or where a value is missing at the end
-abbrev pub cut_from : Option Awaited → List (List ℕ) → Option (List Item)
+abbrev pub cut_from : Option AwaitedValue → List (List ℕ) → Option (List Item)
 cut_from awaited [] = if is_none awaited then Some [] else None
 cut_from awaited (word ∷ words) = option_and_then (λ step. option_map (λ more. step.0 ++ more) (cut_from step.1 words)) (cut_step awaited word)
 
@@ -143,8 +143,8 @@ abbrev pub cut : List (List ℕ) → Option (List Item)
 cut words = cut_from None words
 
 -- the items with those that a step completes behind them, and what is awaited then
-abbrev pub with_step : List Item → Option (List Item × Option Awaited) → Option (List Item × Option Awaited)
-with_step items step = option_map (λ s. (items ++ s.0, s.1)) step
+abbrev pub with_cut_step : List Item → Option (List Item × Option AwaitedValue) → Option (List Item × Option AwaitedValue)
+with_cut_step items step = option_map (λ s. (items ++ s.0, s.1)) step
 
 -- ---- what the pieces are
 
@@ -168,9 +168,9 @@ named_again None items = false
 named_again (Some option) items = names_option option items
 
 -- an option of the program stands twice
-abbrev pub repeats : List Item → Bool
-repeats [] = false
-repeats (item ∷ items) = named_again (option_of item) items || repeats items
+abbrev pub repeats_option : List Item → Bool
+repeats_option [] = false
+repeats_option (item ∷ items) = named_again (option_of item) items || repeats_option items
 
 -- the program's word of a piece, with a long name, a value behind `=`
 abbrev pub program_word : Item → Option (List ℕ)
@@ -251,4 +251,4 @@ unfoldable pub split_of : List (List ℕ) → Option (List (List ℕ) × List (L
 split_of words = do
   items ← cut words
   window ← window_settings (measures_from no_measures items)
-  if repeats items then None else Some (filter_map program_word items, filter_map named_setting items ++ window)
+  if repeats_option items then None else Some (filter_map program_word items, filter_map named_setting items ++ window)

@@ -2,10 +2,10 @@ ghost use Rattle.std.specs.Prelude.{◌≡◌, true, IfOk, IfErr, OnErr};
 ghost use Rattle.device_api.specs.State.{is_at_rest};
 ghost use Rattle.scanimage_cli.specs.Doing.{DoesJob, EndsJob, DoesBatch, EndsBatch};
 ghost use Rattle.scanimage_cli.specs.Programs.{IsFailure};
-ghost use Rattle.local_job.specs.LocalRun.{LeavesNoFile, Runs};
+ghost use Rattle.local_job.specs.LocalRun.{LeavesNoFile, ChangesDevice};
 
 use crate::ending::Ending;
-use crate::printed::Printed;
+use crate::printed::Printout;
 use device_api::Device;
 use local_job::{run_local_batch_with, run_local_with};
 use scan_job::{Job, Shelf};
@@ -19,19 +19,19 @@ pub fn do_job<W: Write>(
     device: &mut dyn Device,
     job: &Job,
     output: &mut W,
-) -> Result<Printed, Ending>
+) -> Result<Printout, Ending>
     ensures done { IfOk result (λ printed. DoesJob (state device.old) job.now printed
         (W.contents output.old) (W.contents output.new) (state device.new)) }
     ensures no_file { OnErr result (LeavesNoFile (W.contents output.old) (W.contents output.new)) }
     ensures ended { IfErr result (λ ending. EndsJob (state device.old) job.now (state device.new) ending) }
     ensures failed { IfErr result IsFailure }
-    ensures runs { Runs (state device.old) (state device.new) }
+    ensures runs { ChangesDevice (state device.old) (state device.new) }
     ensures rest { is_at_rest (state device.new).phase ≡ true }
 {
     let name = job.device.as_bytes();
     let task = job.task;
     let done = run_local_with(alloc, device, job, output, |reports| {
-        Printed::of(alloc, b"", name, task, reports)
+        Printout::of(alloc, b"", name, task, reports)
     });
     match done {
         Ok((_, printed)) => Ok(printed),
@@ -46,7 +46,7 @@ pub fn do_batch<S: Shelf>(
     device: &mut dyn Device,
     job: &Job,
     shelf: &mut S,
-) -> Result<Printed, Ending>
+) -> Result<Printout, Ending>
     ensures done { IfOk result (λ printed. DoesBatch (state device.old) job.now printed
         (S.stock shelf.old) (S.stock shelf.new) (state device.new)) }
     ensures ended { IfErr result (λ ending. EndsBatch (state device.old) job.now
@@ -57,7 +57,7 @@ pub fn do_batch<S: Shelf>(
     let name = job.device.as_bytes();
     let task = job.task;
     let done = run_local_batch_with(alloc, device, job, shelf, |reports| {
-        Printed::of(alloc, b"", name, task, reports)
+        Printout::of(alloc, b"", name, task, reports)
     });
     match done {
         Ok((_, printed)) => Ok(printed),

@@ -1,6 +1,6 @@
 ghost use Rattle.std.specs.Prelude.{OnOk};
 ghost use Rattle.std.specs.Io.KnownBytes.{Appends};
-ghost use Rattle.scanimage_cli.specs.Ending.{line_told};
+ghost use Rattle.scanimage_cli.specs.Ending.{config_line_text};
 
 use crate::pieces::write_pieces;
 use config_pages::NoPage;
@@ -28,7 +28,7 @@ pub enum Ending {
 impl Ending {
     ghost use Rattle.std.specs.Prelude.{◌≡◌, OnOk};
     ghost use Rattle.std.specs.Io.KnownBytes.{Appends};
-    ghost use Rattle.scanimage_cli.specs.Ending.{ended_by, exit_status, ending_line, IsRefusedAs};
+    ghost use Rattle.scanimage_cli.specs.Ending.{ended_by, exit_status, ending_line, JobIsRefusedAs};
 
     /// A job stopped so.
     pub fn of(stop: Stop) -> Ending
@@ -52,7 +52,7 @@ impl Ending {
     }
 
     /// A connection was lost, or cannot be made.
-    pub fn lost() -> Ending
+    pub fn ending_of_loss() -> Ending
         ensures { result ≡ Ending.Ended Status.IoError Why.Lost }
     {
         Ending::Ended(Status::IoError, Why::Lost)
@@ -60,7 +60,7 @@ impl Ending {
 
     /// How a job ends that is refused before anything is done for it.
     pub fn of_refused(job: &Job) -> Option<Ending>
-        ensures { IsRefusedAs job.now result }
+        ensures { JobIsRefusedAs job.now result }
     {
         match job.fault() {
             Some(JobFault::TooManySettings | JobFault::TextTooLong | JobFault::BadCount) => {
@@ -104,7 +104,7 @@ impl Ending {
 
 /// Writes that a line of the config is refused.
 fn tell_line<W: Write>(to: &mut W, line: u32, reason: &str) -> io::Result<()>
-    ensures { OnOk result (Appends (W.contents to.old) (W.contents to.new) (line_told line reason.now)) }
+    ensures { OnOk result (Appends (W.contents to.old) (W.contents to.new) (config_line_text line reason.now)) }
 {
     let mut digits = Buffer::new();
     let line = digits.format(line).as_bytes();

@@ -1,12 +1,12 @@
 ghost use Rattle.std.specs.Prelude.{◌≡◌, IfOk, IfErr, OnErr};
-ghost use Rattle.net_jobs.specs.Draining.{StopsShort};
+ghost use Rattle.net_jobs.specs.NetDraining.{StopsShort};
 ghost use Rattle.scanimage_cli.specs.DeviceList.{net_prefix};
 ghost use Rattle.scanimage_cli.specs.NetDoing.{DoesNetJob, EndsNetJob, DoesNetBatch, EndsNetBatch};
 ghost use Rattle.scanimage_cli.specs.Programs.{IsFailure};
 
+use crate::device_listing::net_prefix;
 use crate::ending::Ending;
-use crate::listing::net_prefix;
-use crate::printed::Printed;
+use crate::printed::Printout;
 use net_backend::{Dial, run_batch_with, run_job_with};
 use sane_fixed::{NoMem, Text};
 use scan_job::{Job, Shelf};
@@ -14,7 +14,7 @@ use std::alloc::Global;
 use std::io::{Read, Write};
 
 /// What stands before the names of that host's devices, and the name of the job's device there.
-fn names_told(alloc: Global, host: &[u8], job: &Job) -> Result<(Vec<u8>, Text), NoMem>
+fn names_answered(alloc: Global, host: &[u8], job: &Job) -> Result<(Vec<u8>, Text), NoMem>
     ensures prefix { IfOk result (λ names. names.0.items ≡ net_prefix host.now) }
     ensures device { IfOk result (λ names. names.1 ≡ job.now.device) }
 {
@@ -31,7 +31,7 @@ pub fn do_net_job<C: Read + Write, D: Dial, W: Write>(
     control: &mut C,
     dial: &mut D,
     output: &mut W,
-) -> Result<Printed, Ending>
+) -> Result<Printout, Ending>
     ensures done { IfOk result (DoesNetJob C.remaining C.contents D.coming W.contents job host.now
         control.old control.new dial.old dial.new output.old output.new) }
     ensures no_file { OnErr result (StopsShort (W.contents output.old) (W.contents output.new)) }
@@ -39,12 +39,12 @@ pub fn do_net_job<C: Read + Write, D: Dial, W: Write>(
         control.old control.new dial.old dial.new output.old output.new) }
     ensures failed { IfErr result IsFailure }
 {
-    let Ok((prefix, device)) = names_told(alloc, host, &job) else {
+    let Ok((prefix, device)) = names_answered(alloc, host, &job) else {
         return Err(Ending::no_memory());
     };
     let task = job.task;
     let done = run_job_with(alloc, job, control, dial, output, |reports| {
-        Printed::of(alloc, prefix.as_slice(), device.as_bytes(), task, reports)
+        Printout::of(alloc, prefix.as_slice(), device.as_bytes(), task, reports)
     });
     match done {
         Ok((_, printed)) => Ok(printed),
@@ -61,19 +61,19 @@ pub fn do_net_batch<C: Read + Write, D: Dial, S: Shelf>(
     control: &mut C,
     dial: &mut D,
     shelf: &mut S,
-) -> Result<Printed, Ending>
+) -> Result<Printout, Ending>
     ensures done { IfOk result (DoesNetBatch C.remaining C.contents D.coming S.stock job host.now
         control.old control.new dial.old dial.new shelf.old shelf.new) }
     ensures ended { IfErr result (EndsNetBatch C.remaining C.contents D.coming S.stock job
         control.old control.new dial.old dial.new shelf.old shelf.new) }
     ensures failed { IfErr result IsFailure }
 {
-    let Ok((prefix, device)) = names_told(alloc, host, &job) else {
+    let Ok((prefix, device)) = names_answered(alloc, host, &job) else {
         return Err(Ending::no_memory());
     };
     let task = job.task;
     let done = run_batch_with(alloc, job, control, dial, shelf, |reports| {
-        Printed::of(alloc, prefix.as_slice(), device.as_bytes(), task, reports)
+        Printout::of(alloc, prefix.as_slice(), device.as_bytes(), task, reports)
     });
     match done {
         Ok((_, printed)) => Ok(printed),

@@ -1,6 +1,6 @@
 ghost use Rattle.std.specs.Prelude.{◌≡◌, Some, IfOk, List, ℕ, option_map, decimal};
 ghost use Rattle.scanimage_cli.specs.WordCut.{long_word};
-ghost use Rattle.scanimage_cli.specs.Options.{value_after, option_value, has_flag, count_named, IsOptionsOf};
+ghost use Rattle.scanimage_cli.specs.ScanimageOptions.{value_after, program_option_value, has_flag, count_named, AreScanimageOptions};
 
 use crate::program_option::ProgramOption;
 use clap::error::ErrorKind;
@@ -65,7 +65,7 @@ impl From<clap::Error> for OptionsFault {
 }
 
 /// The value in `--NAME=VALUE`, where the word is that.
-#[tactic(auto, unfolding(crate::specs::Options::value_after))]
+#[tactic(auto, unfolding(crate::specs::ScanimageOptions::value_after))]
 fn value_after<'a>(option: ProgramOption, word: &'a [u8]) -> Option<&'a [u8]>
     ensures { option_map (λ value. value.now) result ≡ value_after (long_word option) word.now }
 {
@@ -77,8 +77,8 @@ fn value_after<'a>(option: ProgramOption, word: &'a [u8]) -> Option<&'a [u8]>
 }
 
 /// The value that the words give an option.
-fn option_value<'a>(option: ProgramOption, words: &'a [Text]) -> Option<&'a [u8]>
-    ensures { option_map (λ value. value.now) result ≡ option_value option words.now }
+fn program_option_value<'a>(option: ProgramOption, words: &'a [Text]) -> Option<&'a [u8]>
+    ensures { option_map (λ value. value.now) result ≡ program_option_value option words.now }
 {
     for word in words {
         if let Some(value) = value_after(option, word.as_bytes()) {
@@ -150,9 +150,9 @@ fn agreed_value(
     option: ProgramOption,
     words: &[Text],
 ) -> Result<Option<Text>, OptionsFault>
-    ensures { IfOk result (λ value. value ≡ option_value option words.now) }
+    ensures { IfOk result (λ value. value ≡ program_option_value option words.now) }
 {
-    match (found, option_value(option, words)) {
+    match (found, program_option_value(option, words)) {
         (None, None) => Ok(None),
         (Some(found), Some(value)) if found.as_bytes() == value => {
             match Text::new(alloc, value) {
@@ -181,9 +181,9 @@ fn agreed_port(
     found: Option<u16>,
     words: &[Text],
 ) -> Result<Option<u16>, OptionsFault>
-    ensures { IfOk result (λ port. option_value ProgramOption.Port words.now ≡ option_map decimal port) }
+    ensures { IfOk result (λ port. program_option_value ProgramOption.Port words.now ≡ option_map decimal port) }
 {
-    match (found, option_value(ProgramOption::Port, words)) {
+    match (found, program_option_value(ProgramOption::Port, words)) {
         (None, None) => Ok(None),
         (Some(port), Some(text)) => {
             let digits = format!(in alloc; "{port}")?;
@@ -210,9 +210,12 @@ fn count_named(text: &[u8]) -> Option<u32>
 
 /// The count of a batch's pages, which `clap` has read as a number.
 fn agreed_count(found: Option<u32>, words: &[Text]) -> Result<Option<u32>, OptionsFault>
-    ensures { IfOk result (λ count. option_map count_named (option_value ProgramOption.BatchCount words.now) ≡ option_map (λ n. Some n) count) }
+    ensures { IfOk result (λ count. option_map count_named (program_option_value ProgramOption.BatchCount words.now) ≡ option_map (λ n. Some n) count) }
 {
-    match (found, option_value(ProgramOption::BatchCount, words)) {
+    match (
+        found,
+        program_option_value(ProgramOption::BatchCount, words),
+    ) {
         (None, None) => Ok(None),
         (Some(found), Some(text)) => match count_named(text) {
             Some(count) if count == found => Ok(Some(count)),
@@ -224,7 +227,7 @@ fn agreed_count(found: Option<u32>, words: &[Text]) -> Result<Option<u32>, Optio
 
 /// Each option with the value that its word has, where `clap` reads the same.
 fn options_found(alloc: Global, found: &ArgMatches, words: &[Text]) -> Result<Options, OptionsFault>
-    ensures { IfOk result (IsOptionsOf words.now) }
+    ensures { IfOk result (AreScanimageOptions words.now) }
 {
     let list_devices = agreed_flag(
         found.get_flag("list-devices"),
@@ -281,7 +284,7 @@ fn options_found(alloc: Global, found: &ArgMatches, words: &[Text]) -> Result<Op
 /// has. `Bad` where `clap` refuses the words (a port that is not 1 to 65,535, a count that is not 1 to 16, a word that is not UTF-8)
 /// or reads another value, and where a port or a count has leading zeros or a sign; `NoMem` where there is no memory.
 pub fn read_options(alloc: Global, words: &[Text]) -> Result<Options, OptionsFault>
-    ensures { IfOk result (IsOptionsOf words.now) }
+    ensures { IfOk result (AreScanimageOptions words.now) }
 {
     let strs = as_strs(alloc, words)?;
     let found = parse(alloc, strs.as_slice())?;

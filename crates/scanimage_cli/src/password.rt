@@ -1,5 +1,5 @@
 ghost use Rattle.std.specs.Prelude.{◌≡◌, IfOk, IfSome, take};
-ghost use Rattle.scanimage_cli.specs.Password.{first_of};
+ghost use Rattle.scanimage_cli.specs.Password.{first_line_of};
 
 use std::alloc::Global;
 use std::io::{self, Read};
@@ -19,7 +19,7 @@ fn front_text<R: Read + Drop>(alloc: Global, reader: R) -> io::Result<Vec<u8>>
 
 /// The first line of a text, without what ends it: nothing where the text is empty.
 fn line_of(text: &[u8]) -> &[u8]
-    ensures { result.now ≡ first_of text.now }
+    ensures { result.now ≡ first_line_of text.now }
 {
     match first_line(text) {
         Some((line, _)) => line,
@@ -30,7 +30,7 @@ fn line_of(text: &[u8]) -> &[u8]
 /// The password in a file: its first line, without the LF that ends it and a CR before that. Of a line that is longer than
 /// a job's password no more is given than shows it.
 pub fn password_line<R: Read + Drop>(alloc: Global, reader: R) -> io::Result<Vec<u8>>
-    ensures { IfOk result (λ line. IfSome (R.remaining reader) (λ all. line.items ≡ first_of (take 1026 all))) }
+    ensures { IfOk result (λ line. IfSome (R.remaining reader) (λ all. line.items ≡ first_line_of (take 1026 all))) }
 {
     let text = front_text(alloc, reader)?;
     let line = Vec::from_slice(alloc, line_of(text.as_slice()))?;

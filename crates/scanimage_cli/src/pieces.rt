@@ -5,7 +5,7 @@ ghost use Rattle.std.specs.Io.KnownBytes.{Appends};
 use sane_fixed::NoMem;
 use std::io::{self, Write};
 
-/// Adds the pieces, one after another. The only error is want of memory.
+/// Adds the pieces, one after another. The only error is out of memory.
 pub fn add_all(line: &mut Vec<u8>, pieces: &[&[u8]]) -> Result<(), NoMem>
     ensures { OnOk result (line.new.items ≡ line.old.items ++ concat (map (λ piece. piece.now) pieces.now)) }
 {

@@ -1,16 +1,16 @@
 ghost use Rattle.std.specs.Prelude.{◌≡◌, [], IfOk};
-ghost use Rattle.scanimage_cli.specs.Printing.{table_told};
+ghost use Rattle.scanimage_cli.specs.Printing.{printed_table};
 
-use crate::listing::device_list;
+use crate::device_listing::device_list;
+use crate::option_table::options_table;
 use crate::rounding::rounded_lines;
-use crate::table::options_table;
 use sane_fixed::NoMem;
 use scan_job::{Reports, Task};
 use std::alloc::Global;
 
 /// What a job that is done prints.
 #[derive(Drop)]
-pub struct Printed {
+pub struct Printout {
     /// The table of options or the list of devices, for a job that shows or lists them: on standard output.
     pub table: Vec<u8>,
     /// A line for each setting that was rounded: on standard error.
@@ -18,7 +18,7 @@ pub struct Printed {
 }
 
 /// The list or the table that a job with these reports prints.
-fn table_told(
+fn printed_table(
     alloc: Global,
     prefix: &[u8],
     device: &[u8],
@@ -26,7 +26,7 @@ fn table_told(
     reports: &Reports,
 ) -> Result<Vec<u8>, NoMem>
     ensures { IfOk result (λ table. table.items
-        ≡ table_told task prefix.now device.now reports.now) }
+        ≡ printed_table task prefix.now device.now reports.now) }
 {
     match task {
         Task::List => device_list(alloc, prefix, reports.devices.as_slice()),
@@ -35,23 +35,23 @@ fn table_told(
     }
 }
 
-impl Printed {
+impl Printout {
     ghost use Rattle.std.specs.Prelude.{IfOk};
     ghost use Rattle.scanimage_cli.specs.Printing.{Prints};
 
     /// What a job of that task prints, on the device of that name, with these reports; the prefix stands before the names of
-    /// the devices that it lists. The only error is want of memory.
+    /// the devices that it lists. The only error is out of memory.
     pub fn of(
         alloc: Global,
         prefix: &[u8],
         device: &[u8],
         task: Task,
         reports: &Reports,
-    ) -> Result<Printed, NoMem>
+    ) -> Result<Printout, NoMem>
         ensures { IfOk result (Prints task prefix.now device.now reports.now) }
     {
-        let table = table_told(alloc, prefix, device, task, reports)?;
+        let table = printed_table(alloc, prefix, device, task, reports)?;
         let rounded = rounded_lines(alloc, reports.settings.as_slice())?;
-        Ok(Printed { table, rounded })
+        Ok(Printout { table, rounded })
     }
 }

@@ -1,5 +1,5 @@
 ghost use Rattle.std.specs.Prelude.{◌≡◌, option_map};
-ghost use Rattle.scanimage_cli.specs.WordCut.{is_named, option_named};
+ghost use Rattle.scanimage_cli.specs.WordCut.{is_name_of, option_named};
 
 /// The options of the program itself (scanimage(1)).
 #[derive(Clone, Copy, Debug, PartialEq, Eq)]
@@ -92,8 +92,8 @@ impl ProgramOption {
     }
 }
 
-fn is_named(option: ProgramOption, word: &[u8]) -> bool
-    ensures { result ≡ is_named option word.now }
+fn is_name_of(option: ProgramOption, word: &[u8]) -> bool
+    ensures { result ≡ is_name_of option word.now }
 {
     if word == option.long_word().as_bytes() {
         return true;
@@ -110,7 +110,7 @@ pub fn option_named(word: &[u8]) -> Option<ProgramOption>
     ensures { result ≡ option_named word.now }
 {
     for option in OPTIONS {
-        if is_named(option, word) {
+        if is_name_of(option, word) {
             return Some(option);
         }
     }

@@ -1,6 +1,6 @@
 ghost use Rattle.std.specs.Prelude.{◌≡◌, ◌++◌, [], IfOk, OnOk};
 ghost use Rattle.scanimage_cli.specs.Rounding.{is_rounded};
-ghost use Rattle.scanimage_cli.specs.RoundedLines.{rounded_line, report_line, reported, rounded_text};
+ghost use Rattle.scanimage_cli.specs.RoundedLines.{rounded_line, report_line, reported_option, rounded_text};
 
 use crate::pieces::add_all;
 use option_desc::{Constraint, Descriptor, show_text};
@@ -41,8 +41,8 @@ fn add_rounded(
 }
 
 /// An option that has the name and the kind of what a report is of, and no more.
-fn reported(alloc: Global, report: &Report) -> Result<Descriptor, NoMem>
-    ensures { IfOk result (λ desc. desc ≡ reported report.now) }
+fn reported_option(alloc: Global, report: &Report) -> Result<Descriptor, NoMem>
+    ensures { IfOk result (λ desc. desc ≡ reported_option report.now) }
 {
     Ok(Descriptor {
         name: report.name.try_clone(alloc)?,
@@ -69,11 +69,11 @@ fn add_report(alloc: Global, lines: &mut Vec<u8>, report: &Report) -> Result<(),
     if !is_rounded(report) {
         return Ok(());
     }
-    let desc = reported(alloc, report)?;
+    let desc = reported_option(alloc, report)?;
     add_rounded(alloc, lines, report, &desc)
 }
 
-/// A line for each setting that was given another value than it asked for. The only error is want of memory.
+/// A line for each setting that was given another value than it asked for. The only error is out of memory.
 pub fn rounded_lines(alloc: Global, reports: &[Report]) -> Result<Vec<u8>, NoMem>
     ensures { IfOk result (λ lines. lines.items ≡ rounded_text reports.now) }
 {

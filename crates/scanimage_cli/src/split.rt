@@ -1,6 +1,6 @@
 ghost use Rattle.std.specs.Prelude.{◌≡◌, ◌++◌, ◌∷◌, [], ◌+ℤ◌, ◌↔◌, true, Some, None, IfOk, IfErr, OnOk, IsSome, IfSome, codes, option_map};
 ghost use Rattle.std.specs.List.{filter_map};
-ghost use Rattle.scanimage_cli.specs.WordCut.{option_of, is_option, names_option, named_again, repeats, program_word, named_setting, long_word, fits_word, with_measure, measures_with, measures_from, no_measures, length_text, start_word, far_text, far_side, setting_of, window_settings, split_of};
+ghost use Rattle.scanimage_cli.specs.WordCut.{option_of, is_option, names_option, named_again, repeats_option, program_word, named_setting, long_word, fits_word, with_measure, measures_with, measures_from, no_measures, length_text, start_word, far_text, far_side, setting_of, window_settings, split_of};
 
 use crate::geometry::Geometry;
 use crate::program_option::ProgramOption;
@@ -66,8 +66,8 @@ fn named_again(option: Option<ProgramOption>, items: &[Item]) -> bool
 }
 
 /// Whether an option of the program stands twice.
-fn repeats(items: &[Item]) -> bool
-    ensures { result ≡ repeats items.now }
+fn repeats_option(items: &[Item]) -> bool
+    ensures { result ≡ repeats_option items.now }
 {
     for (i, item) in items.iter().enumerate() {
         if named_again(option_of(item), &items[i + 1..]) {
@@ -307,7 +307,7 @@ pub fn split_words(alloc: Global, words: &[Text]) -> Result<Split, SplitFault>
     let mut settings = named_settings(alloc, items.as_slice())?;
     let measures = measures_of(alloc, items.as_slice())?;
     add_window(alloc, &mut settings, measures)?;
-    if repeats(items.as_slice()) {
+    if repeats_option(items.as_slice()) {
         return Err(SplitFault::Bad);
     }
     Ok(Split { program, settings })

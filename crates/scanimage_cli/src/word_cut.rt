@@ -1,5 +1,5 @@
 ghost use Rattle.std.specs.Prelude.{◌≡◌, ◌<◌, ◌++◌, ◌∷◌, [], Err, Some, None, IfOk, IfErr, IfSome, length, drop, position};
-ghost use Rattle.scanimage_cli.specs.WordCut.{is_equals, told_pair, told_long, told_other, told_option, told_by, item_with, with_step, cut_step, cut};
+ghost use Rattle.scanimage_cli.specs.WordCut.{is_equals, pair_part, long_part, other_part, option_part, part_of_word, item_with, with_cut_step, cut_step, cut};
 
 use crate::geometry::{Geometry, geometry_named};
 use crate::program_option::{ProgramOption, option_named};
@@ -22,7 +22,7 @@ pub enum Item {
 
 /// What a value is awaited for.
 #[derive(Drop)]
-pub enum Awaited {
+pub enum AwaitedValue {
     ForOption(ProgramOption),
     ForMeasure(Geometry),
     ForSetting(Text),
@@ -30,9 +30,9 @@ pub enum Awaited {
 
 /// What a word is that is no value.
 #[derive(Drop)]
-pub enum Told {
+pub enum WordPart {
     Whole(Item),
-    Awaits(Awaited),
+    Awaits(AwaitedValue),
     Refused,
 }
 
@@ -70,22 +70,22 @@ fn text_of(alloc: Global, bytes: &[u8]) -> Result<Text, NoMem>
 }
 
 /// `--NAME=VALUE`: an option with its value, or a setting.
-fn told_pair(
+fn pair_part(
     alloc: Global,
     option: Option<ProgramOption>,
     name: &[u8],
     value: &[u8],
-) -> Result<Told, NoMem>
-    ensures { IfOk result (λ told. told ≡ told_pair option name.now value.now) }
+) -> Result<WordPart, NoMem>
+    ensures { IfOk result (λ told. told ≡ pair_part option name.now value.now) }
 {
     match option {
-        Some(option) if option.is_flag() || value.is_empty() => Ok(Told::Refused),
-        Some(option) => Ok(Told::Whole(Item::Valued(option, text_of(alloc, value)?))),
-        None if name.is_empty() => Ok(Told::Refused),
+        Some(option) if option.is_flag() || value.is_empty() => Ok(WordPart::Refused),
+        Some(option) => Ok(WordPart::Whole(Item::Valued(option, text_of(alloc, value)?))),
+        None if name.is_empty() => Ok(WordPart::Refused),
         None => {
             let name = text_of(alloc, name)?;
             let value = text_of(alloc, value)?;
-            Ok(Told::Whole(Item::Setting(name, value)))
+            Ok(WordPart::Whole(Item::Setting(name, value)))
         }
     }
 }
@@ -109,64 +109,64 @@ fn place_of_equals(word: &[u8]) -> Option<usize>
 }
 
 /// A word that begins with `--` and names no option.
-#[tactic(auto, unfolding(crate::specs::WordCut::told_long))]
-fn told_long(alloc: Global, word: &[u8]) -> Result<Told, NoMem>
-    ensures { IfOk result (λ told. told ≡ told_long word.now) }
+#[tactic(auto, unfolding(crate::specs::WordCut::long_part))]
+fn long_part(alloc: Global, word: &[u8]) -> Result<WordPart, NoMem>
+    ensures { IfOk result (λ told. told ≡ long_part word.now) }
 {
     if let Some(at) = place_of_equals(word) {
         let name = &word[..at];
         let value = &word[at + 1..];
-        return told_pair(alloc, option_named(name), without_dashes(name), value);
+        return pair_part(alloc, option_named(name), without_dashes(name), value);
     }
     let name = without_dashes(word);
     if name.is_empty() {
-        Ok(Told::Refused)
+        Ok(WordPart::Refused)
     } else {
-        Ok(Told::Awaits(Awaited::ForSetting(text_of(alloc, name)?)))
+        Ok(WordPart::Awaits(AwaitedValue::ForSetting(text_of(alloc, name)?)))
     }
 }
 
 /// What a word is that is no value.
-#[tactic(auto, unfolding(crate::specs::WordCut::told_by))]
-fn told_by(alloc: Global, word: &[u8]) -> Result<Told, NoMem>
-    ensures { IfOk result (λ told. told ≡ told_by word.now) }
+#[tactic(auto, unfolding(crate::specs::WordCut::part_of_word))]
+fn part_of_word(alloc: Global, word: &[u8]) -> Result<WordPart, NoMem>
+    ensures { IfOk result (λ told. told ≡ part_of_word word.now) }
 {
     match option_named(word) {
-        Some(option) if option.is_flag() => return Ok(Told::Whole(Item::Flag(option))),
-        Some(option) => return Ok(Told::Awaits(Awaited::ForOption(option))),
+        Some(option) if option.is_flag() => return Ok(WordPart::Whole(Item::Flag(option))),
+        Some(option) => return Ok(WordPart::Awaits(AwaitedValue::ForOption(option))),
         None => {}
     }
     match geometry_named(word) {
-        Some(geometry) => Ok(Told::Awaits(Awaited::ForMeasure(geometry))),
-        None if word.starts_with(b"--") => told_long(alloc, word),
-        None => Ok(Told::Refused),
+        Some(geometry) => Ok(WordPart::Awaits(AwaitedValue::ForMeasure(geometry))),
+        None if word.starts_with(b"--") => long_part(alloc, word),
+        None => Ok(WordPart::Refused),
     }
 }
 
 /// The item that a value completes; `None` where the value is refused.
 #[tactic(auto, unfolding(crate::specs::WordCut::item_with))]
-fn item_with(alloc: Global, awaited: Awaited, value: &Text) -> Result<Option<Item>, NoMem>
+fn item_with(alloc: Global, awaited: AwaitedValue, value: &Text) -> Result<Option<Item>, NoMem>
     ensures { IfOk result (λ item. item ≡ item_with awaited value.now) }
 {
     match awaited {
-        Awaited::ForOption(option) => {
+        AwaitedValue::ForOption(option) => {
             if value.as_bytes().is_empty() {
                 return Ok(None);
             }
             Ok(Some(Item::Valued(option, value.try_clone(alloc)?)))
         }
-        Awaited::ForMeasure(geometry) => {
+        AwaitedValue::ForMeasure(geometry) => {
             if Fixed::parse(value.as_bytes()).is_none() {
                 return Ok(None);
             }
             Ok(Some(Item::Measured(geometry, value.try_clone(alloc)?)))
         }
-        Awaited::ForSetting(name) => Ok(Some(Item::Setting(name, value.try_clone(alloc)?))),
+        AwaitedValue::ForSetting(name) => Ok(Some(Item::Setting(name, value.try_clone(alloc)?))),
     }
 }
 
 /// Adds an item; no value is awaited then.
-fn add(items: &mut Vec<Item>, item: Item) -> Result<Option<Awaited>, SplitFault>
+fn add(items: &mut Vec<Item>, item: Item) -> Result<Option<AwaitedValue>, SplitFault>
     ensures added { IfOk result (λ next. (items.new.items ≡ items.old.items ++ item ∷ []) × (next ≡ None)) }
     ensures fault { IfErr result (λ fault. fault ≡ SplitFault.NoMem) }
 {
@@ -181,10 +181,10 @@ fn add(items: &mut Vec<Item>, item: Item) -> Result<Option<Awaited>, SplitFault>
 fn take_word(
     alloc: Global,
     items: &mut Vec<Item>,
-    awaited: Option<Awaited>,
+    awaited: Option<AwaitedValue>,
     word: &Text,
-) -> Result<Option<Awaited>, SplitFault>
-    ensures taken { IfOk result (λ next. with_step items.old.items (cut_step awaited word.now) ≡ Some (items.new.items, next)) }
+) -> Result<Option<AwaitedValue>, SplitFault>
+    ensures taken { IfOk result (λ next. with_cut_step items.old.items (cut_step awaited word.now) ≡ Some (items.new.items, next)) }
     ensures bad { result ≡ Err SplitFault.Bad → cut_step awaited word.now ≡ None }
 {
     match awaited {
@@ -192,10 +192,10 @@ fn take_word(
             Some(item) => add(items, item),
             None => Err(SplitFault::Bad),
         },
-        None => match told_by(alloc, word.as_bytes())? {
-            Told::Whole(item) => add(items, item),
-            Told::Awaits(awaited) => Ok(Some(awaited)),
-            Told::Refused => Err(SplitFault::Bad),
+        None => match part_of_word(alloc, word.as_bytes())? {
+            WordPart::Whole(item) => add(items, item),
+            WordPart::Awaits(awaited) => Ok(Some(awaited)),
+            WordPart::Refused => Err(SplitFault::Bad),
         },
     }
 }

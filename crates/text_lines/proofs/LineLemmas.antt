@@ -8,7 +8,7 @@ use Rattle.std.proofs.lemmas.List.{take_more, take_all, get_or_push, get_or_defa
 use Rattle.std.proofs.lemmas.List.Elements.{Contains-append_left, Contains-append_cases}
 use Rattle.std.proofs.lemmas.List.Splits.{slice_split_at, slice_split_none, length-slice_split}
 use Rattle.std.proofs.lemmas.List.Sums.{split_at_first, fails_before_first, passes_at_first}
-use Rattle.text_lines.specs.Lines.{SplitsAtFirst, Ending, lf, cr_lf, text_end, ending_bytes, MayEnd, IsFirstLine, AreLines, lines_of, AllAfter}
+use Rattle.text_lines.specs.Lines.{SplitsAtFirst, LineEnding, lf, cr_lf, text_end, ending_bytes, MayEnd, IsFirstLine, AreLines, lines_of, AllAfter}
 
 -- ---- a CR at the end
 
@@ -85,7 +85,7 @@ no_lf_before_cr line none h =
       | inr c ↦ cr_is_no_lf c
     ]
 
-lines_of-by : (e : Ending) (line rest : List ℕ) → ¬ Contains line 10 → MayEnd e line rest → lines_of (line ++ (ending_bytes e ++ rest)) ≡ line ∷ lines_of rest
+lines_of-by : (e : LineEnding) (line rest : List ℕ) → ¬ Contains line 10 → MayEnd e line rest → lines_of (line ++ (ending_bytes e ++ rest)) ≡ line ∷ lines_of rest
 lines_of-by lf line rest none may = lines_of-split line rest none ∙ ap (λ l. l ∷ lines_of rest) (strip-none line may)
 lines_of-by cr_lf line rest none may =
     ap lines_of (sym (append_assoc line (13 ∷ []) (10 ∷ rest)))
@@ -165,7 +165,7 @@ first_of : (text : List ℕ) → (text ≡ []) ⊎ ((line : List ℕ) × (rest :
 first_of [] = inl refl
 first_of (b ∷ bs) = inr (first_in (b ∷ bs) (λ e. (cc)))
 
-ending_takes : (e : Ending) (line rest : List ℕ) → MayEnd e line rest → length rest < length line + (length (ending_bytes e) + length rest)
+ending_takes : (e : LineEnding) (line rest : List ℕ) → MayEnd e line rest → length rest < length line + (length (ending_bytes e) + length rest)
 ending_takes lf line rest may = omega arith
 ending_takes cr_lf line rest may = omega arith
 ending_takes text_end [] rest may = absurd (may.0 refl)

@@ -8,25 +8,25 @@ pub record SplitsAtFirst (byte : ℕ) (bytes before after : List ℕ) : Type 0 w
   pub first : ¬ Contains before byte
 
 -- what ends a line: LF, CR and LF, or the end of the text
-pub data Ending : Type 0 where
-  lf : Ending
-  cr_lf : Ending
-  text_end : Ending
+pub data LineEnding : Type 0 where
+  lf : LineEnding
+  cr_lf : LineEnding
+  text_end : LineEnding
 
-abbrev pub ending_bytes : Ending → List ℕ
+abbrev pub ending_bytes : LineEnding → List ℕ
 ending_bytes lf = 10 ∷ []
 ending_bytes cr_lf = 13 ∷ 10 ∷ []
 ending_bytes text_end = []
 
 -- where a line may end so: a CR before LF is not left in the line, and the end of the text ends a line that has bytes
-abbrev pub MayEnd : Ending → List ℕ → List ℕ → Type 0
+abbrev pub MayEnd : LineEnding → List ℕ → List ℕ → Type 0
 MayEnd lf line rest = (front : List ℕ) → line ≢ front ++ 13 ∷ []
 MayEnd cr_lf line rest = Unit {0}
 MayEnd text_end line rest = (line ≢ []) × (rest ≡ [])
 
 -- the text begins with this line, and the rest follows what ends it
 pub record IsFirstLine (text line rest : List ℕ) : Type 0 where
-  pub ending : Ending
+  pub ending : LineEnding
   pub text_is : text ≡ line ++ (ending_bytes ending ++ rest)
   pub no_lf : ¬ Contains line 10
   pub may_end : MayEnd ending line rest

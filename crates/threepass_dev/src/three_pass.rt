@@ -1,5 +1,5 @@
 ghost use Rattle.std.specs.Prelude.{◌≡◌, IfOk, IfErr};
-ghost use Rattle.page_picture.specs.Shown.{shown};
+ghost use Rattle.page_picture.specs.SourceView.{source_state};
 ghost use Rattle.page_picture.specs.declared.scene.DeviceKind.TheVariants.{ThreePass as ThreePassKind};
 ghost use Rattle.virtual_scanner.specs.New.{new_scanner};
 
@@ -29,9 +29,9 @@ impl Model for ThreePass {
 
 impl ThreePass {
     /// A three-pass scanner of that name at rest, its options at their defaults, on the page of a source. The source comes
-    /// back for want of memory.
+    /// back for lack of memory.
     pub fn new(alloc: Global, name: Text, source: Source, order: ByteOrder) -> Result<Self, Source>
-        ensures ok { IfOk result (λ made. made ≡ new_scanner ThreePassKind name (shown source) order) }
+        ensures ok { IfOk result (λ made. made ≡ new_scanner ThreePassKind name (source_state source) order) }
         ensures err { IfErr result (λ back. back ≡ source) }
     {
         let scanner = VirtualScanner::new(alloc, DeviceKind::ThreePass, name, source, order)?;

@@ -9,25 +9,25 @@ use Rattle.sane_fixed.specs.declared.byte_order.ByteOrder.{ByteOrder}
 use Rattle.sane_fixed.specs.declared.info.Info.{Info}
 use Rattle.sane_fixed.specs.declared.status.Status.{Status}
 use Rattle.option_desc.specs.declared.value.Value.{Value}
-use Rattle.page_picture.specs.Page.{IsShaped, IsSheet, Sheet}
-use Rattle.page_picture.specs.Shown.{shown}
+use Rattle.page_picture.specs.Page.{IsShaped, IsPageView, PageView}
+use Rattle.page_picture.specs.SourceView.{source_state}
 use Rattle.page_picture.specs.Source.{SourceState}
 use Rattle.page_picture.specs.declared.sources.kinds.Source.{Source}
-use Rattle.scan_frames.specs.Reading.{Begins, FrameState, IsFrame, ReadsFrame}
+use Rattle.scan_frames.specs.PassReading.{BeginsPass, FrameProgress, IsFrame, ReadsFrame}
 use Rattle.scan_frames.specs.declared.faults.BeginFault.{BeginFault}
 use Rattle.scan_frames.specs.declared.faults.BeginFault.TheVariants.{NoPicture, SourceFailed as NotBegun, NoMem}
 use Rattle.scan_frames.specs.declared.faults.ReadEnd.{ReadEnd}
 use Rattle.scan_frames.specs.declared.faults.ReadEnd.TheVariants.{End, SourceFailed}
 use Rattle.scan_frames.specs.declared.setup.Setup.{Setup}
 use Rattle.device_api.proofs.SameLaws.{set_same}
-use Rattle.device_api.specs.Allowed.{HasLimits, IsAllowed, IsHeld, IsPageCount}
+use Rattle.device_api.specs.ScannerLimits.{HasLimits, IsAllowed, IsHeldPage, IsPageCount}
 use Rattle.device_api.specs.State.{Phase, held_from, is_feeder, left_behind, pages_with, tray_room}
 use Rattle.device_api.specs.State.Phase.{AtRest}
 use Rattle.device_api.specs.Values.{defaults, setup_after}
 use Rattle.device_api.specs.declared.device_info.DeviceInfo.{DeviceInfo}
-use Rattle.virtual_scanner.specs.Answers.{Answers}
+use Rattle.virtual_scanner.specs.Answers.{AnswersRead}
 use Rattle.virtual_scanner.specs.First.{OfFirst, OnFirst}
-use Rattle.virtual_scanner.specs.Inside.{HasFrame, device_on}
+use Rattle.virtual_scanner.specs.Inside.{HasFrameOfFirst, device_on}
 use Rattle.virtual_scanner.specs.Phases.{IsStill, phase_of, pass_to_start}
 use Rattle.virtual_scanner.specs.declared.at.At.{At}
 use Rattle.virtual_scanner.specs.declared.at.At.TheVariants.{Rest, Between as IsBetween, Reading as IsReading}
@@ -40,32 +40,32 @@ pub record IsSamePage (s t : SourceState) : Type 0 where
 same_page : (s t u : SourceState) → t ≡ u → u.page ≡ s.page → u.steady ≡ s.steady → IsSamePage s t
 same_page s t u e p q = record { page = ap (λ (x : SourceState). x.page) e ∙ p; steady = ap (λ (x : SourceState). x.steady) e ∙ q }
 
-pub begins_same : (s t : SourceState) (setup : Setup) (pass : ℕ) (result : Result FrameState BeginFault) → Begins s setup pass result t → IsSamePage s t
+pub begins_same : (s t : SourceState) (setup : Setup) (pass : ℕ) (result : Result FrameProgress BeginFault) → BeginsPass s setup pass result t → IsSamePage s t
 begins_same s t setup pass (Ok f) h = same_page s t _ h.after refl refl
 begins_same s t setup pass (Err NoPicture) h = same_page s t s h.1 refl refl
 begins_same s t setup pass (Err NoMem) h = same_page s t s h.1 refl refl
 begins_same s t setup pass (Err NotBegun) h = same_page s t _ h.1.rest refl refl
 
-ends_same : (s t : SourceState) (setup : Setup) (f g : FrameState) (end : ReadEnd) (buf : List ℕ) → ReadsFrame s setup f (Err end) t g buf → IsSamePage s t
+ends_same : (s t : SourceState) (setup : Setup) (f g : FrameProgress) (end : ReadEnd) (buf : List ℕ) → ReadsFrame s setup f (Err end) t g buf → IsSamePage s t
 ends_same s t setup f g End buf h = same_page s t s h.1 refl refl
 ends_same s t setup f g SourceFailed buf h = same_page s t _ h.1.after refl refl
 
-pub answers_same : (s t : SourceState) (setup : Setup) (f g : FrameState) (told : Option Status) (result : Result ℕ Status) (buf : List ℕ) → Answers told s setup f result t g buf → IsSamePage s t
+pub answers_same : (s t : SourceState) (setup : Setup) (f g : FrameProgress) (told : Option Status) (result : Result ℕ Status) (buf : List ℕ) → AnswersRead told s setup f result t g buf → IsSamePage s t
 answers_same s t setup f g None (Ok n) buf h = same_page s t _ h.source.after refl refl
 answers_same s t setup f g None (Err status) buf h = ends_same s t setup f g h.reason buf h.ends
 answers_same s t setup f g (Some told) result buf h = same_page s t s h.1 refl refl
 
-held_same : (s t : SourceState) → IsSamePage s t → IsHeld (held_from s) → IsHeld (held_from t)
+held_same : (s t : SourceState) → IsSamePage s t → IsHeldPage (held_from s) → IsHeldPage (held_from t)
 held_same s t same held = record {
-  shape = subst (λ (p : Sheet). IsShaped p) (sym same.page) held.shape;
-  sheet = λ steady. subst (λ (p : Sheet). IsSheet p) (sym same.page) (held.sheet (sym same.steady ∙ steady));
+  shape = subst (λ (p : PageView). IsShaped p) (sym same.page) held.shape;
+  view = λ steady. subst (λ (p : PageView). IsPageView p) (sym same.page) (held.view (sym same.steady ∙ steady));
 }
 
-first_same : (did : SourceState → SourceState → Type 0) (xs ys : List SourceState) → ((s t : SourceState) → did s t → IsSamePage s t) → OnFirst did xs ys → All IsHeld (map held_from xs) → All IsHeld (map held_from ys)
+first_same : (did : SourceState → SourceState → Type 0) (xs ys : List SourceState) → ((s t : SourceState) → did s t → IsSamePage s t) → OnFirst did xs ys → All IsHeldPage (map held_from xs) → All IsHeldPage (map held_from ys)
 first_same did [] ys same h all = absurd h
 first_same did (s ∷ more) ys same h all =
-    subst (λ (zs : List SourceState). All IsHeld (map held_from zs)) (sym h.2)
-    (All-cons IsHeld (held_from h.0) (map held_from more) (held_same s h.0 (same s h.0 h.1) (All-head IsHeld (held_from s) (map held_from more) all)) (All-tail IsHeld (held_from s) (map held_from more) all))
+    subst (λ (zs : List SourceState). All IsHeldPage (map held_from zs)) (sym h.2)
+    (All-cons IsHeldPage (held_from h.0) (map held_from more) (held_same s h.0 (same s h.0 h.1) (All-head IsHeldPage (held_from s) (map held_from more) all)) (All-tail IsHeldPage (held_from s) (map held_from more) all))
 
 first_count : (did : SourceState → SourceState → Type 0) (xs ys : List SourceState) → OnFirst did xs ys → length (map held_from ys) ≡ length (map held_from xs)
 first_count did [] ys h = absurd h
@@ -85,10 +85,10 @@ fewer false xs h = h
 fewer true [] h = h
 fewer true (s ∷ more) h = omega arith
 
-left_held : (feeder : Bool) (xs : List SourceState) → All IsHeld (map held_from xs) → All IsHeld (map held_from (left_behind feeder xs))
+left_held : (feeder : Bool) (xs : List SourceState) → All IsHeldPage (map held_from xs) → All IsHeldPage (map held_from (left_behind feeder xs))
 left_held false xs all = all
 left_held true [] all = all
-left_held true (s ∷ more) all = All-tail IsHeld (held_from s) (map held_from more) all
+left_held true (s ∷ more) all = All-tail IsHeldPage (held_from s) (map held_from more) all
 
 pub limits_left : (info : DeviceInfo) (setup : Setup) (xs : List SourceState) (p q : Phase) → HasLimits (device_on info setup xs p) → HasLimits (device_on info setup (left_behind (is_feeder setup.scene.kind) xs) q)
 limits_left info setup xs p q limits = record {
@@ -98,11 +98,11 @@ limits_left info setup xs p q limits = record {
 }
 
 -- so does a page that is put in where there is room
-put_held : (feeder : Bool) (xs : List SourceState) (s : SourceState) → IsHeld (held_from s) → All IsHeld (map held_from xs) → All IsHeld (map held_from (pages_with feeder xs s))
-put_held false xs s held all = All-cons IsHeld (held_from s) [] held (All-nil IsHeld)
-put_held true [] s held all = All-cons IsHeld (held_from s) [] held (All-nil IsHeld)
+put_held : (feeder : Bool) (xs : List SourceState) (s : SourceState) → IsHeldPage (held_from s) → All IsHeldPage (map held_from xs) → All IsHeldPage (map held_from (pages_with feeder xs s))
+put_held false xs s held all = All-cons IsHeldPage (held_from s) [] held (All-nil IsHeldPage)
+put_held true [] s held all = All-cons IsHeldPage (held_from s) [] held (All-nil IsHeldPage)
 put_held true (x ∷ xs) s held all =
-    All-cons IsHeld (held_from x) (map held_from (xs ++ s ∷ [])) (All-head IsHeld (held_from x) (map held_from xs) all) (put_held true xs s held (All-tail IsHeld (held_from x) (map held_from xs) all))
+    All-cons IsHeldPage (held_from x) (map held_from (xs ++ s ∷ [])) (All-head IsHeldPage (held_from x) (map held_from xs) all) (put_held true xs s held (All-tail IsHeldPage (held_from x) (map held_from xs) all))
 
 one_more : (xs : List SourceState) (s : SourceState) → length (map held_from (xs ++ s ∷ [])) ≡ length xs + 1
 one_more [] s = refl
@@ -112,7 +112,7 @@ put_count : (feeder : Bool) (xs : List SourceState) (s : SourceState) → (feede
 put_count false xs s room = refl
 put_count true xs s room = let below = room refl in let count = one_more xs s in omega arith
 
-pub limits_put : (info : DeviceInfo) (setup : Setup) (xs : List SourceState) (s : SourceState) (p q : Phase) → IsHeld (held_from s) → (is_feeder setup.scene.kind ≡ true → length xs < tray_room) → HasLimits (device_on info setup xs p) → HasLimits (device_on info setup (pages_with (is_feeder setup.scene.kind) xs s) q)
+pub limits_put : (info : DeviceInfo) (setup : Setup) (xs : List SourceState) (s : SourceState) (p q : Phase) → IsHeldPage (held_from s) → (is_feeder setup.scene.kind ≡ true → length xs < tray_room) → HasLimits (device_on info setup xs p) → HasLimits (device_on info setup (pages_with (is_feeder setup.scene.kind) xs s) q)
 limits_put info setup xs s p q held room limits = record {
   setup = limits.setup;
   pages = put_held (is_feeder setup.scene.kind) xs s held limits.pages;
@@ -136,53 +136,53 @@ kind_after s t n (Err _) ok err = ap (λ (x : Setup). x.scene.kind) err
 
 -- ---- the frame that is read
 
-pub frame_begun : (setup : Setup) (pass : ℕ) (f : FrameState) (xs ys : List SourceState) → OnFirst (λ s t. Begins s setup pass (Ok f) t) xs ys → OfFirst (λ s. IsFrame s setup f) ys
+pub frame_begun : (setup : Setup) (pass : ℕ) (f : FrameProgress) (xs ys : List SourceState) → OnFirst (λ s t. BeginsPass s setup pass (Ok f) t) xs ys → OfFirst (λ s. IsFrame s setup f) ys
 frame_begun setup pass f [] ys h = absurd h
 frame_begun setup pass f (s ∷ more) ys h = subst (λ (zs : List SourceState). OfFirst (λ s. IsFrame s setup f) zs) (sym h.2) h.1.frame
 
-frame_read : (setup : Setup) (s t : SourceState) (f g : FrameState) (told : Option Status) (n : ℕ) (buf : List ℕ) → Answers told s setup f (Ok n) t g buf → IsFrame t setup g
+frame_read : (setup : Setup) (s t : SourceState) (f g : FrameProgress) (told : Option Status) (n : ℕ) (buf : List ℕ) → AnswersRead told s setup f (Ok n) t g buf → IsFrame t setup g
 frame_read setup s t f g None n buf h = h.frame
 frame_read setup s t f g (Some status) n buf h = absurd (let e : Ok n ≡ Err status = h.0 in (cc))
 
-pub frame_goes_on : (setup : Setup) (f g : FrameState) (told : Option Status) (n : ℕ) (buf : List ℕ) (xs ys : List SourceState) → OnFirst (λ s t. Answers told s setup f (Ok n) t g buf) xs ys → OfFirst (λ s. IsFrame s setup g) ys
+pub frame_goes_on : (setup : Setup) (f g : FrameProgress) (told : Option Status) (n : ℕ) (buf : List ℕ) (xs ys : List SourceState) → OnFirst (λ s t. AnswersRead told s setup f (Ok n) t g buf) xs ys → OfFirst (λ s. IsFrame s setup g) ys
 frame_goes_on setup f g told n buf [] ys h = absurd h
 frame_goes_on setup f g told n buf (s ∷ more) ys h = subst (λ (zs : List SourceState). OfFirst (λ s. IsFrame s setup g) zs) (sym h.2) (frame_read setup s h.0 f g told n buf h.1)
 
 -- where no frame is read there is nothing to keep
-pub still_frame : (at : At) (setup : Setup) (xs : List SourceState) → IsStill at → HasFrame at setup xs
+pub still_frame : (at : At) (setup : Setup) (xs : List SourceState) → IsStill at → HasFrameOfFirst at setup xs
 still_frame (Rest _) setup xs h = tt
 still_frame (IsBetween _) setup xs h = tt
 still_frame (IsReading _) setup xs h = absurd h
 
-pub waiting_frame : (at : At) (pass : ℕ) (setup : Setup) (xs : List SourceState) → pass_to_start (phase_of at) ≡ Some pass → HasFrame at setup xs
+pub waiting_frame : (at : At) (pass : ℕ) (setup : Setup) (xs : List SourceState) → pass_to_start (phase_of at) ≡ Some pass → HasFrameOfFirst at setup xs
 waiting_frame (Rest _) pass setup xs e = tt
 waiting_frame (IsBetween _) pass setup xs e = tt
 waiting_frame (IsReading _) pass setup xs e = absurd (cc)
 
 -- the frame is one of the first source
-pub frame_at : (setup : Setup) (f : FrameState) (xs : List Source) (x : Source) → x ≡ slice_index_or xs 0 x → OfFirst (λ s. IsFrame s setup f) (map shown xs) → IsFrame (shown x) setup f
+pub frame_at : (setup : Setup) (f : FrameProgress) (xs : List Source) (x : Source) → x ≡ slice_index_or xs 0 x → OfFirst (λ s. IsFrame s setup f) (map source_state xs) → IsFrame (source_state x) setup f
 frame_at setup f [] x e h = absurd h
-frame_at setup f (y ∷ ys) x e h = subst (λ (z : Source). IsFrame (shown z) setup f) (sym e) h
+frame_at setup f (y ∷ ys) x e h = subst (λ (z : Source). IsFrame (source_state z) setup f) (sym e) h
 
 -- ---- one page after another
 
-pub held_on : (xs : List Source) (i : ℕ) (x : Source) → i < length xs → x ≡ slice_index_or xs i x → IsHeld (held_from (shown x)) → All IsHeld (map held_from (map shown (drop (i + 1) xs))) → All IsHeld (map held_from (map shown (drop i xs)))
+pub held_on : (xs : List Source) (i : ℕ) (x : Source) → i < length xs → x ≡ slice_index_or xs i x → IsHeldPage (held_from (source_state x)) → All IsHeldPage (map held_from (map source_state (drop (i + 1) xs))) → All IsHeldPage (map held_from (map source_state (drop i xs)))
 held_on xs i x within at held rest =
     let here : drop i xs ≡ x ∷ drop (i + 1) xs = drop_more xs i x within ∙ ap (λ (y : Source). y ∷ drop (i + 1) xs) (sym at) in
-    subst (λ (zs : List Source). All IsHeld (map held_from (map shown zs))) (sym here) (All-cons IsHeld (held_from (shown x)) _ held rest)
+    subst (λ (zs : List Source). All IsHeldPage (map held_from (map source_state zs))) (sym here) (All-cons IsHeldPage (held_from (source_state x)) _ held rest)
 
-pub map-pages_with : (feeder : Bool) (xs : List Source) (x : Source) → map shown (pages_with feeder xs x) ≡ pages_with feeder (map shown xs) (shown x)
+pub map-pages_with : (feeder : Bool) (xs : List Source) (x : Source) → map source_state (pages_with feeder xs x) ≡ pages_with feeder (map source_state xs) (source_state x)
 map-pages_with false xs x = refl
-map-pages_with true xs x = map-append shown xs (x ∷ [])
+map-pages_with true xs x = map-append source_state xs (x ∷ [])
 
-pub map-left_behind : (feeder : Bool) (xs : List Source) → map shown (left_behind feeder xs) ≡ left_behind feeder (map shown xs)
+pub map-left_behind : (feeder : Bool) (xs : List Source) → map source_state (left_behind feeder xs) ≡ left_behind feeder (map source_state xs)
 map-left_behind false xs = refl
 map-left_behind true [] = refl
 map-left_behind true (x ∷ xs) = refl
 
 -- at rest no frame is kept
-pub kept_frame : (at : At) (cancelled : Bool) (setup : Setup) (xs : List SourceState) → at ≡ Rest cancelled → HasFrame at setup xs
-kept_frame at cancelled setup xs e = subst (λ (a : At). HasFrame a setup xs) (sym e) tt
+pub kept_frame : (at : At) (cancelled : Bool) (setup : Setup) (xs : List SourceState) → at ≡ Rest cancelled → HasFrameOfFirst at setup xs
+kept_frame at cancelled setup xs e = subst (λ (a : At). HasFrameOfFirst a setup xs) (sym e) tt
 
 pub kind_default : (s t : Setup) → t ≡ defaults s.scene.kind s.order → t.scene.kind ≡ s.scene.kind
 unfolding defaults
@@ -196,7 +196,7 @@ pub more_room : (old new : Vec Source Global) (kind : DeviceKind) → vec_capaci
 more_room old new kind more room feeds = let had = room feeds in omega arith
 
 -- a scanner that is made has them
-pub limits_new : (info : DeviceInfo) (kind : DeviceKind) (order : ByteOrder) (setup : Setup) (xs : List SourceState) (p : Phase) → setup ≡ defaults kind order → IsAllowed setup → All IsHeld (map held_from xs) → IsPageCount (is_feeder kind) (length (map held_from xs)) → HasLimits (device_on info setup xs p)
+pub limits_new : (info : DeviceInfo) (kind : DeviceKind) (order : ByteOrder) (setup : Setup) (xs : List SourceState) (p : Phase) → setup ≡ defaults kind order → IsAllowed setup → All IsHeldPage (map held_from xs) → IsPageCount (is_feeder kind) (length (map held_from xs)) → HasLimits (device_on info setup xs p)
 unfolding defaults
 limits_new info kind order setup xs p e allowed held count = record {
   setup = allowed;
@@ -209,13 +209,13 @@ unfolding defaults
 kind_new kind order setup e = ap (λ (t : Setup). t.scene.kind) e
 
 -- a load keeps them
-pub limits_loaded : (info : DeviceInfo) (setup : Setup) (old new : Vec Source Global) (page : Source) (result : Result Unit Source) (p : Phase) → OnOk result (new.items ≡ pages_with (is_feeder setup.scene.kind) old.items page) → OnErr result (new ≡ old) → OnOk result (is_feeder setup.scene.kind ≡ true → vec_len old < tray_room) → IsHeld (held_from (shown page)) → HasLimits (device_on info setup (map shown old.items) p) → HasLimits (device_on info setup (map shown new.items) p)
-limits_loaded info setup old new page (Err _) p ok err fits held limits = subst (λ (v : Vec Source Global). HasLimits (device_on info setup (map shown v.items) p)) (sym err) limits
+pub limits_loaded : (info : DeviceInfo) (setup : Setup) (old new : Vec Source Global) (page : Source) (result : Result Unit Source) (p : Phase) → OnOk result (new.items ≡ pages_with (is_feeder setup.scene.kind) old.items page) → OnErr result (new ≡ old) → OnOk result (is_feeder setup.scene.kind ≡ true → vec_len old < tray_room) → IsHeldPage (held_from (source_state page)) → HasLimits (device_on info setup (map source_state old.items) p) → HasLimits (device_on info setup (map source_state new.items) p)
+limits_loaded info setup old new page (Err _) p ok err fits held limits = subst (λ (v : Vec Source Global). HasLimits (device_on info setup (map source_state v.items) p)) (sym err) limits
 limits_loaded info setup old new page (Ok _) p ok err fits held limits =
-    let pages = ap (map shown) ok ∙ map-pages_with (is_feeder setup.scene.kind) old.items page in
-    let room : is_feeder setup.scene.kind ≡ true → length (map shown old.items) < tray_room = λ feeds. rw length-map (let few = fits feeds in omega (arith, old.ok.0)) in
-    subst (λ (zs : List SourceState). HasLimits (device_on info setup zs p)) (sym pages) (limits_put info setup (map shown old.items) (shown page) p p held room limits)
+    let pages = ap (map source_state) ok ∙ map-pages_with (is_feeder setup.scene.kind) old.items page in
+    let room : is_feeder setup.scene.kind ≡ true → length (map source_state old.items) < tray_room = λ feeds. rw length-map (let few = fits feeds in omega (arith, old.ok.0)) in
+    subst (λ (zs : List SourceState). HasLimits (device_on info setup zs p)) (sym pages) (limits_put info setup (map source_state old.items) (source_state page) p p held room limits)
 
-pub count_of : (xs : List Source) → length (map held_from (map shown xs)) ≡ length xs
+pub count_of : (xs : List Source) → length (map held_from (map source_state xs)) ≡ length xs
 count_of [] = refl
 count_of (x ∷ xs) = ap suc (count_of xs)

@@ -1,10 +1,10 @@
 -- A virtual scanner from inside.
 use Rattle.std.specs.Prelude.{◌≡◌, ◌≤◌, List, map, true, vec_capacity}
-use Rattle.page_picture.specs.Shown.{shown}
+use Rattle.page_picture.specs.SourceView.{source_state}
 use Rattle.page_picture.specs.Source.{SourceState}
-use Rattle.scan_frames.specs.Reading.{IsFrame}
+use Rattle.scan_frames.specs.PassReading.{IsFrame}
 use Rattle.scan_frames.specs.declared.setup.Setup.{Setup}
-use Rattle.device_api.specs.Allowed.{HasLimits}
+use Rattle.device_api.specs.ScannerLimits.{HasLimits}
 use Rattle.device_api.specs.State.{DeviceState, Phase, feeds, held_from, tray_room}
 use Rattle.device_api.specs.declared.device_info.DeviceInfo.{DeviceInfo}
 use Rattle.virtual_scanner.specs.First.{OfFirst}
@@ -18,15 +18,15 @@ abbrev pub device_on : DeviceInfo → Setup → List SourceState → Phase → D
 device_on info setup sources phase = record { info = info; setup = setup; pages = map held_from sources; phase = phase }
 
 abbrev pub view_of : Inside → DeviceState
-view_of d = device_on d.info d.setup (map shown d.tray.items) (phase_of d.at)
+view_of d = device_on d.info d.setup (map source_state d.tray.items) (phase_of d.at)
 
 -- a frame that is read is one of the setup and the first page
-abbrev pub HasFrame : At → Setup → List SourceState → Type 0
-HasFrame (Rest _) setup sources = Unit {0}
-HasFrame (IsBetween _) setup sources = Unit {0}
-HasFrame (IsReading frame) setup sources = OfFirst (λ source. IsFrame source setup frame) sources
+abbrev pub HasFrameOfFirst : At → Setup → List SourceState → Type 0
+HasFrameOfFirst (Rest _) setup sources = Unit {0}
+HasFrameOfFirst (IsBetween _) setup sources = Unit {0}
+HasFrameOfFirst (IsReading frame) setup sources = OfFirst (λ source. IsFrame source setup frame) sources
 
-pub record IsWhole (d : Inside) : Type 0 where
+pub record ScannerInvariant (d : Inside) : Type 0 where
   pub limits : HasLimits (view_of d)
   pub room : feeds (view_of d) ≡ true → tray_room ≤ vec_capacity d.tray
-  pub frame : HasFrame d.at d.setup (map shown d.tray.items)
+  pub frame : HasFrameOfFirst d.at d.setup (map source_state d.tray.items)

@@ -21,13 +21,13 @@ class_of Hand = codes "handheld scanner"
 class_of ThreePass = codes "flatbed scanner"
 class_of Feeder = codes "sheetfed scanner"
 
-abbrev pub info_of : DeviceKind → List ℕ → DeviceInfo
-info_of kind name = record { name = name; vendor = codes "Virtual"; model = model_of kind; class = class_of kind }
+abbrev pub device_info_of : DeviceKind → List ℕ → DeviceInfo
+device_info_of kind name = record { name = name; vendor = codes "Virtual"; model = model_of kind; class = class_of kind }
 
 -- a scanner with these pages at rest, its options at their defaults
 abbrev pub new_device : DeviceKind → List ℕ → List SourceState → ByteOrder → DeviceState
 new_device kind name sources order = record {
-  info = info_of kind name;
+  info = device_info_of kind name;
   setup = defaults kind order;
   pages = map held_from sources;
   phase = AtRest false;

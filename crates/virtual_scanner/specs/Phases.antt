@@ -1,6 +1,6 @@
 -- Where a scan is.
 use Rattle.std.specs.Prelude.{ℕ, Option, Some, None}
-use Rattle.scan_frames.specs.Reading.{given_in}
+use Rattle.scan_frames.specs.PassReading.{given_in}
 use Rattle.device_api.specs.State.{Phase}
 use Rattle.device_api.specs.State.Phase.{AtRest, Between, Reading}
 use Rattle.virtual_scanner.specs.declared.at.At.{At}

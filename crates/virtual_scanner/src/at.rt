@@ -1,10 +1,10 @@
 ghost use Rattle.std.specs.Prelude.{◌≡◌, ◌<◌, length};
-ghost use Rattle.page_picture.specs.Shown.{shown};
+ghost use Rattle.page_picture.specs.SourceView.{source_state};
 ghost use Rattle.scan_frames.specs.Frames.{IsSetup};
-ghost use Rattle.scan_frames.specs.Reading.{IsFrame, given_in};
-ghost use Rattle.device_api.specs.State.{after_told, pass_told, told_at};
+ghost use Rattle.scan_frames.specs.PassReading.{IsFrame, given_in};
+ghost use Rattle.device_api.specs.State.{after_read_status, reported_pass, read_status_at};
 ghost use Rattle.virtual_scanner.specs.Phases.{IsStill, pass_to_start, phase_of};
-ghost use Rattle.virtual_scanner.specs.Answers.{Answers};
+ghost use Rattle.virtual_scanner.specs.Answers.{AnswersRead};
 
 use page_picture::Source;
 use sane_fixed::Status;
@@ -33,8 +33,8 @@ impl At {
     }
 
     /// The pass whose frame was started last; at rest, the first.
-    pub fn pass_told(&self) -> u32
-        ensures { result ≡ pass_told (phase_of self.now) }
+    pub fn reported_pass(&self) -> u32
+        ensures { result ≡ reported_pass (phase_of self.now) }
     {
         match self {
             At::Rest(_) => 0,
@@ -46,7 +46,7 @@ impl At {
 
 /// Where a scan is after a frame of that pass that ended with the status: `Eof` lets the next pass come, if there is one.
 pub fn after(setup: &Setup, pass: u32, status: Status) -> At
-    ensures phase { phase_of result ≡ after_told setup.now pass status }
+    ensures phase { phase_of result ≡ after_read_status setup.now pass status }
     ensures still { IsStill result }
 {
     if status == Status::Eof && pass < last_pass(setup) {
@@ -64,9 +64,9 @@ pub fn answer_read(
     buf: &mut [u8],
 ) -> Result<usize, Status>
     requires setup { IsSetup setup.now }
-    requires frame { IsFrame (shown source.old) setup.now frame.old }
+    requires frame { IsFrame (source_state source.old) setup.now frame.old }
     requires buf { 0 < length buf.old }
-    ensures { Answers (told_at setup.now.told (given_in frame.old)) (shown source.old) setup.now frame.old result (shown source.new) frame.new buf.new }
+    ensures { AnswersRead (read_status_at setup.now.told (given_in frame.old)) (source_state source.old) setup.now frame.old result (source_state source.new) frame.new buf.new }
 {
     if frame.is_new() {
         if let Some(status) = setup.told {

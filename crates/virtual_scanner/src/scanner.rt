@@ -1,8 +1,8 @@
 ghost use Rattle.std.specs.Prelude.{◌≡◌, ◌≤◌, false, map, vec_len, IfOk, IfErr};
-ghost use Rattle.page_picture.specs.Shown.{shown};
+ghost use Rattle.page_picture.specs.SourceView.{source_state};
 ghost use Rattle.page_picture.specs.declared.scene.DeviceKind.TheVariants.{Feeder};
-ghost use Rattle.device_api.specs.State.{goes_to, is_feeder, stopped, tray_room};
-ghost use Rattle.virtual_scanner.specs.New.{class_of, info_of, model_of, new_device, new_scanner};
+ghost use Rattle.device_api.specs.State.{goes_to, is_feeder, after_stop, tray_room};
+ghost use Rattle.virtual_scanner.specs.New.{class_of, device_info_of, model_of, new_device, new_scanner};
 
 use crate::at::{At, after};
 use crate::tray::{TRAY_ROOM, begin_frame, let_go, params_on, put_page, read_frame, see_limits};
@@ -30,11 +30,11 @@ impl Model for VirtualScanner {
 
     ghost Value = { DeviceState };
 
-    ghost use Rattle.virtual_scanner.specs.Inside.{IsWhole, view_of};
+    ghost use Rattle.virtual_scanner.specs.Inside.{ScannerInvariant, view_of};
 
     ghost view = { view_of };
 
-    ghost invariant = { IsWhole };
+    ghost invariant = { ScannerInvariant };
 }
 
 fn model(kind: DeviceKind) -> &'static [u8]
@@ -60,7 +60,7 @@ fn class(kind: DeviceKind) -> &'static [u8]
 
 /// What a virtual scanner is.
 fn device_info(alloc: Global, kind: DeviceKind, name: Text) -> Result<DeviceInfo, TextFault>
-    ensures { IfOk result (λ info. info ≡ info_of kind name) }
+    ensures { IfOk result (λ info. info ≡ device_info_of kind name) }
 {
     Ok(DeviceInfo {
         name,
@@ -72,7 +72,7 @@ fn device_info(alloc: Global, kind: DeviceKind, name: Text) -> Result<DeviceInfo
 
 impl VirtualScanner {
     /// A scanner of that kind and name at rest, its options at their defaults, on the page of a source. The source comes
-    /// back for want of memory.
+    /// back for lack of memory.
     pub fn new(
         alloc: Global,
         kind: DeviceKind,
@@ -81,7 +81,7 @@ impl VirtualScanner {
         order: ByteOrder,
     ) -> Result<Self, Source>
         requires { is_feeder kind ≡ false }
-        ensures ok { IfOk result (λ scanner. scanner ≡ new_scanner kind name (shown source) order) }
+        ensures ok { IfOk result (λ scanner. scanner ≡ new_scanner kind name (source_state source) order) }
         ensures err { IfErr result (λ back. back ≡ source) }
     {
         let Ok(info) = device_info(alloc, kind, name) else {
@@ -100,7 +100,7 @@ impl VirtualScanner {
     }
 
     /// A feeder of that name at rest, its options at their defaults, with at most 16 pages in its tray. The sources come
-    /// back for want of memory.
+    /// back for lack of memory.
     pub fn feeder(
         alloc: Global,
         name: Text,
@@ -108,7 +108,7 @@ impl VirtualScanner {
         order: ByteOrder,
     ) -> Result<Self, Vec<Source>>
         requires { vec_len pages ≤ tray_room }
-        ensures ok { IfOk result (λ scanner. scanner ≡ new_device Feeder name (map shown pages.items) order) }
+        ensures ok { IfOk result (λ scanner. scanner ≡ new_device Feeder name (map source_state pages.items) order) }
         ensures err { IfErr result (λ back. back.items ≡ pages.items) }
     {
         let mut tray = pages;
@@ -139,7 +139,7 @@ impl VirtualScanner {
 
     /// No scan is under way after a start that was refused.
     fn stop(&mut self)
-        ensures { self.new ≡ stopped self.old }
+        ensures { self.new ≡ after_stop self.old }
     {
         match self.at {
             At::Rest(_) => self.at = At::Rest(false),
@@ -184,7 +184,7 @@ impl Device for VirtualScanner {
     }
 
     fn params(&self) -> Params {
-        params_on(&self.tray, &self.setup, self.at.pass_told())
+        params_on(&self.tray, &self.setup, self.at.reported_pass())
     }
 
     fn start(&mut self, alloc: Global) -> Result<(), Status> {

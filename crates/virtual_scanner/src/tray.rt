@@ -1,12 +1,12 @@
 //! The pages in a scanner, the first of which is scanned.
 
 ghost use Rattle.std.specs.Prelude.{◌≡◌, ◌≢◌, ◌<◌, ◌≤◌, ◌-◌, [], map, true, false, All, IsOk, OnOk, OnErr, vec_len, vec_capacity, length};
-ghost use Rattle.page_picture.specs.Shown.{shown};
+ghost use Rattle.page_picture.specs.SourceView.{source_state};
 ghost use Rattle.scan_frames.specs.Frames.{IsSetup};
-ghost use Rattle.scan_frames.specs.Reading.{Begins, IsFrame, given_in};
-ghost use Rattle.device_api.specs.Allowed.{IsHeld};
-ghost use Rattle.device_api.specs.State.{held_from, is_feeder, left_behind, pages_with, params_in, tray_room, told_at};
-ghost use Rattle.virtual_scanner.specs.Answers.{Answers};
+ghost use Rattle.scan_frames.specs.PassReading.{BeginsPass, IsFrame, given_in};
+ghost use Rattle.device_api.specs.ScannerLimits.{IsHeldPage};
+ghost use Rattle.device_api.specs.State.{held_from, is_feeder, left_behind, pages_with, params_in, tray_room, read_status_at};
+ghost use Rattle.virtual_scanner.specs.Answers.{AnswersRead};
 ghost use Rattle.virtual_scanner.specs.First.{OfFirst, OnFirst};
 
 use crate::at::answer_read;
@@ -31,7 +31,7 @@ pub fn is_feeder(kind: DeviceKind) -> bool
 /// What is told of the frame of a pass over the first page.
 pub fn params_on(tray: &[Source], setup: &Setup, pass: u32) -> Params
     requires { IsSetup setup.now }
-    ensures { result ≡ params_in (map held_from (map shown tray.now)) setup.now pass }
+    ensures { result ≡ params_in (map held_from (map source_state tray.now)) setup.now pass }
 {
     match tray {
         [] => params_without(setup, pass),
@@ -48,7 +48,7 @@ pub fn begin_frame(
 ) -> Result<FrameRows, BeginFault>
     requires page { 0 < vec_len tray.old }
     requires setup { IsSetup setup.now }
-    ensures begins { OnFirst (λ s t. Begins s setup.now pass result t) (map shown tray.old.items) (map shown tray.new.items) }
+    ensures begins { OnFirst (λ s t. BeginsPass s setup.now pass result t) (map source_state tray.old.items) (map source_state tray.new.items) }
     ensures room { vec_capacity tray.new ≡ vec_capacity tray.old }
 {
     FrameRows::begin(alloc, &mut tray[0], setup, pass)
@@ -62,9 +62,9 @@ pub fn read_frame(
     buf: &mut [u8],
 ) -> Result<usize, Status>
     requires setup { IsSetup setup.now }
-    requires frame { OfFirst (λ s. IsFrame s setup.now frame.old) (map shown tray.old.items) }
+    requires frame { OfFirst (λ s. IsFrame s setup.now frame.old) (map source_state tray.old.items) }
     requires buf { 0 < length buf.old }
-    ensures answers { OnFirst (λ s t. Answers (told_at setup.now.told (given_in frame.old)) s setup.now frame.old result t frame.new buf.new) (map shown tray.old.items) (map shown tray.new.items) }
+    ensures answers { OnFirst (λ s t. AnswersRead (read_status_at setup.now.told (given_in frame.old)) s setup.now frame.old result t frame.new buf.new) (map source_state tray.old.items) (map source_state tray.new.items) }
     ensures room { vec_capacity tray.new ≡ vec_capacity tray.old }
 {
     answer_read(frame, &mut tray[0], setup, buf)
@@ -85,7 +85,7 @@ pub fn let_go(kind: DeviceKind, tray: &mut Vec<Source>)
 pub fn put_page(kind: DeviceKind, tray: &mut Vec<Source>, page: Source) -> Result<(), Source>
     requires reserved { is_feeder kind ≡ true → tray_room ≤ vec_capacity tray.old }
     requires one { is_feeder kind ≡ false → vec_len tray.old ≡ 1 }
-    ensures limits { IsHeld (held_from (shown page)) }
+    ensures limits { IsHeldPage (held_from (source_state page)) }
     ensures put { is_feeder kind ≡ false → IsOk result }
     ensures laid { vec_len tray.old < tray_room → IsOk result }
     ensures full { is_feeder kind ≡ true → tray_room ≤ vec_len tray.old → result ≡ Err page }
@@ -108,7 +108,7 @@ pub fn put_page(kind: DeviceKind, tray: &mut Vec<Source>, page: Source) -> Resul
 
 /// Each page of a tray has the limits of a page.
 pub fn see_limits(tray: &[Source])
-    ensures { All IsHeld (map held_from (map shown tray.now)) }
+    ensures { All IsHeldPage (map held_from (map source_state tray.now)) }
 {
     for page in tray {
         let _size = page.size();

@@ -3,20 +3,20 @@ use Rattle.std.proofs.Common.{◌≡◌, ◌≢◌, ℕ, List, [], ◌∷◌, �
 use Rattle.std.specs.Prelude.{IfOk, IfErr, IfSome}
 use Rattle.std.proofs.lemmas.List.{append-nil}
 use Rattle.wire_format.specs.declared.fault.Fault.TheVariants as faults
-use Rattle.wire_format.specs.declared.fault.Stop.{Stop}
-use Rattle.wire_format.specs.declared.fault.Stop.TheVariants.{More, Bad}
+use Rattle.wire_format.specs.declared.fault.ReadStop.{ReadStop}
+use Rattle.wire_format.specs.declared.fault.ReadStop.TheVariants.{More, Bad}
 use Rattle.wire_format.specs.declared.fault.ReadError.{ReadError}
 use Rattle.wire_format.specs.declared.fault.ReadError.TheVariants as read_errors
-use Rattle.wire_format.specs.Format.{Format, Fails, IsBytes}
-use Rattle.wire_format.specs.Lawful.{Takes, Reads}
-use Rattle.wire_format.specs.Limit.{limited, WantsMore, IsNoStart}
-use Rattle.wire_format.proofs.Limits.{limited_sound, limited_more, limited_bad, limited_first}
-use Rattle.wire_message.specs.declared.fault.WireFault.{WireFault}
-use Rattle.wire_message.specs.declared.fault.WireFault.TheVariants as wire
-use Rattle.wire_codec.specs.Waiting.{Waiting, Tells, Stops, IsFaultOf, faulty, Taken, IsSpelled, AreSpelled, Fed}
+use Rattle.wire_format.specs.Format.{Format, ReadingFails, IsBytes}
+use Rattle.wire_format.specs.Lawful.{SpellsFront, ReaderIsExact}
+use Rattle.wire_format.specs.Limit.{limited_format, NeedsMore, IsNoStart}
+use Rattle.wire_format.proofs.ReadLimits.{limited_sound, limited_more, limited_bad, limited_first}
+use Rattle.wire_message.specs.declared.message_fault.WireFault.{WireFault}
+use Rattle.wire_message.specs.declared.message_fault.WireFault.TheVariants as wire
+use Rattle.wire_codec.specs.Decoders.{DecoderState, DecodesTo, Stops, IsFaultOf, with_decoder_fault, TakenMessage, IsSpelled, AreSpelled, HasDecoded}
 
 -- an error of reading tells what reading gives
-pub stops_tell : {A : Type 0} (result : Result (Option A) WireFault) (old new : Waiting) (e : ReadError) (read : Result (A × List ℕ) Stop) → Stops result old new e → Fails e read → Tells result old new read
+pub stops_tell : {A : Type 0} (result : Result (Option A) WireFault) (old new : DecoderState) (e : ReadError) (read : Result (A × List ℕ) ReadStop) → Stops result old new e → ReadingFails e read → DecodesTo result old new read
 stops_tell result old new read_errors.Memory read s h = rw s.0 s.1
 stops_tell result old new (read_errors.Stop (More wanted)) read s h = rw s.0 (s.1, (wanted, h))
 stops_tell result old new (read_errors.Stop (Bad faults.BadCode)) read s h = rw s.0 (s.1, h)
@@ -32,22 +32,22 @@ pub none_always : {X : Type 0} (fault : Option WireFault) (result : Result (Opti
 none_always None result P Q kept free e = free refl e
 none_always (Some f) result P Q kept free e = absurd (cc (kept.0))
 
-pub tells_taken : {A : Type 0} (n : ℕ) (F : Format A) → Reads F → (result : Result (Option A) WireFault) (old new : Waiting) → IsBytes old.rest
-    → Tells result old new ((limited n F).read old.rest)
-    → IfOk result (λ m. IfSome m (λ r. (new.fault ≡ None) × Takes (limited n F) old.rest new.rest r))
+pub tells_taken : {A : Type 0} (n : ℕ) (F : Format A) → ReaderIsExact F → (result : Result (Option A) WireFault) (old new : DecoderState) → IsBytes old.rest
+    → DecodesTo result old new ((limited_format n F).read old.rest)
+    → IfOk result (λ m. IfSome m (λ r. (new.fault ≡ None) × SpellsFront (limited_format n F) old.rest new.rest r))
 tells_taken n F f (Ok (Some x)) old new fits t = (t.0, limited_sound n F f old.rest new.rest x fits t.1)
 tells_taken n F f (Ok None) old new fits t = tt
 tells_taken n F f (Err e) old new fits t = tt
 
-pub tells_none : {A : Type 0} (n : ℕ) (F : Format A) → Reads F → (result : Result (Option A) WireFault) (old new : Waiting) → IsBytes old.rest
-    → Tells result old new ((limited n F).read old.rest) → result ≡ Ok None
-    → (new ≡ old) × WantsMore n F old.rest
+pub tells_none : {A : Type 0} (n : ℕ) (F : Format A) → ReaderIsExact F → (result : Result (Option A) WireFault) (old new : DecoderState) → IsBytes old.rest
+    → DecodesTo result old new ((limited_format n F).read old.rest) → result ≡ Ok None
+    → (new ≡ old) × NeedsMore n F old.rest
 tells_none n F f (Ok (Some x)) old new fits t e = absurd cc
 tells_none n F f (Ok None) old new fits t e = (t.0, limited_more n F f old.rest t.1.0 fits t.1.1)
 tells_none n F f (Err fault) old new fits t e = absurd cc
 
-pub tells_first : {A : Type 0} (n : ℕ) (F : Format A) → Reads F → (result : Result (Option A) WireFault) (old new : Waiting)
-    → Tells result old new ((limited n F).read old.rest)
+pub tells_first : {A : Type 0} (n : ℕ) (F : Format A) → ReaderIsExact F → (result : Result (Option A) WireFault) (old new : DecoderState)
+    → DecodesTo result old new ((limited_format n F).read old.rest)
     → IfErr result (λ f. f ≢ wire.NoMem → IsNoStart n F old.rest)
 tells_first n F f (Ok m) old new t = tt
 tells_first n F f (Err wire.NoMem) old new t = λ other. absurd (other refl)
@@ -55,16 +55,16 @@ tells_first n F f (Err wire.BadCode) old new t = λ other. limited_bad n F f old
 tells_first n F f (Err wire.BadValue) old new t = λ other. limited_bad n F f old.rest _ t.1
 tells_first n F f (Err wire.TooLong) old new t = λ other. limited_bad n F f old.rest _ t.1
 
-pub tells_err : {A : Type 0} (result : Result (Option A) WireFault) (old new : Waiting) (read : Result (A × List ℕ) Stop)
-    → Tells result old new read → IfErr result (λ f. new ≡ faulty old f)
+pub tells_err : {A : Type 0} (result : Result (Option A) WireFault) (old new : DecoderState) (read : Result (A × List ℕ) ReadStop)
+    → DecodesTo result old new read → IfErr result (λ f. new ≡ with_decoder_fault old f)
 tells_err (Ok m) old new read t = tt
 tells_err (Err wire.NoMem) old new read t = t
 tells_err (Err wire.BadCode) old new read t = t.0
 tells_err (Err wire.BadValue) old new read t = t.0
 tells_err (Err wire.TooLong) old new read t = t.0
 
-pub tells_which : {A : Type 0} (n : ℕ) (F : Format A) → Reads F → (result : Result (Option A) WireFault) (old new : Waiting) → IsBytes old.rest
-    → Tells result old new ((limited n F).read old.rest)
+pub tells_which : {A : Type 0} (n : ℕ) (F : Format A) → ReaderIsExact F → (result : Result (Option A) WireFault) (old new : DecoderState) → IsBytes old.rest
+    → DecodesTo result old new ((limited_format n F).read old.rest)
     → IfErr result (λ f. f ≢ wire.NoMem → IsFaultOf n F old.rest f)
 tells_which n F f (Ok m) old new fits t = tt
 tells_which n F f (Err wire.NoMem) old new fits t = λ other. absurd (other refl)
@@ -74,22 +74,22 @@ tells_which n F f (Err wire.TooLong) old new fits t = λ other. record { fault =
 
 -- ---- what was fed, and what was taken
 
-spelled_more : (taken : List Taken) (text front : List ℕ) (m : Taken) → AreSpelled taken text → IsSpelled front m → AreSpelled (taken ++ m ∷ []) (text ++ front)
+spelled_more : (taken : List TakenMessage) (text front : List ℕ) (m : TakenMessage) → AreSpelled taken text → IsSpelled front m → AreSpelled (taken ++ m ∷ []) (text ++ front)
 spelled_more [] text front m s t = (front, [], ap (λ (x : List ℕ). x ++ front) s ∙ sym (append-nil front), t, refl)
 spelled_more (first ∷ taken) text front m s t =
     (s.0, s.1 ++ front, ap (λ (x : List ℕ). x ++ front) s.2 ∙ append_assoc s.0 s.1 front, s.3, spelled_more taken s.1 front m s.4 t)
 
-fed_taken : (fed : List ℕ) (taken : List Taken) (old new : Waiting) (m : Taken) (text : List ℕ) → Fed fed taken old → old.rest ≡ text ++ new.rest → IsSpelled text m → Fed fed (taken ++ m ∷ []) new
+fed_taken : (fed : List ℕ) (taken : List TakenMessage) (old new : DecoderState) (m : TakenMessage) (text : List ℕ) → HasDecoded fed taken old → old.rest ≡ text ++ new.rest → IsSpelled text m → HasDecoded fed (taken ++ m ∷ []) new
 fed_taken fed taken old new m text h whole s = record {
   text = h.text ++ text;
   whole = h.whole ∙ ap (λ (x : List ℕ). h.text ++ x) whole ∙ sym (append_assoc h.text text new.rest);
   spelled = spelled_more taken h.text text m h.spelled s;
 }
 
-pub result_taken : {A : Type 0} (n : ℕ) (F : Format A) (message : A → Taken) → ((text : List ℕ) (r : A) → (limited n F).spells text r → IsSpelled text (message r)) → (result : Result (Option A) WireFault)
-    (fed : List ℕ) (taken : List Taken) (old new : Waiting) → Fed fed taken old
-    → IfOk result (λ m. IfSome m (λ r. (new.fault ≡ None) × Takes (limited n F) old.rest new.rest r))
-    → IfOk result (λ m. IfSome m (λ r. Fed fed (taken ++ message r ∷ []) new))
+pub result_taken : {A : Type 0} (n : ℕ) (F : Format A) (message : A → TakenMessage) → ((text : List ℕ) (r : A) → (limited_format n F).spells text r → IsSpelled text (message r)) → (result : Result (Option A) WireFault)
+    (fed : List ℕ) (taken : List TakenMessage) (old new : DecoderState) → HasDecoded fed taken old
+    → IfOk result (λ m. IfSome m (λ r. (new.fault ≡ None) × SpellsFront (limited_format n F) old.rest new.rest r))
+    → IfOk result (λ m. IfSome m (λ r. HasDecoded fed (taken ++ message r ∷ []) new))
 result_taken n F message is (Ok (Some x)) fed taken old new h t = fed_taken fed taken old new (message x) t.1.text h t.1.whole (is t.1.text x t.1.spelled)
 result_taken n F message is (Ok None) fed taken old new h t = tt
 result_taken n F message is (Err e) fed taken old new h t = tt

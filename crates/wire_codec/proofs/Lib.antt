@@ -1,4 +1,4 @@
 pub mod Decoding
 pub mod Pendings
-pub mod Begins
+pub mod ElementsReadOnce
 pub mod Passing

@@ -3,19 +3,19 @@ use Rattle.std.proofs.Common.{◌≡◌, ℕ, ◌-◌, ◌≤◌, ◌<◌, true,
 use Rattle.std.specs.List.{list_all}
 use Rattle.std.specs.Prelude.{IfSome}
 use Rattle.std.proofs.lemmas.List.{take-append-drop, take-append-le, take_all, length-append}
-use Rattle.wire_format.specs.declared.fault.Wanted.{Wanted}
+use Rattle.wire_format.specs.declared.fault.MissingBytes.{MissingBytes}
 use Rattle.wire_format.specs.Format.{IsBytes, is_from}
-use Rattle.wire_format.specs.Lawful.{IsStillWaiting, still_wanted}
-use Rattle.wire_format.proofs.Limits.{limited_waits}
+use Rattle.wire_format.specs.Lawful.{IsStillWaiting, still_missing}
+use Rattle.wire_format.proofs.ReadLimits.{limited_waits}
 use Rattle.wire_format.proofs.Runs.{all_true}
 use Rattle.wire_codec.specs.declared.decoder.Pending.{Pending}
 use Rattle.wire_message.specs.declared.message.Procedure.{Procedure}
 use Rattle.wire_message.specs.Message.{message_limit, request, reply}
-use Rattle.wire_codec.specs.Pending.{IsPending, StopsAt}
+use Rattle.wire_codec.specs.PendingMessages.{IsPending, StopsForMore}
 use Rattle.wire_message.proofs.Messages.{request_laws, reply_reads}
 
-still_at : (procedure : Option Procedure) (front more : List ℕ) (wanted : Wanted) → IsBytes (front ++ more) → StopsAt procedure front wanted → IsStillWaiting wanted more → length (front ++ more) ≤ message_limit
-    → StopsAt procedure (front ++ more) (still_wanted wanted (length more))
+still_at : (procedure : Option Procedure) (front more : List ℕ) (wanted : MissingBytes) → IsBytes (front ++ more) → StopsForMore procedure front wanted → IsStillWaiting wanted more → length (front ++ more) ≤ message_limit
+    → StopsForMore procedure (front ++ more) (still_missing wanted (length more))
 still_at None front more wanted fits stops still within = limited_waits message_limit request request_laws.reads front more wanted fits stops still within
 still_at (Some procedure) front more wanted fits stops still within = limited_waits message_limit (reply procedure) (reply_reads procedure) front more wanted fits stops still within
 
@@ -28,17 +28,17 @@ still_pending rest p fits pending within fewer from =
     let all : take (length rest) rest ≡ rest = take_all (length rest) rest (omega arith) in
     record {
       within = omega arith;
-      stops = subst (λ (l : List ℕ). StopsAt p.procedure l (still_wanted p.wanted (length (drop p.seen rest)))) (whole ∙ sym all) here;
+      stops = subst (λ (l : List ℕ). StopsForMore p.procedure l (still_missing p.wanted (length (drop p.seen rest)))) (whole ∙ sym all) here;
     }
 
 -- what was seen whole stops so
-pub seen_whole : (rest : List ℕ) (p : Pending) → IsPending rest p → p.seen ≡ length rest → StopsAt p.procedure rest p.wanted
-seen_whole rest p pending seen = subst (λ (l : List ℕ). StopsAt p.procedure l p.wanted) (ap (λ (n : ℕ). take n rest) seen ∙ take_all (length rest) rest (omega arith)) pending.stops
+pub seen_whole : (rest : List ℕ) (p : Pending) → IsPending rest p → p.seen ≡ length rest → StopsForMore p.procedure rest p.wanted
+seen_whole rest p pending seen = subst (λ (l : List ℕ). StopsForMore p.procedure l p.wanted) (ap (λ (n : ℕ). take n rest) seen ∙ take_all (length rest) rest (omega arith)) pending.stops
 
-pub now_pending : (rest : List ℕ) (procedure : Option Procedure) (wanted : Wanted) (seen : ℕ) → seen ≡ length rest → StopsAt procedure rest wanted → IsPending rest (record { procedure = procedure; wanted = wanted; seen = seen })
+pub now_pending : (rest : List ℕ) (procedure : Option Procedure) (wanted : MissingBytes) (seen : ℕ) → seen ≡ length rest → StopsForMore procedure rest wanted → IsPending rest (record { procedure = procedure; wanted = wanted; seen = seen })
 now_pending rest procedure wanted seen is stops = record {
   within = omega (arith, is);
-  stops = subst (λ (l : List ℕ). StopsAt procedure l wanted) (sym (ap (λ (n : ℕ). take n rest) is ∙ take_all (length rest) rest (omega arith))) stops;
+  stops = subst (λ (l : List ℕ). StopsForMore procedure l wanted) (sym (ap (λ (n : ℕ). take n rest) is ∙ take_all (length rest) rest (omega arith))) stops;
 }
 
 -- the same of more bytes
@@ -46,5 +46,5 @@ pub pending_more : (rest more : List ℕ) (pending : Option Pending) → IfSome 
 pending_more rest more None h = tt
 pending_more rest more (Some p) h = record {
   within = omega (arith, h.within, length-append rest more);
-  stops = subst (λ (l : List ℕ). StopsAt p.procedure l p.wanted) (sym (take-append-le p.seen rest more h.within)) h.stops;
+  stops = subst (λ (l : List ℕ). StopsForMore p.procedure l p.wanted) (sym (take-append-le p.seen rest more h.within)) h.stops;
 }

@@ -1,18 +1,18 @@
 //! Arrays of a reply that came in part: what was read of them is not read again.
 
 ghost use Rattle.std.specs.Prelude.{◌≡◌, ◌+◌, ◌<◌, ◌≤◌, IfOk, IfErr, IfSome, OnOk, List, ℕ, drop, length};
-ghost use Rattle.wire_format.specs.Format.{Fails, Gives};
-ghost use Rattle.wire_format.specs.Lawful.{Takes};
+ghost use Rattle.wire_format.specs.Format.{ReadingFails, Gives};
+ghost use Rattle.wire_format.specs.Lawful.{SpellsFront};
 ghost use Rattle.wire_message.specs.Message.{message_limit, option_list, reply as reply_format};
-ghost use Rattle.wire_codec.specs.Begun.{ReadsOn, end_of, DevicesBegun, OptionsBegun, HasBegun};
+ghost use Rattle.wire_codec.specs.Arrays.{ReadsElements, array_end, DevicesBegun, OptionsBegun, ArraysAreReadSoFar};
 
-use crate::reading::{NextDescriptor, NextDevice, last_device, with_last};
-use crate::words::{status, up_to};
+use crate::message_reading::{NextDescriptor, NextDevice, last_device, with_last};
+use crate::word_readers::{status, up_to};
 use device_api::DeviceInfo;
 use option_desc::Descriptor;
 use sane_fixed::Status;
 use std::alloc::Global;
-use wire_format::{ReadError, Reader, used};
+use wire_format::{ReadError, Reader, used_bytes};
 use wire_message::{Array, Procedure, Reply};
 
 /// A reader of elements: it takes a spelling of what it gives.
@@ -25,7 +25,7 @@ pub(crate) trait Element {
 
     fn take(alloc: Global, bytes: &[u8]) -> Result<(Self::Value, &[u8]), ReadError>
         ensures read { Gives (λ x. (x.0, x.1.now)) result (format.read bytes.now) }
-        ensures taken { IfOk result (λ x. Takes format bytes.now x.1.now x.0) };
+        ensures taken { IfOk result (λ x. SpellsFront format bytes.now x.1.now x.0) };
 }
 
 impl Element for NextDevice {
@@ -73,23 +73,23 @@ pub(crate) struct Devices {
 
 /// The replies that have begun.
 #[derive(Drop)]
-pub(crate) struct Begun {
+pub(crate) struct ArraysSoFar {
     pub devices: Option<Devices>,
     pub options: Option<Elements<Descriptor>>,
 }
 
 /// None has.
-pub(crate) fn none_begun() -> Begun
-    ensures { (bytes : List ℕ) → HasBegun bytes result }
+pub(crate) fn none_begun() -> ArraysSoFar
+    ensures { (bytes : List ℕ) → ArraysAreReadSoFar bytes result }
 {
-    Begun {
+    ArraysSoFar {
         devices: None,
         options: None,
     }
 }
 
 /// What stands behind so many bytes.
-fn behind(bytes: &[u8], count: usize) -> &[u8]
+fn rest_of_array(bytes: &[u8], count: usize) -> &[u8]
     requires { count ≤ length bytes.now }
     ensures { result.now ≡ drop count bytes.now }
 {
@@ -106,13 +106,13 @@ where
     E::Value: Drop,
     requires within { elements.old.used ≤ length bytes.now }
     requires left { 0 < elements.old.left }
-    ensures on { ReadsOn E.format bytes.now elements.old elements.new }
+    ensures on { ReadsElements E.format bytes.now elements.old elements.new }
     ensures ok { OnOk result (elements.new.left + 1 ≡ elements.old.left) }
-    ensures err { IfErr result (λ e. Fails e (E.format.read (drop elements.new.used bytes.now)) × (0 < elements.new.left)) }
+    ensures err { IfErr result (λ e. ReadingFails e (E.format.read (drop elements.new.used bytes.now)) × (0 < elements.new.left)) }
 {
-    let part = behind(bytes, elements.used);
+    let part = rest_of_array(bytes, elements.used);
     let (value, rest) = E::take(alloc, part)?;
-    let count = used(part, rest);
+    let count = used_bytes(part, rest);
     elements.front.push(value)?;
     elements.used += count;
     elements.left -= 1;
@@ -128,9 +128,9 @@ fn read_on<E: Element>(
 where
     E::Value: Drop,
     requires { elements.old.used ≤ length bytes.now }
-    ensures on { ReadsOn E.format bytes.now elements.old elements.new }
+    ensures on { ReadsElements E.format bytes.now elements.old elements.new }
     ensures ok { OnOk result (elements.new.left ≡ 0) }
-    ensures err { IfErr result (λ e. Fails e (E.format.read (drop elements.new.used bytes.now)) × (0 < elements.new.left)) }
+    ensures err { IfErr result (λ e. ReadingFails e (E.format.read (drop elements.new.used bytes.now)) × (0 < elements.new.left)) }
 {
     let count = elements.left;
     for _ in 0..count {
@@ -144,11 +144,11 @@ where
 fn begin_devices(alloc: Global, bytes: &[u8]) -> Result<Devices, ReadError>
     requires { length bytes.now ≤ message_limit }
     ensures ok { IfOk result (DevicesBegun bytes.now) }
-    ensures err { IfErr result (λ e. Fails e ((reply_format Procedure.GetDevices).read bytes.now)) }
+    ensures err { IfErr result (λ e. ReadingFails e ((reply_format Procedure.GetDevices).read bytes.now)) }
 {
     let (status, behind_status) = status(bytes)?;
     let (count, rest) = up_to(behind_status, 1024)?;
-    let used = used(bytes, rest);
+    let used = used_bytes(bytes, rest);
     Ok(Devices {
         status,
         count,
@@ -161,8 +161,12 @@ fn begin_devices(alloc: Global, bytes: &[u8]) -> Result<Devices, ReadError>
 }
 
 /// What ends an array of so many devices.
-fn end_of(alloc: Global, count: u32, bytes: &[u8]) -> Result<(Option<DeviceInfo>, &[u8]), ReadError>
-    ensures { Gives (λ x. (option_list x.0, x.1.now)) result ((end_of count).read bytes.now) }
+fn array_end(
+    alloc: Global,
+    count: u32,
+    bytes: &[u8],
+) -> Result<(Option<DeviceInfo>, &[u8]), ReadError>
+    ensures { Gives (λ x. (option_list x.0, x.1.now)) result ((array_end count).read bytes.now) }
 {
     if count == 0 {
         Ok((None, bytes))
@@ -191,7 +195,11 @@ fn end_devices<'a>(
             return Err(e);
         }
     }
-    match end_of(alloc, devices.count, behind(bytes, devices.elements.used)) {
+    match array_end(
+        alloc,
+        devices.count,
+        rest_of_array(bytes, devices.elements.used),
+    ) {
         Ok((last, rest)) => {
             let status = devices.status;
             let devices = with_last(devices.elements.front, last)?;
@@ -227,10 +235,10 @@ pub(crate) fn devices_reply<'a>(
 fn begin_options(alloc: Global, bytes: &[u8]) -> Result<Elements<Descriptor>, ReadError>
     requires { length bytes.now ≤ message_limit }
     ensures ok { IfOk result (OptionsBegun bytes.now) }
-    ensures err { IfErr result (λ e. Fails e ((reply_format Procedure.GetOptionDescriptors).read bytes.now)) }
+    ensures err { IfErr result (λ e. ReadingFails e ((reply_format Procedure.GetOptionDescriptors).read bytes.now)) }
 {
     let (left, rest) = up_to(bytes, 1024)?;
-    let used = used(bytes, rest);
+    let used = used_bytes(bytes, rest);
     Ok(Elements {
         front: Vec::new(alloc),
         left,
@@ -253,7 +261,7 @@ fn end_options<'a>(
     *begun = None;
     match read_on::<NextDescriptor>(alloc, &mut elements, bytes) {
         Ok(()) => {
-            let rest = behind(bytes, elements.used);
+            let rest = rest_of_array(bytes, elements.used);
             let descriptors = Array::from_vec(elements.front);
             Ok((Reply::GetOptionDescriptors { descriptors }, rest))
         }

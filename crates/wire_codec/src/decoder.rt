@@ -2,30 +2,30 @@
 
 ghost use Rattle.std.specs.Prelude.{◌≡◌, ◌≢◌, ◌++◌, ◌∷◌, ◌≤◌, List, [], ℕ, IfOk, IfErr, IfSome, OnErr, OnOk, IsTrue, drop, length};
 ghost use Rattle.wire_format.specs.Format.{Gives, IsBytes};
-ghost use Rattle.wire_format.specs.Lawful.{Takes};
-ghost use Rattle.wire_format.specs.Limit.{limited, WantsMore, IsNoStart};
-ghost use Rattle.wire_format.specs.declared.fault.Wanted.{Wanted as AnyWanted};
-ghost use Rattle.wire_format.specs.declared.fault.Stop.TheVariants.{More};
-ghost use Rattle.wire_codec.specs.Pending.{IsPending, StopsAt};
-ghost use Rattle.wire_codec.specs.Begun.{HasBegun};
+ghost use Rattle.wire_format.specs.Lawful.{SpellsFront};
+ghost use Rattle.wire_format.specs.Limit.{limited_format, NeedsMore, IsNoStart};
+ghost use Rattle.wire_format.specs.declared.fault.MissingBytes.{MissingBytes as AnyWanted};
+ghost use Rattle.wire_format.specs.declared.fault.ReadStop.TheVariants.{More};
+ghost use Rattle.wire_codec.specs.PendingMessages.{IsPending, StopsForMore};
+ghost use Rattle.wire_codec.specs.Arrays.{ArraysAreReadSoFar};
 ghost use Rattle.wire_message.specs.Message.{message_limit, request as request_format, reply as reply_format};
 
-use crate::begun::{Begun, none_begun};
-use crate::reading::{reply, request};
+use crate::begun::{ArraysSoFar, none_begun};
+use crate::message_reading::{reply, request};
 use std::alloc::Global;
 use std::marker::Model;
-use wire_format::{ReadError, Stop, Wanted, all_from, front, past_limit, used};
+use wire_format::{MissingBytes, ReadError, ReadStop, all_from, front, past_limit, used_bytes};
 use wire_message::{MESSAGE_LIMIT, Procedure, Reply, Request, WireFault};
 
 /// The first request of the bytes, and how many of them spell it.
 fn first_request(alloc: Global, bytes: &[u8]) -> Result<(Request, usize), ReadError>
-    ensures read { Gives (λ x. (x.0, drop x.1 bytes.now)) result ((limited message_limit request_format).read bytes.now) }
+    ensures read { Gives (λ x. (x.0, drop x.1 bytes.now)) result ((limited_format message_limit request_format).read bytes.now) }
     ensures used { IfOk result (λ x. x.1 ≤ length bytes.now) }
     ensures bytes { IsBytes bytes.now }
 {
     let window = front(bytes, MESSAGE_LIMIT);
     match request(alloc, window) {
-        Ok((request, rest)) => Ok((request, used(window, rest))),
+        Ok((request, rest)) => Ok((request, used_bytes(window, rest))),
         Err(e) => Err(past_limit(e, bytes.len() > MESSAGE_LIMIT)),
     }
 }
@@ -34,18 +34,18 @@ fn first_request(alloc: Global, bytes: &[u8]) -> Result<(Request, usize), ReadEr
 fn first_reply(
     alloc: Global,
     procedure: Procedure,
-    begun: &mut Begun,
+    begun: &mut ArraysSoFar,
     bytes: &[u8],
 ) -> Result<(Reply, usize), ReadError>
-    requires { HasBegun bytes.now begun.old }
-    ensures kept { HasBegun bytes.now begun.new }
-    ensures read { Gives (λ x. (x.0, drop x.1 bytes.now)) result ((limited message_limit (reply_format procedure)).read bytes.now) }
+    requires { ArraysAreReadSoFar bytes.now begun.old }
+    ensures kept { ArraysAreReadSoFar bytes.now begun.new }
+    ensures read { Gives (λ x. (x.0, drop x.1 bytes.now)) result ((limited_format message_limit (reply_format procedure)).read bytes.now) }
     ensures used { IfOk result (λ x. x.1 ≤ length bytes.now) }
     ensures bytes { IsBytes bytes.now }
 {
     let window = front(bytes, MESSAGE_LIMIT);
     match reply(alloc, procedure, begun, window) {
-        Ok((reply, rest)) => Ok((reply, used(window, rest))),
+        Ok((reply, rest)) => Ok((reply, used_bytes(window, rest))),
         Err(e) => Err(past_limit(e, bytes.len() > MESSAGE_LIMIT)),
     }
 }
@@ -67,7 +67,7 @@ fn drop_front(bytes: &mut Vec<u8>, count: usize)
 struct Pending {
     /// The procedure of the reply that was asked for, or none for a request.
     procedure: Option<Procedure>,
-    wanted: Wanted,
+    wanted: MissingBytes,
     /// How many bytes the rest had.
     seen: usize,
 }
@@ -87,20 +87,20 @@ pub struct Decoder {
     start: usize,
     fault: Option<WireFault>,
     pending: Option<Pending>,
-    begun: Begun,
+    begun: ArraysSoFar,
 }
 
 impl Model for Decoder {
     ghost use Rattle.std.specs.Prelude.{◌≤◌, length, drop, IfSome};
-    ghost use Rattle.wire_codec.specs.Waiting.{Waiting};
-    ghost use Rattle.wire_codec.specs.Pending.{IsPending};
-    ghost use Rattle.wire_codec.specs.Begun.{HasBegun};
+    ghost use Rattle.wire_codec.specs.Decoders.{DecoderState};
+    ghost use Rattle.wire_codec.specs.PendingMessages.{IsPending};
+    ghost use Rattle.wire_codec.specs.Arrays.{ArraysAreReadSoFar};
 
-    ghost Value = { Waiting };
+    ghost Value = { DecoderState };
 
     ghost view = { λ d. record { rest = drop d.start d.bytes.items; fault = d.fault } };
 
-    ghost invariant = { λ d. (d.start ≤ length d.bytes.items) × IfSome d.pending (IsPending (drop d.start d.bytes.items)) × HasBegun (drop d.start d.bytes.items) d.begun };
+    ghost invariant = { λ d. (d.start ≤ length d.bytes.items) × IfSome d.pending (IsPending (drop d.start d.bytes.items)) × ArraysAreReadSoFar (drop d.start d.bytes.items) d.begun };
 }
 
 /// Whether both are the same message.
@@ -118,7 +118,7 @@ fn is_same(one: Option<Procedure>, other: Option<Procedure>) -> bool
 fn waits_on(pending: Pending, rest: &[u8]) -> Option<Pending>
     requires { IsPending rest.now pending }
     ensures waits { IfSome result (λ p. IsPending rest.now p × (p.procedure ≡ pending.procedure) × (p.seen ≡ length rest.now)) }
-    ensures stops { IfSome result (λ p. StopsAt pending.procedure rest.now p.wanted) }
+    ensures stops { IfSome result (λ p. StopsForMore pending.procedure rest.now p.wanted) }
     ensures bytes { IsBytes rest.now }
 {
     let more = &rest[pending.seen..];
@@ -128,7 +128,7 @@ fn waits_on(pending: Pending, rest: &[u8]) -> Option<Pending>
     {
         return None;
     }
-    let wanted = Wanted {
+    let wanted = MissingBytes {
         count: pending.wanted.count - more.len(),
         least: pending.wanted.least,
     };
@@ -140,12 +140,12 @@ fn waits_on(pending: Pending, rest: &[u8]) -> Option<Pending>
 }
 
 impl Decoder {
-    ghost use Rattle.wire_codec.specs.Waiting.{Tells, Stops, IsFaultOf, faulty, Taken, Asked, Told, Fed};
+    ghost use Rattle.wire_codec.specs.Decoders.{DecodesTo, Stops, IsFaultOf, with_decoder_fault, TakenMessage, TakenRequest, TakenReply, HasDecoded};
 
     /// A decoder that was fed nothing.
     pub fn new(alloc: Global) -> Decoder
         ensures empty { result ≡ record { rest = []; fault = None } }
-        ensures history { Fed [] [] result }
+        ensures history { HasDecoded [] [] result }
     {
         Decoder {
             bytes: Vec::new(alloc),
@@ -163,8 +163,8 @@ impl Decoder {
         ensures err { IfErr result (λ f. self.new.fault ≡ Some f) }
         ensures first { self.old.fault ≡ None → IfErr result (λ f. f ≡ WireFault.NoMem) }
         // What was fed are the spellings of what was taken, and then the rest; a piece that is refused was not fed.
-        ensures history { (fed : List ℕ) (taken : List Taken) → Fed fed taken self.old → OnOk result (Fed (fed ++ piece.now) taken self.new) }
-        ensures refused { (fed : List ℕ) (taken : List Taken) → Fed fed taken self.old → OnErr result (Fed fed taken self.new) }
+        ensures history { (fed : List ℕ) (taken : List TakenMessage) → HasDecoded fed taken self.old → OnOk result (HasDecoded (fed ++ piece.now) taken self.new) }
+        ensures refused { (fed : List ℕ) (taken : List TakenMessage) → HasDecoded fed taken self.old → OnErr result (HasDecoded fed taken self.new) }
     {
         if let Some(fault) = self.fault {
             return Err(fault);
@@ -183,7 +183,7 @@ impl Decoder {
     /// Whether the rest was read before for the same message, and nothing else is to be told yet.
     fn still_waits(&mut self, procedure: Option<Procedure>) -> bool
         ensures same { self.new ≡ self.old }
-        ensures waits { IsTrue result → (wanted : AnyWanted) × StopsAt procedure self.old.rest wanted }
+        ensures waits { IsTrue result → (wanted : AnyWanted) × StopsForMore procedure self.old.rest wanted }
         ensures bytes { IsTrue result → IsBytes self.old.rest }
     {
         let Some(pending) = self.pending else {
@@ -208,11 +208,11 @@ impl Decoder {
         error: ReadError,
     ) -> Result<Option<T>, WireFault>
         requires free { self.old.fault ≡ None }
-        requires waits { (wanted : AnyWanted) → error ≡ ReadError.Stop (More wanted) → StopsAt procedure self.old.rest wanted }
+        requires waits { (wanted : AnyWanted) → error ≡ ReadError.Stop (More wanted) → StopsForMore procedure self.old.rest wanted }
         ensures { Stops result self.old self.new error }
     {
         match error {
-            ReadError::Stop(Stop::More(wanted)) => {
+            ReadError::Stop(ReadStop::More(wanted)) => {
                 let seen = self.bytes.len() - self.start;
                 self.pending = Some(Pending {
                     procedure,
@@ -221,7 +221,7 @@ impl Decoder {
                 });
                 Ok(None)
             }
-            ReadError::Stop(Stop::Bad(fault)) => {
+            ReadError::Stop(ReadStop::Bad(fault)) => {
                 let fault = WireFault::from(fault);
                 self.fault = Some(fault);
                 Err(fault)
@@ -237,7 +237,7 @@ impl Decoder {
     fn read_request(&mut self, alloc: Global) -> Result<Option<Request>, WireFault>
         ensures kept { IfSome self.old.fault (λ f. (result ≡ Err f) × (self.new ≡ self.old)) }
         ensures bytes { self.old.fault ≡ None → IsBytes self.old.rest }
-        ensures exact { self.old.fault ≡ None → Tells result self.old self.new ((limited message_limit request_format).read self.old.rest) }
+        ensures exact { self.old.fault ≡ None → DecodesTo result self.old self.new ((limited_format message_limit request_format).read self.old.rest) }
     {
         if let Some(fault) = self.fault {
             return Err(fault);
@@ -246,10 +246,10 @@ impl Decoder {
             return Ok(None);
         }
         match first_request(alloc, &self.bytes[self.start..]) {
-            Ok((request, used)) => {
+            Ok((request, used_bytes)) => {
                 self.pending = None;
                 self.begun = none_begun();
-                self.start += used;
+                self.start += used_bytes;
                 Ok(Some(request))
             }
             Err(error) => self.stop(None, error),
@@ -264,7 +264,7 @@ impl Decoder {
     ) -> Result<Option<Reply>, WireFault>
         ensures kept { IfSome self.old.fault (λ f. (result ≡ Err f) × (self.new ≡ self.old)) }
         ensures bytes { self.old.fault ≡ None → IsBytes self.old.rest }
-        ensures exact { self.old.fault ≡ None → Tells result self.old self.new ((limited message_limit (reply_format procedure)).read self.old.rest) }
+        ensures exact { self.old.fault ≡ None → DecodesTo result self.old self.new ((limited_format message_limit (reply_format procedure)).read self.old.rest) }
     {
         if let Some(fault) = self.fault {
             return Err(fault);
@@ -273,10 +273,10 @@ impl Decoder {
             return Ok(None);
         }
         match first_reply(alloc, procedure, &mut self.begun, &self.bytes[self.start..]) {
-            Ok((reply, used)) => {
+            Ok((reply, used_bytes)) => {
                 self.pending = None;
                 self.begun = none_begun();
-                self.start += used;
+                self.start += used_bytes;
                 Ok(Some(reply))
             }
             Err(error) => self.stop(Some(procedure), error),
@@ -287,17 +287,17 @@ impl Decoder {
     pub fn next_request(&mut self, alloc: Global) -> Result<Option<Request>, WireFault>
         // The bytes are a spelling of what is taken, and then the rest.
         ensures taken { IfOk result (λ m. IfSome m (λ r. (self.new.fault ≡ None)
-            × Takes (limited message_limit request_format) self.old.rest self.new.rest r)) }
+            × SpellsFront (limited_format message_limit request_format) self.old.rest self.new.rest r)) }
         // More bytes are wanted where a spelling has begun, within the limit.
-        ensures none { result ≡ Ok None → (self.new ≡ self.old) × WantsMore message_limit request_format self.old.rest }
+        ensures none { result ≡ Ok None → (self.new ≡ self.old) × NeedsMore message_limit request_format self.old.rest }
         // A first fault comes where no spelling stands and none has begun, or memory ran out.
         ensures first { self.old.fault ≡ None → IfErr result (λ f. f ≢ WireFault.NoMem → IsNoStart message_limit request_format self.old.rest) }
         // It is that of the first word or byte at which no spelling stands.
         ensures which { self.old.fault ≡ None → IfErr result (λ f. f ≢ WireFault.NoMem → IsFaultOf message_limit request_format self.old.rest f) }
-        ensures err { IfErr result (λ f. self.new ≡ faulty self.old f) }
+        ensures err { IfErr result (λ f. self.new ≡ with_decoder_fault self.old f) }
         ensures kept { IfSome self.old.fault (λ f. result ≡ Err f) }
         // What was fed are the spellings of what was taken, and then the rest.
-        ensures history { (fed : List ℕ) (taken : List Taken) → Fed fed taken self.old → IfOk result (λ m. IfSome m (λ r. Fed fed (taken ++ Asked r ∷ []) self.new)) }
+        ensures history { (fed : List ℕ) (taken : List TakenMessage) → HasDecoded fed taken self.old → IfOk result (λ m. IfSome m (λ r. HasDecoded fed (taken ++ TakenRequest r ∷ []) self.new)) }
     {
         self.read_request(alloc)
     }
@@ -311,17 +311,17 @@ impl Decoder {
     ) -> Result<Option<Reply>, WireFault>
         // The bytes are a spelling of what is taken, and then the rest.
         ensures taken { IfOk result (λ m. IfSome m (λ r. (self.new.fault ≡ None)
-            × Takes (limited message_limit (reply_format procedure)) self.old.rest self.new.rest r)) }
+            × SpellsFront (limited_format message_limit (reply_format procedure)) self.old.rest self.new.rest r)) }
         // More bytes are wanted where a spelling has begun, within the limit.
-        ensures none { result ≡ Ok None → (self.new ≡ self.old) × WantsMore message_limit (reply_format procedure) self.old.rest }
+        ensures none { result ≡ Ok None → (self.new ≡ self.old) × NeedsMore message_limit (reply_format procedure) self.old.rest }
         // A first fault comes where no spelling stands and none has begun, or memory ran out.
         ensures first { self.old.fault ≡ None → IfErr result (λ f. f ≢ WireFault.NoMem → IsNoStart message_limit (reply_format procedure) self.old.rest) }
         // It is that of the first word or byte at which no spelling stands.
         ensures which { self.old.fault ≡ None → IfErr result (λ f. f ≢ WireFault.NoMem → IsFaultOf message_limit (reply_format procedure) self.old.rest f) }
-        ensures err { IfErr result (λ f. self.new ≡ faulty self.old f) }
+        ensures err { IfErr result (λ f. self.new ≡ with_decoder_fault self.old f) }
         ensures kept { IfSome self.old.fault (λ f. result ≡ Err f) }
         // What was fed are the spellings of what was taken, and then the rest.
-        ensures history { (fed : List ℕ) (taken : List Taken) → Fed fed taken self.old → IfOk result (λ m. IfSome m (λ r. Fed fed (taken ++ Told procedure r ∷ []) self.new)) }
+        ensures history { (fed : List ℕ) (taken : List TakenMessage) → HasDecoded fed taken self.old → IfOk result (λ m. IfSome m (λ r. HasDecoded fed (taken ++ TakenReply procedure r ∷ []) self.new)) }
     {
         self.read_reply(alloc, procedure)
     }

@@ -3,15 +3,15 @@
 
 mod begun;
 mod decoder;
-mod reading;
-mod words;
+mod message_reading;
+mod word_readers;
 
 pub use data_records::{
-    Phase, RecordReader, Step, record_end, record_head, records_are_read_in_any_pieces,
+    RecordPhase, RecordReader, Step, record_end, record_head, records_are_read_in_any_pieces,
 };
 pub use decoder::Decoder;
 pub use wire_message::{
-    Action, Array, DeviceInfo, MESSAGE_LIMIT, Procedure, Reply, Request, WireFault, WireValue,
-    replies_are_spelled_apart, requests_are_spelled_apart,
+    Array, ControlAction, DeviceInfo, MESSAGE_LIMIT, Procedure, Reply, Request, WireFault,
+    WireValue, replies_are_spelled_apart, requests_are_spelled_apart,
 };
 pub use wire_writing::{encode_reply, encode_request};

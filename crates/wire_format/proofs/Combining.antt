@@ -2,11 +2,11 @@
 use Rattle.std.proofs.Common.{◌≡◌, ℕ, zero, suc, ◌≤◌, List, [], ◌∷◌, ◌++◌, length, Result, Ok, Err, refl, sym, ap, subst, ◌∙◌, append_assoc, arith, ◌⊎◌, inl, inr}
 use Rattle.std.proofs.lemmas.List.{append-nil, length-append}
 use Rattle.wire_format.specs.declared.fault.Fault.{Fault}
-use Rattle.wire_format.specs.declared.fault.Wanted.{Wanted}
-use Rattle.wire_format.specs.declared.fault.Stop.{Stop}
-use Rattle.wire_format.specs.declared.fault.Stop.TheVariants.{More, Bad}
-use Rattle.wire_format.specs.Format.{◌>>=◌, Format, done, after, places, refused, IsBytes}
-use Rattle.wire_format.specs.Lawful.{Reads, Lawful}
+use Rattle.wire_format.specs.declared.fault.MissingBytes.{MissingBytes}
+use Rattle.wire_format.specs.declared.fault.ReadStop.{ReadStop}
+use Rattle.wire_format.specs.declared.fault.ReadStop.TheVariants.{More, Bad}
+use Rattle.wire_format.specs.Format.{◌>>=◌, Format, pure_format, after, places, fail_format, IsBytes}
+use Rattle.wire_format.specs.Lawful.{ReaderIsExact, Lawful}
 
 -- bytes, in parts
 
@@ -26,13 +26,13 @@ IsBytes-append (x ∷ front) back f b (suc i) = IsBytes-append front back (λ k.
 
 -- what a reading is
 
-abbrev pub failed : (A : Type 0) → Stop → Result A Stop
+abbrev pub failed : (A : Type 0) → ReadStop → Result A ReadStop
 failed A s = Err s
 
-abbrev pub read_as : {A : Type 0} → A → List ℕ → Result (A × List ℕ) Stop
+abbrev pub read_as : {A : Type 0} → A → List ℕ → Result (A × List ℕ) ReadStop
 read_as a rest = Ok (a, rest)
 
-pub err_is : {B : Type 0} (s t : Stop) → failed B s ≡ failed B t → s ≡ t
+pub err_is : {B : Type 0} (s t : ReadStop) → failed B s ≡ failed B t → s ≡ t
 err_is s t e = cc
 
 ok_is : {A : Type 0} (x y : A × List ℕ) → read_as x.0 x.1 ≡ read_as y.0 y.1 → x ≡ y
@@ -44,35 +44,35 @@ ok_value {A = A} a b r s e = ap (λ (p : A × List ℕ). p.0) (ok_is (a, r) (b, 
 pub ok_rest : {A : Type 0} (a b : A) (r s : List ℕ) → read_as a r ≡ read_as b s → r ≡ s
 ok_rest {A = A} a b r s e = ap (λ (p : A × List ℕ). p.1) (ok_is (a, r) (b, s) e)
 
-bind_ok : {A B : Type 0} (r : Result A Stop) (f : A → Result B Stop) (y : B) → (r >>= f) ≡ Ok y → (x : A) × (r ≡ Ok x) × (f x ≡ Ok y)
+bind_ok : {A B : Type 0} (r : Result A ReadStop) (f : A → Result B ReadStop) (y : B) → (r >>= f) ≡ Ok y → (x : A) × (r ≡ Ok x) × (f x ≡ Ok y)
 bind_ok (Ok x) f y e = (x, refl, e)
 bind_ok (Err d) f y e = absurd cc
 
-bind_err : {A B : Type 0} (r : Result A Stop) (f : A → Result B Stop) (stop : Stop) → (r >>= f) ≡ Err stop → (r ≡ Err stop) ⊎ ((x : A) × (r ≡ Ok x) × (f x ≡ Err stop))
+bind_err : {A B : Type 0} (r : Result A ReadStop) (f : A → Result B ReadStop) (stop : ReadStop) → (r >>= f) ≡ Err stop → (r ≡ Err stop) ⊎ ((x : A) × (r ≡ Ok x) × (f x ≡ Err stop))
 bind_err (Ok x) f stop e = inr (x, refl, e)
-bind_err {A = A} (Err d) f stop e = inl (ap (λ (s : Stop). failed A s) (err_is d stop e))
+bind_err {A = A} (Err d) f stop e = inl (ap (λ (s : ReadStop). failed A s) (err_is d stop e))
 
 -- what follows from the laws
 
 -- more bytes change nothing of what was read
-pub reads_on : {A : Type 0} (F : Format A) → Reads F → (bytes rest more : List ℕ) (a : A) → IsBytes bytes → F.read bytes ≡ Ok (a, rest) → F.read (bytes ++ more) ≡ Ok (a, rest ++ more)
+pub reads_on : {A : Type 0} (F : Format A) → ReaderIsExact F → (bytes rest more : List ℕ) (a : A) → IsBytes bytes → F.read bytes ≡ Ok (a, rest) → F.read (bytes ++ more) ≡ Ok (a, rest ++ more)
 reads_on F f bytes rest more a fits e =
     let p = f.sound bytes rest a fits e in
     ap F.read (ap (λ (t : List ℕ). t ++ more) p.whole ∙ append_assoc p.text rest more) ∙ f.complete p.text (rest ++ more) a p.spelled
 
 -- a fault on fewer bytes stays on more
-pub stays : {A : Type 0} (F : Format A) → Reads F → (bytes rest : List ℕ) (fault : Fault) → IsBytes (bytes ++ rest) → F.read bytes ≡ Err (Bad fault) → F.read (bytes ++ rest) ≡ Err (Bad fault)
+pub stays : {A : Type 0} (F : Format A) → ReaderIsExact F → (bytes rest : List ℕ) (fault : Fault) → IsBytes (bytes ++ rest) → F.read bytes ≡ Err (Bad fault) → F.read (bytes ++ rest) ≡ Err (Bad fault)
 stays F f bytes rest fault fits e =
     let p = f.bad bytes fault (IsBytes-front bytes rest fits) e in
     let regrouped : bytes ++ rest ≡ p.front ++ (p.rest ++ rest) = ap (λ (t : List ℕ). t ++ rest) p.whole ∙ append_assoc p.front p.rest rest in
     ap F.read regrouped ∙ f.spoiled p.front (p.rest ++ rest) fault (subst IsBytes regrouped fits) p.spoiled
 
 -- one text spells at most one value
-pub one_value : {A : Type 0} (F : Format A) → Reads F → (text : List ℕ) (a b : A) → F.spells text a → F.spells text b → a ≡ b
+pub one_value : {A : Type 0} (F : Format A) → ReaderIsExact F → (text : List ℕ) (a b : A) → F.spells text a → F.spells text b → a ≡ b
 one_value F f text a b s t = ok_value a b [] [] (sym (f.complete text [] a s) ∙ f.complete text [] b t)
 
 -- no spelling is a proper prefix of another
-pub no_prefix : {A : Type 0} (F : Format A) → Reads F → (text more : List ℕ) (a b : A) → F.spells text a → F.spells (text ++ more) b → more ≡ []
+pub no_prefix : {A : Type 0} (F : Format A) → ReaderIsExact F → (text more : List ℕ) (a b : A) → F.spells text a → F.spells (text ++ more) b → more ≡ []
 no_prefix F f text more a b s t =
     ok_rest a b more [] (sym (f.complete text more a s) ∙ ap F.read (sym (append-nil (text ++ more))) ∙ f.complete (text ++ more) [] b t)
 
@@ -80,7 +80,7 @@ same_fault : (g h : Fault) → Bad g ≡ Bad h → g ≡ h
 same_fault g h e = cc
 
 -- fronts of the same bytes are spoiled by the same fault
-pub one_fault : {A : Type 0} (F : Format A) → Reads F → (front rest front2 rest2 : List ℕ) (g h : Fault) → IsBytes (front ++ rest) → front ++ rest ≡ front2 ++ rest2 → F.spoils front g → F.spoils front2 h → g ≡ h
+pub one_fault : {A : Type 0} (F : Format A) → ReaderIsExact F → (front rest front2 rest2 : List ℕ) (g h : Fault) → IsBytes (front ++ rest) → front ++ rest ≡ front2 ++ rest2 → F.spoils front g → F.spoils front2 h → g ≡ h
 one_fault {A = A} F f front rest front2 rest2 g h fits e s t =
     let a = f.spoiled front rest g fits s in
     let b = ap F.read e ∙ f.spoiled front2 rest2 h (subst IsBytes e fits) t in
@@ -88,7 +88,7 @@ one_fault {A = A} F f front rest front2 rest2 g h fits e s t =
 
 -- nothing
 
-pub refused-reads : {A : Type 0} (fault : Fault) → Reads (refused {A = A} fault)
+pub refused-reads : {A : Type 0} (fault : Fault) → ReaderIsExact (fail_format {A = A} fault)
 refused-reads fault = record {
   sound = λ bytes rest a fits e. absurd cc;
   complete = λ text rest a s. absurd s;
@@ -100,7 +100,7 @@ refused-reads fault = record {
   bytes = λ text a s. absurd s;
 }
 
-pub done-laws : {A : Type 0} (a : A) → Lawful (done a)
+pub done-laws : {A : Type 0} (a : A) → Lawful (pure_format a)
 done-laws {A = A} a = record {
   reads = record {
     sound = λ bytes rest b fits e. record { text = []; whole = ok_rest a b bytes rest e; spelled = (refl, sym (ok_value a b bytes rest e)) };
@@ -132,7 +132,7 @@ split_either (x ∷ a) b (y ∷ c) d e =
     ]
 
 -- the first format stops inside a word or a text that goes on
-first_wants : {A : Type 0} (F : Format A) → Reads F → (bytes behind front back : List ℕ) (wanted : Wanted) (a : A) → IsBytes bytes → F.read bytes ≡ Err (More wanted)
+first_wants : {A : Type 0} (F : Format A) → ReaderIsExact F → (bytes behind front back : List ℕ) (wanted : MissingBytes) (a : A) → IsBytes bytes → F.read bytes ≡ Err (More wanted)
     → bytes ++ behind ≡ front ++ back → F.spells front a → wanted.count ≤ length behind
 first_wants {A = A} F f bytes behind front back wanted a fits e whole s =
     elim (split_either bytes behind front back whole) [
@@ -146,7 +146,7 @@ first_wants {A = A} F f bytes behind front back wanted a fits e whole s =
 
 pub after-spelled-laws : {A B : Type 0} (F : Format A) (G : A → Format B) → Lawful F → ((text : List ℕ) (a : A) → F.spells text a → Lawful (G a)) → Lawful (after F G)
 after-spelled-laws {A = A} {B = B} F G lawful g =
-    let f : Reads F = lawful.reads in
+    let f : ReaderIsExact F = lawful.reads in
     record {
       reads = record {
         sound = λ bytes rest b fits e.

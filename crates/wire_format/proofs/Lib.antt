@@ -1,6 +1,6 @@
 pub mod Combining
 pub mod Words
 pub mod Runs
-pub mod Limits
+pub mod ReadLimits
 pub mod Writers
 pub mod Loops

@@ -7,11 +7,11 @@ use Rattle.std.proofs.lemmas.List.{take-append-drop, take_all, take_at, drop_at,
 use Rattle.std.proofs.Math.Seq.{take-append-add}
 use Rattle.wire_format.specs.declared.fault.Fault.{Fault}
 use Rattle.wire_format.specs.declared.fault.Fault.TheVariants.{BadValue}
-use Rattle.wire_format.specs.declared.fault.Wanted.{Wanted}
-use Rattle.wire_format.specs.declared.fault.Stop.{Stop}
-use Rattle.wire_format.specs.declared.fault.Stop.TheVariants.{More, Bad}
-use Rattle.wire_format.specs.Format.{IsBytes, one_byte, IsByte, IsNoByte, byte_between, byte_at, IsRun, IsNoRun, is_from, run_at, run}
-use Rattle.wire_format.specs.Lawful.{Takes, Begins, Spoiled, IsStillWaiting, still_wanted, Lawful}
+use Rattle.wire_format.specs.declared.fault.MissingBytes.{MissingBytes}
+use Rattle.wire_format.specs.declared.fault.ReadStop.{ReadStop}
+use Rattle.wire_format.specs.declared.fault.ReadStop.TheVariants.{More, Bad}
+use Rattle.wire_format.specs.Format.{IsBytes, one_byte, IsByteBetween, IsNoByteBetween, byte_between, byte_at, IsByteRun, IsNoByteRun, is_from, run_at, run}
+use Rattle.wire_format.specs.Lawful.{SpellsFront, BeginsSpelling, HasSpoiledFront, IsStillWaiting, still_missing, Lawful}
 use Rattle.wire_format.proofs.Combining.{IsBytes-front, IsBytes-append, read_as, ok_value, ok_rest, failed, err_is}
 use Rattle.wire_format.proofs.Words.{one_waits}
 
@@ -35,13 +35,13 @@ guard_ok : {A : Type 0} (b : Bool) (fault : Fault) (x y : A × List ℕ) → con
 guard_ok true fault x y e = absurd cc
 guard_ok false fault x y e = (refl, e)
 
-guard_err : {A : Type 0} (b : Bool) (fault : Fault) (x : A × List ℕ) (stop : Stop) → cond b (failed (A × List ℕ) (Bad fault)) (read_as x.0 x.1) ≡ failed (A × List ℕ) stop → (b ≡ true) × (stop ≡ Bad fault)
+guard_err : {A : Type 0} (b : Bool) (fault : Fault) (x : A × List ℕ) (stop : ReadStop) → cond b (failed (A × List ℕ) (Bad fault)) (read_as x.0 x.1) ≡ failed (A × List ℕ) stop → (b ≡ true) × (stop ≡ Bad fault)
 guard_err {A = A} true fault x stop e = (refl, sym (err_is {B = A × List ℕ} (Bad fault) stop e))
 guard_err false fault x stop e = absurd cc
 
 -- ---- a byte
 
-byte_sound : (low high : ℕ) (bytes rest : List ℕ) (b : ℕ) → IsBytes bytes → byte_at low high bytes ≡ Ok (b, rest) → Takes (byte_between low high) bytes rest b
+byte_sound : (low high : ℕ) (bytes rest : List ℕ) (b : ℕ) → IsBytes bytes → byte_at low high bytes ≡ Ok (b, rest) → SpellsFront (byte_between low high) bytes rest b
 byte_sound low high [] rest b fits e = absurd cc
 byte_sound low high (x ∷ bytes) rest b fits e =
     let g = guard_ok (nat_lt x low || nat_lt high x) BadValue (x, bytes) (b, rest) e in
@@ -53,30 +53,30 @@ byte_sound low high (x ∷ bytes) rest b fits e =
     let to : x ≤ high = ltb-false _ _ inside.1 in
     record { text = b ∷ []; whole = rw (same, behind) refl; spelled = record { text_is = refl; fits = omega arith; from = omega arith; to = omega arith } }
 
-byte_complete : (low high : ℕ) (text rest : List ℕ) (b : ℕ) → IsByte low high text b → byte_at low high (text ++ rest) ≡ Ok (b, rest)
+byte_complete : (low high : ℕ) (text rest : List ℕ) (b : ℕ) → IsByteBetween low high text b → byte_at low high (text ++ rest) ≡ Ok (b, rest)
 byte_complete low high text rest b s =
     let inside : (nat_lt b low || nat_lt high b) ≡ false = both_false _ _ (le-ltb _ _ s.from) (le-ltb _ _ s.to) in
     ap (λ (t : List ℕ). byte_at low high (t ++ rest)) s.text_is ∙ rw inside refl
 
 -- where more is wanted there was no byte
-byte_wanted : (low high : ℕ) (bytes : List ℕ) (wanted : Wanted) → byte_at low high bytes ≡ Err (More wanted) → (bytes ≡ []) × (wanted ≡ one_byte)
+byte_wanted : (low high : ℕ) (bytes : List ℕ) (wanted : MissingBytes) → byte_at low high bytes ≡ Err (More wanted) → (bytes ≡ []) × (wanted ≡ one_byte)
 byte_wanted low high [] wanted e = (refl, cc)
 byte_wanted low high (x ∷ bytes) wanted e =
     let g = guard_err (nat_lt x low || nat_lt high x) BadValue (x, bytes) (More wanted) e in
     absurd (cc (g.1))
 
-byte_some : (low high : ℕ) → low ≤ high → high < 256 → Begins (byte_between low high) []
+byte_some : (low high : ℕ) → low ≤ high → high < 256 → BeginsSpelling (byte_between low high) []
 byte_some low high ordered small = record { behind = low ∷ []; value = low; spelled = record { text_is = refl; fits = omega arith; from = omega arith; to = ordered } }
 
-byte_wants : (low high : ℕ) (bytes behind : List ℕ) (wanted : Wanted) (b : ℕ) → byte_at low high bytes ≡ Err (More wanted) → IsByte low high (bytes ++ behind) b → wanted.count ≤ length behind
+byte_wants : (low high : ℕ) (bytes behind : List ℕ) (wanted : MissingBytes) (b : ℕ) → byte_at low high bytes ≡ Err (More wanted) → IsByteBetween low high (bytes ++ behind) b → wanted.count ≤ length behind
 byte_wants low high bytes behind wanted b e s =
     let w = byte_wanted low high bytes wanted e in
-    let count : wanted.count ≡ 1 = ap (λ (v : Wanted). v.count) w.1 in
+    let count : wanted.count ≡ 1 = ap (λ (v : MissingBytes). v.count) w.1 in
     let long : length (bytes ++ behind) ≡ 1 = ap length s.text_is in
     let none : length bytes ≡ 0 = ap length w.0 in
     omega (arith, count, long, none, length-append bytes behind)
 
-byte_bad : (low high : ℕ) (bytes : List ℕ) (fault : Fault) → IsBytes bytes → byte_at low high bytes ≡ Err (Bad fault) → Spoiled (byte_between low high) bytes fault
+byte_bad : (low high : ℕ) (bytes : List ℕ) (fault : Fault) → IsBytes bytes → byte_at low high bytes ≡ Err (Bad fault) → HasSpoiledFront (byte_between low high) bytes fault
 byte_bad low high [] fault fits e = absurd cc
 byte_bad low high (x ∷ bytes) fault fits e =
     let g = guard_err (nat_lt x low || nat_lt high x) BadValue (x, bytes) (Bad fault) e in
@@ -84,7 +84,7 @@ byte_bad low high (x ∷ bytes) fault fits e =
     let out : (x < low) ⊎ (high < x) = elim (or_true _ _ g.0) [ inl h ↦ inl (ltb-true _ _ h) | inr h ↦ inr (ltb-true _ _ h) ] in
     record { front = x ∷ []; rest = bytes; whole = refl; spoiled = record { given_is = given; byte = x; text_is = refl; outside = out } }
 
-byte_spoiled : (low high : ℕ) (text rest : List ℕ) (fault : Fault) → IsBytes (text ++ rest) → IsNoByte low high text fault → byte_at low high (text ++ rest) ≡ Err (Bad fault)
+byte_spoiled : (low high : ℕ) (text rest : List ℕ) (fault : Fault) → IsBytes (text ++ rest) → IsNoByteBetween low high text fault → byte_at low high (text ++ rest) ≡ Err (Bad fault)
 byte_spoiled low high text rest fault fits s =
     let out : (nat_lt s.byte low || nat_lt high s.byte) ≡ true = one_true _ _ (elim s.outside [ inl h ↦ inl (lt-ltb s.byte low h) | inr h ↦ inr (lt-ltb high s.byte h) ]) in
     ap (λ (t : List ℕ). byte_at low high (t ++ rest)) s.text_is ∙ rw (out, s.given_is) refl
@@ -98,7 +98,7 @@ byte-laws low high ordered small = record {
   reads = record {
     sound = byte_sound low high;
     complete = byte_complete low high;
-    more = λ bytes wanted fits e. subst (Begins (byte_between low high)) (sym (byte_wanted low high bytes wanted e).0) (byte_some low high ordered small);
+    more = λ bytes wanted fits e. subst (BeginsSpelling (byte_between low high)) (sym (byte_wanted low high bytes wanted e).0) (byte_some low high ordered small);
     wants = λ bytes behind wanted b fits e s. byte_wants low high bytes behind wanted b e s;
     waits = λ bytes more wanted fits e still. one_waits {A = ℕ} (byte_at low high) bytes more wanted e (byte_wanted low high bytes wanted e).1 still;
     bad = byte_bad low high;
@@ -151,20 +151,20 @@ first_below least (b ∷ bytes) e =
     ]
 
 -- the cases of reading a run: a byte is below the least, bytes are missing, or the run stands
-abbrev cases : {A : Type 0} → Bool → Bool → Wanted → A → List ℕ → Result (A × List ℕ) Stop
+abbrev cases : {A : Type 0} → Bool → Bool → MissingBytes → A → List ℕ → Result (A × List ℕ) ReadStop
 cases all missing wanted value rest = cond (not all) (Err (Bad BadValue)) (cond missing (Err (More wanted)) (Ok (value, rest)))
 
-case_ok : {A : Type 0} (all missing : Bool) (wanted : Wanted) (value v : A) (rest r : List ℕ) → cases all missing wanted value rest ≡ read_as v r → (all ≡ true) × (missing ≡ false) × (value ≡ v) × (rest ≡ r)
+case_ok : {A : Type 0} (all missing : Bool) (wanted : MissingBytes) (value v : A) (rest r : List ℕ) → cases all missing wanted value rest ≡ read_as v r → (all ≡ true) × (missing ≡ false) × (value ≡ v) × (rest ≡ r)
 case_ok false missing wanted value v rest r e = absurd cc
 case_ok true true wanted value v rest r e = absurd cc
 case_ok true false wanted value v rest r e = (refl, refl, ok_value value v rest r e, ok_rest value v rest r e)
 
-case_more : {A : Type 0} (all missing : Bool) (wanted w : Wanted) (value : A) (rest : List ℕ) → cases all missing wanted value rest ≡ failed (A × List ℕ) (More w) → (all ≡ true) × (missing ≡ true) × (w ≡ wanted)
+case_more : {A : Type 0} (all missing : Bool) (wanted w : MissingBytes) (value : A) (rest : List ℕ) → cases all missing wanted value rest ≡ failed (A × List ℕ) (More w) → (all ≡ true) × (missing ≡ true) × (w ≡ wanted)
 case_more false missing wanted w value rest e = absurd cc
 case_more true true wanted w value rest e = (refl, refl, cc)
 case_more true false wanted w value rest e = absurd cc
 
-case_bad : {A : Type 0} (all missing : Bool) (wanted : Wanted) (fault : Fault) (value : A) (rest : List ℕ) → cases all missing wanted value rest ≡ failed (A × List ℕ) (Bad fault) → (all ≡ false) × (fault ≡ BadValue)
+case_bad : {A : Type 0} (all missing : Bool) (wanted : MissingBytes) (fault : Fault) (value : A) (rest : List ℕ) → cases all missing wanted value rest ≡ failed (A × List ℕ) (Bad fault) → (all ≡ false) × (fault ≡ BadValue)
 case_bad false missing wanted fault value rest e = (refl, cc)
 case_bad true true wanted fault value rest e = absurd cc
 case_bad true false wanted fault value rest e = absurd cc
@@ -172,7 +172,7 @@ case_bad true false wanted fault value rest e = absurd cc
 IsBytes-take : (n : ℕ) (bytes : List ℕ) → IsBytes bytes → IsBytes (take n bytes)
 IsBytes-take n bytes h = IsBytes-front (take n bytes) (drop n bytes) (subst IsBytes (sym (take-append-drop n bytes)) h)
 
-run_sound : (least count : ℕ) (bytes rest value : List ℕ) → IsBytes bytes → run_at least count bytes ≡ Ok (value, rest) → Takes (run least count) bytes rest value
+run_sound : (least count : ℕ) (bytes rest value : List ℕ) → IsBytes bytes → run_at least count bytes ≡ Ok (value, rest) → SpellsFront (run least count) bytes rest value
 run_sound least count bytes rest value fits e =
     let c = case_ok (list_all (is_from least) (take count bytes)) (nat_lt (length bytes) count) (record { count = count - length bytes; least = least }) (take count bytes) value (drop count bytes) rest e in
     let le : count ≤ length bytes = ltb-false _ _ c.1 in
@@ -182,7 +182,7 @@ run_sound least count bytes rest value fits e =
       spelled = record { is = sym c.2; fits = IsBytes-take count bytes fits; long = omega (arith, le, length-take count bytes); from = all_true least (take count bytes) c.0 };
     }
 
-run_complete : (least count : ℕ) (text rest value : List ℕ) → IsRun least count text value → run_at least count (text ++ rest) ≡ Ok (value, rest)
+run_complete : (least count : ℕ) (text rest value : List ℕ) → IsByteRun least count text value → run_at least count (text ++ rest) ≡ Ok (value, rest)
 run_complete least count text rest value s =
     let front : take count (text ++ rest) ≡ text = take_at text rest count s.long in
     let behind : drop count (text ++ rest) ≡ rest = drop_at text rest count s.long in
@@ -214,14 +214,14 @@ all-append least [] back f b = b
 all-append least (x ∷ front) back f b = (f.0, all-append least front back f.1 b)
 
 -- bytes that are too few, and none below the least
-run_begun : (least count : ℕ) (bytes : List ℕ) (wanted : Wanted) → run_at least count bytes ≡ Err (More wanted) → AllByRecursion (λ b. least ≤ b) bytes × (length bytes < count) × (wanted ≡ record { count = count - length bytes; least = least })
+run_begun : (least count : ℕ) (bytes : List ℕ) (wanted : MissingBytes) → run_at least count bytes ≡ Err (More wanted) → AllByRecursion (λ b. least ≤ b) bytes × (length bytes < count) × (wanted ≡ record { count = count - length bytes; least = least })
 run_begun least count bytes wanted e =
     let c = case_more (list_all (is_from least) (take count bytes)) (nat_lt (length bytes) count) (record { count = count - length bytes; least = least }) wanted (take count bytes) (drop count bytes) e in
     let lt : length bytes < count = ltb-true _ _ c.1 in
     let all : take count bytes ≡ bytes = take_all count bytes (omega (arith, lt)) in
     (subst (AllByRecursion (λ b. least ≤ b)) all (all_true least (take count bytes) c.0), lt, c.2)
 
-run_more : (least count : ℕ) → least < 256 → (bytes : List ℕ) (wanted : Wanted) → IsBytes bytes → run_at least count bytes ≡ Err (More wanted) → Begins (run least count) bytes
+run_more : (least count : ℕ) → least < 256 → (bytes : List ℕ) (wanted : MissingBytes) → IsBytes bytes → run_at least count bytes ≡ Err (More wanted) → BeginsSpelling (run least count) bytes
 run_more least count small bytes wanted fits e =
     let b = run_begun least count bytes wanted e in
     let k = count - length bytes in
@@ -236,17 +236,17 @@ run_more least count small bytes wanted fits e =
       };
     }
 
-run_wants : (least count : ℕ) (bytes behind : List ℕ) (wanted : Wanted) (value : List ℕ) → run_at least count bytes ≡ Err (More wanted) → IsRun least count (bytes ++ behind) value → wanted.count ≤ length behind
+run_wants : (least count : ℕ) (bytes behind : List ℕ) (wanted : MissingBytes) (value : List ℕ) → run_at least count bytes ≡ Err (More wanted) → IsByteRun least count (bytes ++ behind) value → wanted.count ≤ length behind
 run_wants least count bytes behind wanted value e s =
     let b = run_begun least count bytes wanted e in
-    let is : wanted.count ≡ count - length bytes = ap (λ (v : Wanted). v.count) b.2 in
+    let is : wanted.count ≡ count - length bytes = ap (λ (v : MissingBytes). v.count) b.2 in
     omega (arith, b.1, is, s.long, length-append bytes behind)
 
-run_waits : (least count : ℕ) (bytes more : List ℕ) (wanted : Wanted) → run_at least count bytes ≡ Err (More wanted) → IsStillWaiting wanted more → run_at least count (bytes ++ more) ≡ Err (More (still_wanted wanted (length more)))
+run_waits : (least count : ℕ) (bytes more : List ℕ) (wanted : MissingBytes) → run_at least count bytes ≡ Err (More wanted) → IsStillWaiting wanted more → run_at least count (bytes ++ more) ≡ Err (More (still_missing wanted (length more)))
 run_waits least count bytes more wanted e still =
     let b = run_begun least count bytes wanted e in
-    let is : wanted.count ≡ count - length bytes = ap (λ (v : Wanted). v.count) b.2 in
-    let low : wanted.least ≡ least = ap (λ (v : Wanted). v.least) b.2 in
+    let is : wanted.count ≡ count - length bytes = ap (λ (v : MissingBytes). v.count) b.2 in
+    let low : wanted.least ≡ least = ap (λ (v : MissingBytes). v.least) b.2 in
     let long = length-append bytes more in
     let fewer : length (bytes ++ more) < count = omega (arith, b.1, is, long, still.fewer) in
     let all : take count (bytes ++ more) ≡ bytes ++ more = take_all count (bytes ++ more) (omega (arith, fewer)) in
@@ -256,7 +256,7 @@ run_waits least count bytes more wanted e still =
     let left : count - length (bytes ++ more) ≡ wanted.count - length more = omega (arith, is, long) in
     rw (all, good, missing, left, low) refl
 
-run_bad : (least count : ℕ) (bytes : List ℕ) (fault : Fault) → run_at least count bytes ≡ Err (Bad fault) → Spoiled (run least count) bytes fault
+run_bad : (least count : ℕ) (bytes : List ℕ) (fault : Fault) → run_at least count bytes ≡ Err (Bad fault) → HasSpoiledFront (run least count) bytes fault
 run_bad least count bytes fault e =
     let c = case_bad (list_all (is_from least) (take count bytes)) (nat_lt (length bytes) count) (record { count = count - length bytes; least = least }) fault (take count bytes) (drop count bytes) e in
     let p = first_below least (take count bytes) c.0 in
@@ -276,7 +276,7 @@ spoiled_all least (b ∷ front) rest byte below = rw (spoiled_all least front re
     no_and true = refl
     no_and false = refl
 
-run_spoiled : (least count : ℕ) (text rest : List ℕ) (fault : Fault) → IsNoRun least count text fault → run_at least count (text ++ rest) ≡ Err (Bad fault)
+run_spoiled : (least count : ℕ) (text rest : List ℕ) (fault : Fault) → IsNoByteRun least count text fault → run_at least count (text ++ rest) ≡ Err (Bad fault)
 run_spoiled least count text rest fault s =
     let shown : text ++ rest ≡ (s.front ++ s.byte ∷ []) ++ rest = ap (λ (t : List ℕ). t ++ rest) s.text_is in
     let k : count ≡ length (s.front ++ s.byte ∷ []) + (count - length (s.front ++ s.byte ∷ [])) = omega (arith, s.inside, length-append s.front (s.byte ∷ [])) in
@@ -287,7 +287,7 @@ run_spoiled least count text rest fault s =
     let no : list_all (is_from least) (take count (text ++ rest)) ≡ false = ap (list_all (is_from least)) regrouped ∙ spoiled_all least s.front (take (count - length (s.front ++ s.byte ∷ [])) rest) s.byte s.below in
     rw (no, s.given_is) refl
 
-run_some : (least count : ℕ) → least < 256 → Begins (run least count) []
+run_some : (least count : ℕ) → least < 256 → BeginsSpelling (run least count) []
 run_some least count small = record {
   behind = zeros count least;
   value = zeros count least;

@@ -3,9 +3,9 @@ use Rattle.std.specs.Prelude.{◌≡◌, ◌⊎◌, ℕ, zero, suc, ◌<◌, ◌
 use Rattle.std.specs.List.{list_all, AllByRecursion}
 use Rattle.wire_format.specs.declared.fault.Fault.{Fault}
 use Rattle.wire_format.specs.declared.fault.Fault.TheVariants.{BadValue}
-use Rattle.wire_format.specs.declared.fault.Wanted.{Wanted}
-use Rattle.wire_format.specs.declared.fault.Stop.{Stop}
-use Rattle.wire_format.specs.declared.fault.Stop.TheVariants.{More, Bad}
+use Rattle.wire_format.specs.declared.fault.MissingBytes.{MissingBytes}
+use Rattle.wire_format.specs.declared.fault.ReadStop.{ReadStop}
+use Rattle.wire_format.specs.declared.fault.ReadStop.TheVariants.{More, Bad}
 use Rattle.wire_format.specs.declared.fault.ReadError.{ReadError}
 use Rattle.wire_format.specs.declared.fault.ReadError.TheVariants as errors
 
@@ -15,21 +15,21 @@ pub record Format (A : Type 0) : Type 1 where
   -- the text ends in the first word or byte at which no spelling stands, which makes the fault
   pub spoils : List ℕ → Fault → Type 0
   -- a value and the rest behind it, or why there is none
-  pub read : List ℕ → Result (A × List ℕ) Stop
+  pub read : List ℕ → Result (A × List ℕ) ReadStop
 
 infixl 10 ◌>>=◌
-abbrev pub ◌>>=◌ : {A B : Type 0} → Result A Stop → (A → Result B Stop) → Result B Stop
+abbrev pub ◌>>=◌ : {A B : Type 0} → Result A ReadStop → (A → Result B ReadStop) → Result B ReadStop
 (Ok x) >>= f = f x
 (Err e) >>= f = Err e
 
 -- What a function returned, seen by view, is what reading gives, unless memory ran out.
-abbrev pub Fails : {Y : Type 0} → ReadError → Result Y Stop → Type 0
-Fails errors.Memory read = Unit {0}
-Fails (errors.Stop s) read = read ≡ Err s
+abbrev pub ReadingFails : {Y : Type 0} → ReadError → Result Y ReadStop → Type 0
+ReadingFails errors.Memory read = Unit {0}
+ReadingFails (errors.Stop s) read = read ≡ Err s
 
-abbrev pub Gives : {X Y : Type 0} → (X → Y) → Result X ReadError → Result Y Stop → Type 0
+abbrev pub Gives : {X Y : Type 0} → (X → Y) → Result X ReadError → Result Y ReadStop → Type 0
 Gives view (Ok x) read = read ≡ Ok (view x)
-Gives view (Err e) read = Fails e read
+Gives view (Err e) read = ReadingFails e read
 
 -- each of them is a byte
 abbrev pub IsBytes : List ℕ → Type 0
@@ -37,13 +37,13 @@ IsBytes bytes = (i : ℕ) → slice_index bytes i < 256
 
 -- nothing, for a value that is known
 
-abbrev pub done : {A : Type 0} → A → Format A
-done a = record { spells = λ text b. (text ≡ []) × (b ≡ a); spoils = λ text fault. ⊥; read = λ bytes. Ok (a, bytes) }
+abbrev pub pure_format : {A : Type 0} → A → Format A
+pure_format a = record { spells = λ text b. (text ≡ []) × (b ≡ a); spoils = λ text fault. ⊥; read = λ bytes. Ok (a, bytes) }
 
 -- nothing is spelled, since a fault stands before the first byte
 
-abbrev pub refused : {A : Type 0} → Fault → Format A
-refused fault = record { spells = λ text a. ⊥; spoils = λ text given. (text ≡ []) × (given ≡ fault); read = λ bytes. Err (Bad fault) }
+abbrev pub fail_format : {A : Type 0} → Fault → Format A
+fail_format fault = record { spells = λ text a. ⊥; spoils = λ text given. (text ≡ []) × (given ≡ fault); read = λ bytes. Err (Bad fault) }
 
 -- one after another, where the first value may say what stands behind it
 
@@ -64,49 +64,49 @@ after F G = record {
 
 -- a value that is made of another
 
-abbrev pub made : {A B : Type 0} → (A → B) → Format A → Format B
-made make F = after F (λ a. done (make a))
+abbrev pub map_format : {A B : Type 0} → (A → B) → Format A → Format B
+map_format make F = after F (λ a. pure_format (make a))
 
 -- a value at each of n places
 
 unfoldable pub places : {A : Type 0} → ℕ → Format A → Format (List A)
-places zero F = done []
-places (suc n) F = after F (λ a. after (places n F) (λ others. done (a ∷ others)))
+places zero F = pure_format []
+places (suc n) F = after F (λ a. after (places n F) (λ others. pure_format (a ∷ others)))
 
 -- a byte from low to high
 
-pub record IsByte (low high : ℕ) (text : List ℕ) (b : ℕ) : Type 0 where
+pub record IsByteBetween (low high : ℕ) (text : List ℕ) (b : ℕ) : Type 0 where
   pub text_is : text ≡ b ∷ []
   pub fits : b < 256
   pub from : low ≤ b
   pub to : b ≤ high
 
-pub record IsNoByte (low high : ℕ) (text : List ℕ) (given : Fault) : Type 0 where
+pub record IsNoByteBetween (low high : ℕ) (text : List ℕ) (given : Fault) : Type 0 where
   pub given_is : given ≡ BadValue
   pub byte : ℕ
   pub text_is : text ≡ byte ∷ []
   pub outside : (byte < low) ⊎ (high < byte)
 
 -- one byte is wanted, whichever
-abbrev pub one_byte : Wanted
+abbrev pub one_byte : MissingBytes
 one_byte = record { count = 1; least = 0 }
 
-abbrev pub byte_at : ℕ → ℕ → List ℕ → Result (ℕ × List ℕ) Stop
+abbrev pub byte_at : ℕ → ℕ → List ℕ → Result (ℕ × List ℕ) ReadStop
 byte_at low high [] = Err (More one_byte)
 byte_at low high (b ∷ rest) = if nat_lt b low || nat_lt high b then Err (Bad BadValue) else Ok (b, rest)
 
 abbrev pub byte_between : ℕ → ℕ → Format ℕ
-byte_between low high = record { spells = IsByte low high; spoils = IsNoByte low high; read = byte_at low high }
+byte_between low high = record { spells = IsByteBetween low high; spoils = IsNoByteBetween low high; read = byte_at low high }
 
 -- so many bytes, none of them below the least
 
-pub record IsRun (least count : ℕ) (text value : List ℕ) : Type 0 where
+pub record IsByteRun (least count : ℕ) (text value : List ℕ) : Type 0 where
   pub is : value ≡ text
   pub fits : IsBytes text
   pub long : length text ≡ count
   pub from : AllByRecursion (λ b. least ≤ b) text
 
-pub record IsNoRun (least count : ℕ) (text : List ℕ) (given : Fault) : Type 0 where
+pub record IsNoByteRun (least count : ℕ) (text : List ℕ) (given : Fault) : Type 0 where
   pub given_is : given ≡ BadValue
   pub front : List ℕ
   pub byte : ℕ
@@ -118,11 +118,11 @@ pub record IsNoRun (least count : ℕ) (text : List ℕ) (given : Fault) : Type 
 abbrev pub is_from : ℕ → ℕ → Bool
 is_from least b = not (nat_lt b least)
 
-abbrev pub run_at : ℕ → ℕ → List ℕ → Result (List ℕ × List ℕ) Stop
+abbrev pub run_at : ℕ → ℕ → List ℕ → Result (List ℕ × List ℕ) ReadStop
 run_at least count bytes =
     if not (list_all (is_from least) (take count bytes)) then Err (Bad BadValue)
     else if nat_lt (length bytes) count then Err (More (record { count = count - length bytes; least = least }))
     else Ok (take count bytes, drop count bytes)
 
 abbrev pub run : ℕ → ℕ → Format (List ℕ)
-run least count = record { spells = IsRun least count; spoils = IsNoRun least count; read = run_at least count }
+run least count = record { spells = IsByteRun least count; spoils = IsNoByteRun least count; read = run_at least count }

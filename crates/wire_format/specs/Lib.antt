@@ -1,5 +1,5 @@
 pub mod Format
-pub mod Kind
+pub mod WordKinds
 pub mod Lawful
 pub mod Limit
 pub mod Writer

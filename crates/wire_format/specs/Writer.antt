@@ -7,7 +7,7 @@ use Rattle.wire_format.specs.declared.fault.Fault.TheVariants as faults
 use Rattle.wire_format.specs.declared.fault.WriteError.{WriteError}
 use Rattle.wire_format.specs.declared.fault.WriteError.TheVariants as errors
 use Rattle.wire_format.specs.Format.{Format, is_from}
-use Rattle.wire_format.specs.Kind.{Kind}
+use Rattle.wire_format.specs.WordKinds.{WordKind}
 
 pub record Writer (A : Type 0) : Type 0 where
   -- whether the value passes a limit
@@ -20,11 +20,11 @@ text_or_fault (Some text) = Ok text
 text_or_fault None = Err faults.BadValue
 
 -- what is answered: that a limit is passed goes before that nothing spells the value
-abbrev pub written : {A : Type 0} → Writer A → A → Result (List ℕ) Fault
-written W a = if W.long a then Err faults.TooLong else text_or_fault (W.text a)
+abbrev pub encoding_or_fault : {A : Type 0} → Writer A → A → Result (List ℕ) Fault
+encoding_or_fault W a = if W.long a then Err faults.TooLong else text_or_fault (W.text a)
 
 -- What makes a writer that of a format, at a value.
-pub record Writes {A : Type 0} (F : Format A) (W : Writer A) (a : A) : Type 0 where
+pub record WritesFormat {A : Type 0} (F : Format A) (W : Writer A) (a : A) : Type 0 where
   -- what is written is a spelling of the value
   pub spelled : (text : List ℕ) → W.text a ≡ Some text → F.spells text a
   -- where a limit is passed nothing is written
@@ -33,10 +33,10 @@ pub record Writes {A : Type 0} (F : Format A) (W : Writer A) (a : A) : Type 0 wh
   pub none : W.long a ≡ false → W.text a ≡ None → (text : List ℕ) → F.spells text a → ⊥
 
 -- one text and then another
-abbrev pub joined : Option (List ℕ) → Option (List ℕ) → Option (List ℕ)
-joined None back = None
-joined (Some front) None = None
-joined (Some front) (Some back) = Some (front ++ back)
+abbrev pub append_text : Option (List ℕ) → Option (List ℕ) → Option (List ℕ)
+append_text None back = None
+append_text (Some front) None = None
+append_text (Some front) (Some back) = Some (front ++ back)
 
 -- nothing
 
@@ -53,12 +53,12 @@ write_none = record { long = λ a. false; text = λ a. None }
 abbrev pub write_after : {A B : Type 0} → (B → A) → Writer A → (A → Writer B) → Writer B
 write_after part W V = record {
   long = λ b. W.long (part b) || (V (part b)).long b;
-  text = λ b. joined (W.text (part b)) ((V (part b)).text b);
+  text = λ b. append_text (W.text (part b)) ((V (part b)).text b);
 }
 
 -- A value whose spelling begins with some first part is spelled with its own part first.
-abbrev pub IsPart : {A B : Type 0} → (B → A) → Format A → (A → Format B) → B → Type 0
-IsPart {A = A} part F G b = (a : A) (front back : List ℕ) → F.spells front a → (G a).spells back b
+abbrev pub IsFirstPart : {A B : Type 0} → (B → A) → Format A → (A → Format B) → B → Type 0
+IsFirstPart {A = A} part F G b = (a : A) (front back : List ℕ) → F.spells front a → (G a).spells back b
     → ((own : List ℕ) × F.spells own (part b)) × ((own : List ℕ) × (G (part b)).spells own b)
 
 -- a value that is made of another, by what it is made of
@@ -79,7 +79,7 @@ first_long W V (a ∷ others) = W.long a || V.long others
 
 abbrev pub first_text : {A : Type 0} → Writer A → Writer (List A) → List A → Option (List ℕ)
 first_text W V [] = None
-first_text W V (a ∷ others) = joined (W.text a) (V.text others)
+first_text W V (a ∷ others) = append_text (W.text a) (V.text others)
 
 abbrev pub no_text : {A : Type 0} → List A → Option (List ℕ)
 no_text [] = Some []
@@ -100,15 +100,15 @@ is_too_long (Err faults.TooLong) = true
 is_too_long (Err faults.BadCode) = false
 is_too_long (Err faults.BadValue) = false
 
-abbrev pub word_text : {A : Type 0} → ℕ → Result A Fault → Option (List ℕ)
-word_text n (Ok a) = Some (to_be_bytes w32 n)
-word_text n (Err fault) = None
+abbrev pub bytes_of_word : {A : Type 0} → ℕ → Result A Fault → Option (List ℕ)
+bytes_of_word n (Ok a) = Some (to_be_bytes w32 n)
+bytes_of_word n (Err fault) = None
 
-abbrev pub write_word : {A : Type 0} → Kind A → (A → ℕ) → Writer A
-write_word K number = record { long = λ a. is_too_long (K.judge (number a)); text = λ a. word_text (number a) (K.judge (number a)) }
+abbrev pub write_word : {A : Type 0} → WordKind A → (A → ℕ) → Writer A
+write_word K number = record { long = λ a. is_too_long (K.judge (number a)); text = λ a. bytes_of_word (number a) (K.judge (number a)) }
 
 -- the number of a value is one of a word that is judged to be the value, if there is any
-pub record IsNumber {A : Type 0} (K : Kind A) (number : A → ℕ) : Type 0 where
+pub record IsNumbering {A : Type 0} (K : WordKind A) (number : A → ℕ) : Type 0 where
   pub back : (a b : A) → K.judge (number a) ≡ Ok b → (number a < 2 ^ 32) × (b ≡ a)
   pub all : (n : ℕ) (a : A) → n < 2 ^ 32 → K.judge n ≡ Ok a → K.judge (number a) ≡ Ok a
 
@@ -127,14 +127,14 @@ write_run least count = record { long = λ bytes. false; text = λ bytes. if lis
 
 -- at most so many bytes
 
-abbrev pub is_over : ℕ → Option (List ℕ) → Bool
-is_over n (Some text) = nat_lt n (length text)
-is_over n None = false
+abbrev pub exceeds : ℕ → Option (List ℕ) → Bool
+exceeds n (Some text) = nat_lt n (length text)
+exceeds n None = false
 
 abbrev pub write_limited : {A : Type 0} → ℕ → Writer A → Writer A
 write_limited n W = record {
-  long = λ a. W.long a || is_over n (W.text a);
-  text = λ a. if is_over n (W.text a) then None else W.text a;
+  long = λ a. W.long a || exceeds n (W.text a);
+  text = λ a. if exceeds n (W.text a) then None else W.text a;
 }
 
 -- the value passes a limit, or its text does
@@ -146,7 +146,7 @@ abbrev pub behind : List ℕ → Option (List ℕ) → Option (List ℕ)
 behind old None = None
 behind old (Some text) = Some (old ++ text)
 
-abbrev pub Puts : {U : Type 0} → Result U WriteError → List ℕ → List ℕ → Option (List ℕ) → Type 0
-Puts (Ok _) old new text = behind old text ≡ Some new
-Puts (Err errors.Memory) old new text = Unit {0}
-Puts (Err errors.Unspelled) old new text = text ≡ None
+abbrev pub PutsBehind : {U : Type 0} → Result U WriteError → List ℕ → List ℕ → Option (List ℕ) → Type 0
+PutsBehind (Ok _) old new text = behind old text ≡ Some new
+PutsBehind (Err errors.Memory) old new text = Unit {0}
+PutsBehind (Err errors.Unspelled) old new text = text ≡ None

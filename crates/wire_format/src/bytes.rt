@@ -4,7 +4,7 @@ ghost use Rattle.std.specs.Prelude.{◌≡◌};
 ghost use Rattle.std.specs.List.{list_all};
 ghost use Rattle.wire_format.specs.Format.{Gives, byte_between, run, is_from};
 
-use crate::fault::{Fault, ReadError, Stop, Wanted};
+use crate::fault::{Fault, MissingBytes, ReadError, ReadStop};
 use crate::word::one_more;
 
 /// A byte from `low` to `high`; any other is `BadValue`.
@@ -14,7 +14,7 @@ pub fn byte_between(bytes: &[u8], low: u8, high: u8) -> Result<(u8, &[u8]), Read
     match bytes {
         [b, rest @ ..] => {
             if *b < low || high < *b {
-                Err(ReadError::Stop(Stop::Bad(Fault::BadValue)))
+                Err(ReadError::Stop(ReadStop::Bad(Fault::BadValue)))
             } else {
                 Ok((*b, rest))
             }
@@ -36,18 +36,18 @@ pub fn run(bytes: &[u8], least: u8, count: usize) -> Result<(&[u8], &[u8]), Read
 {
     if bytes.len() < count {
         if !all_from(bytes, least) {
-            return Err(ReadError::Stop(Stop::Bad(Fault::BadValue)));
+            return Err(ReadError::Stop(ReadStop::Bad(Fault::BadValue)));
         }
-        let wanted = Wanted {
+        let wanted = MissingBytes {
             count: count - bytes.len(),
             least,
         };
-        return Err(ReadError::Stop(Stop::More(wanted)));
+        return Err(ReadError::Stop(ReadStop::More(wanted)));
     }
     let (front, rest) = bytes.split_at(count);
     if all_from(front, least) {
         Ok((front, rest))
     } else {
-        Err(ReadError::Stop(Stop::Bad(Fault::BadValue)))
+        Err(ReadError::Stop(ReadStop::Bad(Fault::BadValue)))
     }
 }

@@ -28,7 +28,7 @@ const _: () = prove!(Fault::TooLong as u32 == 3);
 /// The bytes that are wanted at the least: there is no value before so many more have come, and until
 /// then there is a fault only at a byte below `least`.
 #[derive(Clone, Copy, Debug, PartialEq, Eq)]
-pub struct Wanted {
+pub struct MissingBytes {
     /// How many, 1 at the least.
     pub count: usize,
     pub least: u8,
@@ -36,10 +36,10 @@ pub struct Wanted {
 
 /// Why reading stops before a value.
 #[derive(Clone, Copy, Debug, PartialEq, Eq, Error)]
-pub enum Stop {
+pub enum ReadStop {
     /// The bytes end inside a value.
     #[error("the bytes end inside a value")]
-    More(Wanted),
+    More(MissingBytes),
     #[error("{0}")]
     Bad(Fault),
 }
@@ -51,7 +51,7 @@ pub enum ReadError {
     #[error("out of memory")]
     Memory,
     #[error("{0}")]
-    Stop(Stop),
+    Stop(ReadStop),
 }
 
 impl From<AllocError> for ReadError {

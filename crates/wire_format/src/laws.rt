@@ -2,12 +2,12 @@
 
 ghost use Rattle.std.specs.Prelude.{◌≡◌, ◌≤◌, ◌++◌, ℕ, List, [], length, Ok, Err};
 ghost use Rattle.wire_format.specs.declared.fault.Fault.{Fault as AnyFault};
-ghost use Rattle.wire_format.specs.declared.fault.Wanted.{Wanted as AnyWanted};
-ghost use Rattle.wire_format.specs.declared.fault.Stop.TheVariants.{More, Bad};
-ghost use Rattle.wire_format.specs.Format.{Format, IsBytes, done, refused, after, places, byte_between, run};
-ghost use Rattle.wire_format.specs.Kind.{Kind, IsKind, word_of_kind, between};
-ghost use Rattle.wire_format.specs.Lawful.{Takes, IsStillWaiting, still_wanted, Reads, Lawful};
-ghost use Rattle.wire_format.specs.Limit.{limited, WantsMore, IsNoStart, IsFirstFault};
+ghost use Rattle.wire_format.specs.declared.fault.MissingBytes.{MissingBytes as AnyWanted};
+ghost use Rattle.wire_format.specs.declared.fault.ReadStop.TheVariants.{More, Bad};
+ghost use Rattle.wire_format.specs.Format.{Format, IsBytes, pure_format, fail_format, after, places, byte_between, run};
+ghost use Rattle.wire_format.specs.WordKinds.{WordKind, IsKind, word_of_kind, between};
+ghost use Rattle.wire_format.specs.Lawful.{SpellsFront, IsStillWaiting, still_missing, ReaderIsExact, Lawful};
+ghost use Rattle.wire_format.specs.Limit.{limited_format, NeedsMore, IsNoStart, IsFirstFault};
 
 use crate::fault::Fault;
 
@@ -15,18 +15,18 @@ use crate::fault::Fault;
 pub trait Readable {
     ghost format: { Format Self };
 
-    ghost reads: { Reads format };
+    ghost reads: { ReaderIsExact format };
 }
 
 /// Values with a lawful format: one that spells something.
-pub trait Spelled {
+pub trait HasSpelling {
     ghost format: { Format Self };
 
     ghost lawful: { Lawful format };
 }
 
 /// Values with a lawful format behind each value of another type.
-pub trait SpelledBehind<A> {
+pub trait HasSpellingBehind<A> {
     ghost formats: { A → Format Self };
 
     ghost lawful: { (a : A) → Lawful (formats a) };
@@ -34,7 +34,7 @@ pub trait SpelledBehind<A> {
 
 /// Values that a kind of words stands for.
 pub trait KindOfWord: Sized {
-    ghost kind: { Kind Self };
+    ghost kind: { WordKind Self };
 
     ghost lawful: { IsKind kind };
 }
@@ -57,21 +57,21 @@ pub fn one_fault_stands_first<A: Readable>()
 
 /// Nothing is a lawful format of a value that is known.
 pub fn nothing_is_lawful<A>()
-    ensures { (a : A) → Lawful (done a) }
+    ensures { (a : A) → Lawful (pure_format a) }
 {}
 
 /// A format that spells nothing meets the laws of reading.
 pub fn what_is_refused_reads<A>(fault: Fault)
-    ensures { Reads (refused {A = A} fault) }
+    ensures { ReaderIsExact (fail_format {A = A} fault) }
 {}
 
 /// One after another is a lawful format, where both are.
-pub fn one_after_another_is_lawful<A: Spelled, B: SpelledBehind<A>>()
+pub fn one_after_another_is_lawful<A: HasSpelling, B: HasSpellingBehind<A>>()
     ensures { Lawful (after A.format B.formats) }
 {}
 
 /// A value at each of `count` places is a lawful format.
-pub fn values_at_places_are_lawful<A: Spelled>(count: u32)
+pub fn values_at_places_are_lawful<A: HasSpelling>(count: u32)
     ensures { Lawful (places count A.format) }
 {}
 
@@ -100,21 +100,21 @@ pub fn runs_are_lawful(least: u8, count: usize)
 /// Reading at most `limit` bytes: the laws of reading, with what a limit makes of them.
 pub fn reading_keeps_a_limit<A: Readable>(limit: usize)
     // What is read is spelled within the limit, and the rest stands behind it.
-    ensures sound { (bytes rest : List ℕ) (a : A) → IsBytes bytes → (limited limit A.format).read bytes ≡ Ok (a, rest)
-        → Takes (limited limit A.format) bytes rest a }
+    ensures sound { (bytes rest : List ℕ) (a : A) → IsBytes bytes → (limited_format limit A.format).read bytes ≡ Ok (a, rest)
+        → SpellsFront (limited_format limit A.format) bytes rest a }
     // What is spelled within the limit is read, whatever follows.
-    ensures complete { (text rest : List ℕ) (a : A) → (limited limit A.format).spells text a
-        → (limited limit A.format).read (text ++ rest) ≡ Ok (a, rest) }
+    ensures complete { (text rest : List ℕ) (a : A) → (limited_format limit A.format).spells text a
+        → (limited_format limit A.format).read (text ++ rest) ≡ Ok (a, rest) }
     // More is wanted only within the limit, where some continuation is spelled.
-    ensures more { (bytes : List ℕ) (wanted : AnyWanted) → IsBytes bytes → (limited limit A.format).read bytes ≡ Err (More wanted)
-        → WantsMore limit A.format bytes }
+    ensures more { (bytes : List ℕ) (wanted : AnyWanted) → IsBytes bytes → (limited_format limit A.format).read bytes ≡ Err (More wanted)
+        → NeedsMore limit A.format bytes }
     // Until as many bytes as are wanted have come, nothing else is to be told, unless one is below the least.
-    ensures waits { (bytes more : List ℕ) (wanted : AnyWanted) → IsBytes (bytes ++ more) → (limited limit A.format).read bytes ≡ Err (More wanted)
+    ensures waits { (bytes more : List ℕ) (wanted : AnyWanted) → IsBytes (bytes ++ more) → (limited_format limit A.format).read bytes ≡ Err (More wanted)
         → IsStillWaiting wanted more → length (bytes ++ more) ≤ limit
-        → (limited limit A.format).read (bytes ++ more) ≡ Err (More (still_wanted wanted (length more))) }
+        → (limited_format limit A.format).read (bytes ++ more) ≡ Err (More (still_missing wanted (length more))) }
     // A fault comes only where no front is a spelling, and the bytes are past the limit or begin none.
-    ensures bad { (bytes : List ℕ) (fault : AnyFault) → (limited limit A.format).read bytes ≡ Err (Bad fault) → IsNoStart limit A.format bytes }
+    ensures bad { (bytes : List ℕ) (fault : AnyFault) → (limited_format limit A.format).read bytes ≡ Err (Bad fault) → IsNoStart limit A.format bytes }
     // It is that of the first word or byte at which no spelling stands.
-    ensures first { (bytes : List ℕ) (fault : AnyFault) → IsBytes bytes → (limited limit A.format).read bytes ≡ Err (Bad fault)
+    ensures first { (bytes : List ℕ) (fault : AnyFault) → IsBytes bytes → (limited_format limit A.format).read bytes ≡ Err (Bad fault)
         → IsFirstFault limit A.format bytes fault }
 {}

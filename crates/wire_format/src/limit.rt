@@ -3,7 +3,7 @@
 ghost use Rattle.std.specs.Prelude.{◌≡◌, ◌≤◌, ◌++◌, ℕ, List, take, drop, length};
 ghost use Rattle.wire_format.specs.Limit.{past_limit_error};
 
-use crate::fault::{Fault, ReadError, Stop};
+use crate::fault::{Fault, ReadError, ReadStop};
 
 /// The bytes up to a limit.
 pub fn front(bytes: &[u8], limit: usize) -> &[u8]
@@ -16,7 +16,7 @@ pub fn front(bytes: &[u8], limit: usize) -> &[u8]
 }
 
 /// How many bytes stand before the rest of them.
-pub fn used(bytes: &[u8], rest: &[u8]) -> usize
+pub fn used_bytes(bytes: &[u8], rest: &[u8]) -> usize
     requires { (text : List ℕ) × (bytes.now ≡ text ++ rest.now) }
     ensures within { result ≤ length bytes.now }
     ensures rest { drop result bytes.now ≡ rest.now }
@@ -29,7 +29,9 @@ pub fn past_limit(error: ReadError, past: bool) -> ReadError
     ensures { result ≡ past_limit_error past error }
 {
     match error {
-        ReadError::Stop(Stop::More(_)) if past => ReadError::Stop(Stop::Bad(Fault::TooLong)),
+        ReadError::Stop(ReadStop::More(_)) if past => ReadError::Stop(ReadStop::Bad(
+            Fault::TooLong,
+        )),
         _ => error,
     }
 }

@@ -2,7 +2,7 @@
 
 ghost use Rattle.std.specs.Prelude.{◌≡◌, length, IfOk};
 ghost use Rattle.wire_format.specs.Format.{Format, Gives, places};
-ghost use Rattle.wire_format.specs.Writer.{Writer, Puts, write_places};
+ghost use Rattle.wire_format.specs.Writer.{Writer, PutsBehind, write_places};
 
 use crate::fault::{ReadError, WriteError};
 use std::alloc::Global;
@@ -51,7 +51,7 @@ pub trait Encoder {
 
     /// Writes the value's text behind the bytes, or says that it has none.
     fn put(out: &mut Vec<u8>, value: &Self::Value) -> Result<(), WriteError>
-        ensures { Puts result out.old.items out.new.items (writer.text value.now) };
+        ensures { PutsBehind result out.old.items out.new.items (writer.text value.now) };
 }
 
 /// Whether one of the values passes a limit.
@@ -68,7 +68,7 @@ pub fn is_any_long<E: Encoder>(values: &[E::Value]) -> bool
 
 /// Writes the values one after another.
 pub fn put_all<E: Encoder>(out: &mut Vec<u8>, values: &[E::Value]) -> Result<(), WriteError>
-    ensures { Puts result out.old.items out.new.items ((write_places (length values.now) E.writer).text values.now) }
+    ensures { PutsBehind result out.old.items out.new.items ((write_places (length values.now) E.writer).text values.now) }
 {
     for value in values {
         E::put(out, value)?;

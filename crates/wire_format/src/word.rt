@@ -2,9 +2,9 @@
 
 ghost use Rattle.std.specs.Prelude.{◌≡◌};
 ghost use Rattle.wire_format.specs.Format.{Gives, one_byte};
-ghost use Rattle.wire_format.specs.Kind.{word_of_kind, between, split, split_view, stop_of};
+ghost use Rattle.wire_format.specs.WordKinds.{word_of_kind, between, split_at_word, split_view, stop_of};
 
-use crate::fault::{Fault, ReadError, Stop, Wanted};
+use crate::fault::{Fault, MissingBytes, ReadError, ReadStop};
 
 /// The front of bytes, up to a word.
 pub enum Word<'a> {
@@ -16,7 +16,7 @@ pub enum Word<'a> {
 
 /// The first word of the bytes, or which words they begin.
 pub fn split_word(bytes: &[u8]) -> Word<'_>
-    ensures { split_view result ≡ split bytes.now }
+    ensures { split_view result ≡ split_at_word bytes.now }
 {
     match bytes {
         [a, b, c, d, rest @ ..] => Word::Whole(u32::from_be_bytes([*a, *b, *c, *d]), rest),
@@ -37,10 +37,10 @@ pub fn split_word(bytes: &[u8]) -> Word<'_>
 }
 
 /// One more byte, whichever.
-pub fn one_more() -> Stop
-    ensures { result ≡ Stop.More one_byte }
+pub fn one_more() -> ReadStop
+    ensures { result ≡ ReadStop.More one_byte }
 {
-    Stop::More(Wanted { count: 1, least: 0 })
+    ReadStop::More(MissingBytes { count: 1, least: 0 })
 }
 
 /// Why fewer bytes than a word give none, by their fault, if they have one.
@@ -48,7 +48,7 @@ pub fn part_stops(fault: Option<Fault>) -> ReadError
     ensures { result ≡ ReadError.Stop (stop_of fault) }
 {
     match fault {
-        Some(fault) => ReadError::Stop(Stop::Bad(fault)),
+        Some(fault) => ReadError::Stop(ReadStop::Bad(fault)),
         None => ReadError::Stop(one_more()),
     }
 }
@@ -65,7 +65,7 @@ pub fn word_between(
     match split_word(bytes) {
         Word::Whole(n, rest) => {
             if n < low || high < n {
-                Err(ReadError::Stop(Stop::Bad(fault)))
+                Err(ReadError::Stop(ReadStop::Bad(fault)))
             } else {
                 Ok((n, rest))
             }

@@ -3,8 +3,8 @@
 ghost use Rattle.std.specs.Prelude.{◌≡◌, ◌++◌, OnOk};
 ghost use Rattle.std.specs.Int.{w32, to_be_bytes};
 ghost use Rattle.std.specs.List.{list_all};
-ghost use Rattle.wire_format.specs.Kind.{between};
-ghost use Rattle.wire_format.specs.Writer.{Puts, write_word, write_byte, write_run, may_run};
+ghost use Rattle.wire_format.specs.WordKinds.{between};
+ghost use Rattle.wire_format.specs.Writer.{PutsBehind, write_word, write_byte, write_run, may_run};
 
 use crate::bytes::all_from;
 use crate::fault::{Fault, WriteError};
@@ -33,7 +33,7 @@ pub fn put_word_between(
     high: u32,
     fault: Fault,
 ) -> Result<(), WriteError>
-    ensures { Puts result out.old.items out.new.items ((write_word (between low high fault) (λ n. n)).text n) }
+    ensures { PutsBehind result out.old.items out.new.items ((write_word (between low high fault) (λ n. n)).text n) }
 {
     let _fault = fault;
     if n < low || high < n {
@@ -45,7 +45,7 @@ pub fn put_word_between(
 
 /// Writes a byte from `low` to `high`.
 pub fn put_byte_between(out: &mut Vec<u8>, b: u8, low: u8, high: u8) -> Result<(), WriteError>
-    ensures { Puts result out.old.items out.new.items ((write_byte low high).text b) }
+    ensures { PutsBehind result out.old.items out.new.items ((write_byte low high).text b) }
 {
     if b < low || high < b {
         return Err(WriteError::Unspelled);
@@ -63,7 +63,7 @@ fn may_all_run(bytes: &[u8], least: u8) -> bool
 
 /// Writes a run of `count` bytes, none of them below `least`.
 pub fn put_run(out: &mut Vec<u8>, bytes: &[u8], least: u8, count: usize) -> Result<(), WriteError>
-    ensures { Puts result out.old.items out.new.items ((write_run least count).text bytes.now) }
+    ensures { PutsBehind result out.old.items out.new.items ((write_run least count).text bytes.now) }
 {
     if !may_all_run(bytes, least) || bytes.len() != count {
         return Err(WriteError::Unspelled);

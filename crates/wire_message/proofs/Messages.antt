@@ -2,19 +2,19 @@
 use Rattle.std.proofs.Common.{◌≡◌, ℕ, zero, suc, ◌-◌, ◌/◌, ◌^◌, ◌≤◌, ◌<◌, List, Ok, arith}
 use Rattle.std.proofs.lemmas.Bool.Decides.{nat_tests}
 use Rattle.wire_format.specs.declared.fault.Fault.TheVariants.{BadCode, BadValue, TooLong}
-use Rattle.wire_format.specs.Format.{Format, made}
-use Rattle.wire_format.specs.Kind.{between}
-use Rattle.wire_format.specs.Lawful.{Reads, Lawful}
+use Rattle.wire_format.specs.Format.{Format, map_format}
+use Rattle.wire_format.specs.WordKinds.{between}
+use Rattle.wire_format.specs.Lawful.{ReaderIsExact, Lawful}
 use Rattle.wire_format.proofs.Combining.{refused-reads, done-laws, after-laws, after-spelled-laws, places-laws}
 use Rattle.wire_format.proofs.Words.{kind-laws, between-kind}
 use Rattle.wire_format.proofs.Runs.{byte-laws, run-laws}
 use Rattle.wire_message.specs.declared.message.Procedure.{Procedure}
 use Rattle.wire_message.specs.declared.message.Procedure.TheVariants as procedures
 use Rattle.wire_message.specs.Kinds.{length_from, words_size, at_least, order}
-use Rattle.wire_message.specs.Message.{from_to, word, up_to, signed_word, status, text_of, string, device, next_device, last_device_of, last_device, devices_of, devices, range, word_list, entry, last_entry_of, last_entry, only_entry, no_entry, Last, Entry, Null, Either, last_of, last_in, string_list, constraint_of, constraint, descriptor, next_descriptor, descriptors, words_value, bytes_value, value_of, kind_at, arguments, procedure_at, request, params, reply}
+use Rattle.wire_message.specs.Message.{from_to, word, up_to, signed_word, status, text_format_of, string, device, next_device, last_device_of, last_device, devices_of, devices, range, word_list, entry, last_entry_of, last_entry, only_entry, no_entry, Last, Entry, Null, Either, last_of, last_in, string_list, constraint_of, constraint, descriptor, next_descriptor, descriptors, words_value, bytes_value, value_of, kind_at, arguments, procedure_at, request, params, reply}
 use Rattle.wire_message.proofs.TheKinds.{length_kind, size_kind, at_least_kind, order_kind}
 
-made-laws : {A B : Type 0} (make : A → B) (F : Format A) → Lawful F → Lawful (made make F)
+made-laws : {A B : Type 0} (make : A → B) (F : Format A) → Lawful F → Lawful (map_format make F)
 made-laws make F f = after-laws F _ f (λ a. done-laws (make a))
 
 from_to_laws : (low high : ℕ) → low ≤ high → low < 2 ^ 32 → Lawful (from_to low high)
@@ -32,8 +32,8 @@ up_to_laws high = kind-laws (between 0 high TooLong) (between-kind 0 high TooLon
 pub status_laws : Lawful status
 status_laws = made-laws _ _ (from_to_laws 0 11 (omega arith) (omega arith))
 
-text_laws : (n : ℕ) → Lawful (text_of n)
-unfolding text_of
+text_laws : (n : ℕ) → Lawful (text_format_of n)
+unfolding text_format_of
 text_laws zero = done-laws _
 text_laws (suc n) = after-laws _ _ (run-laws 1 n (omega arith)) (λ text. made-laws _ _ (byte-laws 0 0 (omega arith) (omega arith)))
 
@@ -177,7 +177,7 @@ unfolding params
 params_laws = after-laws _ _ (from_to_laws 0 4 (omega arith) (omega arith)) (λ format. after-laws _ _ word_laws (λ last. after-laws _ _ word_laws (λ bytes. after-laws _ _ word_laws (λ pixels.
     after-laws _ _ word_laws (λ lines. made-laws _ _ word_laws)))))
 
-pub reply_reads : (p : Procedure) → Reads (reply p)
+pub reply_reads : (p : Procedure) → ReaderIsExact (reply p)
 unfolding reply
 reply_reads procedures.Init = (after-laws _ _ status_laws (λ s. made-laws _ _ word_laws)).reads
 reply_reads procedures.GetDevices = (after-laws _ _ status_laws (λ s. made-laws _ _ devices_laws)).reads

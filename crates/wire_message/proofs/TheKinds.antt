@@ -3,7 +3,7 @@ use Rattle.std.proofs.Common.{◌≡◌, ℕ, ◌+◌, ◌*◌, ◌%◌, ◌^◌
 use Rattle.std.proofs.lemmas.Bool.{cases_lt, lt-ltb, le-ltb, eq-eqb}
 use Rattle.std.proofs.lemmas.Bool.Decides.{nat_tests}
 use Rattle.wire_format.specs.declared.fault.Fault.{Fault}
-use Rattle.wire_format.specs.Kind.{Among, IsKind}
+use Rattle.wire_format.specs.WordKinds.{Among, IsKind}
 use Rattle.sane_fixed.specs.declared.byte_order.ByteOrder.TheVariants.{Little, Big}
 use Rattle.wire_message.specs.Kinds.{length_from, words_size, place, at_least, order}
 

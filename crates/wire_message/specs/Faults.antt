@@ -1,8 +1,8 @@
 -- A fault of a format, as messages have it.
 use Rattle.wire_format.specs.declared.fault.Fault.{Fault}
 use Rattle.wire_format.specs.declared.fault.Fault.TheVariants as faults
-use Rattle.wire_message.specs.declared.fault.WireFault.{WireFault}
-use Rattle.wire_message.specs.declared.fault.WireFault.TheVariants as wire
+use Rattle.wire_message.specs.declared.message_fault.WireFault.{WireFault}
+use Rattle.wire_message.specs.declared.message_fault.WireFault.TheVariants as wire
 
 abbrev pub wire_fault : Fault → WireFault
 wire_fault faults.BadCode = wire.BadCode

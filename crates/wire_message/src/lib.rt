@@ -2,12 +2,12 @@
 #![tactic(auto)]
 
 mod array;
-mod fault;
 mod laws;
 mod message;
+mod message_fault;
 
 pub use array::Array;
 pub use device_api::DeviceInfo;
-pub use fault::WireFault;
 pub use laws::{replies_are_spelled_apart, requests_are_spelled_apart};
-pub use message::{Action, MESSAGE_LIMIT, Procedure, Reply, Request, WireValue};
+pub use message::{ControlAction, MESSAGE_LIMIT, Procedure, Reply, Request, WireValue};
+pub use message_fault::WireFault;

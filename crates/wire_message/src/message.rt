@@ -26,7 +26,7 @@ pub enum Procedure {
 
 /// What is done with an option.
 #[derive(Clone, Copy, Debug, PartialEq, Eq)]
-pub enum Action {
+pub enum ControlAction {
     GetValue = 0,
     SetValue = 1,
 }
@@ -59,7 +59,7 @@ pub enum Request {
     ControlOption {
         device: u32,
         option: u32,
-        action: Action,
+        action: ControlAction,
         kind: Kind,
         value: WireValue,
     },

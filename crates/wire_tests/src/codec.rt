@@ -115,7 +115,7 @@ fn no_devices_in_both_spellings(rt: HostRuntime) {
 }
 
 /// The fields of a request about an option, and the only word of its value.
-fn option_fields(request: &Request) -> Option<(u32, u32, Action, Kind, Option<u32>)> {
+fn option_fields(request: &Request) -> Option<(u32, u32, ControlAction, Kind, Option<u32>)> {
     match request {
         Request::ControlOption {
             device,
@@ -159,7 +159,8 @@ const WAS_SET: &[u8] = b"\0\0\0\0\0\0\0\x05\0\0\0\x02\0\0\0\x04\0\0\0\x01\0\x51\
 fn set_of_br_x(rt: HostRuntime) {
     let request = request_by_bytes(rt.alloc(), SET).expect(&rt, "a request");
     assert!(rt;
-        option_fields(&request) == Some((0, 6, Action::SetValue, Kind::Fixed, Some(0x508000)))
+        option_fields(&request)
+            == Some((0, 6, ControlAction::SetValue, Kind::Fixed, Some(0x508000)))
     );
     assert!(rt; goes_round(rt.alloc(), &request, SET));
     drop(request);
@@ -263,7 +264,7 @@ fn requests_of_texts_go_round(rt: HostRuntime) {
 }
 
 /// A request about an option, of that kind and with that value.
-fn about(action: Action, kind: Kind, value: WireValue) -> Request {
+fn about(action: ControlAction, kind: Kind, value: WireValue) -> Request {
     Request::ControlOption {
         device: 1,
         option: 2,
@@ -278,7 +279,7 @@ fn a_value_of_bytes(rt: HostRuntime) {
     let alloc = rt.alloc();
     let bytes = Vec::from_slice(alloc, b"gr\0").expect(&rt, "memory");
     let value = WireValue::Bytes(Array::from_vec(bytes));
-    let get = about(Action::GetValue, Kind::String, value);
+    let get = about(ControlAction::GetValue, Kind::String, value);
     let bytes = b"\0\0\0\x05\0\0\0\x01\0\0\0\x02\0\0\0\0\0\0\0\x03\0\0\0\x03\0\0\0\x03gr\0";
     assert!(rt; rounds(alloc, get, bytes));
 }
@@ -301,7 +302,7 @@ fn long_open(rt: &impl Abort, alloc: Global, count: usize) -> Request {
 fn button(rt: &impl Abort, alloc: Global, count: usize) -> Request {
     let words = vec![in alloc; 0u32; count].expect(rt, "memory");
     let value = WireValue::Words(Array::from_vec(words));
-    about(Action::SetValue, Kind::Button, value)
+    about(ControlAction::SetValue, Kind::Button, value)
 }
 
 #[test]

@@ -12,12 +12,12 @@ struct DigitWord;
 
 impl Reader for DigitWord {
     ghost use Rattle.wire_format.specs.declared.fault.Fault.TheVariants.{BadValue};
-    ghost use Rattle.wire_format.specs.Format.{made};
-    ghost use Rattle.wire_format.specs.Kind.{word_of_kind, between};
+    ghost use Rattle.wire_format.specs.Format.{map_format};
+    ghost use Rattle.wire_format.specs.WordKinds.{word_of_kind, between};
 
     type Value = Digit;
 
-    ghost format = { made (λ n. record { value = n }) (word_of_kind (between 0 9 BadValue)) };
+    ghost format = { map_format (λ n. record { value = n }) (word_of_kind (between 0 9 BadValue)) };
 
     fn read(_alloc: Global, bytes: &[u8]) -> Result<(Digit, &[u8]), ReadError> {
         let (value, rest) = word_between(bytes, 0, 9, Fault::BadValue)?;
@@ -27,7 +27,7 @@ impl Reader for DigitWord {
 
 impl Encoder for DigitWord {
     ghost use Rattle.wire_format.specs.declared.fault.Fault.TheVariants.{BadValue};
-    ghost use Rattle.wire_format.specs.Kind.{between};
+    ghost use Rattle.wire_format.specs.WordKinds.{between};
     ghost use Rattle.wire_format.specs.Writer.{write_by, write_word};
 
     type Value = Digit;
@@ -53,11 +53,11 @@ struct Pair {
 struct PairOfWords;
 
 impl Reader for PairOfWords {
-    ghost use Rattle.wire_format.specs.Format.{after, made};
+    ghost use Rattle.wire_format.specs.Format.{after, map_format};
 
     type Value = Pair;
 
-    ghost format = { after ⟦<DigitWord as Reader>⟧.format (λ first. made (λ second. record { first = first; second = second }) ⟦<DigitWord as Reader>⟧.format) };
+    ghost format = { after ⟦<DigitWord as Reader>⟧.format (λ first. map_format (λ second. record { first = first; second = second }) ⟦<DigitWord as Reader>⟧.format) };
 
     fn read(alloc: Global, bytes: &[u8]) -> Result<(Pair, &[u8]), ReadError> {
         let (first, rest) = DigitWord::read(alloc, bytes)?;
@@ -84,7 +84,7 @@ impl Encoder for PairOfWords {
 }
 
 /// What reading stopped at, with the rest where it did not.
-fn stop_of<T: Drop>(read: Result<(T, &[u8]), ReadError>) -> Option<Stop> {
+fn stop_of<T: Drop>(read: Result<(T, &[u8]), ReadError>) -> Option<ReadStop> {
     match read {
         Err(ReadError::Stop(stop)) => Some(stop),
         Err(ReadError::Memory) => None,
@@ -92,22 +92,22 @@ fn stop_of<T: Drop>(read: Result<(T, &[u8]), ReadError>) -> Option<Stop> {
     }
 }
 
-const ONE: Stop = Stop::More(Wanted { count: 1, least: 0 });
+const ONE: ReadStop = ReadStop::More(MissingBytes { count: 1, least: 0 });
 
 #[test]
 fn a_word_is_judged_inside_it(rt: HostRuntime) {
     assert!(rt; stop_of(word_between(&[], 0, 10, Fault::BadCode)) == Some(ONE));
     assert!(rt; stop_of(word_between(&[0, 0, 0], 0, 10, Fault::BadCode)) == Some(ONE));
     assert!(rt;
-        stop_of(word_between(&[1], 0, 10, Fault::BadCode)) == Some(Stop::Bad(Fault::BadCode))
+        stop_of(word_between(&[1], 0, 10, Fault::BadCode)) == Some(ReadStop::Bad(Fault::BadCode))
     );
     assert!(rt;
         stop_of(word_between(&[0, 0, 0, 11], 0, 10, Fault::BadCode))
-            == Some(Stop::Bad(Fault::BadCode))
+            == Some(ReadStop::Bad(Fault::BadCode))
     );
     assert!(rt;
         stop_of(word_between(&[0, 0, 4, 1], 0, 1024, Fault::TooLong))
-            == Some(Stop::Bad(Fault::TooLong))
+            == Some(ReadStop::Bad(Fault::TooLong))
     );
     match word_between(&[0, 0, 4, 0, 7], 0, 1024, Fault::TooLong) {
         Ok((n, rest)) => {
@@ -121,11 +121,11 @@ fn a_word_is_judged_inside_it(rt: HostRuntime) {
 #[test]
 fn a_byte_and_a_run(rt: HostRuntime) {
     assert!(rt; stop_of(byte_between(&[], 0, 0)) == Some(ONE));
-    assert!(rt; stop_of(byte_between(&[1], 0, 0)) == Some(Stop::Bad(Fault::BadValue)));
+    assert!(rt; stop_of(byte_between(&[1], 0, 0)) == Some(ReadStop::Bad(Fault::BadValue)));
     assert!(rt; byte_between(&[0, 1], 0, 0).is_ok());
-    let wanted = Wanted { count: 2, least: 1 };
-    assert!(rt; stop_of(run(b"us", 1, 4)) == Some(Stop::More(wanted)));
-    assert!(rt; stop_of(run(&[117, 0], 1, 4)) == Some(Stop::Bad(Fault::BadValue)));
+    let wanted = MissingBytes { count: 2, least: 1 };
+    assert!(rt; stop_of(run(b"us", 1, 4)) == Some(ReadStop::More(wanted)));
+    assert!(rt; stop_of(run(&[117, 0], 1, 4)) == Some(ReadStop::Bad(Fault::BadValue)));
     match run(&[117, 115, 101, 114, 0], 1, 4) {
         Ok((front, rest)) => {
             assert!(rt; front == b"user".as_slice());
@@ -155,7 +155,7 @@ fn values_at_places(rt: HostRuntime) -> Result<(), Fail> {
     assert!(rt; stop_of(places::<DigitWord>(rt.alloc(), 2, &bytes[..5])) == Some(ONE));
     assert!(rt;
         stop_of(places::<DigitWord>(rt.alloc(), 2, &[0, 0, 0, 3, 1]))
-            == Some(Stop::Bad(Fault::BadValue))
+            == Some(ReadStop::Bad(Fault::BadValue))
     );
     Ok(())
 }
@@ -182,9 +182,9 @@ fn a_limit(rt: HostRuntime) {
     let bytes = [1, 2, 3];
     assert!(rt; front(&bytes, 2) == [1, 2].as_slice());
     assert!(rt; front(&bytes, 4) == bytes.as_slice());
-    assert!(rt; used(&bytes, &bytes[1..]) == 1);
+    assert!(rt; used_bytes(&bytes, &bytes[1..]) == 1);
     let past: Result<((), &[u8]), ReadError> = Err(past_limit(ReadError::Stop(ONE), true));
-    assert!(rt; stop_of(past) == Some(Stop::Bad(Fault::TooLong)));
+    assert!(rt; stop_of(past) == Some(ReadStop::Bad(Fault::TooLong)));
     let within: Result<((), &[u8]), ReadError> = Err(past_limit(ReadError::Stop(ONE), false));
     assert!(rt; stop_of(within) == Some(ONE));
 }

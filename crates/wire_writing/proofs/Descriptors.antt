@@ -3,8 +3,8 @@ use Rattle.std.proofs.Common.{◌≡◌, ◌≢◌, ℕ, zero, suc, ◌≤◌, �
 use Rattle.std.specs.Prelude.{nat_lt}
 use Rattle.std.specs.Int.{w32, to_be_bytes}
 use Rattle.std.proofs.lemmas.Bool.{cases_lt, lt-ltb, le-ltb, eqb-true, eq-eqb}
-use Rattle.wire_format.specs.Format.{Format, after, made, places}
-use Rattle.wire_format.specs.Writer.{Writes, joined}
+use Rattle.wire_format.specs.Format.{Format, after, map_format, places}
+use Rattle.wire_format.specs.Writer.{WritesFormat, append_text}
 use Rattle.sane_fixed.specs.Kind.{kind_code}
 use Rattle.sane_fixed.specs.Unit.{unit_code}
 use Rattle.sane_fixed.specs.FrameFormat.{frame_format_code}
@@ -18,8 +18,8 @@ use Rattle.sane_fixed.specs.declared.params.Params.{Params}
 use Rattle.option_desc.specs.declared.descriptor.Constraint.{Constraint}
 use Rattle.option_desc.specs.declared.descriptor.Descriptor.{Descriptor}
 use Rattle.wire_message.specs.Message.{from_to, word, string, is_set, kind_at, unit_at, frame_at, lines_at, constraint, descriptor, next_descriptor, descriptors, params}
-use Rattle.wire_writing.specs.Written.{write_any, write_string, code_text}
-use Rattle.wire_writing.specs.WrittenReplies.{constraint_long, constraint_text, size_text, kind_text, write_descriptor, write_descriptors, flag_code, lines_text, params_text}
+use Rattle.wire_writing.specs.RequestWriting.{write_any, write_string, code_text}
+use Rattle.wire_writing.specs.ReplyWriting.{constraint_long, constraint_text, size_text, kind_text, write_descriptor, write_descriptors, flag_code, lines_text, params_text}
 use Rattle.wire_writing.proofs.Spelled.{any-writes, any_short}
 use Rattle.wire_writing.proofs.Devices.{string_at, length_spelled}
 use Rattle.wire_writing.proofs.Options.{constraint_at}
@@ -84,7 +84,7 @@ frame_again frames.Blue = (refl, omega arith)
 -- behind a code that tells what it stands for
 behind_code : {A B : Type 0} (high : ℕ) (at : ℕ → A) (number : A → ℕ) (G : ℕ → Format B) (tells : B → A) (code : ℕ) (b : B) (long : Bool) (text : Option (List ℕ)) → code ≤ high → high < 2 ^ 32
     → ((n : ℕ) → n ≤ high → number (at n) ≡ n) → ((n : ℕ) (k : List ℕ) → (G n).spells k b → at n ≡ tells b) → number (tells b) ≡ code → At (G code) long text b
-    → At (after (from_to 0 high) G) long (joined (code_text code) text) b
+    → At (after (from_to 0 high) G) long (append_text (code_text code) text) b
 behind_code high at number G tells code b long text le small again told is g =
     behind_front (from_to 0 high) G (to_be_bytes w32 code) code b long text (word_spelled 0 high code (omega arith) le (omega (arith, le, small))) g
     (λ x f k s t.
@@ -97,12 +97,12 @@ abbrev with_codes : ℕ → ℕ → Descriptor → Descriptor
 with_codes k u d = record { name = d.name; title = d.title; about = d.about; kind = kind_at k; unit = unit_at u; size = d.size; caps = record { 0 = d.caps.0 }; constraint = d.constraint }
 
 numbers_at : (k u : ℕ) (d : Descriptor)
-    → At (after word (λ size. after word (λ caps. made (λ c. record { name = d.name; title = d.title; about = d.about; kind = kind_at k; unit = unit_at u; size = size; caps = record { 0 = caps }; constraint = c }) constraint)))
+    → At (after word (λ size. after word (λ caps. map_format (λ c. record { name = d.name; title = d.title; about = d.about; kind = kind_at k; unit = unit_at u; size = size; caps = record { 0 = caps }; constraint = c }) constraint)))
     (constraint_long d.constraint) (size_text d) (with_codes k u d)
 numbers_at k u d =
-    first_at word (λ size. after word (λ caps. made (λ c. record { name = d.name; title = d.title; about = d.about; kind = kind_at k; unit = unit_at u; size = size; caps = record { 0 = caps }; constraint = c }) constraint))
-    d.size (with_codes k u d) false (constraint_long d.constraint) (write_any.text d.size) (joined (write_any.text d.caps.0) (constraint_text d.constraint)) (any_at d.size)
-    (first_at word (λ caps. made (λ c. record { name = d.name; title = d.title; about = d.about; kind = kind_at k; unit = unit_at u; size = d.size; caps = record { 0 = caps }; constraint = c }) constraint)
+    first_at word (λ size. after word (λ caps. map_format (λ c. record { name = d.name; title = d.title; about = d.about; kind = kind_at k; unit = unit_at u; size = size; caps = record { 0 = caps }; constraint = c }) constraint))
+    d.size (with_codes k u d) false (constraint_long d.constraint) (write_any.text d.size) (append_text (write_any.text d.caps.0) (constraint_text d.constraint)) (any_at d.size)
+    (first_at word (λ caps. map_format (λ c. record { name = d.name; title = d.title; about = d.about; kind = kind_at k; unit = unit_at u; size = d.size; caps = record { 0 = caps }; constraint = c }) constraint)
     d.caps.0 (with_codes k u d) false (constraint_long d.constraint) (write_any.text d.caps.0) (constraint_text d.constraint) (any_at d.caps.0)
     (made_at (λ (c : Constraint). record { name = d.name; title = d.title; about = d.about; kind = kind_at k; unit = unit_at u; size = d.size; caps = record { 0 = d.caps.0 }; constraint = c }) constraint d.constraint (constraint_long d.constraint) (constraint_text d.constraint) (constraint_at d.constraint)
     (λ x e. sym (ap (λ (y : Descriptor). y.constraint) e)))
@@ -110,17 +110,17 @@ numbers_at k u d =
     (λ x n s. sym (ap (λ (y : Descriptor). y.size) s.behind.behind.1))
 
 abbrev behind_unit : Descriptor → ℕ → ℕ → Format Descriptor
-behind_unit d k u = after word (λ size. after word (λ caps. made (λ c. record { name = d.name; title = d.title; about = d.about; kind = kind_at k; unit = unit_at u; size = size; caps = record { 0 = caps }; constraint = c }) constraint))
+behind_unit d k u = after word (λ size. after word (λ caps. map_format (λ c. record { name = d.name; title = d.title; about = d.about; kind = kind_at k; unit = unit_at u; size = size; caps = record { 0 = caps }; constraint = c }) constraint))
 
-unit_at_value : (k u : ℕ) (d : Descriptor) → u ≤ 6 → At (after (from_to 0 6) (behind_unit d k)) (constraint_long d.constraint) (joined (code_text u) (size_text d)) (with_codes k u d)
+unit_at_value : (k u : ℕ) (d : Descriptor) → u ≤ 6 → At (after (from_to 0 6) (behind_unit d k)) (constraint_long d.constraint) (append_text (code_text u) (size_text d)) (with_codes k u d)
 unit_at_value k u d le =
     behind_code 6 unit_at unit_code (behind_unit d k) (λ (y : Descriptor). y.unit) u (with_codes k u d) (constraint_long d.constraint) (size_text d) le (omega arith) unit_number
     (λ n t s. sym (ap (λ (y : Descriptor). y.unit) s.behind.behind.behind.1)) (unit_number u le) (numbers_at k u d)
 
 kind_at_value : (k u : ℕ) (d : Descriptor) → k ≤ 5 → u ≤ 6
-    → At (after (from_to 0 5) (λ n. after (from_to 0 6) (behind_unit d n))) (constraint_long d.constraint) (joined (code_text k) (joined (code_text u) (size_text d))) (with_codes k u d)
+    → At (after (from_to 0 5) (λ n. after (from_to 0 6) (behind_unit d n))) (constraint_long d.constraint) (append_text (code_text k) (append_text (code_text u) (size_text d))) (with_codes k u d)
 kind_at_value k u d le small =
-    behind_code 5 kind_at kind_code (λ n. after (from_to 0 6) (behind_unit d n)) (λ (y : Descriptor). y.kind) k (with_codes k u d) (constraint_long d.constraint) (joined (code_text u) (size_text d)) le (omega arith) kind_number
+    behind_code 5 kind_at kind_code (λ n. after (from_to 0 6) (behind_unit d n)) (λ (y : Descriptor). y.kind) k (with_codes k u d) (constraint_long d.constraint) (append_text (code_text u) (size_text d)) le (omega arith) kind_number
     (λ n t s. sym (ap (λ (y : Descriptor). y.kind) s.behind.behind.behind.behind.1)) (kind_number k le) (unit_at_value k u d small)
 
 codes_at : (d : Descriptor) → At (after (from_to 0 5) (λ n. after (from_to 0 6) (behind_unit d n))) (constraint_long d.constraint) (kind_text d) d
@@ -133,12 +133,12 @@ codes_at d =
 
 abbrev described : List ℕ → List ℕ → List ℕ → Format Descriptor
 described name title about = after (from_to 0 5) (λ k. after (from_to 0 6) (λ u. after word (λ size. after word (λ caps.
-    made (λ c. record { name = name; title = title; about = about; kind = kind_at k; unit = unit_at u; size = size; caps = record { 0 = caps }; constraint = c }) constraint))))
+    map_format (λ c. record { name = name; title = title; about = about; kind = kind_at k; unit = unit_at u; size = size; caps = record { 0 = caps }; constraint = c }) constraint))))
 
 abbrev four_long : Descriptor → Bool
 four_long d = write_string.long d.name || (write_string.long d.title || (write_string.long d.about || constraint_long d.constraint))
 
-descriptor_at : (d : Descriptor) → At descriptor (four_long d) (joined (write_string.text d.name) (joined (write_string.text d.title) (joined (write_string.text d.about) (kind_text d)))) d
+descriptor_at : (d : Descriptor) → At descriptor (four_long d) (append_text (write_string.text d.name) (append_text (write_string.text d.title) (append_text (write_string.text d.about) (kind_text d)))) d
 unfolding descriptor
 descriptor_at d =
     first_at string (λ name. after string (λ title. after string (λ about. described name title about))) d.name d _ _ _ _ (string_at d.name)
@@ -157,7 +157,7 @@ next_at : (d : Descriptor) → At next_descriptor (four_long d) (write_descripto
 unfolding next_descriptor
 next_at d = behind_front (from_to 0 0) (λ pointer. descriptor) (to_be_bytes w32 0) 0 d (four_long d) _ (word_spelled 0 0 0 (omega arith) (omega arith) (omega arith)) (descriptor_at d) (λ x f k s t. (k, t))
 
-next-descriptor-writes : (d : Descriptor) → Writes next_descriptor write_descriptor d
+next-descriptor-writes : (d : Descriptor) → WritesFormat next_descriptor write_descriptor d
 next-descriptor-writes d = by_value next_descriptor write_descriptor d
     (same_at next_descriptor (four_long d) (write_descriptor.long d) (write_descriptor.text d) (write_descriptor.text d) d (next_at d) (or_four (write_string.long d.name) (write_string.long d.title) (write_string.long d.about) (constraint_long d.constraint)) refl)
 
@@ -201,15 +201,15 @@ abbrev made_of : (FrameFormat → Bool → ℕ → ℕ → Option ℕ → ℕ �
 made_of format last bytes pixels lines depth = record { format = format; last_frame = last; bytes_per_line = bytes; pixels_per_line = pixels; lines = lines; depth = depth }
 
 abbrev behind_pixels : FrameFormat → Bool → ℕ → ℕ → Format Params
-behind_pixels format last bytes pixels = after word (λ lines. made (λ depth. made_of format last bytes pixels (lines_at lines) depth) word)
+behind_pixels format last bytes pixels = after word (λ lines. map_format (λ depth. made_of format last bytes pixels (lines_at lines) depth) word)
 
-depth_at : (format : FrameFormat) (last : Bool) (bytes pixels : ℕ) (lines : Option ℕ) (depth : ℕ) → At (made (λ depth. made_of format last bytes pixels lines depth) word) false (write_any.text depth) (made_of format last bytes pixels lines depth)
+depth_at : (format : FrameFormat) (last : Bool) (bytes pixels : ℕ) (lines : Option ℕ) (depth : ℕ) → At (map_format (λ depth. made_of format last bytes pixels lines depth) word) false (write_any.text depth) (made_of format last bytes pixels lines depth)
 depth_at format last bytes pixels lines depth = made_at (λ d. made_of format last bytes pixels lines d) word depth false (write_any.text depth) (any_at depth) (λ x e. sym (ap (λ (p : Params). p.depth) e))
 
 lines_at_value : (format : FrameFormat) (last : Bool) (bytes pixels : ℕ) (lines : Option ℕ) (depth : ℕ)
-    → At (behind_pixels format last bytes pixels) false (joined (lines_text lines) (write_any.text depth)) (made_of format last bytes pixels lines depth)
+    → At (behind_pixels format last bytes pixels) false (append_text (lines_text lines) (write_any.text depth)) (made_of format last bytes pixels lines depth)
 lines_at_value format last bytes pixels None depth =
-    behind_only word (λ n. made (λ d. made_of format last bytes pixels (lines_at n) d) word) (to_be_bytes w32 4294967295) 4294967295 (made_of format last bytes pixels None depth) false (write_any.text depth)
+    behind_only word (λ n. map_format (λ d. made_of format last bytes pixels (lines_at n) d) word) (to_be_bytes w32 4294967295) 4294967295 (made_of format last bytes pixels None depth) false (write_any.text depth)
     (word_spelled 0 4294967295 4294967295 (omega arith) (omega arith) (omega arith)) (depth_at format last bytes pixels None depth)
     (λ x k s. unknown x (sym (ap (λ (p : Params). p.lines) s.behind.1)))
 lines_at_value format last bytes pixels (Some n) depth =
@@ -229,9 +229,9 @@ lines_at_value format last bytes pixels (Some n) depth =
           let some : lines_text (Some n) ≡ code_text n = rw (low, t) refl in
           let here : lines_at n ≡ Some n = elim (lines_cases n) [ inl h ↦ absurd (omega (arith, le, h.0)) | inr h ↦ h.1 ] in
           rw some
-          (behind_only word (λ m. made (λ d. made_of format last bytes pixels (lines_at m) d) word) (to_be_bytes w32 n) n (made_of format last bytes pixels (Some n) depth) false (write_any.text depth)
+          (behind_only word (λ m. map_format (λ d. made_of format last bytes pixels (lines_at m) d) word) (to_be_bytes w32 n) n (made_of format last bytes pixels (Some n) depth) false (write_any.text depth)
           (word_spelled 0 4294967295 n (omega arith) (omega (arith, le)) (omega (arith, le)))
-          (subst (λ (l : Option ℕ). At (made (λ d. made_of format last bytes pixels l d) word) false (write_any.text depth) (made_of format last bytes pixels (Some n) depth)) (sym here) (depth_at format last bytes pixels (Some n) depth))
+          (subst (λ (l : Option ℕ). At (map_format (λ d. made_of format last bytes pixels l d) word) false (write_any.text depth) (made_of format last bytes pixels (Some n) depth)) (sym here) (depth_at format last bytes pixels (Some n) depth))
           (λ x k s. (known x n (sym (ap (λ (p : Params). p.lines) s.behind.1))).0))
     ]
 
@@ -239,12 +239,12 @@ abbrev behind_flag : FrameFormat → Bool → Format Params
 behind_flag format last = after word (λ bytes. after word (λ pixels. behind_pixels format last bytes pixels))
 
 abbrev counts_text : Params → Option (List ℕ)
-counts_text p = joined (write_any.text p.bytes_per_line) (joined (write_any.text p.pixels_per_line) (joined (lines_text p.lines) (write_any.text p.depth)))
+counts_text p = append_text (write_any.text p.bytes_per_line) (append_text (write_any.text p.pixels_per_line) (append_text (lines_text p.lines) (write_any.text p.depth)))
 
 counts_at : (p : Params) → At (behind_flag p.format p.last_frame) false (counts_text p) p
 counts_at p =
-    first_at word (λ bytes. after word (λ pixels. behind_pixels p.format p.last_frame bytes pixels)) p.bytes_per_line p false false (write_any.text p.bytes_per_line) (joined (write_any.text p.pixels_per_line) (joined (lines_text p.lines) (write_any.text p.depth))) (any_at p.bytes_per_line)
-    (first_at word (λ pixels. behind_pixels p.format p.last_frame p.bytes_per_line pixels) p.pixels_per_line p false false (write_any.text p.pixels_per_line) (joined (lines_text p.lines) (write_any.text p.depth)) (any_at p.pixels_per_line)
+    first_at word (λ bytes. after word (λ pixels. behind_pixels p.format p.last_frame bytes pixels)) p.bytes_per_line p false false (write_any.text p.bytes_per_line) (append_text (write_any.text p.pixels_per_line) (append_text (lines_text p.lines) (write_any.text p.depth))) (any_at p.bytes_per_line)
+    (first_at word (λ pixels. behind_pixels p.format p.last_frame p.bytes_per_line pixels) p.pixels_per_line p false false (write_any.text p.pixels_per_line) (append_text (lines_text p.lines) (write_any.text p.depth)) (any_at p.pixels_per_line)
     (lines_at_value p.format p.last_frame p.bytes_per_line p.pixels_per_line p.lines p.depth)
     (λ x k s. sym (ap (λ (q : Params). q.pixels_per_line) s.behind.behind.1)))
     (λ x k s. sym (ap (λ (q : Params). q.bytes_per_line) s.behind.behind.behind.1))
@@ -253,7 +253,7 @@ flag_again : (b : Bool) → (is_set (flag_code b) ≡ b) × (flag_code b ≤ 1)
 flag_again true = (refl, omega arith)
 flag_again false = (refl, omega arith)
 
-flag_at : (p : Params) → At (after word (λ n. behind_flag p.format (is_set n))) false (joined (code_text (flag_code p.last_frame)) (counts_text p)) p
+flag_at : (p : Params) → At (after word (λ n. behind_flag p.format (is_set n))) false (append_text (code_text (flag_code p.last_frame)) (counts_text p)) p
 flag_at p =
     let again = flag_again p.last_frame in
     behind_front word (λ n. behind_flag p.format (is_set n)) (to_be_bytes w32 (flag_code p.last_frame)) (flag_code p.last_frame) p false (counts_text p)
@@ -267,6 +267,6 @@ pub params_at : (p : Params) → At params false (params_text p) p
 unfolding params
 params_at p =
     let again = frame_again p.format in
-    behind_code 4 frame_at frame_format_code (λ n. after word (λ m. behind_flag (frame_at n) (is_set m))) (λ (q : Params). q.format) (frame_format_code p.format) p false (joined (code_text (flag_code p.last_frame)) (counts_text p)) again.1 (omega arith) frame_number
+    behind_code 4 frame_at frame_format_code (λ n. after word (λ m. behind_flag (frame_at n) (is_set m))) (λ (q : Params). q.format) (frame_format_code p.format) p false (append_text (code_text (flag_code p.last_frame)) (counts_text p)) again.1 (omega arith) frame_number
     (λ n k t. sym (ap (λ (q : Params). q.format) t.behind.behind.behind.behind.behind.1)) refl
-    (subst (λ (f : FrameFormat). At (after word (λ m. behind_flag f (is_set m))) false (joined (code_text (flag_code p.last_frame)) (counts_text p)) p) (sym again.0) (flag_at p))
+    (subst (λ (f : FrameFormat). At (after word (λ m. behind_flag f (is_set m))) false (append_text (code_text (flag_code p.last_frame)) (counts_text p)) p) (sym again.0) (flag_at p))

@@ -4,13 +4,13 @@ use Rattle.std.specs.Int.{w32, to_be_bytes}
 use Rattle.std.proofs.lemmas.Bool.{le-ltb}
 use Rattle.std.proofs.lemmas.List.{append-nil}
 use Rattle.wire_format.specs.declared.fault.Fault.TheVariants.{TooLong}
-use Rattle.wire_format.specs.Format.{after, made, places}
-use Rattle.wire_format.specs.Kind.{between}
-use Rattle.wire_format.specs.Writer.{Writes, joined}
+use Rattle.wire_format.specs.Format.{after, map_format, places}
+use Rattle.wire_format.specs.WordKinds.{between}
+use Rattle.wire_format.specs.Writer.{WritesFormat, append_text}
 use Rattle.device_api.specs.declared.device_info.DeviceInfo.{DeviceInfo}
 use Rattle.wire_message.specs.Message.{from_to, up_to, string, device, next_device, last_device_of, last_device, devices_of, devices}
-use Rattle.wire_writing.specs.Written.{write_string, write_resource, code_text}
-use Rattle.wire_writing.specs.WrittenReplies.{device_text, write_device, write_devices}
+use Rattle.wire_writing.specs.RequestWriting.{write_string, write_resource, code_text}
+use Rattle.wire_writing.specs.ReplyWriting.{device_text, write_device, write_devices}
 use Rattle.wire_writing.proofs.Spelled.{string-writes, resource-writes}
 use Rattle.wire_writing.proofs.AtValue.{At, at_value, by_value, same_at, behind_front, first_at, made_at, word_spelled, if_few, AllSpelled, places_all, all_append, ended_at}
 
@@ -42,19 +42,19 @@ four_long d = write_string.long d.name || (write_string.long d.vendor || (write_
 device_at : (d : DeviceInfo) → At device (four_long d) (device_text d) d
 unfolding device
 device_at d =
-    first_at string (λ name. after string (λ vendor. after string (λ model. made (λ class. record { name = name; vendor = vendor; model = model; class = class }) string))) d.name d _ _ _ _ (string_at d.name)
-    (first_at string (λ vendor. after string (λ model. made (λ class. record { name = d.name; vendor = vendor; model = model; class = class }) string)) d.vendor d _ _ _ _ (string_at d.vendor)
-    (first_at string (λ model. made (λ class. record { name = d.name; vendor = d.vendor; model = model; class = class }) string) d.model d _ _ _ _ (string_at d.model)
+    first_at string (λ name. after string (λ vendor. after string (λ model. map_format (λ class. record { name = name; vendor = vendor; model = model; class = class }) string))) d.name d _ _ _ _ (string_at d.name)
+    (first_at string (λ vendor. after string (λ model. map_format (λ class. record { name = d.name; vendor = vendor; model = model; class = class }) string)) d.vendor d _ _ _ _ (string_at d.vendor)
+    (first_at string (λ model. map_format (λ class. record { name = d.name; vendor = d.vendor; model = model; class = class }) string) d.model d _ _ _ _ (string_at d.model)
     (made_at (λ (class : List ℕ). record { name = d.name; vendor = d.vendor; model = d.model; class = class }) string d.class _ _ (string_at d.class) (λ x e. sym (ap (λ (y : DeviceInfo). y.class) e)))
     (λ x k s. sym (ap (λ (y : DeviceInfo). y.model) s.behind.1)))
     (λ x k s. sym (ap (λ (y : DeviceInfo). y.vendor) s.behind.behind.1)))
     (λ x k s. sym (ap (λ (y : DeviceInfo). y.name) s.behind.behind.behind.1))
 
-next_device_at : (d : DeviceInfo) → At next_device (four_long d) (joined (code_text 0) (device_text d)) d
+next_device_at : (d : DeviceInfo) → At next_device (four_long d) (append_text (code_text 0) (device_text d)) d
 unfolding next_device
 next_device_at d = behind_front (from_to 0 0) (λ pointer. device) (to_be_bytes w32 0) 0 d (four_long d) (device_text d) (word_spelled 0 0 0 (omega arith) (omega arith) (omega arith)) (device_at d) (λ x f k s t. (k, t))
 
-next-device-writes : (d : DeviceInfo) → Writes next_device write_device d
+next-device-writes : (d : DeviceInfo) → WritesFormat next_device write_device d
 next-device-writes d = by_value next_device write_device d
     (same_at next_device (four_long d) (write_device.long d) (write_device.text d) (write_device.text d) d (next_device_at d) (or_four (write_string.long d.name) (write_string.long d.vendor) (write_string.long d.model) (write_string.long d.class)) refl)
 

@@ -6,7 +6,7 @@ use Rattle.option_desc.specs.declared.descriptor.Constraint.{Constraint}
 use Rattle.option_desc.specs.declared.descriptor.Constraint.TheVariants as constraints
 use Rattle.option_desc.specs.declared.descriptor.Descriptor.{Descriptor}
 use Rattle.device_api.specs.declared.device_info.DeviceInfo.{DeviceInfo}
-use Rattle.wire_format.specs.Writer.{Writer, IsLong, is_over, write_places}
+use Rattle.wire_format.specs.Writer.{Writer, IsLong, exceeds, write_places}
 use Rattle.wire_message.specs.Message.{message_limit}
 use Rattle.wire_message.specs.declared.message.WireValue.{WireValue}
 use Rattle.wire_message.specs.declared.message.WireValue.TheVariants as values
@@ -14,9 +14,9 @@ use Rattle.wire_message.specs.declared.message.Request.{Request}
 use Rattle.wire_message.specs.declared.message.Request.TheVariants as requests
 use Rattle.wire_message.specs.declared.message.Reply.{Reply}
 use Rattle.wire_message.specs.declared.message.Reply.TheVariants as replies
-use Rattle.wire_writing.specs.Limits.{PassesLimit, any_passes, constraint_passes, descriptor_passes, device_passes, is_long_text, reply_passes, request_passes, value_passes}
-use Rattle.wire_writing.specs.Written.{value_long, write_request, write_string}
-use Rattle.wire_writing.specs.WrittenReplies.{constraint_long, write_descriptor, write_device, write_reply}
+use Rattle.wire_writing.specs.WireLimits.{PassesLimit, any_passes, constraint_passes, descriptor_passes, device_passes, is_long_text, reply_passes, request_passes, value_passes}
+use Rattle.wire_writing.specs.RequestWriting.{value_long, write_request, write_string}
+use Rattle.wire_writing.specs.ReplyWriting.{constraint_long, write_descriptor, write_device, write_reply}
 use Rattle.wire_writing.proofs.Spelled.{string_long}
 
 -- elements
@@ -71,30 +71,30 @@ reply_same replies.Authorize = refl
 reply_same replies.Exit = refl
 
 -- a message
-over : (text : Option (List ℕ)) → is_over message_limit text ≡ true → (whole : List ℕ) × (text ≡ Some whole) × (1048576 < length whole)
+over : (text : Option (List ℕ)) → exceeds message_limit text ≡ true → (whole : List ℕ) × (text ≡ Some whole) × (1048576 < length whole)
 over (Some text) e = (text, refl, grind (arith, nat_tests))
 over None e = absurd cc
 
-is_over_of : (text : Option (List ℕ)) (whole : List ℕ) → text ≡ Some whole → 1048576 < length whole → is_over message_limit text ≡ true
+is_over_of : (text : Option (List ℕ)) (whole : List ℕ) → text ≡ Some whole → 1048576 < length whole → exceeds message_limit text ≡ true
 is_over_of text whole e l = rw e (grind (arith, nat_tests))
 
-one_of : (part : Bool) (text : Option (List ℕ)) → (part || is_over message_limit text) ≡ true → PassesLimit part text
+one_of : (part : Bool) (text : Option (List ℕ)) → (part || exceeds message_limit text) ≡ true → PassesLimit part text
 one_of true text e = inl refl
 one_of false text e = inr (over text e)
 
-of_one : (part : Bool) (text : Option (List ℕ)) → PassesLimit part text → (part || is_over message_limit text) ≡ true
+of_one : (part : Bool) (text : Option (List ℕ)) → PassesLimit part text → (part || exceeds message_limit text) ≡ true
 of_one true text h = refl
 of_one false text (inl e) = absurd (let clash : false ≡ true = e in cc)
 of_one false text (inr (whole, is, l)) = is_over_of text whole is l
 
 pub request_limits : (r : Request) → IsLong message_limit write_request r ↔ PassesLimit (request_passes r) (write_request.text r)
 request_limits r = (
-  (λ long. one_of (request_passes r) (write_request.text r) (subst (λ (b : Bool). (b || is_over message_limit (write_request.text r)) ≡ true) (request_same r) long)),
-  (λ past. subst (λ (b : Bool). (b || is_over message_limit (write_request.text r)) ≡ true) (sym (request_same r)) (of_one (request_passes r) (write_request.text r) past)),
+  (λ long. one_of (request_passes r) (write_request.text r) (subst (λ (b : Bool). (b || exceeds message_limit (write_request.text r)) ≡ true) (request_same r) long)),
+  (λ past. subst (λ (b : Bool). (b || exceeds message_limit (write_request.text r)) ≡ true) (sym (request_same r)) (of_one (request_passes r) (write_request.text r) past)),
 )
 
 pub reply_limits : (r : Reply) → IsLong message_limit write_reply r ↔ PassesLimit (reply_passes r) (write_reply.text r)
 reply_limits r = (
-  (λ long. one_of (reply_passes r) (write_reply.text r) (subst (λ (b : Bool). (b || is_over message_limit (write_reply.text r)) ≡ true) (reply_same r) long)),
-  (λ past. subst (λ (b : Bool). (b || is_over message_limit (write_reply.text r)) ≡ true) (sym (reply_same r)) (of_one (reply_passes r) (write_reply.text r) past)),
+  (λ long. one_of (reply_passes r) (write_reply.text r) (subst (λ (b : Bool). (b || exceeds message_limit (write_reply.text r)) ≡ true) (reply_same r) long)),
+  (λ past. subst (λ (b : Bool). (b || exceeds message_limit (write_reply.text r)) ≡ true) (sym (reply_same r)) (of_one (reply_passes r) (write_reply.text r) past)),
 )

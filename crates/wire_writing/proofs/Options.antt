@@ -8,16 +8,16 @@ use Rattle.std.proofs.lemmas.Int.{ints, to_z-of_z, of_z-to_z}
 use Rattle.std.proofs.lemmas.List.{append-nil}
 use Rattle.wire_format.specs.declared.fault.Fault.TheVariants.{BadValue, TooLong}
 use Rattle.wire_format.specs.Format.{after, places}
-use Rattle.wire_format.specs.Kind.{word_of_kind, between}
-use Rattle.wire_format.specs.Writer.{Writes, joined, IsPart, write_places}
+use Rattle.wire_format.specs.WordKinds.{word_of_kind, between}
+use Rattle.wire_format.specs.Writer.{WritesFormat, append_text, IsFirstPart, write_places}
 use Rattle.wire_format.proofs.Writers.{after-writes}
 use Rattle.constraint.specs.Admitted.{Bounds, IsRange}
 use Rattle.option_desc.specs.declared.descriptor.Constraint.{Constraint}
 use Rattle.option_desc.specs.declared.descriptor.Constraint.TheVariants as constraints
 use Rattle.wire_message.specs.Kinds.{length_from, place, at_least}
-use Rattle.wire_message.specs.Message.{from_to, up_to, word, signed_word, range, word_list, text_of, entry, last_entry_of, last_entry, only_entry, no_entry, Last, Entry, Null, Either, last_in, last_of, string_list, constraint_of, constraint}
-use Rattle.wire_writing.specs.Written.{code_text, write_up_to, write_text_of, write_string}
-use Rattle.wire_writing.specs.WrittenReplies.{signed_text, write_signed, bounds_text, range_text, is_no_list, word_list_text, string_list_text, constraint_long, constraint_text}
+use Rattle.wire_message.specs.Message.{from_to, up_to, word, signed_word, range, word_list, text_format_of, entry, last_entry_of, last_entry, only_entry, no_entry, Last, Entry, Null, Either, last_in, last_of, string_list, constraint_of, constraint}
+use Rattle.wire_writing.specs.RequestWriting.{code_text, write_up_to, write_text_of, write_string}
+use Rattle.wire_writing.specs.ReplyWriting.{signed_text, write_signed, bounds_text, range_text, is_no_list, word_list_text, string_list_text, constraint_long, constraint_text}
 use Rattle.wire_writing.proofs.Spelled.{exact, text-writes, text_length}
 use Rattle.wire_writing.proofs.AtValue.{At, same_at, there, nowhere, joined_front, joined_assoc, behind_front, behind_only, made_at, word_spelled, code_at_most, word_fits, if_few, AllSpelled, places_all, all_append, counted_at, ended_at}
 
@@ -59,7 +59,7 @@ signed_of n fits = signed_there (cast_signed w32 n) (signed_fits n fits) ∙ ap 
 unsigned_word : (z : ℤ) → FitsSigned w32 z → word.spells (to_be_bytes w32 (cast_unsigned w32 z)) (cast_unsigned w32 z)
 unsigned_word z f = let fits = unsigned_fits z f in word_spelled 0 4294967295 (cast_unsigned w32 z) (omega arith) (omega (arith, fits)) fits
 
-pub signed-writes : (z : ℤ) → Writes signed_word write_signed z
+pub signed-writes : (z : ℤ) → WritesFormat signed_word write_signed z
 signed-writes z = record {
   spelled = λ text e.
       let s = signed_some z text e in
@@ -184,7 +184,7 @@ range_some text r s =
     (there.0, ap range_text quant.behind.1 ∙ there.1)
 
 -- the parts of what is written
-two_some : (s t : Option (List ℕ)) (text : List ℕ) → joined s t ≡ Some text → (u : List ℕ) × (v : List ℕ) × (s ≡ Some u) × (t ≡ Some v) × (text ≡ u ++ v)
+two_some : (s t : Option (List ℕ)) (text : List ℕ) → append_text s t ≡ Some text → (u : List ℕ) × (v : List ℕ) × (s ≡ Some u) × (t ≡ Some v) × (text ≡ u ++ v)
 two_some None t text e = absurd cc
 two_some (Some u) None text e = absurd cc
 two_some (Some u) (Some v) text e = (u, v, refl, refl, sym cc)
@@ -198,8 +198,8 @@ pub range_at : (r : Bounds) → At range false (range_text r) r
 range_at r = record {
   spelled = λ text e.
       let tests = unless_some (int_lt r.max r.min) (int_lt r.quant (pos 0)) (bounds_text r) text e in
-      let a = joined_front (to_be_bytes w32 0) (joined (signed_text r.min) (joined (signed_text r.max) (signed_text r.quant))) text tests.2 in
-      let b = two_some (signed_text r.min) (joined (signed_text r.max) (signed_text r.quant)) a.0 a.1 in
+      let a = joined_front (to_be_bytes w32 0) (append_text (signed_text r.min) (append_text (signed_text r.max) (signed_text r.quant))) text tests.2 in
+      let b = two_some (signed_text r.min) (append_text (signed_text r.max) (signed_text r.quant)) a.0 a.1 in
       let d = two_some (signed_text r.max) (signed_text r.quant) b.1 b.3 in
       let min = signed_some r.min b.0 b.2 in
       let max = signed_some r.max d.0 d.2 in
@@ -284,10 +284,10 @@ word_list_at (a ∷ others) =
 
 -- ---- lists of strings
 
-length-from-writes : (n : ℕ) → Writes (word_of_kind (length_from 1)) (write_up_to 1024) (suc n)
+length-from-writes : (n : ℕ) → WritesFormat (word_of_kind (length_from 1)) (write_up_to 1024) (suc n)
 length-from-writes n = by (cases_lt 1024 (suc n))
   where
-    by : (1024 < suc n) ⊎ (suc n ≤ 1024) → Writes (word_of_kind (length_from 1)) (write_up_to 1024) (suc n)
+    by : (1024 < suc n) ⊎ (suc n ≤ 1024) → WritesFormat (word_of_kind (length_from 1)) (write_up_to 1024) (suc n)
     by (inl h) =
         let t : nat_lt 1024 (suc n) ≡ true = lt-ltb 1024 (suc n) h in
         let low : nat_lt (suc n) 0 ≡ false = le-ltb (suc n) 0 (omega arith) in
@@ -303,15 +303,15 @@ length-from-writes n = by (cases_lt 1024 (suc n))
           none = λ short e text s. let no = rw judge at e in absurd (cc no);
         }
 
-entry_part : (text : List ℕ) → IsPart (λ (t : List ℕ). suc (length t)) (word_of_kind (length_from 1)) text_of text
+entry_part : (text : List ℕ) → IsFirstPart (λ (t : List ℕ). suc (length t)) (word_of_kind (length_from 1)) text_format_of text
 entry_part text zero front back s t = let low = least_length 1 s.n 0 s.is in absurd (omega (arith, low))
 entry_part text (suc n) front back s t =
     let long : suc n ≡ suc (length text) = ap suc (sym (text_length n back text t)) in
-    ((front, subst (λ (m : ℕ). (word_of_kind (length_from 1)).spells front m) long s), (back, subst (λ (m : ℕ). (text_of m).spells back text) long t))
+    ((front, subst (λ (m : ℕ). (word_of_kind (length_from 1)).spells front m) long s), (back, subst (λ (m : ℕ). (text_format_of m).spells back text) long t))
 
-entry-writes : (text : List ℕ) → Writes entry write_string text
+entry-writes : (text : List ℕ) → WritesFormat entry write_string text
 unfolding entry write_string
-entry-writes text = after-writes (λ (t : List ℕ). suc (length t)) (word_of_kind (length_from 1)) text_of (write_up_to 1024) write_text_of text (length-from-writes (length text)) (text-writes (length text) text) (entry_part text)
+entry-writes text = after-writes (λ (t : List ℕ). suc (length t)) (word_of_kind (length_from 1)) text_format_of (write_up_to 1024) write_text_of text (length-from-writes (length text)) (text-writes (length text) text) (entry_part text)
 
 null_of : (last : Last) → (last ≡ Entry → ⊥) → (last_of last).spells (to_be_bytes w32 0) []
 unfolding no_entry last_entry
@@ -355,7 +355,7 @@ strings_spelled all some most text s = record {
   };
 }
 
-as_entry : (n : ℕ) (f k text : List ℕ) → (up_to 1024).spells f (suc n) → (text_of (suc n)).spells k text → entry.spells (f ++ k) text
+as_entry : (n : ℕ) (f k text : List ℕ) → (up_to 1024).spells f (suc n) → (text_format_of (suc n)).spells k text → entry.spells (f ++ k) text
 unfolding entry
 as_entry n f k text s t = record { first = suc n; front = f; back = k; whole = refl; in_front = record { n = s.n; text_is = s.text_is; fits = s.fits; is = judge s.n s.is }; behind = t }
   where

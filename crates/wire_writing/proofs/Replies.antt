@@ -3,13 +3,13 @@ use Rattle.std.proofs.Common.{◌≡◌, ℕ, zero, suc, ◌≤◌, false, ◌||
 use Rattle.std.specs.Int.{w32, to_be_bytes}
 use Rattle.std.proofs.lemmas.Bool.Decides.{nat_tests}
 use Rattle.wire_format.specs.declared.fault.Fault.TheVariants.{BadValue}
-use Rattle.wire_format.specs.Kind.{word_of_kind, between}
+use Rattle.wire_format.specs.WordKinds.{word_of_kind, between}
 use Rattle.wire_format.proofs.Writers.{word-writes, between-number}
 use Rattle.sane_fixed.specs.declared.byte_order.ByteOrder.{ByteOrder}
 use Rattle.sane_fixed.specs.declared.byte_order.ByteOrder.TheVariants.{Little, Big}
 use Rattle.wire_message.specs.Kinds.{order}
-use Rattle.wire_format.specs.Format.{Format, after, made}
-use Rattle.wire_format.specs.Writer.{Writes, joined}
+use Rattle.wire_format.specs.Format.{Format, after, map_format}
+use Rattle.wire_format.specs.Writer.{WritesFormat, append_text}
 use Rattle.sane_fixed.specs.Kind.{kind_code}
 use Rattle.sane_fixed.specs.declared.kind.Kind.{Kind}
 use Rattle.sane_fixed.specs.declared.kind.Kind.TheVariants as kinds
@@ -22,8 +22,8 @@ use Rattle.wire_message.specs.declared.message.Procedure.TheVariants as procedur
 use Rattle.wire_message.specs.declared.message.Reply.{Reply}
 use Rattle.wire_message.specs.declared.message.Reply.TheVariants as replies
 use Rattle.wire_message.specs.Message.{from_to, word, string, devices, descriptors, kind_at, value_of, params, status_at, status, reply}
-use Rattle.wire_writing.specs.Written.{write_from_to, write_any, write_resource, value_long, value_text, write_value, code_text}
-use Rattle.wire_writing.specs.WrittenReplies.{write_devices, write_descriptors, params_text, order_code, answered, write_reply}
+use Rattle.wire_writing.specs.RequestWriting.{write_from_to, write_any, write_resource, value_long, value_text, write_value, code_text}
+use Rattle.wire_writing.specs.ReplyWriting.{write_devices, write_descriptors, params_text, order_code, replied_procedure, write_reply}
 use Rattle.wire_writing.proofs.Spelled.{value-writes}
 use Rattle.std.proofs.lemmas.List.{append-nil}
 use Rattle.wire_writing.proofs.Descriptors.{any_at, kind_number, descriptors_at, params_at}
@@ -46,7 +46,7 @@ status_spelled statuses.AccessDenied = coded status_at 11 11 statuses.AccessDeni
 
 -- ---- replies
 
-ignored-writes : (r : Reply) → (made (λ (n : ℕ). r) word).spells (to_be_bytes w32 0) r
+ignored-writes : (r : Reply) → (map_format (λ (n : ℕ). r) word).spells (to_be_bytes w32 0) r
 ignored-writes r = record { first = 0; front = to_be_bytes w32 0; back = []; whole = sym (append-nil (to_be_bytes w32 0)); in_front = word_spelled 0 4294967295 0 (omega arith) (omega arith) (omega arith); behind = (refl, refl) }
 
 order_spelled : (o : ByteOrder) → (word_of_kind order).spells (to_be_bytes w32 (order_code o)) o
@@ -60,8 +60,8 @@ port_at n = same_at (from_to 0 65535) ((write_from_to 0 65535).long n) false ((w
 open_at : (s : Status) (device : ℕ) (resource : List ℕ) → At (reply procedures.Open) (write_resource.long resource) (write_reply.text (replies.Open s device resource)) (replies.Open s device resource)
 unfolding reply
 open_at s device resource =
-    behind_only status (λ x. after word (λ d. made (λ r. replies.Open x d r) string)) (to_be_bytes w32 (status_code s)) s (replies.Open s device resource) (write_resource.long resource) (joined (write_any.text device) (write_resource.text resource)) (status_spelled s)
-    (first_at word (λ d. made (λ r. replies.Open s d r) string) device (replies.Open s device resource) false (write_resource.long resource) (write_any.text device) (write_resource.text resource) (any_at device)
+    behind_only status (λ x. after word (λ d. map_format (λ r. replies.Open x d r) string)) (to_be_bytes w32 (status_code s)) s (replies.Open s device resource) (write_resource.long resource) (append_text (write_any.text device) (write_resource.text resource)) (status_spelled s)
+    (first_at word (λ d. map_format (λ r. replies.Open s d r) string) device (replies.Open s device resource) false (write_resource.long resource) (write_any.text device) (write_resource.text resource) (any_at device)
     (made_at (λ r. replies.Open s device r) string resource (write_resource.long resource) (write_resource.text resource) (resource_at resource) (λ x e. cc))
     (λ x k t. let e = t.behind.1 in cc))
     (λ x k t. let e = t.behind.behind.1 in cc)
@@ -69,11 +69,11 @@ open_at s device resource =
 start_at : (s : Status) (port : ℕ) (o : ByteOrder) (resource : List ℕ) → At (reply procedures.Start) (write_resource.long resource) (write_reply.text (replies.Start s port o resource)) (replies.Start s port o resource)
 unfolding reply
 start_at s port o resource =
-    behind_only status (λ x. after (from_to 0 65535) (λ p. after (word_of_kind order) (λ y. made (λ r. replies.Start x p y r) string))) (to_be_bytes w32 (status_code s)) s (replies.Start s port o resource) (write_resource.long resource)
-    (joined ((write_from_to 0 65535).text port) (joined (code_text (order_code o)) (write_resource.text resource))) (status_spelled s)
-    (first_at (from_to 0 65535) (λ p. after (word_of_kind order) (λ y. made (λ r. replies.Start s p y r) string)) port (replies.Start s port o resource) false (write_resource.long resource)
-    ((write_from_to 0 65535).text port) (joined (code_text (order_code o)) (write_resource.text resource)) (port_at port)
-    (behind_only (word_of_kind order) (λ y. made (λ r. replies.Start s port y r) string) (to_be_bytes w32 (order_code o)) o (replies.Start s port o resource) (write_resource.long resource) (write_resource.text resource) (order_spelled o)
+    behind_only status (λ x. after (from_to 0 65535) (λ p. after (word_of_kind order) (λ y. map_format (λ r. replies.Start x p y r) string))) (to_be_bytes w32 (status_code s)) s (replies.Start s port o resource) (write_resource.long resource)
+    (append_text ((write_from_to 0 65535).text port) (append_text (code_text (order_code o)) (write_resource.text resource))) (status_spelled s)
+    (first_at (from_to 0 65535) (λ p. after (word_of_kind order) (λ y. map_format (λ r. replies.Start s p y r) string)) port (replies.Start s port o resource) false (write_resource.long resource)
+    ((write_from_to 0 65535).text port) (append_text (code_text (order_code o)) (write_resource.text resource)) (port_at port)
+    (behind_only (word_of_kind order) (λ y. map_format (λ r. replies.Start s port y r) string) (to_be_bytes w32 (order_code o)) o (replies.Start s port o resource) (write_resource.long resource) (write_resource.text resource) (order_spelled o)
     (made_at (λ r. replies.Start s port o r) string resource (write_resource.long resource) (write_resource.text resource) (resource_at resource) (λ x e. cc))
     (λ x k t. let e = t.behind.1 in cc))
     (λ x k t. let e = t.behind.behind.1 in cc))
@@ -82,13 +82,13 @@ start_at s port o resource =
 -- ---- the value of an option
 
 abbrev behind_info : Status → ℕ → ℕ → Format Reply
-behind_info s info n = after (value_of (kind_at n)) (λ value. made (λ resource. replies.ControlOption s (record { 0 = info }) (kind_at n) value resource) string)
+behind_info s info n = after (value_of (kind_at n)) (λ value. map_format (λ resource. replies.ControlOption s (record { 0 = info }) (kind_at n) value resource) string)
 
 value_at : (s : Status) (info : ℕ) (kind : Kind) (value : WireValue) (resource : List ℕ)
-    → At (after (value_of kind) (λ v. made (λ r. replies.ControlOption s (record { 0 = info }) kind v r) string)) (value_long value || write_resource.long resource) (joined (value_text kind value) (write_resource.text resource))
+    → At (after (value_of kind) (λ v. map_format (λ r. replies.ControlOption s (record { 0 = info }) kind v r) string)) (value_long value || write_resource.long resource) (append_text (value_text kind value) (write_resource.text resource))
     (replies.ControlOption s (record { 0 = info }) kind value resource)
 value_at s info kind value resource =
-    first_at (value_of kind) (λ v. made (λ r. replies.ControlOption s (record { 0 = info }) kind v r) string) value (replies.ControlOption s (record { 0 = info }) kind value resource)
+    first_at (value_of kind) (λ v. map_format (λ r. replies.ControlOption s (record { 0 = info }) kind v r) string) value (replies.ControlOption s (record { 0 = info }) kind value resource)
     (value_long value) (write_resource.long resource) (value_text kind value) (write_resource.text resource) (at_value (value_of kind) (write_value kind) value (value-writes kind value))
     (made_at (λ r. replies.ControlOption s (record { 0 = info }) kind value r) string resource (write_resource.long resource) (write_resource.text resource) (resource_at resource) (λ x e. cc))
     (λ x k t. let e = t.behind.1 in cc)
@@ -103,11 +103,11 @@ info_of _ = 0
 
 -- behind a kind that has values
 with_value : (s : Status) (info n : ℕ) (value : WireValue) (resource : List ℕ) → n ≤ 3
-    → At (after (from_to 0 3) (behind_info s info)) (value_long value || write_resource.long resource) (joined (code_text n) (joined (value_text (kind_at n) value) (write_resource.text resource)))
+    → At (after (from_to 0 3) (behind_info s info)) (value_long value || write_resource.long resource) (append_text (code_text n) (append_text (value_text (kind_at n) value) (write_resource.text resource)))
     (replies.ControlOption s (record { 0 = info }) (kind_at n) value resource)
 unfolding kind_of
 with_value s info n value resource le =
-    behind_front (from_to 0 3) (behind_info s info) (to_be_bytes w32 n) n (replies.ControlOption s (record { 0 = info }) (kind_at n) value resource) (value_long value || write_resource.long resource) (joined (value_text (kind_at n) value) (write_resource.text resource))
+    behind_front (from_to 0 3) (behind_info s info) (to_be_bytes w32 n) n (replies.ControlOption s (record { 0 = info }) (kind_at n) value resource) (value_long value || write_resource.long resource) (append_text (value_text (kind_at n) value) (write_resource.text resource))
     (word_spelled 0 3 n (omega arith) le (omega (arith, le))) (value_at s info (kind_at n) value resource)
     (λ x f k t u.
     let small = code_at_most 0 3 f x t in
@@ -137,7 +137,7 @@ no_group (suc (suc (suc zero))) le e = absurd (cc e)
 no_group (suc (suc (suc (suc n)))) le e = absurd (omega (arith, le))
 
 kind_at_value : (s : Status) (info : ℕ) (kind : Kind) (value : WireValue) (resource : List ℕ)
-    → At (after (from_to 0 3) (behind_info s info)) (value_long value || write_resource.long resource) (joined (code_text (kind_code kind)) (joined (value_text kind value) (write_resource.text resource)))
+    → At (after (from_to 0 3) (behind_info s info)) (value_long value || write_resource.long resource) (append_text (code_text (kind_code kind)) (append_text (value_text kind value) (write_resource.text resource)))
     (replies.ControlOption s (record { 0 = info }) kind value resource)
 kind_at_value s info kinds.Bool value resource = with_value s info 0 value resource (omega arith)
 kind_at_value s info kinds.Int value resource = with_value s info 1 value resource (omega arith)
@@ -151,22 +151,22 @@ control_at : (s : Status) (info : Info) (kind : Kind) (value : WireValue) (resou
 unfolding reply info_of
 control_at s info kind value resource =
     behind_only status (λ x. after word (λ n. after (from_to 0 3) (behind_info x n))) (to_be_bytes w32 (status_code s)) s (replies.ControlOption s info kind value resource) (value_long value || write_resource.long resource)
-    (joined (write_any.text info.0) (joined (code_text (kind_code kind)) (joined (value_text kind value) (write_resource.text resource)))) (status_spelled s)
+    (append_text (write_any.text info.0) (append_text (code_text (kind_code kind)) (append_text (value_text kind value) (write_resource.text resource)))) (status_spelled s)
     (first_at word (λ n. after (from_to 0 3) (behind_info s n)) info.0 (replies.ControlOption s info kind value resource) false (value_long value || write_resource.long resource)
-    (write_any.text info.0) (joined (code_text (kind_code kind)) (joined (value_text kind value) (write_resource.text resource))) (any_at info.0) (kind_at_value s info.0 kind value resource)
+    (write_any.text info.0) (append_text (code_text (kind_code kind)) (append_text (value_text kind value) (write_resource.text resource))) (any_at info.0) (kind_at_value s info.0 kind value resource)
     (λ x k t. sym (ap info_of t.behind.behind.behind.1)))
     (λ x k t. let e = t.behind.behind.behind.behind.1 in cc)
 
-pub reply-writes : (r : Reply) → Writes (reply (answered r)) write_reply r
+pub reply-writes : (r : Reply) → WritesFormat (reply (replied_procedure r)) write_reply r
 unfolding reply
 reply-writes (replies.Init s version) =
     by_value (reply procedures.Init) write_reply (replies.Init s version)
-    (behind_only status (λ x. made (λ v. replies.Init x v) word) (to_be_bytes w32 (status_code s)) s (replies.Init s version) false (write_any.text version) (status_spelled s)
+    (behind_only status (λ x. map_format (λ v. replies.Init x v) word) (to_be_bytes w32 (status_code s)) s (replies.Init s version) false (write_any.text version) (status_spelled s)
     (made_at (λ v. replies.Init s v) word version false (write_any.text version) (any_at version) (λ x e. cc))
     (λ x k t. let e = t.behind.1 in cc))
 reply-writes (replies.GetDevices s all) =
     by_value (reply procedures.GetDevices) write_reply (replies.GetDevices s all)
-    (behind_only status (λ x. made (λ d. replies.GetDevices x d) devices) (to_be_bytes w32 (status_code s)) s (replies.GetDevices s all) (write_devices.long all) (write_devices.text all) (status_spelled s)
+    (behind_only status (λ x. map_format (λ d. replies.GetDevices x d) devices) (to_be_bytes w32 (status_code s)) s (replies.GetDevices s all) (write_devices.long all) (write_devices.text all) (status_spelled s)
     (made_at (λ d. replies.GetDevices s d) devices all (write_devices.long all) (write_devices.text all) (devices_at all) (λ x e. cc))
     (λ x k t. let e = t.behind.1 in cc))
 reply-writes replies.Close = by_value (reply procedures.Close) write_reply replies.Close (there (reply procedures.Close) (to_be_bytes w32 0) replies.Close (ignored-writes replies.Close))
@@ -181,6 +181,6 @@ reply-writes (replies.GetOptionDescriptors all) =
 reply-writes (replies.ControlOption s info kind value resource) = by_value (reply procedures.ControlOption) write_reply (replies.ControlOption s info kind value resource) (control_at s info kind value resource)
 reply-writes (replies.GetParameters s p) =
     by_value (reply procedures.GetParameters) write_reply (replies.GetParameters s p)
-    (behind_only status (λ x. made (λ q. replies.GetParameters x q) params) (to_be_bytes w32 (status_code s)) s (replies.GetParameters s p) false (params_text p) (status_spelled s)
+    (behind_only status (λ x. map_format (λ q. replies.GetParameters x q) params) (to_be_bytes w32 (status_code s)) s (replies.GetParameters s p) false (params_text p) (status_spelled s)
     (made_at (λ q. replies.GetParameters s q) params p false (params_text p) (params_at p) (λ x e. cc))
     (λ x k t. let e = t.behind.1 in cc))

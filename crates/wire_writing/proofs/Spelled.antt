@@ -6,9 +6,9 @@ use Rattle.std.proofs.lemmas.Bool.{cases_lt, le-ltb, lt-ltb, eq-eqb}
 use Rattle.std.proofs.lemmas.Bool.Decides.{nat_tests}
 use Rattle.std.proofs.lemmas.List.{append-nil}
 use Rattle.wire_format.specs.declared.fault.Fault.TheVariants.{BadValue, TooLong}
-use Rattle.wire_format.specs.Format.{made, places, byte_between, run, IsRun}
-use Rattle.wire_format.specs.Kind.{between}
-use Rattle.wire_format.specs.Writer.{Writes, joined, IsPart, IsMadeOf, write_by, write_places, write_byte, write_run}
+use Rattle.wire_format.specs.Format.{map_format, places, byte_between, run, IsByteRun}
+use Rattle.wire_format.specs.WordKinds.{between}
+use Rattle.wire_format.specs.Writer.{WritesFormat, append_text, IsFirstPart, IsMadeOf, write_by, write_places, write_byte, write_run}
 use Rattle.wire_format.proofs.Combining.{places-laws}
 use Rattle.wire_format.proofs.Loops.{places_length}
 use Rattle.wire_format.proofs.Writers.{after-writes, only-part, made-writes, places-writes, word-writes, between-number, byte-writes, run-writes}
@@ -17,8 +17,8 @@ use Rattle.sane_fixed.specs.declared.kind.Kind.TheVariants as kinds
 use Rattle.wire_message.specs.declared.message.WireValue.{WireValue}
 use Rattle.wire_message.specs.declared.message.WireValue.TheVariants as values
 use Rattle.wire_message.specs.Kinds.{words_size}
-use Rattle.wire_message.specs.Message.{from_to, word, up_to, text_of, string, words_value, bytes_value, value_of}
-use Rattle.wire_writing.specs.Written.{write_any, write_up_to, write_text_of, write_string, write_resource, value_long, words_text, bytes_text, write_value}
+use Rattle.wire_message.specs.Message.{from_to, word, up_to, text_format_of, string, words_value, bytes_value, value_of}
+use Rattle.wire_writing.specs.RequestWriting.{write_any, write_up_to, write_text_of, write_string, write_resource, value_long, words_text, bytes_text, write_value}
 use Rattle.wire_message.proofs.Messages.{word_laws}
 
 -- ---- words
@@ -26,13 +26,13 @@ use Rattle.wire_message.proofs.Messages.{word_laws}
 some_is : (s t : List ℕ) → Some s ≡ Some t → s ≡ t
 some_is s t e = cc
 
-pub any-writes : (n : ℕ) → Writes word write_any n
+pub any-writes : (n : ℕ) → WritesFormat word write_any n
 any-writes n = word-writes (between 0 4294967295 BadValue) (λ n. n) (between-number 0 4294967295 BadValue (omega arith)) n
 
 pub any_short : (n : ℕ) → write_any.long n ≡ false
 any_short n = grind (arith, nat_tests)
 
-pub up-writes : (high : ℕ) → high < 2 ^ 32 → (n : ℕ) → Writes (up_to high) (write_up_to high) n
+pub up-writes : (high : ℕ) → high < 2 ^ 32 → (n : ℕ) → WritesFormat (up_to high) (write_up_to high) n
 up-writes high small n = word-writes (between 0 high TooLong) (λ n. n) (between-number 0 high TooLong small) n
 
 -- ---- strings
@@ -56,41 +56,41 @@ string_long text =
 nul_made : (text : List ℕ) → IsMadeOf (λ (t : List ℕ). 0) (byte_between 0 0) (λ nul. text) text
 nul_made text = record { again = refl; own = λ spelling a s e. (0 ∷ [], record { text_is = refl; fits = omega arith; from = omega arith; to = omega arith }) }
 
-pub text-writes : (n : ℕ) (text : List ℕ) → Writes (text_of (suc n)) (write_text_of (suc n)) text
-unfolding text_of
+pub text-writes : (n : ℕ) (text : List ℕ) → WritesFormat (text_format_of (suc n)) (write_text_of (suc n)) text
+unfolding text_format_of
 text-writes n text =
-    after-writes (λ (t : List ℕ). t) (run 1 n) (λ t. made (λ nul. t) (byte_between 0 0)) (write_run 1 n) (λ t. write_by (λ (u : List ℕ). 0) (write_byte 0 0)) text
+    after-writes (λ (t : List ℕ). t) (run 1 n) (λ t. map_format (λ nul. t) (byte_between 0 0)) (write_run 1 n) (λ t. write_by (λ (u : List ℕ). 0) (write_byte 0 0)) text
     (run-writes 1 n text)
     (made-writes (λ (t : List ℕ). 0) (byte_between 0 0) (λ nul. text) (write_byte 0 0) text (byte-writes 0 0 (omega arith) 0) (nul_made text))
-    (only-part (λ (t : List ℕ). t) (run 1 n) (λ t. made (λ nul. t) (byte_between 0 0)) text (λ a back s. sym s.behind.1))
+    (only-part (λ (t : List ℕ). t) (run 1 n) (λ t. map_format (λ nul. t) (byte_between 0 0)) text (λ a back s. sym s.behind.1))
 
-pub text_length : (n : ℕ) (back text : List ℕ) → (text_of (suc n)).spells back text → length text ≡ n
-unfolding text_of
+pub text_length : (n : ℕ) (back text : List ℕ) → (text_format_of (suc n)).spells back text → length text ≡ n
+unfolding text_format_of
 text_length n back text s = ap length s.behind.behind.1 ∙ ap length s.in_front.is ∙ s.in_front.long
 
-no_text : (back text : List ℕ) → (text_of 0).spells back text → text ≡ []
-unfolding text_of
+no_text : (back text : List ℕ) → (text_format_of 0).spells back text → text ≡ []
+unfolding text_format_of
 no_text back text s = s.1
 
 -- the length that is written is that of the text with its NUL
-string_part : (text : List ℕ) → IsPart (λ (t : List ℕ). suc (length t)) (up_to 1024) text_of text
+string_part : (text : List ℕ) → IsFirstPart (λ (t : List ℕ). suc (length t)) (up_to 1024) text_format_of text
 string_part text zero front back s t =
     let empty : text ≡ [] = no_text back text t in
     let one : (own : List ℕ) × (up_to 1024).spells own 1 = (to_be_bytes w32 1, (up-writes 1024 (omega arith) 1).spelled (to_be_bytes w32 1) refl) in
-    let nul : (own : List ℕ) × (text_of 1).spells own [] = (0 ∷ [], (text-writes 0 []).spelled (0 ∷ []) refl) in
+    let nul : (own : List ℕ) × (text_format_of 1).spells own [] = (0 ∷ [], (text-writes 0 []).spelled (0 ∷ []) refl) in
     rw empty (one, nul)
 string_part text (suc n) front back s t =
     let long : suc n ≡ suc (length text) = ap suc (sym (text_length n back text t)) in
-    ((front, subst (λ (m : ℕ). (up_to 1024).spells front m) long s), (back, subst (λ (m : ℕ). (text_of m).spells back text) long t))
+    ((front, subst (λ (m : ℕ). (up_to 1024).spells front m) long s), (back, subst (λ (m : ℕ). (text_format_of m).spells back text) long t))
 
-pub string-writes : (text : List ℕ) → Writes string write_string text
+pub string-writes : (text : List ℕ) → WritesFormat string write_string text
 unfolding string write_string
 string-writes text =
-    after-writes (λ (t : List ℕ). suc (length t)) (up_to 1024) text_of (write_up_to 1024) write_text_of text (up-writes 1024 (omega arith) (suc (length text))) (text-writes (length text) text) (string_part text)
+    after-writes (λ (t : List ℕ). suc (length t)) (up_to 1024) text_format_of (write_up_to 1024) write_text_of text (up-writes 1024 (omega arith) (suc (length text))) (text-writes (length text) text) (string_part text)
 
 -- an empty resource is spelled without its NUL
-pub resource-writes : (text : List ℕ) → Writes string write_resource text
-unfolding string text_of write_string
+pub resource-writes : (text : List ℕ) → WritesFormat string write_resource text
+unfolding string text_format_of write_string
 resource-writes [] = record {
   spelled = λ text e. record {
     first = 0;
@@ -120,11 +120,11 @@ exact low n fits is = record { n = n; text_is = refl; fits = fits; is = judge }
     judge = rw (le-ltb n low (omega (arith, is)), le-ltb low n (omega (arith, is))) refl
 
 -- a front that is there, and what stands behind it
-joined_front : (front : List ℕ) (back : Option (List ℕ)) (text : List ℕ) → joined (Some front) back ≡ Some text → (t : List ℕ) × (back ≡ Some t) × (text ≡ front ++ t)
+joined_front : (front : List ℕ) (back : Option (List ℕ)) (text : List ℕ) → append_text (Some front) back ≡ Some text → (t : List ℕ) × (back ≡ Some t) × (text ≡ front ++ t)
 joined_front front None text e = absurd cc
 joined_front front (Some t) text e = (t, refl, sym (some_is (front ++ t) text e))
 
-joined_none : (front : List ℕ) (back : Option (List ℕ)) → joined (Some front) back ≡ None → back ≡ None
+joined_none : (front : List ℕ) (back : Option (List ℕ)) → append_text (Some front) back ≡ None → back ≡ None
 joined_none front None e = refl
 joined_none front (Some t) e = absurd cc
 
@@ -175,7 +175,7 @@ all_short (suc n) (a ∷ others) = rw (any_short a, all_short n others) refl
 long_is_none : (all : List ℕ) → nat_lt 1024 (length all) ≡ true → (own : Option (List ℕ)) → cond (nat_lt 1024 (length all)) None own ≡ None
 long_is_none all e own = rw e refl
 
-words-writes : (value : WireValue) → Writes words_value (record { long = value_long; text = words_text }) value
+words-writes : (value : WireValue) → WritesFormat words_value (record { long = value_long; text = words_text }) value
 words-writes (values.Words all) = record {
   spelled = λ text e.
       elim (cases_lt 1024 (length all)) [
@@ -225,15 +225,15 @@ unfolding bytes_value
 no_bytes bytes e text s =
     let made_part = s.behind.behind in
     let is : bytes ≡ made_part.first = bytes_are bytes made_part.first made_part.behind.1 in
-    let here : IsRun 0 s.behind.first made_part.front bytes = subst (λ (w : List ℕ). IsRun 0 s.behind.first made_part.front w) (sym is) made_part.in_front in
+    let here : IsByteRun 0 s.behind.first made_part.front bytes = subst (λ (w : List ℕ). IsByteRun 0 s.behind.first made_part.front w) (sym is) made_part.in_front in
     let count : s.behind.first ≡ length bytes = sym (ap length here.is ∙ here.long) in
-    (run-writes 0 (length bytes) bytes).none refl e made_part.front (subst (λ (n : ℕ). IsRun 0 n made_part.front bytes) count here)
+    (run-writes 0 (length bytes) bytes).none refl e made_part.front (subst (λ (n : ℕ). IsByteRun 0 n made_part.front bytes) count here)
 
 no_words_as_bytes : (all text : List ℕ) → bytes_value.spells text (values.Words all) → ⊥
 unfolding bytes_value
 no_words_as_bytes all text s = let e = s.behind.behind.behind.1 in absurd (cc e)
 
-bytes-writes : (value : WireValue) → Writes bytes_value (record { long = value_long; text = bytes_text }) value
+bytes-writes : (value : WireValue) → WritesFormat bytes_value (record { long = value_long; text = bytes_text }) value
 bytes-writes (values.Bytes bytes) = record {
   spelled = λ text e.
       elim (cases_lt 1024 (length bytes)) [
@@ -256,10 +256,10 @@ bytes-writes (values.Words all) = record {
   none = λ short e text s. no_words_as_bytes all text s;
 }
 
-no-value-writes : (value : WireValue) → Writes (value_of kinds.Button) (write_value kinds.Button) value
+no-value-writes : (value : WireValue) → WritesFormat (value_of kinds.Button) (write_value kinds.Button) value
 no-value-writes value = record { spelled = λ text e. absurd cc; past = λ e. refl; none = λ short e text s. s }
 
-pub value-writes : (kind : Kind) (value : WireValue) → Writes (value_of kind) (write_value kind) value
+pub value-writes : (kind : Kind) (value : WireValue) → WritesFormat (value_of kind) (write_value kind) value
 value-writes kinds.Bool value = let w = words-writes value in record { spelled = w.spelled; past = w.past; none = w.none }
 value-writes kinds.Int value = let w = words-writes value in record { spelled = w.spelled; past = w.past; none = w.none }
 value-writes kinds.Fixed value = let w = words-writes value in record { spelled = w.spelled; past = w.past; none = w.none }

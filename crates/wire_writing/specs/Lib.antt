@@ -1,3 +1,3 @@
-pub mod Written
-pub mod WrittenReplies
-pub mod Limits
+pub mod RequestWriting
+pub mod ReplyWriting
+pub mod WireLimits

@@ -2,7 +2,7 @@
 #![tactic(auto)]
 
 mod reply_writing;
-mod writing;
+mod request_writing;
 
 pub use reply_writing::encode_reply;
-pub use writing::encode_request;
+pub use request_writing::encode_request;

@@ -1,16 +1,16 @@
 //! Replies as bytes: the one way of writing each.
 
 ghost use Rattle.std.specs.Prelude.{◌≡◌, ◌≢◌, ◌↔◌, ◌||◌, ℕ, List, Some, IfOk, IfErr};
-ghost use Rattle.wire_format.specs.Limit.{limited};
-ghost use Rattle.wire_format.specs.Writer.{Puts, joined, write_places};
+ghost use Rattle.wire_format.specs.Limit.{limited_format};
+ghost use Rattle.wire_format.specs.Writer.{PutsBehind, append_text, write_places};
 ghost use Rattle.sane_fixed.specs.Status.{status_code};
 ghost use Rattle.constraint.specs.Admitted.{IsRange};
 ghost use Rattle.wire_message.specs.Message.{message_limit, reply as reply_format};
-ghost use Rattle.wire_writing.specs.Limits.{PassesLimit, reply_passes};
-ghost use Rattle.wire_writing.specs.Written.{code_text, write_string, write_any, write_resource, value_long};
-ghost use Rattle.wire_writing.specs.WrittenReplies.{device_text, write_device, write_devices, signed_text, bounds_text, range_text, word_list_text, string_list_text, constraint_long, constraint_text, size_text, kind_text, write_descriptor, write_descriptors, flag_code, lines_text, params_text, order_code, answered, write_reply};
+ghost use Rattle.wire_writing.specs.WireLimits.{PassesLimit, reply_passes};
+ghost use Rattle.wire_writing.specs.RequestWriting.{code_text, write_string, write_any, write_resource, value_long};
+ghost use Rattle.wire_writing.specs.ReplyWriting.{device_text, write_device, write_devices, signed_text, bounds_text, range_text, word_list_text, string_list_text, constraint_long, constraint_text, size_text, kind_text, write_descriptor, write_descriptors, flag_code, lines_text, params_text, order_code, replied_procedure, write_reply};
 
-use crate::writing::{
+use crate::request_writing::{
     encode, is_long_string, is_long_value, put_any_word, put_resource, put_string, put_value,
 };
 use constraint::{Range, StringList, WordList};
@@ -27,7 +27,7 @@ use wire_message::{Array, Reply, WireFault};
 struct NextDevice;
 
 impl Encoder for NextDevice {
-    ghost use Rattle.wire_writing.specs.WrittenReplies.{write_device};
+    ghost use Rattle.wire_writing.specs.ReplyWriting.{write_device};
 
     type Value = DeviceInfo;
 
@@ -58,7 +58,7 @@ fn are_long_devices(devices: &Array<DeviceInfo>) -> bool
 
 /// The array of devices, and the NULL pointer that is its last element.
 fn put_devices(out: &mut Vec<u8>, devices: &Array<DeviceInfo>) -> Result<(), WriteError>
-    ensures { Puts result out.old.items out.new.items (write_devices.text devices.now) }
+    ensures { PutsBehind result out.old.items out.new.items (write_devices.text devices.now) }
 {
     let devices = devices.as_slice();
     if devices.len() > 1023 {
@@ -71,9 +71,9 @@ fn put_devices(out: &mut Vec<u8>, devices: &Array<DeviceInfo>) -> Result<(), Wri
 
 // ---- constraints
 
-#[tactic(auto, unfolding(crate::specs::WrittenReplies::signed_text))]
+#[tactic(auto, unfolding(crate::specs::ReplyWriting::signed_text))]
 fn put_signed(out: &mut Vec<u8>, n: i32) -> Result<(), WriteError>
-    ensures { Puts result out.old.items out.new.items (signed_text n) }
+    ensures { PutsBehind result out.old.items out.new.items (signed_text n) }
 {
     Ok(put_word(out, n.cast_unsigned())?)
 }
@@ -81,7 +81,7 @@ fn put_signed(out: &mut Vec<u8>, n: i32) -> Result<(), WriteError>
 struct SignedWord;
 
 impl Encoder for SignedWord {
-    ghost use Rattle.wire_writing.specs.WrittenReplies.{write_signed};
+    ghost use Rattle.wire_writing.specs.ReplyWriting.{write_signed};
 
     type Value = i32;
 
@@ -100,7 +100,7 @@ impl Encoder for SignedWord {
 /// A pointer that is not NULL, and the three words.
 fn put_bounds(out: &mut Vec<u8>, range: &Range) -> Result<(), WriteError>
     ensures keeps { IsRange range.now }
-    ensures puts { Puts result out.old.items out.new.items (bounds_text range.now) }
+    ensures puts { PutsBehind result out.old.items out.new.items (bounds_text range.now) }
 {
     let (min, max, quant) = (range.min(), range.max(), range.quant());
     put_word(out, 0)?;
@@ -110,14 +110,14 @@ fn put_bounds(out: &mut Vec<u8>, range: &Range) -> Result<(), WriteError>
 }
 
 fn put_range(out: &mut Vec<u8>, range: &Range) -> Result<(), WriteError>
-    ensures { Puts result out.old.items out.new.items (range_text range.now) }
+    ensures { PutsBehind result out.old.items out.new.items (range_text range.now) }
 {
     put_bounds(out, range)
 }
 
 /// The array of the words, behind a first word that says how many they are.
 fn put_word_list(out: &mut Vec<u8>, list: &WordList) -> Result<(), WriteError>
-    ensures { Puts result out.old.items out.new.items (word_list_text list.now) }
+    ensures { PutsBehind result out.old.items out.new.items (word_list_text list.now) }
 {
     let words = list.as_slice();
     put_word(out, words.len() as u32 + 1)?;
@@ -129,7 +129,7 @@ fn put_word_list(out: &mut Vec<u8>, list: &WordList) -> Result<(), WriteError>
 struct Entry;
 
 impl Encoder for Entry {
-    ghost use Rattle.wire_writing.specs.Written.{write_string};
+    ghost use Rattle.wire_writing.specs.RequestWriting.{write_string};
 
     type Value = Text;
 
@@ -146,7 +146,7 @@ impl Encoder for Entry {
 
 /// The array of the strings, and the NULL string that is its last element.
 fn put_string_list(out: &mut Vec<u8>, list: &StringList) -> Result<(), WriteError>
-    ensures { Puts result out.old.items out.new.items (string_list_text list.now) }
+    ensures { PutsBehind result out.old.items out.new.items (string_list_text list.now) }
 {
     let entries = list.as_slice();
     put_word(out, entries.len() as u32 + 1)?;
@@ -168,7 +168,7 @@ fn is_long_constraint(constraint: &Constraint) -> bool
 }
 
 fn put_constraint(out: &mut Vec<u8>, constraint: &Constraint) -> Result<(), WriteError>
-    ensures { Puts result out.old.items out.new.items (constraint_text constraint.now) }
+    ensures { PutsBehind result out.old.items out.new.items (constraint_text constraint.now) }
 {
     match constraint {
         Constraint::Free => Ok(put_word(out, 0)?),
@@ -191,7 +191,7 @@ fn put_constraint(out: &mut Vec<u8>, constraint: &Constraint) -> Result<(), Writ
 
 /// What stands behind a descriptor's unit.
 fn put_size(out: &mut Vec<u8>, descriptor: &Descriptor) -> Result<(), WriteError>
-    ensures { Puts result out.old.items out.new.items (size_text descriptor.now) }
+    ensures { PutsBehind result out.old.items out.new.items (size_text descriptor.now) }
 {
     put_any_word(out, descriptor.size)?;
     put_any_word(out, descriptor.caps.0)?;
@@ -200,7 +200,7 @@ fn put_size(out: &mut Vec<u8>, descriptor: &Descriptor) -> Result<(), WriteError
 
 /// What stands behind a descriptor's three strings.
 fn put_kind(out: &mut Vec<u8>, descriptor: &Descriptor) -> Result<(), WriteError>
-    ensures { Puts result out.old.items out.new.items (kind_text descriptor.now) }
+    ensures { PutsBehind result out.old.items out.new.items (kind_text descriptor.now) }
 {
     put_word(out, descriptor.kind.code())?;
     put_word(out, descriptor.unit.code())?;
@@ -211,7 +211,7 @@ fn put_kind(out: &mut Vec<u8>, descriptor: &Descriptor) -> Result<(), WriteError
 struct NextDescriptor;
 
 impl Encoder for NextDescriptor {
-    ghost use Rattle.wire_writing.specs.WrittenReplies.{write_descriptor};
+    ghost use Rattle.wire_writing.specs.ReplyWriting.{write_descriptor};
 
     type Value = Descriptor;
 
@@ -241,7 +241,7 @@ fn are_long_descriptors(descriptors: &Array<Descriptor>) -> bool
 }
 
 fn put_descriptors(out: &mut Vec<u8>, descriptors: &Array<Descriptor>) -> Result<(), WriteError>
-    ensures { Puts result out.old.items out.new.items (write_descriptors.text descriptors.now) }
+    ensures { PutsBehind result out.old.items out.new.items (write_descriptors.text descriptors.now) }
 {
     let descriptors = descriptors.as_slice();
     if descriptors.len() > 1024 {
@@ -260,7 +260,7 @@ fn flag_code(flag: bool) -> u32
 }
 
 fn put_lines(out: &mut Vec<u8>, lines: Option<u32>) -> Result<(), WriteError>
-    ensures { Puts result out.old.items out.new.items (lines_text lines) }
+    ensures { PutsBehind result out.old.items out.new.items (lines_text lines) }
 {
     match lines {
         None => Ok(put_word(out, u32::MAX)?),
@@ -269,7 +269,7 @@ fn put_lines(out: &mut Vec<u8>, lines: Option<u32>) -> Result<(), WriteError>
 }
 
 fn put_params(out: &mut Vec<u8>, params: &Params) -> Result<(), WriteError>
-    ensures { Puts result out.old.items out.new.items (params_text params.now) }
+    ensures { PutsBehind result out.old.items out.new.items (params_text params.now) }
 {
     put_word(out, params.format.code())?;
     put_word(out, flag_code(params.last_frame))?;
@@ -291,7 +291,7 @@ fn order_code(order: ByteOrder) -> u32
 // ---- replies
 
 fn put_status(out: &mut Vec<u8>, status: Status) -> Result<(), WriteError>
-    ensures { Puts result out.old.items out.new.items (code_text (status_code status)) }
+    ensures { PutsBehind result out.old.items out.new.items (code_text (status_code status)) }
 {
     Ok(put_word(out, status.code())?)
 }
@@ -313,7 +313,7 @@ fn is_long_reply(reply: &Reply) -> bool
 }
 
 fn put_reply(out: &mut Vec<u8>, reply: &Reply) -> Result<(), WriteError>
-    ensures { Puts result out.old.items out.new.items (write_reply.text reply.now) }
+    ensures { PutsBehind result out.old.items out.new.items (write_reply.text reply.now) }
 {
     match reply {
         Reply::Init { status, version } => {
@@ -371,7 +371,7 @@ fn put_reply(out: &mut Vec<u8>, reply: &Reply) -> Result<(), WriteError>
 struct AnyReply;
 
 impl Encoder for AnyReply {
-    ghost use Rattle.wire_writing.specs.WrittenReplies.{write_reply};
+    ghost use Rattle.wire_writing.specs.ReplyWriting.{write_reply};
 
     type Value = Reply;
 
@@ -389,11 +389,11 @@ impl Encoder for AnyReply {
 /// The bytes of a reply to the procedure that it answers: its text, `TooLong` exactly where a limit is passed, else
 /// `BadValue` exactly where nothing spells it, as that to `Exit`.
 pub fn encode_reply(alloc: Global, reply: &Reply) -> Result<Vec<u8>, WireFault>
-    ensures ok { IfOk result (λ v. (limited message_limit (reply_format (answered reply.now))).spells v.items reply.now) }
+    ensures ok { IfOk result (λ v. (limited_format message_limit (reply_format (replied_procedure reply.now))).spells v.items reply.now) }
     ensures text { IfOk result (λ v. write_reply.text reply.now ≡ Some v.items) }
     ensures long { result ≢ Err WireFault.NoMem → (result ≡ Err WireFault.TooLong) ↔ PassesLimit (reply_passes reply.now) (write_reply.text reply.now) }
     ensures bad { IfErr result (λ e. e ≢ WireFault.NoMem → e ≢ WireFault.TooLong
-        → (e ≡ WireFault.BadValue) × (¬ PassesLimit (reply_passes reply.now) (write_reply.text reply.now)) × ((text : List ℕ) → (reply_format (answered reply.now)).spells text reply.now → ⊥)) }
+        → (e ≡ WireFault.BadValue) × (¬ PassesLimit (reply_passes reply.now) (write_reply.text reply.now)) × ((text : List ℕ) → (reply_format (replied_procedure reply.now)).spells text reply.now → ⊥)) }
 {
     encode::<AnyReply>(alloc, reply)
 }

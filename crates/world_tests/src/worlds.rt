@@ -263,7 +263,7 @@ fn act(rt: &impl Abort, alloc: Global, world: &mut World, step: Step<'_>) -> u64
         Step::Load(name, page) => Event::Load(text(rt, alloc, name), source(rt, alloc, page, 26)),
         Step::Unplug(name) => Event::Unplug(text(rt, alloc, name)),
         Step::Is(i, over) => {
-            stands(rt, world, i, over);
+            expect_over(rt, world, i, over);
             return 0;
         }
         Step::Shows(i, shown) => {
@@ -313,7 +313,7 @@ fn how(rt: &impl Abort, world: &World, i: usize) -> Over {
 }
 
 /// A job stands so, and no growth was refused on its connections, in its session or for its files.
-fn stands(rt: &impl Abort, world: &World, i: usize, over: Over) {
+fn expect_over(rt: &impl Abort, world: &World, i: usize, over: Over) {
     assert_eq!(rt; how(rt, world, i), over);
     assert!(rt; !world.starved(i));
 }

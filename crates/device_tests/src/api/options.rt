@@ -1,6 +1,6 @@
 //! The option tables, and values that are set and read.
 
-ghost use Rattle.device_api.specs.Allowed.{IsAllowed};
+ghost use Rattle.device_api.specs.ScannerLimits.{IsAllowed};
 
 use crate::calls::{Fill, MM, Plain, value};
 use device_api::{

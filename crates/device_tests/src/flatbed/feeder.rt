@@ -1,6 +1,6 @@
 //! Pages that are fed one after another.
 
-use crate::calls::{Call, MODE, Part, Plain, expect_each, page, told};
+use crate::calls::{Call, MODE, Part, Plain, answers_of, expect_each, page};
 use device_api::Device;
 use flatbed_dev::{Feeder, FeederFault};
 use page_picture::{FailingPage, Source, read_page};
@@ -73,15 +73,15 @@ fn pages_one_after_another(rt: HostRuntime) {
 }
 
 #[test]
-fn told_without_a_page(rt: HostRuntime) {
+fn reported_without_a_page(rt: HostRuntime) {
     on_dots(
         &rt,
         &[],
         &[
             Call::Set(MODE, Plain::Text(b"Color")),
-            Call::Told(told(FrameFormat::Rgb, true, 0, 0, Some(0), 8)),
+            Call::Told(answers_of(FrameFormat::Rgb, true, 0, 0, Some(0), 8)),
             Call::Load(b"P5\n1 1\n255\n\x05", true),
-            Call::Told(told(FrameFormat::Rgb, true, 3, 1, Some(1), 8)),
+            Call::Told(answers_of(FrameFormat::Rgb, true, 3, 1, Some(1), 8)),
         ],
     );
 }

@@ -1,6 +1,6 @@
 //! Virtual scanners by the calls of the trait, as boxes.
 
-use crate::calls::{Call, DEPTH, MODE, Part, Plain, RESOLUTION, expect_each, page, told};
+use crate::calls::{Call, DEPTH, MODE, Part, Plain, RESOLUTION, answers_of, expect_each, page};
 use crate::scanner::scan::{read_picture, reset_all, scan_with};
 use crate::threepass::{COLORS, expect_pass, prepare};
 use device_api::Device;
@@ -90,7 +90,7 @@ fn three_passes(rt: HostRuntime) {
         alloc,
         &mut device,
         &[
-            Call::Told(told(FrameFormat::Blue, false, 4, 2, Some(1), 16)),
+            Call::Told(answers_of(FrameFormat::Blue, false, 4, 2, Some(1), 16)),
             // Between the passes nothing can be set, and no page put in.
             Call::AtRest(false),
             Call::Refuses(DEPTH, Plain::Int(8), Status::DeviceBusy),
@@ -166,7 +166,7 @@ fn no_picture_and_a_fault(rt: HostRuntime) {
         &[
             Call::Window(0, 1),
             Call::Start(Err(Status::Inval)),
-            Call::Told(told(FrameFormat::Gray, true, 0, 0, Some(0), 8)),
+            Call::Told(answers_of(FrameFormat::Gray, true, 0, 0, Some(0), 8)),
             Call::Window(1, 1),
             START,
             Call::Read(Err(Status::IoError)),

@@ -2,7 +2,7 @@
 
 ghost use Rattle.std.specs.Prelude.{◌≡◌, true, map, IfOk, Ok};
 ghost use Rattle.device_api.specs.State.{is_at_rest, is_reading, after_reset};
-ghost use Rattle.device_tests.specs.Runs.{EndsPass, HasPicture, HasRead, HasScanned};
+ghost use Rattle.device_tests.specs.TestRuns.{EndsPass, HasPicture, HasReadPass, HasScannedFirstFrame};
 
 use device_api::Device;
 use option_desc::Value;
@@ -13,7 +13,7 @@ use std::alloc::Global;
 pub fn read_frame(device: &mut dyn Device, out: &mut Vec<u8>) -> Result<(), Status>
     requires { is_reading (state device.old).phase ≡ true }
     ensures after { result ≡ Ok tt → EndsPass (state device.old) (state device.new) }
-    ensures bytes { result ≡ Ok tt → HasRead (state device.old) out.old.items out.new.items }
+    ensures bytes { result ≡ Ok tt → HasReadPass (state device.old) out.old.items out.new.items }
 {
     let mut buf = [0u8; 7];
     loop {
@@ -36,7 +36,7 @@ pub fn scan_with(
     n: u32,
     value: &Value,
 ) -> Result<Vec<u8>, Status>
-    ensures { IfOk result (λ bytes. HasScanned (state device.old) n value.now bytes.items (state device.new)) }
+    ensures { IfOk result (λ bytes. HasScannedFirstFrame (state device.old) n value.now bytes.items (state device.new)) }
 {
     device.reset();
     let (_given, _info) = device.set(alloc, n, value)?;

@@ -1,4 +1,4 @@
-use crate::calls::{Call, DEPTH, Part, Plain, expect_each, page, told};
+use crate::calls::{Call, DEPTH, Part, Plain, answers_of, expect_each, page};
 use crate::hand::{BLACK, expect_column};
 use crate::threepass::{COLORS, expect_pass, prepare};
 use page_picture::{DeviceKind, Source};
@@ -40,7 +40,7 @@ fn a_three_pass_scanner(rt: HostRuntime) {
             alloc,
             &mut three,
             &[
-                Call::Told(told(format, false, 4, 2, Some(1), 16)),
+                Call::Told(answers_of(format, false, 4, 2, Some(1), 16)),
                 Call::Read(Err(Status::Inval)),
                 Call::Refuses(DEPTH, Plain::Int(8), Status::DeviceBusy),
                 Call::Load(b"P5\n1 1\n255\n\x00", false),

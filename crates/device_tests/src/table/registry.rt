@@ -68,7 +68,7 @@ fn load<D: Device>(
     }
 }
 
-/// Whether a call is answered so; none for want of memory.
+/// Whether a call is answered so; none for lack of memory.
 fn answers<D: Device>(alloc: Global, registry: &mut Registry<D>, call: Call) -> Option<bool> {
     Some(match call {
         Call::Take(name, status) => take(alloc, registry, name)? == status,

@@ -1,12 +1,12 @@
 ghost use Rattle.std.specs.Prelude.{◌≡◌, OnSome, IfNone, position, length, ◌<◌};
-ghost use Rattle.dispatch.specs.Table.{held, held_at, with_slot, is_named, is_out, awaits, find_name};
+ghost use Rattle.dispatch.specs.Table.{device_in, held_at, with_slot, is_named, is_out, awaits, find_name};
 
 use crate::table::place::{Place, Slot};
 use std::mem;
 
 /// Takes the device out, if it is in.
 pub fn take_out<D: Drop>(slot: &mut Slot<D>) -> Option<D>
-    ensures device { result ≡ held slot.old }
+    ensures device { result ≡ device_in slot.old }
     ensures out { OnSome result (slot.new ≡ Slot.Out) }
     ensures same { IfNone result (slot.new ≡ slot.old) }
 {

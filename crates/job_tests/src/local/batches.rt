@@ -345,7 +345,7 @@ const NO_DOCS: &[(&[u8], &[u8])] = &[(b"read-return-value", b"SANE_STATUS_NO_DOC
 
 /// What the first read of a frame answers is no end of the pages.
 #[test]
-fn no_page_told_by_a_read(rt: HostRuntime) {
+fn no_docs_by_a_read(rt: HostRuntime) {
     let alloc = rt.alloc();
     let mut device = feeder(&rt, alloc, &[7, 9]);
     let mut shelf = empty_drawer(alloc, 0, 0);

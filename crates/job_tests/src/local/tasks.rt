@@ -1,4 +1,4 @@
-use super::{TWO_ROWS, done, ends, flatbed_on, run, stands_at};
+use super::{TWO_ROWS, done, ends, expect_resolution, flatbed_on, run};
 use device_api::DeviceInfo;
 use option_desc::Value;
 use sane_fixed::Status;
@@ -6,22 +6,22 @@ use scan_job::{Reports, Task, Why};
 use std::process::Abort;
 
 /// The value that an option tells.
-fn told<'a>(rt: &impl Abort, reports: &'a Reports, n: usize) -> &'a Option<Value> {
+fn value_reported_at<'a>(rt: &impl Abort, reports: &'a Reports, n: usize) -> &'a Option<Value> {
     let option = reports.options.as_slice().get(n);
     &option.expect(rt, "an option").1
 }
 
 /// The integer that an option tells.
-fn int_told(rt: &impl Abort, reports: &Reports, n: usize) -> Option<i32> {
-    match told(rt, reports, n) {
+fn int_reported(rt: &impl Abort, reports: &Reports, n: usize) -> Option<i32> {
+    match value_reported_at(rt, reports, n) {
         Some(Value::Int(word)) => Some(*word),
         _ => None,
     }
 }
 
 /// The text that an option tells.
-fn text_told<'a>(rt: &impl Abort, reports: &'a Reports, n: usize) -> &'a [u8] {
-    match told(rt, reports, n) {
+fn text_reported<'a>(rt: &impl Abort, reports: &'a Reports, n: usize) -> &'a [u8] {
+    match value_reported_at(rt, reports, n) {
         Some(Value::Text(text)) => text.as_bytes(),
         _ => panic!(rt; "no text"),
     }
@@ -57,7 +57,7 @@ fn a_list_has_the_device(rt: HostRuntime) {
     let (outcome, file) = run(&rt, alloc, &mut device, IGNORED, Task::List);
     let reports = done(&rt, outcome);
     assert!(&rt; is_of_flatbed(&reports) && file.is_empty());
-    stands_at(&rt, alloc, &device, 50);
+    expect_resolution(&rt, alloc, &device, 50);
     drop(reports);
     drop(device);
 }
@@ -109,13 +109,13 @@ fn options_are_shown_after_the_settings(rt: HostRuntime) {
     assert!(&rt; reports.devices.as_slice().is_empty() && file.is_empty());
     has_options(&rt, &reports);
     for (n, word) in INTS {
-        assert!(&rt; int_told(&rt, &reports, *n) == Some(*word));
+        assert!(&rt; int_reported(&rt, &reports, *n) == Some(*word));
     }
     for (n, text) in TEXTS {
-        assert!(&rt; text_told(&rt, &reports, *n) == *text);
+        assert!(&rt; text_reported(&rt, &reports, *n) == *text);
     }
     // The gamma table is inactive at depth 16, and has many values.
-    assert!(&rt; told(&rt, &reports, 8).is_none());
+    assert!(&rt; value_reported_at(&rt, &reports, 8).is_none());
     drop(reports);
     drop(device);
 }

@@ -3,7 +3,7 @@ use flatbed_dev::Flatbed;
 use page_picture::{MemoryPage, Source, read_page};
 use sane_fixed::{ByteOrder, Status};
 use scan_job::{Job, Task, Why};
-use scanimage_cli::{Ending, Printed, SplitFault, do_job, words_of};
+use scanimage_cli::{Ending, Printout, SplitFault, do_job, words_of};
 use std::alloc::Global;
 use std::env::{Env, FillError};
 use std::io::{self, ErrorKind, Write};
@@ -63,7 +63,7 @@ fn job(rt: &impl Abort, alloc: Global) -> Job {
 }
 
 /// The exit status by which a job ends, if it does, and whether it was its output that failed.
-fn exit_of(done: &Result<Printed, Ending>) -> Option<(u8, bool)> {
+fn exit_of(done: &Result<Printout, Ending>) -> Option<(u8, bool)> {
     let Err(ending) = done else {
         return None;
     };

@@ -11,7 +11,7 @@ use std::alloc::Global;
 use std::process::Abort;
 
 /// An ending tells this line and has this exit status.
-fn expect_told(rt: &impl Abort, alloc: Global, ending: &Ending, line: &[u8], status: u8) {
+fn expect_printed(rt: &impl Abort, alloc: Global, ending: &Ending, line: &[u8], status: u8) {
     let mut told = Vec::new(alloc);
     ending.tell(&mut told).expect(rt, "memory");
     assert!(rt; told.as_slice() == line);
@@ -65,15 +65,15 @@ const ENDED: &[(Status, Why, &[u8], u8)] = &[
 fn endings(rt: HostRuntime) {
     let alloc = rt.alloc();
     let bad = b"scanimage: bad command line\n";
-    expect_told(&rt, alloc, &Ending::BadCommandLine, bad, 64);
+    expect_printed(&rt, alloc, &Ending::BadCommandLine, bad, 64);
     let unread = unread(&rt, alloc);
     for (ending, line) in &unread {
-        expect_told(&rt, alloc, ending, line, 65);
+        expect_printed(&rt, alloc, ending, line, 65);
     }
     drop(unread);
     for (status, why, line, exit) in ENDED {
         let ending = Ending::Ended(*status, *why);
-        expect_told(&rt, alloc, &ending, line, *exit);
+        expect_printed(&rt, alloc, &ending, line, *exit);
         drop(ending);
     }
 }

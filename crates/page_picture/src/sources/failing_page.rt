@@ -23,7 +23,7 @@ impl Model for FailingPage {
     ghost Value = { FailingState };
 
     ghost view = { λ a. record {
-      shown = record { page = a.page; given = a.given; steady = true; firm = a.refused == 0; failures = a.failures };
+      shown = record { page = a.page; given = a.given; steady = true; infallible = a.refused == 0; failures = a.failures };
       calls = a.calls;
       refused = a.refused;
     } };
@@ -39,7 +39,7 @@ impl FailingPage {
     /// with 0 none is.
     pub fn new(page: Page, n: u64) -> Self
         ensures { result ≡ record {
-          shown = record { page = page; given = 0; steady = true; firm = n == 0; failures = 0 };
+          shown = record { page = page; given = 0; steady = true; infallible = n == 0; failures = 0 };
           calls = 0;
           refused = n;
         } }

@@ -1,7 +1,7 @@
 ghost use Rattle.std.specs.Prelude.{◌≡◌, ◌≤◌, ◌<◌, ◌*◌, ◌^◌, ◌++◌, ◌+◌, [], length, drop, true, false, IfOk, IfSome, IfNone, IfErr, IsSome, OnOk, OnErr};
 ghost use Rattle.netpbm.specs.HeaderReading.{after_filler, number_at, field_at, format_of};
-ghost use Rattle.page_picture.specs.Kept.{FailsByReader};
-ghost use Rattle.page_picture.specs.HeaderScan.{rest_of, from_hand, digit_in, Finds, FindsHeader, HasLimits, header_from};
+ghost use Rattle.page_picture.specs.KnownBytes.{FailsByReader};
+ghost use Rattle.page_picture.specs.HeaderScan.{rest_of, from_hand, digit_in, Finds, FindsHeader, HasHeaderLimits, header_from};
 ghost use Rattle.page_picture.specs.PageFile.{BeginsPage};
 ghost use Rattle.page_picture.specs.PageRows.{IsPageHeader};
 ghost use Rattle.page_picture.specs.Opening.{HasHeaderFault, IsOfFile};
@@ -11,7 +11,7 @@ use crate::rereadable::Rereadable;
 use crate::sources::open_fault::OpenFault;
 use crate::sources::read_fault::{MOST_READS, ReadFault};
 use crate::sources::read_room::ReadRoom;
-use netpbm::{Format, Header, ends_comment, format_of, is_white};
+use netpbm::{Header, PnmFormat, ends_comment, format_of, is_white};
 use std::marker::Model;
 
 /// A number, and the byte that was read after it; none at the end.
@@ -77,9 +77,9 @@ pub struct HeaderScan<R: Rereadable> {
 
 impl<R: Rereadable> Model for HeaderScan<R> {
     ghost use Rattle.std.specs.Prelude.{◌≡◌, ◌≤◌, ◌<◌, ◌*◌, ◌^◌, ◌++◌, ◌+◌, true, drop, length};
-    ghost use Rattle.page_picture.specs.HeaderScan.{Scanned};
+    ghost use Rattle.page_picture.specs.HeaderScan.{HeaderScanState};
 
-    ghost Value = { Scanned };
+    ghost Value = { HeaderScanState };
 
     ghost view = { λ s. record { kept = R.is_kept s.reader; text = R.text s.reader; at = s.at; faults = R.faults s.reader } };
 
@@ -108,7 +108,7 @@ impl<R: Rereadable> HeaderScan<R> {
     }
 
     /// What the first two bytes tell.
-    pub fn format(&mut self) -> Result<Option<Format>, ReadFault>
+    pub fn format(&mut self) -> Result<Option<PnmFormat>, ReadFault>
         ensures same { self.new ≡ record self.old { at = self.new.at; faults = self.new.faults } }
         ensures worked { OnOk result (self.old.kept ≡ true → self.new.faults ≡ self.old.faults) }
         ensures failed { OnErr result (FailsByReader self.old.kept self.old.text self.old.faults self.new.faults) }
@@ -185,12 +185,12 @@ impl<R: Rereadable> HeaderScan<R> {
 
     /// The header of a page file whose first two bytes, which tell the format, are read.
     #[tactic(auto, unfolding(crate::specs::HeaderScan::header_from, netpbm::specs::HeaderReading::end_at))]
-    pub fn header(&mut self, format: Format) -> Result<Option<Header>, ReadFault>
+    pub fn header(&mut self, format: PnmFormat) -> Result<Option<Header>, ReadFault>
         ensures same { self.new ≡ record self.old { at = self.new.at; faults = self.new.faults } }
         ensures worked { OnOk result (self.old.kept ≡ true → self.new.faults ≡ self.old.faults) }
         ensures failed { OnErr result (FailsByReader self.old.kept self.old.text self.old.faults self.new.faults) }
         ensures header { IfOk result (λ found. self.old.kept ≡ true → FindsHeader (header_from format (rest_of self.old)) found (rest_of self.new)) }
-        ensures format { IfOk result (λ found. IfSome found (λ header. (header.format ≡ format) × HasLimits header)) }
+        ensures format { IfOk result (λ found. IfSome found (λ header. (header.format ≡ format) × HasHeaderLimits header)) }
     {
         let hand = self.next()?;
         let Some((width, hand)) = self.field(hand)? else {

@@ -11,9 +11,9 @@ pub enum Source {
 }
 
 impl PageSource for Source {
-    ghost use Rattle.page_picture.specs.Shown.{shown};
+    ghost use Rattle.page_picture.specs.SourceView.{source_state};
 
-    ghost source = { shown };
+    ghost source = { source_state };
 
     fn size(&self) -> (u32, u32) {
         match self {

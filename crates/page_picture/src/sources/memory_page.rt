@@ -17,7 +17,7 @@ impl Model for MemoryPage {
 
     ghost Value = { SourceState };
 
-    ghost view = { λ a. record { page = a.page; given = a.given; steady = true; firm = true; failures = 0 } };
+    ghost view = { λ a. record { page = a.page; given = a.given; steady = true; infallible = true; failures = 0 } };
 
     ghost invariant = { λ a. a.given ≤ a.page.height };
 }
@@ -27,7 +27,7 @@ impl MemoryPage {
 
     /// The page from its first row on.
     pub fn new(page: Page) -> Self
-        ensures { result ≡ record { page = page; given = 0; steady = true; firm = true; failures = 0 } }
+        ensures { result ≡ record { page = page; given = 0; steady = true; infallible = true; failures = 0 } }
     {
         MemoryPage { page, given: 0 }
     }

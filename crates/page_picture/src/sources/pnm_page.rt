@@ -1,8 +1,8 @@
 ghost use Rattle.std.specs.Prelude.{◌≡◌, ◌≤◌, ◌<◌, ◌+◌, ◌*◌, ◌^◌, ◌↔◌, true, false, drop, length, IfOk, IfErr, OnErr};
-ghost use Rattle.page_picture.specs.Kept.{FailsByReader, FailsWithin};
+ghost use Rattle.page_picture.specs.KnownBytes.{FailsByReader, FailsWithin};
 ghost use Rattle.page_picture.specs.Source.{GivesRow, Rewinds};
 ghost use Rattle.page_picture.specs.PnmState.{LosesRows};
-ghost use Rattle.page_picture.specs.PageRows.{IsPageHeader, IsRaster, row_size};
+ghost use Rattle.page_picture.specs.PageRows.{IsPageHeader, IsRaster, file_row_size};
 ghost use Rattle.page_picture.specs.Opening.{HasOpenFaultAfter, IsOfFile};
 
 use crate::page_file::PageFault;
@@ -36,7 +36,7 @@ pub struct PnmPage<R: Rereadable> {
 impl<R: Rereadable> Model for PnmPage<R> {
     ghost use Rattle.std.specs.Prelude.{◌≡◌, ◌≤◌, ◌+◌, ◌*◌, true, false, drop, length};
     ghost use Rattle.page_picture.specs.PageFile.{IsDpi};
-    ghost use Rattle.page_picture.specs.PageRows.{IsPageHeader, IsRaster, page_shown, row_size, unused};
+    ghost use Rattle.page_picture.specs.PageRows.{IsPageHeader, IsRaster, page_shown, file_row_size, unused_bytes};
     ghost use Rattle.page_picture.specs.PnmState.{PnmState};
 
     ghost Value = { PnmState };
@@ -46,7 +46,7 @@ impl<R: Rereadable> Model for PnmPage<R> {
         page = page_shown p.header p.dpi (drop p.start (R.text p.reader));
         given = p.given;
         steady = R.is_kept p.reader;
-        firm = false;
+        infallible = false;
         failures = p.failures;
       };
       is_lost = p.is_lost;
@@ -55,11 +55,11 @@ impl<R: Rereadable> Model for PnmPage<R> {
 
     ghost invariant = { λ p. IsPageHeader p.header × IsDpi p.dpi
         × (p.given + p.held ≤ p.header.height)
-        × (row_size p.header ≤ length p.bytes.items)
-        × (p.held * row_size p.header ≤ length p.bytes.items)
+        × (file_row_size p.header ≤ length p.bytes.items)
+        × (p.held * file_row_size p.header ≤ length p.bytes.items)
         × (R.is_kept p.reader ≡ true → p.is_lost ≡ false
-        → unused (row_size p.header) p.held p.bytes.items (R.left p.reader)
-        ≡ drop (p.given * row_size p.header) (drop p.start (R.text p.reader)))
+        → unused_bytes (file_row_size p.header) p.held p.bytes.items (R.left p.reader)
+        ≡ drop (p.given * file_row_size p.header) (drop p.start (R.text p.reader)))
         × (R.is_kept p.reader ≡ true → IsRaster p.header (drop p.start (R.text p.reader))) };
 }
 
@@ -77,7 +77,7 @@ fn check_file<R: Rereadable>(
     requires { IsPageHeader header.now }
     ensures kept { R.is_kept reader.new ≡ R.is_kept reader.old }
     ensures text { R.text reader.new ≡ R.text reader.old }
-    ensures room { IfOk result (λ bytes. row_size header.now ≤ length bytes.items) }
+    ensures room { IfOk result (λ bytes. file_row_size header.now ≤ length bytes.items) }
     ensures start { IfOk result (λ _. R.is_kept reader.old ≡ true → R.left reader.new ≡ drop start (R.text reader.old)) }
     ensures raster { IfOk result (λ _. R.is_kept reader.old ≡ true → IsRaster header.now (drop start (R.text reader.old))) }
     ensures worked { IfOk result (λ _. R.is_kept reader.old ≡ true → R.faults reader.new ≡ R.faults reader.old) }
@@ -110,7 +110,7 @@ impl<R: Rereadable> PnmPage<R> {
         // The page is that of the text, where the reader keeps it.
         ensures found { IfOk result (λ source. R.is_kept reader ≡ true → TellsPage (R.text reader) dpi source.shown.page) }
         // It stands before its first row, without a failure.
-        ensures begun { IfOk result (λ source. source.shown ≡ record { page = source.shown.page; given = 0; steady = R.is_kept reader; firm = false; failures = 0 }) }
+        ensures begun { IfOk result (λ source. source.shown ≡ record { page = source.shown.page; given = 0; steady = R.is_kept reader; infallible = false; failures = 0 }) }
         ensures not_lost { IfOk result (λ source. source.is_lost ≡ false) }
         ensures fault { IfErr result (λ refused. R.is_kept reader ≡ true → HasOpenFault refused.0 (R.text reader) dpi) }
         // `Device` only where a call of the reader failed, or 2^40 reads do not go through its bytes twice.

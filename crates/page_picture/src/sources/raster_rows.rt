@@ -1,7 +1,7 @@
 ghost use Rattle.std.specs.Prelude.{ℕ, ◌≡◌, ◌≤◌, ◌<◌, ◌+◌, ◌*◌, ◌/◌, ◌^◌, ◌++◌, length, slice_index, true, false, Ok, min, max, IfOk, IfErr, MatchBool, OnOk, OnErr};
 ghost use Rattle.netpbm.specs.Raster.{NoneAbove, SomeAbove, sample_count};
-ghost use Rattle.page_picture.specs.Kept.{FailsWithin};
-ghost use Rattle.page_picture.specs.PageRows.{IsPageHeader, IsRaster, ReadsRaster, ShowsRow, GivesRowOf, HasRows, unused, row_count, row_header, row_size};
+ghost use Rattle.page_picture.specs.KnownBytes.{FailsWithin};
+ghost use Rattle.page_picture.specs.PageRows.{IsPageHeader, IsRaster, ReadsRaster, ShowsRow, GivesRowOf, HasRows, unused_bytes, row_count, row_header, file_row_size};
 ghost use Rattle.page_picture.specs.Opening.{HasOpenFaultAfter, IsOfFile};
 
 use crate::page_file::{PageFault, scaled};
@@ -9,7 +9,7 @@ use crate::rereadable::Rereadable;
 use crate::sources::open_fault::OpenFault;
 use crate::sources::read_fault::{MOST_READS, ReadFault};
 use crate::sources::scaling::Scaling;
-use netpbm::{Format, Header, none_above, raster_size, sample_count};
+use netpbm::{Header, PnmFormat, none_above, raster_size, sample_count};
 
 /// The header of one row of a page alone.
 pub fn row_header(header: &Header) -> Header
@@ -50,8 +50,8 @@ fn fill<R: Rereadable>(reader: &mut R, bytes: &mut [u8], reads: &mut u64) -> Res
 pub fn room_size(header: &Header) -> usize
     requires { IsPageHeader header.now }
     ensures value { result
-        ≡ min (max (65536 / row_size header.now) 1) header.now.height * row_size header.now }
-    ensures row { row_size header.now ≤ result }
+        ≡ min (max (65536 / file_row_size header.now) 1) header.now.height * file_row_size header.now }
+    ensures row { file_row_size header.now ≤ result }
 {
     let size = raster_size(&row_header(header));
     let rows = (65536 / size).max(1).min(header.height as usize);
@@ -79,8 +79,8 @@ fn hold_rows<R: Rereadable>(
     ensures most { held.new ≤ rows }
     ensures within { held.new * size ≤ length bytes.new }
     ensures same { result ≡ Ok true → R.is_kept reader.old ≡ true
-        → unused size held.old bytes.old (R.left reader.old)
-        ≡ unused size held.new bytes.new (R.left reader.new) }
+        → unused_bytes size held.old bytes.old (R.left reader.old)
+        ≡ unused_bytes size held.new bytes.new (R.left reader.new) }
     ensures few { result ≡ Ok true → reads.new + held.old * size ≤ reads.old + held.new * size }
     ensures worked { OnOk result
         (R.is_kept reader.old ≡ true → R.faults reader.new ≡ R.faults reader.old) }
@@ -89,7 +89,7 @@ fn hold_rows<R: Rereadable>(
         (FailsWithin (R.is_kept reader.old) reads.old (R.left reader.old)
         (R.faults reader.old) (R.faults reader.new)) }
     ensures ended { result ≡ Ok false → R.is_kept reader.old ≡ true
-        → length (unused size held.old bytes.old (R.left reader.old)) < rows * size }
+        → length (unused_bytes size held.old bytes.old (R.left reader.old)) < rows * size }
 {
     if *held > 0 {
         return Ok(true);
@@ -227,21 +227,25 @@ fn write_scaled_colors(scale: &[u16; 256], bytes: &[u8], row: &mut [u16])
 /// Writes the samples that the bytes of one row show.
 fn write_row(header: &Header, bytes: &[u8], row: &mut [u16])
     requires page { IsPageHeader header.now }
-    requires bytes { length bytes.now ≡ row_size header.now }
+    requires bytes { length bytes.now ≡ file_row_size header.now }
     requires limit { NoneAbove header.now.maxval bytes.now (row_count header.now) }
     requires places { length row.old ≡ 3 * header.now.width }
     ensures { ShowsRow header.now bytes.now row.new }
 {
     let maxval = header.maxval;
     match (header.format, maxval) {
-        (Format::Ppm, 255) => write_colors(bytes, row),
-        (Format::Ppm, 65535) => write_words(bytes, row),
-        (Format::Ppm, 0..=254) => write_scaled_colors(&scale(maxval), bytes, row),
-        (Format::Ppm, _) => write_color_words(maxval, bytes, row),
-        (Format::Pbm | Format::Pgm, 255) => write_grays(bytes, row),
-        (Format::Pbm | Format::Pgm, 65535) => write_wide_grays(bytes, row),
-        (Format::Pbm | Format::Pgm, 0..=254) => write_scaled_grays(&scale(maxval), bytes, row),
-        (Format::Pbm | Format::Pgm, _) => write_gray_words(maxval, bytes, row),
+        (PnmFormat::Ppm, 255) => write_colors(bytes, row),
+        (PnmFormat::Ppm, 65535) => write_words(bytes, row),
+        (PnmFormat::Ppm, 0..=254) => write_scaled_colors(&scale(maxval), bytes, row),
+        (PnmFormat::Ppm, _) => write_color_words(maxval, bytes, row),
+        (PnmFormat::Pbm | PnmFormat::Pgm, 255) => write_grays(bytes, row),
+        (PnmFormat::Pbm | PnmFormat::Pgm, 65535) => write_wide_grays(bytes, row),
+        (PnmFormat::Pbm | PnmFormat::Pgm, 0..=254) => write_scaled_grays(
+            &scale(maxval),
+            bytes,
+            row,
+        ),
+        (PnmFormat::Pbm | PnmFormat::Pgm, _) => write_gray_words(maxval, bytes, row),
     }
 }
 
@@ -256,22 +260,22 @@ pub fn read_row<R: Rereadable>(
     row: &mut [u16],
 ) -> Result<(), ReadFault>
     requires page { IsPageHeader header.now }
-    requires room { row_size header.now ≤ length bytes.old }
+    requires room { file_row_size header.now ≤ length bytes.old }
     requires rows { 1 ≤ rows }
     requires held { held.old ≤ rows }
-    requires within { held.old * row_size header.now ≤ length bytes.old }
+    requires within { held.old * file_row_size header.now ≤ length bytes.old }
     requires places { length row.old ≡ 3 * header.now.width }
     ensures kept { R.is_kept reader.new ≡ R.is_kept reader.old }
     ensures text { R.text reader.new ≡ R.text reader.old }
     ensures held { held.new ≤ rows }
     ensures next { OnOk result (held.new + 1 ≤ rows) }
-    ensures within { held.new * row_size header.now ≤ length bytes.new }
+    ensures within { held.new * file_row_size header.now ≤ length bytes.new }
     ensures read { OnOk result (R.is_kept reader.old ≡ true → GivesRowOf header.now
-        (unused (row_size header.now) held.old bytes.old (R.left reader.old))
-        (unused (row_size header.now) held.new bytes.new (R.left reader.new)) row.new) }
+        (unused_bytes (file_row_size header.now) held.old bytes.old (R.left reader.old))
+        (unused_bytes (file_row_size header.now) held.new bytes.new (R.left reader.new)) row.new) }
     ensures failed { OnErr result (R.is_kept reader.old ≡ true
         → HasRows header.now rows
-        (unused (row_size header.now) held.old bytes.old (R.left reader.old))
+        (unused_bytes (file_row_size header.now) held.old bytes.old (R.left reader.old))
         → R.faults reader.old < R.faults reader.new) }
 {
     let size = raster_size(&row_header(header));
@@ -297,7 +301,7 @@ fn check_rows<R: Rereadable>(
     reads: &mut u64,
 ) -> Result<bool, OpenFault>
     requires page { IsPageHeader header.now }
-    requires room { row_size header.now ≤ length bytes.old }
+    requires room { file_row_size header.now ≤ length bytes.old }
     ensures kept { R.is_kept reader.new ≡ R.is_kept reader.old }
     ensures text { R.text reader.new ≡ R.text reader.old }
     ensures read { IfOk result (λ _. R.is_kept reader.old ≡ true → ReadsRaster header.now (R.left reader.old) (R.left reader.new)) }
@@ -332,7 +336,7 @@ pub fn check_raster<R: Rereadable>(
     reads: &mut u64,
 ) -> Result<(), OpenFault>
     requires page { IsPageHeader header.now }
-    requires room { row_size header.now ≤ length bytes.old }
+    requires room { file_row_size header.now ≤ length bytes.old }
     ensures kept { R.is_kept reader.new ≡ R.is_kept reader.old }
     ensures text { R.text reader.new ≡ R.text reader.old }
     ensures worked { OnOk result (R.is_kept reader.old ≡ true → R.faults reader.new ≡ R.faults reader.old) }

@@ -1,5 +1,5 @@
 ghost use Rattle.std.specs.Prelude.{◌≡◌, ◌≤◌, ◌++◌, ◌<◌, [], ◌∷◌, length, true, IfOk, IfSome, IfNone, OnErr};
-ghost use Rattle.page_picture.specs.Kept.{CountsFault};
+ghost use Rattle.page_picture.specs.KnownBytes.{CountsFault};
 
 use crate::rereadable::Rereadable;
 use std::io;

@@ -1,7 +1,7 @@
 //! Frames that are kept until their picture is whole.
 ghost use Rattle.std.specs.Prelude.{◌<◌};
 
-use super::{pull_all, told};
+use super::{join_answers, pull_all};
 use frame_join::{FrameJoin, JoinFault, PnmOut};
 use sane_fixed::{ByteOrder, FrameFormat, Params};
 use std::alloc::Global;
@@ -11,7 +11,7 @@ use std::test::Fail;
 fn rolled(depth: u32, line: u32, width: u32) -> Params {
     Params {
         lines: None,
-        ..told(FrameFormat::Gray, depth, line, width, 1)
+        ..join_answers(FrameFormat::Gray, depth, line, width, 1)
     }
 }
 
@@ -19,7 +19,7 @@ fn rolled(depth: u32, line: u32, width: u32) -> Params {
 fn pass(format: FrameFormat, last_frame: bool) -> Params {
     Params {
         last_frame,
-        ..told(format, 16, 4, 2, 1)
+        ..join_answers(format, 16, 4, 2, 1)
     }
 }
 
@@ -123,7 +123,7 @@ fn passes_of_little_ends(rt: HostRuntime) -> Result<(), Fail> {
 fn bytes_of(format: FrameFormat, line: u32, last_frame: bool) -> Params {
     Params {
         last_frame,
-        ..told(format, 8, line, 2, 2)
+        ..join_answers(format, 8, line, 2, 2)
     }
 }
 
@@ -165,7 +165,7 @@ fn black_column(alloc: Global) -> Result<Vec<u8>, Fail> {
 }
 
 #[test]
-fn height_told_by_the_end(rt: HostRuntime) -> Result<(), Fail> {
+fn height_known_at_the_end(rt: HostRuntime) -> Result<(), Fail> {
     let rows = black_column(rt.alloc())?;
     let frames = [(rolled(1, 41, 324), rows.as_slice())];
     let head = b"P4\n# SANE data follows\n324 10\n".as_slice();
@@ -183,7 +183,7 @@ fn height_told_by_the_end(rt: HostRuntime) -> Result<(), Fail> {
 fn one_row_of_colors(rt: HostRuntime) -> Result<(), Fail> {
     let colors = Params {
         lines: None,
-        ..told(FrameFormat::Rgb, 8, 4, 1, 1)
+        ..join_answers(FrameFormat::Rgb, 8, 4, 1, 1)
     };
     let frames = [(colors, b"\x01\x02\x03\0".as_slice())];
     let file = file_of_frames(rt.alloc(), &frames, ByteOrder::Big, 1)?;

@@ -2,13 +2,19 @@ use config_pages::NoPage;
 use dispatch::{ConfigFault, ConfigReason};
 use md5_auth::{LineFault, LineReason};
 use sane_fixed::ByteOrder;
-use saned_cli::{Ending, Options, OptionsFault, read_options, read_seed, text_of};
+use saned_cli::{
+    DaemonEnding, DaemonOptions, DaemonOptionsFault, read_options, read_seed, text_of,
+};
 use std::alloc::Global;
 use std::process::Abort;
 use std::test::Fail;
 
 /// What the words behind the program's name give, which are split at spaces.
-fn options(rt: &impl Abort, alloc: Global, line: &str) -> Result<Options, OptionsFault> {
+fn options(
+    rt: &impl Abort,
+    alloc: Global,
+    line: &str,
+) -> Result<DaemonOptions, DaemonOptionsFault> {
     let mut words = Vec::new(alloc);
     let name = String::from_str(alloc, "saned").expect(rt, "memory");
     words.push(name).expect(rt, "memory");
@@ -117,7 +123,7 @@ fn bad_command_lines(rt: HostRuntime) -> Result<(), Fail> {
     for line in BAD {
         match options(&rt, rt.alloc(), line) {
             Ok(_) => panic!(rt; "taken: {line}"),
-            Err(why) => assert!(rt; why == OptionsFault::Bad),
+            Err(why) => assert!(rt; why == DaemonOptionsFault::Bad),
         }
     }
     Ok(())
@@ -158,31 +164,39 @@ fn texts_of_endings(rt: HostRuntime) -> Result<(), Fail> {
         reason: LineReason::Colons,
     };
     for (ending, status, line) in [
-        (Ending::BadCommandLine, 64, "saned: bad command line\n"),
-        (Ending::BadSeed, 65, "saned: bad seed\n"),
-        (Ending::CannotRead(path), 65, "saned: cannot read a b\n"),
         (
-            Ending::Config(config),
+            DaemonEnding::BadCommandLine,
+            64,
+            "saned: bad command line\n",
+        ),
+        (DaemonEnding::BadSeed, 65, "saned: bad seed\n"),
+        (
+            DaemonEnding::CannotRead(path),
+            65,
+            "saned: cannot read a b\n",
+        ),
+        (
+            DaemonEnding::Config(config),
             65,
             "saned: config line 1: unknown kind\n",
         ),
         (
-            Ending::Page(3, NoPage::CannotRead),
+            DaemonEnding::Page(3, NoPage::CannotRead),
             65,
             "saned: config line 3: cannot read page\n",
         ),
         (
-            Ending::Users(users),
+            DaemonEnding::Users(users),
             65,
             "saned: users line 2: wrong number of fields\n",
         ),
-        (Ending::CannotListen, 9, "saned: cannot listen\n"),
-        (Ending::NoMemory, 10, "saned: out of memory\n"),
+        (DaemonEnding::CannotListen, 9, "saned: cannot listen\n"),
+        (DaemonEnding::NoMemory, 10, "saned: out of memory\n"),
     ] {
         let mut told = Vec::new(rt.alloc());
         ending.tell(&mut told)?;
         assert!(rt; told.as_slice() == line.as_bytes());
-        assert!(rt; ending.exit_status() == status);
+        assert!(rt; ending.daemon_exit_status() == status);
     }
     Ok(())
 }

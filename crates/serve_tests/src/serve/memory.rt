@@ -99,7 +99,7 @@ pub struct MemoryNet<R: Abort + Drop> {
     pub clients: Vec<MemorySocket>,
     pub images: Vec<MemorySocket>,
     pub accepted: u64,
-    /// How often it was asked for a client, so how many turns there were while a seat was free.
+    /// How often it was asked for a client, so how many turns there were while a slot was free.
     pub asked: u64,
     /// How often it was asked to forget what had ended at a port.
     pub forgotten: u64,

@@ -42,7 +42,7 @@ fn one_option(rt: &impl Abort, alloc: Global, one: Descriptor) -> Reply {
 }
 
 /// An option with this constraint is told by these bytes behind those of the option.
-fn is_told(rt: &impl Abort, alloc: Global, constraint: Constraint, told: &[u8]) {
+fn is_decoded(rt: &impl Abort, alloc: Global, constraint: Constraint, told: &[u8]) {
     let reply = one_option(rt, alloc, described(rt, alloc, 0, constraint));
     let mut bytes = words(rt, alloc, &[1]);
     put_described(rt, &mut bytes, 0, 0);
@@ -54,13 +54,13 @@ fn is_told(rt: &impl Abort, alloc: Global, constraint: Constraint, told: &[u8]) 
 #[test]
 fn no_constraint_and_ranges(rt: HostRuntime) {
     let alloc = rt.alloc();
-    is_told(&rt, alloc, Constraint::Free, &[0; 4]);
+    is_decoded(&rt, alloc, Constraint::Free, &[0; 4]);
     let widest = Range::new(i32::MIN, i32::MAX, i32::MAX).expect(&rt, "a range");
     let told = words(&rt, alloc, &[1, 0, 0x8000_0000, 0x7fff_ffff, 0x7fff_ffff]);
-    is_told(&rt, alloc, Constraint::Span(widest), told.as_slice());
+    is_decoded(&rt, alloc, Constraint::Span(widest), told.as_slice());
     let narrowest = Range::new(-1, -1, 0).expect(&rt, "a range");
     let told = words(&rt, alloc, &[1, 0, 0xffff_ffff, 0xffff_ffff, 0]);
-    is_told(&rt, alloc, Constraint::Span(narrowest), told.as_slice());
+    is_decoded(&rt, alloc, Constraint::Span(narrowest), told.as_slice());
 }
 
 #[test]
@@ -69,14 +69,14 @@ fn lists_of_words(rt: HostRuntime) {
     let one = vec![in alloc; i32::MIN; 1].expect(&rt, "memory");
     let list = WordList::new(one).expect(&rt, "a list");
     let told = words(&rt, alloc, &[2, 2, 1, 0x8000_0000]);
-    is_told(&rt, alloc, Constraint::Words(list), told.as_slice());
+    is_decoded(&rt, alloc, Constraint::Words(list), told.as_slice());
     let most = vec![in alloc; -2; 1023].expect(&rt, "memory");
     let list = WordList::new(most).expect(&rt, "a list");
     let mut told = words(&rt, alloc, &[2, 1024, 1023]);
     for _ in 0..1023 {
         put(&rt, &mut told, &[255, 255, 255, 254]);
     }
-    is_told(&rt, alloc, Constraint::Words(list), told.as_slice());
+    is_decoded(&rt, alloc, Constraint::Words(list), told.as_slice());
 }
 
 /// A list of so many texts of so many letters.
@@ -96,11 +96,11 @@ fn lists_of_one_string(rt: HostRuntime) {
     let mut told = words(&rt, alloc, &[3, 2]);
     put_letters(&rt, &mut told, 1023);
     put(&rt, &mut told, &[0; 4]);
-    is_told(&rt, alloc, longest, told.as_slice());
+    is_decoded(&rt, alloc, longest, told.as_slice());
     // An empty text is no NULL string.
     let empty = strings(&rt, alloc, 1, 0);
     let told = [0, 0, 0, 3, 0, 0, 0, 2, 0, 0, 0, 1, 0, 0, 0, 0, 0];
-    is_told(&rt, alloc, empty, &told);
+    is_decoded(&rt, alloc, empty, &told);
     let long = strings(&rt, alloc, 1, 1024);
     let reply = one_option(&rt, alloc, described(&rt, alloc, 0, long));
     has_fault(&rt, alloc, &reply, WireFault::TooLong);

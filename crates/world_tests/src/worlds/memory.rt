@@ -4,7 +4,7 @@
 use super::jobs::{FOUR_FILES, play_four};
 use super::*;
 
-/// It is done with its file, or without one where a growth was refused; or it ended for want of memory, at the client or as
+/// It is done with its file, or without one where a growth was refused; or it ended for lack of memory, at the client or as
 /// a lost connection, and has no whole file.
 pub fn done_or_wanting(rt: &impl Abort, alloc: Global, world: &World, i: usize, whole: &[u8]) {
     let file = world.file(i);

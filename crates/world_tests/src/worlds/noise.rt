@@ -1,7 +1,7 @@
 //! Events of all kinds at random, with what must hold behind each.
 
 use super::losses::{COLORS, PASSES, THREE_PASS, WHOLE};
-use super::plain::{Aim, Deed, Party, Place, deed_of, event_of};
+use super::plain::{Aim, PlainAction, PlainJob, PlainPlace, event_of, plain_action_of};
 use super::sharing::{BLACK, BLACK_FILE, NINE, SEVEN};
 use super::*;
 
@@ -32,15 +32,15 @@ impl Dice {
 
 /// What is told of a job.
 #[derive(Clone, Copy, PartialEq, Eq)]
-struct Told {
+struct NoiseRun {
     over: Over,
     moves: u64,
     file: usize,
     finished: u32,
 }
 
-fn told_of(rt: &impl Abort, world: &World, i: usize) -> Told {
-    Told {
+fn runs_of(rt: &impl Abort, world: &World, i: usize) -> NoiseRun {
+    NoiseRun {
         over: how(rt, world, i),
         moves: world.moves_left(i),
         file: world.file(i).expect(rt, "a file").len(),
@@ -48,8 +48,8 @@ fn told_of(rt: &impl Abort, world: &World, i: usize) -> Told {
     }
 }
 
-fn all_told(rt: &impl Abort, world: &World) -> [Told; JOBS] {
-    let none = Told {
+fn all_runs(rt: &impl Abort, world: &World) -> [NoiseRun; JOBS] {
+    let none = NoiseRun {
         over: Over::Running,
         moves: 0,
         file: 0,
@@ -57,50 +57,50 @@ fn all_told(rt: &impl Abort, world: &World) -> [Told; JOBS] {
     };
     let mut all = [none; JOBS];
     for (i, it) in all.iter_mut().enumerate() {
-        *it = told_of(rt, world, i);
+        *it = runs_of(rt, world, i);
     }
     all
 }
 
 /// Something that may happen to a job, most often its next move.
-fn some_deed(world: &World, dice: &mut Dice, i: usize) -> Deed {
+fn some_action(world: &World, dice: &mut Dice, i: usize) -> PlainAction {
     let size = dice.below(300) as usize;
     match dice.below(2_000) {
-        0 => Deed::LoseControl,
-        1 => Deed::LoseImage,
-        2 => Deed::Cancel,
-        3..=49 => Deed::ToDaemon(size),
-        50..=99 => Deed::ToClient(size),
-        100..=149 => Deed::DataToClient(size),
-        150..=199 => Deed::DataTurn,
-        200..=249 => Deed::DataConnect,
-        _ => match next_deed(world, i) {
-            Some(Deed::ToDaemon(_)) => Deed::ToDaemon(size.saturating_add(1)),
-            Some(Deed::ToClient(_)) => Deed::ToClient(size.saturating_add(1)),
-            Some(Deed::DataToClient(_)) => Deed::DataToClient(size.saturating_add(1)),
+        0 => PlainAction::LoseControl,
+        1 => PlainAction::LoseImage,
+        2 => PlainAction::Cancel,
+        3..=49 => PlainAction::ToDaemon(size),
+        50..=99 => PlainAction::ToClient(size),
+        100..=149 => PlainAction::DataToClient(size),
+        150..=199 => PlainAction::DataTurn,
+        200..=249 => PlainAction::DataConnect,
+        _ => match next_action(world, i) {
+            Some(PlainAction::ToDaemon(_)) => PlainAction::ToDaemon(size.saturating_add(1)),
+            Some(PlainAction::ToClient(_)) => PlainAction::ToClient(size.saturating_add(1)),
+            Some(PlainAction::DataToClient(_)) => PlainAction::DataToClient(size.saturating_add(1)),
             Some(deed) => deed,
-            None => Deed::Connect,
+            None => PlainAction::Connect,
         },
     }
 }
 
-fn next_deed(world: &World, i: usize) -> Option<Deed> {
+fn next_action(world: &World, i: usize) -> Option<PlainAction> {
     match world.next_move(i) {
-        Some(event) => deed_of(event),
+        Some(event) => plain_action_of(event),
         None => None,
     }
 }
 
-/// What stands by the rules: the devices, and the jobs.
+/// What stands by the model: the devices, and the jobs.
 #[derive(Clone, Copy)]
 struct Plain {
-    places: [Place; 3],
-    parties: [Party; JOBS],
+    places: [PlainPlace; 3],
+    parties: [PlainJob; JOBS],
 }
 
 impl Plain {
     /// So job i and its device stand now.
-    fn stand(&mut self, i: usize, party: Party, place: Place) {
+    fn set_state(&mut self, i: usize, party: PlainJob, place: PlainPlace) {
         if let Some(it) = self.parties.get_mut(i) {
             *it = party;
         }
@@ -110,7 +110,7 @@ impl Plain {
     }
 }
 
-/// It is done to job i of a world, and by the rules: it happens just where the rules let it, and then both stand alike. No
+/// It is done to job i of a world, and by the model: it happens just where the model lets it, and then both stand alike. No
 /// other job is touched, and what is over stays as it is.
 fn follow(
     rt: &impl Abort,
@@ -118,23 +118,23 @@ fn follow(
     world: &mut World,
     plain: &mut Plain,
     i: usize,
-    deed: Deed,
+    deed: PlainAction,
 ) {
-    let before = all_told(rt, world);
+    let before = all_runs(rt, world);
     let mut party = *plain.parties.get(i).expect(rt, "a job");
     let mut place = *plain.places.get(party.aim.place).expect(rt, "a device");
     let can = party.can(deed);
     happens(rt, alloc, world, event_of(i, deed));
     if can {
-        let goes_on = matches!(next_deed(world, i), Some(Deed::ToClient(_)));
+        let goes_on = matches!(next_action(world, i), Some(PlainAction::ToClient(_)));
         party.goes(i, &mut place, deed, !goes_on);
-        plain.stand(i, party, place);
+        plain.set_state(i, party, place);
     }
-    stands(rt, world, i, party.over);
-    assert!(rt; next_deed(world, i) == party.next());
+    expect_over(rt, world, i, party.over);
+    assert!(rt; next_action(world, i) == party.next());
     assert!(rt; world.finished(i) as usize == party.finished);
     for (j, old) in before.iter().enumerate() {
-        let new = told_of(rt, world, j);
+        let new = runs_of(rt, world, j);
         assert!(rt; (new.moves == 0) == (new.over != Over::Running));
         if j != i || old.over != Over::Running || !can {
             assert!(rt; new == *old);
@@ -146,7 +146,7 @@ fn follow(
 
 /// A job that is done left the file of the page of its start, each finished page of a batch is one, and another job has no
 /// whole file.
-fn expect_files(rt: &impl Abort, alloc: Global, world: &World, party: &Party, i: usize) {
+fn expect_files(rt: &impl Abort, alloc: Global, world: &World, party: &PlainJob, i: usize) {
     if party.over == Over::Done && i != BATCH {
         assert!(rt; world.file(i) == Some(party.begun));
     } else {
@@ -165,7 +165,7 @@ fn run_out(rt: &impl Abort, alloc: Global, world: &mut World, plain: &mut Plain)
     for _ in 0..EVERY {
         let mut goes_on = false;
         for i in 0..JOBS {
-            if let Some(deed) = next_deed(world, i) {
+            if let Some(deed) = next_action(world, i) {
                 follow(rt, alloc, world, plain, i, deed);
                 goes_on = true;
             }
@@ -214,7 +214,7 @@ pub fn noise(rt: &impl Abort, alloc: Global, world: &mut World, seed: u64) {
             shift(rt, alloc, world, &mut plain, &mut dice);
         }
         let i = dice.below(JOBS as u64) as usize;
-        let deed = some_deed(world, &mut dice, i);
+        let deed = some_action(world, &mut dice, i);
         follow(rt, alloc, world, &mut plain, i, deed);
     }
     run_out(rt, alloc, world, &mut plain);
@@ -271,13 +271,13 @@ const fn fed(is_batch: bool) -> Aim {
 }
 
 fn plain_world() -> Plain {
-    let (passed, flat) = (Party::new(PASSED), Party::new(FLAT));
-    let (batch, scan) = (Party::new(fed(true)), Party::new(fed(false)));
+    let (passed, flat) = (PlainJob::new(PASSED), PlainJob::new(FLAT));
+    let (batch, scan) = (PlainJob::new(fed(true)), PlainJob::new(fed(false)));
     Plain {
         places: [
-            Place::new(3, 4, [Some(WHOLE), None]),
-            Place::new(1, 1, [Some(SEVEN), None]),
-            Place::feeder(1, [Some(SEVEN), Some(NINE)]),
+            PlainPlace::new(3, 4, [Some(WHOLE), None]),
+            PlainPlace::new(1, 1, [Some(SEVEN), None]),
+            PlainPlace::feeder(1, [Some(SEVEN), Some(NINE)]),
         ],
         parties: [passed, passed, passed, flat, flat, flat, batch, scan],
     }

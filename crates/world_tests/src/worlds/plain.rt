@@ -1,4 +1,4 @@
-//! What stands by the rules, at the level of messages: computed beside a world from the events alone.
+//! What stands by the model, at the level of messages: computed beside a world from the events alone.
 //!
 //! Of the bytes it knows how long each request, each record and each frame is. How long a reply is it does not know, and is told
 //! when one is whole.
@@ -34,7 +34,7 @@ enum Stage {
 
 /// The frame of a session.
 #[derive(Clone, Copy, PartialEq, Eq)]
-enum Carriage {
+enum PlainTransfer {
     Quiet,
     Waiting,
     Streaming,
@@ -42,7 +42,7 @@ enum Carriage {
 }
 
 #[derive(Clone, Copy, PartialEq, Eq)]
-enum Phase {
+enum PlainPhase {
     Resting,
     /// So many passes of the page are over.
     Between(u32),
@@ -52,7 +52,7 @@ enum Phase {
 
 /// What may happen to a job.
 #[derive(Clone, Copy, PartialEq, Eq)]
-pub enum Deed {
+pub enum PlainAction {
     Connect,
     ToDaemon(usize),
     ToClient(usize),
@@ -64,40 +64,40 @@ pub enum Deed {
     Cancel,
 }
 
-/// The event that is this deed of a job.
-pub fn event_of(i: usize, deed: Deed) -> Event {
+/// The event that is this action of a job.
+pub fn event_of(i: usize, deed: PlainAction) -> Event {
     match deed {
-        Deed::Connect => Event::Connect(i),
-        Deed::ToDaemon(n) => Event::ToDaemon(i, n),
-        Deed::ToClient(n) => Event::ToClient(i, n),
-        Deed::DataConnect => Event::DataConnect(i),
-        Deed::DataTurn => Event::DataTurn(i),
-        Deed::DataToClient(n) => Event::DataToClient(i, n),
-        Deed::LoseControl => Event::LoseControl(i),
-        Deed::LoseImage => Event::LoseImage(i),
-        Deed::Cancel => Event::Cancel(i),
+        PlainAction::Connect => Event::Connect(i),
+        PlainAction::ToDaemon(n) => Event::ToDaemon(i, n),
+        PlainAction::ToClient(n) => Event::ToClient(i, n),
+        PlainAction::DataConnect => Event::DataConnect(i),
+        PlainAction::DataTurn => Event::DataTurn(i),
+        PlainAction::DataToClient(n) => Event::DataToClient(i, n),
+        PlainAction::LoseControl => Event::LoseControl(i),
+        PlainAction::LoseImage => Event::LoseImage(i),
+        PlainAction::Cancel => Event::Cancel(i),
     }
 }
 
 /// What an event of a job is.
-pub fn deed_of(event: Event) -> Option<Deed> {
+pub fn plain_action_of(event: Event) -> Option<PlainAction> {
     match event {
-        Event::Connect(_) => Some(Deed::Connect),
-        Event::ToDaemon(_, n) => Some(Deed::ToDaemon(n)),
-        Event::ToClient(_, n) => Some(Deed::ToClient(n)),
-        Event::DataConnect(_) => Some(Deed::DataConnect),
-        Event::DataTurn(_) => Some(Deed::DataTurn),
-        Event::DataToClient(_, n) => Some(Deed::DataToClient(n)),
-        Event::LoseControl(_) => Some(Deed::LoseControl),
-        Event::LoseImage(_) => Some(Deed::LoseImage),
-        Event::Cancel(_) => Some(Deed::Cancel),
+        Event::Connect(_) => Some(PlainAction::Connect),
+        Event::ToDaemon(_, n) => Some(PlainAction::ToDaemon(n)),
+        Event::ToClient(_, n) => Some(PlainAction::ToClient(n)),
+        Event::DataConnect(_) => Some(PlainAction::DataConnect),
+        Event::DataTurn(_) => Some(PlainAction::DataTurn),
+        Event::DataToClient(_, n) => Some(PlainAction::DataToClient(n)),
+        Event::LoseControl(_) => Some(PlainAction::LoseControl),
+        Event::LoseImage(_) => Some(PlainAction::LoseImage),
+        Event::Cancel(_) => Some(PlainAction::Cancel),
         Event::Load(_, _) | Event::Unplug(_) => None,
     }
 }
 
 /// A device among its users. A page is told by the file that a scan of it leaves.
 #[derive(Clone, Copy)]
-pub struct Place {
+pub struct PlainPlace {
     passes: u32,
     /// The bytes of its one line in a pass.
     line: usize,
@@ -105,33 +105,33 @@ pub struct Place {
     tray: [Option<&'static [u8]>; 2],
     listed: bool,
     holder: Option<usize>,
-    phase: Phase,
+    phase: PlainPhase,
 }
 
-impl Place {
+impl PlainPlace {
     /// A scanner at rest, held by nobody.
-    pub const fn new(passes: u32, line: usize, tray: [Option<&'static [u8]>; 2]) -> Place {
-        Place {
+    pub const fn new(passes: u32, line: usize, tray: [Option<&'static [u8]>; 2]) -> PlainPlace {
+        PlainPlace {
             passes,
             line,
             is_feeder: false,
             tray,
             listed: true,
             holder: None,
-            phase: Phase::Resting,
+            phase: PlainPhase::Resting,
         }
     }
 
     /// A feeder with these pages in its tray.
-    pub const fn feeder(line: usize, tray: [Option<&'static [u8]>; 2]) -> Place {
-        let mut place = Place::new(1, line, tray);
+    pub const fn feeder(line: usize, tray: [Option<&'static [u8]>; 2]) -> PlainPlace {
+        let mut place = PlainPlace::new(1, line, tray);
         place.is_feeder = true;
         place
     }
 
     /// A page is laid in where the device is listed and at rest.
     pub fn load(&mut self, page: &'static [u8]) {
-        if self.listed && self.phase == Phase::Resting {
+        if self.listed && self.phase == PlainPhase::Resting {
             self.tray = [Some(page), None];
         }
     }
@@ -158,7 +158,7 @@ impl Place {
     fn put_back(&mut self, i: usize) {
         if self.holder == Some(i) {
             self.holder = None;
-            self.phase = Phase::Resting;
+            self.phase = PlainPhase::Resting;
         }
     }
 
@@ -184,7 +184,7 @@ pub struct Aim {
 
 /// A job.
 #[derive(Clone, Copy)]
-pub struct Party {
+pub struct PlainJob {
     pub aim: Aim,
     pub over: Over,
     stage: Stage,
@@ -197,7 +197,7 @@ pub struct Party {
     came: usize,
     /// The status of the reply that is not heard.
     due: Option<Status>,
-    carriage: Carriage,
+    transfer: PlainTransfer,
     image: bool,
     flight: usize,
     is_last: bool,
@@ -208,10 +208,10 @@ pub struct Party {
     pub finished: usize,
 }
 
-impl Party {
+impl PlainJob {
     /// A client that has not connected yet.
-    pub const fn new(aim: Aim) -> Party {
-        Party {
+    pub const fn new(aim: Aim) -> PlainJob {
+        PlainJob {
             aim,
             over: Over::Running,
             stage: Stage::Greeting,
@@ -222,7 +222,7 @@ impl Party {
             out: [Some(Ask::Init), None, None, None],
             came: 0,
             due: None,
-            carriage: Carriage::Quiet,
+            transfer: PlainTransfer::Quiet,
             image: false,
             flight: 0,
             is_last: false,
@@ -239,34 +239,39 @@ impl Party {
         self.over == Over::Running
     }
 
-    /// Whether the rules let the deed happen now.
-    pub fn can(&self, deed: Deed) -> bool {
+    /// Whether the model lets the action happen now.
+    pub fn can(&self, deed: PlainAction) -> bool {
         match deed {
-            Deed::Connect => self.is_running() && !self.was_connected,
-            Deed::ToDaemon(n) => self.linked && !matches!(self.out, [None, ..]) && n > 0,
-            Deed::ToClient(n) => self.linked && self.due.is_some() && n > 0,
-            Deed::DataConnect => {
-                self.stage == Stage::Imaging { opened: false } && self.carriage == Carriage::Waiting
+            PlainAction::Connect => self.is_running() && !self.was_connected,
+            PlainAction::ToDaemon(n) => self.linked && !matches!(self.out, [None, ..]) && n > 0,
+            PlainAction::ToClient(n) => self.linked && self.due.is_some() && n > 0,
+            PlainAction::DataConnect => {
+                self.stage == Stage::Imaging { opened: false }
+                    && self.transfer == PlainTransfer::Waiting
             }
-            Deed::DataTurn => {
-                self.image && matches!(self.carriage, Carriage::Streaming | Carriage::Ending)
+            PlainAction::DataTurn => {
+                self.image
+                    && matches!(
+                        self.transfer,
+                        PlainTransfer::Streaming | PlainTransfer::Ending
+                    )
             }
-            Deed::DataToClient(n) => self.image && self.flight > 0 && n > 0,
-            Deed::LoseControl => self.linked,
-            Deed::LoseImage => self.image,
-            Deed::Cancel => self.is_running(),
+            PlainAction::DataToClient(n) => self.image && self.flight > 0 && n > 0,
+            PlainAction::LoseControl => self.linked,
+            PlainAction::LoseImage => self.image,
+            PlainAction::Cancel => self.is_running(),
         }
     }
 
     /// The next move of a job: the first that can happen.
-    pub fn next(&self) -> Option<Deed> {
+    pub fn next(&self) -> Option<PlainAction> {
         let moves = [
-            Deed::Connect,
-            Deed::ToDaemon(4096),
-            Deed::ToClient(4096),
-            Deed::DataConnect,
-            Deed::DataToClient(4096),
-            Deed::DataTurn,
+            PlainAction::Connect,
+            PlainAction::ToDaemon(4096),
+            PlainAction::ToClient(4096),
+            PlainAction::DataConnect,
+            PlainAction::DataToClient(4096),
+            PlainAction::DataTurn,
         ];
         for deed in moves {
             if self.is_running() && self.can(deed) {
@@ -393,7 +398,7 @@ impl Party {
     }
 
     /// So many bytes come to the daemon, which answers what is whole.
-    fn delivers(&mut self, i: usize, place: &mut Place, n: usize) {
+    fn delivers(&mut self, i: usize, place: &mut PlainPlace, n: usize) {
         let mut left = n.min(4096);
         for _ in 0..4 {
             let [Some(ask), second, third, fourth] = self.out else {
@@ -413,14 +418,14 @@ impl Party {
         }
     }
 
-    fn is_answered(&mut self, i: usize, place: &mut Place, ask: Ask) {
+    fn is_answered(&mut self, i: usize, place: &mut PlainPlace, ask: Ask) {
         self.due = match ask {
             Ask::Open => Some(place.open(i)),
             Ask::Start => Some(self.is_started(place)),
             Ask::Init | Ask::Describe | Ask::Set | Ask::Parameters => Some(Status::Good),
             Ask::Cancel => {
                 if place.holder == Some(i) {
-                    place.phase = Phase::Resting;
+                    place.phase = PlainPhase::Resting;
                 }
                 self.cut_off();
                 Some(Status::Good)
@@ -433,57 +438,63 @@ impl Party {
             Ask::Exit => {
                 place.put_back(i);
                 self.served = false;
-                self.carriage = Carriage::Quiet;
+                self.transfer = PlainTransfer::Quiet;
                 self.due
             }
         };
     }
 
     fn cut_off(&mut self) {
-        self.carriage = match self.carriage {
-            Carriage::Quiet | Carriage::Waiting => Carriage::Quiet,
-            Carriage::Streaming | Carriage::Ending => Carriage::Ending,
+        self.transfer = match self.transfer {
+            PlainTransfer::Quiet | PlainTransfer::Waiting => PlainTransfer::Quiet,
+            PlainTransfer::Streaming | PlainTransfer::Ending => PlainTransfer::Ending,
         };
     }
 
-    fn is_started(&mut self, place: &mut Place) -> Status {
-        if self.carriage != Carriage::Quiet {
+    fn is_started(&mut self, place: &mut PlainPlace) -> Status {
+        if self.transfer != PlainTransfer::Quiet {
             return Status::DeviceBusy;
         }
         match place.phase {
-            Phase::Resting => match place.take() {
+            PlainPhase::Resting => match place.take() {
                 Some(page) => self.begun = page,
                 None => return Status::NoDocs,
             },
-            Phase::Between(_) => {}
-            Phase::Reading(_, _) => return Status::DeviceBusy,
+            PlainPhase::Between(_) => {}
+            PlainPhase::Reading(_, _) => return Status::DeviceBusy,
         }
         place.phase = match place.phase {
-            Phase::Between(over) => Phase::Reading(over, false),
-            Phase::Resting | Phase::Reading(_, _) => Phase::Reading(0, false),
+            PlainPhase::Between(over) => PlainPhase::Reading(over, false),
+            PlainPhase::Resting | PlainPhase::Reading(_, _) => PlainPhase::Reading(0, false),
         };
-        self.carriage = Carriage::Waiting;
+        self.transfer = PlainTransfer::Waiting;
         Status::Good
     }
 
     /// A turn of the data connection: the line of the frame, or its end.
-    fn turns(&mut self, place: &mut Place) {
-        if let (Carriage::Streaming, Phase::Reading(over, false)) = (self.carriage, place.phase) {
-            place.phase = Phase::Reading(over, true);
+    fn turns(&mut self, place: &mut PlainPlace) {
+        if let (PlainTransfer::Streaming, PlainPhase::Reading(over, false)) = (
+            self.transfer,
+            place.phase,
+        ) {
+            place.phase = PlainPhase::Reading(over, true);
             self.flight = self.flight.saturating_add(4).saturating_add(place.line);
             return;
         }
-        if let (Carriage::Streaming, Phase::Reading(over, true)) = (self.carriage, place.phase) {
+        if let (PlainTransfer::Streaming, PlainPhase::Reading(over, true)) = (
+            self.transfer,
+            place.phase,
+        ) {
             let over = over.saturating_add(1);
             place.phase = if over < place.passes {
-                Phase::Between(over)
+                PlainPhase::Between(over)
             } else {
-                Phase::Resting
+                PlainPhase::Resting
             };
         }
         self.flight = self.flight.saturating_add(5);
         self.is_last = true;
-        self.carriage = Carriage::Quiet;
+        self.transfer = PlainTransfer::Quiet;
     }
 
     // ---- what happens
@@ -498,50 +509,50 @@ impl Party {
         }
     }
 
-    fn loses_image(&mut self, i: usize, place: &mut Place) {
+    fn loses_image(&mut self, i: usize, place: &mut PlainPlace) {
         self.image = false;
         if matches!(self.stage, Stage::Imaging { .. }) {
             self.is_lost();
         }
-        if self.carriage == Carriage::Streaming && place.holder == Some(i) {
-            place.phase = Phase::Resting;
+        if self.transfer == PlainTransfer::Streaming && place.holder == Some(i) {
+            place.phase = PlainPhase::Resting;
         }
-        self.carriage = Carriage::Quiet;
+        self.transfer = PlainTransfer::Quiet;
     }
 
     /// It happens to job i, which can, and where a reply came, whether it is whole.
-    pub fn goes(&mut self, i: usize, place: &mut Place, deed: Deed, is_whole: bool) {
+    pub fn goes(&mut self, i: usize, place: &mut PlainPlace, deed: PlainAction, is_whole: bool) {
         match deed {
-            Deed::Connect => {
+            PlainAction::Connect => {
                 self.was_connected = true;
                 self.linked = true;
                 self.served = true;
             }
-            Deed::ToDaemon(n) => self.delivers(i, place, n),
-            Deed::ToClient(_) => {
+            PlainAction::ToDaemon(n) => self.delivers(i, place, n),
+            PlainAction::ToClient(_) => {
                 if let (Some(status), true) = (self.due, is_whole) {
                     self.due = None;
                     self.hears(status);
                 }
             }
-            Deed::DataConnect => {
+            PlainAction::DataConnect => {
                 self.stage = Stage::Imaging { opened: true };
                 self.image = true;
                 self.flight = 0;
                 self.is_last = false;
-                self.carriage = Carriage::Streaming;
+                self.transfer = PlainTransfer::Streaming;
             }
-            Deed::DataTurn => self.turns(place),
-            Deed::DataToClient(n) => self.is_shown(place.passes, n),
-            Deed::LoseControl => {
+            PlainAction::DataTurn => self.turns(place),
+            PlainAction::DataToClient(n) => self.is_shown(place.passes, n),
+            PlainAction::LoseControl => {
                 place.put_back(i);
                 self.is_lost();
                 self.linked = false;
                 self.served = false;
                 self.image = false;
             }
-            Deed::LoseImage => self.loses_image(i, place),
-            Deed::Cancel => self.gives_up(),
+            PlainAction::LoseImage => self.loses_image(i, place),
+            PlainAction::Cancel => self.gives_up(),
         }
     }
 }

@@ -1,4 +1,4 @@
-use Rattle.data_records.proofs.Pieces.{ended, used_all}
+use Rattle.data_records.proofs.StepsOverPieces.{ended, used_all}
 use Rattle.data_records.proofs.records.records_are_read_in_any_pieces.Goals as goal
 
 pub returns-clause-ended : goal.returns-clause-ended

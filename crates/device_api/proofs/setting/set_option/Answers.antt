@@ -1,5 +1,5 @@
 use Rattle.std.proofs.Common.{◌∙◌, sym, subst}
-use Rattle.device_api.specs.Allowed.{IsAllowed}
+use Rattle.device_api.specs.ScannerLimits.{IsAllowed}
 use Rattle.device_api.proofs.AdmittedLaws.{admitted}
 use Rattle.device_api.proofs.AllowedLaws.{value_allowed}
 use Rattle.device_api.proofs.InfoLaws.{set_gives, after_is}

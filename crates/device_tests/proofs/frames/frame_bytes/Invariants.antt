@@ -1,4 +1,4 @@
-use Rattle.scan_frames.specs.Reading.{IsFrame}
+use Rattle.scan_frames.specs.PassReading.{IsFrame}
 use Rattle.device_tests.proofs.frames.frame_bytes.Given as goal
 
 abbrev pub invariant-loop-reads : goal.invariant-loop-reads

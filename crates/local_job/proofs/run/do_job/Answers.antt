@@ -2,10 +2,10 @@ use Rattle.std.proofs.Common.{◌≡◌, ◌≢◌, ◌∙◌, rules, sym, subst
 use Rattle.std.proofs.lemmas.Result.{err_from_is_err_and}
 use Rattle.device_api.specs.State.{DeviceState, with_setup}
 use Rattle.scan_job.specs.declared.job.Task.TheVariants.{Scan}
-use Rattle.local_job.proofs.Runs.{ended_by_scan, ended_by_setting, was_put, left_by_scan, left_by_others, writes_reset, kept_none, kept_setup, kept_scan}
+use Rattle.local_job.proofs.JobRuns.{ended_by_scan, ended_by_setting, was_put, left_by_scan, left_by_others, writes_reset, kept_none, kept_setup, kept_scan}
 use Rattle.local_job.proofs.Shows.{scan_writes, others_write}
 use Rattle.local_job.specs.FrameReading.{IsScanned}
-use Rattle.local_job.specs.LocalRun.{devices_told, settings_put, IsTaken}
+use Rattle.local_job.specs.LocalRun.{devices_reported, settings_put, IsTakenJob}
 use Rattle.local_job.specs.Putting.{put_all}
 use Rattle.local_job.proofs.run.do_job.Goals.{then-eq+in_ok-scan_picture, else-eq}
 use Rattle.local_job.proofs.run.do_job.Goals as goal
@@ -14,7 +14,7 @@ pub returns-clause-done : goal.returns-clause-done
 returns-clause-done g c =
     let first : DeviceState = (goal.Device-dyn g c.args.device.now).state c.args.device.now.1 in
     let mid : DeviceState = (goal.Device-dyn g c.args.device.now).state c.put_settings.new.device in
-    let taken : IsTaken c.args.job.now = search rules in
+    let taken : IsTakenJob c.args.job.now = search rules in
     let put : put_all first.setup (settings_put c.args.job.now.task c.args.job.now.settings.items) ≡ Ok (mid.setup, c.in_ok-settings.settings) = rw (← c.deref.ensures.value, ← c.settings_put.ensures) c.in_ok-settings.ensures.put in
     let was = was_put first c.args.job.now mid.setup _ c.requires.reset taken put in
     record {
@@ -22,7 +22,7 @@ returns-clause-done g c =
       placed = was.placed;
       put = was.put;
       told = was.told;
-      devices = c.in_ok-devices.ensures.told ∙ ap (λ (s : DeviceState). devices_told c.args.job.now.task s.info) c.in_ok-settings.ensures.rest;
+      devices = c.in_ok-devices.ensures.told ∙ ap (λ (s : DeviceState). devices_reported c.args.job.now.task s.info) c.in_ok-settings.ensures.rest;
       options = c.in_ok-options.ensures.told;
       output = writes_reset c.args.job.now.task first mid _ _ c.requires.reset (elim c.if-eq.branch [
         | then-eq+in_ok-scan_picture w ↦
@@ -40,7 +40,7 @@ pub returns-in_err-settings-clause-stop : goal.returns-in_err-settings-clause-st
 returns-in_err-settings-clause-stop g c =
     let first : DeviceState = (goal.Device-dyn g c.args.device.now).state c.args.device.now.1 in
     let new : DeviceState = (goal.Device-dyn g c.args.device.now).state c.put_settings.new.device in
-    let taken : IsTaken c.args.job.now = search rules in
+    let taken : IsTakenJob c.args.job.now = search rules in
     let p = err_from_is_err_and c.from_residual.result c.from_residual.ensures.1 in
     rw (p.1, p.2) (ended_by_setting first new c.args.job.now _ c.requires.reset taken (rw (← c.deref.ensures.value, ← c.settings_put.ensures) c.in_err-settings.ensures.stop))
 
@@ -49,7 +49,7 @@ returns-in_err-scan_picture-clause-stop g c =
     let first : DeviceState = (goal.Device-dyn g c.args.device.now).state c.args.device.now.1 in
     let mid : DeviceState = (goal.Device-dyn g c.args.device.now).state c.put_settings.new.device in
     let new : DeviceState = (goal.Device-dyn g c.args.device.now).state c.scan_picture.new.device in
-    let taken : IsTaken c.args.job.now = search rules in
+    let taken : IsTakenJob c.args.job.now = search rules in
     let scan : c.args.job.now.task ≡ Scan = search rules in
     let put : put_all first.setup (settings_put c.args.job.now.task c.args.job.now.settings.items) ≡ Ok (mid.setup, c.in_ok-settings.settings) = rw (← c.deref.ensures.value, ← c.settings_put.ensures) c.in_ok-settings.ensures.put in
     let p = err_from_is_err_and c.from_residual-in_err-scan_picture.result c.from_residual-in_err-scan_picture.ensures.1 in

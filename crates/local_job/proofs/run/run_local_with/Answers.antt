@@ -1,5 +1,5 @@
 use Rattle.device_api.specs.State.{DeviceState}
-use Rattle.local_job.proofs.Runs.{reset_again, done_first, ended_first, runs_first, ok_then, err_then}
+use Rattle.local_job.proofs.JobRuns.{reset_again, done_first, ended_first, runs_first, ok_then, err_then}
 use Rattle.local_job.proofs.run.run_local_with.Goals as goal
 
 pub do_job-done-requires-clause-reset : goal.do_job-done-requires-clause-reset

@@ -4,9 +4,9 @@ use Rattle.std.proofs.lemmas.Result.{err_from_is_err_and}
 use Rattle.scan_frames.specs.Frames.{has_picture}
 use Rattle.page_picture.specs.Shows.{Frame}
 use Rattle.device_api.specs.State.{DeviceState, Reading, next_pass, with_phase, page_of}
-use Rattle.frame_join.specs.FrameHistory.{Past}
-use Rattle.frame_join.specs.Joining.{Stands}
-use Rattle.local_job.specs.FrameReading.{came, HasJoined}
+use Rattle.frame_join.specs.FrameHistory.{JoinHistory}
+use Rattle.frame_join.specs.JoinStates.{Represents}
+use Rattle.local_job.specs.FrameReading.{bytes_of_pass, HasJoined}
 use Rattle.local_job.proofs.FrameReads.{so_far}
 use Rattle.local_job.proofs.Lets.{cause_before, keeps_before}
 use Rattle.local_job.proofs.Pictures.{begun_on, went_to, cause_of_memory, end_cause_of, next_pass_of, on_device, only_phase, stops, underway, waiting, pass_scanned, before_start, reads_no_more, on_ok_const, if_ok_map, if_err_map, on_err_map}
@@ -35,9 +35,9 @@ returns-in_err-read_frame-clause-short g c =
     let p = err_from_is_err_and c.from_residual-in_err-read_frame.result c.from_residual-in_err-read_frame.ensures.1 in
     rw p.1 (λ first joined.
     let j : HasJoined mid pass first c.args.join.now (g.W.Outlet.contents c.args.out.now) = on_device old mid (Reading pass 0) pass first _ _ is joined in
-    let past : Past = underway mid pass j.passes j.given in
-    let frame : Frame = came mid.setup (page_of mid) pass [] in
-    let stands : Stands past c.begin_frame.new.join = begun_on mid pass j.passes j.given _ at some (c.in_ok-begin_frame.ensures.begun _ (waiting mid pass first _ _ j)) in
+    let past : JoinHistory = underway mid pass j.passes j.given in
+    let frame : Frame = bytes_of_pass mid.setup (page_of mid) pass [] in
+    let stands : Represents past c.begin_frame.new.join = begun_on mid pass j.passes j.given _ at some (c.in_ok-begin_frame.ensures.begun _ (waiting mid pass first _ _ j)) in
     c.in_err-read_frame.ensures.short pass past frame first (record { at = at; inside = record { stands = stands; no_fault = refl; under = refl; taken = j.taken }; empty = refl }))
 
 pub returns-clause-scanned : goal.returns-clause-scanned
@@ -53,12 +53,12 @@ returns-clause-scanned g c =
     let phase = went_to mid new _ (c.in_ok-read_frame.ensures.ended pass at) in
     if_ok_map c.end_frame.result (λ is_whole ends first joined.
     let j : HasJoined mid pass first c.args.join.now (g.W.Outlet.contents c.args.out.now) = on_device old mid (Reading pass 0) pass first _ _ is joined in
-    let past : Past = underway mid pass j.passes j.given in
-    let frame : Frame = came mid.setup (page_of mid) pass [] in
-    let stands : Stands past c.begin_frame.new.join = begun_on mid pass j.passes j.given _ at some (c.in_ok-begin_frame.ensures.begun _ (waiting mid pass first _ _ j)) in
+    let past : JoinHistory = underway mid pass j.passes j.given in
+    let frame : Frame = bytes_of_pass mid.setup (page_of mid) pass [] in
+    let stands : Represents past c.begin_frame.new.join = begun_on mid pass j.passes j.given _ at some (c.in_ok-begin_frame.ensures.begun _ (waiting mid pass first _ _ j)) in
     let read = c.in_ok-read_frame.ensures.read pass past frame first (record { at = at; inside = record { stands = stands; no_fault = refl; under = refl; taken = j.taken }; empty = refl }) in
     let r = read.2 in
-    let e = ends first (so_far past frame r.bytes r.feeds.given) (came mid.setup (page_of mid) pass r.bytes) (record { stands = r.feeds.stands; no_fault = refl; under = refl; taken = r.feeds.taken }) in
+    let e = ends first (so_far past frame r.bytes r.feeds.given) (bytes_of_pass mid.setup (page_of mid) pass r.bytes) (record { stands = r.feeds.stands; no_fault = refl; under = refl; taken = r.feeds.taken }) in
     before_start is_whole old mid new (Reading pass 0) pass first _ _ is
     (pass_scanned is_whole mid new pass read.0 j.passes j.given first _ _ _ _ c.in_ok-begin_frame.ensures.limits there c.frames_show_the_picture.ensures c.whole_shows.ensures j.count j.more j.right phase read.1 r e)) c.end_frame.ensures.ended
 
@@ -72,12 +72,12 @@ returns-clause-short g c =
     let some : mid.pages ≢ [] = λ none. c.in_ok-start_pass.ensures.some (sym (ap (λ (s : DeviceState). s.pages) is) ∙ none) in
     on_err_map c.end_frame.result (λ short first joined.
     let j : HasJoined mid pass first c.args.join.now (g.W.Outlet.contents c.args.out.now) = on_device old mid (Reading pass 0) pass first _ _ is joined in
-    let past : Past = underway mid pass j.passes j.given in
-    let frame : Frame = came mid.setup (page_of mid) pass [] in
-    let stands : Stands past c.begin_frame.new.join = begun_on mid pass j.passes j.given _ at some (c.in_ok-begin_frame.ensures.begun _ (waiting mid pass first _ _ j)) in
+    let past : JoinHistory = underway mid pass j.passes j.given in
+    let frame : Frame = bytes_of_pass mid.setup (page_of mid) pass [] in
+    let stands : Represents past c.begin_frame.new.join = begun_on mid pass j.passes j.given _ at some (c.in_ok-begin_frame.ensures.begun _ (waiting mid pass first _ _ j)) in
     let read = c.in_ok-read_frame.ensures.read pass past frame first (record { at = at; inside = record { stands = stands; no_fault = refl; under = refl; taken = j.taken }; empty = refl }) in
     let r = read.2 in
-    short first (so_far past frame r.bytes r.feeds.given) (came mid.setup (page_of mid) pass r.bytes) (record { stands = r.feeds.stands; no_fault = refl; under = refl; taken = r.feeds.taken })) c.end_frame.ensures.short
+    short first (so_far past frame r.bytes r.feeds.given) (bytes_of_pass mid.setup (page_of mid) pass r.bytes) (record { stands = r.feeds.stands; no_fault = refl; under = refl; taken = r.feeds.taken })) c.end_frame.ensures.short
 
 pub returns-clause-ended : goal.returns-clause-ended
 returns-clause-ended g c =
@@ -134,9 +134,9 @@ returns-in_err-read_frame-clause-cause g c =
     rw (p.1, p.2) (λ first joined _ _.
     let j : HasJoined mid pass first c.args.join.now (g.W.Outlet.contents c.args.out.now) = on_device old mid (Reading pass 0) pass first _ _ is joined in
     let next = next_pass_of mid pass first _ _ at some c.in_ok-begin_frame.ensures.limits there c.a_join_takes_the_frames_of_a_scan.ensures j in
-    let past : Past = underway mid pass j.passes j.given in
-    let frame : Frame = came mid.setup (page_of mid) pass [] in
-    let stands : Stands past c.begin_frame.new.join = begun_on mid pass j.passes j.given _ at some (c.in_ok-begin_frame.ensures.begun _ next.between) in
+    let past : JoinHistory = underway mid pass j.passes j.given in
+    let frame : Frame = bytes_of_pass mid.setup (page_of mid) pass [] in
+    let stands : Represents past c.begin_frame.new.join = begun_on mid pass j.passes j.given _ at some (c.in_ok-begin_frame.ensures.begun _ next.between) in
     cause_before old mid new (Reading pass 0) _ is
     (c.in_err-read_frame.ensures.cause pass past frame first (record { at = at; inside = record { stands = stands; no_fault = refl; under = refl; taken = j.taken }; empty = refl }) next.room))
 
@@ -153,14 +153,14 @@ returns-clause-cause g c =
     if_err_map c.end_frame.result (λ stop cause first joined _ _.
     let j : HasJoined mid pass first c.args.join.now (g.W.Outlet.contents c.args.out.now) = on_device old mid (Reading pass 0) pass first _ _ is joined in
     let next = next_pass_of mid pass first _ _ at some c.in_ok-begin_frame.ensures.limits there c.a_join_takes_the_frames_of_a_scan.ensures j in
-    let past : Past = underway mid pass j.passes j.given in
-    let frame : Frame = came mid.setup (page_of mid) pass [] in
-    let stands : Stands past c.begin_frame.new.join = begun_on mid pass j.passes j.given _ at some (c.in_ok-begin_frame.ensures.begun _ next.between) in
+    let past : JoinHistory = underway mid pass j.passes j.given in
+    let frame : Frame = bytes_of_pass mid.setup (page_of mid) pass [] in
+    let stands : Represents past c.begin_frame.new.join = begun_on mid pass j.passes j.given _ at some (c.in_ok-begin_frame.ensures.begun _ next.between) in
     let read = c.in_ok-read_frame.ensures.read pass past frame first (record { at = at; inside = record { stands = stands; no_fault = refl; under = refl; taken = j.taken }; empty = refl }) in
     let r = read.2 in
     cause_before old mid new (Reading pass 0) stop is
     (end_cause_of mid new pass read.0 r.bytes stop
-    (cause first (so_far past frame r.bytes r.feeds.given) (came mid.setup (page_of mid) pass r.bytes) (record { stands = r.feeds.stands; no_fault = refl; under = refl; taken = r.feeds.taken }))
+    (cause first (so_far past frame r.bytes r.feeds.given) (bytes_of_pass mid.setup (page_of mid) pass r.bytes) (record { stands = r.feeds.stands; no_fault = refl; under = refl; taken = r.feeds.taken }))
     next.full r.count read.1)) c.end_frame.ensures.cause
 
 pub returns-in_err-read_frame-clause-same : goal.returns-in_err-read_frame-clause-same

@@ -1,11 +1,11 @@
 use Rattle.std.proofs.Common.{◌≡◌, ◌∙◌, ℕ, List, Option, rules, arith, sym, ap, true, false, refl}
 use Rattle.std.proofs.lemmas.Result.{err_from_is_err_and}
 use Rattle.device_api.specs.State.{DeviceState}
-use Rattle.local_job.proofs.Scans.{none_gone, so_joined, one_gone, all_gone, at_rest, gone_same, no_more, stops_gone, picture_same, pages_same}
+use Rattle.local_job.proofs.JoinedScans.{none_gone, so_joined, one_gone, all_gone, at_rest, gone_same, no_more, stops_gone, picture_same, pages_same}
 use Rattle.local_job.proofs.Lets.{cause_before, keeps_before}
 use Rattle.std.specs.Prelude.{◌≢◌, []}
 use Rattle.std.proofs.KnownBytes.{Appends-nil}
-use Rattle.local_job.proofs.Trays.{none_behind, stays_before}
+use Rattle.local_job.proofs.EmptyTrays.{none_behind, stays_before}
 use Rattle.local_job.proofs.scan.scan_passes.Goals as goal
 
 pub loop-pass-init : goal.loop-pass-init

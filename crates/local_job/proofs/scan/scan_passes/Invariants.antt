@@ -1,6 +1,6 @@
 use Rattle.std.proofs.Common.{◌≡◌, ◌<◌, length}
 use Rattle.device_api.specs.State.{DeviceState}
-use Rattle.local_job.proofs.Scans.{HasGone}
+use Rattle.local_job.proofs.JoinedScans.{HasGone}
 use Rattle.local_job.proofs.scan.scan_passes.Given as goal
 
 abbrev pub invariant-loop-pass : goal.invariant-loop-pass

@@ -1,5 +1,5 @@
 use Rattle.std.proofs.lemmas.Result.{err_from_is_err_and}
-use Rattle.md5_auth.proofs.FieldLemmas.{entry_line_some}
+use Rattle.md5_auth.proofs.UserFieldLemmas.{entry_line_some}
 use Rattle.md5_auth.proofs.user_lines.push_line.Goals as goal
 
 pub returns-in_err-push-clause-fault : goal.returns-in_err-push-clause-fault

@@ -1,4 +1,4 @@
-use Rattle.md5_auth.proofs.FieldLemmas.{password_text, backend_text}
+use Rattle.md5_auth.proofs.UserFieldLemmas.{password_text, backend_text}
 use Rattle.md5_auth.proofs.user_lines.read_line.Goals as goal
 
 pub copied-requires-clause-password : goal.copied-requires-clause-password

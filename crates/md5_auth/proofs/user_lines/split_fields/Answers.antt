@@ -1,5 +1,5 @@
 use Rattle.std.proofs.lemmas.Bool.{eqb-true}
-use Rattle.md5_auth.proofs.FieldLemmas.{no_colon, one_colon, three_colons}
+use Rattle.md5_auth.proofs.UserFieldLemmas.{no_colon, one_colon, three_colons}
 use Rattle.md5_auth.proofs.user_lines.split_fields.Goals as goal
 
 pub returns-in_err-user-clause-none : goal.returns-in_err-user-clause-none

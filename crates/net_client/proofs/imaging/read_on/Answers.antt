@@ -1,8 +1,8 @@
 use Rattle.std.proofs.Common.{◌≡◌, ◌∙◌, ◌<◌, ◌-◌, ◌+◌, ◌≤◌, ℕ, List, length, take, drop, sym, subst, arith, rules}
 use Rattle.std.proofs.lemmas.List.{take_all}
-use Rattle.frame_join.specs.Joining.{Joining}
-use Rattle.net_client.specs.Imaging.{ReadsTo}
-use Rattle.net_client.proofs.Records.{more_tells, bytes_tell, reads_none, reads_more, reads_bytes, reads_fault, reads_end, rest_length}
+use Rattle.frame_join.specs.JoinStates.{JoinState}
+use Rattle.net_client.specs.FramePieces.{ReadsTo}
+use Rattle.net_client.proofs.FrameRecords.{more_tells, bytes_tell, reads_none, reads_more, reads_bytes, reads_fault, reads_end, rest_length}
 use Rattle.net_client.proofs.imaging.read_on.Goals as goal
 use Rattle.net_client.proofs.imaging.read_on.Goals.{in-More, in-Bytes+in_default}
 
@@ -34,13 +34,13 @@ loop-at-preserved c =
       | in-More w ↦ record {
         within = within;
         going = more_tells c.step-used.new.self (rw w.in-More.is at (c.step-used.ensures.tells some));
-        reads = λ past frame here. subst (λ (j : Joining). ReadsTo c.args.reader.now past frame (take (c.loop-at.at + c.step-used.result.0) c.args.piece.now) c.step-used.new.self j) (sym w.join-is)
+        reads = λ past frame here. subst (λ (j : JoinState). ReadsTo c.args.reader.now past frame (take (c.loop-at.at + c.step-used.result.0) c.args.piece.now) c.step-used.new.self j) (sym w.join-is)
             (reads_more c.args.reader.now c.loop-at.reader c.step-used.new.self past frame c.args.piece.now c.loop-at.at c.step-used.result.0 c.loop-at.join (c.loop-at.invariant.reads past frame here) (rw w.in-More.is at c.step-used.ensures.goes_on));
       }
       | in-Bytes+in_default w ↦ record {
         within = within;
         going = bytes_tell c.step-used.new.self _ _ (rw w.in-Bytes.is at (c.step-used.ensures.tells some));
-        reads = λ past frame here. subst (λ (j : Joining). ReadsTo c.args.reader.now past frame (take (c.loop-at.at + c.step-used.result.0) c.args.piece.now) c.step-used.new.self j) (sym w.join-is)
+        reads = λ past frame here. subst (λ (j : JoinState). ReadsTo c.args.reader.now past frame (take (c.loop-at.at + c.step-used.result.0) c.args.piece.now) c.step-used.new.self j) (sym w.join-is)
             (let goes = rw w.in-Bytes.is at c.step-used.ensures.goes_on in
             reads_bytes c.args.reader.now c.loop-at.reader c.step-used.new.self past frame c.args.piece.now c.loop-at.at c.step-used.result.0 _ _ c.loop-at.join w.feed.new.self (c.loop-at.invariant.reads past frame here)
             here.clear goes.2 w.feed.ensures.carried (λ q s. sym (w.fault.ensures q s) ∙ (search rules)));

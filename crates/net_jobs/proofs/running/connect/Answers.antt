@@ -1,6 +1,6 @@
 use Rattle.std.proofs.Common.{ℕ, List, Option, sym, subst}
-use Rattle.net_jobs.specs.Going.{Stage}
-use Rattle.net_jobs.proofs.Receiving.{stage_opened, stage_wanted_lost}
+use Rattle.net_jobs.specs.RunInvariants.{RunInvariant}
+use Rattle.net_jobs.proofs.DataLoop.{stage_opened, stage_wanted_lost}
 use Rattle.net_jobs.proofs.running.connect.Goals as goal
 
 pub returns-in-Ok : goal.returns-in-Ok
@@ -13,7 +13,7 @@ returns-in-Ok g c = record {
 pub returns-in-Err : goal.returns-in-Err
 returns-in-Err g c = record {
   stage = λ job read_ wrote coming0 given s.
-      subst (λ (o : Option (List (List ℕ))). Stage g.D.Conn.Read.remaining job read_ wrote c.link_lost.new.self.out coming0 o given c.args.stream.now c.link_lost.new.self) (sym c.in-Err.ensures.none)
+      subst (λ (o : Option (List (List ℕ))). RunInvariant g.D.Conn.Read.remaining job read_ wrote c.link_lost.new.self.out coming0 o given c.args.stream.now c.link_lost.new.self) (sym c.in-Err.ensures.none)
       (stage_wanted_lost g.D.Conn.Read.remaining job read_ wrote coming0 (g.D.Dial.coming c.args.dial.now) given c.args.stream.now c.args.stream.now c.args.client.now c.link_lost.new.self c.args.port
       c.requires.running c.requires.wanted c.link_lost.ensures.lost s);
 }

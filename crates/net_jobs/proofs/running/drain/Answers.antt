@@ -1,7 +1,7 @@
 use Rattle.std.proofs.Common.{◌≡◌, ◌∙◌, rules, arith, ap, take, length, refl, ℕ, List, []}
 use Rattle.std.proofs.lemmas.List.{length-take}
 use Rattle.std.specs.Io.KnownBytes.{Appends}
-use Rattle.net_jobs.proofs.Drains.{begun, one_more, at_end, stopped, never}
+use Rattle.net_jobs.proofs.NetDrains.{begun, one_more, at_end, stopped, never}
 use Rattle.net_jobs.proofs.running.drain.Goals as goal
 
 pub loop-i-init : goal.loop-i-init

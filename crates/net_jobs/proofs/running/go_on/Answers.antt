@@ -1,5 +1,5 @@
 use Rattle.std.proofs.Common.{◌∙◌, sym, rules}
-use Rattle.net_jobs.proofs.Going.{going_staged, going_fed, going_short, going_wrote, going_read}
+use Rattle.net_jobs.proofs.RunInvariants.{going_staged, going_fed, going_short, going_wrote, going_read}
 use Rattle.net_jobs.proofs.running.go_on.Goals as goal
 
 pub returns-then-is_receiving-clause-going : goal.returns-then-is_receiving-clause-going

@@ -6,9 +6,9 @@ use Rattle.std.proofs.lemmas.Result.{err_from_is_err_and}
 use Rattle.scan_job.specs.declared.outcome.Outcome.{Outcome}
 use Rattle.scan_job.specs.declared.outcome.Outcome.TheVariants.{Done}
 use Rattle.scan_job.specs.declared.report.Reports.{Reports}
-use Rattle.client_rules.specs.Talks.{is_running}
-use Rattle.net_jobs.specs.Promised.{EndsAs}
-use Rattle.net_jobs.proofs.Leaving.{pending_first, pending_gave, pending_went, pending_as, pending_cut, given_more, closed_parted, run_done, run_sunk, run_stopped, cut_over, ok_of, err_of, scan_by}
+use Rattle.client_replies.specs.ProtocolStates.{is_running}
+use Rattle.net_jobs.specs.RunPromises.{StopsAs}
+use Rattle.net_jobs.proofs.JobEnds.{pending_first, pending_gave, pending_went, pending_as, pending_cut, given_more, closed_parted, run_done, run_sunk, run_stopped, cut_over, ok_of, err_of, scan_by}
 use Rattle.net_jobs.proofs.running.run_client.Goals.{else-not-is_over-2-via-then-not-is_over-2+else-not-give, else-not-is_over-2-via-else-not-is_over-2, else-is_ok-via-then-is_ok+else-not-give-2, else-is_ok-via-else-is_ok}
 use Rattle.net_jobs.proofs.running.run_client.Goals as goal
 
@@ -55,7 +55,7 @@ pub returns-in_err-told-clause-ran : goal.returns-in_err-told-clause-ran
 returns-in_err-told-clause-ran g c = λ job fresh single scan.
     let p = pending_cut _ _ g.D.Conn.Read.remaining job _ _ _ _ _ _ c.loop-turns.stream c.loop-turns.client c.link_lost.new.self _ c.link_lost.ensures.lost (c.loop-turns.invariant.pending job fresh single scan) in
     let q = err_from_is_err_and c.from_residual.result c.from_residual.ensures.1 in
-    let ends = subst (λ (o : Outcome). EndsAs o c.in_err-told.field-0.0) c.outcome.ensures (err_of c.told_of-told.result c.in_err-told.field-0.0 _ c.in_err-told.was c.told_of-told.ensures.ended) in
+    let ends = subst (λ (o : Outcome). StopsAs o c.in_err-told.field-0.0) c.outcome.ensures (err_of c.told_of-told.result c.in_err-told.field-0.0 _ c.in_err-told.was c.told_of-told.ensures.ended) in
     rw (q.1, q.2) (elim c.else-is_ok.branch [
       | else-is_ok-via-then-is_ok+else-not-give-2 w ↦ absurd (let clash : true ≡ false = sym w.if-is_ok.true ∙ c.is_ok.ensures.value ∙ ap is_ok c.in_err-told.was in cc)
       | else-is_ok-via-else-is_ok w ↦

@@ -1,5 +1,5 @@
 use Rattle.std.proofs.Common.{inr}
-use Rattle.net_jobs.proofs.Leaving.{single_by}
+use Rattle.net_jobs.proofs.JobEnds.{single_by}
 use Rattle.net_jobs.proofs.running.run_job_with.Goals as goal
 
 pub returns-in-Ok-clause-ran : goal.returns-in-Ok-clause-ran

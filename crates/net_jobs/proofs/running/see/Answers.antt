@@ -1,6 +1,6 @@
 use Rattle.std.proofs.Common.{◌∙◌, Option, sym, subst}
-use Rattle.net_jobs.specs.Going.{Stage}
-use Rattle.net_jobs.proofs.Receiving.{receiving_runs, stage_received, stage_let_go, stage_image_lost}
+use Rattle.net_jobs.specs.RunInvariants.{RunInvariant}
+use Rattle.net_jobs.proofs.DataLoop.{receiving_runs, stage_received, stage_let_go, stage_image_lost}
 use Rattle.net_jobs.proofs.running.see.Goals as goal
 
 pub returns-in_default-clause-stage : goal.returns-in_default-clause-stage
@@ -13,13 +13,13 @@ returns-then-n-eq0-clause-stage g c = λ coming job read_ wrote coming0 given s.
 
 pub returns-then-is_receiving-clause-stage : goal.returns-then-is_receiving-clause-stage
 returns-then-is_receiving-clause-stage g c = λ coming job read_ wrote coming0 given s.
-    let old = subst (λ (o : Option g.row.R.Denot). Stage g.R.Read.remaining job read_ wrote c.args.client.now.out coming0 coming given o c.args.client.now) (sym c.take.ensures.value ∙ c.in-Some.is) s in
+    let old = subst (λ (o : Option g.row.R.Denot). RunInvariant g.R.Read.remaining job read_ wrote c.args.client.now.out coming0 coming given o c.args.client.now) (sym c.take.ensures.value ∙ c.in-Some.is) s in
     stage_received g.R.Read.remaining job read_ wrote coming0 coming given c.in-Some.conn c.read_piece-n.new.stream c.args.client.now c.feed_data.new.self _ (receiving_runs _ _ c.requires) c.read_piece-n.ensures.bytes (sym c.is_receiving.ensures ∙ c.if-is_receiving.true)
-    old (c.feed_data.ensures.receives c.requires old.past old.serves)
+    old (c.feed_data.ensures.receives c.requires old.history old.serves)
 
 pub returns-else-is_receiving-clause-stage : goal.returns-else-is_receiving-clause-stage
 returns-else-is_receiving-clause-stage g c = λ coming job read_ wrote coming0 given s.
-    let old = subst (λ (o : Option g.row.R.Denot). Stage g.R.Read.remaining job read_ wrote c.args.client.now.out coming0 coming given o c.args.client.now) (sym c.take.ensures.value ∙ c.in-Some.is) s in
-    subst (λ (o : Option g.row.R.Denot). Stage g.R.Read.remaining job read_ wrote c.feed_data.new.self.out coming0 coming given o c.feed_data.new.self) (sym c.take.ensures.after)
+    let old = subst (λ (o : Option g.row.R.Denot). RunInvariant g.R.Read.remaining job read_ wrote c.args.client.now.out coming0 coming given o c.args.client.now) (sym c.take.ensures.value ∙ c.in-Some.is) s in
+    subst (λ (o : Option g.row.R.Denot). RunInvariant g.R.Read.remaining job read_ wrote c.feed_data.new.self.out coming0 coming given o c.feed_data.new.self) (sym c.take.ensures.after)
     (stage_let_go g.R.Read.remaining job read_ wrote coming0 coming given c.in-Some.conn c.read_piece-n.new.stream c.args.client.now c.feed_data.new.self _ c.requires c.read_piece-n.ensures.bytes (sym c.is_receiving.ensures ∙ c.if-is_receiving.false)
-    old (c.feed_data.ensures.receives c.requires old.past old.serves))
+    old (c.feed_data.ensures.receives c.requires old.history old.serves))

@@ -1,6 +1,6 @@
 use Rattle.std.proofs.Common.{◌≤◌, length, take, drop, ap, arith, rules}
 use Rattle.std.proofs.lemmas.List.{length-take}
-use Rattle.net_client.specs.Talker.{Talker}
+use Rattle.net_client.specs.ClientStates.{ClientState}
 use Rattle.net_jobs.proofs.Writes.{none_written, more_written, stopped_short, only_out}
 use Rattle.net_jobs.proofs.running.write_out.Goals as goal
 
@@ -21,5 +21,5 @@ loop-n-preserved g c =
       room = search rules;
       rest = only_out c.args.client.now c.loop-n.client c.take_out-n.new.self (drop c.take_out-n.result c.loop-n.client.out) c.loop-n.invariant.rest c.take_out-n.ensures.left;
       to = more_written c.args.client.now.out (g.C.Write.contents c.args.control.now) (g.C.Write.contents c.loop-n.control) (g.C.Write.contents c.put.new.to) c.loop-n.client.out c.take_out-n.new.self.out (take c.take_out-n.result c.take_out-n.new.buf) c.take_out-n.result
-          c.loop-n.invariant.to n c.take_out-n.ensures.given (ap (λ (v : Talker). v.out) c.take_out-n.ensures.left) (c.put.ensures.whole (search rules));
+          c.loop-n.invariant.to n c.take_out-n.ensures.given (ap (λ (v : ClientState). v.out) c.take_out-n.ensures.left) (c.put.ensures.whole (search rules));
     }

@@ -1,5 +1,5 @@
 use Rattle.std.proofs.Common.{◌≡◌, length}
-use Rattle.net_jobs.specs.Writing.{WritesTo}
+use Rattle.net_jobs.specs.ControlWriting.{WritesTo}
 use Rattle.net_jobs.proofs.running.write_out.Given as goal
 
 abbrev pub invariant-loop-n : goal.invariant-loop-n

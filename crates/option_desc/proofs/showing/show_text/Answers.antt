@@ -4,14 +4,14 @@ use Rattle.std.specs.List.{join_with_byte}
 use Rattle.std.proofs.lemmas.Int.{to_z-of_z}
 use Rattle.sane_fixed.specs.declared.kind.Kind.TheVariants as kind
 use Rattle.option_desc.specs.declared.value.Value.TheVariants.{Flag, Int, Fixed, Words, Text}
-use Rattle.option_desc.specs.Held.{IsHeld}
-use Rattle.option_desc.specs.Shown.{word_text}
+use Rattle.option_desc.specs.Representable.{IsRepresentable}
+use Rattle.option_desc.specs.ShownText.{word_text}
 use Rattle.option_desc.proofs.ShownLaws.{shown_reads, always_held, flag_held}
 use Rattle.option_desc.proofs.showing.show_text.Goals as goal
 
 pub returns-in-Flag-clause-reads : goal.returns-in-Flag-clause-reads
 returns-in-Flag-clause-reads c =
-    shown_reads c.args.desc.now c.args.value.now (Flag c.in-Flag.flag) c.show_flag.result c.in-Flag.is (flag_held c.show_flag.result c.args.desc.now c.in-Flag.flag c.show_flag.ensures) (always_held c.show_flag.result (IsHeld (Flag c.in-Flag.flag)) tt)
+    shown_reads c.args.desc.now c.args.value.now (Flag c.in-Flag.flag) c.show_flag.result c.in-Flag.is (flag_held c.show_flag.result c.args.desc.now c.in-Flag.flag c.show_flag.ensures) (always_held c.show_flag.result (IsRepresentable (Flag c.in-Flag.flag)) tt)
 
 pub returns-in-Int-clause-reads : goal.returns-in-Int-clause-reads
 returns-in-Int-clause-reads c =
@@ -33,4 +33,4 @@ returns-in-Words-clause-reads c =
 
 pub returns-in-Text-clause-reads : goal.returns-in-Text-clause-reads
 returns-in-Text-clause-reads c =
-    shown_reads c.args.desc.now c.args.value.now (Text c.in-Text.text) c.try_clone.result c.in-Text.is c.try_clone.ensures.equal (always_held c.try_clone.result (IsHeld (Text c.in-Text.text)) c.try_clone.ensures.text)
+    shown_reads c.args.desc.now c.args.value.now (Text c.in-Text.text) c.try_clone.result c.in-Text.is c.try_clone.ensures.equal (always_held c.try_clone.result (IsRepresentable (Text c.in-Text.text)) c.try_clone.ensures.text)

@@ -1,7 +1,7 @@
 use Rattle.std.proofs.Common.{◌<◌, ◌≤◌, ◌∙◌, ◌++◌, ℤ, pos, length, get_or, sym, ap, subst, refl, rules, arith, FitsSigned, w32}
 use Rattle.std.proofs.lemmas.Int.{to_z-of_z}
 use Rattle.std.proofs.lemmas.List.{get_or_default}
-use Rattle.option_desc.specs.Shown.{word_text}
+use Rattle.option_desc.specs.ShownText.{word_text}
 use Rattle.option_desc.proofs.ShownLaws.{ShownBelow, ShownBelow-none, ShownBelow-first, ShownBelow-next, ShownBelow-all}
 use Rattle.option_desc.proofs.showing.show_words.Goals as goal
 use Rattle.option_desc.proofs.showing.show_words.Goals.{then-i-gt0+in_ok-push, else-i-gt0}

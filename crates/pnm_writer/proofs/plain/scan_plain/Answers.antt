@@ -4,7 +4,7 @@ use Rattle.page_picture.specs.Extent.{extent_of}
 use Rattle.page_picture.specs.Meaning.{sample_of, greatest_at}
 use Rattle.netpbm.specs.FileText.{row_text, header_text}
 use Rattle.netpbm.proofs.WritingLaws.{joined_none, joined_step}
-use Rattle.pnm_writer.specs.Writing.{format_in, header_of}
+use Rattle.pnm_writer.specs.PnmWriting.{format_in, header_of}
 use Rattle.pnm_writer.proofs.PlainLemmas.{file_found}
 use Rattle.pnm_writer.proofs.plain.scan_plain.Goals as goal
 

@@ -1,7 +1,7 @@
 use Rattle.std.proofs.Common.{sym, refl, arith, None}
 use Rattle.std.specs.Option.{option_map}
 use Rattle.dispatch.specs.Table.{seen_lease}
-use Rattle.saned_desk.proofs.Words.{on_word-seen, on_word-past, held_by-seen, held_by-past}
+use Rattle.saned_requests.proofs.LeaseWords.{on_word-seen, on_word-past, held_by-seen, held_by-past}
 use Rattle.saned_core.proofs.data.read_word.Goals as goal
 
 pub returns-then-word-held-clause-reads : goal.returns-then-word-held-clause-reads

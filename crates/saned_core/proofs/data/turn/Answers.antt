@@ -1,5 +1,5 @@
 use Rattle.std.proofs.Common.{refl, ◌∙◌, ap, arith, List, ℕ, ◌++◌, take, length, Some, Ok, Err}
-use Rattle.saned_desk.specs.Holding.{seen_session}
+use Rattle.saned_requests.specs.Holding.{seen_session}
 use Rattle.saned_core.proofs.Streaming.{streams_answer, streams_nothing, record_written, window_short}
 use Rattle.saned_core.proofs.data.turn.Goals as goal
 

@@ -1,7 +1,7 @@
 use Rattle.std.proofs.Common.{ap}
-use Rattle.saned_core.proofs.Pieces.{begins, starves_at_once, starves_in, garbles, ends, goes_on_so}
+use Rattle.saned_core.proofs.FedPieces.{begins, starves_at_once, starves_in, garbles, ends, goes_on_so}
 use Rattle.saned_core.proofs.Progress.{takes_less}
-use Rattle.saned_desk.specs.Rules.Falters.{All, Under}
+use Rattle.saned_requests.specs.RequestAnswers.RequestOutOfMemory.{All, Under}
 use Rattle.saned_core.proofs.feeding.feed_session.Goals as goal
 
 pub returns-in-Err-clause-desk : goal.returns-in-Err-clause-desk

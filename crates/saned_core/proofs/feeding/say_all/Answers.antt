@@ -1,6 +1,6 @@
 use Rattle.std.proofs.Common.{◌∙◌, ap, Option}
 use Rattle.wire_message.specs.declared.message.Reply.{Reply}
-use Rattle.saned_desk.specs.declared.said.Said.TheVariants.{Last}
+use Rattle.saned_requests.specs.declared.request_answer.RequestAnswer.TheVariants.{Last}
 use Rattle.saned_core.proofs.Saying.{one_said, two_said, two_cut, last_said, last_cut}
 use Rattle.saned_core.proofs.feeding.say_all.Goals as goal
 

@@ -1,6 +1,6 @@
 use Rattle.std.proofs.Common.{◌≡◌, true, false, refl}
-use Rattle.saned_core.specs.State.{core}
-use Rattle.saned_serve.proofs.Steps.{goes_fills, goes_fills_again, goes_fresh, goes_ready}
+use Rattle.saned_core.specs.DaemonStates.{core}
+use Rattle.saned_serve.proofs.ActionSteps.{goes_fills, goes_fills_again, goes_fresh, goes_ready}
 use Rattle.saned_serve.proofs.link.fill_replies.Goals as goal
 
 pub returns-then-is_empty-clause-first : goal.returns-then-is_empty-clause-first

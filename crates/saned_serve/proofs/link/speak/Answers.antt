@@ -1,5 +1,5 @@
-use Rattle.saned_core.specs.State.{core}
-use Rattle.saned_serve.proofs.Steps.{goes_then}
+use Rattle.saned_core.specs.DaemonStates.{core}
+use Rattle.saned_serve.proofs.ActionSteps.{goes_then}
 use Rattle.saned_serve.proofs.link.speak.Goals as goal
 
 pub returns : goal.returns

@@ -1,8 +1,8 @@
 use Rattle.std.proofs.Common.{◌≡◌, ◌≤◌, ◌+◌, ◌||◌, ◌∙◌, refl, sym, subst, Bool, true, false, arith, rules}
 use mir.Val.{bool_byte}
-use Rattle.saned_core.specs.State.{core}
-use Rattle.saned_serve.specs.Stands.{WentOn, one_if}
-use Rattle.saned_serve.proofs.Seating.{then_on, took_turn}
+use Rattle.saned_core.specs.DaemonStates.{core}
+use Rattle.saned_serve.specs.LoopInvariants.{WentOn, one_if}
+use Rattle.saned_serve.proofs.SlotGreeting.{then_on, took_turn}
 use Rattle.saned_serve.proofs.serving.take_turn.Goals as goal
 
 same_byte : (b : Bool) → bool_byte b ≡ one_if b
@@ -20,10 +20,10 @@ loop-i-preserved g c =
       turned = λ d0 n0 past anew was.
           let history = g.L.Conn.Socket.history in
           let e = core g.D.Device.state c.turn_at-visit.new.daemon in
-          let m = g.L.Listeners.ledger c.turn_at-visit.new.net in
-          let next = then_on history d0 n0 past c.loop-i.left (one_if c.turn_at-visit.result.has_left) c.loop-i.has_moved c.turn_at-visit.result.has_moved (core g.D.Device.state c.loop-i.daemon) (g.L.Listeners.ledger c.loop-i.net) c.loop-i.i c.loop-i.seats e m (c.loop-i.i + 1) c.turn_at-visit.new.seats
-          (c.loop-i.invariant.turned d0 n0 past anew was) (λ story asked stands. c.turn_at-visit.ensures.went d0 n0 story asked stands) in
-          subst (λ k. WentOn history d0 n0 past (c.loop-i.left + k) (c.loop-i.has_moved || c.turn_at-visit.result.has_moved) e m (c.loop-i.i + 1) c.turn_at-visit.new.seats) (sym one) next;
+          let m = g.L.Listeners.trace c.turn_at-visit.new.net in
+          let next = then_on history d0 n0 past c.loop-i.left (one_if c.turn_at-visit.result.has_left) c.loop-i.has_moved c.turn_at-visit.result.has_moved (core g.D.Device.state c.loop-i.daemon) (g.L.Listeners.trace c.loop-i.net) c.loop-i.i c.loop-i.slots e m (c.loop-i.i + 1) c.turn_at-visit.new.slots
+          (c.loop-i.invariant.turned d0 n0 past anew was) (λ journal asked stands. c.turn_at-visit.ensures.went d0 n0 journal asked stands) in
+          subst (λ k. WentOn history d0 n0 past (c.loop-i.left + k) (c.loop-i.has_moved || c.turn_at-visit.result.has_moved) e m (c.loop-i.i + 1) c.turn_at-visit.new.slots) (sym one) next;
       roomed = c.turn_at-visit.ensures.roomed;
       few = (let most = at_most_one c.turn_at-visit.result.has_left in let few = c.loop-i.invariant.few in omega (arith, one, most, few));
     }
@@ -33,14 +33,14 @@ loop-i-init g c = record { turned = c.welcome-has_moved.ensures.went; few = omeg
 
 pub returns-clause-turned : goal.returns-clause-turned
 returns-clause-turned g c = λ d0 n0 past anew was.
-    took_turn g.L.Conn.Socket.history d0 n0 past c.loop-i.left c.loop-i.has_moved (core g.D.Device.state c.loop-i.daemon) (g.L.Listeners.ledger c.loop-i.net) c.loop-i.i c.loop-i.seats
+    took_turn g.L.Conn.Socket.history d0 n0 past c.loop-i.left c.loop-i.has_moved (core g.D.Device.state c.loop-i.daemon) (g.L.Listeners.trace c.loop-i.net) c.loop-i.i c.loop-i.slots
     (search rules) (c.loop-i.invariant.turned d0 n0 past anew was)
 
 pub overflow_add-left : goal.overflow_add-left
 overflow_add-left g c =
     let few = c.loop-i.invariant.few in
     let at = c.loop-i-test.true in
-    let same = c.welcome-has_moved.auto.seats in
+    let same = c.welcome-has_moved.auto.slots in
     let len = c.requires.len in
     let one = c.from-left.ensures ∙ same_byte c.turn_at-visit.result.has_left in
     let most = at_most_one c.turn_at-visit.result.has_left in

@@ -3,8 +3,8 @@ use Rattle.page_picture.specs.Shows.{channels_within}
 use Rattle.scan_frames.specs.Line.{packing_of, line_of}
 use Rattle.scan_frames.specs.Frames.{format_at}
 use Rattle.scan_frames.specs.Samples.{value_at}
-use Rattle.scan_frames.specs.Rows.{Sees, HasRow}
-use Rattle.scan_frames.specs.Reading.{FrameState}
+use Rattle.scan_frames.specs.Rows.{SeesRow, HasRow}
+use Rattle.scan_frames.specs.PassReading.{FrameProgress}
 use Rattle.scan_frames.specs.Buffers.{MakesLine, state_of}
 use Rattle.scan_frames.proofs.Scans.{next_frame, put_back}
 use Rattle.scan_frames.proofs.Frames.{short_line}
@@ -32,13 +32,13 @@ returns-clause-ok g c =
     let target = c.row_of-target.ensures in
     let behind = c.in_ok-buffers.ensures.behind in
     let white = c.in_ok-buffers.ensures.row in
-    let sees = subst (λ (r : ℕ). Sees s r c.see.new.row) target c.in_ok-buffers.ensures.seen in
+    let sees = subst (λ (r : ℕ). SeesRow s r c.see.new.row) target c.in_ok-buffers.ensures.seen in
     let has = subst (λ (r : ℕ). HasRow s r n c.see.new.row) target c.in_ok-buffers.ensures.known in
     let row_is : c.deref.result.now ≡ c.see.new.row = c.deref.ensures.value ∙ row_back in
     let line : List ℕ → List ℕ → List ℕ = λ row line. line_of (packing_of setup.scene.depth) setup.order (channels_within format) columns.count (value_at setup.scene format row columns) (length line) in
     let bytes : c.make_line.new.line ≡ line c.see.new.row old.line.items =
     ◌∙◌ {b = line c.deref.result.now c.deref_mut-2.result.now} c.make_line.ensures.bytes (ap (λ (r : List ℕ). line r c.deref_mut-2.result.now) row_is ∙ ap (λ (l : List ℕ). line c.see.new.row l) c.deref_mut-2.ensures.value) in
-    let at : List ℕ → List ℕ → FrameState = λ row line. record {
+    let at : List ℕ → List ℕ → FrameProgress = λ row line. record {
       pass = old.pass;
       columns = old.columns;
       tables = old.tables;

@@ -2,9 +2,9 @@ use Rattle.std.proofs.Common.{◌≡◌, true, ◌<◌, ◌≤◌, ◌+◌, ◌-
 use Rattle.std.specs.Prelude.{min}
 use Rattle.std.proofs.lemmas.Slice.{take-put_mid_below}
 use Rattle.page_picture.proofs.RowLemmas.{slice_range-put_mid}
-use Rattle.scan_frames.specs.Buffers.{is_over, state_of}
+use Rattle.scan_frames.specs.Buffers.{is_frame_over, state_of}
 use Rattle.scan_frames.proofs.Giving.{gives_on, gives_all, stops_on, fails_before_the_end}
-use Rattle.scan_frames.proofs.buffers.read_on.Goals.{then-loop-n-test+else-not-is_over, else-loop-n-test}
+use Rattle.scan_frames.proofs.buffers.read_on.Goals.{then-loop-n-test+else-not-is_frame_over, else-loop-n-test}
 use Rattle.scan_frames.proofs.buffers.read_on.Goals as goal
 use borrow.Rule.Slice.PartMut.{put_mid}
 
@@ -39,8 +39,8 @@ returns-then-n-gt0-clause-read g c =
     let n = c.loop-n.n in
     let most = c.min-most.result in
     let most_is = c.min-most.ensures ∙ ap (λ (k : ℕ). min k c.args.setup.now.limit) (sym c.loop-n.auto.buf) in
-    let over : n < most → is_over (state_of c.loop-n.buffers) ≡ true = elim c.loop-n-test.branch [
-      | then-loop-n-test+else-not-is_over w ↦ λ less. search rules
+    let over : n < most → is_frame_over (state_of c.loop-n.buffers) ≡ true = elim c.loop-n-test.branch [
+      | then-loop-n-test+else-not-is_frame_over w ↦ λ less. search rules
       | else-loop-n-test w ↦ λ less. absurd (let h = w.loop-n-test.false in omega arith)
     ] in
     gives_all _ _ _ _ _ n most c.loop-n.buf most_is c.loop-n.invariant.within over c.if-n-gt0.true c.loop-n.invariant.given

@@ -1,5 +1,5 @@
 use Rattle.std.proofs.Common.{◌≡◌, ◌≤◌, ◌-◌, length}
-use Rattle.scan_frames.specs.Buffers.{HasGiven, state_of}
+use Rattle.scan_frames.specs.Buffers.{HasGivenOfFrame, state_of}
 use Rattle.scan_frames.proofs.buffers.read_on.Given as goal
 
 abbrev pub invariant-loop-n : goal.invariant-loop-n
@@ -7,7 +7,7 @@ invariant-loop-n g l =
     let source = g.S.PageSource.source in
     record {
       within : l.n ≤ l.most;
-      given : HasGiven (source l.fn.source) l.setup (state_of l.fn.buffers) l.n (source l.source) (state_of l.buffers) l.buf;
+      given : HasGivenOfFrame (source l.fn.source) l.setup (state_of l.fn.buffers) l.n (source l.source) (state_of l.buffers) l.buf;
       none : l.n ≡ 0 → (source l.source ≡ source l.fn.source) × (state_of l.buffers ≡ state_of l.fn.buffers);
       size : length l.buf ≡ length l.fn.buf;
     }

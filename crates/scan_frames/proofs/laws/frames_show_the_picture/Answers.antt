@@ -1,4 +1,4 @@
-use Rattle.scan_frames.proofs.Shown.{shows_frames}
+use Rattle.scan_frames.proofs.FramesShow.{shows_frames}
 use Rattle.scan_frames.proofs.laws.frames_show_the_picture.Goals as goal
 
 pub returns : goal.returns

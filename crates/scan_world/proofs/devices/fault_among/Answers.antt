@@ -2,23 +2,23 @@ use Rattle.std.proofs.Common.{◌∙◌, ◌≤◌, Option, Some, None, List, ma
 use Rattle.std.specs.Prelude.{IfSome}
 use Rattle.std.proofs.lemmas.List.{length-map}
 use Rattle.device_api.specs.State.{DeviceState}
-use Rattle.dispatch.specs.RegistryFault.{MayStand}
+use Rattle.dispatch.specs.RegistryFault.{AreRegistrable}
 use Rattle.dispatch.proofs.Names.{one_name_twice, own_names}
 use Rattle.scan_job.specs.declared.job.Job.{Job}
 use Rattle.scan_world.specs.declared.world_fault.WorldFault.{WorldFault}
 use Rattle.scan_world.specs.declared.world_fault.WorldFault.TheVariants as faults
-use Rattle.scan_world.specs.Worlds.{HasFault, HasFaultAmong}
+use Rattle.scan_world.specs.Worlds.{HasWorldFault, HasFaultAmong}
 use Rattle.scan_world.proofs.devices.fault_among.Goals as goal
 
 -- a fault of jobs alone
-among : (f : WorldFault) (devices : List DeviceState) (jobs : List Job) → MayStand devices → HasFault f jobs → HasFaultAmong f devices jobs
+among : (f : WorldFault) (devices : List DeviceState) (jobs : List Job) → AreRegistrable devices → HasWorldFault f jobs → HasFaultAmong f devices jobs
 among faults.SameName devices jobs may h = absurd h
 among faults.TooManyDevices devices jobs may h = absurd h
 among faults.TooManyJobs devices jobs may h = (may, h)
 among faults.BadJob devices jobs may h = (may, h)
 among faults.NoMem devices jobs may h = (may, h)
 
-some_among : (o : Option WorldFault) (devices : List DeviceState) (jobs : List Job) → MayStand devices → IfSome o (λ f. HasFault f jobs) → IfSome o (λ f. HasFaultAmong f devices jobs)
+some_among : (o : Option WorldFault) (devices : List DeviceState) (jobs : List Job) → AreRegistrable devices → IfSome o (λ f. HasWorldFault f jobs) → IfSome o (λ f. HasFaultAmong f devices jobs)
 some_among None devices jobs may h = h
 some_among (Some f) devices jobs may h = among f devices jobs may h
 

@@ -1,4 +1,4 @@
-use Rattle.scan_world.proofs.Telling.{none_tells, page_none_tells, page_tells, scan_tells, short_tells}
+use Rattle.scan_world.proofs.FilesSay.{none_tells, page_none_tells, page_tells, scan_tells, short_tells}
 use Rattle.scan_world.proofs.laws.files_tell.Goals as goal
 
 pub returns : goal.returns

@@ -1,5 +1,5 @@
 use Rattle.std.proofs.Common.{[], ◌∷◌}
-use Rattle.scan_world.specs.declared.event.Deed.TheVariants.{ToDaemon, ToClient, DataConnect, DataToClient, DataTurn}
+use Rattle.scan_world.specs.declared.event.JobEvent.TheVariants.{ToDaemon, ToClient, DataConnect, DataToClient, DataTurn}
 use Rattle.scan_world.proofs.moves.move_of.Goals as goal
 
 pub returns-clause-runs : goal.returns-clause-runs

@@ -1,7 +1,7 @@
 use Rattle.std.proofs.Common.{◌≡◌, ◌∙◌, ℕ, zero, suc, ◌+◌, ap, ◌<◌, ◌⊎◌, inl, inr, List, length, refl, subst, arith, slice_index_or}
 use Rattle.std.proofs.lemmas.List.{get_or_default}
 use Rattle.scan_job.specs.declared.job.Job.{Job}
-use Rattle.scan_world.specs.Worlds.{IsFit}
+use Rattle.scan_world.specs.Worlds.{IsFitJob}
 use Rattle.scan_world.proofs.world.are_fit.Goals as goal
 
 below_suc : (k i : ℕ) → (k < i) ⊎ (k ≡ i) → (suc k < suc i) ⊎ (suc k ≡ suc i)
@@ -15,10 +15,10 @@ below (suc k) zero h = absurd (omega (arith, h))
 below (suc k) (suc i) h = below_suc k i (below k i (omega (arith, h)))
 
 -- the next is fit as well
-next_fit : (jobs : List Job) (i : ℕ) (job : Job) → job ≡ slice_index_or jobs i job → IsFit job → ((k : ℕ) (d : Job) → k < i → k < length jobs → IsFit (slice_index_or jobs k d)) → (k : ℕ) (d : Job) → (k < i) ⊎ (k ≡ i) → k < length jobs → IsFit (slice_index_or jobs k d)
+next_fit : (jobs : List Job) (i : ℕ) (job : Job) → job ≡ slice_index_or jobs i job → IsFitJob job → ((k : ℕ) (d : Job) → k < i → k < length jobs → IsFitJob (slice_index_or jobs k d)) → (k : ℕ) (d : Job) → (k < i) ⊎ (k ≡ i) → k < length jobs → IsFitJob (slice_index_or jobs k d)
 next_fit jobs i job at fit before k d (inl less) within = before k d less within
 next_fit jobs i job at fit before k d (inr e) within =
-    subst IsFit (at ∙ subst (λ (n : ℕ). slice_index_or jobs n job ≡ slice_index_or jobs k d) e (get_or_default jobs k job d within)) fit
+    subst IsFitJob (at ∙ subst (λ (n : ℕ). slice_index_or jobs n job ≡ slice_index_or jobs k d) e (get_or_default jobs k job d within)) fit
 
 pub loop-job-init : goal.loop-job-init
 loop-job-init c = λ k d less within. absurd (omega (arith, less))

@@ -1,5 +1,5 @@
 use Rattle.std.proofs.Common.{◌≡◌, drop}
-use Rattle.scanimage_cli.specs.Options.{has_flag}
+use Rattle.scanimage_cli.specs.ScanimageOptions.{has_flag}
 use Rattle.scanimage_cli.proofs.options.has_flag.Given as goal
 
 abbrev pub invariant-loop-word : goal.invariant-loop-word

@@ -1,5 +1,5 @@
 use Rattle.std.proofs.Common.{arith}
-use Rattle.wire_codec.proofs.Begins.{reads_same, reads_then}
+use Rattle.wire_codec.proofs.ElementsReadOnce.{reads_same, reads_then}
 use Rattle.wire_codec.proofs.begun.read_on.Goals as goal
 
 pub loop-init : goal.loop-init

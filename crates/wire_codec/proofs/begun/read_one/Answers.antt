@@ -1,5 +1,5 @@
 use Rattle.std.proofs.Common.{refl, sym}
-use Rattle.wire_codec.proofs.Begins.{reads_same, reads_kept, reads_one}
+use Rattle.wire_codec.proofs.ElementsReadOnce.{reads_same, reads_kept, reads_one}
 use Rattle.wire_codec.proofs.begun.read_one.Goals as goal
 
 pub returns-in_err-value-clause-on : goal.returns-in_err-value-clause-on
@@ -10,5 +10,5 @@ returns-in_err-push-clause-on g c = reads_kept g.E.Element.format c.args.bytes.n
 
 pub returns-clause-on : goal.returns-clause-on
 returns-clause-on g c =
-    reads_one g.E.Element.format c.args.bytes.now c.in_ok-value.rest.now c.in_ok-value.value c.used-count.result c.args.elements.now _ c.requires.within c.requires.left
-    (rw (sym c.behind-part.ensures) c.in_ok-value.ensures.taken) (rw (sym c.behind-part.ensures) c.used-count.ensures.within) (rw (sym c.behind-part.ensures) c.used-count.ensures.rest) refl refl c.in_ok-push.ensures.items
+    reads_one g.E.Element.format c.args.bytes.now c.in_ok-value.rest.now c.in_ok-value.value c.used_bytes-count.result c.args.elements.now _ c.requires.within c.requires.left
+    (rw (sym c.rest_of_array-part.ensures) c.in_ok-value.ensures.taken) (rw (sym c.rest_of_array-part.ensures) c.used_bytes-count.ensures.within) (rw (sym c.rest_of_array-part.ensures) c.used_bytes-count.ensures.rest) refl refl c.in_ok-push.ensures.items

@@ -1,4 +1,4 @@
-use Rattle.wire_format.proofs.Limits.{limited_sound, limited_complete, limited_more, limited_waits, limited_bad, limited_first}
+use Rattle.wire_format.proofs.ReadLimits.{limited_sound, limited_complete, limited_more, limited_waits, limited_bad, limited_first}
 use Rattle.wire_format.proofs.laws.reading_keeps_a_limit.Goals as goal
 
 pub returns-clause-sound : goal.returns-clause-sound

@@ -1,4 +1,4 @@
-use Rattle.wire_format.specs.Kind.{between}
+use Rattle.wire_format.specs.WordKinds.{between}
 use Rattle.wire_format.proofs.Words.{kind-laws, between-kind}
 use Rattle.wire_format.proofs.laws.words_between_are_lawful.Goals as goal
 

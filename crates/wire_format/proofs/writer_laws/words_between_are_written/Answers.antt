@@ -1,4 +1,4 @@
-use Rattle.wire_format.specs.Kind.{between}
+use Rattle.wire_format.specs.WordKinds.{between}
 use Rattle.wire_format.proofs.Writers.{word-writes, between-number}
 use Rattle.wire_format.proofs.writer_laws.words_between_are_written.Goals as goal
 

@@ -1,7 +1,7 @@
 use Rattle.std.proofs.Common.{◌≡◌, ◌≤◌, ◌<◌, ℤ, pos, length, get_or, set, ◌||◌, ◌∙◌, sym, ap, subst, rules, FitsSigned, w32, arith, to_z, of_z}
 use Rattle.std.proofs.lemmas.Int.{to_z-of_z}
 use Rattle.std.proofs.lemmas.List.{get_or_default}
-use Rattle.constraint.specs.Nearest.{NearestInRange, TellsDifference}
+use Rattle.constraint.specs.Nearest.{NearestInRange, FlagsDifference}
 use Rattle.constraint.specs.NearestComputed.{nearest_in_range}
 use Rattle.constraint.proofs.PlaceLaws.{PutBelow, PutBelow-none, PutBelow-more, PutAll-below}
 use Rattle.constraint.proofs.range.Range.nearest_words.Goals as goal
@@ -19,7 +19,7 @@ loop-word-preserved c =
     let within : c.loop-word.word-index < length c.loop-word.words = omega arith in
     let value = subst (λ z. c.nearest_word-nearest.result.0 ≡ nearest_in_range c.args.self.now z) is c.nearest_word-nearest.ensures.value in
     let nearest = subst (λ z. NearestInRange c.args.self.now z c.nearest_word-nearest.result.0) is c.nearest_word-nearest.ensures.nearest in
-    let differs = subst (λ z. TellsDifference c.nearest_word-nearest.result.1 z c.nearest_word-nearest.result.0) is c.nearest_word-nearest.ensures.differs in
+    let differs = subst (λ z. FlagsDifference c.nearest_word-nearest.result.1 z c.nearest_word-nearest.result.0) is c.nearest_word-nearest.ensures.differs in
     rw stored (PutBelow-more (NearestInRange c.args.self.now) (nearest_in_range c.args.self.now) c.args.words.now c.loop-word.words c.loop-word.word-index c.loop-word.differs c.nearest_word-nearest.result.1 word c.nearest_word-nearest.result.0
     c.loop-word-test.true c.loop-word.invariant (get_or_default c.loop-word.words c.loop-word.word-index (pos 0) word within) value nearest differs)
 

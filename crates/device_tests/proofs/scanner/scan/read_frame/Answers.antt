@@ -2,7 +2,7 @@ use Rattle.std.proofs.Common.{subst, rules}
 use Rattle.std.specs.Prelude.{Err}
 use Rattle.sane_fixed.specs.declared.status.Status.{Status}
 use Rattle.device_api.specs.State.{DeviceState, Reads, next_pass}
-use Rattle.device_tests.proofs.RunLaws.{still_reading, told_and_left, smaller, read_all}
+use Rattle.device_tests.proofs.PassRuns.{still_reading, told_and_left, smaller, read_all}
 use Rattle.device_tests.proofs.scanner.scan.read_frame.Goals as goal
 
 pub loop-n-preserved : goal.loop-n-preserved

@@ -1,7 +1,7 @@
 use Rattle.std.proofs.Common.{◌≡◌, ◌++◌, drop, true}
 use Rattle.device_api.specs.State.{DeviceState, next_pass, steady_of, with_phase}
 use Rattle.device_api.specs.State.Phase.{Reading}
-use Rattle.device_tests.specs.Runs.{given_of, bytes_of, bytes_left}
+use Rattle.device_tests.specs.TestRuns.{given_of, bytes_of_pass_read, bytes_left}
 use Rattle.device_tests.proofs.scanner.scan.read_frame.Given as goal
 
 -- what was read, and what is left
@@ -11,7 +11,7 @@ invariant-loop-n g l =
     let first : DeviceState = (goal.Device-dyn g l.initial.device.now).state l.initial.device.now.1 in
     record {
       at : now ≡ with_phase first (Reading (next_pass first.phase) (given_of now.phase));
-      bytes : steady_of first ≡ true → l.out.items ++ drop (given_of now.phase) (bytes_of first) ≡ l.initial.out.items ++ drop (given_of first.phase) (bytes_of first);
+      bytes : steady_of first ≡ true → l.out.items ++ drop (given_of now.phase) (bytes_of_pass_read first) ≡ l.initial.out.items ++ drop (given_of first.phase) (bytes_of_pass_read first);
     }
 
 abbrev pub decreases-loop-n : goal.decreases-loop-n

@@ -1,6 +1,6 @@
 use Rattle.std.proofs.Common.{◌≡◌, ◌++◌, ◌∙◌, ap, sym, refl, ℕ, true, false}
 use Rattle.device_api.specs.State.{DeviceState, is_at_rest}
-use Rattle.device_tests.specs.Runs.{passes_of}
+use Rattle.device_tests.specs.TestRuns.{passes_of}
 use Rattle.device_tests.proofs.PictureLaws.{begins, no_passes, started, ended, more_passes, next, whole}
 use Rattle.device_tests.proofs.scanner.scan.read_picture.Goals as goal
 

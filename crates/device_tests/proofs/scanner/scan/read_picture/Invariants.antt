@@ -1,7 +1,7 @@
 use Rattle.std.proofs.Common.{◌≡◌, ◌++◌, true}
 use Rattle.std.specs.Prelude.{None}
 use Rattle.device_api.specs.State.{DeviceState, steady_of}
-use Rattle.device_tests.specs.Runs.{passes_of}
+use Rattle.device_tests.specs.TestRuns.{passes_of}
 use Rattle.device_tests.proofs.PictureLaws.{IsBefore}
 use Rattle.device_tests.proofs.scanner.scan.read_picture.Given as goal
 

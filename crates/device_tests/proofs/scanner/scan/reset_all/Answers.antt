@@ -1,7 +1,7 @@
 use Rattle.std.proofs.Common.{◌≡◌, ◌∙◌, ap, length, map, ℕ, arith}
 use Rattle.std.proofs.lemmas.List.{length-map}
 use Rattle.device_api.specs.State.{after_reset}
-use Rattle.device_tests.proofs.Upto.{mapped_upto, mapped_upto-suc, mapped_upto-all}
+use Rattle.device_tests.proofs.MapsUpTo.{mapped_upto, mapped_upto-suc, mapped_upto-all}
 use Rattle.device_tests.proofs.scanner.scan.reset_all.Goals as goal
 
 pub loop-device-preserved : goal.loop-device-preserved

@@ -1,6 +1,6 @@
 use Rattle.std.proofs.Common.{◌≡◌, map}
 use Rattle.device_api.specs.State.{after_reset}
-use Rattle.device_tests.proofs.Upto.{mapped_upto}
+use Rattle.device_tests.proofs.MapsUpTo.{mapped_upto}
 use Rattle.device_tests.proofs.scanner.scan.reset_all.Given as goal
 
 abbrev pub invariant-loop-device : goal.invariant-loop-device

@@ -1,8 +1,8 @@
 use Rattle.std.proofs.Common.{◌≡◌, ◌≤◌, ◌-◌, length, take}
-use Rattle.frame_join.specs.FrameHistory.{Past, after_feed}
-use Rattle.frame_join.specs.PixelJoining.{PixelStands, is_pixel_starved}
-use Rattle.frame_join.specs.Pixels.{pixel_past}
-use Rattle.frame_join.specs.Joining.{Stands}
+use Rattle.frame_join.specs.FrameHistory.{JoinHistory, after_feed}
+use Rattle.frame_join.specs.PixelJoinStates.{PixelRepresents, is_pixel_out_of_memory}
+use Rattle.frame_join.specs.Pixels.{pixel_history}
+use Rattle.frame_join.specs.JoinStates.{Represents}
 use Rattle.frame_join.proofs.PixelKeeping.{IsIn, MayCome, pieces}
 use Rattle.frame_join.proofs.frame_join.FrameJoin.keep.Given as goal
 
@@ -11,7 +11,7 @@ invariant-loop-at l = record {
   within : l.at ≤ length l.fn.bytes;
   line : l.self-inside.line ≡ l.fn.self.line;
   came : l.self-inside.came ≡ l.fn.self.came;
-  carried : (past : Past) (i : IsIn past l.fn.self) → Stands past l.fn.self → MayCome i.frame l.fn.bytes → PixelStands (after_feed (pieces i.frame (take l.at l.fn.bytes)) (is_pixel_starved l.self-inside.pixels) (pixel_past past)) l.self-inside.pixels;
+  carried : (past : JoinHistory) (i : IsIn past l.fn.self) → Represents past l.fn.self → MayCome i.frame l.fn.bytes → PixelRepresents (after_feed (pieces i.frame (take l.at l.fn.bytes)) (is_pixel_out_of_memory l.self-inside.pixels) (pixel_history past)) l.self-inside.pixels;
   first : l.at ≡ 0 → l.self-inside.pixels ≡ l.fn.self.pixels;
 }
 

@@ -2,18 +2,18 @@ use Rattle.std.proofs.Common.{ℕ, ◌≡◌, ◌<◌, ◌+◌, ◌-◌, ◌∙�
 use Rattle.std.specs.Prelude.{slice_set, slice_index}
 use Rattle.frame_join.specs.AloneFrame.{row_bytes}
 use Rattle.frame_join.specs.FrameHistory.{after_pull}
-use Rattle.frame_join.specs.PixelJoining.{PixelJoining, PixelStands}
+use Rattle.frame_join.specs.PixelJoinStates.{PixelJoinState, PixelRepresents}
 use Rattle.frame_join.specs.JoinSteps.{after_samples, sample_at}
 use Rattle.frame_join.proofs.PullLaws.{no_samples, row_step, step_take, step_drop}
 use Rattle.frame_join.proofs.pixel_join.PixelJoin.copy_row.Goals as goal
 
 pub loop-i-init : goal.loop-i-init
 loop-i-init c =
-    let column : c.args.self.now.column < row_bytes c.args.self.now.params = subst (λ (v : PixelJoining). v.column < row_bytes v.params) c.self.view_is c.self.invariant.column in
+    let column : c.args.self.now.column < row_bytes c.args.self.now.params = subst (λ (v : PixelJoinState). v.column < row_bytes v.params) c.self.view_is c.self.invariant.column in
     record {
       size = refl;
       rest = refl;
-      carried = λ past stands. subst (λ (v : PixelJoining). PixelStands (after_pull (take c.args.at c.args.buf.now) past) v) (sym (no_samples c.args.self.now (c.args.at - c.args.at) (omega arith) column)) stands;
+      carried = λ past stands. subst (λ (v : PixelJoinState). PixelRepresents (after_pull (take c.args.at c.args.buf.now) past) v) (sym (no_samples c.args.self.now (c.args.at - c.args.at) (omega arith) column)) stands;
     }
 
 pub loop-i-preserved : goal.loop-i-preserved
@@ -29,11 +29,11 @@ loop-i-preserved c =
       size = search rules;
       rest = step_drop buf c.args.buf.now i byte c.loop-i.invariant.rest;
       carried = λ past stands.
-          subst (λ (n : ℕ). PixelStands (after_pull (take (i + 1) new) past) (after_samples n c.args.self.now)) on
+          subst (λ (n : ℕ). PixelRepresents (after_pull (take (i + 1) new) past) (after_samples n c.args.self.now)) on
           (row_step past c.args.self.now (i - c.args.at) (take i buf) (take (i + 1) new) byte c.requires.moves c.requires.head c.requires.ready (omega arith) (search rules) (step_take buf i byte (omega arith)) (c.loop-i.invariant.carried past stands));
     }
 
 pub returns-clause-carried : goal.returns-clause-carried
 returns-clause-carried c = λ past stands.
     let last : c.loop-i.i ≡ c.args.end = omega arith in
-    subst (λ (n : ℕ). PixelStands (after_pull (take n c.loop-i.buf) past) (after_samples (n - c.args.at) c.args.self.now)) last (c.loop-i.invariant.carried past stands)
+    subst (λ (n : ℕ). PixelRepresents (after_pull (take n c.loop-i.buf) past) (after_samples (n - c.args.at) c.args.self.now)) last (c.loop-i.invariant.carried past stands)

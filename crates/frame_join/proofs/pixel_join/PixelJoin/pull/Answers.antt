@@ -1,6 +1,6 @@
 use Rattle.std.proofs.Common.{ℕ, ◌≡◌, ◌∙◌, arith, rules, sym, subst, take, false}
 use Rattle.frame_join.specs.FrameHistory.{after_pull}
-use Rattle.frame_join.specs.PixelJoining.{PixelStands, IsPixelDrained}
+use Rattle.frame_join.specs.PixelJoinStates.{PixelRepresents, IsPixelDrained}
 use Rattle.frame_join.specs.JoinSteps.{may_go}
 use Rattle.frame_join.proofs.PullLaws.{run_on, went_on, spent, drained}
 use Rattle.frame_join.proofs.EndLaws.{gone_denotes, joined_no_fault, not_whole}
@@ -28,7 +28,7 @@ returns-then-end-at-clause-drained c = λ past stands through none some.
 pub returns-then-end-at-clause-whole : goal.returns-then-end-at-clause-whole
 returns-then-end-at-clause-whole c = λ past stands unjoined.
     let same : c.next_run-end.result ≡ c.loop-at.at = search rules in
-    let carried = subst (λ (n : ℕ). PixelStands (after_pull (take n c.next_run-end.new.buf) past) c.next_run-end.new.self) same (c.next_run-end.ensures.carried past (c.loop-at.invariant.carried past stands)) in
+    let carried = subst (λ (n : ℕ). PixelRepresents (after_pull (take n c.next_run-end.new.buf) past) c.next_run-end.new.self) same (c.next_run-end.ensures.carried past (c.loop-at.invariant.carried past stands)) in
     not_whole (after_pull (take c.loop-at.at c.next_run-end.new.buf) past) c.next_run-end.new.self carried unjoined
 
 pub loop-at-preserved : goal.loop-at-preserved

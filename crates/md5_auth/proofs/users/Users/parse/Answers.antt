@@ -1,4 +1,4 @@
-use Rattle.md5_auth.proofs.ReadingLemmas.{read_more}
+use Rattle.md5_auth.proofs.UserReadingLemmas.{read_more}
 use Rattle.md5_auth.proofs.users.Users.parse.Goals as goal
 
 pub loop-line-preserved : goal.loop-line-preserved

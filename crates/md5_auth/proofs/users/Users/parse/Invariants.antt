@@ -1,5 +1,5 @@
 use Rattle.std.proofs.Common.{length}
-use Rattle.md5_auth.proofs.ReadingLemmas.{IsReadTo}
+use Rattle.md5_auth.proofs.UserReadingLemmas.{IsReadTo}
 use Rattle.md5_auth.proofs.users.Users.parse.Given as goal
 
 abbrev pub invariant-loop-line : goal.invariant-loop-line

@@ -1,6 +1,6 @@
 use Rattle.std.proofs.Common.{◌≡◌, rules, true}
-use Rattle.client_rules.proofs.Fitting.{may_end}
-use Rattle.client_rules.specs.Talks.{is_running}
+use Rattle.client_replies.proofs.Fitting.{may_end}
+use Rattle.client_replies.specs.ProtocolStates.{is_running}
 use Rattle.net_client.proofs.Hearings.{fits_at}
 use Rattle.net_client.proofs.client.Client.cancel.Goals as goal
 

@@ -1,9 +1,9 @@
 use Rattle.std.proofs.Common.{◌≡◌, ◌∙◌, ℕ, List, rules, true, false, sym, subst, take}
 use Rattle.std.proofs.lemmas.List.{append-nil}
 use Rattle.netpbm.specs.Pnm.{IsWhole}
-use Rattle.frame_join.specs.FrameHistory.{Past}
-use Rattle.client_rules.specs.Talks.{is_ended, turns}
-use Rattle.net_client.specs.Talker.{Serves}
+use Rattle.frame_join.specs.FrameHistory.{JoinHistory}
+use Rattle.client_replies.specs.ProtocolStates.{is_ended, turns}
+use Rattle.net_client.specs.ClientStates.{ClientRepresents}
 use Rattle.net_client.proofs.Ending.{ended_turns_none, fits_pulled, pulled_none}
 use Rattle.net_client.proofs.client.Client.take_file.Goals as goal
 
@@ -11,7 +11,7 @@ pub returns-then-is_ended-clause-taken : goal.returns-then-is_ended-clause-taken
 returns-then-is_ended-clause-taken c = λ past serves.
     let over : is_ended c.args.self.now.outcome ≡ true = sym c.is_ended.ensures ∙ c.if-is_ended.true in
     record {
-      carried = λ off. subst (λ (q : Past). Serves q c.args.self.now) (sym (pulled_none past)) serves;
+      carried = λ off. subst (λ (q : JoinHistory). ClientRepresents q c.args.self.now) (sym (pulled_none past)) serves;
       page = λ on. absurd (ended_turns_none c.args.self.now.outcome c.args.self.now.progress over on);
       denotes = λ alive. absurd (let clash : true ≡ false = sym over ∙ alive in cc);
       whole = λ unjoined whole. c.not_whole_before.ensures past _ serves.stands unjoined (subst (λ (l : List ℕ). IsWhole l) (append-nil past.given) whole);

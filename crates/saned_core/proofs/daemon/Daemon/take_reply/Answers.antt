@@ -1,5 +1,5 @@
-use Rattle.saned_core.specs.State.{core}
-use Rattle.saned_core.proofs.Desks.{hall_is}
+use Rattle.saned_core.specs.DaemonStates.{core}
+use Rattle.saned_core.proofs.ContextFeeds.{hall_is}
 use Rattle.saned_core.proofs.daemon.Daemon.take_reply.Goals as goal
 
 pub returns-clause-all : goal.returns-clause-all
@@ -12,4 +12,4 @@ pub returns-clause-bytes : goal.returns-clause-bytes
 returns-clause-bytes g c = rw (← c.self.view_is) c.take_at.ensures.bytes
 
 pub returns-clause-after : goal.returns-clause-after
-returns-clause-after g c = rw (← c.self.view_is) (hall_is (core g.D.Device.state (record { seats = c.self.inside.hall.seats; registry = c.self.inside.hall.registry; users = c.self.inside.users; stream = c.self.inside.challenger; opened = c.self.inside.opened })) _ _ _ _ c.take_at.ensures.seats c.take_at.ensures.registry)
+returns-clause-after g c = rw (← c.self.view_is) (hall_is (core g.D.Device.state (record { slots = c.self.inside.sessions.slots; registry = c.self.inside.sessions.registry; users = c.self.inside.users; stream = c.self.inside.challenger; opened = c.self.inside.opened })) _ _ _ _ c.take_at.ensures.seats c.take_at.ensures.registry)

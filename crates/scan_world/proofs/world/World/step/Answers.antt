@@ -1,16 +1,16 @@
 use Rattle.std.proofs.Common.{◌∙◌, List, ℕ, ap}
-use Rattle.page_picture.specs.Shown.{shown}
-use Rattle.saned_core.specs.State.{Core, core}
-use Rattle.saned_core.specs.Loading.{loaded}
-use Rattle.scan_world.specs.declared.post.Post.{Post}
-use Rattle.scan_world.specs.Worlds.{Scene}
+use Rattle.page_picture.specs.SourceView.{source_state}
+use Rattle.saned_core.specs.DaemonStates.{Core, core}
+use Rattle.saned_core.specs.Loading.{core_after_load}
+use Rattle.scan_world.specs.declared.endpoint.Endpoint.{Endpoint}
+use Rattle.scan_world.specs.Worlds.{WorldCore}
 use Rattle.scan_world.proofs.world.World.step.Goals as goal
 
-abbrev scene : List Post → Core → Scene
-scene posts d = record { daemon = d; posts = posts }
+abbrev scene : List Endpoint → Core → WorldCore
+scene endpoints d = record { daemon = d; endpoints = endpoints }
 
 pub returns-in-Load : goal.returns-in-Load
 returns-in-Load g c =
     rw c.in-Load.is
     (rw (← c.self.view_is)
-    (ap (scene c.self.inside.posts.items) (c.load.ensures.after ∙ ap (λ (n : List ℕ). loaded (core g.D.Device.state c.self.inside.daemon) n (shown c.in-Load.page)) c.as_bytes.ensures.bytes)))
+    (ap (scene c.self.inside.endpoints.items) (c.load.ensures.after ∙ ap (λ (n : List ℕ). core_after_load (core g.D.Device.state c.self.inside.daemon) n (source_state c.in-Load.page)) c.as_bytes.ensures.bytes)))

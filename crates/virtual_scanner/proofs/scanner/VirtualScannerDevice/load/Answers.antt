@@ -1,4 +1,4 @@
-use Rattle.page_picture.specs.Shown.{shown}
+use Rattle.page_picture.specs.SourceView.{source_state}
 use Rattle.std.proofs.Common.{map}
 use Rattle.virtual_scanner.specs.Phases.{phase_of}
 use Rattle.virtual_scanner.proofs.Limits.{kept_frame, limits_loaded, more_room}
@@ -12,5 +12,5 @@ invariant_of-self c =
     record {
       limits = limits_loaded c.self.inside.info setup c.self.inside.tray c.put_page.new.tray c.args.page c.put_page.result (phase_of at) put.ok put.err put.fits put.limits c.self.invariant.limits;
       room = more_room c.self.inside.tray c.put_page.new.tray setup.scene.kind put.room c.self.invariant.room;
-      frame = kept_frame at c.in-Rest.field-0 setup (map shown c.put_page.new.tray.items) c.in-Rest.is;
+      frame = kept_frame at c.in-Rest.field-0 setup (map source_state c.put_page.new.tray.items) c.in-Rest.is;
     }

@@ -1,5 +1,5 @@
 use Rattle.std.proofs.Common.{◌≡◌, ap, sym, ◌∙◌, map, false}
-use Rattle.page_picture.specs.Shown.{shown}
+use Rattle.page_picture.specs.SourceView.{source_state}
 use Rattle.device_api.specs.State.{is_feeder}
 use Rattle.device_api.specs.State.Phase.{AtRest}
 use Rattle.virtual_scanner.specs.Phases.{phase_of}
@@ -12,7 +12,7 @@ invariant_of-self c =
     let t = c.reset_setup.new.setup in
     let kind : t.scene.kind ≡ s.scene.kind = kind_default s t c.reset_setup.ensures.value in
     record {
-      limits = limits_set c.self.inside.info s t (map shown c.self.inside.tray.items) (phase_of c.self.inside.at) (AtRest false) kind c.reset_setup.ensures.allowed c.self.invariant.limits;
+      limits = limits_set c.self.inside.info s t (map source_state c.self.inside.tray.items) (phase_of c.self.inside.at) (AtRest false) kind c.reset_setup.ensures.allowed c.self.invariant.limits;
       room = λ feeds. c.self.invariant.room (ap is_feeder (sym kind) ∙ feeds);
       frame = tt;
     }
@@ -21,4 +21,4 @@ pub returns-clause-limits : goal.returns-clause-limits
 returns-clause-limits c =
     let s = c.self.inside.setup in
     let t = c.reset_setup.new.setup in
-    limits_set c.self.inside.info s t (map shown c.self.inside.tray.items) (phase_of c.self.inside.at) (AtRest false) (kind_default s t c.reset_setup.ensures.value) c.reset_setup.ensures.allowed c.self.invariant.limits
+    limits_set c.self.inside.info s t (map source_state c.self.inside.tray.items) (phase_of c.self.inside.at) (AtRest false) (kind_default s t c.reset_setup.ensures.value) c.reset_setup.ensures.allowed c.self.invariant.limits

@@ -1,5 +1,5 @@
 use Rattle.std.proofs.Common.{◌≡◌, ap, sym, ◌∙◌, map}
-use Rattle.page_picture.specs.Shown.{shown}
+use Rattle.page_picture.specs.SourceView.{source_state}
 use Rattle.device_api.specs.State.{is_feeder}
 use Rattle.virtual_scanner.specs.Phases.{phase_of}
 use Rattle.virtual_scanner.proofs.Limits.{limits_set, kind_after, kept_frame}
@@ -11,7 +11,7 @@ invariant_of-self c =
     let t = c.set_option.new.setup in
     let kind : t.scene.kind ≡ s.scene.kind = kind_after s t c.args.n c.set_option.result c.set_option.ensures.ok c.set_option.ensures.err in
     record {
-      limits = limits_set c.self.inside.info s t (map shown c.self.inside.tray.items) (phase_of c.self.inside.at) (phase_of c.self.inside.at) kind (c.set_option.ensures.allowed c.self.invariant.limits.setup) c.self.invariant.limits;
+      limits = limits_set c.self.inside.info s t (map source_state c.self.inside.tray.items) (phase_of c.self.inside.at) (phase_of c.self.inside.at) kind (c.set_option.ensures.allowed c.self.invariant.limits.setup) c.self.invariant.limits;
       room = λ feeds. c.self.invariant.room (ap is_feeder (sym kind) ∙ feeds);
-      frame = kept_frame c.self.inside.at c.in-Rest.field-0 t (map shown c.self.inside.tray.items) c.in-Rest.is;
+      frame = kept_frame c.self.inside.at c.in-Rest.field-0 t (map source_state c.self.inside.tray.items) c.in-Rest.is;
     }

@@ -1,7 +1,7 @@
 use Rattle.std.proofs.Common.{arith}
 use Rattle.wire_message.specs.Message.{next_descriptor}
 use Rattle.wire_message.proofs.Messages.{next_descriptor_laws}
-use Rattle.wire_codec.proofs.Begins.{gives_takes}
+use Rattle.wire_codec.proofs.ElementsReadOnce.{gives_takes}
 use Rattle.wire_codec.proofs.begun.NextDescriptorElement.take.Goals as goal
 
 pub returns-clause-taken : goal.returns-clause-taken

@@ -1,6 +1,6 @@
 use Rattle.std.proofs.Common.{◌≡◌, ◌∙◌, ◌++◌, List, ℕ, drop, ap, arith}
 use Rattle.wire_codec.proofs.Pendings.{pending_more}
-use Rattle.wire_codec.proofs.Begins.{has_more}
+use Rattle.wire_codec.proofs.ElementsReadOnce.{has_more}
 use Rattle.wire_codec.proofs.decoder.Decoder.feed.Goals as goal
 
 pub invariant_of-self : goal.invariant_of-self

@@ -1,5 +1,5 @@
 use Rattle.std.proofs.Common.{rules, arith, drop, ◌∙◌}
-use Rattle.page_picture.specs.PageRows.{row_size}
+use Rattle.page_picture.specs.PageRows.{file_row_size}
 use Rattle.page_picture.specs.HeaderScan.{rest_of}
 use Rattle.page_picture.proofs.RowLemmas.{unused_none}
 use Rattle.page_picture.proofs.ShownLemmas.{header_fault, raster_fault, opened, from_first}
@@ -15,7 +15,7 @@ invariant_of-result g c = (
   omega arith,
   search rules,
   omega arith,
-  λ kept found. unused_none (row_size c.in-Ok-page_header.header) c.in-Ok-check_file.bytes.items (g.R.Rereadable.left c.check_file.new.reader) ∙ from_first (row_size c.in-Ok-page_header.header) (g.R.Rereadable.left c.check_file.new.reader) (drop c.end-reader.result.1 (g.R.Rereadable.text c.check_file.new.reader)) (search rules),
+  λ kept found. unused_none (file_row_size c.in-Ok-page_header.header) c.in-Ok-check_file.bytes.items (g.R.Rereadable.left c.check_file.new.reader) ∙ from_first (file_row_size c.in-Ok-page_header.header) (g.R.Rereadable.left c.check_file.new.reader) (drop c.end-reader.result.1 (g.R.Rereadable.text c.check_file.new.reader)) (search rules),
   λ kept. rw c.check_file.ensures.text (search rules),
 )
 

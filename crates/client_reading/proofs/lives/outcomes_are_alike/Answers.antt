@@ -1,5 +1,0 @@
-use Rattle.client_reading.proofs.Outcomes.{outcomes_alike}
-use Rattle.client_reading.proofs.lives.outcomes_are_alike.Goals as goal
-
-pub returns : goal.returns
-returns c = outcomes_alike

@@ -1,0 +1,17 @@
+pub mod KnownOptions
+pub mod Filled
+pub mod Apt
+pub mod Sides
+pub mod Openings
+pub mod Showing
+pub mod Settings
+pub mod FrameStarts
+pub mod Heard
+pub mod Payload
+pub mod ClientEndings
+pub mod Asking
+pub mod Said
+pub mod Replying
+pub mod PieceReceiving
+pub mod SilentCalls
+pub mod Outcomes

@@ -1,0 +1,9 @@
+pub mod DecodedReplies
+pub mod ClientRefinement
+pub mod Replies
+pub mod FrameRefinement
+pub mod ClientLives
+pub mod RequestRefinement
+pub mod PieceRefinement
+pub mod Calls
+pub mod Filled

@@ -1,0 +1,5 @@
+pub mod WireValues
+pub mod ClearJoins
+pub mod ReplyTurns
+pub mod Asking
+pub mod ProtocolStates

@@ -1,0 +1,73 @@
+ghost use Rattle.std.specs.Prelude.{◌≡◌};
+ghost use Rattle.frame_join.specs.FrameHistory.{JoinHistory};
+ghost use Rattle.frame_join.specs.JoinStates.{Represents};
+ghost use Rattle.client_replies.specs.ReplyTurns.{status_of, page_whole, frame_joined, frame_ended};
+
+use crate::hearing::{stop_by_answer, stop_malformed, stop_unjoined};
+use crate::progress::{Next, Progress};
+use frame_join::{FrameJoin, JoinFault};
+use sane_fixed::Status;
+use scan_job::{ItemList, Task};
+use std::alloc::Global;
+
+/// The status of a number.
+fn status_of(code: u8) -> Option<Status>
+    ensures { result ≡ status_of code }
+{
+    match code {
+        0 => Some(Status::Good),
+        1 => Some(Status::Unsupported),
+        2 => Some(Status::Cancelled),
+        3 => Some(Status::DeviceBusy),
+        4 => Some(Status::Inval),
+        5 => Some(Status::Eof),
+        6 => Some(Status::Jammed),
+        7 => Some(Status::NoDocs),
+        8 => Some(Status::CoverOpen),
+        9 => Some(Status::IoError),
+        10 => Some(Status::NoMem),
+        11 => Some(Status::AccessDenied),
+        _ => None,
+    }
+}
+
+/// The picture of a page is whole.
+fn page_whole(alloc: Global, task: Task, file: u32) -> Next
+    ensures { result ≡ page_whole task file }
+{
+    match task {
+        Task::Batch(count) => {
+            if file < count {
+                Next::Wait(Progress::Turning)
+            } else {
+                Next::Finish(ItemList::none(alloc))
+            }
+        }
+        _ => Next::Finish(ItemList::none(alloc)),
+    }
+}
+
+fn frame_joined(alloc: Global, task: Task, file: u32, joined: Result<bool, JoinFault>) -> Next
+    ensures { result ≡ frame_joined task file joined }
+{
+    match joined {
+        Ok(true) => page_whole(alloc, task, file),
+        Ok(false) => Next::Wait(Progress::Starting { first: false }),
+        Err(fault) => stop_unjoined(fault),
+    }
+}
+
+/// The end record of a frame.
+pub fn frame_ended(alloc: Global, join: &mut FrameJoin, task: Task, file: u32, status: u8) -> Next
+    ensures next { (past : JoinHistory) → Represents past join.old → result ≡ (frame_ended task file past status).next }
+    ensures past { (past : JoinHistory) → Represents past join.old → Represents (frame_ended task file past status).history join.new }
+{
+    match status_of(status) {
+        None | Some(Status::Good) => stop_malformed(),
+        Some(Status::Eof) => {
+            let joined = join.end();
+            frame_joined(alloc, task, file, joined)
+        }
+        Some(status) => stop_by_answer(status),
+    }
+}

@@ -1,0 +1,19 @@
+//! The model of a client of a scanner over the net, on messages: what a job comes to by each reply and at the end of a frame,
+//! and what it asks for (SANE Standard 1.06, the network protocol chapter). Nothing here speaks of bytes on a connection.
+#![tactic(auto)]
+
+mod asking;
+mod frame_ending;
+mod hearing;
+mod progress;
+mod queue;
+mod shaping;
+mod wire_values;
+
+pub use asking::request_for;
+pub use frame_ending::frame_ended;
+pub use hearing::{hear, stop_unjoined};
+pub use progress::{JobTarget, Link, Next, Notes, Progress};
+pub use queue::Queue;
+pub use shaping::after_params_reply;
+pub use wire_values::{blank_value, given_like, wire_of, wire_value_in};

@@ -1,0 +1,13 @@
+pub mod ContextRefinement
+pub mod Spelling
+pub mod Agreeing
+pub mod DeviceWords
+pub mod WholeSessions
+pub mod DataRefinement
+pub mod Streams
+pub mod ModelRequests
+pub mod OtherSessions
+pub mod Feeds
+pub mod Cores
+pub mod CoreCalls
+pub mod TableRefinement

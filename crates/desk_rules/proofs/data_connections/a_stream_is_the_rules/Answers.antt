@@ -1,8 +1,0 @@
-use Rattle.desk_rules.proofs.Streaming.{endings_agree, streams_agree}
-use Rattle.desk_rules.proofs.data_connections.a_stream_is_the_rules.Goals as goal
-
-pub returns-clause-of_a_frame : goal.returns-clause-of_a_frame
-returns-clause-of_a_frame c = streams_agree
-
-pub returns-clause-of_a_cancelled_frame : goal.returns-clause-of_a_cancelled_frame
-returns-clause-of_a_cancelled_frame c = endings_agree

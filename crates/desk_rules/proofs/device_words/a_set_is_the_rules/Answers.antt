@@ -1,8 +1,0 @@
-use Rattle.desk_rules.proofs.Setting.{set_agrees, set_refuses}
-use Rattle.desk_rules.proofs.device_words.a_set_is_the_rules.Goals as goal
-
-pub returns-clause-of_its_type : goal.returns-clause-of_its_type
-returns-clause-of_its_type c = set_agrees
-
-pub returns-clause-of_another : goal.returns-clause-of_another
-returns-clause-of_another c = set_refuses

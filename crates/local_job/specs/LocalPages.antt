@@ -1,0 +1,102 @@
+-- Pages scanned one after another, each to an output of its own that a shelf gives.
+use Rattle.std.specs.Prelude.{ℕ, zero, suc, ◌+◌, ◌<◌, ◌≤◌, ◌≡◌, ◌≢◌, ◌⊎◌, ⊤, Option, Some, None, List, [], ◌∷◌, ◌++◌, true, false, length, IsSomeAnd}
+use Rattle.netpbm.specs.Pnm.{Denotes, IsWhole}
+use Rattle.page_picture.specs.Meaning.{meaning_of}
+use Rattle.sane_fixed.specs.declared.status.Status.TheVariants.{Inval, NoDocs}
+use Rattle.scan_frames.specs.Frames.{has_picture}
+use Rattle.device_api.specs.State.{DeviceState, page_of, state_at_rest, steady_of}
+use Rattle.scan_job.specs.Shelves.{Stock, ReturnedOutput}
+use Rattle.scan_job.specs.declared.stop.Stop.{Stop}
+use Rattle.local_job.specs.LocalStops.{stop_by_status}
+use Rattle.scan_job.specs.Stops.{no_memory, failed_output}
+use Rattle.local_job.specs.FrameReading.{KeepsDevice}
+use Rattle.local_job.specs.ScanCauses.{ScanHasCause}
+
+-- ---- files and the scanner
+
+-- a whole file, of the picture that the scanner's options mean on its first page where the page's source is steady
+pub record IsFileOfFirstPage (s : DeviceState) (text : List ℕ) : Type 0 where
+  pub whole : IsWhole text
+  pub picture : steady_of s ≡ true → IsSomeAnd (meaning_of (page_of s) s.setup.scene) (Denotes text)
+
+-- the scanner after whole scans of so many pages: a feeder let go of each
+abbrev pub after_pages : ℕ → DeviceState → DeviceState
+after_pages zero s = s
+after_pages (suc n) s = after_pages n (state_at_rest s false)
+
+-- the file of each of the pages, in their order
+abbrev pub ArePageFiles : DeviceState → List (List ℕ) → Type 0
+ArePageFiles s [] = Unit {0}
+ArePageFiles s (text ∷ more) = IsFileOfFirstPage s text × ArePageFiles (state_at_rest s false) more
+
+-- ---- outputs and the shelf
+
+-- the outputs that a shelf took back since, where it is known
+abbrev pub TakesBack : Option Stock → List ReturnedOutput → Option Stock → Type 0
+TakesBack None outputs new = ⊤
+TakesBack (Some old) outputs None = ⊥
+TakesBack (Some old) outputs (Some new) = new.taken ≡ old.taken ++ outputs
+
+-- the output of the file of that number, with these bytes
+abbrev pub output_of : ℕ → List ℕ → ReturnedOutput
+output_of k text = record { number = k; text = Some text }
+
+-- the outputs of files that are numbered from k on
+abbrev pub outputs_from : ℕ → List (List ℕ) → List ReturnedOutput
+outputs_from k [] = []
+outputs_from k (text ∷ more) = output_of k text ∷ outputs_from (suc k) more
+
+-- what is left of the page of that number which was not scanned to its end: no output, or one that has no whole file
+abbrev pub AreLeft : ℕ → List ReturnedOutput → Type 0
+AreLeft k [] = Unit {0}
+AreLeft k (output ∷ []) = (text : List ℕ) × (output ≡ output_of k text) × (IsWhole text → ⊥)
+AreLeft k (_ ∷ _ ∷ _) = ⊥
+
+-- the page of that number was scanned, and the shelf took its output back
+pub record FilesPage (s : DeviceState) (k : ℕ) (before after : Option Stock) : Type 0 where
+  pub text : List ℕ
+  pub file : IsFileOfFirstPage s text
+  pub outputs : TakesBack before (output_of k text ∷ []) after
+
+-- it was not, and no whole file is left of it
+pub record LeavesPage (k : ℕ) (before after : Option Stock) : Type 0 where
+  pub left : List ReturnedOutput
+  pub is_left : AreLeft k left
+  pub outputs : TakesBack before left after
+
+-- ---- how pages end
+
+-- So many pages were scanned, or fewer, at least one, where no page was left. Each has its file, and they went out under
+-- the numbers from 1 on.
+pub record AreScanned (s : DeviceState) (count : ℕ) (before after : Option Stock) (new : DeviceState) : Type 0 where
+  pub files : List (List ℕ)
+  pub pages : ArePageFiles s files
+  pub all : (length files ≡ count) ⊎ ((0 < length files) × (length files < count) × (new.pages ≡ []))
+  pub outputs : TakesBack before (outputs_from 1 files) after
+  pub left : new ≡ after_pages (length files) s
+
+-- What ended the scan of a page behind so many others: there is no page, which is no error behind another; the options
+-- mean no picture on it; or what ends a scan of one.
+pub record EndsPage (s : DeviceState) (behind : ℕ) (new : DeviceState) (stop : Stop) : Type 0 where
+  pub no_page : s.pages ≡ [] → (behind ≡ 0) × ((stop ≡ no_memory) ⊎ (stop ≡ stop_by_status NoDocs))
+  pub no_picture : s.pages ≢ [] → has_picture s.setup (page_of s) ≡ false → (stop ≡ no_memory) ⊎ (stop ≡ stop_by_status Inval)
+  pub cause : s.pages ≢ [] → has_picture s.setup (page_of s) ≡ true → ScanHasCause stop s new
+  pub same : KeepsDevice s new
+
+-- where the shelf refused to take back the output of a page that was scanned, which was the last then
+pub record RefusesLast (s : DeviceState) (scanned : ℕ) (left : List ReturnedOutput) (new : DeviceState) (stop : Stop) : Type 0 where
+  pub some : 0 < scanned
+  pub none_left : left ≡ []
+  pub refused : stop ≡ failed_output
+  pub after : new ≡ after_pages scanned s
+
+-- Some pages were scanned, each has its file, and one output at most is left of the page that was not. What ended them is
+-- what ended the scan of that page, or a refusal of the shelf to take back the output before.
+pub record StopsAt (s : DeviceState) (count : ℕ) (before after : Option Stock) (new : DeviceState) (stop : Stop) : Type 0 where
+  pub files : List (List ℕ)
+  pub pages : ArePageFiles s files
+  pub few : length files ≤ count
+  pub left : List ReturnedOutput
+  pub is_left : AreLeft (length files + 1) left
+  pub outputs : TakesBack before (outputs_from 1 files ++ left) after
+  pub ended : RefusesLast s (length files) left new stop ⊎ EndsPage (after_pages (length files) s) (length files) new stop

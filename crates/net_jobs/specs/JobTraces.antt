@@ -1,0 +1,100 @@
+-- The trace of a job over any peer: what it heard, read and gave, what it sent for that, and how it goes on by each.
+use Rattle.std.specs.Prelude.{ℕ, ◌≡◌, true, Option, Some, List, [], ◌∷◌, ◌++◌}
+use Rattle.page_picture.specs.Shows.{Frame}
+use Rattle.netpbm.specs.Pnm.{IsWhole}
+use Rattle.frame_join.specs.FrameHistory.{JoinHistory, empty_history, after_pull}
+use Rattle.wire_message.specs.declared.message.Reply.{Reply}
+use Rattle.data_records.specs.Records.{IsRecords}
+use Rattle.sane_fixed.specs.declared.status.Status.TheVariants as statuses
+use Rattle.scan_job.specs.declared.job.Job.{Job}
+use Rattle.scan_job.specs.declared.outcome.Outcome.TheVariants.{Running}
+use Rattle.client_replies.specs.declared.progress.JobTarget.{JobTarget}
+use Rattle.client_replies.specs.declared.progress.Progress.TheVariants as stages
+use Rattle.client_replies.specs.ReplyTurns.{turn, frame_ended, FrameEnd, status_of}
+use Rattle.client_replies.specs.ProtocolStates.{ProtocolState, with_payload, protocol_after_turn, after_reply, progress_connected, target_of, is_running, turns, next_file}
+use Rattle.client_replies.specs.Asking.{request_for}
+use Rattle.net_client.specs.ClientStates.{sends, sent_by}
+use Rattle.net_client.specs.ReplyPieces.{IsReply}
+use Rattle.net_client.specs.Sending.{optional_request_text}
+
+-- what a job lives through: a reply, its data connection made, bytes of the frame that this carries, the frame's end with a
+-- status, bytes of the file that were given, and the last bytes of the file of a page behind which a batch asks for another
+pub data TraceEvent : Type 0 where
+  Replied : Reply → TraceEvent
+  Opened : TraceEvent
+  Came : List ℕ → TraceEvent
+  Finished : ℕ → TraceEvent
+  Gave : List ℕ → TraceEvent
+  Turned : List ℕ → TraceEvent
+
+-- the text of the replies so far, the data of each frame that ended, the pages that were turned, what was sent for all this,
+-- and how far the job is
+pub record JobTrace : Type 0 where
+  pub text : List ℕ
+  pub streams : List (List ℕ)
+  pub pages : List JoinHistory
+  pub sent : List ℕ
+  pub protocol : ProtocolState
+
+-- the end of a frame, as the client's rules have it
+abbrev pub frame_end_at : JobTarget → ProtocolState → ℕ → FrameEnd
+frame_end_at target t status = frame_ended target.task t.notes.file t.history status
+
+abbrev pub protocol_after_frame : JobTarget → ProtocolState → ℕ → ProtocolState
+protocol_after_frame target t status = protocol_after_turn target.task (turn t.notes (frame_end_at target t status).next) (frame_end_at target t status).history
+
+abbrev pub sent_after : JobTarget → ProtocolState → ℕ → Option (List ℕ)
+sent_after target t status = sends target t.notes.word (frame_end_at target t status).next
+
+-- the next page of a batch
+abbrev pub protocol_of_next_page : ProtocolState → ProtocolState
+protocol_of_next_page protocol = record protocol { progress = stages.Starting true; notes = record protocol.notes { file = next_file protocol.notes.file }; history = empty_history }
+
+-- One event: a reply is spelled for what a job that runs waits for, and is answered as the client's rules say; the data of a
+-- frame are records of its payload that end with that status; a page is turned where its file is whole.
+abbrev pub EventLeads : JobTarget → JobTrace → TraceEvent → JobTrace → Type 0
+EventLeads target was (Replied r) now =
+    (front : List ℕ) × (said : List ℕ) × (is_running was.protocol.outcome ≡ true) × IsReply was.protocol.progress front r × (sent_by target was.protocol r ≡ Some said)
+    × (now ≡ record { text = was.text ++ front; streams = was.streams; pages = was.pages; sent = was.sent ++ said; protocol = after_reply target was.protocol r })
+EventLeads target was Opened now = (is_running was.protocol.outcome ≡ true) × (now ≡ record was { protocol = record was.protocol { progress = progress_connected was.protocol.progress } })
+EventLeads target was (Came bytes) now =
+    (frame : Frame) × (is_running was.protocol.outcome ≡ true) × (was.protocol.history.under ≡ Some frame) × (now ≡ record was { protocol = record was.protocol { history = with_payload was.protocol.history frame bytes } })
+EventLeads target was (Finished status) now =
+    (frame : Frame) × (stream : List ℕ) × (said : List ℕ) × (is_running was.protocol.outcome ≡ true) × (was.protocol.history.under ≡ Some frame) × IsRecords stream frame.payload status
+    × (sent_after target was.protocol status ≡ Some said)
+    × (now ≡ record { text = was.text; streams = was.streams ++ stream ∷ []; pages = was.pages; sent = was.sent ++ said; protocol = protocol_after_frame target was.protocol status })
+EventLeads target was (Gave bytes) now = now ≡ record was { protocol = record was.protocol { history = after_pull bytes was.protocol.history } }
+EventLeads target was (Turned bytes) now =
+    (said : List ℕ) × (turns was.protocol.outcome was.protocol.progress ≡ true) × IsWhole (was.protocol.history.given ++ bytes) × (optional_request_text (request_for target was.protocol.notes.word (stages.Starting true)) ≡ Some said)
+    × (now ≡ record { text = was.text; streams = was.streams; pages = was.pages ++ after_pull bytes was.protocol.history ∷ []; sent = was.sent ++ said; protocol = protocol_of_next_page was.protocol })
+
+-- events one after another, the newest first
+abbrev pub EventsLead : JobTarget → JobTrace → List TraceEvent → JobTrace → Type 0
+EventsLead target first [] now = now ≡ first
+EventsLead target first (event ∷ before) now = (was : JobTrace) × EventsLead target first before was × EventLeads target was event now
+
+-- each frame that ended did so with EOF
+abbrev pub EndWell : List TraceEvent → Type 0
+EndWell [] = Unit {0}
+EndWell (Finished status ∷ events) = (status_of status ≡ Some statuses.Eof) × EndWell events
+EndWell (event ∷ events) = EndWell events
+
+-- a job before the first reply
+abbrev pub initial_trace : Job → JobTrace
+initial_trace job = record {
+  text = [];
+  streams = [];
+  pages = [];
+  sent = [];
+  protocol = record { outcome = Running; progress = stages.Greeting; notes = record { word = 0; left = job.settings.items; reports = []; known = []; file = 1 }; history = empty_history };
+}
+
+-- What a job did so far: of what it read on the control connection a front spells the replies of its trace, and the rest
+-- waits; what it wrote there is a front of its greeting and what it sent for the replies, and the others are to go out.
+pub record BytesMatchTrace (job : Job) (trace : JobTrace) (read_ wrote rest left : List ℕ) : Type 0 where
+  pub events : List TraceEvent
+  pub hello : List ℕ
+  pub runs : EventsLead (target_of job) (initial_trace job) events trace
+  pub read_is : read_ ≡ trace.text ++ rest
+  pub hello_is : optional_request_text (request_for (target_of job) 0 stages.Greeting) ≡ Some hello
+  pub wrote_is : hello ++ trace.sent ≡ wrote ++ left

@@ -1,0 +1,287 @@
+ghost use Rattle.std.specs.Prelude.{◌≡◌, ◌<◌, ◌⊎◌, ◌+◌, ℕ, None, List, Option, true, false, length, option_map, [], Ok, IfOk};
+ghost use Rattle.std.specs.Fn.{FnOnceReturnsAt};
+ghost use Rattle.scan_job.specs.declared.job.Job.{Job as JobValue};
+ghost use Rattle.scan_job.specs.JobSize.{HasCount};
+ghost use Rattle.scan_job.specs.Outcomes.{IsOver, over_as};
+ghost use Rattle.scan_job.specs.Shelves.{Stock, ReturnedOutput};
+ghost use Rattle.frame_join.specs.FrameHistory.{JoinHistory};
+ghost use Rattle.client_replies.specs.ProtocolStates.{scans};
+ghost use Rattle.net_client.specs.ClientStates.{IsNewClient};
+ghost use Rattle.net_jobs.specs.Outputs.{TakesMore, TakesFront, GivesBack};
+ghost use Rattle.net_jobs.specs.Paging.{IsFiling, HasFiled, HasFiledShort, BatchHasCome};
+ghost use Rattle.net_jobs.specs.Batches.{HasBatchRun, RefusesBatch, closed_as};
+
+use crate::dial::Dial;
+use crate::running::{MOST_PULLS, MOST_READS, go_on, part, piece, stop_of_fault, told_of};
+use byte_output::put;
+use frame_join::{no_file_is_endless, no_front_is_whole, not_whole_before, whole_shows};
+use net_client::{Client, Link};
+use netpbm::no_whole_prefix;
+use sane_fixed::NoMem;
+use scan_job::{Job, Outcome, Reports, Shelf, Stop, Task};
+use std::alloc::Global;
+use std::io::{Read, Write};
+use std::mem;
+
+/// Whether a task scans pages.
+fn is_scanning(task: Task) -> bool
+    ensures { result ≡ scans task }
+{
+    match task {
+        Task::Scan | Task::Batch(_) => true,
+        Task::List | Task::Show | Task::SetOnly => false,
+    }
+}
+
+/// Writes bytes of the file of that number to its output, which is asked for at the first. Says whether it took them all;
+/// else it took a proper front of them.
+fn shelve<S: Shelf>(
+    shelf: &mut S,
+    under: &mut Option<S::Out>,
+    number: u32,
+    bytes: &[u8],
+    reads: &mut u64,
+) -> bool
+    requires { 0 < length bytes.now }
+    ensures whole { result ≡ true → TakesMore (S.stock shelf.old) (option_map S.Out.contents under.old) (S.stock shelf.new) (option_map S.Out.contents under.new) number bytes.now }
+    ensures front { result ≡ false → TakesFront (S.stock shelf.old) (option_map S.Out.contents under.old) (S.stock shelf.new) (option_map S.Out.contents under.new) number bytes.now }
+{
+    match under {
+        Some(out) => put(out, bytes, reads),
+        None => match shelf.open(number) {
+            Ok(mut out) => {
+                let took = put(&mut out, bytes, reads);
+                match mem::replace(under, Some(out)) {
+                    None => took,
+                    Some(_) => unreachable!(),
+                }
+            }
+            Err(_) => false,
+        },
+    }
+}
+
+/// Gives an output back, if there is one. Says whether it was taken.
+fn put_back<S: Shelf>(shelf: &mut S, under: Option<S::Out>) -> bool
+    ensures { GivesBack (S.stock shelf.old) (option_map S.Out.contents under) (S.stock shelf.new) }
+{
+    match under {
+        Some(out) => shelf.close(out).is_ok(),
+        None => true,
+    }
+}
+
+/// Writes all bytes of the file that may go out, but none behind the last byte of a page that another is to follow; then its
+/// output is given back. Says whether the shelf and the output took all this.
+fn drain<S: Shelf>(
+    client: &mut Client,
+    room: &mut [u8],
+    shelf: &mut S,
+    under: &mut Option<S::Out>,
+    reads: &mut u64,
+) -> bool
+    requires { 0 < length room.old }
+    ensures room { length room.new ≡ length room.old }
+    ensures outcome { client.new.outcome ≡ client.old.outcome }
+    // `k` is the number of the file under way, and `past` what the client was told and gave.
+    ensures drained { result ≡ true → (before : Option Stock) (outputs : List ReturnedOutput) (k : ℕ) (past : JoinHistory)
+        → IsFiling past client.old k before outputs (S.stock shelf.old) (option_map S.Out.contents under.old)
+        → HasFiled past client.old k before outputs client.new (S.stock shelf.new) (option_map S.Out.contents under.new) }
+    ensures short { result ≡ false → (before : Option Stock) (outputs : List ReturnedOutput) (k : ℕ) (past : JoinHistory)
+        → IsFiling past client.old k before outputs (S.stock shelf.old) (option_map S.Out.contents under.old)
+        → HasFiledShort past client.old k before outputs client.new (S.stock shelf.new) (option_map S.Out.contents under.new) }
+{
+    no_file_is_endless();
+    no_front_is_whole();
+    no_whole_prefix();
+    for _i in 0..MOST_PULLS {
+        let number = client.file_number();
+        let is_page = client.is_turning();
+        let n = client.take_file(room);
+        if n == 0 {
+            return true;
+        }
+        if !shelve(shelf, under, number, &room[..n], reads) {
+            return false;
+        }
+        if is_page && !client.is_turning() {
+            return put_back(shelf, under.take());
+        }
+    }
+    false
+}
+
+/// Writes the bytes of the files of a job that scans; nothing of any other job.
+fn fill<S: Shelf>(
+    client: &mut Client,
+    is_scanning: bool,
+    room: &mut [u8],
+    shelf: &mut S,
+    under: &mut Option<S::Out>,
+    reads: &mut u64,
+) -> bool
+    requires { 0 < length room.old }
+    ensures room { length room.new ≡ length room.old }
+    ensures outcome { client.new.outcome ≡ client.old.outcome }
+    ensures none { is_scanning ≡ false → (result ≡ true) × (client.new ≡ client.old) × (shelf.new ≡ shelf.old) × (under.new ≡ under.old) }
+    ensures drained { is_scanning ≡ true → result ≡ true → (before : Option Stock) (outputs : List ReturnedOutput) (k : ℕ) (past : JoinHistory)
+        → IsFiling past client.old k before outputs (S.stock shelf.old) (option_map S.Out.contents under.old)
+        → HasFiled past client.old k before outputs client.new (S.stock shelf.new) (option_map S.Out.contents under.new) }
+    ensures short { result ≡ false → (before : Option Stock) (outputs : List ReturnedOutput) (k : ℕ) (past : JoinHistory)
+        → IsFiling past client.old k before outputs (S.stock shelf.old) (option_map S.Out.contents under.old)
+        → HasFiledShort past client.old k before outputs client.new (S.stock shelf.new) (option_map S.Out.contents under.new) }
+{
+    if !is_scanning {
+        return true;
+    }
+    drain(client, room, shelf, under, reads)
+}
+
+/// Runs a client to its end, as `run_job_with` does. The output under way stays open.
+fn run_client<C, D, S, T, F>(
+    mut client: Client,
+    control: &mut C,
+    dial: &mut D,
+    shelf: &mut S,
+    under: &mut Option<S::Out>,
+    is_scanning: bool,
+    piece: &mut [u8],
+    room: &mut [u8],
+    tell: F,
+) -> Result<(Reports, T), Stop>
+where
+    C: Read + Write,
+    D: Dial,
+    S: Shelf,
+    T: Drop,
+    F: FnOnce(&Reports) -> Result<T, NoMem> + Drop,
+    requires room { 0 < length room.old }
+    requires tell { F.IsAlwaysCallable tell }
+    ensures came { (job : JobValue) → IsNewClient job client → HasCount job.task
+        → is_scanning ≡ scans job.task → option_map S.Out.contents under.old ≡ None
+        → BatchHasCome C.remaining C.contents job control.old (D.coming dial.old)
+        control.new (D.coming dial.new) (S.stock shelf.old) (S.stock shelf.new)
+        (option_map S.Out.contents under.new) (over_as result) }
+    ensures told { IfOk result (λ done. FnOnceReturnsAt F.FnOnce tell done.0 (Ok done.1)) }
+{
+    not_whole_before();
+    whole_shows();
+    let mut reads = MOST_READS;
+    let mut stream = None;
+    let mut is_up = true;
+    let mut turns = 0;
+    while turns < MOST_READS && is_up && !client.is_over() {
+        turns += 1;
+        is_up = go_on(
+            &mut client,
+            control,
+            dial,
+            &mut stream,
+            piece,
+            room,
+            &mut reads,
+        );
+        if !client.is_over() && !fill(&mut client, is_scanning, room, shelf, under, &mut reads) {
+            return Err(Stop::failed_output());
+        }
+    }
+    client.link_lost(Link::Control);
+    let told = told_of(client.outcome(), tell);
+    if told.is_ok() && !fill(&mut client, is_scanning, room, shelf, under, &mut reads) {
+        return Err(Stop::failed_output());
+    }
+    let outcome = part(client, control, is_up, room, &mut reads);
+    let told = told?;
+    let Outcome::Done(reports) = outcome else {
+        unreachable!()
+    };
+    Ok((reports, told))
+}
+
+/// How a job is over whose last output was given back, or refused.
+fn closed<T: Drop>(done: Result<(Reports, T), Stop>, is_taken: bool) -> Result<(Reports, T), Stop>
+    ensures closed { over_as result ≡ closed_as (over_as done) is_taken }
+    ensures same { IfOk result (λ it. done ≡ Ok it) }
+{
+    match done {
+        Ok(done) => {
+            if is_taken {
+                Ok(done)
+            } else {
+                Err(Stop::failed_output())
+            }
+        }
+        Err(stop) => Err(stop),
+    }
+}
+
+/// Does a job as `run_batch` does it, and makes of its reports what is to be told of it, by `tell`: before the last bytes of its
+/// last file go out. Gives the reports and what was made of them.
+pub fn run_batch_with<C, D, S, T, F>(
+    alloc: Global,
+    job: Job,
+    control: &mut C,
+    dial: &mut D,
+    shelf: &mut S,
+    tell: F,
+) -> Result<(Reports, T), Stop>
+where
+    C: Read + Write,
+    D: Dial,
+    S: Shelf,
+    T: Drop,
+    F: FnOnce(&Reports) -> Result<T, NoMem> + Drop,
+    requires { F.IsAlwaysCallable tell }
+    // A job that is refused, or finds no memory for its buffers, touches no stream and no shelf.
+    ensures ran { RefusesBatch job (over_as result)
+        control.old control.new dial.old dial.new shelf.old shelf.new
+        ⊎ HasBatchRun C.remaining C.contents job control.old (D.coming dial.old)
+        control.new (D.coming dial.new) (S.stock shelf.old) (S.stock shelf.new) (over_as result) }
+    ensures told { IfOk result (λ done. FnOnceReturnsAt F.FnOnce tell done.0 (Ok done.1)) }
+{
+    if let Some(fault) = job.fault() {
+        return Err(stop_of_fault(fault));
+    }
+    let mut read = piece(alloc)?;
+    let mut room = piece(alloc)?;
+    let is_scanning = is_scanning(job.task);
+    let client = match Client::new(alloc, job) {
+        Ok(client) => client,
+        Err((fault, _job)) => return Err(stop_of_fault(fault)),
+    };
+    let mut under = None;
+    let done = run_client(
+        client,
+        control,
+        dial,
+        shelf,
+        &mut under,
+        is_scanning,
+        read.as_mut_slice(),
+        room.as_mut_slice(),
+        tell,
+    );
+    let is_taken = put_back(shelf, under);
+    closed(done, is_taken)
+}
+
+/// Does a job over a control connection, the data connections that are dialed, and the outputs of its files. An output is
+/// asked for at a file's first byte, and given back after its last or as the job ends; where one is refused the job ends as
+/// `output`, unless it has ended otherwise. The connections are read as `run_job` reads them.
+pub fn run_batch<C: Read + Write, D: Dial, S: Shelf>(
+    alloc: Global,
+    job: Job,
+    control: &mut C,
+    dial: &mut D,
+    shelf: &mut S,
+) -> Outcome
+    ensures over { IsOver result }
+    // A job that is refused, or finds no memory for its buffers, touches no stream and no shelf.
+    ensures ran { RefusesBatch job result control.old control.new dial.old dial.new shelf.old shelf.new
+        ⊎ HasBatchRun C.remaining C.contents job control.old (D.coming dial.old) control.new (D.coming dial.new) (S.stock shelf.old) (S.stock shelf.new) result }
+{
+    match run_batch_with(alloc, job, control, dial, shelf, |_| Ok(())) {
+        Ok((reports, ())) => Outcome::Done(reports),
+        Err(stop) => Outcome::Ended(stop.status, stop.why),
+    }
+}

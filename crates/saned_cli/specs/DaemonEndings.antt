@@ -1,0 +1,15 @@
+-- The exit statuses of saned.
+use Rattle.std.specs.Prelude.{ℕ}
+use Rattle.saned_cli.specs.declared.daemon_ending.DaemonEnding.{DaemonEnding}
+use Rattle.saned_cli.specs.declared.daemon_ending.DaemonEnding.TheVariants.{BadCommandLine, BadSeed, CannotRead, Config, Page, Users, CannotListen, NoMemory}
+
+-- 64 for the command line, 65 for what it names, 9 for a port that cannot be had, and 10 for lack of memory
+abbrev pub daemon_exit_status : DaemonEnding → ℕ
+daemon_exit_status BadCommandLine = 64
+daemon_exit_status BadSeed = 65
+daemon_exit_status (CannotRead path) = 65
+daemon_exit_status (Config fault) = 65
+daemon_exit_status (Page line why) = 65
+daemon_exit_status (Users fault) = 65
+daemon_exit_status CannotListen = 9
+daemon_exit_status NoMemory = 10

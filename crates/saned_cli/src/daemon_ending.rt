@@ -1,0 +1,72 @@
+use config_pages::NoPage;
+use dispatch::ConfigFault;
+use md5_auth::LineFault;
+use std::io;
+use std::io::Write;
+
+/// How the program ends where it serves nobody.
+#[derive(Drop)]
+pub enum DaemonEnding {
+    BadCommandLine,
+    /// The seed is not 64 hexadecimal digits.
+    BadSeed,
+    /// A file that the command line names cannot be read.
+    CannotRead(String),
+    /// A line of the config tells of no device.
+    Config(ConfigFault),
+    /// The page that the config's line of that number names is not there.
+    Page(u32, NoPage),
+    /// A line of the users file tells of no user.
+    Users(LineFault),
+    /// The port cannot be had.
+    CannotListen,
+    NoMemory,
+}
+
+impl DaemonEnding {
+    ghost use Rattle.std.specs.Prelude.{◌≡◌};
+    ghost use Rattle.saned_cli.specs.DaemonEndings.{daemon_exit_status};
+
+    /// The exit status of the program.
+    pub fn daemon_exit_status(&self) -> u8
+        ensures { result ≡ daemon_exit_status self.now }
+    {
+        match self {
+            DaemonEnding::BadCommandLine => 64,
+            DaemonEnding::BadSeed
+            | DaemonEnding::CannotRead(_)
+            | DaemonEnding::Config(_)
+            | DaemonEnding::Page(_, _)
+            | DaemonEnding::Users(_) => 65,
+            DaemonEnding::CannotListen => 9,
+            DaemonEnding::NoMemory => 10,
+        }
+    }
+
+    /// Writes the line that says how the program ended.
+    pub fn tell<W: Write>(&self, to: &mut W) -> io::Result<()> {
+        match self {
+            DaemonEnding::BadCommandLine => to.write_all(b"saned: bad command line\n"),
+            DaemonEnding::BadSeed => to.write_all(b"saned: bad seed\n"),
+            DaemonEnding::CannotRead(path) => {
+                to.write_all(b"saned: cannot read ")?;
+                to.write_all(path.as_str().as_bytes())?;
+                to.write_all(b"\n")
+            }
+            DaemonEnding::Config(ConfigFault { line, reason }) => {
+                let (line, reason) = (*line, *reason);
+                writeln!(to, "saned: config line {line}: {reason}")
+            }
+            DaemonEnding::Page(line, why) => {
+                let (line, why) = (*line, *why);
+                writeln!(to, "saned: config line {line}: {why}")
+            }
+            DaemonEnding::Users(LineFault { line, reason }) => {
+                let (line, reason) = (*line, *reason);
+                writeln!(to, "saned: users line {line}: {reason}")
+            }
+            DaemonEnding::CannotListen => to.write_all(b"saned: cannot listen\n"),
+            DaemonEnding::NoMemory => to.write_all(b"saned: out of memory\n"),
+        }
+    }
+}

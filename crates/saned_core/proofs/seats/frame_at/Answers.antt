@@ -1,9 +1,0 @@
-use Rattle.std.proofs.Common.{refl}
-use Rattle.saned_core.proofs.Numbers.{no_seat, first_seat}
-use Rattle.saned_core.proofs.seats.frame_at.Goals as goal
-
-pub returns-in-Some : goal.returns-in-Some
-returns-in-Some g c = rw (first_seat g.D.Device.state c.args.number c.args.seats.now c.in-Some.k c.index-seats-k.result c.in-Some.ensures.found c.index-seats-k.is) c.frame_of.ensures
-
-pub returns-in-None : goal.returns-in-None
-returns-in-None g c = rw (no_seat g.D.Device.state c.args.number c.args.seats.now c.in-None.ensures.none) refl

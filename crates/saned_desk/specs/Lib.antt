@@ -1,4 +1,0 @@
-pub mod Holding
-pub mod WireValues
-pub mod Rules
-pub mod Leases

@@ -1,0 +1,4 @@
+pub mod Holding
+pub mod WireValues
+pub mod RequestAnswers
+pub mod LeaseLaws

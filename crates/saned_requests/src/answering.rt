@@ -1,0 +1,8 @@
+//! What is answered to the requests of a session.
+
+pub mod control;
+pub mod open_requests;
+pub mod request;
+pub mod starting;
+pub mod values;
+pub mod word_replies;

@@ -1,0 +1,169 @@
+//! Values of options as they travel.
+
+ghost use Rattle.std.specs.Prelude.{◌≡◌, ◌++◌, ◌∷◌, [], ◌==◌, ◌*◌, IfOk, IfSome, length, map, option_map, position};
+ghost use Rattle.std.specs.Int.{w32, cast_signed, cast_unsigned};
+ghost use Rattle.option_desc.specs.declared.value.Value.TheVariants.{Text as TextOf};
+ghost use Rattle.saned_requests.specs.WireValues.{wire_of, flag_value_of, flag_in, ints_of, fixed_value_of, text_in, words_asked, bytes_asked, asked_of, value_asked};
+
+use option_desc::{Descriptor, Value, Words};
+use sane_fixed::{Fixed, Kind, NoMem, Text};
+use std::alloc::Global;
+use wire_codec::{Array, WireValue};
+
+fn one_word(alloc: Global, word: u32) -> Result<WireValue, NoMem>
+    ensures { IfOk result (λ value. value ≡ WireValue.Words (word ∷ [])) }
+{
+    Ok(WireValue::Words(Array::from_vec(vec![in alloc; word]?)))
+}
+
+fn unsigned(alloc: Global, words: &[i32]) -> Result<WireValue, NoMem>
+    ensures { IfOk result (λ value. value ≡ WireValue.Words (map (cast_unsigned w32) words.now)) }
+{
+    let mut unsigned = Vec::with_capacity(alloc, words.len())?;
+    for word in words {
+        unsigned.push(word.cast_unsigned())?;
+    }
+    Ok(WireValue::Words(Array::from_vec(unsigned)))
+}
+
+fn with_nul(alloc: Global, text: &[u8]) -> Result<WireValue, NoMem>
+    ensures { IfOk result (λ value. value ≡ WireValue.Bytes (text.now ++ 0 ∷ [])) }
+{
+    let mut bytes = Vec::from_slice(alloc, text)?;
+    bytes.push(0)?;
+    Ok(WireValue::Bytes(Array::from_vec(bytes)))
+}
+
+/// A value as it is sent: a text with its NUL.
+pub fn wire_of(alloc: Global, value: &Value) -> Result<WireValue, NoMem>
+    ensures { IfOk result (λ sent. sent ≡ wire_of value.now) }
+{
+    match value {
+        Value::Flag(flag) => one_word(alloc, if *flag { 1 } else { 0 }),
+        Value::Int(word) => one_word(alloc, word.cast_unsigned()),
+        Value::Fixed(fixed) => one_word(alloc, fixed.0.cast_unsigned()),
+        Value::Words(words) => unsigned(alloc, words.as_slice()),
+        Value::Text(text) => with_nul(alloc, text.as_bytes()),
+    }
+}
+
+fn signed(alloc: Global, words: &[u32]) -> Result<Words, NoMem>
+    ensures { IfOk result (λ value. value ≡ map (cast_signed w32) words.now) }
+{
+    let mut signed = Vec::with_capacity(alloc, words.len())?;
+    for word in words {
+        signed.push(word.cast_signed())?;
+    }
+    Ok(Words::from_vec(signed))
+}
+
+fn flag_value_of(word: u32) -> Option<Value>
+    ensures { result ≡ flag_value_of word }
+{
+    match word {
+        0 => Some(Value::Flag(false)),
+        1 => Some(Value::Flag(true)),
+        _ => None,
+    }
+}
+
+fn flag_in(words: &[u32]) -> Option<Value>
+    ensures { result ≡ flag_in words.now }
+{
+    match words {
+        [word] => flag_value_of(*word),
+        _ => None,
+    }
+}
+
+fn ints_of(alloc: Global, words: &[u32]) -> Result<Value, NoMem>
+    ensures { IfOk result (λ value. value ≡ ints_of words.now) }
+{
+    match words {
+        [word] => Ok(Value::Int(word.cast_signed())),
+        _ => Ok(Value::Words(signed(alloc, words)?)),
+    }
+}
+
+fn fixed_value_of(alloc: Global, words: &[u32]) -> Result<Value, NoMem>
+    ensures { IfOk result (λ value. value ≡ fixed_value_of words.now) }
+{
+    match words {
+        [word] => Ok(Value::Fixed(Fixed(word.cast_signed()))),
+        _ => Ok(Value::Words(signed(alloc, words)?)),
+    }
+}
+
+/// The value of words, by the kind of their option.
+fn words_asked(alloc: Global, kind: Kind, words: &[u32]) -> Result<Option<Value>, NoMem>
+    ensures { IfOk result (λ asked. asked ≡ words_asked kind words.now) }
+{
+    match kind {
+        Kind::Bool => Ok(flag_in(words)),
+        Kind::Int => Ok(Some(ints_of(alloc, words)?)),
+        Kind::Fixed => Ok(Some(fixed_value_of(alloc, words)?)),
+        Kind::String | Kind::Button | Kind::Group => Ok(None),
+    }
+}
+
+/// Where the first NUL stands.
+fn nul_at(bytes: &[u8]) -> Option<usize>
+    ensures { result ≡ position (λ b. b == 0) bytes.now }
+{
+    bytes.iter().position(|b| *b == 0)
+}
+
+/// The text of the bytes, which ends at their first NUL.
+fn text_in(alloc: Global, bytes: &[u8]) -> Result<Option<Value>, NoMem>
+    ensures { IfOk result (λ value. value ≡ option_map (λ text. TextOf text) (text_in bytes.now)) }
+{
+    let Some(end) = nul_at(bytes) else {
+        return Ok(None);
+    };
+    match Text::new(alloc, &bytes[..end]) {
+        Ok(text) => Ok(Some(Value::Text(text))),
+        Err(_) => Err(NoMem),
+    }
+}
+
+/// The value of bytes, by the kind of their option.
+fn bytes_asked(alloc: Global, kind: Kind, bytes: &[u8]) -> Result<Option<Value>, NoMem>
+    ensures { IfOk result (λ asked. asked ≡ bytes_asked kind bytes.now) }
+{
+    match kind {
+        Kind::String => text_in(alloc, bytes),
+        Kind::Bool | Kind::Int | Kind::Fixed | Kind::Button | Kind::Group => Ok(None),
+    }
+}
+
+fn asked_of(alloc: Global, desc: &Descriptor, value: &WireValue) -> Result<Option<Value>, NoMem>
+    ensures { IfOk result (λ asked. asked ≡ asked_of desc.now value.now) }
+{
+    match value {
+        WireValue::Words(words) => {
+            let words = words.as_slice();
+            if words.len() * 4 == desc.size as usize {
+                words_asked(alloc, desc.kind, words)
+            } else {
+                Ok(None)
+            }
+        }
+        WireValue::Bytes(bytes) => bytes_asked(alloc, desc.kind, bytes.as_slice()),
+    }
+}
+
+/// The value that is asked of an option: none where it is of another type, has words of another number, or spells none.
+pub fn value_asked(
+    alloc: Global,
+    desc: &Descriptor,
+    kind: Kind,
+    value: &WireValue,
+) -> Result<Option<Value>, NoMem>
+    ensures { IfOk result (λ asked. asked ≡ value_asked desc.now kind value.now) }
+{
+    if kind.code() == desc.kind.code() {
+        asked_of(alloc, desc, value)
+    } else {
+        Ok(None)
+    }
+}

@@ -1,0 +1,30 @@
+use dispatch::Lease;
+use sane_fixed::Text;
+
+/// The frame of a session, and the device word that it is read from.
+#[derive(Clone, Copy, Debug, PartialEq, Eq)]
+pub enum DataPhase {
+    Quiet,
+    Waiting(usize),
+    Streaming(usize),
+    Ending,
+}
+
+/// An OPEN that waits for its AUTHORIZE.
+#[derive(Drop)]
+pub struct AwaitedAuthorization {
+    pub name: Text,
+    pub resource: Text,
+}
+
+/// A session that goes on.
+pub struct Session<D> {
+    /// Where its data connections are accepted.
+    pub port: u16,
+    /// Whether its INIT was answered.
+    pub greeted: bool,
+    /// What it holds, by device word.
+    pub held: [Option<Lease<D>>; 4],
+    pub awaited: Option<AwaitedAuthorization>,
+    pub transfer: DataPhase,
+}

@@ -1,0 +1,857 @@
+-- Single actions of a session that stands.
+use Rattle.std.proofs.Common.{◌≡◌, ◌≢◌, ◌≤◌, ◌⊎◌, inl, inr, ℕ, ◌+◌, ◌-◌, Bool, true, false, not, ◌||◌, cond, Option, None, Some, is_some, List, [], ◌∷◌, ◌++◌, length, take, drop, refl, sym, ap, ◌∙◌, subst, append_assoc, append-nil, IsSome, arith}
+use Rattle.std.proofs.lemmas.List.{take-append-drop}
+use Rattle.std.proofs.Math.Dec.{eqb}
+use Rattle.std.proofs.lemmas.Bool.{eq-eqb, eqb-true, or_left, or_right, or_from}
+use Rattle.saned_core.specs.DaemonStates.{Core, frame_in, session_of, is_waiting}
+use Rattle.saned_core.specs.declared.session_slot.FrameState.{FrameState}
+use Rattle.saned_core.specs.declared.session_slot.DataStep.TheVariants.{Idle, Bytes, Last}
+use Rattle.saned_core.specs.declared.session_slot.Fed.{Fed}
+use Rattle.saned_core.specs.declared.session_slot.DataStep.{DataStep}
+use Rattle.saned_serve.specs.declared.sockets.Got.{Got}
+use Rattle.saned_serve.specs.declared.sockets.Got.TheVariants.{Moved, Nothing, Lost}
+use Rattle.saned_serve.specs.ConnectionTraces.{ConnectionTrace, IsTrace, after_read, after_write, bytes_moved, stirs, is_lost, trace_bytes_read, trace_bytes_written, lost_in}
+use Rattle.saned_serve.specs.ConnectionTraces.ConnectionCall.{Read, Write}
+use Rattle.saned_serve.specs.ListenerTraces.{ListenerTrace, with_notice, IsForgotten}
+use Rattle.saned_serve.specs.ListenerTraces.Notice.{Dialed as Dials, Shut, Back}
+use Rattle.saned_serve.specs.SessionActions.{SessionAction, ActsOn, IsTurned, written_by, makes_progress, leaves, opens_session, is_end_record, is_idle, ends_session}
+use Rattle.saned_serve.specs.SessionActions.SessionAction.{Opens, Hears, Feed, Forgets, Take, Says, Looks, Misses, Connect, Turn, Shows, Lose, HangsUp, Leaves}
+use Rattle.saned_serve.specs.Journal.{LoopAction, SessionProjection, empty_projection, no_bytes, concerns, projection_after, projection_after_action, projection_of, MayDo, listener_trace_act, Extends, AreEnds, Closing, JournalLeads, Tally, tally_of, after_tally, tally_with, has_stopped, has_asked, open_sessions, MayBeLeft, MayHandBackData}
+use Rattle.saned_serve.specs.Journal.LoopAction.{Of}
+use Rattle.saned_serve.specs.JournalSteps.{TurnPhase, IsAt, ImageTraceMatches, ImageTraceMatchesIn, LinkMatches, HasGoneOn, JournalGoesOn, Attends, SendsTo, SendsIn, hung_up, SessionHasEnded, LeavesSession}
+use Rattle.saned_serve.specs.JournalSteps.TurnPhase.{Due, Filled, Heard, Ready, Spoken, Dialed, Loaded, Shown}
+use Rattle.saned_serve.specs.declared.link.SessionLink.{SessionLink}
+
+pub extends_then : (past mid journal : List LoopAction) → Extends past mid → Extends mid journal → Extends past journal
+extends_then past mid journal first then = (then.0 ++ first.0, then.1 ∙ ap (λ xs. then.0 ++ xs) first.1 ∙ sym (append_assoc then.0 first.0 past))
+
+pub life_at : (id : ℕ) (action : LoopAction) (past : List LoopAction) → concerns action id ≡ true → projection_of id (action ∷ past) ≡ projection_after_action action (projection_of id past)
+unfolding projection_of
+life_at id action past e = ap (λ b. cond b (projection_after_action action (projection_of id past)) (projection_of id past)) e
+
+pub life_off : (id : ℕ) (action : LoopAction) (past : List LoopAction) → concerns action id ≡ false → projection_of id (action ∷ past) ≡ projection_of id past
+unfolding projection_of
+life_off id action past e = ap (λ b. cond b (projection_after_action action (projection_of id past)) (projection_of id past)) e
+
+eqb_same : (a b : ℕ) (v : Bool) → eqb a b ≡ v → a ≢ b → v ≡ false
+eqb_same a b true e h = absurd (h (eqb-true a b e))
+eqb_same a b false e h = refl
+
+pub eqb_off : (a b : ℕ) → a ≢ b → eqb a b ≡ false
+eqb_off a b h = eqb_same a b (eqb a b) refl h
+
+pub or_false : (b : Bool) → (b || false) ≡ b
+or_false true = refl
+or_false false = refl
+
+or_assoc : (a b c : Bool) → ((a || b) || c) ≡ (a || (b || c))
+or_assoc true b c = refl
+or_assoc false b c = refl
+
+pub not_both : {b : Bool} → b ≡ true → b ≡ false → ⊥
+not_both t f = let wrong : true ≡ false = sym t ∙ f in cc
+
+pub counted_then : (a b : ℕ) (x y : Bool) (t : Tally) → tally_with b y (tally_with a x t) ≡ tally_with (a + b) (x || y) t
+counted_then a b x y t =
+    let sum : t.left + a + b ≡ t.left + (a + b) = omega arith in
+    ap (λ n. record t { left = n; stir = (t.stir || x) || y }) sum ∙ ap (λ v. record t { left = t.left + (a + b); stir = v }) (or_assoc t.stir x y)
+
+-- a session that does not come
+not_come : {A : Type 0} (act : SessionAction) → opens_session act ≡ false → opens_session act ≡ true → A
+not_come act plain comes = absurd (not_both comes plain)
+
+-- who stands, once sessions left
+pub fewer_then : (n a b : ℕ) → (n - a) - b ≡ n - (a + b)
+fewer_then n a b = omega arith
+
+pub counted_none : (t : Tally) → t ≡ tally_with 0 false t
+counted_none t =
+    let sum : t.left ≡ t.left + 0 = omega arith in
+    ap (λ n. record t { left = n }) sum ∙ ap (λ v. record t { left = t.left + 0; stir = v }) (sym (or_false t.stir))
+
+-- ---- one act
+
+-- what an act does to the count of sessions
+opened_by : (act : SessionAction) (d e : Core) (id : ℕ) → opens_session act ≡ false → ActsOn id d act e → e.opened ≡ d.opened
+opened_by (Opens port) d e id plain does = cc
+opened_by (Hears got room bytes) d e id plain does = ap (λ (c : Core). c.opened) does
+opened_by (Feed piece fed begins) d e id plain does = ap (λ (c : Core). c.opened) does.0.others
+opened_by (Forgets told port) d e id plain does = ap (λ (c : Core). c.opened) does
+opened_by (Take room bytes) d e id plain does = ap (λ (c : Core). c.opened) does.after
+opened_by (Says got bytes) d e id plain does = ap (λ (c : Core). c.opened) does
+opened_by (Looks frame) d e id plain does = ap (λ (c : Core). c.opened) does.1
+opened_by (Misses port) d e id plain does = ap (λ (c : Core). c.opened) does.1
+opened_by (Connect port) d e id plain does = ap (λ (c : Core). c.opened) does.after
+opened_by (Turn room step bytes) d e id plain does = ap (λ (c : Core). c.opened) does.turns.others
+opened_by (Shows got bytes) d e id plain does = ap (λ (c : Core). c.opened) does
+opened_by Lose d e id plain does = ap (λ (c : Core). c.opened) does
+opened_by (HangsUp trace) d e id plain does = ap (λ (c : Core). c.opened) does
+opened_by (Leaves port trace) d e id plain does = ap (λ (c : Core). c.opened) does
+
+stands_for : (act : SessionAction) (projection : SessionProjection) (stopped : Bool) → opens_session act ≡ false → MayDo act projection stopped → projection.is_open ≡ true
+stands_for (Opens port) projection stopped plain may = cc
+stands_for (Hears got room bytes) projection stopped plain may = may.0
+stands_for (Feed piece fed begins) projection stopped plain may = may.0
+stands_for (Forgets told port) projection stopped plain may = may.0
+stands_for (Take room bytes) projection stopped plain may = may.0
+stands_for (Says got bytes) projection stopped plain may = may.0
+stands_for (Looks frame) projection stopped plain may = may.0
+stands_for (Misses port) projection stopped plain may = may.0
+stands_for (Connect port) projection stopped plain may = may.0
+stands_for (Turn room step bytes) projection stopped plain may = may.0
+stands_for (Shows got bytes) projection stopped plain may = may.0
+stands_for Lose projection stopped plain may = may.0
+stands_for (HangsUp trace) projection stopped plain may = may.0
+stands_for (Leaves port trace) projection stopped plain may = may.0
+
+unused_act : (act : SessionAction) (past : List LoopAction) (id j : ℕ) (v : Bool) → eqb id j ≡ v → (projection_of id past).is_open ≡ true → projection_of j past ≡ empty_projection → projection_of j (Of id act ∷ past) ≡ empty_projection
+unused_act act past id j false e standing none = life_off j (Of id act) past e ∙ none
+unused_act act past id j true e standing none =
+    let at = subst (λ k. (projection_of k past).is_open ≡ true) (eqb-true id j e) standing in
+    absurd (not_both at (ap (λ projection. projection.is_open) none))
+
+pub leads_act : (act : SessionAction) (d0 : Core) (n0 : Option ListenerTrace) (past : List LoopAction) (d : Core) (n : Option ListenerTrace) (e : Core) (id : ℕ) → opens_session act ≡ false → JournalLeads d0 n0 past d n → ActsOn id d act e → MayDo act (projection_of id past) (has_stopped past) → JournalLeads d0 n0 (Of id act ∷ past) e (listener_trace_act act n)
+leads_act act d0 n0 past d n e id plain leads does may = record {
+  is_journal = (leads.is_journal, (may, not_come act plain));
+  run = (d, leads.run, does);
+  net = ap (listener_trace_act act) leads.net;
+  unused = λ j h. unused_act act past id j (eqb id j) refl (stands_for act (projection_of id past) (has_stopped past) plain may)
+      (leads.unused j (subst (λ k. k ≤ j) (opened_by act d e id plain does) h));
+}
+
+-- acts of one session, one after another
+pub record Trail (d0 : Core) (n0 : Option ListenerTrace) (past : List LoopAction) (id left : ℕ) (stir : Bool) (e : Core) (m : Option ListenerTrace) (projection : SessionProjection) : Type 0 where
+  pub journal : List LoopAction
+  pub more : Extends past journal
+  pub leads : JournalLeads d0 n0 journal e m
+  pub at : projection_of id journal ≡ projection
+  pub others : (j : ℕ) → j ≢ id → projection_of j journal ≡ projection_of j past
+  pub tally : tally_of journal ≡ tally_with left stir (tally_of past)
+  pub stopped : has_stopped journal ≡ has_stopped past
+  pub asked : has_asked journal ≡ has_asked past
+  pub crowd : open_sessions journal ≡ open_sessions past - left
+
+pub trail_begin : (d0 : Core) (n0 : Option ListenerTrace) (past : List LoopAction) (d : Core) (n : Option ListenerTrace) (id : ℕ) → JournalLeads d0 n0 past d n → (t : Trail d0 n0 past id 0 false d n (projection_of id past)) × (t.journal ≡ past)
+trail_begin d0 n0 past d n id leads = (
+  record {
+    journal = past;
+    more = ([], refl);
+    leads = leads;
+    at = refl;
+    others = λ j off. refl;
+    tally = counted_none (tally_of past);
+    stopped = refl;
+    asked = refl;
+    crowd = (let same : open_sessions past ≡ open_sessions past - 0 = omega arith in same);
+  },
+  refl,
+)
+
+pub trail : (d0 : Core) (n0 : Option ListenerTrace) (past : List LoopAction) (d : Core) (n : Option ListenerTrace) (id : ℕ) → JournalLeads d0 n0 past d n → Trail d0 n0 past id 0 false d n (projection_of id past)
+trail d0 n0 past d n id leads = (trail_begin d0 n0 past d n id leads).0
+
+pub trail_next : {d0 : Core} {n0 : Option ListenerTrace} {past : List LoopAction} {id left : ℕ} {stir : Bool} {e : Core} {m : Option ListenerTrace} {projection : SessionProjection} → (t : Trail d0 n0 past id left stir e m projection)
+    → (act : SessionAction) (f : Core) → opens_session act ≡ false → ActsOn id e act f → MayDo act projection (has_stopped past) → (u : Trail d0 n0 past id (left + leaves act) (stir || makes_progress act) f (listener_trace_act act m) (projection_after act projection)) × (u.journal ≡ Of id act ∷ t.journal)
+trail_next {d0} {n0} {past} {id} {left} {stir} {e} {m} {projection} t act f plain does may =
+    let may1 = subst (λ v. MayDo act projection v) (sym t.stopped) may in
+    let may2 = subst (λ v. MayDo act v (has_stopped t.journal)) (sym t.at) may1 in (
+      record {
+        journal = Of id act ∷ t.journal;
+        more = (Of id act ∷ t.more.0, ap (λ xs. Of id act ∷ xs) t.more.1);
+        leads = leads_act act d0 n0 t.journal e m f id plain t.leads does may2;
+        at = life_at id (Of id act) t.journal (eq-eqb id id refl) ∙ ap (projection_after act) t.at;
+        others = λ j off. life_off j (Of id act) t.journal (eqb_off id j (λ same. off (sym same))) ∙ t.others j off;
+        tally = ap (after_tally (Of id act)) t.tally ∙ counted_then left (leaves act) stir (makes_progress act) (tally_of past);
+        stopped = t.stopped;
+        asked = ap (λ b. has_asked t.journal || b) plain ∙ or_false (has_asked t.journal) ∙ t.asked;
+        crowd = ap (λ b. cond b (open_sessions t.journal + 1) (open_sessions t.journal) - leaves act) plain ∙ ap (λ k. k - leaves act) t.crowd ∙ fewer_then (open_sessions past) left (leaves act);
+      },
+      refl,
+    )
+
+pub trail_on : {d0 : Core} {n0 : Option ListenerTrace} {past : List LoopAction} {id left : ℕ} {stir : Bool} {e : Core} {m : Option ListenerTrace} {projection : SessionProjection} → Trail d0 n0 past id left stir e m projection
+    → (act : SessionAction) (f : Core) → opens_session act ≡ false → ActsOn id e act f → MayDo act projection (has_stopped past) → Trail d0 n0 past id (left + leaves act) (stir || makes_progress act) f (listener_trace_act act m) (projection_after act projection)
+trail_on t act f plain does may = (trail_next t act f plain does may).0
+
+went : {C : Type 0} {history : C → Option ConnectionTrace} {d0 : Core} {n0 : Option ListenerTrace} {past : List LoopAction} {id : ℕ} {stir : Bool} {e : Core} {m : Option ListenerTrace} {projection : SessionProjection} (to : TurnPhase) (k : SessionLink C) → Trail d0 n0 past id 0 stir e m projection → LinkMatches history to projection k → HasGoneOn history to d0 n0 past id stir e m k
+went {C} {history} {d0} {n0} {past} to k t tells = record {
+  journal = t.journal;
+  more = t.more;
+  leads = t.leads;
+  tells = subst (λ v. LinkMatches history to v k) (sym t.at) tells;
+  others = t.others;
+  tally = t.tally;
+  stopped = t.stopped;
+  asked = t.asked;
+  crowd = (let same : open_sessions past - 0 ≡ open_sessions past = omega arith in t.crowd ∙ same);
+}
+
+-- ---- what connections tell
+
+told_read : (got : Got) (buf : List ℕ) (trace after : Option ConnectionTrace) (calls : ConnectionTrace) → after ≡ after_read got buf trace → IsTrace trace calls → IsTrace after (Read got (length buf) (take (bytes_moved got) buf) ∷ calls)
+told_read got buf None after calls e told = subst (λ t. IsTrace t (Read got (length buf) (take (bytes_moved got) buf) ∷ calls)) (sym e) tt
+told_read got buf (Some trace) after calls e told = subst (λ t. IsTrace t (Read got (length buf) (take (bytes_moved got) buf) ∷ calls)) (sym e) (ap (λ cs. Read got (length buf) (take (bytes_moved got) buf) ∷ cs) told)
+
+told_write : (got : Got) (buf : List ℕ) (trace after : Option ConnectionTrace) (calls : ConnectionTrace) → after ≡ after_write got buf trace → IsTrace trace calls → IsTrace after (Write got buf ∷ calls)
+told_write got buf None after calls e told = subst (λ t. IsTrace t (Write got buf ∷ calls)) (sym e) tt
+told_write got buf (Some trace) after calls e told = subst (λ t. IsTrace t (Write got buf ∷ calls)) (sym e) (ap (λ cs. Write got buf ∷ cs) told)
+
+-- what waits goes on behind what was taken
+pub rest_after : (xs rest said : List ℕ) (n : ℕ) → xs ++ rest ≡ said → (xs ++ take n rest) ++ drop n rest ≡ said
+rest_after xs rest said n e = append_assoc xs (take n rest) (drop n rest) ∙ ap (λ ys. xs ++ ys) (take-append-drop n rest) ∙ e
+
+-- where nothing waits, all was taken
+all_taken : (xs rest said : List ℕ) → rest ≡ [] → xs ++ rest ≡ said → xs ≡ said
+all_taken xs rest said none e = sym (append-nil xs) ∙ ap (λ ys. xs ++ ys) (sym none) ∙ e
+
+abbrev behind : List ℕ → List ℕ
+behind [] = []
+behind (x ∷ xs) = xs
+
+append_self : (xs rest : List ℕ) → xs ++ rest ≡ xs → rest ≡ []
+append_self [] rest e = e
+append_self (x ∷ xs) rest e = append_self xs rest (ap behind e)
+
+pub append_front : (xs rest said : List ℕ) → xs ++ rest ≡ said → xs ≡ said → rest ≡ []
+append_front xs rest said e all = append_self xs rest (e ∙ sym all)
+
+none_on : (xs ys said : List ℕ) → xs ≡ said → xs ++ ys ≡ said ++ ys
+none_on xs ys said e = ap (λ zs. zs ++ ys) e
+
+some_left : (bytes : List ℕ) → bytes ≢ [] → no_bytes bytes ≡ false
+some_left [] some = absurd (some refl)
+some_left (b ∷ bytes) some = refl
+
+-- a data connection is not touched
+carries_on : {C : Type 0} (history : C → Option ConnectionTrace) (image : Option C) (last : Bool) (records : List ℕ) (a b : SessionProjection) → b.imaging ≡ a.imaging → b.image ≡ a.image → b.shown ≡ a.shown → b.last ≡ a.last → ImageTraceMatchesIn history image last records a → ImageTraceMatchesIn history image last records b
+carries_on history None last records a b imaging image shown ended carries = imaging ∙ carries
+carries_on history (Some conn) last records a b imaging image shown ended carries = record {
+  imaging = imaging ∙ carries.imaging;
+  told = subst (λ t. IsTrace (history conn) t) (sym image) carries.told;
+  shown = ap (λ t. trace_bytes_written t ++ records) image ∙ carries.shown ∙ sym shown;
+  last = carries.last ∙ sym ended;
+  more = carries.more;
+  held = ap lost_in image ∙ carries.held;
+}
+
+-- the same link is in another phase
+pub tells_at : {C : Type 0} {history : C → Option ConnectionTrace} {from to : TurnPhase} {projection : SessionProjection} {l : SessionLink C} → LinkMatches history from projection l → IsAt to projection l → LinkMatches history to projection l
+tells_at tells at = record {
+  is_open = tells.is_open;
+  port = tells.port;
+  over = tells.over;
+  told = tells.told;
+  heard = tells.heard;
+  said = tells.said;
+  waits = tells.waits;
+  quiet = tells.quiet;
+  held = tells.held;
+  carries = tells.carries;
+  at = at;
+}
+
+-- ---- nothing is done
+
+goes_rests : {C : Type 0} (history : C → Option ConnectionTrace) (from to : TurnPhase) (d : Core) (n : Option ListenerTrace) (l k : SessionLink C) → k.id ≡ l.id → ((projection : SessionProjection) → LinkMatches history from projection l → LinkMatches history to projection k) → JournalGoesOn history from to d n l false d n k
+goes_rests history from to d n l k same tells = record {
+  same = same;
+  goes = λ d0 n0 past leads was. went to k (trail d0 n0 past d n l.id.number leads) (tells (projection_of l.id.number past) was);
+}
+
+pub goes_same : {C : Type 0} (history : C → Option ConnectionTrace) (phase : TurnPhase) (d : Core) (n : Option ListenerTrace) (l : SessionLink C) → JournalGoesOn history phase phase d n l false d n l
+goes_same history phase d n l = goes_rests history phase phase d n l l refl (λ projection tells. tells)
+
+-- replies wait
+pub goes_fresh : {C : Type 0} (history : C → Option ConnectionTrace) (d : Core) (n : Option ListenerTrace) (l : SessionLink C) → l.replies ≢ [] → JournalGoesOn history Due Filled d n l false d n l
+goes_fresh history d n l some = goes_rests history Due Filled d n l l refl (λ projection tells. tells_at tells (tells.at.0, (λ none. absurd (some none)), tells.at.1))
+
+pub goes_waits : {C : Type 0} (history : C → Option ConnectionTrace) (d : Core) (n : Option ListenerTrace) (l : SessionLink C) → l.replies ≢ [] → JournalGoesOn history Filled Heard d n l false d n l
+goes_waits history d n l some = goes_rests history Filled Heard d n l l refl (λ projection tells. tells_at tells ((λ done. absurd (not_both done tells.at.0)), inr some, tells.at.2.1, tells.at.2.2))
+
+pub goes_ready : {C : Type 0} (history : C → Option ConnectionTrace) (d : Core) (n : Option ListenerTrace) (l : SessionLink C) → l.replies ≢ [] → JournalGoesOn history Heard Ready d n l false d n l
+goes_ready history d n l some = goes_rests history Heard Ready d n l l refl (λ projection tells. tells_at tells (tells.at.0, tells.at.1, (λ none. absurd (some none)), tells.at.2, tells.at.3))
+
+-- ---- the control connection
+
+may_hear : {C : Type 0} (history : C → Option ConnectionTrace) (projection : SessionProjection) (l : SessionLink C) (got : Got) (room : ℕ) (bytes : List ℕ) (stopped : Bool) → room ≡ 4096 → l.replies ≡ [] → LinkMatches history Filled projection l → MayDo (Hears got room bytes) projection stopped
+may_hear history projection l got room bytes stopped size none tells = (tells.is_open, tells.at.1 none, all_taken (trace_bytes_written projection.control) l.replies projection.said none tells.said, tells.heard, tells.at.2.0, size)
+
+-- what was read is fed
+heard_some : {C : Type 0} (history : C → Option ConnectionTrace) (projection : SessionProjection) (l : SessionLink C) (c : C) (over : Bool) (count : ℕ) (buf : List ℕ) (fed : Fed) → history c ≡ after_read (Moved count) buf (history l.conn) → over ≡ (l.is_over || ends_session fed)
+    → LinkMatches history Filled projection l → LinkMatches history Heard (projection_after (Feed (take count buf) fed false) (projection_after (Hears (Moved count) (length buf) (take count buf)) projection)) (record l { conn = c; is_over = over })
+heard_some history projection l c over count buf fed told was tells =
+    let piece = take count buf in
+    record {
+      is_open = tells.is_open;
+      port = tells.port;
+      over = was ∙ ap (λ b. b || ends_session fed) tells.over;
+      told = told_read (Moved count) buf (history l.conn) (history c) projection.control told tells.told;
+      heard = none_on (trace_bytes_read projection.control) piece projection.heard tells.heard;
+      said = tells.said;
+      waits = λ some. refl;
+      quiet = refl;
+      held = λ alive. or_from (lost_in projection.control) false (tells.held alive) refl;
+      carries = carries_on history l.image l.is_last l.records projection (projection_after (Feed piece fed false) (projection_after (Hears (Moved count) (length buf) piece) projection)) refl refl refl refl tells.carries;
+      at = ((λ done. absurd (not_both done tells.at.0)), inl refl, tells.at.2.1, refl);
+    }
+
+-- and where a frame begins with that, the listeners are asked to forget
+cleared : {C : Type 0} (history : C → Option ConnectionTrace) {d0 : Core} {n0 : Option ListenerTrace} {past : List LoopAction} {id : ℕ} {e : Core} {n : Option ListenerTrace} {projection : SessionProjection} (port : ℕ) (k : SessionLink C) (m : Option ListenerTrace)
+    → Trail d0 n0 past id 0 true e n projection → projection.is_open ≡ true → projection.begun ≡ true → port ≡ projection.port → IsForgotten port n m
+    → LinkMatches history Heard (projection_after (Forgets true port) projection) k → HasGoneOn history Heard d0 n0 past id true e m k
+cleared history {d0} {n0} {past} {id} {e} {n} {projection} port k m t standing begun at (inl same) tells =
+    subst (λ o. HasGoneOn history Heard d0 n0 past id true e o k) (sym same) (went Heard k (trail_on t (Forgets false port) e refl refl (standing, begun, at)) tells)
+cleared history {d0} {n0} {past} {id} {e} {n} {projection} port k m t standing begun at (inr told) tells =
+    subst (λ o. HasGoneOn history Heard d0 n0 past id true e o k) (sym told) (went Heard k (trail_on t (Forgets true port) e refl refl (standing, begun, at)) tells)
+
+fed_on : {C : Type 0} (history : C → Option ConnectionTrace) {d0 : Core} {n0 : Option ListenerTrace} {past : List LoopAction} {id : ℕ} {d : Core} {n : Option ListenerTrace} {projection : SessionProjection} (port : ℕ) (k : SessionLink C) (piece : List ℕ) (fed : Fed) (begins : Bool) (e : Core) (m : Option ListenerTrace)
+    → Trail d0 n0 past id 0 true d n projection → projection.is_open ≡ true → projection.heard ++ piece ≡ trace_bytes_read projection.control → port ≡ projection.port → ActsOn id d (Feed piece fed begins) e → (begins ≡ true → IsForgotten port n m) → (begins ≡ false → m ≡ n)
+    → LinkMatches history Heard (projection_after (Feed piece fed false) projection) k → HasGoneOn history Heard d0 n0 past id true e m k
+fed_on history {d0} {n0} {past} {id} {d} {n} {projection} port k piece fed false e m t standing all at does forgets keeps tells =
+    let first = trail_on t (Feed piece fed false) e refl does (standing, all) in
+    subst (λ o. HasGoneOn history Heard d0 n0 past id true e o k) (sym (keeps refl)) (went Heard k first tells)
+fed_on history {d0} {n0} {past} {id} {d} {n} {projection} port k piece fed true e m t standing all at does forgets keeps tells =
+    let first = trail_on t (Feed piece fed true) e refl does (standing, all) in
+    cleared history port k m first standing refl at (forgets refl) tells
+
+pub goes_hears : {C : Type 0} (history : C → Option ConnectionTrace) (d : Core) (n : Option ListenerTrace) (l k : SessionLink C) (e : Core) (m : Option ListenerTrace) (c : C) (count : ℕ) (buf : List ℕ)
+    → length buf ≡ 4096 → l.replies ≡ [] → history c ≡ after_read (Moved count) buf (history l.conn) → k ≡ record l { conn = c; is_over = k.is_over } → Attends l.id.number l.port (take count buf) d n l.is_over k.is_over e m
+    → JournalGoesOn history Filled Heard d n l true e m k
+goes_hears history d n l k e m c count buf size none told same attends = record {
+  same = ap (λ x. x.id) same;
+  goes = λ d0 n0 past leads tells.
+      let projection = projection_of l.id.number past in
+      let piece = take count buf in
+      let first = trail_on (trail d0 n0 past d n l.id.number leads) (Hears (Moved count) (length buf) piece) d refl refl (may_hear history projection l (Moved count) (length buf) piece (has_stopped past) size none tells) in
+      let now = heard_some history projection l c k.is_over count buf attends.fed told attends.is tells in
+      let fed = projection_after (Feed piece attends.fed false) (projection_after (Hears (Moved count) (length buf) piece) projection) in
+      fed_on history l.port k piece attends.fed attends.begins e m first tells.is_open (none_on projection.heard piece (trace_bytes_read projection.control) (sym tells.heard)) tells.port attends.does attends.forgets attends.keeps
+      (subst (λ x. LinkMatches history Heard fed x) (sym same) now);
+}
+
+-- a read that brings nothing
+heard_none : {C : Type 0} (history : C → Option ConnectionTrace) (got : Got) (buf : List ℕ) (projection : SessionProjection) (l : SessionLink C) (c : C) (done : Bool) → take (bytes_moved got) buf ≡ [] → history c ≡ after_read got buf (history l.conn) → LinkMatches history Filled projection l
+    → (done ≡ false → lost_in (Read got (length buf) (take (bytes_moved got) buf) ∷ projection.control) ≡ false) → (done ≡ true → lost_in (Read got (length buf) (take (bytes_moved got) buf) ∷ projection.control) ≡ true)
+    → LinkMatches history Heard (projection_after (Hears got (length buf) (take (bytes_moved got) buf)) projection) (record l { conn = c; is_done = done })
+heard_none history got buf projection l c done none told tells alive lost = record {
+  is_open = tells.is_open;
+  port = tells.port;
+  over = tells.over;
+  told = told_read got buf (history l.conn) (history c) projection.control told tells.told;
+  heard = ap (λ xs. trace_bytes_read projection.control ++ xs) none ∙ append-nil (trace_bytes_read projection.control) ∙ tells.heard;
+  said = tells.said;
+  waits = tells.waits;
+  quiet = tells.quiet;
+  held = alive;
+  carries = carries_on history l.image l.is_last l.records projection (projection_after (Hears got (length buf) (take (bytes_moved got) buf)) projection) refl refl refl refl tells.carries;
+  at = (lost, inl refl, tells.at.2.1, tells.at.2.2);
+}
+
+pub goes_silent : {C : Type 0} (history : C → Option ConnectionTrace) (d : Core) (n : Option ListenerTrace) (l : SessionLink C) (c : C) (buf : List ℕ) → length buf ≡ 4096 → l.replies ≡ [] → history c ≡ after_read Nothing buf (history l.conn) → JournalGoesOn history Filled Heard d n l false d n (record l { conn = c })
+goes_silent history d n l c buf size none told = record {
+  same = refl;
+  goes = λ d0 n0 past leads tells.
+      let projection = projection_of l.id.number past in
+      let first = trail_on (trail d0 n0 past d n l.id.number leads) (Hears Nothing (length buf) (take 0 buf)) d refl refl (may_hear history projection l Nothing (length buf) (take 0 buf) (has_stopped past) size none tells) in
+      went Heard (record l { conn = c }) first
+      (heard_none history Nothing buf projection l c l.is_done refl told tells (λ alive. or_from (lost_in projection.control) false (tells.held alive) refl) (λ done. absurd (not_both done tells.at.0)));
+}
+
+pub goes_cut : {C : Type 0} (history : C → Option ConnectionTrace) (d : Core) (n : Option ListenerTrace) (l : SessionLink C) (c : C) (buf : List ℕ) → length buf ≡ 4096 → l.replies ≡ [] → history c ≡ after_read Lost buf (history l.conn) → JournalGoesOn history Filled Heard d n l true d n (record l { conn = c; is_done = true })
+goes_cut history d n l c buf size none told = record {
+  same = refl;
+  goes = λ d0 n0 past leads tells.
+      let projection = projection_of l.id.number past in
+      let first = trail_on (trail d0 n0 past d n l.id.number leads) (Hears Lost (length buf) (take 0 buf)) d refl refl (may_hear history projection l Lost (length buf) (take 0 buf) (has_stopped past) size none tells) in
+      went Heard (record l { conn = c; is_done = true }) first
+      (heard_none history Lost buf projection l c true refl told tells (λ alive. absurd (let wrong : true ≡ false = alive in cc)) (λ done. or_right (lost_in projection.control) true refl));
+}
+
+-- replies are asked for where none waited
+goes_takes : {C : Type 0} (history : C → Option ConnectionTrace) (from to : TurnPhase) (d : Core) (n : Option ListenerTrace) (l : SessionLink C) (e : Core) (replies : List ℕ) → l.replies ≡ [] → ActsOn l.id.number d (Take 4096 replies) e
+    → ((projection : SessionProjection) → IsAt from projection l → IsAt to (projection_after (Take 4096 replies) projection) (record l { replies = replies }))
+    → JournalGoesOn history from to d n l false e n (record l { replies = replies })
+goes_takes history from to d n l e replies none does at = record {
+  same = refl;
+  goes = λ d0 n0 past leads tells.
+      let projection = projection_of l.id.number past in
+      let all = all_taken (trace_bytes_written projection.control) l.replies projection.said none tells.said in
+      let first = trail_on (trail d0 n0 past d n l.id.number leads) (Take 4096 replies) e refl does (tells.is_open, tells.quiet, refl, all) in
+      went to (record l { replies = replies }) first (record {
+        is_open = tells.is_open;
+        port = tells.port;
+        over = tells.over;
+        told = tells.told;
+        heard = tells.heard;
+        said = none_on (trace_bytes_written projection.control) replies projection.said all;
+        waits = λ some. some_left replies some;
+        quiet = tells.quiet;
+        held = tells.held;
+        carries = carries_on history l.image l.is_last l.records projection (projection_after (Take 4096 replies) projection) refl refl refl refl tells.carries;
+        at = at projection tells.at;
+      });
+}
+
+pub goes_fills : {C : Type 0} (history : C → Option ConnectionTrace) (d : Core) (n : Option ListenerTrace) (l : SessionLink C) (e : Core) (replies : List ℕ) → l.replies ≡ [] → ActsOn l.id.number d (Take 4096 replies) e → JournalGoesOn history Due Filled d n l false e n (record l { replies = replies })
+goes_fills history d n l e replies none does = goes_takes history Due Filled d n l e replies none does (λ projection at. (at.0, (λ empty. ap no_bytes empty), at.1))
+
+pub goes_fills_again : {C : Type 0} (history : C → Option ConnectionTrace) (d : Core) (n : Option ListenerTrace) (l : SessionLink C) (e : Core) (replies : List ℕ) → l.replies ≡ [] → ActsOn l.id.number d (Take 4096 replies) e → JournalGoesOn history Heard Ready d n l false e n (record l { replies = replies })
+goes_fills_again history d n l e replies none does =
+    goes_takes history Heard Ready d n l e replies none does (λ projection at. (at.0, inl (visited projection at.1), (λ empty. ap no_bytes empty), at.2, at.3))
+  where
+    visited : (projection : SessionProjection) → (projection.visited ≡ true) ⊎ (l.replies ≢ []) → projection.visited ≡ true
+    visited projection (inl seen) = seen
+    visited projection (inr some) = absurd (some none)
+
+-- no replies wait: a session that is over is done
+pub goes_finishes : {C : Type 0} (history : C → Option ConnectionTrace) (d : Core) (n : Option ListenerTrace) (l : SessionLink C) → l.replies ≡ [] → JournalGoesOn history Ready Spoken d n l false d n (record l { is_done = l.is_done || l.is_over })
+goes_finishes {C} history d n l none = goes_rests history Ready Spoken d n l (record l { is_done = l.is_done || l.is_over }) refl (λ projection tells. finished projection tells)
+  where
+    visited : (projection : SessionProjection) → (projection.visited ≡ true) ⊎ (l.replies ≢ []) → projection.visited ≡ true
+    visited projection (inl seen) = seen
+    visited projection (inr some) = absurd (some none)
+
+    why : (projection : SessionProjection) → LinkMatches history Ready projection l → (done over : Bool) → l.is_done ≡ done → l.is_over ≡ over → (done || over) ≡ true → MayBeLeft projection
+    why projection tells true over d o e = inl (tells.at.0 d)
+    why projection tells false true d o e = inr (sym tells.over ∙ o, tells.at.2 none, all_taken (trace_bytes_written projection.control) l.replies projection.said none tells.said)
+    why projection tells false false d o e = absurd (let wrong : false ≡ true = e in cc)
+
+    finished : (projection : SessionProjection) → LinkMatches history Ready projection l → LinkMatches history Spoken projection (record l { is_done = l.is_done || l.is_over })
+    finished projection tells = record {
+      is_open = tells.is_open;
+      port = tells.port;
+      over = tells.over;
+      told = tells.told;
+      heard = tells.heard;
+      said = tells.said;
+      waits = tells.waits;
+      quiet = tells.quiet;
+      held = λ alive. tells.held (or_false_left l.is_done l.is_over alive);
+      carries = tells.carries;
+      at = ((why projection tells l.is_done l.is_over refl refl, visited projection tells.at.1, λ over. inl (or_right l.is_done l.is_over (tells.over ∙ over))), tells.at.4);
+    }
+      where
+        or_false_left : (a b : Bool) → (a || b) ≡ false → a ≡ false
+        or_false_left true b e = e
+        or_false_left false b e = refl
+
+-- a piece of what waits was written
+said_on : {C : Type 0} (history : C → Option ConnectionTrace) (got : Got) (projection : SessionProjection) (l : SessionLink C) (c : C) (done : Bool) → l.replies ≢ [] → history c ≡ after_write got l.replies (history l.conn) → LinkMatches history Ready projection l
+    → (done ≡ false → lost_in (Write got l.replies ∷ projection.control) ≡ false) → (done ≡ true → lost_in (Write got l.replies ∷ projection.control) ≡ true)
+    → LinkMatches history Spoken (projection_after (Says got l.replies) projection) (record l { conn = c; replies = drop (bytes_moved got) l.replies; is_done = done })
+said_on history got projection l c done some told tells alive lost = record {
+  is_open = tells.is_open;
+  port = tells.port;
+  over = tells.over;
+  told = told_write got l.replies (history l.conn) (history c) projection.control told tells.told;
+  heard = tells.heard;
+  said = rest_after (trace_bytes_written projection.control) l.replies projection.said (bytes_moved got) tells.said;
+  waits = λ left. tells.waits some;
+  quiet = tells.quiet;
+  held = alive;
+  carries = carries_on history l.image l.is_last l.records projection (projection_after (Says got l.replies) projection) refl refl refl refl tells.carries;
+  at = (((λ is. inl (lost is)), refl, λ over. inr (tells.waits some)), tells.at.4);
+}
+
+pub goes_says : {C : Type 0} (history : C → Option ConnectionTrace) (d : Core) (n : Option ListenerTrace) (l : SessionLink C) (c : C) (count : ℕ) → l.replies ≢ [] → history c ≡ after_write (Moved count) l.replies (history l.conn)
+    → JournalGoesOn history Ready Spoken d n l true d n (record l { conn = c; replies = drop count l.replies })
+goes_says history d n l c count some told = record {
+  same = refl;
+  goes = λ d0 n0 past leads tells.
+      let projection = projection_of l.id.number past in
+      let first = trail_on (trail d0 n0 past d n l.id.number leads) (Says (Moved count) l.replies) d refl refl (tells.is_open, some, tells.said, tells.at.3) in
+      went Spoken (record l { conn = c; replies = drop count l.replies }) first
+      (said_on history (Moved count) projection l c l.is_done some told tells (λ alive. or_from (lost_in projection.control) false (tells.held alive) refl) (λ done. or_left (lost_in projection.control) false (tells.at.0 done)));
+}
+
+pub goes_unsaid : {C : Type 0} (history : C → Option ConnectionTrace) (d : Core) (n : Option ListenerTrace) (l : SessionLink C) (c : C) → l.replies ≢ [] → history c ≡ after_write Nothing l.replies (history l.conn)
+    → JournalGoesOn history Ready Spoken d n l false d n (record l { conn = c; replies = drop 0 l.replies })
+goes_unsaid history d n l c some told = record {
+  same = refl;
+  goes = λ d0 n0 past leads tells.
+      let projection = projection_of l.id.number past in
+      let first = trail_on (trail d0 n0 past d n l.id.number leads) (Says Nothing l.replies) d refl refl (tells.is_open, some, tells.said, tells.at.3) in
+      went Spoken (record l { conn = c; replies = drop 0 l.replies }) first
+      (said_on history Nothing projection l c l.is_done some told tells (λ alive. or_from (lost_in projection.control) false (tells.held alive) refl) (λ done. or_left (lost_in projection.control) false (tells.at.0 done)));
+}
+
+pub goes_dies : {C : Type 0} (history : C → Option ConnectionTrace) (d : Core) (n : Option ListenerTrace) (l : SessionLink C) (c : C) → l.replies ≢ [] → history c ≡ after_write Lost l.replies (history l.conn)
+    → JournalGoesOn history Ready Spoken d n l true d n (record l { conn = c; replies = drop 0 l.replies; is_done = true })
+goes_dies history d n l c some told = record {
+  same = refl;
+  goes = λ d0 n0 past leads tells.
+      let projection = projection_of l.id.number past in
+      let first = trail_on (trail d0 n0 past d n l.id.number leads) (Says Lost l.replies) d refl refl (tells.is_open, some, tells.said, tells.at.3) in
+      went Spoken (record l { conn = c; replies = drop 0 l.replies; is_done = true }) first
+      (said_on history Lost projection l c true some told tells (λ alive. absurd (let wrong : true ≡ false = alive in cc)) (λ done. or_right (lost_in projection.control) true refl));
+}
+
+-- ---- one after the other
+
+pub goes_then : {C : Type 0} {history : C → Option ConnectionTrace} {p q r : TurnPhase} {d : Core} {n : Option ListenerTrace} {l : SessionLink C} {x : Bool} {e : Core} {m : Option ListenerTrace} {k : SessionLink C} {y : Bool} {f : Core} {o : Option ListenerTrace} {j : SessionLink C} → JournalGoesOn history p q d n l x e m k → JournalGoesOn history q r e m k y f o j → JournalGoesOn history p r d n l (x || y) f o j
+goes_then {C} {history} {p} {q} {r} {d} {n} {l} {x} {e} {m} {k} {y} {f} {o} {j} a b = record {
+  same = b.same ∙ a.same;
+  goes = λ d0 n0 past leads tells.
+      let w = a.goes d0 n0 past leads tells in
+      let tells_k = subst (λ id. LinkMatches history q (projection_of id.number w.journal) k) (sym a.same) w.tells in
+      went_after d0 n0 past l.id.number k.id.number (ap (λ id. id.number) a.same) w (b.goes d0 n0 w.journal w.leads tells_k);
+}
+  where
+    went_after : (d0 : Core) (n0 : Option ListenerTrace) (past : List LoopAction) (id other : ℕ) → other ≡ id → (w : HasGoneOn history q d0 n0 past id x e m k) → HasGoneOn history r d0 n0 w.journal other y f o j → HasGoneOn history r d0 n0 past id (x || y) f o j
+    went_after d0 n0 past id other same w v = record {
+      journal = v.journal;
+      more = extends_then past w.journal v.journal w.more v.more;
+      leads = v.leads;
+      tells = subst (λ i. LinkMatches history r (projection_of i v.journal) j) same v.tells;
+      others = λ i off. v.others i (λ e. off (e ∙ same)) ∙ w.others i off;
+      tally = v.tally ∙ ap (tally_with 0 y) w.tally ∙ counted_then 0 0 x y (tally_of past);
+      stopped = v.stopped ∙ w.stopped;
+      asked = v.asked ∙ w.asked;
+      crowd = v.crowd ∙ w.crowd;
+    }
+
+-- ---- the data connection
+
+none_waits : (b : Bool) → (b ≡ true → ⊥) → b ≡ false
+none_waits true h = absurd (h refl)
+none_waits false h = refl
+
+-- whether the data had their part is told anew
+tells_dialed : {C : Type 0} {history : C → Option ConnectionTrace} {projection : SessionProjection} {l : SessionLink C} (tended : Bool) → LinkMatches history Spoken projection l → l.image ≡ None → tended ≡ true → LinkMatches history Dialed (record projection { tended = tended }) l
+tells_dialed {C} {history} {projection} {l} tended tells none had = record {
+  is_open = tells.is_open;
+  port = tells.port;
+  over = tells.over;
+  told = tells.told;
+  heard = tells.heard;
+  said = tells.said;
+  waits = tells.waits;
+  quiet = tells.quiet;
+  held = tells.held;
+  carries = carries_on history l.image l.is_last l.records projection (record projection { tended = tended }) refl refl refl refl tells.carries;
+  at = (tells.at.0, (λ off. had), λ some. let wrong : false ≡ true = sym (ap is_some none) ∙ some in absurd (let no = wrong in cc));
+}
+
+-- there is one
+pub goes_images : {C : Type 0} (history : C → Option ConnectionTrace) (d : Core) (n : Option ListenerTrace) (l : SessionLink C) → is_some l.image ≡ true → JournalGoesOn history Spoken Dialed d n l false d n l
+goes_images history d n l some = goes_rests history Spoken Dialed d n l l refl (λ projection tells. tells_at tells (tells.at.0, (λ none. let wrong : false ≡ true = sym (ap is_some none) ∙ some in absurd (let no = wrong in cc)), λ is. tells.at.1))
+
+-- no frame waits
+pub goes_looks : {C : Type 0} (history : C → Option ConnectionTrace) (d : Core) (n : Option ListenerTrace) (l : SessionLink C) (frame : FrameState) → l.image ≡ None → frame ≡ frame_in (session_of d l.id.number) → is_waiting frame ≡ false → JournalGoesOn history Spoken Dialed d n l false d n l
+goes_looks history d n l frame was is rests = record {
+  same = refl;
+  goes = λ d0 n0 past leads tells.
+      let projection = projection_of l.id.number past in
+      let dark = subst (λ i. ImageTraceMatchesIn history i l.is_last l.records projection) was tells.carries in
+      let first = trail_on (trail d0 n0 past d n l.id.number leads) (Looks frame) d refl (is, refl) (tells.is_open, dark, (tells.at.0.1, tells.at.1)) in
+      went Dialed l first (tells_dialed (not (is_waiting frame)) tells was (ap not rests));
+}
+
+-- one does, and none came
+pub goes_misses : {C : Type 0} (history : C → Option ConnectionTrace) (d : Core) (n : Option ListenerTrace) (l : SessionLink C) (m : Option ListenerTrace) (frame : FrameState) → l.image ≡ None → frame ≡ frame_in (session_of d l.id.number) → is_waiting frame ≡ true → m ≡ with_notice (Dials l.port false) n → JournalGoesOn history Spoken Dialed d n l false d m l
+goes_misses history d n l m frame was is waits net = record {
+  same = refl;
+  goes = λ d0 n0 past leads tells.
+      let projection = projection_of l.id.number past in
+      let dark = subst (λ i. ImageTraceMatchesIn history i l.is_last l.records projection) was tells.carries in
+      let first = trail_on (trail d0 n0 past d n l.id.number leads) (Looks frame) d refl (is, refl) (tells.is_open, dark, (tells.at.0.1, tells.at.1)) in
+      let then = trail_on first (Misses l.port) d refl (sym (ap is_waiting is) ∙ waits, refl) (tells.is_open, dark, tells.port, (tells.at.0.1, ap not waits)) in
+      subst (λ o. HasGoneOn history Dialed d0 n0 past l.id.number false d o l) (sym net) (went Dialed l then (tells_dialed true tells was refl));
+}
+
+-- one came
+pub goes_dials : {C : Type 0} (history : C → Option ConnectionTrace) (d : Core) (n : Option ListenerTrace) (l : SessionLink C) (e : Core) (m : Option ListenerTrace) (frame : FrameState) (image : Option C) (records : List ℕ) (conn : C) → l.image ≡ None → frame ≡ frame_in (session_of d l.id.number) → image ≡ Some conn → records ≡ [] → IsTrace (history conn) [] → ActsOn l.id.number d (Connect l.port) e → m ≡ with_notice (Dials l.port true) n
+    → JournalGoesOn history Spoken Dialed d n l true e m (record l { image = image; records = records; is_last = false })
+goes_dials {C} history d n l e m frame image records conn was is now none fresh does net = record {
+  same = refl;
+  goes = λ d0 n0 past leads tells.
+      let projection = projection_of l.id.number past in
+      let dark = subst (λ i. ImageTraceMatchesIn history i l.is_last l.records projection) was tells.carries in
+      let first = trail_on (trail d0 n0 past d n l.id.number leads) (Looks frame) d refl (is, refl) (tells.is_open, dark, (tells.at.0.1, tells.at.1)) in
+      let then = trail_on first (Connect l.port) e refl does (tells.is_open, dark, tells.port, (tells.at.0.1, ap not (ap is_waiting is ∙ does.waits))) in
+      let after = projection_after (Connect l.port) (projection_after (Looks frame) projection) in
+      let carries : ImageTraceMatches (history conn) false records after = record { imaging = refl; told = fresh; shown = none; last = refl; more = λ wrong. absurd (let w : false ≡ true = wrong in cc); held = refl } in
+      subst (λ o. HasGoneOn history Dialed d0 n0 past l.id.number true e o (record l { image = image; records = records; is_last = false })) (sym net)
+      (went Dialed (record l { image = image; records = records; is_last = false }) then (record {
+        is_open = tells.is_open;
+        port = tells.port;
+        over = tells.over;
+        told = tells.told;
+        heard = tells.heard;
+        said = tells.said;
+        waits = tells.waits;
+        quiet = tells.quiet;
+        held = tells.held;
+        carries = subst (λ i. ImageTraceMatchesIn history i false records after) (sym now) carries;
+        at = (tells.at.0, (λ off. absurd (let wrong : Some conn ≡ None = sym now ∙ off in cc)), λ some. refl);
+      }));
+}
+
+last_some : (step : DataStep) → is_end_record step ≡ true → is_idle step ≡ false
+last_some Idle e = cc
+last_some (Bytes n) e = refl
+last_some (Last n) e = refl
+
+only_idle : (b : Bool) → (b ≡ false → ⊥) → b ≡ true
+only_idle true h = refl
+only_idle false h = absurd (h refl)
+
+idle_none : (step : DataStep) (buffer : List ℕ) → is_idle step ≡ true → take (written_by step) buffer ≡ []
+idle_none Idle buffer e = refl
+idle_none (Bytes n) buffer e = cc
+idle_none (Last n) buffer e = cc
+
+never : (b : Bool) → (b ≡ true → ⊥) → b ≡ false
+never true h = absurd (h refl)
+never false h = refl
+
+not_idle : (step : DataStep) (records : List ℕ) {d e : Core} {number room : ℕ} → records ≢ [] → IsTurned d number room step records e → is_idle step ≡ false
+not_idle step records some turned = never (is_idle step) (λ idle. some (turned.front ∙ idle_none step turned.buffer idle))
+
+-- a record is taken where none waits
+goes_turns : {C : Type 0} (history : C → Option ConnectionTrace) (d : Core) (n : Option ListenerTrace) (l : SessionLink C) (e : Core) (records : List ℕ) (last : Bool) (step : DataStep) (conn : C) → l.image ≡ Some conn → l.records ≡ [] → last ≡ is_end_record step → (is_idle step ≡ false → records ≢ []) → ActsOn l.id.number d (Turn 65540 step records) e
+    → JournalGoesOn history Dialed Loaded d n l false e n (record l { records = records; is_last = last })
+goes_turns history d n l e records last step conn was none ended some does = record {
+  same = refl;
+  goes = λ d0 n0 past leads tells.
+      let projection = projection_of l.id.number past in
+      let had : ImageTraceMatches (history conn) l.is_last l.records projection = subst (λ i. ImageTraceMatchesIn history i l.is_last l.records projection) was tells.carries in
+      let alive = sym had.last ∙ none_waits l.is_last (λ b. had.more b none) in
+      let all = all_taken (trace_bytes_written projection.image) l.records projection.shown none had.shown in
+      let act = Turn 65540 step records in
+      let first = trail_on (trail d0 n0 past d n l.id.number leads) act e refl does (tells.is_open, had.imaging, refl, alive, all, (tells.at.0.1, tells.at.2 (ap is_some was))) in
+      let after = projection_after act projection in
+      let carries : ImageTraceMatches (history conn) last records after = record {
+        imaging = had.imaging;
+        told = had.told;
+        shown = none_on (trace_bytes_written projection.image) records projection.shown all;
+        last = ended ∙ sym (ap (λ b. b || is_end_record step) alive);
+        more = λ b. some (last_some step (sym ended ∙ b));
+        held = had.held;
+      } in
+      went Loaded (record l { records = records; is_last = last }) first (record {
+        is_open = tells.is_open;
+        port = tells.port;
+        over = tells.over;
+        told = tells.told;
+        heard = tells.heard;
+        said = tells.said;
+        waits = tells.waits;
+        quiet = tells.quiet;
+        held = tells.held;
+        carries = subst (λ i. ImageTraceMatchesIn history i last records after) (sym was) carries;
+        at = (tells.at.0, (λ off. absurd (let wrong : Some conn ≡ None = sym was ∙ off in cc)), (λ empty. only_idle (is_idle step) (λ off. some off empty)), λ is. λ more. not_idle step records more does);
+      });
+}
+
+pub goes_records : {C : Type 0} (history : C → Option ConnectionTrace) (d : Core) (n : Option ListenerTrace) (l : SessionLink C) (e : Core) (records : List ℕ) (last : Bool) (step : DataStep) (image : Option C) → l.image ≡ image → IsSome image → l.records ≡ [] → last ≡ is_end_record step → (is_idle step ≡ false → records ≢ []) → ActsOn l.id.number d (Turn 65540 step records) e
+    → JournalGoesOn history Dialed Loaded d n l false e n (record l { records = records; is_last = last })
+goes_records history d n l e records last step None was some none ended more does = cc
+goes_records history d n l e records last step (Some conn) was some none ended more does = goes_turns history d n l e records last step conn was none ended more does
+
+-- one waits
+pub goes_loaded : {C : Type 0} (history : C → Option ConnectionTrace) (d : Core) (n : Option ListenerTrace) (l : SessionLink C) → l.records ≢ [] → JournalGoesOn history Dialed Loaded d n l false d n l
+goes_loaded history d n l some = goes_rests history Dialed Loaded d n l l refl (λ projection tells. tells_at tells (tells.at.0, tells.at.1, (λ empty. absurd (some empty)), λ is. λ more. tells.at.2 is))
+
+-- there is no data connection
+pub goes_dark : {C : Type 0} (history : C → Option ConnectionTrace) (d : Core) (n : Option ListenerTrace) (l : SessionLink C) → l.image ≡ None → JournalGoesOn history Dialed Shown d n l false d n l
+goes_dark history d n l none = goes_rests history Dialed Shown d n l l refl (λ projection tells. tells_at tells (tells.at.0, tells.at.1 none))
+
+-- what is the same once the calls of the data connection, and what waits for it, are others
+with_image : {C : Type 0} (history : C → Option ConnectionTrace) (projection after : SessionProjection) (l : SessionLink C) (image : Option C) (records : List ℕ) → LinkMatches history Loaded projection l
+    → after ≡ record projection { image = after.image; imaging = after.imaging; dropped = after.dropped; tended = after.tended } → after.tended ≡ true → ImageTraceMatchesIn history image l.is_last records after → LinkMatches history Shown after (record l { image = image; records = records })
+with_image {C} history projection after l image records tells same tended carries =
+    let v = record projection { image = after.image; imaging = after.imaging; dropped = after.dropped; tended = after.tended } in
+    subst (λ w. LinkMatches history Shown w (record l { image = image; records = records })) (sym same) (record {
+      is_open = tells.is_open;
+      port = tells.port;
+      over = tells.over;
+      told = tells.told;
+      heard = tells.heard;
+      said = tells.said;
+      waits = tells.waits;
+      quiet = tells.quiet;
+      held = tells.held;
+      carries = subst (λ w. ImageTraceMatchesIn history image l.is_last records w) same carries;
+      at = (tells.at.0, tended);
+    })
+
+-- a write of a record, where there is a connection and a record
+pub record Sent {C : Type 0} (history : C → Option ConnectionTrace) (got : Got) (l k : SessionLink C) : Type 0 where
+  pub conn : C
+  pub was : l.image ≡ Some conn
+  pub some : l.records ≢ []
+  pub now : C
+  pub image : k.image ≡ Some now
+  pub told : history now ≡ after_write got l.records (history conn)
+  pub rest : k.records ≡ drop (bytes_moved got) l.records
+
+sent_to : {C : Type 0} (history : C → Option ConnectionTrace) (got : Got) (l k : SessionLink C) (conn : C) → l.image ≡ Some conn → (got ≡ Nothing → ⊥) → SendsTo history got conn l.records k.image k.records → Sent history got l k
+sent_to history got l k conn was off (inl none) = absurd (off none.1)
+sent_to history got l k conn was off (inr some) = record { conn = conn; was = was; some = some.0; now = some.1; image = some.2; told = some.3; rest = some.4 }
+
+sent : {C : Type 0} (history : C → Option ConnectionTrace) (got : Got) (l k : SessionLink C) (image : Option C) → l.image ≡ image → (got ≡ Nothing → ⊥) → SendsIn history got image l.records k.image k.records → Sent history got l k
+sent history got l k None was off sends = absurd (off sends.0)
+sent history got l k (Some conn) was off sends = sent_to history got l k conn was off sends
+
+-- after it
+carries_sent : {C : Type 0} (history : C → Option ConnectionTrace) (got : Got) (l k : SessionLink C) (projection : SessionProjection) → (s : Sent history got l k) → ImageTraceMatches (history s.conn) l.is_last l.records projection → (l.is_last ≡ true → k.records ≢ []) → lost_in (Write got l.records ∷ projection.image) ≡ false
+    → ImageTraceMatches (history s.now) l.is_last k.records (projection_after (Shows got l.records) projection)
+carries_sent history got l k projection s had more held = record {
+  imaging = had.imaging;
+  told = told_write got l.records (history s.conn) (history s.now) projection.image s.told had.told;
+  shown = ap (λ xs. trace_bytes_written (Write got l.records ∷ projection.image) ++ xs) s.rest ∙ rest_after (trace_bytes_written projection.image) l.records projection.shown (bytes_moved got) had.shown;
+  last = had.last;
+  more = more;
+  held = held;
+}
+
+goes_sent : {C : Type 0} (history : C → Option ConnectionTrace) (got : Got) (d : Core) (n : Option ListenerTrace) (l k : SessionLink C) → k ≡ record l { image = k.image; records = k.records } → Sent history got l k → (l.is_last ≡ true → k.records ≢ []) → ((b : Bool) → b ≡ false → (b || is_lost got) ≡ false)
+    → JournalGoesOn history Loaded Shown d n l (stirs got) d n k
+goes_sent history got d n l k link s more held = record {
+  same = ap (λ x. x.id) link;
+  goes = λ d0 n0 past leads tells.
+      let projection = projection_of l.id.number past in
+      let had : ImageTraceMatches (history s.conn) l.is_last l.records projection = subst (λ i. ImageTraceMatchesIn history i l.is_last l.records projection) s.was tells.carries in
+      let act = Shows got l.records in
+      let first = trail_on (trail d0 n0 past d n l.id.number leads) act d refl refl (tells.is_open, had.imaging, s.some, had.shown, (tells.at.0.1, tells.at.3 (ap is_some s.was) s.some)) in
+      let carries = carries_sent history got l k projection s had more (held (lost_in projection.image) had.held) in
+      let now = with_image history projection (projection_after act projection) l k.image k.records tells refl refl (subst (λ i. ImageTraceMatchesIn history i l.is_last k.records (projection_after act projection)) (sym s.image) carries) in
+      went Shown k first (subst (λ x. LinkMatches history Shown (projection_after act projection) x) (sym link) now);
+}
+
+-- nothing was written
+pub goes_shows_none : {C : Type 0} (history : C → Option ConnectionTrace) (d : Core) (n : Option ListenerTrace) (l k : SessionLink C) → k ≡ record l { image = k.image; records = k.records } → SendsIn history Nothing l.image l.records k.image k.records → JournalGoesOn history Loaded Shown d n l false d n k
+goes_shows_none {C} history d n l k link sends = by_image l.image refl sends
+  where
+    same : k.image ≡ l.image → k.records ≡ l.records → ((projection : SessionProjection) → IsAt Loaded projection l → projection.tended ≡ true) → JournalGoesOn history Loaded Shown d n l false d n k
+    same image records tended =
+        let whole = link ∙ ap (λ i. record l { image = i; records = k.records }) image ∙ ap (λ r. record l { image = l.image; records = r }) records in
+        subst (λ x. JournalGoesOn history Loaded Shown d n l false d n x) (sym whole) (goes_rests history Loaded Shown d n l l refl (λ projection tells. tells_at tells (tells.at.0, tended projection tells.at)))
+
+    by_case : (conn : C) → l.image ≡ Some conn → SendsTo history Nothing conn l.records k.image k.records → JournalGoesOn history Loaded Shown d n l false d n k
+    by_case conn was (inl none) = same (none.2 ∙ sym was) none.3 (λ projection at. at.2 none.0)
+    by_case conn was (inr some) =
+        goes_sent history Nothing d n l k link (record { conn = conn; was = was; some = some.0; now = some.1; image = some.2; told = some.3; rest = some.4 })
+        (λ last. λ none. some.0 (sym some.4 ∙ none)) (λ b e. or_from b false e refl)
+
+    by_image : (image : Option C) → l.image ≡ image → SendsIn history Nothing image l.records k.image k.records → JournalGoesOn history Loaded Shown d n l false d n k
+    by_image None was sends = same (sends.1 ∙ sym was) sends.2 (λ projection at. at.1 was)
+    by_image (Some conn) was sends = by_case conn was sends
+
+-- a piece was, and not all of the end record
+pub goes_shows : {C : Type 0} (history : C → Option ConnectionTrace) (d : Core) (n : Option ListenerTrace) (l k : SessionLink C) (count : ℕ) → k ≡ record l { image = k.image; records = k.records } → SendsIn history (Moved count) l.image l.records k.image k.records → (l.is_last ≡ true → k.records ≢ []) → JournalGoesOn history Loaded Shown d n l true d n k
+goes_shows history d n l k count link sends more =
+    goes_sent history (Moved count) d n l k link (sent history (Moved count) l k l.image refl (λ e. let wrong : Moved count ≡ Nothing = e in cc) sends) more (λ b e. or_from b false e refl)
+
+-- what the listeners are told of the connection
+hung : {C : Type 0} (history : C → Option ConnectionTrace) (k : SessionLink C) (now : C) (n : Option ListenerTrace) → k.image ≡ Some now → hung_up history k.image n ≡ with_notice (Back (history now)) n
+hung history k now n e = ap (λ i. hung_up history i n) e
+
+-- the end record is written, and the connection handed back
+pub goes_shows_last : {C : Type 0} (history : C → Option ConnectionTrace) (d : Core) (n : Option ListenerTrace) (l k j : SessionLink C) (m : Option ListenerTrace) (count : ℕ) → k ≡ record l { image = k.image; records = k.records } → SendsIn history (Moved count) l.image l.records k.image k.records
+    → l.is_last ≡ true → k.records ≡ [] → j ≡ record k { image = None } → m ≡ hung_up history k.image n → JournalGoesOn history Loaded Shown d n l true d m j
+goes_shows_last {C} history d n l k j m count link sends last none gone net =
+    let s = sent history (Moved count) l k l.image refl (λ e. let wrong : Moved count ≡ Nothing = e in cc) sends in
+    let whole = gone ∙ ap (λ (x : SessionLink C). record x { image = None }) link in
+    record {
+      same = ap (λ x. x.id) whole;
+      goes = λ d0 n0 past leads tells.
+          let projection = projection_of l.id.number past in
+          let had : ImageTraceMatches (history s.conn) l.is_last l.records projection = subst (λ i. ImageTraceMatchesIn history i l.is_last l.records projection) s.was tells.carries in
+          let act = Shows (Moved count) l.records in
+          let projection1 = projection_after act projection in
+          let first = trail_on (trail d0 n0 past d n l.id.number leads) act d refl refl (tells.is_open, had.imaging, s.some, had.shown, (tells.at.0.1, tells.at.3 (ap is_some s.was) s.some)) in
+          let rest = rest_after (trace_bytes_written projection.image) l.records projection.shown count had.shown in
+          let all = all_taken (trace_bytes_written projection1.image) (drop count l.records) projection.shown (sym s.rest ∙ none) rest in
+          let told = told_write (Moved count) l.records (history s.conn) (history s.now) projection.image s.told had.told in
+          let then = trail_on first (HangsUp (history s.now)) d refl refl (tells.is_open, had.imaging, told, (drop count l.records, sym rest), inl (inl (sym had.last ∙ last, all))) in
+          let now = with_image history projection (projection_after (HangsUp (history s.now)) projection1) l None k.records tells refl refl refl in
+          subst (λ o. HasGoneOn history Shown d0 n0 past l.id.number true d o j) (sym (net ∙ hung history k s.now n s.image))
+          (went Shown j then (subst (λ x. LinkMatches history Shown (projection_after (HangsUp (history s.now)) projection1) x) (sym whole) now));
+    }
+
+-- the connection is found lost
+pub goes_shows_lost : {C : Type 0} (history : C → Option ConnectionTrace) (d : Core) (n : Option ListenerTrace) (l k j : SessionLink C) (e : Core) (m : Option ListenerTrace) → k ≡ record l { image = k.image; records = k.records } → SendsIn history Lost l.image l.records k.image k.records
+    → ActsOn l.id.number d Lose e → j ≡ record k { image = None } → m ≡ hung_up history k.image n → JournalGoesOn history Loaded Shown d n l true e m j
+goes_shows_lost {C} history d n l k j e m link sends does gone net =
+    let s = sent history Lost l k l.image refl (λ e. let wrong : Lost ≡ Nothing = e in cc) sends in
+    let whole = gone ∙ ap (λ (x : SessionLink C). record x { image = None }) link in
+    record {
+      same = ap (λ x. x.id) whole;
+      goes = λ d0 n0 past leads tells.
+          let projection = projection_of l.id.number past in
+          let had : ImageTraceMatches (history s.conn) l.is_last l.records projection = subst (λ i. ImageTraceMatchesIn history i l.is_last l.records projection) s.was tells.carries in
+          let act = Shows Lost l.records in
+          let projection1 = projection_after act projection in
+          let projection2 = projection_after Lose projection1 in
+          let first = trail_on (trail d0 n0 past d n l.id.number leads) act d refl refl (tells.is_open, had.imaging, s.some, had.shown, (tells.at.0.1, tells.at.3 (ap is_some s.was) s.some)) in
+          let then = trail_on first Lose e refl does (tells.is_open, had.imaging, or_right (lost_in projection.image) true refl) in
+          let told = told_write Lost l.records (history s.conn) (history s.now) projection.image s.told had.told in
+          let last = trail_on then (HangsUp (history s.now)) e refl refl (tells.is_open, had.imaging, told, (drop 0 l.records, sym (rest_after (trace_bytes_written projection.image) l.records projection.shown 0 had.shown)), inl (inr (inl refl))) in
+          let now = with_image history projection (projection_after (HangsUp (history s.now)) projection2) l None k.records tells refl refl refl in
+          subst (λ o. HasGoneOn history Shown d0 n0 past l.id.number true e o j) (sym (net ∙ hung history k s.now n s.image))
+          (went Shown j last (subst (λ x. LinkMatches history Shown (projection_after (HangsUp (history s.now)) projection2) x) (sym whole) now));
+    }
+
+-- ---- a session is left
+
+pub parts_hung : {C : Type 0} (history : C → Option ConnectionTrace) (d : Core) (n : Option ListenerTrace) (l : SessionLink C) (m : Option ListenerTrace) (e : Core) (o : Option ListenerTrace) → m ≡ hung_up history l.image n → ActsOn l.id.number d (Leaves l.port (history l.conn)) e → o ≡ with_notice (Back (history l.conn)) (with_notice (Shut l.port) m) → LeavesSession history d n l e o
+parts_hung {C} history d n l m e o net does back = record {
+  goes = λ phase d0 n0 past leads tells why. by_image phase d0 n0 past leads tells why l.image refl (back ∙ ap (λ x. with_notice (Back (history l.conn)) (with_notice (Shut l.port) x)) net);
+}
+  where
+    ended : (id : ℕ) (d0 : Core) (n0 : Option ListenerTrace) (past since : List LoopAction) → AreEnds since → (q : Option ListenerTrace) (projection : SessionProjection) → (t : Trail d0 n0 past id 1 false e q projection) → t.journal ≡ since ++ past → projection.is_open ≡ false → projection.imaging ≡ false → o ≡ q
+        → (w : SessionHasEnded d0 n0 past id false e o) × Closing past w.journal
+    ended id d0 n0 past since ends q projection t is gone dark same = (
+      record {
+        journal = t.journal;
+        more = (since, is);
+        leads = subst (λ x. JournalLeads d0 n0 t.journal e x) (sym same) t.leads;
+        gone = ap (λ v. v.is_open) t.at ∙ gone;
+        dark = ap (λ v. v.imaging) t.at ∙ dark;
+        others = t.others;
+        tally = t.tally;
+        stopped = t.stopped;
+        asked = t.asked;
+        crowd = t.crowd;
+      },
+      (since, ends, is),
+    )
+
+    by_image : (phase : TurnPhase) (d0 : Core) (n0 : Option ListenerTrace) (past : List LoopAction) → JournalLeads d0 n0 past d n → LinkMatches history phase (projection_of l.id.number past) l → MayBeLeft (projection_of l.id.number past) ⊎ (has_stopped past ≡ true)
+        → (image : Option C) → l.image ≡ image → o ≡ with_notice (Back (history l.conn)) (with_notice (Shut l.port) (hung_up history image n)) → (w : SessionHasEnded d0 n0 past l.id.number false e o) × Closing past w.journal
+    by_image phase d0 n0 past leads tells why None was same =
+        let id = l.id.number in
+        let projection = projection_of id past in
+        let dark = subst (λ i. ImageTraceMatchesIn history i l.is_last l.records projection) was tells.carries in
+        let act = Leaves l.port (history l.conn) in
+        let begin = trail_begin d0 n0 past d n id leads in
+        let next = trail_next begin.0 act e refl does (tells.is_open, dark, tells.port, tells.told, tells.heard, (l.replies, sym tells.said), why) in
+        ended id d0 n0 past (Of id act ∷ []) (tt, tt) (listener_trace_act act n) (projection_after act projection) next.0 (next.1 ∙ ap (λ xs. Of id act ∷ xs) begin.1) refl dark same
+    by_image phase d0 n0 past leads tells why (Some conn) was same =
+        let id = l.id.number in
+        let projection = projection_of id past in
+        let had : ImageTraceMatches (history conn) l.is_last l.records projection = subst (λ i. ImageTraceMatchesIn history i l.is_last l.records projection) was tells.carries in
+        let act1 = HangsUp (history conn) in
+        let act = Leaves l.port (history l.conn) in
+        let begin = trail_begin d0 n0 past d n id leads in
+        let first = trail_next begin.0 act1 d refl refl (tells.is_open, had.imaging, had.told, (l.records, sym had.shown), reason projection why) in
+        let next = trail_next first.0 act e refl does (tells.is_open, refl, tells.port, tells.told, tells.heard, (l.replies, sym tells.said), why) in
+        ended id d0 n0 past (Of id act ∷ Of id act1 ∷ []) (tt, (tt, tt)) (listener_trace_act act (listener_trace_act act1 n)) (projection_after act (projection_after act1 projection)) next.0
+        (next.1 ∙ ap (λ xs. Of id act ∷ xs) (first.1 ∙ ap (λ xs. Of id act1 ∷ xs) begin.1)) refl refl same
+      where
+        reason : (projection : SessionProjection) → MayBeLeft projection ⊎ (has_stopped past ≡ true) → MayHandBackData projection ⊎ (has_stopped past ≡ true)
+        reason projection (inl done) = inl (inr (inr done))
+        reason projection (inr stopped) = inr stopped
+
+ends_append : (xs ys : List LoopAction) → AreEnds xs → AreEnds ys → AreEnds (xs ++ ys)
+ends_append [] ys a b = b
+ends_append (x ∷ xs) ys a b = (a.0, ends_append xs ys a.1 b)
+
+pub closing_then : (past mid journal : List LoopAction) → Closing past mid → Closing mid journal → Closing past journal
+closing_then past mid journal first then = (
+  then.0 ++ first.0,
+  ends_append then.0 first.0 then.1 first.1,
+  then.2 ∙ ap (λ xs. then.0 ++ xs) first.2 ∙ sym (append_assoc then.0 first.0 past),
+)

@@ -1,0 +1,101 @@
+-- A frame that is read, line by line, from a source that gives its page row by row.
+use Rattle.std.specs.Prelude.{ℕ, ◌+◌, ◌-◌, ◌*◌, ◌<◌, ◌≤◌, ◌≡◌, true, false, List, length, take, drop, min, Result, Ok, Err}
+use Rattle.page_picture.specs.Page.{PageView, IsRow}
+use Rattle.page_picture.specs.Seen.{row_seen}
+use Rattle.page_picture.specs.Columns.{Columns, columns_of}
+use Rattle.page_picture.specs.Shows.{channels_within}
+use Rattle.page_picture.specs.Source.{SourceState, Fails}
+use Rattle.scan_frames.specs.Line.{packing_of}
+use Rattle.scan_frames.specs.Frames.{has_picture, width_of, height_of, format_at, bytes_per_line, line_bytes, payload, pass_length}
+use Rattle.scan_frames.specs.Samples.{HasZeros}
+use Rattle.scan_frames.specs.Tables.{AreComposed}
+use Rattle.scan_frames.specs.Rows.{IsWhiteBehind, TakesRows, StopsFailing}
+use Rattle.scan_frames.specs.declared.setup.Setup.{Setup}
+use Rattle.scan_frames.specs.declared.faults.BeginFault.{BeginFault}
+use Rattle.scan_frames.specs.declared.faults.BeginFault.TheVariants.{NoPicture, SourceFailed, NoMem}
+use Rattle.scan_frames.specs.declared.faults.ReadEnd.{ReadEnd}
+use Rattle.scan_frames.specs.declared.faults.ReadEnd.TheVariants.{End, SourceFailed as SourceFailedIn}
+
+-- a frame that is read
+pub record FrameProgress : Type 0 where
+  pub pass : ℕ
+  -- which columns of the page its pixels show
+  pub columns : Columns
+  -- what becomes of a sample in red, green and blue at depth 8, by its upper byte
+  pub tables : List (List ℕ)
+  pub height : ℕ
+  -- the last row that was taken, with a white place behind it, and how many were taken
+  pub row : List ℕ
+  pub taken : ℕ
+  -- the last line that was made, how many were made, and how many bytes of the last were not given
+  pub line : List ℕ
+  pub made : ℕ
+  pub left : ℕ
+
+-- how many bytes of the frame were given
+abbrev pub given_in : FrameProgress → ℕ
+given_in f = f.made * length f.line - f.left
+
+-- before the first line nothing is left, and of the last line made some byte was given
+pub record IsLineCounted (f : FrameProgress) : Type 0 where
+  pub none : f.made ≡ 0 → f.left ≡ 0
+  pub begun : 0 < f.made → f.left < length f.line
+
+-- the row of the page that line y shows, if the page has it
+abbrev pub row_of : Setup → PageView → ℕ → ℕ
+row_of setup page y = row_seen setup.scene page.dpi y
+
+-- where the next line's row is on the page and rows were taken, the last of them is at hand
+abbrev pub KeepsLastRow : SourceState → Setup → FrameProgress → Type 0
+KeepsLastRow s setup f = s.steady ≡ true → row_of setup s.page f.made < s.page.height → 0 < s.given → IsRow s.page (s.given - 1) f.row
+
+-- the frame of a setup, read from a source in this state; where the source is steady, its last line is that of the page
+pub record IsFrame (s : SourceState) (setup : Setup) (f : FrameProgress) : Type 0 where
+  pub picture : has_picture setup s.page ≡ true
+  pub columns : f.columns ≡ columns_of setup.scene s.page.width s.page.dpi
+  pub tables : AreComposed setup.scene f.tables
+  pub height : f.height ≡ height_of setup s.page
+  pub row : IsWhiteBehind s.page.width f.row
+  pub taken : f.taken ≡ s.given
+  pub within : f.taken ≤ s.page.height
+  pub behind : f.taken ≤ row_of setup s.page f.made + 1
+  pub known : KeepsLastRow s setup f
+  pub line : length f.line ≡ bytes_per_line setup f.pass
+  pub zeros : HasZeros (packing_of setup.scene.depth) (channels_within (format_at setup f.pass) * width_of setup) f.line
+  pub made : f.made ≤ f.height
+  pub left : f.left ≤ length f.line
+  pub bytes : s.steady ≡ true → 0 < f.made → f.line ≡ line_bytes setup s.page f.pass (f.made - 1)
+
+-- the frame of a pass of which nothing was given yet; its source begins at the page's first row
+pub record HasBegunPass (old : SourceState) (setup : Setup) (pass : ℕ) (f : FrameProgress) (new : SourceState) : Type 0 where
+  pub frame : IsFrame new setup f
+  pub pass_is : f.pass ≡ pass
+  pub none : given_in f ≡ 0
+  pub after : new ≡ record old { given = 0 }
+
+-- what the beginning of a frame may answer, and what it leaves
+abbrev pub BeginsPass : SourceState → Setup → ℕ → Result FrameProgress BeginFault → SourceState → Type 0
+BeginsPass old setup pass (Ok f) new = HasBegunPass old setup pass f new
+BeginsPass old setup pass (Err NoPicture) new = (has_picture setup old.page ≡ false) × (new ≡ old)
+BeginsPass old setup pass (Err SourceFailed) new = (has_picture setup old.page ≡ true) × Fails old new
+BeginsPass old setup pass (Err NoMem) new = (has_picture setup old.page ≡ true) × (new ≡ old)
+
+-- n bytes of the frame were written, behind those that were given before: all that is left of the frame, but no more
+-- than the buffer holds, nor than one read gives
+pub record GivesFrameBytes (s : SourceState) (setup : Setup) (old : FrameProgress) (n : ℕ) (t : SourceState) (new : FrameProgress) (buf : List ℕ) : Type 0 where
+  pub count : n ≡ min (pass_length setup s.page old.pass - given_in old) (min (length buf) setup.limit)
+  pub some : 0 < n
+  pub room : n ≤ length buf
+  pub limit : n ≤ setup.limit
+  pub inside : given_in old + n ≤ pass_length setup s.page old.pass
+  pub bytes : s.steady ≡ true → take n buf ≡ take n (drop (given_in old) (payload setup s.page old.pass))
+  pub further : given_in new ≡ given_in old + n
+  pub pass_is : new.pass ≡ old.pass
+  pub source : TakesRows s t
+  pub frame : IsFrame t setup new
+
+-- what a read may answer, what it leaves, and what it wrote
+abbrev pub ReadsFrame : SourceState → Setup → FrameProgress → Result ℕ ReadEnd → SourceState → FrameProgress → List ℕ → Type 0
+ReadsFrame s setup old (Ok n) t new buf = GivesFrameBytes s setup old n t new buf
+ReadsFrame s setup old (Err End) t new buf = (given_in old ≡ pass_length setup s.page old.pass) × (t ≡ s) × (new ≡ old)
+ReadsFrame s setup old (Err SourceFailedIn) t new buf = (given_in old < pass_length setup s.page old.pass) × StopsFailing s t

@@ -1,5 +1,0 @@
-use Rattle.scan_rules.proofs.OthersFrames.{others_frames}
-use Rattle.scan_rules.proofs.frames_of_other_words_stay.Goals as goal
-
-pub returns : goal.returns
-returns c = others_frames

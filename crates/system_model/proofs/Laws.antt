@@ -1,0 +1,155 @@
+-- THE LAWS OF THE LAYERS BELOW: nothing else is known of them.
+use Rattle.std.proofs.Common.{arith, ◌≤◌, ◌≡◌, ◌≢◌, ◌↔◌, ◌∙◌, ℕ, ◌+◌, List, [], ◌∷◌, ◌++◌, Bool, true, false, refl, sym, ap, subst, length}
+use Rattle.std.proofs.lemmas.Bool.{le-ltb}
+use Rattle.std.specs.Prelude.{Option, Some, None, option_map, if◌then◌else◌, Result, Ok, Err}
+use Rattle.sane_fixed.specs.declared.status.Status.{Status as Code}
+use Rattle.sane_fixed.specs.declared.status.Status.TheVariants as code
+use Rattle.sane_fixed.specs.declared.info.Info.{Info as Bits}
+use Rattle.sane_fixed.specs.declared.byte_order.ByteOrder.{ByteOrder as Order}
+use Rattle.option_desc.specs.declared.value.Value.{Value}
+use Rattle.page_picture.specs.Shows.{Frame}
+use Rattle.frame_join.specs.AloneFrame.{most_bytes}
+use Rattle.frame_join.specs.FrameHistory.{is_accepted}
+use Rattle.scan_frames.specs.Frames as scan
+use Rattle.scan_frames.specs.declared.setup.Setup.{Setup}
+use Rattle.device_api.specs.ScannerLimits as limits
+use Rattle.device_api.specs.Values.{option_set, setup_after}
+use Rattle.device_api.proofs.AllowedLaws as allowed
+use Rattle.scan_laws.specs.SetInfo.{has_bit}
+use Rattle.scan_laws.specs.Weights.{weight}
+use Rattle.scan_laws.specs.SetAndJoin as rules
+use Rattle.scan_laws.proofs.Ruled as ruled
+use Rattle.scan_laws.proofs.Sets.{tells}
+use Rattle.scan_laws.proofs.NearestSet.{set_nearest}
+use Rattle.system_model.specs.AbstractMessages.{Good}
+use Rattle.system_model.specs.Devices.{Make, readable_options, OptionsInForce, Page, AcceptedSet, IsAllowed, IsShaped, IsNearest, abstract_status, abstract_accepted_set, defaults, read_status_of, descriptors_of, accept_value, picture_frames, order_of, accepts, overflows, fills}
+use Rattle.system_model.specs.Sync.{AreJoinable}
+use Rattle.system_model.specs.AbstractInForce.{AreReadable}
+use Rattle.system_model.proofs.Readable as readable_laws
+use Rattle.system_model.specs.Variant.{payload_total}
+
+-- OPTIONS
+-- options stay within their limits
+pub defaults_allowed : (k : Make) → IsAllowed k (defaults k)
+unfolding IsAllowed defaults
+defaults_allowed k = allowed.defaults_allowed k.model k.order
+
+-- the put of an answer
+record PutParts (o : Setup) (n : ℕ) (v : Value) (put : AcceptedSet) : Type 0 where
+  real : rules.AcceptedSet
+  is : rules.accept_set o n v ≡ Some real
+  put_is : abstract_accepted_set real ≡ put
+
+parts_of : (o : Setup) (n : ℕ) (v : Value) (put : AcceptedSet) (r : Option rules.AcceptedSet) → rules.accept_set o n v ≡ r → option_map abstract_accepted_set r ≡ Some put → PutParts o n v put
+parts_of o n v put None e h = cc
+parts_of o n v put (Some p) e h = record { real = p; is = e; put_is = cc }
+
+parts : (k : Make) (o : OptionsInForce) (n : ℕ) (v : Value) (put : AcceptedSet) → accept_value k o n v ≡ Some put → PutParts o n v put
+unfolding accept_value
+parts k o n v put e = parts_of o n v put (rules.accept_set o n v) refl e
+
+pub put_allowed : (k : Make) (o : OptionsInForce) (n : ℕ) (v : Value) (put : AcceptedSet) → IsAllowed k o → accept_value k o n v ≡ Some put → IsAllowed k put.options
+unfolding IsAllowed
+put_allowed k o n v put a e =
+    let p = parts k o n v put e in
+    subst (λ (t : Setup). limits.IsAllowed t) (ap (λ (x : AcceptedSet). x.options) p.put_is) (ruled.put_allowed o n v p.real a p.is)
+
+-- descriptors change only where the info says so
+pub steady : (k : Make) (o : OptionsInForce) (n : ℕ) (v : Value) (put : AcceptedSet) → accept_value k o n v ≡ Some put → put.info.reload_options ≡ false → descriptors_of k put.options ≡ descriptors_of k o
+unfolding descriptors_of
+steady k o n v put e r =
+    let p = parts k o n v put e in
+    let b : has_bit p.real.info 2 ≡ false = ap (λ (x : AcceptedSet). x.info.reload_options) p.put_is ∙ r in
+    sym (ap (λ (x : AcceptedSet). descriptors_of k x.options) p.put_is) ∙ ruled.steady o n v p.real p.is b
+
+answer_of : (o : Setup) (n : ℕ) (v : Value) (put : rules.AcceptedSet) (r : Result (Value × Bits) Code) → option_set o n v ≡ r → rules.accepted_set_by o n r ≡ Some put → option_set o n v ≡ Ok (put.given, put.info)
+answer_of o n v put (Ok answer) e h =
+    let same : record { given = answer.0; info = answer.1; setup = setup_after o n answer.0 } ≡ put = (let some : Some (record { given = answer.0; info = answer.1; setup = setup_after o n answer.0 }) ≡ Some put = h in cc) in
+    e ∙ ap (λ (p : rules.AcceptedSet). Ok (p.given, p.info)) same
+answer_of o n v put (Err _) e h = absurd (let clash : None ≡ Some put = h in cc)
+
+answered : (o : Setup) (n : ℕ) (v : Value) (put : rules.AcceptedSet) → rules.accept_set o n v ≡ Some put → option_set o n v ≡ Ok (put.given, put.info)
+unfolding rules.accept_set
+answered o n v put e = answer_of o n v put (option_set o n v) refl e
+
+-- what is given is the nearest admitted value, and INEXACT stands just where it differs
+pub is_nearest : (k : Make) (o : OptionsInForce) (n : ℕ) (v : Value) (put : AcceptedSet) → accept_value k o n v ≡ Some put → IsNearest k o n v put.given × ((put.info.inexact ≡ true) ↔ (put.given ≢ v))
+unfolding IsNearest
+is_nearest k o n v put e =
+    let p = parts k o n v put e in
+    let a = answered o n v p.real p.is in
+    let t = tells o n v p.real.given p.real.info a in
+    subst (λ (x : AcceptedSet). IsNearest k o n v x.given × ((x.info.inexact ≡ true) ↔ (x.given ≢ v))) p.put_is
+    (set_nearest o n v p.real.given p.real.info a, t.inexact)
+
+-- no device answers GOOD in place of its data
+never : (s : Option Code) → option_map abstract_status s ≡ Some Good → s ≡ Some code.Good
+never None e = cc
+never (Some code.Good) e = refl
+never (Some s) e = cc
+
+pub never_good : (k : Make) (o : OptionsInForce) → IsAllowed k o → read_status_of k o ≡ Some Good → ⊥
+unfolding read_status_of IsAllowed
+never_good k o a e = a.told (never o.told e)
+
+-- FRAMES
+abbrev AllIn : Order → List Frame → Type 0
+AllIn order [] = Unit {0}
+AllIn order (f ∷ more) = (f.order ≡ order) × AllIn order more
+
+given_by : (o : Setup) (page_view : Page) (b c : Bool) → AllIn o.order (if b then (if c then scan.frame_of o page_view 0 ∷ scan.frame_of o page_view 1 ∷ scan.frame_of o page_view 2 ∷ [] else scan.frame_of o page_view 0 ∷ []) else [])
+given_by o page_view true true = (refl, (refl, (refl, tt)))
+given_by o page_view true false = (refl, tt)
+given_by o page_view false c = tt
+
+given_in : (o : Setup) (page_view : Page) → AllIn o.order (rules.frames_given o page_view)
+unfolding rules.frames_given
+given_in o page_view = given_by o page_view (scan.has_picture o page_view) (scan.takes_colors o.scene.kind o.scene.mode)
+
+fits : (f : Frame) → ((front rest : List ℕ) → front ++ rest ≡ f.payload → length front ≤ most_bytes f.params) → (bytes rest : List ℕ) → bytes ++ rest ≡ f.payload → overflows f.params bytes ≡ false
+unfolding overflows
+fits f h bytes rest e = le-ltb (most_bytes f.params) (length bytes) (h bytes rest e)
+
+properly : (order : Order) (done more : List Frame) → AllIn order more → rules.AreTakenInOrder done more → AreJoinable order done more
+unfolding accepts fills
+properly order done [] a p = tt
+properly order done (f ∷ more) a p = (
+  subst (λ (x : Order). is_accepted done f.params x ≡ true) a.0 p.0.accepted,
+  fits f p.0.fits,
+  p.0.full,
+  p.0.none_is_short,
+  p.0.last,
+  a.0,
+  properly order (done ++ f ∷ []) more a.1 p.1,
+)
+
+-- the join of frames takes a device's frames
+pub proper : (k : Make) (o : OptionsInForce) (page_view : Page) → IsAllowed k o → IsShaped page_view → AreJoinable (order_of k o) [] (picture_frames k o page_view)
+unfolding picture_frames order_of IsAllowed IsShaped
+proper k o page_view a s = properly o.order [] (rules.frames_given o page_view) (given_in o page_view) (ruled.proper o page_view a s)
+
+same_total : (fs : List Frame) → payload_total fs ≡ weight fs
+same_total [] = refl
+same_total (f ∷ fs) = ap (λ (n : ℕ). length f.payload + n) (same_total fs)
+
+three_by : (o : Setup) (page_view : Page) (b c : Bool) → length (if b then (if c then scan.frame_of o page_view 0 ∷ scan.frame_of o page_view 1 ∷ scan.frame_of o page_view 2 ∷ [] else scan.frame_of o page_view 0 ∷ []) else []) ≤ 3
+three_by o page_view true true = omega arith
+three_by o page_view true false = omega arith
+three_by o page_view false c = omega arith
+
+three : (o : Setup) (page_view : Page) → length (rules.frames_given o page_view) ≤ 3
+unfolding rules.frames_given
+three o page_view = three_by o page_view (scan.has_picture o page_view) (scan.takes_colors o.scene.kind o.scene.mode)
+
+-- a page has three frames at most, and so many bytes: 9,448 lines of 57,072 bytes
+pub small : (k : Make) (o : OptionsInForce) (page_view : Page) → IsAllowed k o → (payload_total (picture_frames k o page_view) ≤ 539216256) × (length (picture_frames k o page_view) ≤ 3)
+unfolding picture_frames IsAllowed
+small k o page_view a = (let h = ruled.few o page_view a in let e = same_total (rules.frames_given o page_view) in omega arith, three o page_view)
+
+-- VALUES
+-- what a client asks the value of is told, and there are few such options
+pub told : (k : Make) (o : OptionsInForce) → AreReadable k o (readable_options (descriptors_of k o))
+told = readable_laws.told
+
+pub few : (k : Make) (o : OptionsInForce) → length (readable_options (descriptors_of k o)) ≤ 32
+few = readable_laws.few

@@ -1,0 +1,181 @@
+-- THE DAEMON'S SIDE OF A DATA CONNECTION: records that it sends, and the end record.
+use Rattle.std.proofs.Common.{◌≡◌, ◌∙◌, ◌≢◌, ℕ, List, [], ◌∷◌, ◌++◌, Option, Some, None, refl, sym, subst, ap, inl, inr, append_assoc}
+use Rattle.page_picture.specs.Shows.{Frame}
+use Rattle.sane_fixed.specs.declared.params.Params.{Params}
+use Rattle.system_model.specs.AbstractMessages.{Status, Good, Eof, GivenUp, Why, Answer}
+use Rattle.system_model.specs.Devices.{Make, OptionsInForce, read_status_of}
+use Rattle.system_model.specs.Client.{ClientView, JobStage, Idle, Running, Done, Ended, AbstractProgress, Greeting, Listing, Opening, Allowing, Describing, Putting, Getting, Starting, Shaping, Imaging, Task, List_, Show, SetOnly, Scan, Batch}
+use Rattle.system_model.specs.AbstractDevices.{AbstractDevice, ScanPhase, Reading, without_prefix, read_on, ended_phase}
+use Rattle.system_model.specs.Daemon.{TransferState, Quiet, Streaming, Ending}
+use Rattle.system_model.specs.Causes.{Cause, TrayRanOut, IsExplained, Explains, IsCauseAmong, NamesEof}
+use Rattle.system_model.specs.SystemStates.{SessionView}
+use Rattle.system_model.specs.Actions.{with_flight, session_at_end}
+use Rattle.system_model.specs.Sync.{StillReading, DataUnderWay, Images, InSync}
+use Rattle.system_model.specs.Invariants.{IsRight, IsCaused, IsRightlyDone}
+
+-- where a frame streams, its client hears it
+pub record Stream (i : ℕ) (k : Make) (b : SessionView) (m : ClientView) (dev : AbstractDevice) (g : AbstractProgress) : Type 0 where
+  pub params : Params
+  pub heard : List ℕ
+  pub is : g ≡ Imaging params heard
+  pub images : Images i k b m dev params heard
+  pub flows : StillReading i k b dev images.continues.begin.options images.frame images.more heard images.rest
+
+imaging : (i : ℕ) (k : Make) (b : SessionView) (m : ClientView) (dev : AbstractDevice) (params : Params) (heard : List ℕ) → b.transfer ≡ Streaming → (h : Images i k b m dev params heard) →
+    DataUnderWay i k b dev h.continues.begin.options h.frame h.more heard h.rest → Stream i k b m dev (Imaging params heard)
+imaging i k b m dev params heard c h (inl f) = record { params = params; heard = heard; is = refl; images = h; flows = f }
+imaging i k b m dev params heard c h (inr (inl f)) = absurd (cc (c, f.transfer))
+imaging i k b m dev params heard c h (inr (inr (inl f))) = absurd (cc (c, f.transfer))
+imaging i k b m dev params heard c h (inr (inr (inr f))) = absurd (cc (c, f.transfer))
+
+pub streaming : (i : ℕ) (k : Make) (b : SessionView) (m : ClientView) (dev : AbstractDevice) (g : AbstractProgress) → b.transfer ≡ Streaming → InSync i k b m dev g → Stream i k b m dev g
+streaming i k b m dev Greeting c h = absurd (cc (c, h.transfer))
+streaming i k b m dev Listing c h = absurd (cc (c, h.0.transfer))
+streaming i k b m dev Opening c h = absurd (cc (c, h.0.transfer))
+streaming i k b m dev (Allowing x) c h = absurd (cc (c, h.0.transfer))
+streaming i k b m dev (Describing left) c h = absurd (cc (c, h.1.still.transfer))
+streaming i k b m dev (Putting n value requested left) c h = absurd (cc (c, h.settles.still.transfer))
+streaming i k b m dev (Getting n left) c h = absurd (cc (c, h.still.transfer))
+streaming i k b m dev Starting c (inl h) = absurd (cc (c, h.still.transfer))
+streaming i k b m dev Starting c (inr h) = absurd (cc (c, h.still.transfer))
+streaming i k b m dev Shaping c h = absurd (cc (c, h.transfer))
+streaming i k b m dev (Imaging params heard) c h = imaging i k b m dev params heard c h h.carries
+
+-- MORE CAUSES ARE NO FEWER
+pub explained_more : (s : Status) (w : Why) (causes met : List Cause) → IsExplained s w met → IsExplained s w (causes ++ met)
+explained_more s w [] met h = h
+explained_more s w (c ∷ causes) met h = inr (explained_more s w causes met h)
+
+pub met_more : (x : Cause) (causes met : List Cause) → IsCauseAmong x met → IsCauseAmong x (causes ++ met)
+met_more x [] met h = h
+met_more x (c ∷ causes) met h = inr (met_more x causes met h)
+
+pub caused_more : (k : Make) (b : SessionView) (causes : List Cause) (s : Status) (w : Why) → IsCaused k b s w → IsCaused k (record b { met = causes ++ b.met }) s w
+caused_more k b causes s w (inl h) = inl (explained_more s w causes b.met h)
+caused_more k b causes s w (inr h) = inr h
+
+-- what is done stays so
+pub done_more : (k : Make) (b : SessionView) (m : ClientView) (c : TransferState) (flight : List ℕ) (ending : Option Status) (causes : List Cause) (task : Task) → IsRightlyDone k b m task →
+    IsRightlyDone k (record b { transfer = c; flight = flight; ending = ending; met = causes ++ b.met }) m task
+done_more k b m c flight ending causes List_ h = h
+done_more k b m c flight ending causes Show h = record { options = h.options; settled = h.settled; known = h.known; values = h.values }
+done_more k b m c flight ending causes SetOnly h = h
+done_more k b m c flight ending causes Scan h = h
+done_more k b m c flight ending causes (Batch n) (a, inl h) = (a, inl h)
+done_more k b m c flight ending causes (Batch n) (a, inr h) = (a, inr (h.0, h.1, met_more TrayRanOut causes b.met h.2))
+
+pub without_append : (xs ys : List ℕ) → without_prefix xs (xs ++ ys) ≡ ys
+without_append [] ys = refl
+without_append (x ∷ xs) ys = without_append xs ys
+
+-- A RECORD IS SENT
+pub turned_right : (i : ℕ) (k : Make) (b : SessionView) (m : ClientView) (dev : AbstractDevice) (f : Frame) (bytes rest : List ℕ) (more : List Frame) (st : JobStage) →
+    b.transfer ≡ Streaming → dev.phase ≡ Reading f (bytes ++ rest) more → read_status_of k dev.options ≡ None → IsRight i k b m dev st →
+    IsRight i k (with_flight b (b.flight ++ bytes)) m (record dev { phase = read_on dev.phase bytes }) st
+turned_right i k b m dev f bytes rest more Idle c p n h = h
+turned_right i k b m dev f bytes rest more Done c p n h = done_more k b m b.transfer (b.flight ++ bytes) b.ending [] b.job.task h
+turned_right i k b m dev f bytes rest more (Ended s w) c p n h = h
+turned_right i k b m dev f bytes rest more (Running g) c p n h =
+    let s = streaming i k b m dev g c h in
+    let e : Reading s.images.frame s.images.rest s.images.more ≡ Reading f (bytes ++ rest) more = sym s.flows.held.phase_is ∙ p in
+    let r : s.images.rest ≡ bytes ++ rest = cc in
+    let q : read_on dev.phase bytes ≡ Reading s.images.frame rest s.images.more =
+    ap (λ (x : ScanPhase). read_on x bytes) s.flows.held.phase_is ∙ ap (λ (x : List ℕ). Reading s.images.frame x s.images.more) (ap (λ (x : List ℕ). without_prefix bytes x) r ∙ without_append bytes rest) in
+    subst (λ (x : AbstractProgress). InSync i k (with_flight b (b.flight ++ bytes)) m (record dev { phase = read_on dev.phase bytes }) x) (sym s.is)
+    (record {
+      frame = s.images.frame;
+      more = s.images.more;
+      continues = s.images.continues;
+      params_are = s.images.params_are;
+      order = s.images.order;
+      awaited = s.images.awaited;
+      rest = rest;
+      payload = simp append_assoc (simp r at s.images.payload);
+      carries = inl (record {
+        held = record { mine = s.flows.held.mine; options_are = s.flows.held.options_are; phase_is = q };
+        ending = s.flows.ending;
+        transfer = s.flows.transfer;
+        unread = λ status u. absurd (cc (u, n, s.flows.held.options_are));
+      });
+    })
+
+-- THE END RECORD IS SENT
+ended_sync : (i : ℕ) (k : Make) (b : SessionView) (m : ClientView) (dev new : AbstractDevice) (g : AbstractProgress) (status : Status) (causes : List Cause) (s : Stream i k b m dev g) →
+    DataUnderWay i k (session_at_end b status causes) new s.images.continues.begin.options s.images.frame s.images.more s.heard s.images.rest → InSync i k (session_at_end b status causes) m new g
+ended_sync i k b m dev new g status causes s c =
+    subst (λ (x : AbstractProgress). InSync i k (session_at_end b status causes) m new x) (sym s.is)
+    (record {
+      frame = s.images.frame;
+      more = s.images.more;
+      continues = s.images.continues;
+      params_are = s.images.params_are;
+      order = s.images.order;
+      awaited = s.images.awaited;
+      rest = s.images.rest;
+      payload = s.images.payload;
+      carries = c;
+    })
+
+pub last_right : (i : ℕ) (k : Make) (b : SessionView) (m : ClientView) (dev : AbstractDevice) (f : Frame) (more : List Frame) (st : JobStage) →
+    b.transfer ≡ Streaming → dev.phase ≡ Reading f [] more → IsRight i k b m dev st →
+    IsRight i k (session_at_end b Eof []) m (record dev { phase = ended_phase dev.phase }) st
+last_right i k b m dev f more Idle c p h = h
+last_right i k b m dev f more Done c p h = done_more k b m Quiet b.flight (Some Eof) [] b.job.task h
+last_right i k b m dev f more (Ended s w) c p h = h
+last_right i k b m dev f more (Running g) c p h =
+    let s = streaming i k b m dev g c h in
+    let e : Reading s.images.frame s.images.rest s.images.more ≡ Reading f [] more = sym s.flows.held.phase_is ∙ p in
+    ended_sync i k b m dev (record dev { phase = ended_phase dev.phase }) g Eof [] s
+    (inr (inl (record {
+      nothing = cc;
+      ending = refl;
+      transfer = refl;
+      held = record { mine = s.flows.held.mine; options_are = s.flows.held.options_are; phase_is = ap ended_phase s.flows.held.phase_is };
+    })))
+
+pub short_right : (i : ℕ) (k : Make) (b : SessionView) (m : ClientView) (dev new : AbstractDevice) (st : JobStage) → new.holder ≡ Some i →
+    b.transfer ≡ Streaming → read_status_of k dev.options ≡ Some Eof → IsRight i k b m dev st → IsRight i k (session_at_end b Eof (NamesEof ∷ [])) m new st
+short_right i k b m dev new Idle z c p h = h
+short_right i k b m dev new Done z c p h = done_more k b m Quiet b.flight (Some Eof) (NamesEof ∷ []) b.job.task h
+short_right i k b m dev new (Ended s w) z c p h = caused_more k b (NamesEof ∷ []) s w h
+short_right i k b m dev new (Running g) z c p h =
+    let s = streaming i k b m dev g c h in
+    let u = s.flows.unread Eof (rw (← s.flows.held.options_are) p) in
+    ended_sync i k b m dev new g Eof (NamesEof ∷ []) s
+    (inr (inr (inl (record { mine = z; ending = refl; flight = u.1; heard_none = u.0; cause = inl (refl, refl); transfer = refl }))))
+
+pub fails_right : (i : ℕ) (k : Make) (b : SessionView) (m : ClientView) (dev new : AbstractDevice) (st : JobStage) (status : Status) (cause : Cause) → new.holder ≡ Some i →
+    b.transfer ≡ Streaming → status ≢ Eof → status ≢ Good → Explains cause status Answer → IsRight i k b m dev st → IsRight i k (session_at_end b status (cause ∷ [])) m new st
+fails_right i k b m dev new Idle status cause z c n o x h = h
+fails_right i k b m dev new Done status cause z c n o x h = done_more k b m Quiet b.flight (Some status) (cause ∷ []) b.job.task h
+fails_right i k b m dev new (Ended s w) status cause z c n o x h = caused_more k b (cause ∷ []) s w h
+fails_right i k b m dev new (Running g) status cause z c n o x h =
+    let s = streaming i k b m dev g c h in
+    ended_sync i k b m dev new g status (cause ∷ []) s
+    (inr (inr (inr (record { mine = z; status = status; ending = refl; not_eof = n; not_good = o; cause = inl x; transfer = refl }))))
+
+-- A FRAME THAT IS CANCELLED is no running client's
+never_carries : (i : ℕ) (k : Make) (b : SessionView) (dev : AbstractDevice) (o : OptionsInForce) (f : Frame) (more : List Frame) (heard rest : List ℕ) → b.transfer ≡ Ending → DataUnderWay i k b dev o f more heard rest → ⊥
+never_carries i k b dev o f more heard rest c (inl h) = elim h.transfer [ inl x ↦ cc (c, x) | inr x ↦ cc (c, x) ]
+never_carries i k b dev o f more heard rest c (inr (inl h)) = cc (c, h.transfer)
+never_carries i k b dev o f more heard rest c (inr (inr (inl h))) = cc (c, h.transfer)
+never_carries i k b dev o f more heard rest c (inr (inr (inr h))) = cc (c, h.transfer)
+
+pub never_ending : (i : ℕ) (k : Make) (b : SessionView) (m : ClientView) (dev : AbstractDevice) (g : AbstractProgress) → b.transfer ≡ Ending → InSync i k b m dev g → ⊥
+never_ending i k b m dev Greeting c h = cc (c, h.transfer)
+never_ending i k b m dev Listing c h = cc (c, h.0.transfer)
+never_ending i k b m dev Opening c h = cc (c, h.0.transfer)
+never_ending i k b m dev (Allowing x) c h = cc (c, h.0.transfer)
+never_ending i k b m dev (Describing left) c h = cc (c, h.1.still.transfer)
+never_ending i k b m dev (Putting n value requested left) c h = cc (c, h.settles.still.transfer)
+never_ending i k b m dev (Getting n left) c h = cc (c, h.still.transfer)
+never_ending i k b m dev Starting c (inl h) = cc (c, h.still.transfer)
+never_ending i k b m dev Starting c (inr h) = cc (c, h.still.transfer)
+never_ending i k b m dev Shaping c h = cc (c, h.transfer)
+never_ending i k b m dev (Imaging params heard) c h = never_carries i k b dev h.continues.begin.options h.frame h.more heard h.rest c h.carries
+
+pub off_right : (i : ℕ) (k : Make) (b : SessionView) (m : ClientView) (dev : AbstractDevice) (st : JobStage) → b.transfer ≡ Ending → IsRight i k b m dev st → IsRight i k (session_at_end b GivenUp []) m dev st
+off_right i k b m dev Idle c h = h
+off_right i k b m dev (Running g) c h = absurd (never_ending i k b m dev g c h)
+off_right i k b m dev Done c h = done_more k b m Quiet b.flight (Some GivenUp) [] b.job.task h
+off_right i k b m dev (Ended s w) c h = h

@@ -1,0 +1,5 @@
+use Rattle.world_refines.proofs.Followed.{events_follow}
+use Rattle.world_refines.proofs.histories.a_run_refines.Goals as goal
+
+pub returns : goal.returns
+returns c = events_follow

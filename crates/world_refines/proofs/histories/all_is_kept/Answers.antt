@@ -1,0 +1,5 @@
+use Rattle.world_refines.proofs.Followed.{all_kept}
+use Rattle.world_refines.proofs.histories.all_is_kept.Goals as goal
+
+pub returns : goal.returns
+returns c = all_kept

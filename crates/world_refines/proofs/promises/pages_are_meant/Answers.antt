@@ -1,0 +1,5 @@
+use Rattle.world_refines.proofs.Paged
+use Rattle.world_refines.proofs.promises.pages_are_meant.Goals as goal
+
+pub returns : goal.returns
+returns c = Paged.pages_are_meant

@@ -1,0 +1,41 @@
+-- What a delivery of requests to the daemon does: each that is whole with it is answered, and the session goes on or is over.
+use Rattle.std.specs.Prelude.{ℕ, ◌≡◌, ◌++◌, Bool, true, false, cond, List, [], ◌∷◌, length}
+use Rattle.wire_format.specs.Limit.{NeedsMore}
+use Rattle.wire_message.specs.Message.{message_limit, request as request_format}
+use Rattle.system_model.specs.AbstractMessages.{AbstractRequest}
+use Rattle.system_model.specs.Actions as actions
+use Rattle.system_model.specs.Deliveries.{Chance, answers}
+use Rattle.system_model.specs.Transitions.{By, Transition}
+use Rattle.scan_world.specs.JobEvents.{bytes_not_delivered, delivered_bytes}
+use Rattle.world_refines.specs.GhostStates.{Ghost, job_state, wires}
+use Rattle.world_refines.specs.Wires.{SpellsAsked}
+use Rattle.world_refines.specs.GhostEvents.{GhostTakes}
+
+-- the requests that are whole with the piece, the first of those that were sent, and what is left behind them
+pub record Completes (t : Ghost) (i n : ℕ) (asked : List AbstractRequest) (rest : List ℕ) : Type 0 where
+  pub text : List ℕ
+  pub whole : (wires t i).asking ++ delivered_bytes n (wires t i).up ≡ text ++ rest
+  pub spelled : SpellsAsked (t.jobs i) (job_state t i).client asked text
+  pub later : List AbstractRequest
+  pub first : (job_state t i).todo ≡ asked ++ later
+
+-- an answer to each of them, with what chance brings
+pub record AnswersEach (i : ℕ) (asked : List AbstractRequest) (steps : List Transition) : Type 0 where
+  pub chances : List Chance
+  pub count : length chances ≡ length asked
+  pub steps_are : steps ≡ answers i chances
+
+-- the replies that wait behind it; where memory ran out they are dropped
+abbrev pub replies_kept : Bool → List ℕ → List ℕ
+replies_kept memory replies = cond memory [] replies
+
+-- By what becomes of the session: it goes on, and what is left is no whole request; the last of them ended it; or it breaks off, for lack
+-- of memory or at a reply past the limits of the wire; or it was over before.
+pub data AnswersSome (n : ℕ) (t : Ghost) (i : ℕ) (steps : List Transition) (u : Ghost) : Type 0 where
+  GoesOn : (asked : List AbstractRequest) (rest told : List ℕ) → Completes t i n asked rest → NeedsMore message_limit request_format rest → AnswersEach i asked steps →
+      GhostTakes t i steps (record (wires t i) { up = bytes_not_delivered n (wires t i).up; asking = rest; down = (wires t i).down ++ told }) u → (job_state u i).served ≡ true → AnswersSome n t i steps u
+  IsOver : (asked : List AbstractRequest) (rest told : List ℕ) → Completes t i n asked rest → AnswersEach i asked steps →
+      GhostTakes t i steps (record (wires t i) { up = bytes_not_delivered n (wires t i).up; asking = []; down = (wires t i).down ++ told }) u → (job_state t i).served ≡ true → (job_state u i).served ≡ false → AnswersSome n t i steps u
+  BreaksOff : (memory : Bool) (asked : List AbstractRequest) (rest told : List ℕ) (before : List Transition) → Completes t i n asked rest → AnswersEach i asked before → steps ≡ before ++ By i (actions.Breaks memory) ∷ [] →
+      GhostTakes t i steps (record (wires t i) { up = bytes_not_delivered n (wires t i).up; asking = []; down = replies_kept memory ((wires t i).down ++ told) }) u → AnswersSome n t i steps u
+  WasOver : (job_state t i).served ≡ false → steps ≡ [] → GhostTakes t i [] (record (wires t i) { up = bytes_not_delivered n (wires t i).up }) u → AnswersSome n t i steps u

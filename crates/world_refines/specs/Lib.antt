@@ -1,0 +1,13 @@
+pub mod GhostStates
+pub mod Wires
+pub mod Speaks
+pub mod WorldPending
+pub mod WorldRefinement
+pub mod Costs
+pub mod GhostEvents
+pub mod Answering
+pub mod ClientDeliveries
+pub mod DataDeliveries
+pub mod NewWorlds
+pub mod WorldPromises
+pub mod MainTheorem

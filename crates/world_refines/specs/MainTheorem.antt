@@ -1,0 +1,112 @@
+-- What a list of events does to what stands, in whatever order they come, and what is promised behind it.
+use Rattle.std.specs.Prelude.{ℕ, ◌≡◌, ◌≢◌, ◌≤◌, ◌<◌, ◌++◌, true, false, Option, Some, None, IsSome, List, [], ◌∷◌, All, slice_get}
+use Rattle.sane_fixed.specs.declared.status.Status.{Status}
+use Rattle.sane_fixed.specs.declared.status.Status.TheVariants.{Good, Eof}
+use Rattle.netpbm.specs.Pnm.{IsWhole}
+use Rattle.page_picture.specs.Page.{IsPageView}
+use Rattle.page_picture.specs.Source.{SourceState}
+use Rattle.page_picture.specs.declared.sources.kinds.Source.{Source}
+use Rattle.device_api.specs.State.{DeviceState}
+use Rattle.dispatch.specs.RegistryFault.{HaveOwnNames}
+use Rattle.scan_job.specs.declared.job.Job.{Job}
+use Rattle.scan_job.specs.declared.job.Task.TheVariants as tasks
+use Rattle.scan_job.specs.declared.outcome.Outcome.TheVariants.{Done, Ended}
+use Rattle.scan_job.specs.declared.outcome.Why.{Why}
+use Rattle.scan_job.specs.declared.report.Reports.{Reports}
+use Rattle.system_model.specs.Marks.{MarksLead, device_view}
+use Rattle.system_model.specs.MoveRuns.{all_marks}
+use Rattle.system_model.specs.Transitions.{IsHistory, Transition, after_all}
+use Rattle.scan_world.specs.declared.event.Event.{Event}
+use Rattle.scan_world.specs.declared.event.Event.TheVariants.{Connect, ToDaemon, ToClient, DataConnect, DataTurn, DataToClient, LoseControl, LoseImage, Cancel, Load, Unplug}
+use Rattle.scan_world.specs.declared.event.JobEvent.TheVariants as actions
+use Rattle.client_replies.specs.ProtocolStates.{is_running}
+use Rattle.scan_world.specs.declared.endpoint.Endpoint.{Endpoint}
+use Rattle.scan_world.specs.JobEvents.{is_done}
+use Rattle.scan_world.specs.JobMoves.{IsNextMove, moves_left_of}
+use Rattle.scan_world.specs.Endpoints.{finished_page}
+use Rattle.scan_world.specs.Rounds.{RestsAt}
+use Rattle.scan_world.specs.Worlds.{AreNew, IsFitJob, Runs, WorldCore}
+use Rattle.world_refines.specs.GhostStates.{Ghost}
+use Rattle.world_refines.specs.WorldRefinement.{WorldRefines}
+use Rattle.world_refines.specs.Costs.{Pays}
+use Rattle.world_refines.specs.GhostEvents.{GhostCan, CanLoad, CanUnplug, GhostConnects, Dials, GivesUp, GhostHappens, LaysIn, LosesControl, LosesImage, TakesOut, GhostTurns}
+use Rattle.world_refines.specs.Answering.{AnswersSome}
+use Rattle.world_refines.specs.ClientDeliveries.{GhostHears}
+use Rattle.world_refines.specs.DataDeliveries.{GhostSees}
+use Rattle.world_refines.specs.NewWorlds.{IsNewDaemon, IsSteady, initial_ghost}
+use Rattle.world_refines.specs.WorldPromises.{FileIsOfFirstStart, HasScannedPage, PagesAreCounted, IsOutcome}
+
+-- an event takes its steps of the model where it can happen, and changes nothing where it cannot
+abbrev pub GhostComes : (Source → SourceState) → Event → Ghost → List Transition → Ghost → Type 0
+GhostComes source (Connect i) t steps u = GhostHappens (GhostCan t i actions.Connect) (GhostConnects t i steps u) t steps u
+GhostComes source (ToDaemon i n) t steps u = GhostHappens (GhostCan t i (actions.ToDaemon n)) (AnswersSome n t i steps u) t steps u
+GhostComes source (ToClient i n) t steps u = GhostHappens (GhostCan t i (actions.ToClient n)) (GhostHears n t i steps u) t steps u
+GhostComes source (DataConnect i) t steps u = GhostHappens (GhostCan t i actions.DataConnect) (Dials t i steps u) t steps u
+GhostComes source (DataTurn i) t steps u = GhostHappens (GhostCan t i actions.DataTurn) (GhostTurns t i steps u) t steps u
+GhostComes source (DataToClient i n) t steps u = GhostHappens (GhostCan t i (actions.DataToClient n)) (GhostSees n t i steps u) t steps u
+GhostComes source (LoseControl i) t steps u = GhostHappens (GhostCan t i actions.LoseControl) (LosesControl t i steps u) t steps u
+GhostComes source (LoseImage i) t steps u = GhostHappens (GhostCan t i actions.LoseImage) (LosesImage t i steps u) t steps u
+GhostComes source (Cancel i) t steps u = GhostHappens (GhostCan t i actions.Cancel) (GivesUp t i steps u) t steps u
+GhostComes source (Load name page) t steps u = GhostHappens (CanLoad t name) (LaysIn t name (source page).page steps u) t steps u
+GhostComes source (Unplug name) t steps u = GhostHappens (CanUnplug t name) (TakesOut t name steps u) t steps u
+
+-- events one after another
+abbrev pub GhostComesAll : (Source → SourceState) → List Event → Ghost → List Transition → Ghost → Type 0
+GhostComesAll source [] t steps v = (steps ≡ []) × (v ≡ t)
+GhostComesAll source (e ∷ es) t steps v = (first : List Transition) × (more : List Transition) × (u : Ghost) × (steps ≡ first ++ more) × GhostComes source e t first u × GhostComesAll source es u more v
+
+-- the source of a page that is laid in gives the page's rows at each pass, and the page is a page view
+abbrev pub IsTrueLoad : (Source → SourceState) → Event → Type 0
+IsTrueLoad source (Load name page) = ((source page).steady ≡ true) × IsPageView (source page).page
+IsTrueLoad source e = Unit {0}
+
+abbrev pub AreTrueLoads : (Source → SourceState) → List Event → Type 0
+AreTrueLoads source [] = Unit {0}
+AreTrueLoads source (e ∷ es) = IsTrueLoad source e × AreTrueLoads source es
+
+-- Whatever a world stands for, what events make of it stands for what they do to that. Their steps are enabled, and so are their marks
+-- at each device: two clients never hold one, a start takes the page that is next, and no page is laid in within a scan.
+pub record RunRefines (source : Source → SourceState) (events : List Event) (t : Ghost) (w v : WorldCore) : Type 0 where
+  pub ghost_then : Ghost
+  pub steps : List Transition
+  pub comes : GhostComesAll source events t steps ghost_then
+  pub legal : IsHistory t.system steps
+  pub rules_are : ghost_then.system ≡ after_all t.system steps
+  pub marks : (d : ℕ) → MarksLead (device_view (t.system.make d) (t.system.device d)) (all_marks d t.system steps) (device_view (t.system.make d) ((after_all t.system steps).device d))
+  pub stands : WorldRefines ghost_then v
+  -- moves that sufficed suffice
+  pub pays : Pays t w → Pays ghost_then v
+
+abbrev pub EventsFollow : Type 0
+EventsFollow = (source : Source → SourceState) (events : List Event) (t : Ghost) (w v : WorldCore) → WorldRefines t w → AreTrueLoads source events → Runs source events w v → RunRefines source events t w v
+
+-- ---- the headline
+
+-- Of each job: its outcome is the model's, and one that is refused names a status; the file of a scan that is done and those of a
+-- batch's finished pages denote what the job's settings mean on the pages of its starts, the file of a job that is not done is never
+-- whole, and a file is none only where the job is told as out of memory; a batch has its pages, and a job that runs has a next move.
+pub record Promises (u : Ghost) (v : WorldCore) : Type 0 where
+  pub outcomes : (i : ℕ) (endpoint : Endpoint) → slice_get v.endpoints i ≡ Some endpoint → IsOutcome u i endpoint.client.outcome
+  pub statuses : (i : ℕ) (endpoint : Endpoint) (status : Status) (why : Why) → slice_get v.endpoints i ≡ Some endpoint → endpoint.client.outcome ≡ Ended status why → (status ≢ Good) × (status ≢ Eof)
+  pub short : (i : ℕ) (endpoint : Endpoint) (file : List ℕ) → slice_get v.endpoints i ≡ Some endpoint → is_done endpoint.client.outcome ≡ false → endpoint.file ≡ Some file → IsWhole file → ⊥
+  pub starved : (i : ℕ) (endpoint : Endpoint) → slice_get v.endpoints i ≡ Some endpoint → endpoint.file ≡ None → endpoint.out_of_memory ≡ true
+  -- page k of the finished ones, from 1
+  pub pages_lost : (i k : ℕ) (endpoint : Endpoint) → slice_get v.endpoints i ≡ Some endpoint → 0 < k → k ≤ endpoint.finished → k ≤ 16 → finished_page endpoint k ≡ None → endpoint.out_of_memory ≡ true
+  pub scans : (i : ℕ) (endpoint : Endpoint) (reports : Reports) (file : List ℕ) → slice_get v.endpoints i ≡ Some endpoint → (u.jobs i).task ≡ tasks.Scan → endpoint.client.outcome ≡ Done reports → endpoint.file ≡ Some file → FileIsOfFirstStart u i file
+  pub batches : (i count : ℕ) (endpoint : Endpoint) (reports : Reports) → slice_get v.endpoints i ≡ Some endpoint → (u.jobs i).task ≡ tasks.Batch count → endpoint.client.outcome ≡ Done reports → PagesAreCounted u i count endpoint
+  pub moves : (i : ℕ) (endpoint : Endpoint) (event : Option Event) → slice_get v.endpoints i ≡ Some endpoint → IsNextMove v.daemon i endpoint event → (is_running endpoint.client.outcome ≡ true → IsSome event) × (is_running endpoint.client.outcome ≡ false → event ≡ None)
+  -- none runs out of moves: one that has none left is over, and one that rests behind rounds of next moves is
+  pub left : (i : ℕ) (endpoint : Endpoint) → slice_get v.endpoints i ≡ Some endpoint → moves_left_of endpoint ≡ 0 → is_running endpoint.client.outcome ≡ false
+  pub rests : (i : ℕ) (endpoint : Endpoint) → slice_get v.endpoints i ≡ Some endpoint → RestsAt v i → is_running endpoint.client.outcome ≡ false
+  pub pages : (i k : ℕ) (endpoint : Endpoint) (file : List ℕ) → slice_get v.endpoints i ≡ Some endpoint → k < endpoint.finished → slice_get endpoint.pages k ≡ Some (Some file) → HasScannedPage u i k file
+
+-- From a new world on it is so behind any events, in whatever order they come and in whatever pieces bytes are delivered: what they
+-- did to nothing told is such that all is kept.
+pub record PromisesAreKept (source : Source → SourceState) (events : List Event) (t : Ghost) (w v : WorldCore) : Type 0 where
+  pub run : RunRefines source events t w v
+  pub promises : Promises run.ghost_then v
+
+abbrev pub AllIsKept : Type 0
+AllIsKept =
+    (source : Source → SourceState) (events : List Event) (jobs : List Job) (other : Job) (devices : List DeviceState) (w v : WorldCore) → AreNew jobs w.endpoints → IsNewDaemon devices w.daemon → HaveOwnNames devices → All IsSteady devices → All IsFitJob jobs → AreTrueLoads source events →
+    Runs source events w v → PromisesAreKept source events (initial_ghost jobs other devices w.daemon.users w.endpoints) w v

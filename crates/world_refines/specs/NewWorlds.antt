@@ -1,0 +1,69 @@
+-- A new world: nothing has happened.
+use Rattle.std.specs.Prelude.{◌≡◌, true, Option, Some, None, List, [], ◌∷◌, All, length, map, slice_get, slice_index_or}
+use Rattle.sane_fixed.specs.declared.byte_order.ByteOrder.TheVariants.{Little}
+use Rattle.page_picture.specs.declared.scene.DeviceKind.TheVariants.{Feeder}
+use Rattle.md5_auth.specs.declared.users.Entry.{Entry}
+use Rattle.frame_join.specs.FrameHistory.{empty_history}
+use Rattle.device_api.specs.ScannerLimits.{HasLimits}
+use Rattle.device_api.specs.declared.device_info.DeviceInfo.{DeviceInfo}
+use Rattle.device_api.specs.State.{DeviceState, HeldPage}
+use Rattle.dispatch.specs.RegistryFault.{HaveOwnNames}
+use Rattle.dispatch.specs.Table.{fresh_table}
+use Rattle.saned_core.specs.DaemonStates.{Core}
+use Rattle.scan_job.specs.declared.job.Job.{Job}
+use Rattle.system_model.specs.Devices.{Make}
+use Rattle.system_model.specs.ModelPromises.{initial_state}
+use Rattle.daemon_refines.specs.Cores.{fresh_devices}
+use Rattle.scan_world.specs.declared.endpoint.Endpoint.{Endpoint}
+use Rattle.scan_world.specs.Worlds.{AreNew, IsFitJob, WorldCore}
+use Rattle.world_refines.specs.GhostStates.{Ghost, Wires, abstract_job}
+use Rattle.world_refines.specs.WorldRefinement.{WorldRefines, numbers_from}
+use Rattle.world_refines.specs.Costs.{Pays}
+
+-- a daemon of these devices, with whatever users; no session was opened yet
+pub record IsNewDaemon (devices : List DeviceState) (core : Core) : Type 0 where
+  pub registry : core.registry ≡ fresh_table devices
+  pub slots : core.slots ≡ None ∷ None ∷ None ∷ None ∷ None ∷ None ∷ None ∷ None ∷ []
+  pub opened : core.opened ≡ 0
+
+-- a device within its limits, whose sources give their pages' rows at each pass
+pub record IsSteady (s : DeviceState) : Type 0 where
+  pub limits : HasLimits s
+  pub steady : All (λ (held : HeldPage). held.steady ≡ true) s.pages
+
+-- what never changes of a device; where there is none it matters to nobody
+abbrev pub make_of : Option DeviceState → Make
+make_of None = record { model = Feeder; order = Little }
+make_of (Some s) = record { model = s.setup.scene.kind; order = s.setup.order }
+
+-- what a client has written before its connection is made
+abbrev pub wires_of : Option Endpoint → Wires
+wires_of None = record { up = []; asking = []; down = []; telling = []; image = None }
+wires_of (Some p) = record { up = p.client.out; asking = []; down = []; telling = []; image = None }
+
+abbrev pub info_of_state : DeviceState → DeviceInfo
+info_of_state s = s.info
+
+-- Of these jobs nothing is told yet. (The other job stands for those that there are not.)
+abbrev pub initial_ghost : List Job → Job → List DeviceState → List Entry → List Endpoint → Ghost
+initial_ghost jobs other devices users endpoints =
+    let infos = map info_of_state devices in
+    record {
+      system = initial_state (λ k. make_of (slice_get devices k)) (fresh_devices devices) (λ i. abstract_job users infos (slice_index_or jobs i other)) (numbers_from 0 infos);
+      users = users;
+      infos = infos;
+      count = length jobs;
+      jobs = λ i. slice_index_or jobs i other;
+      wires = λ i. wires_of (slice_get endpoints i);
+      history = λ i. empty_history;
+      pages = λ i. [];
+    }
+
+-- a new world stands for that
+abbrev pub NewWorldsRefine : Type 0
+NewWorldsRefine =
+    (jobs : List Job) (other : Job) (devices : List DeviceState) (w : WorldCore) → AreNew jobs w.endpoints → IsNewDaemon devices w.daemon → HaveOwnNames devices → All IsSteady devices → All IsFitJob jobs → WorldRefines (initial_ghost jobs other devices w.daemon.users w.endpoints) w
+
+-- its jobs have moves enough for all that is to come
+abbrev pub NewWorldsPay : Type 0
+NewWorldsPay = (jobs : List Job) (other : Job) (devices : List DeviceState) (w : WorldCore) → AreNew jobs w.endpoints → All IsFitJob jobs → Pays (initial_ghost jobs other devices w.daemon.users w.endpoints) w

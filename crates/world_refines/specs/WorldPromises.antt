@@ -1,0 +1,129 @@
+-- What is promised of a job's outcome and of its file, of whatever a world stands for.
+use Rattle.std.specs.Prelude.{◌<◌, ℕ, ◌≡◌, ◌≢◌, ◌⊎◌, true, false, Option, Some, None, IsSome, option_map, List, ◌∷◌, map, slice_get}
+use Rattle.sane_fixed.specs.declared.status.Status.{Status as Code}
+use Rattle.netpbm.specs.Picture.{Picture}
+use Rattle.netpbm.specs.Pnm.{Denotes}
+use Rattle.page_picture.specs.Meaning.{meaning_of}
+use Rattle.option_desc.specs.declared.descriptor.Descriptor.{Descriptor}
+use Rattle.option_desc.specs.declared.value.Value.{Value}
+use Rattle.device_api.specs.InForce as devices
+use Rattle.device_api.specs.declared.device_info.DeviceInfo.{DeviceInfo}
+use Rattle.scan_job.specs.declared.job.Task.TheVariants as tasks
+use Rattle.scan_job.specs.declared.outcome.Outcome.{Outcome}
+use Rattle.scan_job.specs.declared.outcome.Outcome.TheVariants.{Running, Done, Ended}
+use Rattle.scan_job.specs.declared.outcome.Why.{Why}
+use Rattle.scan_job.specs.declared.report.Report.{Report}
+use Rattle.scan_job.specs.declared.report.Reports.{Reports}
+use Rattle.system_model.specs.AbstractMessages as words
+use Rattle.system_model.specs.Causes.{IsCauseAmong, TrayRanOut}
+use Rattle.system_model.specs.Devices.{Make, OptionsInForce, descriptors_of, readable_options, abstract_status}
+use Rattle.system_model.specs.Client as rules
+use Rattle.system_model.specs.AbstractInForce as ruled
+use Rattle.system_model.specs.AbstractInForce.{AreAnswered, values_of}
+use Rattle.system_model.specs.AbstractDevices.{Begin}
+use Rattle.system_model.specs.SystemStates.{make_for}
+use Rattle.system_model.specs.Transitions.{IsUnderWay}
+use Rattle.system_model.specs.Invariants.{IsCaused}
+use Rattle.system_model.specs.Sync.{IsPermitted, AllInForce}
+use Rattle.client_refines.specs.Filled.{IsFilled}
+use Rattle.client_refines.specs.DecodedReplies.{why_of}
+use Rattle.client_refines.specs.ClientRefinement.{descs, common_abstract_report, common_report, known_values, requested_setting}
+use Rattle.client_replies.specs.ProtocolStates.{is_running}
+use Rattle.scan_world.specs.declared.event.Event.{Event}
+use Rattle.scan_world.specs.declared.endpoint.Endpoint.{Endpoint}
+use Rattle.scan_world.specs.JobMoves.{IsNextMove}
+use Rattle.scan_world.specs.Worlds.{WorldCore}
+use Rattle.world_refines.specs.GhostStates.{Ghost, job_state}
+use Rattle.world_refines.specs.WorldRefinement.{WorldRefines}
+
+-- ---- outcomes
+
+-- Of each setting, in order: what its text reads as, the nearest admitted value, and INEXACT just where the two differ. They are put
+-- one after another from the defaults on, each by the descriptors in force then.
+pub record AreReported (t : Ghost) (i : ℕ) (settings : List Report) : Type 0 where
+  pub reports : List words.Report
+  pub options : OptionsInForce
+  pub are : map common_abstract_report reports ≡ map common_report settings
+  pub forced : ruled.abstract_in_force (make_for t.system i) (map requested_setting (t.jobs i).settings.items) ≡ Some (record { options = options; reports = reports })
+  pub answered : AreAnswered (make_for t.system i) (map requested_setting (t.jobs i).settings.items) reports
+
+-- the devices that were listed as the daemon read the request, in their order, and of each its own name, vendor, model and class
+pub record AreListed (t : Ghost) (i : ℕ) (infos : List DeviceInfo) : Type 0 where
+  pub places : List ℕ
+  pub shown : (job_state t i).session.shown ≡ Some places
+  pub told : map (slice_get t.infos) places ≡ map Some infos
+
+-- the descriptors of the options in force, as the job's settings made them, and at each whose value is told that value
+pub record AreShown (t : Ghost) (i : ℕ) (options : List (Descriptor × Option Value)) : Type 0 where
+  pub in_force : OptionsInForce
+  pub settled : AllInForce (make_for t.system i) (job_state t i).session.job (job_state t i).session.sent (job_state t i).client.reports in_force
+  pub descriptors : descs options ≡ descriptors_of (make_for t.system i) in_force
+  pub values : known_values options ≡ values_of (make_for t.system i) in_force (readable_options (descriptors_of (make_for t.system i) in_force))
+  pub filled : IsFilled (make_for t.system i) in_force (descriptors_of (make_for t.system i) in_force) options
+
+-- a job that is done kept its promise: on its settings and on permission, on the options that it shows, or on the list
+pub record KeepsPromise (t : Ghost) (i : ℕ) (reports : Reports) : Type 0 where
+  pub stage : (job_state t i).client.stage ≡ rules.Done
+  pub settings : (t.jobs i).task ≢ tasks.List → AreReported t i reports.settings
+  pub permitted : (t.jobs i).task ≢ tasks.List → IsPermitted (job_state t i).session.job (job_state t i).session.sent
+  pub options : (t.jobs i).task ≡ tasks.Show → AreShown t i reports.options
+  pub devices : (t.jobs i).task ≡ tasks.List → AreListed t i reports.devices
+
+-- another ending has its cause
+abbrev pub HasCause : Ghost → ℕ → Code → Why → Type 0
+HasCause t i status why = (w : words.Why) × (why_of why ≡ Some w) × IsCaused (make_for t.system i) (job_state t i).session (abstract_status status) w
+
+abbrev pub IsOutcome : Ghost → ℕ → Outcome → Type 0
+IsOutcome t i Running = IsUnderWay (job_state t i).client.stage
+IsOutcome t i (Done reports) = KeepsPromise t i reports
+IsOutcome t i (Ended status why) = HasCause t i status why
+
+abbrev pub OutcomesAreRight : Type 0
+OutcomesAreRight = (t : Ghost) (w : WorldCore) (i : ℕ) (endpoint : Endpoint) → WorldRefines t w → slice_get w.endpoints i ≡ Some endpoint → IsOutcome t i endpoint.client.outcome
+
+-- ---- the file of a scan
+
+-- the file denotes exactly the picture that the job's settings mean on the page of this start
+pub record IsMeant (make : Make) (settings : List (List ℕ × List ℕ)) (begin : Begin) (file : List ℕ) : Type 0 where
+  pub picture : Picture
+  pub in_force : option_map (λ r. r.0) (devices.in_force make.model make.order settings) ≡ Some begin.options
+  pub meant : meaning_of begin.page begin.options.scene ≡ Some picture
+  pub denotes : Denotes file picture
+
+-- it is the job's first start
+pub record FileIsOfFirstStart (t : Ghost) (i : ℕ) (file : List ℕ) : Type 0 where
+  pub begin : Begin
+  pub later : List Begin
+  pub started : (job_state t i).session.started ≡ begin ∷ later
+  pub meant : IsMeant (make_for t.system i) (t.jobs i).settings.items begin file
+
+abbrev pub ScansAreMeant : Type 0
+ScansAreMeant =
+    (t : Ghost) (w : WorldCore) (i : ℕ) (endpoint : Endpoint) (reports : Reports) (file : List ℕ) → WorldRefines t w → slice_get w.endpoints i ≡ Some endpoint → (t.jobs i).task ≡ tasks.Scan → endpoint.client.outcome ≡ Done reports → endpoint.file ≡ Some file → FileIsOfFirstStart t i file
+
+-- page k of a batch, from 0, is that of its k-th start
+pub record HasScannedPage (t : Ghost) (i k : ℕ) (file : List ℕ) : Type 0 where
+  pub begin : Begin
+  pub started : slice_get (job_state t i).session.started k ≡ Some begin
+  pub meant : IsMeant (make_for t.system i) (t.jobs i).settings.items begin file
+
+abbrev pub PagesAreMeant : Type 0
+PagesAreMeant =
+    (t : Ghost) (w : WorldCore) (i k : ℕ) (endpoint : Endpoint) (file : List ℕ) → WorldRefines t w → slice_get w.endpoints i ≡ Some endpoint → k < endpoint.finished → slice_get endpoint.pages k ≡ Some (Some file) → HasScannedPage t i k file
+
+-- ---- a batch
+
+-- it has finished as many pages as it wanted, or fewer and at least one, and the tray of its device ran out
+abbrev pub PagesAreCounted : Ghost → ℕ → ℕ → Endpoint → Type 0
+PagesAreCounted t i count endpoint = (endpoint.finished ≡ count) ⊎ ((0 < endpoint.finished) × (endpoint.finished < count) × IsCauseAmong TrayRanOut (job_state t i).session.met)
+
+abbrev pub BatchesAreCounted : Type 0
+BatchesAreCounted =
+    (t : Ghost) (w : WorldCore) (i count : ℕ) (endpoint : Endpoint) (reports : Reports) → WorldRefines t w → i < t.count → slice_get w.endpoints i ≡ Some endpoint → (t.jobs i).task ≡ tasks.Batch count → endpoint.client.outcome ≡ Done reports → PagesAreCounted t i count endpoint
+
+-- ---- moves
+
+-- a job has a next move just where it runs
+abbrev pub NobodyIsStuck : Type 0
+NobodyIsStuck =
+    (t : Ghost) (w : WorldCore) (i : ℕ) (endpoint : Endpoint) (event : Option Event) → WorldRefines t w → slice_get w.endpoints i ≡ Some endpoint → IsNextMove w.daemon i endpoint event → (is_running endpoint.client.outcome ≡ true → IsSome event) × (is_running endpoint.client.outcome ≡ false → event ≡ None)

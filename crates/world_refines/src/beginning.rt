@@ -1,0 +1,11 @@
+//! A new world.
+
+ghost use Rattle.world_refines.specs.NewWorlds.{NewWorldsPay, NewWorldsRefine};
+
+/// The clients of some jobs that clients take, beside a new daemon, of devices that are within their limits and true to their pages:
+/// that stands for that nothing has happened, and each job has moves enough for all that is to come.
+#[tactic(none)]
+pub fn a_new_world_refines()
+    ensures stands { NewWorldsRefine }
+    ensures pays { NewWorldsPay }
+{}

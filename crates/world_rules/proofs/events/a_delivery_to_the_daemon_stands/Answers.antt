@@ -1,9 +1,0 @@
-use Rattle.scan_world.specs.declared.event.Deed.TheVariants.{ToDaemon}
-use Rattle.world_rules.specs.Answering.{AnswersSome}
-use Rattle.world_rules.proofs.FedEvent.{delivery_decides}
-use Rattle.world_rules.proofs.OneAnswer.{all_requests}
-use Rattle.world_rules.proofs.Taking.{follows_by}
-use Rattle.world_rules.proofs.events.a_delivery_to_the_daemon_stands.Goals as goal
-
-pub returns : goal.returns
-returns c = λ n. follows_by (ToDaemon n) (AnswersSome n) (delivery_decides (λ t w i h low. all_requests t i) n)
