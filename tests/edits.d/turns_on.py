@@ -138,7 +138,8 @@ def texts_of(folder, below, item, changed):
 
 
 def digest(texts):
+    """The sum of texts, whatever the lines that they are broken into."""
     made = hashlib.sha256()
-    for text in sorted(texts):
+    for text in sorted({" ".join(it.split()) for it in texts}):
         made.update(hashlib.sha256(text.encode()).digest())
     return made.hexdigest()[:24]

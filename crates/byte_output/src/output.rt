@@ -11,7 +11,8 @@ pub const MOST_AGAIN: u64 = 1 << 40;
 /// of them.
 pub fn put<W: Write>(to: &mut W, bytes: &[u8], again: &mut u64) -> bool
     ensures whole { IsTrue result → Appends (W.contents to.old) (W.contents to.new) bytes.now }
-    ensures front { result ≡ false → (n : ℕ) × (n < length bytes.now) × Appends (W.contents to.old) (W.contents to.new) (take n bytes.now) }
+    ensures front { result ≡ false → (n : ℕ) × (n < length bytes.now)
+        × Appends (W.contents to.old) (W.contents to.new) (take n bytes.now) }
     ensures again { again.new ≤ again.old }
 {
     let mut at = 0;

@@ -8,6 +8,7 @@ use Rattle.option_desc.specs.declared.value.Value.TheVariants.{Flag, Int, Fixed,
 use Rattle.wire_message.specs.declared.message.WireValue.{WireValue}
 use Rattle.wire_message.specs.declared.message.WireValue.TheVariants as wire
 use Rattle.wire_message.specs.Message.{is_set}
+use Rattle.constraint.specs.NearestComputed.{only}
 
 -- a value as it is sent: a text with its NUL
 abbrev pub wire_of : Value → WireValue
@@ -16,12 +17,6 @@ wire_of (Int n) = wire.Words (cast_unsigned w32 n ∷ [])
 wire_of (Fixed f) = wire.Words (cast_unsigned w32 f.0 ∷ [])
 wire_of (Words ws) = wire.Words (map (cast_unsigned w32) ws)
 wire_of (Text t) = wire.Bytes (t ++ 0 ∷ [])
-
--- the only word of a list of one
-abbrev pub only : List ℕ → Option ℕ
-only [] = None
-only (w ∷ []) = Some w
-only (w ∷ v ∷ more) = None
 
 -- a text ends at its first NUL, and has one
 abbrev pub text_in : List ℕ → Option (List ℕ)

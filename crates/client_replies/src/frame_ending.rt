@@ -59,8 +59,10 @@ fn frame_joined(alloc: Global, task: Task, file: u32, joined: Result<bool, JoinF
 
 /// The end record of a frame.
 pub fn frame_ended(alloc: Global, join: &mut FrameJoin, task: Task, file: u32, status: u8) -> Next
-    ensures next { (past : JoinHistory) → Represents past join.old → result ≡ (frame_ended task file past status).next }
-    ensures past { (past : JoinHistory) → Represents past join.old → Represents (frame_ended task file past status).history join.new }
+    ensures next { (past : JoinHistory)
+        → Represents past join.old → result ≡ (frame_ended task file past status).next }
+    ensures past { (past : JoinHistory) → Represents past join.old
+        → Represents (frame_ended task file past status).history join.new }
 {
     match status_of(status) {
         None | Some(Status::Good) => stop_malformed(),

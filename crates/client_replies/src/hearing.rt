@@ -77,7 +77,8 @@ pub(crate) fn after_list_reply(reply: Reply) -> Next
 }
 
 fn after_challenge(alloc: Global, resource: Text, password: &Text) -> Result<Next, NoMem>
-    ensures { IfOk result (λ next. next ≡ after_challenge resource (answer_of resource password.now)) }
+    ensures { IfOk result (λ next. next
+        ≡ after_challenge resource (answer_of resource password.now)) }
 {
     match answer(alloc, resource.as_bytes(), password.as_bytes())? {
         Some(answer) => Ok(Next::Wait(Progress::Allowing { resource, answer })),
@@ -106,8 +107,10 @@ fn opened_with(
     word: u32,
     resource: Text,
 ) -> Result<Next, NoMem>
-    ensures next { IfOk result (λ next. next ≡ (opened_with password.now notes.old status word resource).next) }
-    ensures notes { OnOk result (notes.new ≡ (opened_with password.now notes.old status word resource).notes) }
+    ensures next { IfOk result (λ next. next
+        ≡ (opened_with password.now notes.old status word resource).next) }
+    ensures notes { OnOk result (notes.new
+        ≡ (opened_with password.now notes.old status word resource).notes) }
 {
     if resource.as_bytes().is_empty() {
         Ok(after_admission(notes, status, word))
@@ -123,8 +126,10 @@ pub(crate) fn after_open_reply(
     notes: &mut Notes,
     reply: Reply,
 ) -> Result<Next, NoMem>
-    ensures next { IfOk result (λ next. next ≡ (after_open_reply password.now notes.old reply).next) }
-    ensures notes { OnOk result (notes.new ≡ (after_open_reply password.now notes.old reply).notes) }
+    ensures next { IfOk result (λ next. next
+        ≡ (after_open_reply password.now notes.old reply).next) }
+    ensures notes { OnOk result (notes.new
+        ≡ (after_open_reply password.now notes.old reply).notes) }
 {
     match reply {
         Reply::Open {
@@ -205,7 +210,8 @@ fn after_settings(alloc: Global, task: Task, known: &[(Descriptor, Option<Value>
 
 /// Reads a setting's text as the value of an option.
 fn puts(alloc: Global, name: Text, text: &Text, n: u32, desc: &Descriptor) -> Result<Next, NoMem>
-    ensures { IfOk result (λ next. next ≡ puts name n (desc.now).kind (read_value desc.now text.now)) }
+    ensures { IfOk result (λ next. next
+        ≡ puts name n (desc.now).kind (read_value desc.now text.now)) }
 {
     match read_text(alloc, desc, text.as_bytes()) {
         Ok(asked) => Ok(Next::Wait(Progress::Putting {
@@ -226,7 +232,8 @@ fn puts_named(
     name: Text,
     text: &Text,
 ) -> Result<Next, NoMem>
-    ensures { IfOk result (λ next. next ≡ puts_named name text.now known.now (option_number_of name known.now)) }
+    ensures { IfOk result (λ next. next
+        ≡ puts_named name text.now known.now (option_number_of name known.now)) }
 {
     let Some(n) = element_number(place_named(&name, known)) else {
         return Ok(stop_bad_setting());
@@ -303,8 +310,10 @@ fn given_to(
     info: Info,
     given: Option<Value>,
 ) -> Result<Next, NoMem>
-    ensures next { IfOk result (λ next. next ≡ (given_to task notes.old kind name asked info given).next) }
-    ensures notes { OnOk result (notes.new ≡ (given_to task notes.old kind name asked info given).notes) }
+    ensures next { IfOk result (λ next. next
+        ≡ (given_to task notes.old kind name asked info given).next) }
+    ensures notes { OnOk result (notes.new
+        ≡ (given_to task notes.old kind name asked info given).notes) }
 {
     let Some(given) = given else {
         return Ok(stop_malformed());
@@ -375,8 +384,10 @@ fn put_good(
     given: Kind,
     value: WireValue,
 ) -> Result<Next, NoMem>
-    ensures next { IfOk result (λ next. next ≡ (put_good task notes.old kind name asked status info given value).next) }
-    ensures notes { OnOk result (notes.new ≡ (put_good task notes.old kind name asked status info given value).notes) }
+    ensures next { IfOk result (λ next. next
+        ≡ (put_good task notes.old kind name asked status info given value).next) }
+    ensures notes { OnOk result (notes.new
+        ≡ (put_good task notes.old kind name asked status info given value).notes) }
 {
     match status {
         Status::Good => {
@@ -397,7 +408,8 @@ pub(crate) fn was_put(
     asked: Value,
     reply: Reply,
 ) -> Result<Next, NoMem>
-    ensures next { IfOk result (λ next. next ≡ (was_put task notes.old kind name asked reply).next) }
+    ensures next { IfOk result (λ next. next
+        ≡ (was_put task notes.old kind name asked reply).next) }
     ensures notes { OnOk result (notes.new ≡ (was_put task notes.old kind name asked reply).notes) }
 {
     match reply {
@@ -442,7 +454,8 @@ fn got_good(
     given: Kind,
     value: WireValue,
 ) -> Result<Next, NoMem>
-    ensures next { IfOk result (λ next. next ≡ (got_good notes.old n kind status given value).next) }
+    ensures next { IfOk result (λ next. next
+        ≡ (got_good notes.old n kind status given value).next) }
     ensures notes { OnOk result (notes.new ≡ (got_good notes.old n kind status given value).notes) }
 {
     match status {
@@ -556,8 +569,10 @@ pub fn hear(
     progress: Progress,
     reply: Reply,
 ) -> Result<Next, NoMem>
-    ensures next { IfOk result (λ next. next ≡ (turn_after_reply target.now progress notes.old reply).next) }
-    ensures notes { OnOk result (notes.new ≡ (turn_after_reply target.now progress notes.old reply).notes) }
+    ensures next { IfOk result (λ next. next
+        ≡ (turn_after_reply target.now progress notes.old reply).next) }
+    ensures notes { OnOk result (notes.new
+        ≡ (turn_after_reply target.now progress notes.old reply).notes) }
 {
     match progress {
         Progress::Greeting => Ok(after_init_reply(target.task, reply)),

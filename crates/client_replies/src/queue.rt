@@ -29,7 +29,8 @@ impl<T> Queue<T> {
 
     /// The first, which leaves.
     pub fn next(&mut self) -> Option<T>
-        ensures { MatchOption result ((self.old ≡ []) × (self.new ≡ [])) (λ first. self.old ≡ first ∷ self.new) }
+        ensures { MatchOption result ((self.old ≡ [])
+            × (self.new ≡ [])) (λ first. self.old ≡ first ∷ self.new) }
     {
         self.items.pop_front()
     }

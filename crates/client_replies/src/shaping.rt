@@ -22,9 +22,12 @@ fn begin(
     order: ByteOrder,
     params: &Params,
 ) -> Result<Next, NoMem>
-    ensures next { (past : JoinHistory) → RepresentsClear past join.old → IfOk result (λ next. next ≡ begun_by (after_begin params.now order false past).fault port) }
-    ensures begun { (past : JoinHistory) → RepresentsClear past join.old → OnOk result (Represents (after_begin params.now order false past) join.new) }
-    ensures starved { (past : JoinHistory) → RepresentsClear past join.old → OnErr result (Represents (with_fault WantOfMemory past) join.new) }
+    ensures next { (past : JoinHistory) → RepresentsClear past join.old → IfOk result (λ next. next
+        ≡ begun_by (after_begin params.now order false past).fault port) }
+    ensures begun { (past : JoinHistory) → RepresentsClear past join.old
+        → OnOk result (Represents (after_begin params.now order false past) join.new) }
+    ensures starved { (past : JoinHistory) → RepresentsClear past join.old
+        → OnErr result (Represents (with_fault WantOfMemory past) join.new) }
 {
     join.begin(alloc, params, order);
     match join.fault() {
@@ -45,9 +48,12 @@ pub fn after_params_reply(
     order: ByteOrder,
     reply: Reply,
 ) -> Result<Next, NoMem>
-    ensures next { (past : JoinHistory) → RepresentsClear past join.old → IfOk result (λ next. next ≡ (after_params_reply port order past reply).next) }
-    ensures begun { (past : JoinHistory) → RepresentsClear past join.old → OnOk result (Represents (after_params_reply port order past reply).history join.new) }
-    ensures starved { (past : JoinHistory) → RepresentsClear past join.old → OnErr result (Represents (with_fault WantOfMemory past) join.new) }
+    ensures next { (past : JoinHistory) → RepresentsClear past join.old
+        → IfOk result (λ next. next ≡ (after_params_reply port order past reply).next) }
+    ensures begun { (past : JoinHistory) → RepresentsClear past join.old
+        → OnOk result (Represents (after_params_reply port order past reply).history join.new) }
+    ensures starved { (past : JoinHistory) → RepresentsClear past join.old
+        → OnErr result (Represents (with_fault WantOfMemory past) join.new) }
 {
     match reply {
         Reply::GetParameters { status, params } => match status {

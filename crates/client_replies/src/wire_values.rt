@@ -2,7 +2,8 @@ ghost use Rattle.std.specs.Prelude.{◌≡◌, ◌++◌, ◌∷◌, [], ◌==◌
 ghost use Rattle.std.specs.Int.{w32, cast_signed, cast_unsigned};
 ghost use Rattle.wire_message.specs.Message.{is_set};
 ghost use Rattle.option_desc.specs.declared.value.Value.TheVariants.{Words as WordsOf, Text as TextOf};
-ghost use Rattle.client_replies.specs.WireValues.{wire_of, only, text_in, words_like, given_like, wire_value_in, blank_value};
+ghost use Rattle.client_replies.specs.WireValues.{wire_of, text_in, words_like, given_like, wire_value_in, blank_value};
+ghost use Rattle.constraint.specs.NearestComputed.{only};
 
 use option_desc::{Value, Words};
 use sane_fixed::{Fixed, Kind, NoMem, Text};

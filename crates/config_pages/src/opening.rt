@@ -25,8 +25,10 @@ fn file_page(rt: &HostRuntime, path: &[u8], dpi: u32) -> Result<PnmPage<File>, P
 /// hexadecimal, of which odd or other digits are no page file, or the path of its file, which is then
 /// read row by row.
 pub fn page_source(rt: &HostRuntime, page: &[u8], dpi: u32) -> Result<Source, PageSourceFault>
-    ensures found { IfOk result (λ source. (digits : List ℕ) → hex_digits page.now ≡ Some digits → GivesSpelled digits dpi (source_state source)) }
-    ensures fault { IfErr result (λ why. (digits : List ℕ) → hex_digits page.now ≡ Some digits → IsSpelledFault why digits dpi) }
+    ensures found { IfOk result (λ source. (digits : List ℕ)
+        → hex_digits page.now ≡ Some digits → GivesSpelled digits dpi (source_state source)) }
+    ensures fault { IfErr result (λ why. (digits : List ℕ)
+        → hex_digits page.now ≡ Some digits → IsSpelledFault why digits dpi) }
     ensures dots { IfOk result (λ source. (source_state source).page.dpi ≡ dpi) }
 {
     match hex_digits(page) {

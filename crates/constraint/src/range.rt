@@ -40,7 +40,8 @@ impl Range {
 
     /// The range of these words; `None` where `min` is above `max` or `quant` is negative.
     pub fn new(min: i32, max: i32, quant: i32) -> Option<Range>
-        ensures some { IfSome result (λ range. range ≡ record { min = min; max = max; quant = quant }) }
+        ensures some { IfSome result (λ range. range
+            ≡ record { min = min; max = max; quant = quant }) }
         ensures none { IsNone result ↔ ((max <ℤ min) ⊎ (quant <ℤ pos 0)) }
     {
         if min > max || quant < 0 {

@@ -64,7 +64,7 @@ none_held : (w : ℕ) (l : Lease DeviceState) → held_by four_free w ≡ Some l
 none_held w l e = let clash : None ≡ Some l = sym (nothing_held w) ∙ e in absurd (cc)
 
 pub openings_show : OpeningsRefine
-openings_show i make port registry stream table old =
+openings_show i make strings port registry stream table old =
     record {
       words = λ w. sym (ap place_in (nothing_held w));
       four = refl;

@@ -1,5 +1,5 @@
 -- CONTROL_OPTION: SET.
-use Rattle.std.proofs.Common.{◌≡◌, ◌∙◌, ℕ, Bool, true, false, Option, Some, None, refl, sym, ap, subst, eqb, slice_get}
+use Rattle.std.proofs.Common.{◌≡◌, ◌∙◌, ℕ, Bool, true, false, [], Option, Some, None, refl, sym, ap, subst, eqb, slice_get}
 use Rattle.std.specs.Prelude.{Result, Ok, Err, if◌then◌else◌}
 use Rattle.sane_fixed.specs.declared.info.Info.{Info}
 use Rattle.sane_fixed.specs.declared.kind.Kind.{Kind}
@@ -15,10 +15,12 @@ use Rattle.dispatch.specs.declared.table.place.Lease.{Lease}
 use Rattle.wire_message.specs.declared.message.ControlAction.TheVariants.{SetValue}
 use Rattle.wire_message.specs.declared.message.Request.TheVariants as requests
 use Rattle.wire_message.specs.declared.message.Reply.{Reply as Wire}
+use Rattle.wire_message.specs.declared.message.Reply.TheVariants as replies
 use Rattle.wire_message.specs.declared.message.WireValue.{WireValue}
 use Rattle.saned_requests.specs.declared.request_answer.RequestAnswer.TheVariants.{One}
 use Rattle.saned_requests.specs.Holding.{held_by, on_word, with_device}
-use Rattle.saned_requests.specs.RequestAnswers.{RequestContext, ContextOutcome, asked_at, control, did_set, refused_control, set_asked, with_held}
+use Rattle.saned_requests.specs.RequestAnswers.{RequestContext, ContextOutcome, asked_at, control, did_set, options_of_lease, refused_control, set_asked, with_held}
+use Rattle.saned_requests.specs.WireValues.{sent_as, size_of}
 use Rattle.saned_requests.proofs.LeaseWords.{on_word-same}
 use Rattle.system_model.specs.AbstractMessages.{Busy, Gave, Inval, Refused, Set}
 use Rattle.system_model.specs.Devices.{Make, AcceptedSet, abstract_info, accept_value}
@@ -46,7 +48,7 @@ given_by d w l answer = (One answer.0, with_held d (on_word (λ _. with_device l
 -- the value is put in, or refused
 put_by : (i : ℕ) (make : ℕ → Make) (d : RequestContext) (table : ℕ → AbstractDevice) (s : AbstractSession) (x : Environment) (w n : ℕ) (kind : Kind) (value : WireValue) (v : Value) (l : Lease DeviceState) (r : Result (Value × Info) Code) → ContextRefines i make d table s → d.session.awaited ≡ None → held_by d.session.held w ≡ Some l →
     is_at_rest l.device.phase ≡ true → option_set l.device.setup n v ≡ r → set_answer l.device n v ≡ r →
-    AgreesOn i make d w (requests.ControlOption w n SetValue kind value) (word_call i make table s x (Set n v) w (Some l.place)) (given_by d w l (did_set l.device n kind value r))
+    AgreesOn i make d w (requests.ControlOption w n SetValue kind value) (word_call i make table s x (Set n v) w (Some l.place)) (given_by d w l (did_set d.session.strings l.device n kind value r))
 put_by i make d table s x w n kind value v l (Err y) old none e still_there is answers =
     let shown = old.devices.leases w l e in
     let k = make l.place in
@@ -67,7 +69,7 @@ put_by i make d table s x w n kind value v l (Ok given) old none e still_there i
     let new : RequestContext = with_held d (on_word (λ _. with_device l s2) d.session.held w) in
     answered i make (manner d w) _ table s x (Set n v) w l.place (Gave given.0 (abstract_info given.1)) _ new (reply_effect (Gave given.0 (abstract_info given.1)) dev2 s.transfer)
     (sets (eqb w s.framed) i k dev s.transfer x n v ∙ ap (λ (b : Bool). set_reply k dev s.transfer n v b) at_rest ∙ ap (λ (p : Option AcceptedSet). put_reply dev s.transfer p) put_some) refl refl refl
-    (given.1, refl, refl)
+    (given.1, refl, ap (λ (h : Option (Lease DeviceState)). replies.ControlOption code.Good given.1 kind (sent_as d.session.strings (size_of (slice_get (options_of_lease h) n)) given.0) []) (sym e))
     (moved i make d table s w l old e new dev2 _
     (record {
       lease = record l { device = s2 };
@@ -84,7 +86,7 @@ put_by i make d table s x w n kind value v l (Ok given) old none e still_there i
 
 set_by : (i : ℕ) (make : ℕ → Make) (d : RequestContext) (table : ℕ → AbstractDevice) (s : AbstractSession) (x : Environment) (w n : ℕ) (kind : Kind) (value : WireValue) (v : Value) (l : Lease DeviceState) (b : Bool) → ContextRefines i make d table s → d.session.awaited ≡ None → held_by d.session.held w ≡ Some l →
     is_at_rest l.device.phase ≡ b →
-    AgreesOn i make d w (requests.ControlOption w n SetValue kind value) (word_call i make table s x (Set n v) w (Some l.place)) (given_by d w l (did_set l.device n kind value (if b then option_set l.device.setup n v else Err code.DeviceBusy)))
+    AgreesOn i make d w (requests.ControlOption w n SetValue kind value) (word_call i make table s x (Set n v) w (Some l.place)) (given_by d w l (did_set d.session.strings l.device n kind value (if b then option_set l.device.setup n v else Err code.DeviceBusy)))
 set_by i make d table s x w n kind value v l true old none e is =
     put_by i make d table s x w n kind value v l (option_set l.device.setup n v) old none e is refl (ap (λ (b : Bool). if b then option_set l.device.setup n v else Err code.DeviceBusy) is)
 set_by i make d table s x w n kind value v l false old none e is =
@@ -104,7 +106,7 @@ set_answered : (i : ℕ) (make : ℕ → Make) (d : RequestContext) (table : ℕ
     AgreesOn i make d w (requests.ControlOption w n SetValue kind value) (word_call i make table s x (Set n v) w (place_in h)) (controlled d w n SetValue kind value h)
 set_answered i make d table s x w n kind value v None old none asks e = control_unknown i make d table s w n SetValue kind value (Set n v) old e refl
 set_answered i make d table s x w n kind value v (Some l) old none asks e =
-    subst (λ (o : Option Value). AgreesOn i make d w (requests.ControlOption w n SetValue kind value) (word_call i make table s x (Set n v) w (Some l.place)) (given_by d w l (set_asked l.device n kind value o)))
+    subst (λ (o : Option Value). AgreesOn i make d w (requests.ControlOption w n SetValue kind value) (word_call i make table s x (Set n v) w (Some l.place)) (given_by d w l (set_asked d.session.strings l.device n kind value o)))
     (sym (handed (slice_get (table_options l.device.setup) n) kind value v asks))
     (set_by i make d table s x w n kind value v l (is_at_rest l.device.phase) old none e refl)
 
@@ -118,7 +120,7 @@ refused_at : (d : RequestContext) (w n : ℕ) (kind : Kind) (value : WireValue) 
 refused_at d w n kind value None asks e = absurd asks
 refused_at d w n kind value (Some l) asks e =
     let none : asked_at (slice_get (table_options l.device.setup) n) kind value ≡ None = ap (λ (o : Option Descriptor). asked_at o kind value) asks.1 ∙ asks.2 in
-    ap (λ (o : Option Value). given_by d w l (set_asked l.device n kind value o)) none ∙ ap (λ (held : Held). (One (refused_control code.Inval kind value), with_held d held)) (on_word-same d.session.held w (Some l) e)
+    ap (λ (o : Option Value). given_by d w l (set_asked d.session.strings l.device n kind value o)) none ∙ ap (λ (held : Held). (One (refused_control code.Inval kind value), with_held d held)) (on_word-same d.session.held w (Some l) e)
 
 pub set_refuses : SetRefuses
 set_refuses d w n kind value asks = refused_at d w n kind value (held_by d.session.held w) asks refl

@@ -22,7 +22,7 @@ use Rattle.saned_requests.specs.declared.session.DataPhase.TheVariants as word
 use Rattle.saned_requests.specs.declared.request_answer.RequestAnswer.TheVariants.{One}
 use Rattle.saned_requests.specs.Holding.{held_by, on_word}
 use Rattle.saned_requests.specs.RequestAnswers.{RequestContext, ContextOutcome, control, control_lease, got_reply, kind_of, options_of_lease, options_reply, params_reply, params_reply_of, refused_control, with_held}
-use Rattle.saned_requests.specs.WireValues.{wire_of}
+use Rattle.saned_requests.specs.WireValues.{sent_as, size_of}
 use Rattle.system_model.specs.AbstractMessages.{Described, Describe, Get, Got, Inval, Parameters, Refused, AbstractReply, AbstractRequest, Shaped}
 use Rattle.system_model.specs.Devices.{Make, descriptors_of, is_answered_value, has_readable_value as told_there, readable_value, value_or_false}
 use Rattle.system_model.specs.AbstractDevices.{AbstractDevice}
@@ -166,7 +166,7 @@ parameters_agree i make d table s x w place shows none =
 
 -- what a control gives and leaves, by what the word stands for
 abbrev pub controlled : RequestContext → ℕ → ℕ → ControlAction → Kind → WireValue → Option (Lease DeviceState) → ContextOutcome
-controlled d w n action kind value h = (One (control_lease h n action kind value).0, with_held d (on_word (λ _. (control_lease h n action kind value).1) d.session.held w))
+controlled d w n action kind value h = (One (control_lease d.session.strings h n action kind value).0, with_held d (on_word (λ _. (control_lease d.session.strings h n action kind value).1) d.session.held w))
 
 -- of a word that stands for nothing
 pub control_unknown : (i : ℕ) (make : ℕ → Make) (d : RequestContext) (table : ℕ → AbstractDevice) (s : AbstractSession) (w n : ℕ) (action : ControlAction) (kind : Kind) (value : WireValue) (request : AbstractRequest) → ContextRefines i make d table s → held_by d.session.held w ≡ None → unknown_word_reply request ≡ Refused Inval →
@@ -185,11 +185,11 @@ got_is k dev c n (Ok v) e = ap (λ (b : Bool). get_reply k dev c n b) (ap is_ans
 got_is k dev c n (Err y) e = ap (λ (b : Bool). get_reply k dev c n b) (ap is_answered_value e)
 
 get_by : (i : ℕ) (make : ℕ → Make) (d : RequestContext) (table : ℕ → AbstractDevice) (s : AbstractSession) (x : Environment) (w n : ℕ) (kind : Kind) (value : WireValue) (l : Lease DeviceState) (r : Result Value Code) → ContextRefines i make d table s → d.session.awaited ≡ None → held_by d.session.held w ≡ Some l → option_got l.device.setup n ≡ r →
-    Agrees i make (manner d w) (requests.ControlOption w n GetValue kind value) (word_call i make table s x (Get n) w (Some l.place)) (One (got_reply l.device n kind value r)) (with_held d (on_word (λ _. Some l) d.session.held w))
+    Agrees i make (manner d w) (requests.ControlOption w n GetValue kind value) (word_call i make table s x (Get n) w (Some l.place)) (One (got_reply d.session.strings l.device n kind value r)) (with_held d (on_word (λ _. Some l) d.session.held w))
 get_by i make d table s x w n kind value l (Ok v) old none e is =
     let shown = old.devices.leases w l e in
     tells i make d _ table s x (Get n) w l (Got v) _ _ old none e (rewritten d w l e) (gets (eqb w s.framed) i (make l.place) (table l.place) s.transfer x n ∙ got_is (make l.place) (table l.place) s.transfer n (Ok v) (ap (λ (dev : AbstractDevice). option_got dev.options n) shown.device ∙ is)) refl
-    (ap (λ (h : Option (Lease DeviceState)). replies.ControlOption code.Good (record { 0 = 0 }) (kind_of (slice_get (options_of_lease h) n) kind) (wire_of v) []) (sym e))
+    (ap (λ (h : Option (Lease DeviceState)). replies.ControlOption code.Good (record { 0 = 0 }) (kind_of (slice_get (options_of_lease h) n) kind) (sent_as d.session.strings (size_of (slice_get (options_of_lease h) n)) v) []) (sym e))
 get_by i make d table s x w n kind value l (Err y) old none e is =
     let shown = old.devices.leases w l e in
     tells i make d _ table s x (Get n) w l (Refused Inval) _ _ old none e (rewritten d w l e) (gets (eqb w s.framed) i (make l.place) (table l.place) s.transfer x n ∙ got_is (make l.place) (table l.place) s.transfer n (Err y) (ap (λ (dev : AbstractDevice). option_got dev.options n) shown.device ∙ is)) refl

@@ -15,6 +15,7 @@ abbrev pub manner : RequestContext → ℕ → Manner
 manner d word =
     record {
       port = d.session.port;
+      strings = d.session.strings;
       free = free_word d.session.held;
       order = order_by (held_by d.session.held word);
       descriptors = options_of_lease (held_by d.session.held word);

@@ -8,6 +8,7 @@ use Rattle.device_api.specs.State.{DeviceState, after_reset}
 use Rattle.device_api.specs.Values as values
 use Rattle.dispatch.specs.Table.{Table, fresh_table}
 use Rattle.saned_requests.specs.declared.session.Session.{Session as DeskSession}
+use Rattle.saned_requests.specs.declared.session.StringSize.{StringSize}
 use Rattle.saned_requests.specs.Holding.{fresh_session}
 use Rattle.saned_requests.specs.RequestAnswers.{RequestContext}
 use Rattle.saned_core.specs.declared.session_slot.Fed.{Fed}
@@ -48,8 +49,8 @@ new_session = record { words = λ w. None; transfer = Quiet; framed = 0; awaited
 -- it is shown where nothing is held by its client
 abbrev pub OpeningsRefine : Type 0
 OpeningsRefine =
-    (i : ℕ) (make : ℕ → Make) (port : ℕ) (registry : Table) (stream : ChaCha) (table : ℕ → AbstractDevice) → TableRefines i make [] registry table →
-    ContextRefines i make (record { session = fresh_session port; registry = registry; stream = stream }) table new_session
+    (i : ℕ) (make : ℕ → Make) (strings : StringSize) (port : ℕ) (registry : Table) (stream : ChaCha) (table : ℕ → AbstractDevice) → TableRefines i make [] registry table →
+    ContextRefines i make (record { session = fresh_session strings port; registry = registry; stream = stream }) table new_session
 
 -- ---- a piece for one of the sessions
 

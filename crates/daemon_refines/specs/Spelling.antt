@@ -7,6 +7,7 @@ use Rattle.sane_fixed.specs.declared.kind.Kind.{Kind}
 use Rattle.sane_fixed.specs.declared.status.Status.{Status as Code}
 use Rattle.sane_fixed.specs.declared.status.Status.TheVariants as code
 use Rattle.option_desc.specs.declared.descriptor.Descriptor.{Descriptor}
+use Rattle.option_desc.specs.declared.value.Value.{Value}
 use Rattle.device_api.specs.declared.device_info.DeviceInfo.{DeviceInfo}
 use Rattle.device_api.specs.State.{DeviceState}
 use Rattle.dispatch.specs.Backend.{IsBackendOf}
@@ -15,17 +16,20 @@ use Rattle.wire_message.specs.declared.message.Request.{Request as Asked}
 use Rattle.wire_message.specs.declared.message.Request.TheVariants as requests
 use Rattle.wire_message.specs.declared.message.Reply.{Reply as Wire}
 use Rattle.wire_message.specs.declared.message.Reply.TheVariants as replies
+use Rattle.wire_message.specs.declared.message.WireValue.{WireValue}
 use Rattle.saned_requests.specs.declared.request_answer.RequestAnswer.{RequestAnswer}
 use Rattle.saned_requests.specs.declared.request_answer.RequestAnswer.TheVariants.{One, Two, Last}
 use Rattle.saned_requests.specs.RequestAnswers.{own_version, refusal, resource_of, refused_control, no_params, start_reply, kind_of}
-use Rattle.saned_requests.specs.WireValues.{wire_of}
+use Rattle.saned_requests.specs.declared.session.StringSize.{StringSize}
+use Rattle.saned_requests.specs.WireValues.{sent_as, size_of}
 use Rattle.system_model.specs.AbstractMessages.{AbstractReply, Greeted, Listed, Opened, Challenged, Described, Got, Gave, Shaped, Begun, Acked, Refused}
 use Rattle.system_model.specs.Devices.{abstract_status, abstract_info}
 
--- what a reply has beside the answer: the port for data, the least free word, the byte order and the descriptors of the
--- device that the request's word stands for, and the devices that are listed
+-- what a reply has beside the answer: the port for data, how string values are sent, the least free word, the byte order and
+-- the descriptors of the device that the request's word stands for, and the devices that are listed
 pub record Manner : Type 0 where
   pub port : ℕ
+  pub strings : StringSize
   pub free : Option ℕ
   pub order : ByteOrder
   pub descriptors : List Descriptor
@@ -47,6 +51,11 @@ abbrev pub kind_by_descriptors : Asked → List Descriptor → Kind → Kind
 kind_by_descriptors (requests.ControlOption word option action kind value) descriptors _ = kind_of (slice_get descriptors option) kind
 kind_by_descriptors _ descriptors kind = kind
 
+-- and its value, as long as the session's string values are
+abbrev pub sent_by_descriptors : Asked → Manner → Value → WireValue
+sent_by_descriptors (requests.ControlOption word option action kind value) m v = sent_as m.strings (size_of (slice_get m.descriptors option)) v
+sent_by_descriptors _ m v = sent_as m.strings 0 v
+
 -- the type that a SET names is told again
 abbrev pub KindIsEchoed : Asked → (Kind → Type 0) → Type 0
 KindIsEchoed (requests.ControlOption word option action kind value) p = p kind
@@ -64,8 +73,8 @@ Spells m q (Listed places) r = r ≡ replies.GetDevices code.Good m.infos
 Spells m q Opened r = (word : ℕ) × (m.free ≡ Some word) × (r ≡ replies.Open code.Good word [])
 Spells m q (Challenged challenge) r = (backend : List ℕ) × OpensBackend q backend × (r ≡ replies.Open code.Good 0 (resource_of backend challenge))
 Spells m q (Described descriptors) r = r ≡ replies.GetOptionDescriptors descriptors
-Spells m q (Got value) r = KindIsEchoed q (λ kind. r ≡ replies.ControlOption code.Good (record { 0 = 0 }) (kind_by_descriptors q m.descriptors kind) (wire_of value) [])
-Spells m q (Gave value info) r = KindIsEchoed q (λ kind. (bits : Bits) × (info ≡ abstract_info bits) × (r ≡ replies.ControlOption code.Good bits kind (wire_of value) []))
+Spells m q (Got value) r = KindIsEchoed q (λ kind. r ≡ replies.ControlOption code.Good (record { 0 = 0 }) (kind_by_descriptors q m.descriptors kind) (sent_by_descriptors q m value) [])
+Spells m q (Gave value info) r = KindIsEchoed q (λ kind. (bits : Bits) × (info ≡ abstract_info bits) × (r ≡ replies.ControlOption code.Good bits kind (sent_by_descriptors q m value) []))
 Spells m q (Shaped params) r = r ≡ replies.GetParameters code.Good params
 Spells m q (Begun order) r = r ≡ start_reply code.Good m.port order
 Spells m q Acked r = r ≡ done_to q

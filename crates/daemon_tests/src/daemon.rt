@@ -5,6 +5,7 @@ use md5_auth::Users;
 use page_picture::{MemoryPage, Source, read_page};
 use sane_fixed::{ByteOrder, Status, Text};
 use saned_core::{Daemon, DataStep, Fed, FrameState, OpenFault, SessionId};
+use saned_requests::StringSize;
 use std::alloc::Global;
 use std::process::Abort;
 
@@ -21,17 +22,20 @@ fn flatbed(alloc: Global, name: &[u8]) -> Option<Flatbed> {
 }
 
 fn daemon(rt: &impl Abort, alloc: Global, users: &[u8]) -> Daemon<Flatbed> {
+    let users = Users::parse(alloc, users).expect(rt, "users");
+    Daemon::new(registry(rt, alloc), users, NO_SEED)
+}
+
+fn registry(rt: &impl Abort, alloc: Global) -> Registry<Flatbed> {
     let mut devices = Vec::new(alloc);
     for name in [b"flatbed:0".as_slice(), b"flatbed:1"] {
         let flatbed = flatbed(alloc, name).expect(rt, "a flatbed");
         devices.push(flatbed).expect(rt, "memory");
     }
-    let registry = match Registry::new(alloc, devices) {
+    match Registry::new(alloc, devices) {
         Ok(registry) => registry,
         Err(_) => panic!(rt; "no registry"),
-    };
-    let users = Users::parse(alloc, users).expect(rt, "users");
-    Daemon::new(registry, users, NO_SEED)
+    }
 }
 
 /// The replies to what is fed are these.
@@ -155,6 +159,35 @@ fn one_byte_through_the_daemon(rt: HostRuntime) {
     assert!(rt; daemon.feed(alloc, id, b"\0\0\0\x0a") == Fed::Over);
     assert!(rt; daemon.feed(alloc, id, b"\0\0\0\x01") == Fed::Over);
     assert!(rt; daemon.unplug(b"flatbed:0").is_ok());
+}
+
+/// The mode of a device, asked for over each of two sessions of a daemon that fills string values up.
+#[test]
+fn string_values_are_filled(rt: HostRuntime) {
+    let alloc = rt.alloc();
+    let users = Users::parse(alloc, b"").expect(&rt, "users");
+    let mut daemon = Daemon::with_strings(
+        registry(&rt, alloc),
+        users,
+        StringSize::OfOption,
+        NO_SEED,
+    );
+    for open in [OPEN, b"\0\0\0\x02\0\0\0\x0aflatbed:1\0"] {
+        let id = session(&rt, alloc, &mut daemon);
+        expect_each(
+            &rt,
+            alloc,
+            &mut daemon,
+            id,
+            &[
+                (open, b"\0\0\0\0\0\0\0\0\0\0\0\0".as_slice()),
+                (
+                    b"\0\0\0\x05\0\0\0\0\0\0\0\x01\0\0\0\0\0\0\0\x03\0\0\0\x01\0\0\0\x01\0",
+                    b"\0\0\0\0\0\0\0\0\0\0\0\x03\0\0\0\x06\0\0\0\x06Gray\0\0\0\0\0\0",
+                ),
+            ],
+        );
+    }
 }
 
 #[test]

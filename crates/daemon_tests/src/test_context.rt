@@ -3,7 +3,7 @@ use flatbed_dev::Flatbed;
 use md5_auth::{Challenger, Users};
 use page_picture::{MemoryPage, Source, read_page};
 use sane_fixed::{ByteOrder, Text};
-use saned_requests::{DataPhase, RequestAnswer, Session, answer, let_go};
+use saned_requests::{DataPhase, RequestAnswer, Session, StringSize, answer, let_go};
 use std::alloc::Global;
 use std::process::Abort;
 use wire_codec::{Decoder, Reply, encode_reply};
@@ -29,6 +29,7 @@ fn flatbed(rt: &impl Abort, alloc: Global, name: &[u8]) -> Flatbed {
 fn session() -> Session<Flatbed> {
     Session {
         port: 40001,
+        strings: StringSize::OfText,
         greeted: false,
         held: [None, None, None, None],
         awaited: None,
@@ -369,6 +370,59 @@ fn values_of_options(rt: HostRuntime) {
         b"\0\0\0\x03\0\0\0\0\0\0\0\x03\0\0\0\x05\0\0\0\x05SANE\0\0\0\0\0",
     );
     end(desk);
+}
+
+/// Of mode, a text of 6 bytes, and read-return-value, one of 26: a GET, the SET of a text that is not whole, and a SET that is
+/// refused; with what is answered where string values are sent as their text, and where they are as long as their option.
+const STRINGS: &[(&[u8], &[u8], &[u8])] = &[
+    (
+        b"\0\0\0\x05\0\0\0\0\0\0\0\x01\0\0\0\0\0\0\0\x03\0\0\0\x06\0\0\0\x06\0\0\0\0\0\0",
+        b"\0\0\0\0\0\0\0\0\0\0\0\x03\0\0\0\x05\0\0\0\x05Gray\0\0\0\0\0",
+        b"\0\0\0\0\0\0\0\0\0\0\0\x03\0\0\0\x06\0\0\0\x06Gray\0\0\0\0\0\0",
+    ),
+    (
+        b"\0\0\0\x05\0\0\0\0\0\0\0\x0b\0\0\0\0\0\0\0\x03\0\0\0\x01\0\0\0\x01\0",
+        b"\0\0\0\0\0\0\0\0\0\0\0\x03\0\0\0\x08\0\0\0\x08Default\0\0\0\0\0",
+        b"\0\0\0\0\0\0\0\0\0\0\0\x03\0\0\0\x1a\0\0\0\x1aDefault\0\0\0\0\0\0\0\0\0\0\0\0\0\0\0\0\0\0\0\0\0\0\0",
+    ),
+    (
+        b"\0\0\0\x05\0\0\0\0\0\0\0\x01\0\0\0\x01\0\0\0\x03\0\0\0\x06\0\0\0\x06gr\0\0\0\0",
+        b"\0\0\0\0\0\0\0\x05\0\0\0\x03\0\0\0\x05\0\0\0\x05Gray\0\0\0\0\0",
+        b"\0\0\0\0\0\0\0\x05\0\0\0\x03\0\0\0\x06\0\0\0\x06Gray\0\0\0\0\0\0",
+    ),
+    (
+        b"\0\0\0\x05\0\0\0\0\0\0\0\x01\0\0\0\x01\0\0\0\x03\0\0\0\x06\0\0\0\x06Color\0",
+        b"\0\0\0\0\0\0\0\x06\0\0\0\x03\0\0\0\x06\0\0\0\x06Color\0\0\0\0\0",
+        b"\0\0\0\0\0\0\0\x06\0\0\0\x03\0\0\0\x06\0\0\0\x06Color\0\0\0\0\0",
+    ),
+    (
+        b"\0\0\0\x05\0\0\0\0\0\0\0\x01\0\0\0\x01\0\0\0\x03\0\0\0\x02\0\0\0\x02x\0",
+        b"\0\0\0\x04\0\0\0\0\0\0\0\x03\0\0\0\x02\0\0\0\x02x\0\0\0\0\0",
+        b"\0\0\0\x04\0\0\0\0\0\0\0\x03\0\0\0\x02\0\0\0\x02x\0\0\0\0\0",
+    ),
+    // resolution, an INT, is a word whatever strings are
+    (
+        b"\0\0\0\x05\0\0\0\0\0\0\0\x03\0\0\0\0\0\0\0\x01\0\0\0\x04\0\0\0\x01\0\0\0\0",
+        b"\0\0\0\0\0\0\0\0\0\0\0\x01\0\0\0\x04\0\0\0\x01\0\0\0\x32\0\0\0\0",
+        b"\0\0\0\0\0\0\0\0\0\0\0\x01\0\0\0\x04\0\0\0\x01\0\0\0\x32\0\0\0\0",
+    ),
+];
+
+/// A string value's size and length in a reply are those of its text with a NUL, or those of its option.
+#[test]
+fn string_values(rt: HostRuntime) {
+    let alloc = rt.alloc();
+    let mut short = greeted(&rt, alloc, b"");
+    let mut filled = greeted(&rt, alloc, b"");
+    filled.session.strings = StringSize::OfOption;
+    expect(&rt, alloc, &mut short, OPEN, OPENED);
+    expect(&rt, alloc, &mut filled, OPEN, OPENED);
+    for (sent, text, whole) in STRINGS {
+        expect(&rt, alloc, &mut short, sent, text);
+        expect(&rt, alloc, &mut filled, sent, whole);
+    }
+    end(short);
+    end(filled);
 }
 
 /// A frame is ended by its own word alone.

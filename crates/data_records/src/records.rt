@@ -97,7 +97,8 @@ fn behind_body(left: u32) -> RecordPhase
 impl RecordReader {
     /// A reader before the first record.
     pub fn new() -> Self
-        ensures begins { (text payload : List ℕ) (status : ℕ) → RecordsContinue result text payload status ↔ IsRecords text payload status }
+        ensures begins { (text payload : List ℕ) (status : ℕ)
+            → RecordsContinue result text payload status ↔ IsRecords text payload status }
         ensures head { result ≡ Head }
     {
         RecordReader {
@@ -151,7 +152,9 @@ impl RecordReader {
 /// Over any pieces: where steps from a new reader end, the bytes they used are records, and what they gave
 /// out is the payload, with that status. Steps that used records have ended so.
 pub fn records_are_read_in_any_pieces()
-    ensures ended { (pieces : List Piece) (status : ℕ) → AreSteps Head pieces (Ended status) → IsRecords (all_used pieces) (all_given pieces) status }
-    ensures whole { (pieces : List Piece) (new : AnyPhase) (payload : List ℕ) (status : ℕ) → AreSteps Head pieces new → IsRecords (all_used pieces) payload status
+    ensures ended { (pieces : List Piece) (status : ℕ) → AreSteps Head pieces (Ended status)
+        → IsRecords (all_used pieces) (all_given pieces) status }
+    ensures whole { (pieces : List Piece) (new : AnyPhase) (payload : List ℕ) (status : ℕ)
+        → AreSteps Head pieces new → IsRecords (all_used pieces) payload status
         → (new ≡ Ended status) × (all_given pieces ≡ payload) }
 {}

@@ -44,8 +44,10 @@ pub trait Device: Drop {
     /// such option, it is inactive or cannot be set, the value does not fit, or no text is matched; and
     /// `NoMem`. A refused call changes nothing.
     fn set(&mut self, alloc: Global, n: u32, value: &Value) -> Result<(Value, Info), Status>
-        ensures answer { result ≢ Err Status.NoMem → result ≡ set_answer (state self.old) n value.now }
-        ensures memory { result ≡ Err Status.NoMem → IsOk (set_answer (state self.old) n value.now) }
+        ensures answer { result ≢ Err Status.NoMem
+            → result ≡ set_answer (state self.old) n value.now }
+        ensures memory { result ≡ Err Status.NoMem
+            → IsOk (set_answer (state self.old) n value.now) }
         ensures ok { IfOk result (λ given. state self.new ≡ after_set (state self.old) n given.0) }
         ensures err { OnErr result (state self.new ≡ state self.old) };
 
@@ -86,6 +88,7 @@ pub trait Device: Drop {
     fn load(&mut self, page: Source) -> Result<(), Source>
         ensures loaded { takes_page (state self.old) ≡ true → IsOk result }
         ensures refused { takes_page (state self.old) ≡ false → result ≡ Err page }
-        ensures ok { OnOk result (state self.new ≡ after_load (state self.old) (⟦<Source as PageSource>⟧.source page)) }
+        ensures ok { OnOk result (state self.new
+            ≡ after_load (state self.old) (⟦<Source as PageSource>⟧.source page)) }
         ensures err { OnErr result (state self.new ≡ state self.old) };
 }

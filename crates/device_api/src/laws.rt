@@ -24,7 +24,8 @@ pub fn same_values_are_equal()
 
 /// A law: `RELOAD_OPTIONS` stands just where the descriptors of a scanner changed.
 pub fn reload_tells_of_changed_descriptors()
-    ensures { (s t : Setup) → t.scene.kind ≡ s.scene.kind → (reloads s t ≡ false) ↔ (descriptors_of s ≡ descriptors_of t) }
+    ensures { (s t : Setup) → t.scene.kind ≡ s.scene.kind
+        → (reloads s t ≡ false) ↔ (descriptors_of s ≡ descriptors_of t) }
 {}
 
 /// A law: a setting that finds its option and reads as a value is put as a `set` of that option answers,
@@ -32,8 +33,9 @@ pub fn reload_tells_of_changed_descriptors()
 /// after another leaves.
 pub fn settings_are_put_as_they_are_set()
     ensures { (s : Setup) (name text : List ℕ) (n : ℕ) (desc : Descriptor) (asked : Value)
-        → number_named name (descriptors_of s) ≡ Some n → slice_get (descriptors_of s) n ≡ Some desc
-        → read_value desc text ≡ Some asked → IsPlacedBy s n asked (option_set s n asked) (placement s (name, text)) }
+        → number_named name (descriptors_of s) ≡ Some n
+        → slice_get (descriptors_of s) n ≡ Some desc → read_value desc text ≡ Some asked
+        → IsPlacedBy s n asked (option_set s n asked) (placement s (name, text)) }
 {}
 
 /// A law: no call changes what a scanner is, its kind or its byte order.
@@ -42,20 +44,23 @@ pub fn a_scanner_stays_what_it_is()
     ensures reset { (s : DeviceState) → IsSameDevice s (after_reset s) }
     ensures cancel { (s : DeviceState) → IsSameDevice s (after_cancel s) }
     ensures load { (s : DeviceState) (source : SourceState) → IsSameDevice s (after_load s source) }
-    ensures start { (s t : DeviceState) (result : Result Unit Status) → Starts s result t → IsSameDevice s t }
-    ensures read { (s t : DeviceState) (result : Result ℕ Status) (buf : List ℕ) → Reads s result t buf → IsSameDevice s t }
+    ensures start { (s t : DeviceState) (result : Result Unit Status)
+        → Starts s result t → IsSameDevice s t }
+    ensures read { (s t : DeviceState) (result : Result ℕ Status) (buf : List ℕ)
+        → Reads s result t buf → IsSameDevice s t }
 {}
 
 /// A law: a first start that is refused leaves all pages where they are.
 pub fn a_refused_start_takes_no_page()
-    ensures { (s t : DeviceState) (status : Status) → is_at_rest s.phase ≡ true → Starts s (Err status) t
-        → map (λ (held : HeldPage). held.page) t.pages ≡ map (λ (held : HeldPage). held.page) s.pages }
+    ensures { (s t : DeviceState) (status : Status) → is_at_rest s.phase ≡ true
+        → Starts s (Err status) t → map (λ (held : HeldPage). held.page) t.pages
+        ≡ map (λ (held : HeldPage). held.page) s.pages }
 {}
 
 /// A law: what a set gave, a get gives.
 pub fn what_is_set_is_read()
-    ensures { (s : Setup) (n : ℕ) (asked given : Value) (info : Info)
-        → option_set s n asked ≡ Ok (given, info) → option_got (setup_after s n given) n ≡ Ok given }
+    ensures { (s : Setup) (n : ℕ) (asked given : Value) (info : Info) → option_set s n asked
+        ≡ Ok (given, info) → option_got (setup_after s n given) n ≡ Ok given }
 {}
 
 /// A law: a value that is put into an option leaves the values of all others.
@@ -66,6 +71,7 @@ pub fn a_set_changes_one_option()
 
 /// A law: what the settings of a job in force say stays within the limits of the options.
 pub fn settings_in_force_are_allowed()
-    ensures { (kind : DeviceKind) (order : ByteOrder) (settings : List (List ℕ × List ℕ)) (forced : Setup × List Placement)
+    ensures { (kind : DeviceKind)
+        (order : ByteOrder) (settings : List (List ℕ × List ℕ)) (forced : Setup × List Placement)
         → in_force kind order settings ≡ Some forced → IsAllowed forced.0 }
 {}

@@ -30,7 +30,8 @@ fn is_text(choices: &[Choice], text: &[u8]) -> bool
 
 /// Of how many choices the text is the beginning.
 fn beginnings(choices: &[Choice], text: &[u8]) -> usize
-    ensures { result ≡ length (filter (λ choice. begins_with (choice_text choice) text.now) choices.now) }
+    ensures { result
+        ≡ length (filter (λ choice. begins_with (choice_text choice) text.now) choices.now) }
 {
     let mut count = 0;
     for choice in choices {

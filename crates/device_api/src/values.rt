@@ -79,7 +79,8 @@ pub fn has_cap(caps: u32, bit: u32) -> bool
 /// The option of a number, where it is active and has the capability.
 pub(crate) fn option_with(setup: &Setup, n: u32, bit: u32) -> Option<ScanOption>
     requires { 1 ≤ bit }
-    ensures { result ≡ option_passing (λ o. is_active setup.now o && has_cap (option_caps o) bit) (option_at setup.now.scene.kind n) }
+    ensures { result ≡ option_passing (λ o. is_active setup.now o && has_cap (option_caps o) bit)
+        (option_at setup.now.scene.kind n) }
 {
     let option = option_at(setup.scene.kind, n)?;
     if is_active(setup, option) && has_cap(option.caps(), bit) {

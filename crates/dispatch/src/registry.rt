@@ -116,7 +116,8 @@ impl<D: Device> Registry<D> {
     /// The device is cancelled, and its place is in again. A lease that is not of this registry is dropped with its device,
     /// and changes nothing: one whose place is not out, or has another name than its device.
     pub fn give_back(&mut self, lease: Lease<D>)
-        ensures { table D.state self.new ≡ after_give_back (table D.state self.old) (seen_lease D.state lease) }
+        ensures { table D.state self.new
+            ≡ after_give_back (table D.state self.old) (seen_lease D.state lease) }
     {
         let Lease { mut device, place } = lease;
         if awaits(&self.places, place, device.info().name.as_bytes()) {
@@ -128,7 +129,8 @@ impl<D: Device> Registry<D> {
     /// Takes the device of that name out for ever: it is listed no more. Refuses: `Inval` where none is listed under it,
     /// `DeviceBusy` where it is leased; then nothing changes.
     pub fn unplug(&mut self, name: &[u8]) -> Result<D, Status>
-        ensures answer { seen_unplug D.state result ≡ unplug_answer (table D.state self.old) name.now }
+        ensures answer { seen_unplug D.state result
+            ≡ unplug_answer (table D.state self.old) name.now }
         ensures after { table D.state self.new ≡ after_unplug (table D.state self.old) name.now }
     {
         let Some(k) = find_name(&self.places, name) else {
@@ -165,7 +167,8 @@ impl<D: Device> Registry<D> {
     /// it is leased, is not at rest, or has no room for a page. Then the page comes back.
     pub fn load(&mut self, name: &[u8], page: Source) -> Result<(), (Status, Source)>
         ensures answer { without_return result ≡ load_answer (table D.state self.old) name.now }
-        ensures after { table D.state self.new ≡ table_after_load (table D.state self.old) name.now (⟦<Source as PageSource>⟧.source page) }
+        ensures after { table D.state self.new ≡ table_after_load (table D.state self.old) name.now
+            (⟦<Source as PageSource>⟧.source page) }
         ensures given_back { IfErr result (λ e. e.1 ≡ page) }
     {
         let Some(k) = find_name(&self.places, name) else {

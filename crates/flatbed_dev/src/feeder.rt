@@ -50,7 +50,8 @@ impl Feeder {
         pages: Vec<Source>,
         order: ByteOrder,
     ) -> Result<Self, (FeederFault, Vec<Source>)>
-        ensures ok { IfOk result (λ feeder. feeder ≡ new_device FeederKind name (map source_state pages.items) order) }
+        ensures ok { IfOk result (λ feeder. feeder
+            ≡ new_device FeederKind name (map source_state pages.items) order) }
         ensures fault { IfErr result (λ e. HasFeederFault e.0 (vec_len pages)) }
         ensures given_back { IfErr result (λ e. e.1.items ≡ pages.items) }
     {

@@ -30,7 +30,8 @@ impl Flatbed {
     /// A flatbed of that name at rest, its options at their defaults, on the page of a source. The source comes back
     /// where memory ran out.
     pub fn new(alloc: Global, name: Text, source: Source, order: ByteOrder) -> Result<Self, Source>
-        ensures ok { IfOk result (λ flatbed. flatbed ≡ new_scanner FlatbedKind name (source_state source) order) }
+        ensures ok { IfOk result (λ flatbed. flatbed
+            ≡ new_scanner FlatbedKind name (source_state source) order) }
         ensures err { IfErr result (λ back. back ≡ source) }
     {
         let scanner = VirtualScanner::new(alloc, DeviceKind::Flatbed, name, source, order)?;

@@ -9,10 +9,11 @@ use Rattle.sane_fixed.specs.declared.frame_format.FrameFormat.TheVariants.{Gray,
 use Rattle.netpbm.specs.Picture.{Picture}
 use Rattle.page_picture.specs.Meaning.{greatest_at}
 use Rattle.page_picture.specs.Shows.{Frame, ShowsAlone, ShowsColor, ShowsColors, HasLines, HasLineShape, IsDepth, channels_alone, color_of, row_size}
-use Rattle.frame_join.specs.AloneFrame.{is_alone, is_alone_format, is_known, is_depth, is_side, is_shaped, lines_in, AloneParts}
+use Rattle.frame_join.specs.AloneFrame.{is_alone, is_alone_format, is_known, is_depth, is_shaped, lines_in, AloneParts}
 use Rattle.frame_join.specs.KeptFrame.{is_unknown, is_open_ended, is_pass, is_pass_that, color_number, is_alike, same_order, goes_with}
 use Rattle.frame_join.specs.FrameHistory.{is_accepted}
 use Rattle.frame_join.proofs.TestLemmas.{le_true, eq_true, eq_false, and_true, not_false, or_left, or_right}
+use Rattle.page_picture.specs.Extent.{is_side}
 
 side_true : (n : ℕ) → 1 ≤ n → n ≤ 65536 → is_side n ≡ true
 side_true n low high = and_true (nat_le 1 n) (nat_le n 65536) (le_true 1 n low) (le_true n 65536 high)

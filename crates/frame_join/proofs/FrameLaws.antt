@@ -18,8 +18,9 @@ use Rattle.sane_fixed.specs.declared.byte_order.ByteOrder.TheVariants.{Little, B
 use Rattle.sane_fixed.specs.declared.params.Params.{Params}
 use Rattle.page_picture.specs.Meaning.{greatest_at}
 use Rattle.page_picture.specs.Shows.{Frame, ShowsAlone, row_size, frame_sample, two_bytes, channels_within, channels_alone, HasLines, IsDepth}
-use Rattle.frame_join.specs.AloneFrame.{is_depth, is_side, is_shaped, ShapeParts, AloneParts, row_bytes, lines_in, is_alone, is_alone_format, is_known}
+use Rattle.frame_join.specs.AloneFrame.{is_depth, is_shaped, ShapeParts, AloneParts, row_bytes, lines_in, is_alone, is_alone_format, is_known}
 use Rattle.frame_join.specs.FrameFile.{header_alone, format_alone, raster_byte, row_front, rows_front, file_front, place_in}
+use Rattle.page_picture.specs.Extent.{is_side}
 
 -- ---- what the test on parameters says
 

@@ -6,11 +6,12 @@ use Rattle.std.proofs.Math.Nat.{mul-div_cancel}
 use Rattle.netpbm.specs.Picture.{Picture}
 use Rattle.sane_fixed.specs.declared.params.Params.{Params}
 use Rattle.page_picture.specs.Shows.{Frame, HasLines, ShowsAlone}
-use Rattle.frame_join.specs.AloneFrame.{lines_in, is_side, ShapeParts, AloneParts}
+use Rattle.frame_join.specs.AloneFrame.{lines_in, ShapeParts, AloneParts}
 use Rattle.frame_join.specs.FrameHistory.{is_full, is_full_at}
 use Rattle.frame_join.specs.FrameFile.{height_at, frame_height, with_height}
 use Rattle.frame_join.proofs.TestLemmas.{eq_true, eq_from, le_true, le_from, and_true}
 use Rattle.frame_join.proofs.KeptLaws.{OpenParts}
+use Rattle.page_picture.specs.Extent.{is_side}
 
 -- ---- the height that is known
 

@@ -4,6 +4,7 @@ use Rattle.sane_fixed.specs.declared.frame_format.FrameFormat.{FrameFormat}
 use Rattle.sane_fixed.specs.declared.frame_format.FrameFormat.TheVariants.{Gray, Rgb, Red, Green, Blue}
 use Rattle.sane_fixed.specs.declared.params.Params.{Params}
 use Rattle.page_picture.specs.Shows.{row_size, HasLineShape}
+use Rattle.page_picture.specs.Extent.{is_side}
 
 -- the depths of a frame; rows of bits are gray
 abbrev pub is_depth : FrameFormat → ℕ → Bool
@@ -12,10 +13,6 @@ is_depth Rgb depth = (depth == 8) || (depth == 16)
 is_depth Red depth = (depth == 8) || (depth == 16)
 is_depth Green depth = (depth == 8) || (depth == 16)
 is_depth Blue depth = (depth == 8) || (depth == 16)
-
--- a number of pixels or of lines
-abbrev pub is_side : ℕ → Bool
-is_side n = nat_le 1 n && nat_le n 65536
 
 -- the depth and the width are admitted, and a line has room for its samples
 abbrev pub is_shaped : Params → Bool

@@ -6,8 +6,9 @@ use Rattle.sane_fixed.specs.declared.params.Params.{Params}
 use Rattle.frame_join.specs.declared.join_stage.JoinFault.{JoinFault}
 use Rattle.frame_join.specs.declared.join_stage.JoinFault.TheVariants.{Shape, Long, Short, NoMem}
 use Rattle.page_picture.specs.Shows.{Frame}
-use Rattle.frame_join.specs.AloneFrame.{is_alone_format, is_alone, is_side, most_bytes}
+use Rattle.frame_join.specs.AloneFrame.{is_alone_format, is_alone, most_bytes}
 use Rattle.frame_join.specs.KeptFrame.{is_open_ended, is_pass_that, goes_with}
+use Rattle.page_picture.specs.Extent.{is_side}
 
 -- the frames that ended, the one under way, the fault that stands, and what was pulled in all
 pub record JoinHistory : Type 0 where

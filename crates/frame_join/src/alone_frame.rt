@@ -1,6 +1,7 @@
 ghost use Rattle.std.specs.Prelude.{ℕ, ◌≡◌, ◌≤◌, ◌<◌, ◌+◌, ◌*◌, ◌%◌, true, length, slice_index};
-ghost use Rattle.frame_join.specs.AloneFrame.{is_shaped, is_depth, is_side, is_alone, is_alone_format, is_known, lines_in, most_lines, row_bytes, AloneParts};
+ghost use Rattle.frame_join.specs.AloneFrame.{is_shaped, is_depth, is_alone, is_alone_format, is_known, lines_in, most_lines, row_bytes, AloneParts};
 ghost use Rattle.frame_join.specs.FrameFile.{place_in, trimmed_byte, header_alone};
+ghost use Rattle.page_picture.specs.Extent.{is_side};
 
 use netpbm::{Header, PnmFormat};
 use page_picture::greatest;
@@ -42,7 +43,8 @@ pub(crate) fn put_turned(row: &[u8], from: usize, buf: &mut [u8])
     requires even { length row.now % 2 ≡ 0 }
     requires few { length row.now ≤ 1048576 }
     requires place { from + length buf.old ≤ length row.now }
-    ensures { (i : ℕ) → i < length buf.old → slice_index buf.new i ≡ slice_index row.now (place_in ByteOrder.Little 16 (from + i)) }
+    ensures { (i : ℕ) → i < length buf.old
+        → slice_index buf.new i ≡ slice_index row.now (place_in ByteOrder.Little 16 (from + i)) }
 {
     if buf.is_empty() {
         return;
@@ -81,7 +83,8 @@ pub(crate) fn put_trimmed(row: &[u8], width: u32, from: usize, buf: &mut [u8])
     requires few { length row.now ≤ 1048576 }
     requires inside { 8 * length row.now < width + 8 }
     requires place { from + length buf.old ≤ length row.now }
-    ensures { (i : ℕ) → i < length buf.old → slice_index buf.new i ≡ trimmed_byte width 1 (from + i) (slice_index row.now (from + i)) }
+    ensures { (i : ℕ) → i < length buf.old
+        → slice_index buf.new i ≡ trimmed_byte width 1 (from + i) (slice_index row.now (from + i)) }
 {
     for i in 0..buf.len() {
         buf[i] = trimmed_byte(width, 1, from + i, row[from + i]);

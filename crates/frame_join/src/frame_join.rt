@@ -62,9 +62,11 @@ impl FrameJoin {
     /// through.
     pub fn begin(&mut self, alloc: Global, params: &Params, order: ByteOrder)
         // Whatever was told before, the join stands for that and the frame.
-        ensures carried { (past : JoinHistory) → Represents past self.old → Represents (after_begin params.now order (is_out_of_memory self.new) past) self.new }
+        ensures carried { (past : JoinHistory) → Represents past self.old
+            → Represents (after_begin params.now order (is_out_of_memory self.new) past) self.new }
         // Only the first frame takes memory here.
-        ensures later { (past : JoinHistory) → Represents past self.old → past.ended ≢ [] → is_out_of_memory self.new ≡ is_out_of_memory self.old }
+        ensures later { (past : JoinHistory) → Represents past self.old
+            → past.ended ≢ [] → is_out_of_memory self.new ≡ is_out_of_memory self.old }
     {
         self.pixels.begin(alloc, &pixel_params(params), order);
         if is_kept(params) {
@@ -75,7 +77,8 @@ impl FrameJoin {
 
     /// How many bytes of the frame that is kept may still come.
     fn room(&self) -> usize
-        ensures most { result ≡ most_lines self.now.pixels.params.lines * self.now.line - self.now.came }
+        ensures most { result
+            ≡ most_lines self.now.pixels.params.lines * self.now.line - self.now.came }
         ensures small { result + self.now.came ≤ 2 ^ 52 }
     {
         let lines = most_lines(self.pixels.params().lines);
@@ -85,10 +88,13 @@ impl FrameJoin {
     /// Keeps those of the bytes that show pixels.
     fn keep(&mut self, bytes: &[u8])
         requires keeping { is_keeping self.old.pixels.stage ≡ true }
-        requires room { length bytes.now ≤ most_lines self.old.pixels.params.lines * self.old.line - self.old.came }
+        requires room { length bytes.now
+            ≤ most_lines self.old.pixels.params.lines * self.old.line - self.old.came }
         requires small { length bytes.now + self.old.came ≤ 2 ^ 52 }
-        ensures carried { (past : JoinHistory) → Represents past self.old → Represents (after_feed bytes.now (is_out_of_memory self.new) past) self.new }
-        ensures nothing { length bytes.now ≡ 0 → is_out_of_memory self.new ≡ is_out_of_memory self.old }
+        ensures carried { (past : JoinHistory) → Represents past self.old
+            → Represents (after_feed bytes.now (is_out_of_memory self.new) past) self.new }
+        ensures nothing { length bytes.now ≡ 0
+            → is_out_of_memory self.new ≡ is_out_of_memory self.old }
     {
         let size = self.pixels.params().bytes_per_line as usize;
         let mut at = 0;
@@ -109,11 +115,14 @@ impl FrameJoin {
     /// lines have where its lines are not known; `NoMem` where a growth is refused. Outside a frame, and after a fault,
     /// it changes nothing.
     pub fn feed(&mut self, bytes: &[u8])
-        ensures carried { (past : JoinHistory) → Represents past self.old → Represents (after_feed bytes.now (is_out_of_memory self.new) past) self.new }
+        ensures carried { (past : JoinHistory) → Represents past self.old
+            → Represents (after_feed bytes.now (is_out_of_memory self.new) past) self.new }
         // Where a pull gave nothing before and no frame is kept, a piece of at most 4,096 bytes takes no memory.
-        ensures room { IsDrained self.old → length bytes.now ≤ 4096 → is_out_of_memory self.new ≡ is_out_of_memory self.old }
+        ensures room { IsDrained self.old
+            → length bytes.now ≤ 4096 → is_out_of_memory self.new ≡ is_out_of_memory self.old }
         // No bytes take none.
-        ensures nothing { length bytes.now ≡ 0 → is_out_of_memory self.new ≡ is_out_of_memory self.old }
+        ensures nothing { length bytes.now ≡ 0
+            → is_out_of_memory self.new ≡ is_out_of_memory self.old }
     {
         if !self.pixels.is_keeping() {
             self.pixels.feed(bytes);
@@ -137,7 +146,8 @@ impl FrameJoin {
 
     /// Whether a frame is under way that is kept, and bytes of it have not come.
     fn lacks_bytes(&self) -> bool
-        ensures { result ≡ (is_keeping self.now.pixels.stage && not (is_full_at self.now.pixels.params.lines self.now.line self.now.came)) }
+        ensures { result ≡ (is_keeping self.now.pixels.stage && not
+            (is_full_at self.now.pixels.params.lines self.now.line self.now.came)) }
     {
         self.pixels.is_keeping() && !self.has_all()
     }
@@ -146,10 +156,13 @@ impl FrameJoin {
     /// has fewer bytes than was told, or, where its lines are not known, no line or a part of one. Outside a frame, and
     /// after a fault, it changes nothing. It takes no memory.
     pub fn end(&mut self) -> Result<bool, JoinFault>
-        ensures carried { (past : JoinHistory) → Represents past self.old → Represents (after_end past) self.new }
-        ensures answer { (past : JoinHistory) → Represents past self.old → result ≡ answer_of_end (after_end past) }
+        ensures carried { (past : JoinHistory)
+            → Represents past self.old → Represents (after_end past) self.new }
+        ensures answer { (past : JoinHistory)
+            → Represents past self.old → result ≡ answer_of_end (after_end past) }
         // True exactly where no fault stands and the frames show a picture.
-        ensures exact { (past : JoinHistory) → Represents past self.old → (result ≡ Ok true) ↔ ((past.fault ≡ None) × ((p : Picture) × ShowsFrames (history_frames past) p)) }
+        ensures exact { (past : JoinHistory) → Represents past self.old → (result ≡ Ok true)
+            ↔ ((past.fault ≡ None) × ((p : Picture) × ShowsFrames (history_frames past) p)) }
     {
         if self.lacks_bytes() {
             self.pixels.fail(JoinFault::Short);
@@ -160,10 +173,13 @@ impl FrameJoin {
 
     /// Whether the picture is whole and its file has gone to the last byte.
     pub fn has_given_all(&self) -> bool
-        ensures exact { (past : JoinHistory) → Represents past self.now → (result ≡ true) ↔ (IsJoined past × (past.given ≡ file_of past.ended)) }
+        ensures exact { (past : JoinHistory) → Represents past self.now
+            → (result ≡ true) ↔ (IsJoined past × (past.given ≡ file_of past.ended)) }
         // That is exactly where what was given in all is a whole file, and it is that of the picture that the frames show.
-        ensures whole { (past : JoinHistory) → Represents past self.now → (result ≡ true) ↔ IsWhole past.given }
-        ensures denotes { (past : JoinHistory) → Represents past self.now → result ≡ true → (p : Picture) → ShowsFrames past.ended p → Denotes past.given p }
+        ensures whole { (past : JoinHistory)
+            → Represents past self.now → (result ≡ true) ↔ IsWhole past.given }
+        ensures denotes { (past : JoinHistory) → Represents past self.now
+            → result ≡ true → (p : Picture) → ShowsFrames past.ended p → Denotes past.given p }
     {
         self.pixels.has_given_all()
     }

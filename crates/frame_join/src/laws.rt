@@ -13,52 +13,73 @@ ghost use Rattle.frame_join.specs.JoinStates.{JoinState, Represents};
 
 /// Before the picture is whole, what was given in all is no whole text.
 pub fn not_whole_before()
-    ensures { (past : JoinHistory) (join : JoinState) → Represents past join → (IsJoined past → ⊥) → IsWhole past.given → ⊥ }
+    ensures { (past : JoinHistory) (join : JoinState)
+        → Represents past join → (IsJoined past → ⊥) → IsWhole past.given → ⊥ }
 {}
 
 /// Where no fault stands, a proper front of what was given in all is no whole text.
 pub fn no_front_is_whole()
-    ensures { (past : JoinHistory) (join : JoinState) (front more : List ℕ) → Represents past join → past.fault ≡ None → past.given ≡ front ++ more → more ≢ [] → IsWhole front → ⊥ }
+    ensures { (past : JoinHistory) (join : JoinState) (front more : List ℕ) → Represents past join
+        → past.fault ≡ None → past.given ≡ front ++ more → more ≢ [] → IsWhole front → ⊥ }
 {}
 
 /// Where no fault stands, what was given in all is less than 2^40 bytes.
 pub fn no_file_is_endless()
-    ensures { (past : JoinHistory) (join : JoinState) → Represents past join → past.fault ≡ None → length past.given < 2 ^ 40 }
+    ensures { (past : JoinHistory) (join : JoinState)
+        → Represents past join → past.fault ≡ None → length past.given < 2 ^ 40 }
 {}
 
 /// Of frames that are kept a join holds the bytes that show pixels, and no others: of the frame under way as many as that many
 /// rows have, and of those that ended, colors each, their rows.
 pub fn only_pixels_are_kept()
-    ensures coming { (past : JoinHistory) (join : JoinState) (f : Frame) → Represents past join → is_keeping join.pixels.stage ≡ true → past.under ≡ Some f → join.pixels.held ≡ (pixels_of f).payload }
-    ensures most { (past : JoinHistory) (join : JoinState) (f : Frame) (n : ℕ) → Represents past join → is_keeping join.pixels.stage ≡ true → past.under ≡ Some f → length f.payload ≤ n * f.params.bytes_per_line → length join.pixels.held ≤ n * row_bytes f.params }
-    ensures colors { (past : JoinHistory) (join : JoinState) → Represents past join → (is_keeping join.pixels.stage || (is_between join.pixels.stage || is_colors join.pixels.stage)) ≡ true → join.pixels.planes ≡ planes_of (map pixels_of past.ended) }
-    ensures size { (f : Frame) → is_kept f.params ≡ true → is_full f ≡ true → length (pixels_of f).payload ≡ frame_height f * row_bytes f.params }
+    ensures coming { (past : JoinHistory) (join : JoinState) (f : Frame)
+        → Represents past join → is_keeping join.pixels.stage ≡ true
+        → past.under ≡ Some f → join.pixels.held ≡ (pixels_of f).payload }
+    ensures most { (past : JoinHistory) (join : JoinState) (f : Frame) (n : ℕ)
+        → Represents past join → is_keeping join.pixels.stage ≡ true
+        → past.under ≡ Some f → length f.payload ≤ n * f.params.bytes_per_line
+        → length join.pixels.held ≤ n * row_bytes f.params }
+    ensures colors { (past : JoinHistory) (join : JoinState)
+        → Represents past join → (is_keeping join.pixels.stage ||
+        (is_between join.pixels.stage || is_colors join.pixels.stage)) ≡ true
+        → join.pixels.planes ≡ planes_of (map pixels_of past.ended) }
+    ensures size { (f : Frame) → is_kept f.params ≡ true
+        → is_full f ≡ true → length (pixels_of f).payload ≡ frame_height f * row_bytes f.params }
 {}
 
 /// A whole picture's frames show one.
 pub fn whole_shows()
-    ensures { (past : JoinHistory) (join : JoinState) → Represents past join → IsJoined past → (p : Picture) × ShowsFrames past.ended p }
+    ensures { (past : JoinHistory) (join : JoinState)
+        → Represents past join → IsJoined past → (p : Picture) × ShowsFrames past.ended p }
 {}
 
 /// A frame that shows a picture alone is accepted as the first.
 pub fn shown_frame_is_accepted()
-    ensures { (frame : Frame) (p : Picture) → ShowsAlone frame p → is_accepted [] frame.params frame.order ≡ true }
+    ensures { (frame : Frame) (p : Picture)
+        → ShowsAlone frame p → is_accepted [] frame.params frame.order ≡ true }
 {}
 
 /// Of three frames that show a picture each is accepted after those before it.
 pub fn shown_colors_are_accepted()
-    ensures { (a b c : Frame) (p : Picture) → ShowsColors a b c p → (is_accepted [] a.params a.order ≡ true) × (is_accepted (a ∷ []) b.params b.order ≡ true) × (is_accepted (a ∷ b ∷ []) c.params c.order ≡ true) }
+    ensures { (a b c : Frame) (p : Picture) → ShowsColors a b c p
+        → (is_accepted [] a.params a.order ≡ true) × (is_accepted (a ∷ []) b.params b.order ≡ true)
+        × (is_accepted (a ∷ b ∷ []) c.params c.order ≡ true) }
 {}
 
 /// The file of a whole picture is that of one frame of known height; the three frames of one color each make a frame
 /// that has the colors side by side.
 pub fn whole_file_is_of_one_frame()
-    ensures { (past : JoinHistory) (join : JoinState) → Represents past join → IsJoined past → (f : Frame) × (is_alone f.params ≡ true) × ((i : ℕ) → slice_index f.payload i < 256) × (file_of past.ended ≡ file_front f (lines_in f.params.lines)) }
+    ensures { (past : JoinHistory) (join : JoinState) → Represents past join → IsJoined past
+        → (f : Frame) × (is_alone f.params ≡ true) × ((i : ℕ) → slice_index f.payload i < 256)
+        × (file_of past.ended ≡ file_front f (lines_in f.params.lines)) }
 {}
 
 /// The header and the first rows that a frame gives for its file are those of the writer's text for the picture that
 /// the frame shows: the comment in the second line, and the bits past a row's end 0.
 pub fn frame_file_is_the_writers_text()
-    ensures { (f : Frame) (n : ℕ) → is_alone f.params ≡ true → ((i : ℕ) → slice_index f.payload i < 256) → file_front f n
-        ≡ header_text (header_alone f.params) ++ concat_up_to (λ y. row_text (header_alone f.params).format (header_alone f.params).maxval (header_alone f.params).width (λ x k. frame_sample (channels_within f.params.format) f x y k)) n }
+    ensures { (f : Frame) (n : ℕ)
+        → is_alone f.params ≡ true → ((i : ℕ) → slice_index f.payload i < 256)
+        → file_front f n ≡ header_text (header_alone f.params) ++ concat_up_to (λ y. row_text
+        (header_alone f.params).format (header_alone f.params).maxval (header_alone f.params).width
+        (λ x k. frame_sample (channels_within f.params.format) f x y k)) n }
 {}

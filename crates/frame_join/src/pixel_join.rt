@@ -155,7 +155,8 @@ impl PixelJoin {
     /// Whether a row goes out as its line stands.
     fn is_straight(&self) -> bool
         ensures plain { result ≡ true → is_colors self.now.stage ≡ false }
-        ensures same { result ≡ true → (column : ℕ) → sample_at self.now column ≡ slice_index self.now.held column }
+        ensures same { result ≡ true
+            → (column : ℕ) → sample_at self.now column ≡ slice_index self.now.held column }
         ensures other { result ≡ false → is_colors self.now.stage ≡ false →
             (self.now.params.depth ≡ 1)
             ⊎ ((self.now.params.depth ≡ 16) × (self.now.order ≡ ByteOrder.Little)) }
@@ -179,7 +180,10 @@ impl PixelJoin {
         requires row { self.now.column + (end - at) ≤ row_bytes self.now.params }
         ensures size { length buf.new ≡ length buf.old }
         ensures rest { drop end buf.new ≡ drop end buf.old }
-        ensures carried { (past : JoinHistory) → PixelRepresents (after_pull (take at buf.old) past) self.now → PixelRepresents (after_pull (take end buf.new) past) (after_samples (end - at) self.now) }
+        ensures carried { (past : JoinHistory)
+            → PixelRepresents (after_pull (take at buf.old) past) self.now
+            → PixelRepresents (after_pull (take end buf.new) past)
+            (after_samples (end - at) self.now) }
     {
         if self.is_straight() {
             return self.copy_row(buf, at, end);
@@ -205,13 +209,17 @@ impl PixelJoin {
         requires head { length self.now.head ≤ self.now.headed }
         requires ready { is_ready self.now ≡ true }
         requires plain { is_colors self.now.stage ≡ false }
-        requires straight { (column : ℕ) → sample_at self.now column ≡ slice_index self.now.held column }
+        requires straight { (column : ℕ)
+            → sample_at self.now column ≡ slice_index self.now.held column }
         requires order { at ≤ end }
         requires room { end ≤ length buf.old }
         requires row { self.now.column + (end - at) ≤ row_bytes self.now.params }
         ensures size { length buf.new ≡ length buf.old }
         ensures rest { drop end buf.new ≡ drop end buf.old }
-        ensures carried { (past : JoinHistory) → PixelRepresents (after_pull (take at buf.old) past) self.now → PixelRepresents (after_pull (take end buf.new) past) (after_samples (end - at) self.now) }
+        ensures carried { (past : JoinHistory)
+            → PixelRepresents (after_pull (take at buf.old) past) self.now
+            → PixelRepresents (after_pull (take end buf.new) past)
+            (after_samples (end - at) self.now) }
     {
         let (lines, column) = (self.lines(), self.column);
         for i in at..end {
@@ -231,7 +239,10 @@ impl PixelJoin {
         requires row { self.now.column + (end - at) ≤ row_bytes self.now.params }
         ensures size { length buf.new ≡ length buf.old }
         ensures rest { drop end buf.new ≡ drop end buf.old }
-        ensures carried { (past : JoinHistory) → PixelRepresents (after_pull (take at buf.old) past) self.now → PixelRepresents (after_pull (take end buf.new) past) (after_samples (end - at) self.now) }
+        ensures carried { (past : JoinHistory)
+            → PixelRepresents (after_pull (take at buf.old) past) self.now
+            → PixelRepresents (after_pull (take end buf.new) past)
+            (after_samples (end - at) self.now) }
     {
         self.planes
             .put_side(self.row, self.column, &mut buf[at..end]);
@@ -249,7 +260,10 @@ impl PixelJoin {
         requires row { self.now.column + (end - at) ≤ row_bytes self.now.params }
         ensures size { length buf.new ≡ length buf.old }
         ensures rest { drop end buf.new ≡ drop end buf.old }
-        ensures carried { (past : JoinHistory) → PixelRepresents (after_pull (take at buf.old) past) self.now → PixelRepresents (after_pull (take end buf.new) past) (after_samples (end - at) self.now) }
+        ensures carried { (past : JoinHistory)
+            → PixelRepresents (after_pull (take at buf.old) past) self.now
+            → PixelRepresents (after_pull (take end buf.new) past)
+            (after_samples (end - at) self.now) }
     {
         self.planes
             .put_side_words(self.order, self.row, self.column, &mut buf[at..end]);
@@ -268,7 +282,10 @@ impl PixelJoin {
         requires row { self.now.column + (end - at) ≤ row_bytes self.now.params }
         ensures size { length buf.new ≡ length buf.old }
         ensures rest { drop end buf.new ≡ drop end buf.old }
-        ensures carried { (past : JoinHistory) → PixelRepresents (after_pull (take at buf.old) past) self.now → PixelRepresents (after_pull (take end buf.new) past) (after_samples (end - at) self.now) }
+        ensures carried { (past : JoinHistory)
+            → PixelRepresents (after_pull (take at buf.old) past) self.now
+            → PixelRepresents (after_pull (take end buf.new) past)
+            (after_samples (end - at) self.now) }
     {
         let row = &self.lines()[..row_size(&self.params)];
         put_turned(row, self.column, &mut buf[at..end]);
@@ -286,7 +303,10 @@ impl PixelJoin {
         requires row { self.now.column + (end - at) ≤ row_bytes self.now.params }
         ensures size { length buf.new ≡ length buf.old }
         ensures rest { drop end buf.new ≡ drop end buf.old }
-        ensures carried { (past : JoinHistory) → PixelRepresents (after_pull (take at buf.old) past) self.now → PixelRepresents (after_pull (take end buf.new) past) (after_samples (end - at) self.now) }
+        ensures carried { (past : JoinHistory)
+            → PixelRepresents (after_pull (take at buf.old) past) self.now
+            → PixelRepresents (after_pull (take end buf.new) past)
+            (after_samples (end - at) self.now) }
     {
         let row = &self.lines()[..row_size(&self.params)];
         let width = self.params.pixels_per_line;
@@ -318,7 +338,9 @@ impl PixelJoin {
         ensures high { result ≤ length buf.old }
         ensures size { length buf.new ≡ length buf.old }
         ensures rest { drop result buf.new ≡ drop result buf.old }
-        ensures carried { (past : JoinHistory) → PixelRepresents (after_pull (take at buf.old) past) self.old → PixelRepresents (after_pull (take result buf.new) past) self.new }
+        ensures carried { (past : JoinHistory)
+            → PixelRepresents (after_pull (take at buf.old) past) self.old
+            → PixelRepresents (after_pull (take result buf.new) past) self.new }
         ensures none { result ≡ at → (may_go self.old ≡ false) × (self.new ≡ self.old) }
         ensures some { at < result → may_go self.old ≡ true }
     {
@@ -345,17 +367,24 @@ impl PixelJoin {
         ensures count { result ≤ length buf.old }
         ensures rest { drop result buf.new ≡ drop result buf.old }
         // The join goes on from what was told before and what was given in all.
-        ensures carried { (past : JoinHistory) → PixelRepresents past self.old → PixelRepresents (after_pull (take result buf.new) past) self.new }
+        ensures carried { (past : JoinHistory) → PixelRepresents past self.old
+            → PixelRepresents (after_pull (take result buf.new) past) self.new }
         // After a fault nothing goes out.
-        ensures silent { (past : JoinHistory) (fault : JoinFault) → PixelRepresents past self.old → past.fault ≡ Some fault → result ≡ 0 }
+        ensures silent { (past : JoinHistory) (fault : JoinFault)
+            → PixelRepresents past self.old → past.fault ≡ Some fault → result ≡ 0 }
         // Where nothing goes out, the header and the rows have gone, or the whole file; of a frame that is kept nothing.
-        ensures gone { (past : JoinHistory) → PixelRepresents past self.old → past.fault ≡ None → result ≡ 0 → 0 < length buf.old → AllGone past.under past.ended past.given }
+        ensures gone { (past : JoinHistory) → PixelRepresents past self.old → past.fault ≡ None
+            → result ≡ 0 → 0 < length buf.old → AllGone past.under past.ended past.given }
         // Then, where the picture is whole, what was given in all denotes the picture that the frames show.
-        ensures denotes { (past : JoinHistory) → PixelRepresents past self.old → IsJoined past → result ≡ 0 → 0 < length buf.old → (p : Picture) → ShowsFrames past.ended p → Denotes past.given p }
+        ensures denotes { (past : JoinHistory)
+            → PixelRepresents past self.old → IsJoined past → result ≡ 0
+            → 0 < length buf.old → (p : Picture) → ShowsFrames past.ended p → Denotes past.given p }
         // Before the picture is whole, what was given in all is not.
-        ensures whole { (past : JoinHistory) → PixelRepresents past self.old → (IsJoined past → ⊥) → IsWhole (past.given ++ take result buf.new) → ⊥ }
+        ensures whole { (past : JoinHistory) → PixelRepresents past self.old
+            → (IsJoined past → ⊥) → IsWhole (past.given ++ take result buf.new) → ⊥ }
         // Then, where no frame is kept, the join has room for a further piece.
-        ensures drained { (past : JoinHistory) → PixelRepresents past self.old → GoesThrough past.under → result ≡ 0 → 0 < length buf.old → IsPixelDrained self.new }
+        ensures drained { (past : JoinHistory) → PixelRepresents past self.old
+            → GoesThrough past.under → result ≡ 0 → 0 < length buf.old → IsPixelDrained self.new }
     {
         let mut at = 0;
         while at < buf.len() {
@@ -370,7 +399,8 @@ impl PixelJoin {
 
     /// The most bytes that the lines from the row on may have.
     fn rest_size(&self) -> usize
-        ensures { result ≡ (most_lines self.now.params.lines - self.now.row) * self.now.params.bytes_per_line }
+        ensures { result
+            ≡ (most_lines self.now.params.lines - self.now.row) * self.now.params.bytes_per_line }
     {
         let lines = most_lines(self.params.lines).saturating_sub(self.row);
         lines as usize * self.params.bytes_per_line as usize
@@ -379,8 +409,10 @@ impl PixelJoin {
     /// Takes the bytes of a frame, or says why not.
     fn take_in(&mut self, bytes: &[u8])
         ensures value { self.new ≡ value_fed bytes.now (is_pixel_out_of_memory self.new) self.old }
-        ensures room { is_under self.old.stage ≡ true → length self.old.held + length bytes.now ≤ self.old.params.bytes_per_line + 4096 → is_pixel_out_of_memory self.new ≡ false }
-        ensures nothing { length bytes.now ≡ 0 → is_pixel_out_of_memory self.new ≡ is_pixel_out_of_memory self.old }
+        ensures room { is_under self.old.stage ≡ true → length self.old.held + length bytes.now
+            ≤ self.old.params.bytes_per_line + 4096 → is_pixel_out_of_memory self.new ≡ false }
+        ensures nothing { length bytes.now ≡ 0
+            → is_pixel_out_of_memory self.new ≡ is_pixel_out_of_memory self.old }
     {
         match self.stage {
             Stage::Idle | Stage::Between | Stage::Whole | Stage::WholeColors | Stage::Failed(_) =>
@@ -472,7 +504,8 @@ impl PixelJoin {
     /// Begins the first frame, or says why not.
     #[tactic(auto, using(crate::proofs::KeptLaws::first_is_kept))]
     fn open_first(&mut self, alloc: Global, params: &Params, order: ByteOrder)
-        ensures { self.new ≡ first_begun params.now order (is_pixel_out_of_memory self.new) self.old }
+        ensures { self.new
+            ≡ first_begun params.now order (is_pixel_out_of_memory self.new) self.old }
     {
         let begun = if is_alone(params) {
             new_pixel_join(alloc, params, order)
@@ -491,7 +524,8 @@ impl PixelJoin {
     /// Begins a further color, or says why not.
     fn open_next(&mut self, params: &Params, order: ByteOrder)
         requires { self.old.stage ≡ Between }
-        ensures value { self.new ≡ next_begun params.now order (is_pixel_out_of_memory self.new) self.old }
+        ensures value { self.new
+            ≡ next_begun params.now order (is_pixel_out_of_memory self.new) self.old }
         ensures memory { is_pixel_out_of_memory self.new ≡ false }
     {
         if self.accepts_next(params, order) {
@@ -505,8 +539,10 @@ impl PixelJoin {
 
     /// Begins a frame, or says why not.
     fn open(&mut self, alloc: Global, params: &Params, order: ByteOrder)
-        ensures value { self.new ≡ value_begun params.now order (is_pixel_out_of_memory self.new) self.old }
-        ensures later { self.old.stage ≢ Idle → is_pixel_out_of_memory self.new ≡ is_pixel_out_of_memory self.old }
+        ensures value { self.new
+            ≡ value_begun params.now order (is_pixel_out_of_memory self.new) self.old }
+        ensures later { self.old.stage ≢ Idle
+            → is_pixel_out_of_memory self.new ≡ is_pixel_out_of_memory self.old }
     {
         match self.stage {
             Stage::Whole | Stage::WholeColors | Stage::Failed(_) => {}
@@ -538,9 +574,11 @@ impl PixelJoin {
     /// through.
     pub fn begin(&mut self, alloc: Global, params: &Params, order: ByteOrder)
         // Whatever was told before, the join stands for that and the frame.
-        ensures carried { (past : JoinHistory) → PixelRepresents past self.old → PixelRepresents (after_begin params.now order (is_pixel_out_of_memory self.new) past) self.new }
+        ensures carried { (past : JoinHistory) → PixelRepresents past self.old → PixelRepresents
+            (after_begin params.now order (is_pixel_out_of_memory self.new) past) self.new }
         // Only the first frame takes memory here.
-        ensures later { (past : JoinHistory) → PixelRepresents past self.old → past.ended ≢ [] → is_pixel_out_of_memory self.new ≡ is_pixel_out_of_memory self.old }
+        ensures later { (past : JoinHistory) → PixelRepresents past self.old
+            → past.ended ≢ [] → is_pixel_out_of_memory self.new ≡ is_pixel_out_of_memory self.old }
     {
         self.open(alloc, params, order);
     }
@@ -549,11 +587,14 @@ impl PixelJoin {
     /// lines have where its lines are not known; `NoMem` where a growth is refused. Outside a frame, and after a fault,
     /// it changes nothing.
     pub fn feed(&mut self, bytes: &[u8])
-        ensures carried { (past : JoinHistory) → PixelRepresents past self.old → PixelRepresents (after_feed bytes.now (is_pixel_out_of_memory self.new) past) self.new }
+        ensures carried { (past : JoinHistory) → PixelRepresents past self.old → PixelRepresents
+            (after_feed bytes.now (is_pixel_out_of_memory self.new) past) self.new }
         // Where a pull gave nothing before and no frame is kept, a piece of at most 4,096 bytes takes no memory.
-        ensures room { IsPixelDrained self.old → length bytes.now ≤ 4096 → is_pixel_out_of_memory self.new ≡ is_pixel_out_of_memory self.old }
+        ensures room { IsPixelDrained self.old → length bytes.now ≤ 4096
+            → is_pixel_out_of_memory self.new ≡ is_pixel_out_of_memory self.old }
         // No bytes take none.
-        ensures nothing { length bytes.now ≡ 0 → is_pixel_out_of_memory self.new ≡ is_pixel_out_of_memory self.old }
+        ensures nothing { length bytes.now ≡ 0
+            → is_pixel_out_of_memory self.new ≡ is_pixel_out_of_memory self.old }
     {
         self.take_in(bytes);
     }
@@ -562,10 +603,13 @@ impl PixelJoin {
     /// has fewer bytes than was told, or, where its lines are not known, no line or a part of one. Outside a frame, and
     /// after a fault, it changes nothing. It takes no memory.
     pub fn end(&mut self) -> Result<bool, JoinFault>
-        ensures carried { (past : JoinHistory) → PixelRepresents past self.old → PixelRepresents (after_end past) self.new }
-        ensures answer { (past : JoinHistory) → PixelRepresents past self.old → result ≡ answer_of_end (after_end past) }
+        ensures carried { (past : JoinHistory)
+            → PixelRepresents past self.old → PixelRepresents (after_end past) self.new }
+        ensures answer { (past : JoinHistory)
+            → PixelRepresents past self.old → result ≡ answer_of_end (after_end past) }
         // True exactly where no fault stands and the frames show a picture.
-        ensures exact { (past : JoinHistory) → PixelRepresents past self.old → (result ≡ Ok true) ↔ ((past.fault ≡ None) × ((p : Picture) × ShowsFrames (history_frames past) p)) }
+        ensures exact { (past : JoinHistory) → PixelRepresents past self.old → (result ≡ Ok true)
+            ↔ ((past.fault ≡ None) × ((p : Picture) × ShowsFrames (history_frames past) p)) }
     {
         self.close();
         self.answer()
@@ -580,10 +624,13 @@ impl PixelJoin {
 
     /// Whether the picture is whole and its file has gone to the last byte.
     pub fn has_given_all(&self) -> bool
-        ensures exact { (past : JoinHistory) → PixelRepresents past self.now → (result ≡ true) ↔ (IsJoined past × (past.given ≡ file_of past.ended)) }
+        ensures exact { (past : JoinHistory) → PixelRepresents past self.now
+            → (result ≡ true) ↔ (IsJoined past × (past.given ≡ file_of past.ended)) }
         // That is exactly where what was given in all is a whole file, and it is that of the picture that the frames show.
-        ensures whole { (past : JoinHistory) → PixelRepresents past self.now → (result ≡ true) ↔ IsWhole past.given }
-        ensures denotes { (past : JoinHistory) → PixelRepresents past self.now → result ≡ true → (p : Picture) → ShowsFrames past.ended p → Denotes past.given p }
+        ensures whole { (past : JoinHistory)
+            → PixelRepresents past self.now → (result ≡ true) ↔ IsWhole past.given }
+        ensures denotes { (past : JoinHistory) → PixelRepresents past self.now
+            → result ≡ true → (p : Picture) → ShowsFrames past.ended p → Denotes past.given p }
     {
         let Ok(true) = self.answer() else {
             return false;

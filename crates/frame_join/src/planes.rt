@@ -6,6 +6,7 @@ ghost use Rattle.frame_join.specs.JoinSteps.{is_there, has_two, put_plane};
 
 use crate::alone_frame::place_in;
 use crate::kept_frame::color_number;
+use crate::sample_lanes::{listed, loaded, turned};
 use sane_fixed::{ByteOrder, FrameFormat};
 use std::alloc::Global;
 use std::marker::Model;
@@ -33,11 +34,15 @@ fn weave(red: &[u8], green: &[u8], blue: &[u8], first: usize, buf: &mut [u8])
     requires blue { length blue.now ≡ length red.now }
     requires room { first + 3 * length red.now ≤ length buf.old }
     requires few { length buf.old ≤ 1048576 }
-    ensures red { (k : ℕ) → k < length red.now → slice_index buf.new (first + 3 * k) ≡ slice_index red.now k }
-    ensures green { (k : ℕ) → k < length red.now → slice_index buf.new (first + 3 * k + 1) ≡ slice_index green.now k }
-    ensures blue { (k : ℕ) → k < length red.now → slice_index buf.new (first + 3 * k + 2) ≡ slice_index blue.now k }
+    ensures red { (k : ℕ)
+        → k < length red.now → slice_index buf.new (first + 3 * k) ≡ slice_index red.now k }
+    ensures green { (k : ℕ)
+        → k < length red.now → slice_index buf.new (first + 3 * k + 1) ≡ slice_index green.now k }
+    ensures blue { (k : ℕ)
+        → k < length red.now → slice_index buf.new (first + 3 * k + 2) ≡ slice_index blue.now k }
     ensures before { (i : ℕ) → i < first → slice_index buf.new i ≡ slice_index buf.old i }
-    ensures behind { (i : ℕ) → first + 3 * length red.now ≤ i → slice_index buf.new i ≡ slice_index buf.old i }
+    ensures behind { (i : ℕ)
+        → first + 3 * length red.now ≤ i → slice_index buf.new i ≡ slice_index buf.old i }
 {
     for k in 0..red.len() {
         buf[first + 3 * k] = red[k];
@@ -46,28 +51,123 @@ fn weave(red: &[u8], green: &[u8], blue: &[u8], first: usize, buf: &mut [u8])
     }
 }
 
-/// Puts the samples of a color, two bytes each, into every third place for one, from place `first` on: the first byte of
-/// each `turn` behind that place, and the second one at the place beside it.
-fn spread(color: &[u8], turn: usize, first: usize, buf: &mut [u8])
+/// Sample `k` of a color of two bytes each; its lower byte stands `turn` behind its place, and the upper one at the other.
+fn sample_at(color: &[u8], turn: usize, k: usize) -> u16
     requires turn { turn ≤ 1 }
-    requires even { length color.now % 2 ≡ 0 }
-    requires room { first + 3 * length color.now ≤ length buf.old + 4 }
+    requires inside { 2 * k + 1 < length color.now }
+    ensures lower { result % 256 ≡ slice_index color.now (2 * k + turn) }
+    ensures upper { result / 256 ≡ slice_index color.now (2 * k + (1 - turn)) }
+{
+    let (lower, upper) = (color[2 * k + turn], color[2 * k + (1 - turn)]);
+    256 * u16::from(upper) + u16::from(lower)
+}
+
+/// The eight samples from byte `at` on.
+#[inline(always)]
+fn eight_at(color: &[u8], turn: usize, at: usize) -> [u16; 8]
+    requires turn { turn ≤ 1 }
+    requires inside { at + 16 ≤ length color.now }
+    ensures lower { (i : ℕ) → i < 8 →
+        slice_index result i % 256 ≡ slice_index color.now (at + 2 * i + turn) }
+    ensures upper { (i : ℕ) → i < 8 →
+        slice_index result i / 256 ≡ slice_index color.now (at + 2 * i + (1 - turn)) }
+{
+    let samples = loaded(color, at);
+    if turn == 0 {
+        listed(samples)
+    } else {
+        listed(turned(samples))
+    }
+}
+
+/// Puts the two bytes of a sample of each color side by side, the lower first, from place `at` on.
+#[inline(always)]
+fn put_pixel(red: u16, green: u16, blue: u16, at: usize, buf: &mut [u8])
+    requires room { at + 6 ≤ length buf.old }
     requires few { length buf.old ≤ 1048576 }
-    ensures one { (k : ℕ) → 2 * k < length color.now →
-        slice_index buf.new (first + 6 * k + turn) ≡ slice_index color.now (2 * k) }
-    ensures two { (k : ℕ) → 2 * k < length color.now →
-        slice_index buf.new (first + 6 * k + (1 - turn)) ≡ slice_index color.now (2 * k + 1) }
+    ensures red { slice_index buf.new at ≡ red % 256 }
+    ensures red_upper { slice_index buf.new (at + 1) ≡ red / 256 }
+    ensures green { slice_index buf.new (at + 2) ≡ green % 256 }
+    ensures green_upper { slice_index buf.new (at + 3) ≡ green / 256 }
+    ensures blue { slice_index buf.new (at + 4) ≡ blue % 256 }
+    ensures blue_upper { slice_index buf.new (at + 5) ≡ blue / 256 }
+    ensures before { (i : ℕ) → i < at → slice_index buf.new i ≡ slice_index buf.old i }
+    ensures behind { (i : ℕ) → at + 6 ≤ i → slice_index buf.new i ≡ slice_index buf.old i }
+{
+    buf[at] = (red % 256) as u8;
+    buf[at + 1] = (red / 256) as u8;
+    buf[at + 2] = (green % 256) as u8;
+    buf[at + 3] = (green / 256) as u8;
+    buf[at + 4] = (blue % 256) as u8;
+    buf[at + 5] = (blue / 256) as u8;
+}
+
+/// The same of eight pixels.
+#[inline(always)]
+fn put_eight(reds: [u16; 8], greens: [u16; 8], blues: [u16; 8], at: usize, buf: &mut [u8])
+    requires room { at + 48 ≤ length buf.old }
+    requires few { length buf.old ≤ 1048576 }
+    ensures red { (k : ℕ) → k < 8 →
+        slice_index buf.new (at + 6 * k) ≡ slice_index reds k % 256 }
+    ensures red_upper { (k : ℕ) → k < 8 →
+        slice_index buf.new (at + 6 * k + 1) ≡ slice_index reds k / 256 }
+    ensures green { (k : ℕ) → k < 8 →
+        slice_index buf.new (at + 6 * k + 2) ≡ slice_index greens k % 256 }
+    ensures green_upper { (k : ℕ) → k < 8 →
+        slice_index buf.new (at + 6 * k + 3) ≡ slice_index greens k / 256 }
+    ensures blue { (k : ℕ) → k < 8 →
+        slice_index buf.new (at + 6 * k + 4) ≡ slice_index blues k % 256 }
+    ensures blue_upper { (k : ℕ) → k < 8 →
+        slice_index buf.new (at + 6 * k + 5) ≡ slice_index blues k / 256 }
+    ensures before { (i : ℕ) → i < at → slice_index buf.new i ≡ slice_index buf.old i }
+    ensures behind { (i : ℕ) → at + 48 ≤ i → slice_index buf.new i ≡ slice_index buf.old i }
+{
+    for k in 0..8 {
+        put_pixel(reds[k], greens[k], blues[k], at + 6 * k, buf);
+    }
+}
+
+/// Puts the samples of three colors of two bytes each side by side, from place `first` on: of each the byte `turn` behind
+/// its place, and then the other. Eight pixels are put at once, since a byte alone takes as long as sixteen do.
+fn weave_words(red: &[u8], green: &[u8], blue: &[u8], turn: usize, first: usize, buf: &mut [u8])
+    requires turn { turn ≤ 1 }
+    requires even { length red.now % 2 ≡ 0 }
+    requires green { length green.now ≡ length red.now }
+    requires blue { length blue.now ≡ length red.now }
+    requires room { first + 3 * length red.now ≤ length buf.old }
+    requires few { length buf.old ≤ 1048576 }
+    ensures red { (k : ℕ) → 2 * k < length red.now →
+        slice_index buf.new (first + 6 * k) ≡ slice_index red.now (2 * k + turn) }
+    ensures red_other { (k : ℕ) → 2 * k < length red.now →
+        slice_index buf.new (first + 6 * k + 1) ≡ slice_index red.now (2 * k + (1 - turn)) }
+    ensures green { (k : ℕ) → 2 * k < length red.now →
+        slice_index buf.new (first + 6 * k + 2) ≡ slice_index green.now (2 * k + turn) }
+    ensures green_other { (k : ℕ) → 2 * k < length red.now →
+        slice_index buf.new (first + 6 * k + 3) ≡ slice_index green.now (2 * k + (1 - turn)) }
+    ensures blue { (k : ℕ) → 2 * k < length red.now →
+        slice_index buf.new (first + 6 * k + 4) ≡ slice_index blue.now (2 * k + turn) }
+    ensures blue_other { (k : ℕ) → 2 * k < length red.now →
+        slice_index buf.new (first + 6 * k + 5) ≡ slice_index blue.now (2 * k + (1 - turn)) }
     ensures before { (i : ℕ) → i < first → slice_index buf.new i ≡ slice_index buf.old i }
-    ensures between { (i : ℕ) → first ≤ i → 2 ≤ (i - first) % 6 →
-        slice_index buf.new i ≡ slice_index buf.old i }
-    ensures behind { (i : ℕ) → first + 3 * length color.now ≤ i →
+    ensures behind { (i : ℕ) → first + 3 * length red.now ≤ i →
         slice_index buf.new i ≡ slice_index buf.old i }
 {
-    let (one, two) = (first + turn, first + (1 - turn));
-    // Both places are found before the loop, which then moves bytes alone, whatever their order.
-    for k in 0..color.len() / 2 {
-        buf[one + 6 * k] = color[2 * k];
-        buf[two + 6 * k] = color[2 * k + 1];
+    let eights = red.len() / 16;
+    for n in 0..eights {
+        let reds = eight_at(red, turn, 16 * n);
+        let greens = eight_at(green, turn, 16 * n);
+        let blues = eight_at(blue, turn, 16 * n);
+        put_eight(reds, greens, blues, first + 48 * n, buf);
+    }
+    for k in 8 * eights..red.len() / 2 {
+        let (reddish, greenish) = (sample_at(red, turn, k), sample_at(green, turn, k));
+        put_pixel(
+            reddish,
+            greenish,
+            sample_at(blue, turn, k),
+            first + 6 * k,
+            buf,
+        );
     }
 }
 
@@ -104,8 +204,10 @@ impl Plane {
         requires place { place ≤ 1048576 }
         requires count { count ≤ 1048576 }
         ensures size { IfSome result (λ part. length part.now ≡ count) }
-        ensures bytes { IfSome result (λ part. (k : ℕ) → k < count → slice_index part.now k ≡ slice_index self.now.bytes (y * self.now.line + (place + k))) }
-        ensures none { is_some result ≡ false → length self.now.bytes < y * self.now.line + (place + count) }
+        ensures bytes { IfSome result (λ part. (k : ℕ) → k < count → slice_index part.now k
+            ≡ slice_index self.now.bytes (y * self.now.line + (place + k))) }
+        ensures none { is_some result ≡ false
+            → length self.now.bytes < y * self.now.line + (place + count) }
     {
         let start = y as usize * self.line as usize + place;
         if start + count > self.bytes.len() {
@@ -174,7 +276,8 @@ impl Planes {
     /// Takes the bytes of the frame of a color, and gives back those that the color had.
     pub(crate) fn put(&mut self, color: FrameFormat, line: u32, bytes: &mut Vec<u8>)
         ensures given { bytes.new.items ≡ (nth_plane self.old (color_number color)).bytes }
-        ensures value { self.new ≡ put_plane (color_number color) (record { line = line; bytes = bytes.old.items }) self.old }
+        ensures value { self.new ≡ put_plane (color_number color)
+            (record { line = line; bytes = bytes.old.items }) self.old }
     {
         match color_number(color) {
             0 => self.red.put(line, bytes),
@@ -229,7 +332,8 @@ impl Planes {
     /// Puts the bytes of row `y` from place `from` on, where the three colors of each pixel stand side by side, a byte each.
     pub(crate) fn put_side(&self, y: u32, from: usize, buf: &mut [u8])
         requires place { from + length buf.old ≤ 1048576 }
-        ensures { (i : ℕ) → i < length buf.old → slice_index buf.new i ≡ side_byte self.now 8 y (from + i) }
+        ensures { (i : ℕ)
+            → i < length buf.old → slice_index buf.new i ≡ side_byte self.now 8 y (from + i) }
     {
         // What stands before the first whole pixel, and how many of these there are.
         let head = ((3 - from % 3) % 3).min(buf.len());
@@ -263,11 +367,10 @@ impl Planes {
         let (Some(red), Some(green), Some(blue)) = (red, green, blue) else {
             return self.put_between(16, order, y, from, 0, buf.len(), buf);
         };
+        // Of each sample the byte that goes first stands so far behind its place.
         let turn = place_in(order, 16, 0);
         self.put_between(16, order, y, from, 0, head, buf);
-        spread(red, turn, head, buf);
-        spread(green, turn, head + 2, buf);
-        spread(blue, turn, head + 4, buf);
+        weave_words(red, green, blue, turn, head, buf);
         self.put_between(16, order, y, from, end, buf.len(), buf);
     }
 }

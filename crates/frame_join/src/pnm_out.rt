@@ -28,17 +28,24 @@ impl PnmOut {
         ensures count { result ≤ length buf.old }
         ensures rest { drop result buf.new ≡ drop result buf.old }
         // The join goes on from what was told before and what was given in all.
-        ensures carried { (past : JoinHistory) → Represents past join.old → Represents (after_pull (take result buf.new) past) join.new }
+        ensures carried { (past : JoinHistory) → Represents past join.old
+            → Represents (after_pull (take result buf.new) past) join.new }
         // After a fault nothing goes out.
-        ensures silent { (past : JoinHistory) (fault : JoinFault) → Represents past join.old → past.fault ≡ Some fault → result ≡ 0 }
+        ensures silent { (past : JoinHistory) (fault : JoinFault)
+            → Represents past join.old → past.fault ≡ Some fault → result ≡ 0 }
         // Where nothing goes out, the header and the rows have gone, or the whole file; of a frame that is kept nothing.
-        ensures gone { (past : JoinHistory) → Represents past join.old → past.fault ≡ None → result ≡ 0 → 0 < length buf.old → AllGone past.under past.ended past.given }
+        ensures gone { (past : JoinHistory) → Represents past join.old → past.fault ≡ None
+            → result ≡ 0 → 0 < length buf.old → AllGone past.under past.ended past.given }
         // Then, where the picture is whole, what was given in all denotes the picture that the frames show.
-        ensures denotes { (past : JoinHistory) → Represents past join.old → IsJoined past → result ≡ 0 → 0 < length buf.old → (p : Picture) → ShowsFrames past.ended p → Denotes past.given p }
+        ensures denotes { (past : JoinHistory)
+            → Represents past join.old → IsJoined past → result ≡ 0
+            → 0 < length buf.old → (p : Picture) → ShowsFrames past.ended p → Denotes past.given p }
         // Before the picture is whole, what was given in all is not.
-        ensures whole { (past : JoinHistory) → Represents past join.old → (IsJoined past → ⊥) → IsWhole (past.given ++ take result buf.new) → ⊥ }
+        ensures whole { (past : JoinHistory) → Represents past join.old
+            → (IsJoined past → ⊥) → IsWhole (past.given ++ take result buf.new) → ⊥ }
         // Then, where no frame is kept, the join has room for a further piece.
-        ensures drained { (past : JoinHistory) → Represents past join.old → GoesThrough past.under → result ≡ 0 → 0 < length buf.old → IsDrained join.new }
+        ensures drained { (past : JoinHistory) → Represents past join.old
+            → GoesThrough past.under → result ≡ 0 → 0 < length buf.old → IsDrained join.new }
     {
         join.pixels.pull(buf)
     }

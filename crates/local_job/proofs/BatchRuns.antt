@@ -15,7 +15,8 @@ use Rattle.local_job.specs.FrameReading.{KeepsDevice}
 use Rattle.local_job.specs.SettingReports.{SettingsAreReported, FailsAt}
 use Rattle.local_job.specs.LocalBatch.{IsBatchDone, IsBatchEndedBy, IsBatchPut, ScansNothing, pages_of_task}
 use Rattle.local_job.specs.LocalRun.{devices_reported, options_reported, settings_put}
-use Rattle.local_job.specs.LocalPages.{AreScanned, EndsPage, RefusesLast, StopsAt, TakesBack, after_pages}
+use Rattle.local_job.specs.LocalPages.{AreScanned, EndsPage, RefusesLast, StopsAt, after_pages}
+use Rattle.scan_job.specs.FileOutputs.{TakesBack}
 use Rattle.local_job.specs.Putting.{put_all}
 use Rattle.local_job.specs.LocalStops.{bad_setting}
 use Rattle.scan_job.specs.Stops.{no_memory}

@@ -11,7 +11,8 @@ use Rattle.scan_job.specs.declared.outcome.Why.TheVariants.{Answer, Memory, Sink
 use Rattle.scan_job.specs.declared.stop.Stop.{Stop}
 use Rattle.local_job.specs.ScanCauses.{ScanHasCause}
 use Rattle.local_job.specs.FrameReading.{KeepsDevice}
-use Rattle.local_job.specs.LocalPages.{AreLeft, AreScanned, ArePageFiles, EndsPage, FilesPage, IsFileOfFirstPage, LeavesPage, RefusesLast, StopsAt, TakesBack, after_pages, output_of, outputs_from}
+use Rattle.local_job.specs.LocalPages.{AreScanned, ArePageFiles, EndsPage, FilesPage, IsFileOfFirstPage, LeavesPage, RefusesLast, StopsAt, after_pages, outputs_from}
+use Rattle.scan_job.specs.FileOutputs.{AreLeft, TakesBack, output_of}
 use Rattle.local_job.specs.LocalStops.{stop_by_status}
 use Rattle.scan_job.specs.Stops.{no_memory, failed_output}
 use Rattle.local_job.proofs.Lets.{of_nothing}

@@ -12,7 +12,8 @@ use Rattle.device_api.specs.State.{DeviceState, Phase, AtRest, Between, Reading,
 use Rattle.frame_join.specs.declared.join_stage.JoinFault.{JoinFault}
 use Rattle.frame_join.specs.FrameHistory.{JoinHistory, IsJoined, answer_by}
 use Rattle.frame_join.specs.JoinStates.{JoinState, Represents}
-use Rattle.local_job.specs.LocalDraining.{FeedsJoin, StopsShort}
+use Rattle.local_job.specs.LocalDraining.{FeedsJoin}
+use Rattle.scan_job.specs.FileOutputs.{StopsShort}
 use Rattle.std.proofs.Common.{cond, Bool, inl, inr}
 use Rattle.std.specs.Prelude.{◌==◌}
 use Rattle.std.proofs.lemmas.Bool.{eqb-true}

@@ -6,7 +6,7 @@ use Rattle.scan_frames.specs.Frames.{has_picture}
 use Rattle.device_api.specs.State.{DeviceState, Phase, AtRest, Between, Reading, goes_to, is_at_rest, is_reading, next_pass, state_at_rest, with_phase, page_of}
 use Rattle.frame_join.specs.FrameHistory.{JoinHistory, empty_history, IsJoined}
 use Rattle.frame_join.specs.JoinStates.{JoinState, Represents}
-use Rattle.local_job.specs.LocalDraining.{StopsShort}
+use Rattle.scan_job.specs.FileOutputs.{StopsShort}
 use Rattle.local_job.specs.FrameReading.{AreOfPasses, HasJoined, HasScannedPass, IsScanned, KeepsDevice}
 use Rattle.std.proofs.KnownBytes.{Appends-nil}
 use Rattle.std.specs.Prelude.{◌≢◌}

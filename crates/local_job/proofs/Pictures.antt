@@ -31,7 +31,8 @@ use Rattle.scan_job.specs.declared.stop.Stop.{Stop}
 use Rattle.local_job.specs.ScanCauses.{IsCause, ScanHasCause}
 use Rattle.local_job.specs.LocalStops.{stop_by_status}
 use Rattle.scan_job.specs.Stops.{no_memory, failed_output}
-use Rattle.local_job.specs.LocalDraining.{JoinIsDrainedTo, StopsShort}
+use Rattle.local_job.specs.LocalDraining.{JoinIsDrainedTo}
+use Rattle.scan_job.specs.FileOutputs.{StopsShort}
 use Rattle.std.specs.Prelude.{◌≢◌}
 use Rattle.sane_fixed.specs.declared.params.Params.{Params}
 use Rattle.local_job.proofs.Lets.{cause_before, failed, of_failure, of_nothing, of_stop, some_shaped, some_told, steady_sheet}

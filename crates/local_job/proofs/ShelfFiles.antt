@@ -6,10 +6,10 @@ use Rattle.netpbm.specs.Pnm.{IsWhole}
 use Rattle.frame_join.proofs.StreamLaws.{nothing_is_not_whole}
 use Rattle.device_api.specs.State.{DeviceState}
 use Rattle.scan_job.specs.Shelves.{Stock, ReturnedOutput, Shelves}
-use Rattle.local_job.specs.OutputRequests.{IsAsked, GivesBack, bytes_held}
-use Rattle.local_job.specs.LocalDraining.{StopsShort}
+use Rattle.local_job.specs.OutputRequests.{IsAsked, bytes_held}
+use Rattle.scan_job.specs.FileOutputs.{GivesBack, StopsShort, AreLeft, TakesBack, output_of}
 use Rattle.local_job.specs.FrameReading.{IsScanned}
-use Rattle.local_job.specs.LocalPages.{AreLeft, FilesPage, IsFileOfFirstPage, LeavesPage, TakesBack, output_of}
+use Rattle.local_job.specs.LocalPages.{FilesPage, IsFileOfFirstPage, LeavesPage}
 
 -- before it, the shelf was asked for nothing
 pub asked_none : (before : Option Stock) (k : ℕ) → IsAsked before None k before

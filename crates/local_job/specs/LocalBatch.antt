@@ -15,7 +15,8 @@ use Rattle.local_job.specs.LocalStops.{bad_setting}
 use Rattle.scan_job.specs.Stops.{no_memory}
 use Rattle.local_job.specs.SettingReports.{SettingsAreReported, FailsAt}
 use Rattle.local_job.specs.LocalRun.{devices_reported, options_reported, settings_put}
-use Rattle.local_job.specs.LocalPages.{AreScanned, StopsAt, TakesBack}
+use Rattle.local_job.specs.LocalPages.{AreScanned, StopsAt}
+use Rattle.scan_job.specs.FileOutputs.{TakesBack}
 
 -- how many pages a task scans at most: one that is no batch one, or none
 abbrev pub pages_of_task : Task → ℕ

@@ -2,7 +2,7 @@
 use Rattle.std.specs.Prelude.{ℕ, Option, Some, List, ◌++◌}
 use Rattle.std.specs.Io.KnownBytes.{Appends}
 use Rattle.netpbm.specs.Picture.{Picture}
-use Rattle.netpbm.specs.Pnm.{Denotes, IsWhole}
+use Rattle.netpbm.specs.Pnm.{Denotes}
 use Rattle.page_picture.specs.Shows.{Frame, ShowsFrames}
 use Rattle.frame_join.specs.FrameHistory.{JoinHistory, IsJoined, after_pull}
 use Rattle.frame_join.specs.JoinStates.{JoinState, Represents}
@@ -13,12 +13,6 @@ pub record JoinIsDrainedTo (past : JoinHistory) (first : Option (List ℕ)) (joi
   pub stands : Represents (after_pull bytes past) join
   pub taken : Appends first contents (past.given ++ bytes)
   pub denotes : IsJoined past → (p : Picture) → ShowsFrames past.ended p → Denotes (past.given ++ bytes) p
-
--- the output took a text that is no whole file
-pub record StopsShort (first contents : Option (List ℕ)) : Type 0 where
-  pub text : List ℕ
-  pub taken : Appends first contents text
-  pub not_whole : IsWhole text → ⊥
 
 -- bytes came into the frame under way, and the output took what was given
 pub record FeedsJoin (past : JoinHistory) (frame : Frame) (first : Option (List ℕ)) (join : JoinState) (contents : Option (List ℕ)) : Type 0 where

@@ -1,5 +1,5 @@
 -- Pages scanned one after another, each to an output of its own that a shelf gives.
-use Rattle.std.specs.Prelude.{ℕ, zero, suc, ◌+◌, ◌<◌, ◌≤◌, ◌≡◌, ◌≢◌, ◌⊎◌, ⊤, Option, Some, None, List, [], ◌∷◌, ◌++◌, true, false, length, IsSomeAnd}
+use Rattle.std.specs.Prelude.{ℕ, zero, suc, ◌+◌, ◌<◌, ◌≤◌, ◌≡◌, ◌≢◌, ◌⊎◌, Option, Some, List, [], ◌∷◌, ◌++◌, true, false, length, IsSomeAnd}
 use Rattle.netpbm.specs.Pnm.{Denotes, IsWhole}
 use Rattle.page_picture.specs.Meaning.{meaning_of}
 use Rattle.sane_fixed.specs.declared.status.Status.TheVariants.{Inval, NoDocs}
@@ -11,6 +11,7 @@ use Rattle.local_job.specs.LocalStops.{stop_by_status}
 use Rattle.scan_job.specs.Stops.{no_memory, failed_output}
 use Rattle.local_job.specs.FrameReading.{KeepsDevice}
 use Rattle.local_job.specs.ScanCauses.{ScanHasCause}
+use Rattle.scan_job.specs.FileOutputs.{AreLeft, TakesBack, output_of}
 
 -- ---- files and the scanner
 
@@ -31,26 +32,10 @@ ArePageFiles s (text ∷ more) = IsFileOfFirstPage s text × ArePageFiles (state
 
 -- ---- outputs and the shelf
 
--- the outputs that a shelf took back since, where it is known
-abbrev pub TakesBack : Option Stock → List ReturnedOutput → Option Stock → Type 0
-TakesBack None outputs new = ⊤
-TakesBack (Some old) outputs None = ⊥
-TakesBack (Some old) outputs (Some new) = new.taken ≡ old.taken ++ outputs
-
--- the output of the file of that number, with these bytes
-abbrev pub output_of : ℕ → List ℕ → ReturnedOutput
-output_of k text = record { number = k; text = Some text }
-
 -- the outputs of files that are numbered from k on
 abbrev pub outputs_from : ℕ → List (List ℕ) → List ReturnedOutput
 outputs_from k [] = []
 outputs_from k (text ∷ more) = output_of k text ∷ outputs_from (suc k) more
-
--- what is left of the page of that number which was not scanned to its end: no output, or one that has no whole file
-abbrev pub AreLeft : ℕ → List ReturnedOutput → Type 0
-AreLeft k [] = Unit {0}
-AreLeft k (output ∷ []) = (text : List ℕ) × (output ≡ output_of k text) × (IsWhole text → ⊥)
-AreLeft k (_ ∷ _ ∷ _) = ⊥
 
 -- the page of that number was scanned, and the shelf took its output back
 pub record FilesPage (s : DeviceState) (k : ℕ) (before after : Option Stock) : Type 0 where

@@ -22,7 +22,7 @@ use Rattle.scan_job.specs.Stops.{no_memory}
 use Rattle.local_job.specs.SettingReports.{SettingsAreReported, FailsAt}
 use Rattle.local_job.specs.ScanCauses.{ScanHasCause}
 use Rattle.local_job.specs.Showing.{options_with_values}
-use Rattle.local_job.specs.LocalDraining.{StopsShort}
+use Rattle.scan_job.specs.FileOutputs.{StopsShort}
 use Rattle.local_job.specs.FrameReading.{IsScanned}
 
 -- the settings that a task puts: one that lists devices ignores them

@@ -1,6 +1,6 @@
 -- An output that a shelf is asked for at the first byte of a file.
 use Rattle.std.specs.Prelude.{ℕ, ◌≡◌, ⊤, Option, Some, None, List, []}
-use Rattle.scan_job.specs.Shelves.{Stock, Shelves}
+use Rattle.scan_job.specs.Shelves.{Stock}
 
 -- what such an output holds, which is nothing before the first byte
 abbrev pub bytes_held : Option Stock → Option (Option (List ℕ)) → Option (List ℕ)
@@ -14,8 +14,3 @@ IsAsked None out k now = ⊤
 IsAsked (Some before) out k None = ⊥
 IsAsked (Some before) None k (Some now) = now.taken ≡ before.taken
 IsAsked (Some before) (Some contents) k (Some now) = (now.taken ≡ before.taken) × (now.number ≡ k)
-
--- an output, if there is one, was taken back with what it holds
-abbrev pub GivesBack : Option Stock → Option (Option (List ℕ)) → Option Stock → Type 0
-GivesBack old None new = new ≡ old
-GivesBack old (Some contents) new = Shelves old contents new

@@ -3,7 +3,8 @@ ghost use Rattle.std.specs.Io.KnownBytes.{Appends};
 ghost use Rattle.netpbm.specs.Pnm.{IsWhole};
 ghost use Rattle.frame_join.specs.FrameHistory.{JoinHistory};
 ghost use Rattle.frame_join.specs.JoinStates.{Represents};
-ghost use Rattle.local_job.specs.LocalDraining.{JoinIsDrainedTo, StopsShort};
+ghost use Rattle.local_job.specs.LocalDraining.{JoinIsDrainedTo};
+ghost use Rattle.scan_job.specs.FileOutputs.{StopsShort};
 
 use crate::outlet::Outlet;
 use pnm_writer::{FrameJoin, PnmOut, no_file_is_endless, no_front_is_whole};
@@ -18,10 +19,12 @@ pub fn drain<W: Outlet>(join: &mut FrameJoin, room: &mut [u8], out: &mut W, agai
     ensures room { length room.new ≡ length room.old }
     ensures becomes { (first : W) → W.Becomes first out.old → W.Becomes first out.new }
     // `first` is what the output held before the file, and `past` what the join was told and gave.
-    ensures drained { result ≡ true → (first : Option (List ℕ)) (past : JoinHistory) → Represents past join.old →
-        Appends first (W.contents out.old) past.given → JoinIsDrainedTo past first join.new (W.contents out.new) }
-    ensures short { result ≡ false → (first : Option (List ℕ)) (past : JoinHistory) → Represents past join.old → past.fault ≡ None →
-        Appends first (W.contents out.old) past.given → StopsShort first (W.contents out.new) }
+    ensures drained { result ≡ true → (first : Option (List ℕ)) (past : JoinHistory)
+        → Represents past join.old → Appends first (W.contents out.old) past.given
+        → JoinIsDrainedTo past first join.new (W.contents out.new) }
+    ensures short { result ≡ false → (first : Option (List ℕ)) (past : JoinHistory)
+        → Represents past join.old → past.fault ≡ None
+        → Appends first (W.contents out.old) past.given → StopsShort first (W.contents out.new) }
 {
     no_file_is_endless();
     no_front_is_whole();

@@ -3,7 +3,8 @@ ghost use Rattle.page_picture.specs.Shows.{Frame};
 ghost use Rattle.frame_join.specs.FrameHistory.{JoinHistory};
 ghost use Rattle.frame_join.specs.AloneFrame.{most_bytes};
 ghost use Rattle.scan_frames.specs.Frames.{pass_length};
-ghost use Rattle.local_job.specs.LocalDraining.{FeedsJoin, StopsShort};
+ghost use Rattle.local_job.specs.LocalDraining.{FeedsJoin};
+ghost use Rattle.scan_job.specs.FileOutputs.{StopsShort};
 ghost use Rattle.std.specs.Prelude.{◌≢◌, IfErr};
 ghost use Rattle.sane_fixed.specs.declared.status.Status.TheVariants.{Good, NoDocs};
 ghost use Rattle.device_api.specs.State.{Reading, after_pass, goes_to, page_of};
@@ -30,14 +31,19 @@ fn take_piece<W: Outlet>(
     requires { 0 < length room.old }
     ensures room { length room.new ≡ length room.old }
     ensures becomes { (first : W) → W.Becomes first out.old → W.Becomes first out.new }
-    ensures taken { OnOk result ((first : Option (List ℕ)) (past : JoinHistory) (frame : Frame) → JoinIsInside past frame first join.old (W.contents out.old) →
-        FeedsJoin past (record frame { payload = frame.payload ++ bytes.now }) first join.new (W.contents out.new)) }
-    ensures short { OnErr result ((first : Option (List ℕ)) (past : JoinHistory) (frame : Frame) → JoinIsInside past frame first join.old (W.contents out.old) →
-        StopsShort first (W.contents out.new)) }
+    ensures taken { OnOk result ((first : Option (List ℕ)) (past : JoinHistory) (frame : Frame)
+        → JoinIsInside past frame first join.old (W.contents out.old)
+        → FeedsJoin past (record frame { payload = frame.payload ++ bytes.now }) first join.new
+        (W.contents out.new)) }
+    ensures short { OnErr result ((first : Option (List ℕ)) (past : JoinHistory) (frame : Frame)
+        → JoinIsInside past frame first join.old (W.contents out.old)
+        → StopsShort first (W.contents out.new)) }
     ensures refusal { IfErr result (λ stop. IsRefusal stop) }
     // Bytes that the frame has room for are never too many.
-    ensures cause { IfErr result (λ stop. (first : Option (List ℕ)) (past : JoinHistory) (frame : Frame) → JoinIsInside past frame first join.old (W.contents out.old) →
-        length frame.payload + length bytes.now ≤ most_bytes frame.params → (stop ≡ no_memory) ⊎ (stop ≡ failed_output)) }
+    ensures cause { IfErr result (λ stop. (first : Option (List ℕ)) (past : JoinHistory)
+        (frame : Frame) → JoinIsInside past frame first join.old (W.contents out.old)
+        → length frame.payload + length bytes.now ≤ most_bytes frame.params
+        → (stop ≡ no_memory) ⊎ (stop ≡ failed_output)) }
 {
     not_whole_before();
     join.feed(bytes);
@@ -65,17 +71,29 @@ pub fn read_frame<W: Outlet>(
     requires told { (state device.old).setup.told ≢ Some Good }
     ensures room { length room.new ≡ length room.old }
     ensures becomes { (first : W) → W.Becomes first out.old → W.Becomes first out.new }
-    ensures read { OnOk result ((pass : ℕ) (past : JoinHistory) (frame : Frame) (first : Option (List ℕ)) → FrameHasBegun (state device.old) pass past frame first join.old (W.contents out.old) →
-        (given : ℕ) × IsAllOrNone (state device.old) pass given × IsReadTo (state device.old) pass given past frame first join.new (W.contents out.new)) }
-    ensures short { OnErr result ((pass : ℕ) (past : JoinHistory) (frame : Frame) (first : Option (List ℕ)) → FrameHasBegun (state device.old) pass past frame first join.old (W.contents out.old) →
-        StopsShort first (W.contents out.new)) }
-    ensures ended { OnOk result ((pass : ℕ) → (state device.old).phase ≡ Reading pass 0 → state device.new ≡ goes_to (state device.old) (after_pass (state device.old).setup pass)) }
-    ensures refusal { IfErr result (λ stop. (pass : ℕ) → (state device.old).phase ≡ Reading pass 0 → IsRefusal stop) }
+    ensures read { OnOk result
+        ((pass : ℕ) (past : JoinHistory) (frame : Frame) (first : Option (List ℕ))
+        → FrameHasBegun (state device.old) pass past frame first join.old (W.contents out.old)
+        → (given : ℕ) × IsAllOrNone (state device.old) pass given
+        × IsReadTo (state device.old) pass given past frame first join.new (W.contents out.new)) }
+    ensures short { OnErr result
+        ((pass : ℕ) (past : JoinHistory) (frame : Frame) (first : Option (List ℕ))
+        → FrameHasBegun (state device.old) pass past frame first join.old (W.contents out.old)
+        → StopsShort first (W.contents out.new)) }
+    ensures ended { OnOk result ((pass : ℕ)
+        → (state device.old).phase ≡ Reading pass 0 → state device.new
+        ≡ goes_to (state device.old) (after_pass (state device.old).setup pass)) }
+    ensures refusal { IfErr result (λ stop. (pass : ℕ)
+        → (state device.old).phase ≡ Reading pass 0 → IsRefusal stop) }
     // After its first byte no status is told, and before it EOF alone ends a frame.
-    ensures untold { OnOk result ((pass : ℕ) → (state device.old).phase ≡ Reading pass 0 → (state device.old).setup.told ≢ Some NoDocs) }
+    ensures untold { OnOk result ((pass : ℕ)
+        → (state device.old).phase ≡ Reading pass 0 → (state device.old).setup.told ≢ Some NoDocs) }
     // Where the frame has room for the bytes of its pass.
-    ensures cause { IfErr result (λ stop. (pass : ℕ) (past : JoinHistory) (frame : Frame) (first : Option (List ℕ)) → FrameHasBegun (state device.old) pass past frame first join.old (W.contents out.old) →
-        pass_length (state device.old).setup (page_of (state device.old)) pass ≤ most_bytes frame.params → ScanHasCause stop (state device.old) (state device.new)) }
+    ensures cause { IfErr result
+        (λ stop. (pass : ℕ) (past : JoinHistory) (frame : Frame) (first : Option (List ℕ))
+        → FrameHasBegun (state device.old) pass past frame first join.old (W.contents out.old)
+        → pass_length (state device.old).setup (page_of (state device.old)) pass
+        ≤ most_bytes frame.params → ScanHasCause stop (state device.old) (state device.new)) }
     ensures same { KeepsDevice (state device.old) (state device.new) }
 {
     not_whole_before();

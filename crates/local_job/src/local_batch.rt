@@ -102,9 +102,12 @@ pub fn run_local_batch<S: Shelf>(
     shelf: &mut S,
 ) -> Outcome
     ensures over { IsOver result }
-    ensures done { IfDone result (λ reports. IsBatchDone (state device.old) job.now reports (S.stock shelf.old) (S.stock shelf.new) (state device.new)) }
+    ensures done { IfDone result (λ reports. IsBatchDone (state device.old) job.now reports
+        (S.stock shelf.old) (S.stock shelf.new) (state device.new)) }
     ensures ended { IfEnded result (λ status why. (status ≢ Good) × (status ≢ Eof)) }
-    ensures stop { IfEnded result (λ status why. IsBatchEndedBy (state device.old) job.now (S.stock shelf.old) (S.stock shelf.new) (state device.new) (record { status = status; why = why })) }
+    ensures stop { IfEnded result
+        (λ status why. IsBatchEndedBy (state device.old) job.now (S.stock shelf.old)
+        (S.stock shelf.new) (state device.new) (record { status = status; why = why })) }
     ensures rest { is_at_rest (state device.new).phase ≡ true }
 {
     match run_local_batch_with(alloc, device, job, shelf, |_| Ok(())) {

@@ -17,7 +17,8 @@ fn value_reported(
     desc: &Descriptor,
 ) -> Result<Option<Value>, Stop>
     requires { slice_get (descriptors_of (state device.now).setup) n ≡ Some desc.now }
-    ensures told { IfOk result (λ value. value ≡ value_reported (state device.now).setup n desc.now) }
+    ensures told { IfOk result (λ value. value
+        ≡ value_reported (state device.now).setup n desc.now) }
     ensures refusal { IfErr result (λ stop. stop ≡ no_memory) }
 {
     if !tells_value(desc) {
@@ -35,7 +36,8 @@ pub fn show_options(
     alloc: Global,
     device: &dyn Device,
 ) -> Result<ItemList<(Descriptor, Option<Value>)>, Stop>
-    ensures shown { IfOk result (λ options. options ≡ options_with_values (state device.now).setup) }
+    ensures shown { IfOk result (λ options. options
+        ≡ options_with_values (state device.now).setup) }
     ensures refusal { IfErr result (λ stop. stop ≡ no_memory) }
 {
     let descriptors = device.descriptors(alloc).map_err(stop_by_status)?;

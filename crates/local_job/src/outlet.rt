@@ -16,7 +16,8 @@ pub trait Outlet {
     /// `put`.
     fn put(&mut self, bytes: &[u8], again: &mut u64) -> bool
         ensures whole { IsTrue result → Appends (contents self.old) (contents self.new) bytes.now }
-        ensures front { result ≡ false → (n : ℕ) × (n < length bytes.now) × Appends (contents self.old) (contents self.new) (take n bytes.now) }
+        ensures front { result ≡ false → (n : ℕ) × (n < length bytes.now)
+            × Appends (contents self.old) (contents self.new) (take n bytes.now) }
         ensures again { again.new ≤ again.old }
         ensures becomes { (first : Self) → Becomes first self.old → Becomes first self.new };
 }

@@ -1,5 +1,6 @@
 ghost use Rattle.std.specs.Prelude.{◌≡◌, None, option_map, true};
-ghost use Rattle.local_job.specs.OutputRequests.{GivesBack, IsAsked, bytes_held};
+ghost use Rattle.local_job.specs.OutputRequests.{IsAsked, bytes_held};
+ghost use Rattle.scan_job.specs.FileOutputs.{GivesBack};
 
 use crate::outlet::Outlet;
 use byte_output::put;
@@ -42,7 +43,8 @@ impl<S: Shelf> Outlet for PageOut<'_, S> {
 /// Has the shelf take an output back, if there is one. Says whether it did not refuse.
 pub fn give_back<S: Shelf>(shelf: &mut S, out: Option<S::Out>) -> bool
     ensures none { out ≡ None → result ≡ true }
-    ensures back { GivesBack (S.stock shelf.old) (option_map S.Out.contents out) (S.stock shelf.new) }
+    ensures back { GivesBack (S.stock shelf.old)
+        (option_map S.Out.contents out) (S.stock shelf.new) }
 {
     match out {
         Some(out) => shelf.close(out).is_ok(),

@@ -33,14 +33,22 @@ fn scan_page<S: Shelf>(
     requires room { 0 < length room.old }
     ensures piece { length piece.new ≡ length piece.old }
     ensures room { length room.new ≡ length room.old }
-    ensures done { OnOk result (FilesPage (state device.old) number (S.stock shelf.old) (S.stock shelf.new)) }
+    ensures done { OnOk result
+        (FilesPage (state device.old) number (S.stock shelf.old) (S.stock shelf.new)) }
     ensures short { OnErr result (LeavesPage number (S.stock shelf.old) (S.stock shelf.new)) }
     ensures refusal { IfErr result (λ stop. IsRefusal stop) }
-    ensures empty { IfErr result (λ stop. (state device.old).pages ≡ [] → stop ≡ stop_by_status NoDocs) }
-    ensures stays { OnErr result ((state device.old).pages ≡ [] → state device.new ≡ with_phase (state device.old) (AtRest false)) }
-    ensures silent { OnErr result ((state device.old).pages ≡ [] → S.stock shelf.new ≡ S.stock shelf.old) }
-    ensures none { IfErr result (λ stop. (state device.old).pages ≢ [] → has_picture (state device.old).setup (page_of (state device.old)) ≡ false → stop ≡ stop_by_status Inval) }
-    ensures cause { IfErr result (λ stop. (state device.old).pages ≢ [] → has_picture (state device.old).setup (page_of (state device.old)) ≡ true → ScanHasCause stop (state device.old) (state device.new)) }
+    ensures empty { IfErr result (λ stop. (state device.old).pages ≡ []
+        → stop ≡ stop_by_status NoDocs) }
+    ensures stays { OnErr result ((state device.old).pages ≡ []
+        → state device.new ≡ with_phase (state device.old) (AtRest false)) }
+    ensures silent { OnErr result ((state device.old).pages ≡ []
+        → S.stock shelf.new ≡ S.stock shelf.old) }
+    ensures none { IfErr result (λ stop. (state device.old).pages ≢ []
+        → has_picture (state device.old).setup (page_of (state device.old)) ≡ false
+        → stop ≡ stop_by_status Inval) }
+    ensures cause { IfErr result (λ stop. (state device.old).pages ≢ []
+        → has_picture (state device.old).setup (page_of (state device.old)) ≡ true
+        → ScanHasCause stop (state device.old) (state device.new)) }
     ensures untold { OnOk result ((state device.old).setup.told ≢ Some NoDocs) }
     ensures rest { OnOk result (state device.new ≡ state_at_rest (state device.old) false) }
     ensures same { KeepsDevice (state device.old) (state device.new) }
@@ -90,8 +98,10 @@ fn scan_each<S: Shelf>(
     requires rest { is_at_rest (state device.old).phase ≡ true }
     requires piece { 0 < length piece.old }
     requires room { 0 < length room.old }
-    ensures done { OnOk result (AreScanned (state device.old) count (S.stock shelf.old) (S.stock shelf.new) (state device.new)) }
-    ensures stop { IfErr result (λ stop. StopsAt (state device.old) count (S.stock shelf.old) (S.stock shelf.new) (state device.new) stop) }
+    ensures done { OnOk result (AreScanned (state device.old) count
+        (S.stock shelf.old) (S.stock shelf.new) (state device.new)) }
+    ensures stop { IfErr result (λ stop. StopsAt (state device.old) count
+        (S.stock shelf.old) (S.stock shelf.new) (state device.new) stop) }
     ensures refusal { IfErr result (λ stop. IsRefusal stop) }
 {
     let mut again = MOST_AGAIN;
@@ -115,8 +125,10 @@ pub fn scan_pages<S: Shelf>(
     shelf: &mut S,
 ) -> Result<(), Stop>
     requires { is_at_rest (state device.old).phase ≡ true }
-    ensures done { OnOk result (AreScanned (state device.old) count (S.stock shelf.old) (S.stock shelf.new) (state device.new)) }
-    ensures stop { IfErr result (λ stop. StopsAt (state device.old) count (S.stock shelf.old) (S.stock shelf.new) (state device.new) stop) }
+    ensures done { OnOk result (AreScanned (state device.old) count
+        (S.stock shelf.old) (S.stock shelf.new) (state device.new)) }
+    ensures stop { IfErr result (λ stop. StopsAt (state device.old) count
+        (S.stock shelf.old) (S.stock shelf.new) (state device.new) stop) }
     ensures refusal { IfErr result (λ stop. IsRefusal stop) }
 {
     if count == 0 {

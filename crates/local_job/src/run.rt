@@ -34,7 +34,8 @@ pub fn devices_reported(
     task: Task,
     device: &dyn Device,
 ) -> Result<ItemList<DeviceInfo>, Stop>
-    ensures told { IfOk result (λ devices. devices ≡ devices_reported task (state device.now).info) }
+    ensures told { IfOk result (λ devices. devices
+        ≡ devices_reported task (state device.now).info) }
     ensures memory { IfErr result (λ stop. stop ≡ no_memory) }
 {
     let mut devices = Vec::new(alloc);
@@ -50,7 +51,8 @@ pub fn options_reported(
     task: Task,
     device: &dyn Device,
 ) -> Result<ItemList<(Descriptor, Option<Value>)>, Stop>
-    ensures told { IfOk result (λ options. options ≡ options_reported task (state device.now).setup) }
+    ensures told { IfOk result (λ options. options
+        ≡ options_reported task (state device.now).setup) }
     ensures memory { IfErr result (λ stop. stop ≡ no_memory) }
 {
     match task {
@@ -83,7 +85,8 @@ fn do_job<W: Write, T: Drop, F: FnOnce(&Reports) -> Result<T, NoMem> + Drop>(
     ensures told { IfOk result (λ done. FnOnceReturnsAt F.FnOnce tell done.0 (Ok done.1)) }
     ensures no_file { OnErr result (LeavesNoFile (W.contents out.old) (W.contents out.new)) }
     ensures refusal { IfErr result (λ stop. IsRefusal stop) }
-    ensures stop { IfErr result (λ stop. IsEndedBy (state device.old) job.now (state device.new) stop) }
+    ensures stop { IfErr result
+        (λ stop. IsEndedBy (state device.old) job.now (state device.new) stop) }
     ensures runs { KeepsPages (state device.old) (state device.new) }
 {
     if !is_taken(job) {
@@ -119,7 +122,8 @@ pub fn run_local_with<W: Write, T: Drop, F: FnOnce(&Reports) -> Result<T, NoMem>
     ensures told { IfOk result (λ done. FnOnceReturnsAt F.FnOnce tell done.0 (Ok done.1)) }
     ensures no_file { OnErr result (LeavesNoFile (W.contents out.old) (W.contents out.new)) }
     ensures refusal { IfErr result (λ stop. IsRefusal stop) }
-    ensures stop { IfErr result (λ stop. IsEndedBy (state device.old) job.now (state device.new) stop) }
+    ensures stop { IfErr result
+        (λ stop. IsEndedBy (state device.old) job.now (state device.new) stop) }
     ensures runs { ChangesDevice (state device.old) (state device.new) }
     ensures rest { is_at_rest (state device.new).phase ≡ true }
 {
@@ -138,9 +142,12 @@ pub fn run_local<W: Write>(
     out: &mut W,
 ) -> Outcome
     ensures over { IsOver result }
-    ensures done { IfDone result (λ reports. IsDone (state device.old) job.now reports (W.contents out.old) (W.contents out.new) (state device.new)) }
-    ensures ended { IfEnded result (λ status why. (status ≢ Good) × (status ≢ Eof) × LeavesNoFile (W.contents out.old) (W.contents out.new)) }
-    ensures stop { IfEnded result (λ status why. IsEndedBy (state device.old) job.now (state device.new) (record { status = status; why = why })) }
+    ensures done { IfDone result (λ reports. IsDone (state device.old) job.now reports
+        (W.contents out.old) (W.contents out.new) (state device.new)) }
+    ensures ended { IfEnded result (λ status why. (status ≢ Good)
+        × (status ≢ Eof) × LeavesNoFile (W.contents out.old) (W.contents out.new)) }
+    ensures stop { IfEnded result (λ status why. IsEndedBy (state device.old) job.now
+        (state device.new) (record { status = status; why = why })) }
     ensures runs { ChangesDevice (state device.old) (state device.new) }
     ensures rest { is_at_rest (state device.new).phase ≡ true }
 {

@@ -7,7 +7,7 @@ ghost use Rattle.frame_join.specs.JoinStates.{Represents};
 ghost use Rattle.scan_frames.specs.Frames.{has_picture};
 ghost use Rattle.device_api.specs.ScannerLimits.{HasLimits};
 ghost use Rattle.device_api.specs.State.{goes_to, is_at_rest, is_reading, next_pass, page_of, params_of, state_at_rest, with_phase, AtRest, Reading};
-ghost use Rattle.local_job.specs.LocalDraining.{StopsShort};
+ghost use Rattle.scan_job.specs.FileOutputs.{StopsShort};
 ghost use Rattle.local_job.specs.LocalStops.{stop_by_status};
 ghost use Rattle.scan_job.specs.Stops.{no_memory};
 ghost use Rattle.local_job.specs.FrameReading.{JoinIsBetween, JoinIsInside, IsRefusal, KeepsDevice, IsScanned, FrameEndsAs, JoinsFrame, HasJoined, HasScannedPass};
@@ -39,13 +39,21 @@ const MOST_PASSES: u32 = 3;
 fn start_pass(alloc: Global, device: &mut dyn Device) -> Result<(), Stop>
     requires { is_reading (state device.old).phase ≡ false }
     ensures some { OnOk result ((state device.old).pages ≢ []) }
-    ensures picture { OnOk result (has_picture (state device.old).setup (page_of (state device.old)) ≡ true) }
-    ensures empty { IfErr result (λ stop. (state device.old).pages ≡ [] → stop ≡ stop_by_status NoDocs) }
-    ensures stays { OnErr result ((state device.old).pages ≡ [] → state device.new ≡ with_phase (state device.old) (AtRest false)) }
-    ensures none { IfErr result (λ stop. (state device.old).pages ≢ [] → has_picture (state device.old).setup (page_of (state device.old)) ≡ false → stop ≡ stop_by_status Inval) }
-    ensures started { OnOk result (state device.new ≡ with_phase (state device.old) (Reading (next_pass (state device.old).phase) 0)) }
+    ensures picture { OnOk result (has_picture (state device.old).setup (page_of (state device.old))
+        ≡ true) }
+    ensures empty { IfErr result (λ stop. (state device.old).pages ≡ []
+        → stop ≡ stop_by_status NoDocs) }
+    ensures stays { OnErr result ((state device.old).pages ≡ []
+        → state device.new ≡ with_phase (state device.old) (AtRest false)) }
+    ensures none { IfErr result (λ stop. (state device.old).pages ≢ []
+        → has_picture (state device.old).setup (page_of (state device.old)) ≡ false
+        → stop ≡ stop_by_status Inval) }
+    ensures started { OnOk result (state device.new
+        ≡ with_phase (state device.old) (Reading (next_pass (state device.old).phase) 0)) }
     ensures refusal { IfErr result (λ stop. IsRefusal stop) }
-    ensures cause { IfErr result (λ stop. (state device.old).pages ≢ [] → has_picture (state device.old).setup (page_of (state device.old)) ≡ true → ScanHasCause stop (state device.old) (state device.new)) }
+    ensures cause { IfErr result (λ stop. (state device.old).pages ≢ []
+        → has_picture (state device.old).setup (page_of (state device.old)) ≡ true
+        → ScanHasCause stop (state device.old) (state device.new)) }
     ensures same { KeepsDevice (state device.old) (state device.new) }
 {
     match device.start(alloc) {
@@ -56,12 +64,19 @@ fn start_pass(alloc: Global, device: &mut dyn Device) -> Result<(), Stop>
 
 /// Begins the frame of the pass that the scanner reads.
 fn begin_frame(alloc: Global, device: &dyn Device, join: &mut FrameJoin) -> Result<(), Stop>
-    ensures begun { OnOk result ((past : JoinHistory) → JoinIsBetween past join.old →
-        Represents (record past { under = Some (record { params = params_of (state device.now); order = (state device.now).setup.order; payload = [] }) }) join.new) }
+    ensures begun { OnOk result ((past : JoinHistory) → JoinIsBetween past join.old
+        → Represents (record past {
+          under = Some (record {
+            params = params_of (state device.now);
+            order = (state device.now).setup.order;
+            payload = [];
+          });
+        }) join.new) }
     ensures limits { HasLimits (state device.now) }
     ensures refusal { IfErr result (λ stop. IsRefusal stop) }
-    ensures cause { IfErr result (λ stop. (past : JoinHistory) → JoinIsBetween past join.old →
-        is_accepted past.ended (params_of (state device.now)) (state device.now).setup.order ≡ true → stop ≡ no_memory) }
+    ensures cause { IfErr result (λ stop. (past : JoinHistory) → JoinIsBetween past join.old
+        → is_accepted past.ended (params_of (state device.now)) (state device.now).setup.order
+        ≡ true → stop ≡ no_memory) }
 {
     let params = device.params();
     join.begin(alloc, &params, device.order());
@@ -81,14 +96,17 @@ fn end_frame<W: Outlet>(
     requires { 0 < length room.old }
     ensures room { length room.new ≡ length room.old }
     ensures becomes { (first : W) → W.Becomes first out.old → W.Becomes first out.new }
-    ensures ended { IfOk result (λ is_whole. (first : Option (List ℕ)) (past : JoinHistory) (frame : Frame) → JoinIsInside past frame first join.old (W.contents out.old) →
-        JoinsFrame past frame is_whole first join.new (W.contents out.new)) }
-    ensures short { OnErr result ((first : Option (List ℕ)) (past : JoinHistory) (frame : Frame) → JoinIsInside past frame first join.old (W.contents out.old) →
-        StopsShort first (W.contents out.new)) }
+    ensures ended { IfOk result (λ is_whole. (first : Option (List ℕ)) (past : JoinHistory)
+        (frame : Frame) → JoinIsInside past frame first join.old (W.contents out.old)
+        → JoinsFrame past frame is_whole first join.new (W.contents out.new)) }
+    ensures short { OnErr result ((first : Option (List ℕ)) (past : JoinHistory) (frame : Frame)
+        → JoinIsInside past frame first join.old (W.contents out.old)
+        → StopsShort first (W.contents out.new)) }
     ensures refusal { IfErr result (λ stop. IsRefusal stop) }
     // A frame that has all its bytes is not refused, and another is short.
-    ensures cause { IfErr result (λ stop. (first : Option (List ℕ)) (past : JoinHistory) (frame : Frame) → JoinIsInside past frame first join.old (W.contents out.old) →
-        FrameEndsAs (is_full frame) stop) }
+    ensures cause { IfErr result (λ stop. (first : Option (List ℕ)) (past : JoinHistory)
+        (frame : Frame) → JoinIsInside past frame first join.old (W.contents out.old)
+        → FrameEndsAs (is_full frame) stop) }
 {
     not_whole_before();
     let is_whole = match join.end() {
@@ -125,22 +143,34 @@ fn scan_pass<W: Outlet>(
     ensures piece { length piece.new ≡ length piece.old }
     ensures room { length room.new ≡ length room.old }
     ensures becomes { (first : W) → W.Becomes first out.old → W.Becomes first out.new }
-    ensures scanned { IfOk result (λ is_whole. (first : Option (List ℕ)) → HasJoined (state device.old) (next_pass (state device.old).phase) first join.old (W.contents out.old) →
-        HasScannedPass (state device.old) (next_pass (state device.old).phase) is_whole first (state device.new) join.new (W.contents out.new)) }
-    ensures short { OnErr result ((first : Option (List ℕ)) → HasJoined (state device.old) (next_pass (state device.old).phase) first join.old (W.contents out.old) →
-        StopsShort first (W.contents out.new)) }
+    ensures scanned { IfOk result (λ is_whole. (first : Option (List ℕ)) → HasJoined
+        (state device.old) (next_pass (state device.old).phase) first join.old (W.contents out.old)
+        → HasScannedPass (state device.old) (next_pass (state device.old).phase) is_whole first
+        (state device.new) join.new (W.contents out.new)) }
+    ensures short { OnErr result ((first : Option (List ℕ))
+        → HasJoined (state device.old) (next_pass (state device.old).phase) first join.old
+        (W.contents out.old) → StopsShort first (W.contents out.new)) }
     ensures some { OnOk result ((state device.old).pages ≢ []) }
-    ensures picture { OnOk result (has_picture (state device.old).setup (page_of (state device.old)) ≡ true) }
-    ensures empty { IfErr result (λ stop. (state device.old).pages ≡ [] → stop ≡ stop_by_status NoDocs) }
-    ensures stays { OnErr result ((state device.old).pages ≡ [] → state device.new ≡ with_phase (state device.old) (AtRest false)) }
+    ensures picture { OnOk result (has_picture (state device.old).setup (page_of (state device.old))
+        ≡ true) }
+    ensures empty { IfErr result (λ stop. (state device.old).pages ≡ []
+        → stop ≡ stop_by_status NoDocs) }
+    ensures stays { OnErr result ((state device.old).pages ≡ []
+        → state device.new ≡ with_phase (state device.old) (AtRest false)) }
     ensures silent { OnErr result ((state device.old).pages ≡ [] → out.new ≡ out.old) }
-    ensures none { IfErr result (λ stop. (state device.old).pages ≢ [] → has_picture (state device.old).setup (page_of (state device.old)) ≡ false → stop ≡ stop_by_status Inval) }
+    ensures none { IfErr result (λ stop. (state device.old).pages ≢ []
+        → has_picture (state device.old).setup (page_of (state device.old)) ≡ false
+        → stop ≡ stop_by_status Inval) }
     ensures untold { OnOk result ((state device.old).setup.told ≢ Some NoDocs) }
     ensures ended { OnOk result (is_reading (state device.new).phase ≡ false) }
     ensures refusal { IfErr result (λ stop. IsRefusal stop) }
-    ensures cause { IfErr result (λ stop. (first : Option (List ℕ)) → HasJoined (state device.old) (next_pass (state device.old).phase) first join.old (W.contents out.old) →
-        (state device.old).pages ≢ [] → has_picture (state device.old).setup (page_of (state device.old)) ≡ true → ScanHasCause stop (state device.old) (state device.new)) }
-    ensures well { OnOk result (state device.new ≡ goes_to (state device.old) (state device.new).phase) }
+    ensures cause { IfErr result (λ stop. (first : Option (List ℕ))
+        → HasJoined (state device.old) (next_pass (state device.old).phase) first join.old
+        (W.contents out.old) → (state device.old).pages ≢ []
+        → has_picture (state device.old).setup (page_of (state device.old)) ≡ true
+        → ScanHasCause stop (state device.old) (state device.new)) }
+    ensures well { OnOk result (state device.new
+        ≡ goes_to (state device.old) (state device.new).phase) }
     ensures same { KeepsDevice (state device.old) (state device.new) }
 {
     frames_show_the_picture();
@@ -169,15 +199,23 @@ pub fn scan_passes<W: Outlet>(
     requires room { 0 < length room.old }
     ensures piece { length piece.new ≡ length piece.old }
     ensures room { length room.new ≡ length room.old }
-    ensures done { OnOk result ((first : Option (List ℕ)) → Appends first (W.contents out.old) [] → IsScanned (state device.old) first (W.contents out.new)) }
-    ensures short { OnErr result ((first : Option (List ℕ)) → Appends first (W.contents out.old) [] → StopsShort first (W.contents out.new)) }
+    ensures done { OnOk result ((first : Option (List ℕ)) → Appends first (W.contents out.old) []
+        → IsScanned (state device.old) first (W.contents out.new)) }
+    ensures short { OnErr result ((first : Option (List ℕ))
+        → Appends first (W.contents out.old) [] → StopsShort first (W.contents out.new)) }
     ensures becomes { (first : W) → W.Becomes first out.old → W.Becomes first out.new }
     ensures refusal { IfErr result (λ stop. IsRefusal stop) }
-    ensures empty { IfErr result (λ stop. (state device.old).pages ≡ [] → stop ≡ stop_by_status NoDocs) }
-    ensures stays { OnErr result ((state device.old).pages ≡ [] → state device.new ≡ with_phase (state device.old) (AtRest false)) }
+    ensures empty { IfErr result (λ stop. (state device.old).pages ≡ []
+        → stop ≡ stop_by_status NoDocs) }
+    ensures stays { OnErr result ((state device.old).pages ≡ []
+        → state device.new ≡ with_phase (state device.old) (AtRest false)) }
     ensures silent { OnErr result ((state device.old).pages ≡ [] → out.new ≡ out.old) }
-    ensures none { IfErr result (λ stop. (state device.old).pages ≢ [] → has_picture (state device.old).setup (page_of (state device.old)) ≡ false → stop ≡ stop_by_status Inval) }
-    ensures cause { IfErr result (λ stop. (state device.old).pages ≢ [] → has_picture (state device.old).setup (page_of (state device.old)) ≡ true → ScanHasCause stop (state device.old) (state device.new)) }
+    ensures none { IfErr result (λ stop. (state device.old).pages ≢ []
+        → has_picture (state device.old).setup (page_of (state device.old)) ≡ false
+        → stop ≡ stop_by_status Inval) }
+    ensures cause { IfErr result (λ stop. (state device.old).pages ≢ []
+        → has_picture (state device.old).setup (page_of (state device.old)) ≡ true
+        → ScanHasCause stop (state device.old) (state device.new)) }
     ensures untold { OnOk result ((state device.old).setup.told ≢ Some NoDocs) }
     ensures rest { OnOk result (state device.new ≡ state_at_rest (state device.old) false) }
     ensures same { KeepsDevice (state device.old) (state device.new) }
@@ -199,12 +237,19 @@ pub fn scan_picture<W: Write>(
     out: &mut W,
 ) -> Result<(), Stop>
     requires { is_at_rest (state device.old).phase ≡ true }
-    ensures done { OnOk result ((first : Option (List ℕ)) → Appends first (W.contents out.old) [] → IsScanned (state device.old) first (W.contents out.new)) }
-    ensures short { OnErr result ((first : Option (List ℕ)) → Appends first (W.contents out.old) [] → StopsShort first (W.contents out.new)) }
+    ensures done { OnOk result ((first : Option (List ℕ)) → Appends first (W.contents out.old) []
+        → IsScanned (state device.old) first (W.contents out.new)) }
+    ensures short { OnErr result ((first : Option (List ℕ))
+        → Appends first (W.contents out.old) [] → StopsShort first (W.contents out.new)) }
     ensures refusal { IfErr result (λ stop. IsRefusal stop) }
-    ensures empty { IfErr result (λ stop. (state device.old).pages ≡ [] → (stop ≡ no_memory) ⊎ (stop ≡ stop_by_status NoDocs)) }
-    ensures none { IfErr result (λ stop. (state device.old).pages ≢ [] → has_picture (state device.old).setup (page_of (state device.old)) ≡ false → (stop ≡ no_memory) ⊎ (stop ≡ stop_by_status Inval)) }
-    ensures cause { IfErr result (λ stop. (state device.old).pages ≢ [] → has_picture (state device.old).setup (page_of (state device.old)) ≡ true → ScanHasCause stop (state device.old) (state device.new)) }
+    ensures empty { IfErr result (λ stop. (state device.old).pages ≡ []
+        → (stop ≡ no_memory) ⊎ (stop ≡ stop_by_status NoDocs)) }
+    ensures none { IfErr result (λ stop. (state device.old).pages ≢ []
+        → has_picture (state device.old).setup (page_of (state device.old)) ≡ false
+        → (stop ≡ no_memory) ⊎ (stop ≡ stop_by_status Inval)) }
+    ensures cause { IfErr result (λ stop. (state device.old).pages ≢ []
+        → has_picture (state device.old).setup (page_of (state device.old)) ≡ true
+        → ScanHasCause stop (state device.old) (state device.new)) }
     ensures rest { OnOk result (state device.new ≡ state_at_rest (state device.old) false) }
     ensures same { KeepsDevice (state device.old) (state device.new) }
 {

@@ -27,10 +27,12 @@ fn number_named(descriptors: &[Descriptor], name: &[u8]) -> Option<usize>
 
 /// The option of that name: its number, and its descriptor.
 fn find_option(alloc: Global, device: &dyn Device, name: &[u8]) -> Result<(u32, Descriptor), Stop>
-    ensures found { IfOk result (λ found. (number_named name.now (descriptors_of (state device.now).setup) ≡ Some found.0)
+    ensures found { IfOk result
+        (λ found. (number_named name.now (descriptors_of (state device.now).setup) ≡ Some found.0)
         × (slice_get (descriptors_of (state device.now).setup) found.0 ≡ Some found.1)) }
     ensures refusal { IfErr result (λ stop. IsRefusal stop) }
-    ensures none { IfErr result (λ stop. (stop ≡ no_memory) ⊎ ((stop ≡ bad_setting) × (number_named name.now (descriptors_of (state device.now).setup) ≡ None))) }
+    ensures none { IfErr result (λ stop. (stop ≡ no_memory) ⊎ ((stop ≡ bad_setting)
+        × (number_named name.now (descriptors_of (state device.now).setup) ≡ None))) }
 {
     let descriptors = device.descriptors(alloc).map_err(stop_by_status)?;
     let n = number_named(&descriptors, name).ok_or(bad_setting())?;
@@ -56,8 +58,11 @@ fn set_option(
     asked: &Value,
 ) -> Result<(Value, Info), Stop>
     requires { is_at_rest (state device.old).phase ≡ true }
-    ensures set { IfOk result (λ got. (option_set (state device.old).setup n asked.now ≡ Ok got) × ((state device.new).setup ≡ setup_after (state device.old).setup n got.0)) }
-    ensures stop { IfErr result (λ stop. (stop ≡ no_memory) ⊎ ((status : AnyStatus) × (option_set (state device.old).setup n asked.now ≡ Err status) × (stop ≡ stop_by_status status))) }
+    ensures set { IfOk result (λ got. (option_set (state device.old).setup n asked.now ≡ Ok got)
+        × ((state device.new).setup ≡ setup_after (state device.old).setup n got.0)) }
+    ensures stop { IfErr result (λ stop. (stop ≡ no_memory)
+        ⊎ ((status : AnyStatus) × (option_set (state device.old).setup n asked.now ≡ Err status)
+        × (stop ≡ stop_by_status status))) }
     ensures rest { state device.new ≡ with_setup (state device.old) (state device.new).setup }
     ensures refusal { IfErr result (λ stop. IsRefusal stop) }
 {
@@ -76,8 +81,10 @@ fn put_setting(
     setting: &(Text, Text),
 ) -> Result<Report, Stop>
     requires { is_at_rest (state device.old).phase ≡ true }
-    ensures put { IfOk result (λ report. put_one (state device.old).setup setting.now ≡ Ok ((state device.new).setup, report)) }
-    ensures stop { IfErr result (λ stop. (stop ≡ no_memory) ⊎ (put_one (state device.old).setup setting.now ≡ Err stop)) }
+    ensures put { IfOk result (λ report. put_one (state device.old).setup setting.now
+        ≡ Ok ((state device.new).setup, report)) }
+    ensures stop { IfErr result (λ stop. (stop ≡ no_memory)
+        ⊎ (put_one (state device.old).setup setting.now ≡ Err stop)) }
     ensures rest { state device.new ≡ with_setup (state device.old) (state device.new).setup }
     ensures refusal { IfErr result (λ stop. IsRefusal stop) }
 {
@@ -103,8 +110,10 @@ pub fn put_settings(
     settings: &[(Text, Text)],
 ) -> Result<ItemList<Report>, Stop>
     requires { is_at_rest (state device.old).phase ≡ true }
-    ensures put { IfOk result (λ reports. put_all (state device.old).setup settings.now ≡ Ok ((state device.new).setup, reports)) }
-    ensures stop { IfErr result (λ stop. (stop ≡ no_memory) ⊎ (put_all (state device.old).setup settings.now ≡ Err stop)) }
+    ensures put { IfOk result (λ reports. put_all (state device.old).setup settings.now
+        ≡ Ok ((state device.new).setup, reports)) }
+    ensures stop { IfErr result (λ stop. (stop ≡ no_memory)
+        ⊎ (put_all (state device.old).setup settings.now ≡ Err stop)) }
     ensures rest { state device.new ≡ with_setup (state device.old) (state device.new).setup }
     ensures refusal { IfErr result (λ stop. IsRefusal stop) }
 {

@@ -45,8 +45,10 @@ fn answer_to(challenge: &[u8], password: &[u8]) -> [u8; 37]
 /// The answer to a resource with a password: `$MD5$` and the 32 lower-case hexadecimal digits of the
 /// MD5 digest of the challenge followed by the password. `None` where the resource has no `$MD5$`.
 pub fn answer(alloc: Global, resource: &[u8], password: &[u8]) -> Result<Option<Text>, NoMem>
-    ensures found { IfOk result (λ answer. IfSome answer (λ text. IsAnswer text resource.now password.now)) }
-    ensures none { (result ≡ Ok None) ↔ ((challenge : List ℕ) → ¬ IsChallenge resource.now challenge) }
+    ensures found { IfOk result
+        (λ answer. IfSome answer (λ text. IsAnswer text resource.now password.now)) }
+    ensures none { (result ≡ Ok None)
+        ↔ ((challenge : List ℕ) → ¬ IsChallenge resource.now challenge) }
     // The same as a computation, for definitions that go on from it.
     ensures value { IfOk result (λ answer. answer ≡ answer_of resource.now password.now) }
 {

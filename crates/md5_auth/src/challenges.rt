@@ -60,8 +60,10 @@ impl Challenger {
     /// lower-case hexadecimal digits. Where memory runs out nothing is lost: the same challenge is
     /// still the next one.
     pub fn next(&mut self, alloc: Global) -> Result<Text, NoMem>
-        ensures text { (seed : List ℕ) (k : ℕ) → HasGiven seed k self.old → IfOk result (λ text. text ≡ challenge_at seed k) }
-        ensures ok { (seed : List ℕ) (k : ℕ) → HasGiven seed k self.old → OnOk result (HasGiven seed (k + 1) self.new) }
+        ensures text { (seed : List ℕ) (k : ℕ)
+            → HasGiven seed k self.old → IfOk result (λ text. text ≡ challenge_at seed k) }
+        ensures ok { (seed : List ℕ) (k : ℕ)
+            → HasGiven seed k self.old → OnOk result (HasGiven seed (k + 1) self.new) }
         ensures err { OnErr result (self.new ≡ self.old) }
     {
         let place = self.words.get_word_pos();

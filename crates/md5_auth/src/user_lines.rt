@@ -31,7 +31,8 @@ fn is_printable(line: &[u8]) -> bool
 
 /// The fields of a line with exactly two colons.
 fn split_fields(line: &[u8]) -> Option<UserFields<'_>>
-    ensures found { IfSome result (λ f. AreFields line.now f.user.now f.password.now f.backend.now) }
+    ensures found { IfSome result
+        (λ f. AreFields line.now f.user.now f.password.now f.backend.now) }
     ensures none { IfNone result (¬ HasTwoColons line.now) }
 {
     let (user, rest) = split_once(line, b':')?;
@@ -49,7 +50,8 @@ fn split_fields(line: &[u8]) -> Option<UserFields<'_>>
 /// Tests the line of that number, and gives its fields unless it is empty.
 fn tested(number: u32, line: &[u8]) -> Result<Option<UserFields<'_>>, LineReason>
     ensures good { OnOk result (IsGood number line.now) }
-    ensures fields { IfOk result (λ fields. MatchOption fields (line.now ≡ []) (λ f. AreEntryFields line.now f.user.now f.password.now f.backend.now)) }
+    ensures fields { IfOk result (λ fields. MatchOption fields (line.now
+        ≡ []) (λ f. AreEntryFields line.now f.user.now f.password.now f.backend.now)) }
     ensures fault { IfErr result (λ reason. HasReason reason number line.now) }
 {
     LIMITS.admit(number, line)?;
@@ -87,7 +89,8 @@ fn copied(alloc: Global, fields: UserFields<'_>) -> Result<Entry, NoMem>
 /// Reads the line of that number: its entry, or nothing where it is empty.
 pub fn read_line(alloc: Global, number: u32, line: &[u8]) -> Result<Option<Entry>, LineReason>
     ensures good { OnOk result (IsGood number line.now) }
-    ensures entry { IfOk result (λ entry. MatchOption entry (line.now ≡ []) (λ e. IsEntryLine line.now e)) }
+    ensures entry { IfOk result
+        (λ entry. MatchOption entry (line.now ≡ []) (λ e. IsEntryLine line.now e)) }
     ensures fault { IfErr result (λ reason. HasReason reason number line.now) }
 {
     let Some(fields) = tested(number, line)? else {

@@ -245,7 +245,8 @@ impl Client {
     /// waits. A job that is over ignores them.
     pub fn feed_control(&mut self, piece: &[u8])
         ensures over { is_running self.old.outcome ≡ false → self.new ≡ self.old }
-        ensures heeds { is_running self.old.outcome ≡ true → (past : JoinHistory) → ClientRepresents past self.old → Heeds self.old past piece.now self.new }
+        ensures heeds { is_running self.old.outcome ≡ true → (past : JoinHistory)
+            → ClientRepresents past self.old → Heeds self.old past piece.now self.new }
     {
         if !self.is_running() {
             return;
@@ -271,7 +272,9 @@ impl Client {
     /// The next reply, to a procedure. Where there can be none the job ends.
     fn read(&mut self, procedure: Procedure) -> Option<Reply>
         requires { is_running self.old.outcome ≡ true }
-        ensures some { IfSome result (λ r. (self.new ≡ record self.old { input = self.new.input }) × SpellsFront (limited_format message_limit (reply procedure)) self.old.input.rest self.new.input.rest r) }
+        ensures some { IfSome result (λ r. (self.new ≡ record self.old { input = self.new.input })
+            × SpellsFront (limited_format message_limit
+            (reply procedure)) self.old.input.rest self.new.input.rest r) }
         ensures none { IsNone result → StopsReading procedure self.old self.new }
     {
         match self.decoder.next_reply(self.alloc, procedure) {
@@ -287,8 +290,10 @@ impl Client {
     /// A reply comes; false where memory ran out.
     fn hear(&mut self, reply: Reply) -> bool
         requires { is_running self.old.outcome ≡ true }
-        ensures heard { result ≡ true → (past : JoinHistory) → ClientRepresents past self.old → HearsReply self.old past reply self.new }
-        ensures starved { result ≡ false → (past : JoinHistory) → ClientRepresents past self.old → EndsOutOfMemoryHere self.old past self.new }
+        ensures heard { result ≡ true → (past : JoinHistory)
+            → ClientRepresents past self.old → HearsReply self.old past reply self.new }
+        ensures starved { result ≡ false → (past : JoinHistory)
+            → ClientRepresents past self.old → EndsOutOfMemoryHere self.old past self.new }
         ensures input { self.new.input ≡ self.old.input }
     {
         let next = self.next_by(reply);
@@ -303,11 +308,22 @@ impl Client {
 
     /// What a reply makes of the job, which waits for nothing then.
     fn next_by(&mut self, reply: Reply) -> Result<Next, NoMem>
-        ensures next { (past : JoinHistory) → RepresentsClear past self.old.join → IfOk result (λ next. next ≡ (heard_at self.old.progress self.old.target self.old.notes past reply).turn.next) }
-        ensures notes { (past : JoinHistory) → RepresentsClear past self.old.join → OnOk result (self.new.notes ≡ (heard_at self.old.progress self.old.target self.old.notes past reply).turn.notes) }
-        ensures past { (past : JoinHistory) → RepresentsClear past self.old.join → OnOk result (Represents (heard_at self.old.progress self.old.target self.old.notes past reply).history self.new.join) }
-        ensures starved { (past : JoinHistory) → RepresentsClear past self.old.join → OnErr result (RepresentsOrOutOfMemory past self.new.join) }
-        ensures rest { self.new ≡ record self.old { progress = self.new.progress; notes = self.new.notes; join = self.new.join } }
+        ensures next { (past : JoinHistory)
+            → RepresentsClear past self.old.join → IfOk result (λ next. next
+            ≡ (heard_at self.old.progress self.old.target self.old.notes past reply).turn.next) }
+        ensures notes { (past : JoinHistory)
+            → RepresentsClear past self.old.join → OnOk result (self.new.notes
+            ≡ (heard_at self.old.progress self.old.target self.old.notes past reply).turn.notes) }
+        ensures past { (past : JoinHistory) → RepresentsClear past self.old.join
+            → OnOk result (Represents (heard_at self.old.progress
+            self.old.target self.old.notes past reply).history self.new.join) }
+        ensures starved { (past : JoinHistory) → RepresentsClear past self.old.join
+            → OnErr result (RepresentsOrOutOfMemory past self.new.join) }
+        ensures rest { self.new ≡ record self.old {
+          progress = self.new.progress;
+          notes = self.new.notes;
+          join = self.new.join;
+        } }
     {
         let progress = std::mem::replace(&mut self.progress, Progress::Over);
         match progress {
@@ -348,8 +364,11 @@ impl Client {
     /// Bytes of the data connection come. They are records; the join takes what these give, and the end record ends the
     /// frame. What comes behind it, and where no data is wanted, is ignored.
     pub fn feed_data(&mut self, piece: &[u8])
-        ensures idle { is_receiving self.old.outcome self.old.progress ≡ false → self.new ≡ self.old }
-        ensures receives { is_receiving self.old.outcome self.old.progress ≡ true → (past : JoinHistory) → ClientRepresents past self.old → Receives self.old past piece.now self.new }
+        ensures idle { is_receiving self.old.outcome self.old.progress ≡ false
+            → self.new ≡ self.old }
+        ensures receives { is_receiving self.old.outcome self.old.progress ≡ true
+            → (past : JoinHistory)
+            → ClientRepresents past self.old → Receives self.old past piece.now self.new }
     {
         if !self.is_receiving() {
             return;
@@ -366,7 +385,11 @@ impl Client {
 
     /// The frames make no picture.
     fn fail(&mut self, fault: JoinFault)
-        ensures { self.new ≡ record self.old { outcome = next_outcome self.old.target.task self.old.notes (stop_unjoined fault); progress = stages.Over } }
+        ensures { self.new ≡ record self.old {
+          outcome = next_outcome self.old.target.task
+              self.old.notes (stop_unjoined fault);
+          progress = stages.Over;
+        } }
     {
         match fault {
             JoinFault::Shape => self.stop(Status::IoError, Why::Malformed),
@@ -379,7 +402,8 @@ impl Client {
     /// The end record of a frame comes. It takes no memory.
     fn end_frame(&mut self, status: u8)
         requires { is_receiving self.old.outcome self.old.progress ≡ true }
-        ensures { (past : JoinHistory) → Represents past self.old.join → scans self.old.target.task ≡ true → IsWithinFrame past → TakesEndRecord self.old past status self.new }
+        ensures { (past : JoinHistory) → Represents past self.old.join → scans self.old.target.task
+            ≡ true → IsWithinFrame past → TakesEndRecord self.old past status self.new }
     {
         let next = frame_ended(
             self.alloc,
@@ -399,7 +423,9 @@ impl Client {
     fn wait_behind(&mut self, progress: Progress)
         requires { is_receiving self.old.outcome self.old.progress ≡ true }
         ensures rest { self.new ≡ record self.old { progress = progress; out = self.new.out } }
-        ensures text { IsBehindFrame progress → behind self.old.out (optional_request_text (request_for self.old.target self.old.notes.word progress)) ≡ Some self.new.out }
+        ensures text { IsBehindFrame progress → behind self.old.out
+            (optional_request_text (request_for self.old.target self.old.notes.word progress))
+            ≡ Some self.new.out }
     {
         if is_starting(&progress) {
             say_start(&mut self.out, self.notes.word);
@@ -440,8 +466,10 @@ impl Client {
         ensures rest { drop result buf.new ≡ drop result buf.old }
         ensures ended { is_ended self.old.outcome ≡ true → (result ≡ 0) × (self.new ≡ self.old) }
         ensures outcome { self.new.outcome ≡ self.old.outcome }
-        ensures same { is_ended self.old.outcome ≡ false → turns self.old.outcome self.old.progress ≡ false → self.new ≡ record self.old { join = self.new.join } }
-        ensures taken { (past : JoinHistory) → ClientRepresents past self.old → TakesFile self.old past (length buf.old) result (take result buf.new) self.new }
+        ensures same { is_ended self.old.outcome ≡ false → turns self.old.outcome self.old.progress
+            ≡ false → self.new ≡ record self.old { join = self.new.join } }
+        ensures taken { (past : JoinHistory) → ClientRepresents past self.old
+            → TakesFile self.old past (length buf.old) result (take result buf.new) self.new }
     {
         not_whole_before();
         if self.is_ended() {
@@ -459,8 +487,10 @@ impl Client {
         ensures count { result ≤ length buf.old }
         ensures rest { drop result buf.new ≡ drop result buf.old }
         ensures outcome { self.new.outcome ≡ self.old.outcome }
-        ensures page { (past : JoinHistory) → ClientRepresents past self.old → TakesPage self.old past (take result buf.new) self.new }
-        ensures picture { (past : JoinHistory) → Represents past self.old.join → GivesPicture past (length buf.old) result (take result buf.new) }
+        ensures page { (past : JoinHistory) → ClientRepresents past self.old
+            → TakesPage self.old past (take result buf.new) self.new }
+        ensures picture { (past : JoinHistory) → Represents past self.old.join
+            → GivesPicture past (length buf.old) result (take result buf.new) }
     {
         let count = self.file.pull(&mut self.join, buf);
         if self.join.has_given_all() {
@@ -485,9 +515,13 @@ impl Client {
     /// The job is given up: one that runs ends so, and tells the daemon. It takes no memory.
     pub fn cancel(&mut self)
         ensures over { is_running self.old.outcome ≡ false → self.new ≡ self.old }
-        ensures ended { is_running self.old.outcome ≡ true → self.new ≡ record (after_client_end Status.Cancelled Why.Cancelled self.old) { out = self.new.out } }
-        ensures text { is_running self.old.outcome ≡ true → behind self.old.out (requests_text (farewell self.old.notes.word self.old.progress)) ≡ Some self.new.out }
-        ensures serves { (past : JoinHistory) → ClientRepresents past self.old → ClientRepresents past self.new }
+        ensures ended { is_running self.old.outcome ≡ true → self.new ≡ record
+            (after_client_end Status.Cancelled Why.Cancelled self.old) { out = self.new.out } }
+        ensures text { is_running self.old.outcome ≡ true
+            → behind self.old.out (requests_text (farewell self.old.notes.word self.old.progress))
+            ≡ Some self.new.out }
+        ensures serves { (past : JoinHistory)
+            → ClientRepresents past self.old → ClientRepresents past self.new }
     {
         if !self.is_running() {
             return;
@@ -499,8 +533,10 @@ impl Client {
 
     /// A connection is lost. That of the data counts from the wanted port to the end record.
     pub fn link_lost(&mut self, link: Link)
-        ensures lost { self.new ≡ (if is_lost_by link self.old.outcome self.old.progress then after_client_end Status.IoError Why.Lost self.old else self.old) }
-        ensures serves { (past : JoinHistory) → ClientRepresents past self.old → ClientRepresents past self.new }
+        ensures lost { self.new ≡ (if is_lost_by link self.old.outcome self.old.progress
+            then after_client_end Status.IoError Why.Lost self.old else self.old) }
+        ensures serves { (past : JoinHistory)
+            → ClientRepresents past self.old → ClientRepresents past self.new }
     {
         if self.is_lost_by(link) {
             self.stop(Status::IoError, Why::Lost);
@@ -531,8 +567,13 @@ impl Client {
 
     /// The data connection that was wanted is made.
     pub fn data_opened(&mut self)
-        ensures opened { self.new ≡ record self.old { progress = progress_connected self.old.progress; phase = phase_connected self.old.progress self.old.phase } }
-        ensures serves { (past : JoinHistory) → ClientRepresents past self.old → ClientRepresents past self.new }
+        ensures opened { self.new
+            ≡ record self.old {
+              progress = progress_connected self.old.progress;
+              phase = phase_connected self.old.progress self.old.phase;
+            } }
+        ensures serves { (past : JoinHistory)
+            → ClientRepresents past self.old → ClientRepresents past self.new }
     {
         if let Some(port) = self.data_wanted() {
             self.progress = Progress::Imaging { port, opened: true };

@@ -21,7 +21,8 @@ pub enum PieceResult {
 /// Reads on in the records of a frame, and the join takes what they give.
 pub(crate) fn read_on(reader: &mut RecordReader, join: &mut FrameJoin, piece: &[u8]) -> PieceResult
     requires { HasEnded reader.old → ⊥ }
-    ensures read { (past : JoinHistory) (frame : Frame) → RepresentsWithin past frame join.old → HasRead reader.old past frame piece.now result reader.new join.new }
+    ensures read { (past : JoinHistory) (frame : Frame) → RepresentsWithin past frame join.old
+        → HasRead reader.old past frame piece.now result reader.new join.new }
     ensures open { HasNotEnded result reader.new }
 {
     let mut at = 0;

@@ -23,7 +23,8 @@ pub(crate) fn ask(
     word: u32,
     progress: &Progress,
 ) -> Result<(), NoMem>
-    ensures text { OnOk result (behind out.old.text (optional_request_text (request_for target.now word progress.now)) ≡ Some out.new.text) }
+    ensures text { OnOk result (behind out.old.text
+        (optional_request_text (request_for target.now word progress.now)) ≡ Some out.new.text) }
     ensures room { OnOk result (20 ≤ out.new.room) }
     ensures err { OnErr result (out.new.text ≡ out.old.text) }
     ensures kept { OnErr result (out.old.room ≤ out.new.room) }
@@ -50,7 +51,8 @@ fn add_word_request(out: &mut Outbox, code: u32, word: u32)
 /// Writes the START of a batch's next page.
 pub(crate) fn say_start(out: &mut Outbox, word: u32)
     requires { 8 ≤ out.old.room }
-    ensures text { behind out.old.text (optional_request_text (Some (requests.Start word))) ≡ Some out.new.text }
+    ensures text { behind out.old.text (optional_request_text (Some (requests.Start word)))
+        ≡ Some out.new.text }
     ensures room { out.old.room ≤ out.new.room + 8 }
 {
     add_word_request(out, 7, word);

@@ -30,7 +30,8 @@ use Rattle.net_client.specs.ClientStates.{ClientState}
 use Rattle.net_jobs.specs.RunInvariants.{GivenFiles, FullRunInvariant, ByMemory}
 use Rattle.net_jobs.specs.RunPromises.{StopsAs, HasRefusal}
 use Rattle.net_jobs.specs.Links.{HasBrought}
-use Rattle.net_jobs.specs.Outputs.{TakesBack, HasTaken, GivesBack, page_outputs_from}
+use Rattle.net_jobs.specs.Outputs.{HasTaken, page_outputs_from}
+use Rattle.scan_job.specs.FileOutputs.{TakesBack, GivesBack}
 use Rattle.net_jobs.specs.Paging.{IsFiling, TurnsOn, FallsShort, HasFiledShort, BatchCameDone, BatchCameEnded, BatchHasCome}
 use Rattle.net_jobs.specs.Batches.{IsPageFile, MayScan, last_whole_page, pages_of, closed_as, BatchEnded, HasBatchRun}
 use Rattle.net_jobs.proofs.FileNumbers.{IsFew, HasSome, counts}

@@ -1,6 +1,7 @@
 -- How far a job is, call by call of its data connections.
-use Rattle.std.proofs.Common.{◌≡◌, ◌∙◌, ◌+◌, ℕ, Bool, true, false, Option, Some, None, Result, Ok, Err, List, [], ◌∷◌, ◌++◌, length, refl, sym, ap, subst, append_assoc, inl, inr}
+use Rattle.std.proofs.Common.{◌≡◌, ◌∙◌, ◌+◌, ◌<◌, ◌⊎◌, ℕ, Bool, true, false, Option, Some, None, Result, Ok, Err, List, [], ◌∷◌, ◌++◌, length, refl, sym, ap, subst, append_assoc, inl, inr, arith, length-append}
 use Rattle.std.specs.Prelude.{◌&&◌, nat_lt, if◌then◌else◌}
+use Rattle.std.proofs.lemmas.Bool.{ltb-true}
 use Rattle.std.specs.Io.KnownBytes.{Consumes}
 use Rattle.sane_fixed.specs.declared.status.Status.{Status}
 use Rattle.sane_fixed.specs.declared.status.Status.TheVariants as statuses
@@ -30,11 +31,11 @@ use Rattle.client_replies.specs.ProtocolStates.{ProtocolState, target_of, is_run
 use Rattle.client_replies.proofs.Fitting.{may_end}
 use Rattle.net_client.specs.ClientStates.{ClientState, protocol_of, ClientRepresents, after_client_end, phase_connected}
 use Rattle.net_client.specs.FramePieces.{Receives, TakesBytes, TakesFrameEnd, FailsAtBytes, TakesEndRecord}
-use Rattle.net_client.proofs.Hearings.{fits_at}
+use Rattle.net_client.proofs.Hearings.{fits_at, calm_at}
 use Rattle.net_client.proofs.FrameRecords.{two_steps}
 use Rattle.net_jobs.specs.JobTraces.{Opened, Came, Finished, JobTrace, BytesMatchTrace, EventLeads, protocol_after_frame, sent_after, frame_end_at}
 use Rattle.net_jobs.specs.Links.{DialBrings}
-use Rattle.net_jobs.specs.RunInvariants.{came_in, BetweenFrames, LinkMatchesTrace, ClientFollowsTrace, GivenFiles, RunInvariant, ByLoss, ByShape}
+use Rattle.net_jobs.specs.RunInvariants.{came_in, BetweenFrames, LinkMatchesTrace, ClientFollowsTrace, GivenFiles, RunInvariant, EndsBy, ByLoss, ByMemory, ByLength}
 use Rattle.net_jobs.proofs.Tracing.{did_quiet, did_say}
 use Rattle.net_jobs.proofs.DataStreams.{records_end, brought_one, read_more, front_of, begin_more}
 use Rattle.net_jobs.proofs.KeepingInvariant.{following, falls}
@@ -334,7 +335,7 @@ stage_ends left_of job read_ wrote coming0 coming given was now old new piece ru
       });
     }
 
--- ---- a frame of a wrong shape, or no memory for it
+-- ---- more bytes of a frame than it was to have, or no memory for them
 
 unjoined_over : (task : Task) (notes : Notes) (fault : JoinFault) → is_running (next_outcome task notes (stop_unjoined fault)) ≡ false
 unjoined_over task notes Shape = refl
@@ -342,11 +343,42 @@ unjoined_over task notes Long = refl
 unjoined_over task notes Short = refl
 unjoined_over task notes NoMem = refl
 
-pub unjoined_ended : (task : Task) (notes : Notes) (fault : JoinFault) → is_ended (next_outcome task notes (stop_unjoined fault)) ≡ true
-unjoined_ended task notes Shape = refl
-unjoined_ended task notes Long = refl
-unjoined_ended task notes Short = refl
-unjoined_ended task notes NoMem = refl
+-- bytes that the join refuses are more than the frame was to have, or there is no memory for them
+refused_as : (long starved : Bool) (past grown : JoinHistory) (fault : JoinFault) → grown.fault ≡ None → (if long then with_fault Long past else (if starved then with_fault NoMem past else grown)).fault ≡ Some fault
+    → ((long ≡ true) × (fault ≡ Long)) ⊎ (fault ≡ NoMem)
+refused_as true starved past grown fault clear e = inl (refl, (let same : Some Long ≡ Some fault = e in cc))
+refused_as false true past grown fault clear e = inr (let same : Some NoMem ≡ Some fault = e in cc)
+refused_as false false past grown fault clear e = absurd (let clash : None ≡ Some fault = sym clear ∙ e in cc)
+
+refused_by : (past : JoinHistory) (standing : Option JoinFault) (frame : Frame) (bytes : List ℕ) (starved : Bool) (fault : JoinFault) → standing ≡ None → past.fault ≡ None
+    → (after_feed_at standing (Some frame) bytes starved past).fault ≡ Some fault
+    → ((most_bytes frame.params < length frame.payload + length bytes) × (fault ≡ Long)) ⊎ (fault ≡ NoMem)
+refused_by past (Some f) frame bytes starved fault none clear e = absurd (let clash : Some f ≡ None = none in cc)
+refused_by past None frame bytes starved fault none clear e =
+    elim (refused_as (nat_lt (most_bytes frame.params) (length frame.payload + length bytes)) starved past (record past { under = Some (record frame { payload = frame.payload ++ bytes }) }) fault clear e) [
+      | inl w ↦ inl (ltb-true (most_bytes frame.params) (length frame.payload + length bytes) w.0, w.1)
+      | inr w ↦ inr w
+    ]
+
+counted : (a b c : List ℕ) → length (a ++ b) + length c ≡ length a + length (b ++ c)
+counted a b c =
+    let e : length (a ++ b) ≡ length a + length b = length-append a b in
+    let f : length (b ++ c) ≡ length b + length c = length-append b c in
+    omega arith
+
+refused : (past : JoinHistory) (frame : Frame) (before last : List ℕ) (starved : Bool) (fault : JoinFault) → past.fault ≡ None → (after_feed last starved (with_payload past frame before)).fault ≡ Some fault
+    → ((most_bytes frame.params < length frame.payload + length (before ++ last)) × (fault ≡ Long)) ⊎ (fault ≡ NoMem)
+unfolding after_feed
+refused past frame before last starved fault clear e =
+    elim (refused_by (with_payload past frame before) past.fault (record frame { payload = frame.payload ++ before }) last starved fault clear clear e) [
+      | inl w ↦ inl (subst (λ (n : ℕ). most_bytes frame.params < n) (counted frame.payload before last) w.0, w.1)
+      | inr w ↦ inr w
+    ]
+
+ends_by : (protocol : ProtocolState) (rest : List ℕ) (outcome : Outcome) (task : Task) (notes : Notes) (frame : Frame) (bytes : List ℕ) (fault : JoinFault) → protocol.history.under ≡ Some frame → outcome ≡ next_outcome task notes (stop_unjoined fault)
+    → ((most_bytes frame.params < length frame.payload + length bytes) × (fault ≡ Long)) ⊎ (fault ≡ NoMem) → EndsBy protocol rest outcome
+ends_by protocol rest outcome task notes frame bytes fault under ends (inl w) = ByLength frame bytes under w.0 (ends ∙ ap (λ (f : JoinFault). next_outcome task notes (stop_unjoined f)) w.1)
+ends_by protocol rest outcome task notes frame bytes fault under ends (inr w) = ByMemory (ends ∙ ap (λ (f : JoinFault). next_outcome task notes (stop_unjoined f)) w)
 
 pub stage_fails : {R : Type 0} (left_of : R → Option (List ℕ)) (job : Job) (read_ wrote : List ℕ) (coming0 coming : Option (List (List ℕ))) (given : GivenFiles) (was : R) (old new : ClientState) (piece : List ℕ)
     → is_running old.outcome ≡ true
@@ -362,7 +394,8 @@ stage_fails left_of job read_ wrote coming0 coming given was old new piece runni
   rest = s.rest;
   did = subst (λ (l : List ℕ). BytesMatchTrace job s.trace read_ wrote s.rest l) (sym (ap (λ (v : ClientState). v.out) e.rest)) s.did;
   stands = inr (falls left_of coming0 coming s.trace s.rest s.rest (Some was) old new s.history f running
-      (ByShape old.target.task e.fault (ap (λ (v : ClientState). v.outcome) e.rest ∙ ap (λ (t : ProtocolState). next_outcome old.target.task t.notes (stop_unjoined e.fault)) f.protocol_is))
+      (ends_by s.trace.protocol s.rest new.outcome old.target.task old.notes e.frame (e.reads.before ++ e.reads.last) e.fault (ap (λ (t : ProtocolState). t.history.under) (sym f.protocol_is) ∙ e.under) (ap (λ (v : ClientState). v.outcome) e.rest)
+      (refused s.history e.frame e.reads.before e.reads.last e.reads.starved e.fault (calm_at old.progress s.history (fits_at s.history old running s.serves).1) e.reads.fails))
       (ap (λ (v : ClientState). is_running v.outcome) e.rest ∙ unjoined_over old.target.task old.notes e.fault));
 }
 

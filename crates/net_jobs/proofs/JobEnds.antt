@@ -34,9 +34,10 @@ use Rattle.client_replies.specs.ProtocolStates.{ProtocolState, target_of, is_run
 use Rattle.net_client.specs.ClientStates.{ClientState, ClientRepresents, IsNewClient, after_client_end}
 use Rattle.net_jobs.specs.JobTraces.{TraceEvent, Replied, Opened, Came, Finished, Gave, Turned, JobTrace, BytesMatchTrace, EventsLead, EndWell}
 use Rattle.net_jobs.specs.Links.{Calls, Wrote, Failed, HasBrought, BeginWith}
-use Rattle.net_jobs.specs.RunInvariants.{LinkMatchesTrace, ClientFollowsTrace, Falls, GivenFiles, no_files_given, RunInvariant, FullRunInvariant, EndsBy, ByLoss, ByMemory, ByGarble, ByShape}
+use Rattle.net_jobs.specs.RunInvariants.{LinkMatchesTrace, ClientFollowsTrace, Falls, GivenFiles, no_files_given, RunInvariant, FullRunInvariant, EndsBy, ByLoss, ByMemory, ByGarble, ByLength}
 use Rattle.net_jobs.specs.RunPromises.{RanWithTrace, RanDone, RanEnded, HasRun, HasRefusal, StopsAs}
-use Rattle.net_jobs.specs.NetDraining.{HoldsGiven, IsDrainedTo, StopsShort}
+use Rattle.net_jobs.specs.NetDraining.{HoldsGiven, IsDrainedTo}
+use Rattle.scan_job.specs.FileOutputs.{StopsShort}
 use Rattle.net_jobs.proofs.Tracing.{did_quiet}
 use Rattle.net_jobs.proofs.KeepingInvariant.{lets_go}
 use Rattle.net_jobs.proofs.RunInvariants.{stage_wrote, stage_cut, going_begun}
@@ -311,18 +312,12 @@ closed_cut remaining contents left_of job first coming0 held control coming stre
 
 -- ---- what such a job promises
 
-unjoined_not_done : (task : Task) (notes : Notes) (fault : JoinFault) (reports : Reports) → next_outcome task notes (stop_unjoined fault) ≡ Done reports → ⊥
-unjoined_not_done task notes Shape reports e = let clash : Ended statuses.IoError whys.Malformed ≡ Done reports = e in cc
-unjoined_not_done task notes Long reports e = let clash : Ended statuses.IoError whys.Long ≡ Done reports = e in cc
-unjoined_not_done task notes Short reports e = let clash : Ended statuses.IoError whys.Short ≡ Done reports = e in cc
-unjoined_not_done task notes NoMem reports e = let clash : Ended statuses.NoMem whys.Memory ≡ Done reports = e in cc
-
 -- only what ends a job otherwise falls out of its trace
 not_done : (protocol : ProtocolState) (rest : List ℕ) (outcome : Outcome) (reports : Reports) → outcome ≡ Done reports → EndsBy protocol rest outcome → ⊥
 not_done protocol rest outcome reports e (ByLoss x) = let clash : Done reports ≡ Ended statuses.IoError whys.Lost = sym e ∙ x in cc
 not_done protocol rest outcome reports e (ByMemory x) = let clash : Done reports ≡ Ended statuses.NoMem whys.Memory = sym e ∙ x in cc
 not_done protocol rest outcome reports e (ByGarble procedure awaits no_start x) = let clash : Done reports ≡ Ended statuses.IoError whys.Malformed = sym e ∙ x in cc
-not_done protocol rest outcome reports e (ByShape task fault x) = unjoined_not_done task protocol.notes fault reports (sym x ∙ e)
+not_done protocol rest outcome reports e (ByLength frame bytes under long x) = let clash : Done reports ≡ Ended statuses.IoError whys.Long = sym e ∙ x in cc
 
 pub followed : {R : Type 0} (left_of : R → Option (List ℕ)) (coming0 coming : Option (List (List ℕ))) (trace : JobTrace) (rest : List ℕ) (stream : Option R) (c : ClientState) (past : JoinHistory) (reports : Reports) → c.outcome ≡ Done reports
     → ClientFollowsTrace left_of coming0 coming trace rest stream c past ⊎ Falls coming0 coming trace rest c → ClientFollowsTrace left_of coming0 coming trace rest stream c past
@@ -437,17 +432,11 @@ pub cause_of : (protocol : ProtocolState) (rest : List ℕ) (outcome told : Outc
 cause_of protocol rest outcome told e (inl x) = inl (x ∙ e)
 cause_of protocol rest outcome told e (inr x) = inr (inl (subst (λ (o : Outcome). EndsBy protocol rest o) e x))
 
-unjoined_refuses : (task : Task) (notes : Notes) (fault : JoinFault) → HasRefusal (next_outcome task notes (stop_unjoined fault))
-unjoined_refuses task notes Shape = λ e. cc
-unjoined_refuses task notes Long = λ e. cc
-unjoined_refuses task notes Short = λ e. cc
-unjoined_refuses task notes NoMem = λ e. cc
-
 cut_refuses : (protocol : ProtocolState) (rest : List ℕ) (outcome : Outcome) → EndsBy protocol rest outcome → HasRefusal outcome
 cut_refuses protocol rest outcome (ByLoss x) = subst HasRefusal (sym x) (λ e. cc)
 cut_refuses protocol rest outcome (ByMemory x) = subst HasRefusal (sym x) (λ e. cc)
 cut_refuses protocol rest outcome (ByGarble procedure awaits no_start x) = subst HasRefusal (sym x) (λ e. cc)
-cut_refuses protocol rest outcome (ByShape task fault x) = subst HasRefusal (sym x) (unjoined_refuses task protocol.notes fault)
+cut_refuses protocol rest outcome (ByLength frame bytes under long x) = subst HasRefusal (sym x) (λ e. cc)
 
 -- however a job has ended otherwise, it has another status than GOOD
 pub ran_refuses : (job : Job) (trace : JobTrace) (read_ wrote rest left : List ℕ) (outcome : Outcome) → BytesMatchTrace job trace read_ wrote rest left → (trace.protocol.outcome ≡ outcome) ⊎ EndsBy trace.protocol rest outcome → HasRefusal outcome

@@ -19,7 +19,8 @@ use Rattle.client_replies.specs.declared.progress.Progress.TheVariants as stages
 use Rattle.client_replies.specs.ProtocolStates.{HistoryFits, is_ended, turns}
 use Rattle.net_client.specs.ClientStates.{ClientState, ClientRepresents}
 use Rattle.net_client.proofs.Hearings.{calm_at}
-use Rattle.net_jobs.specs.NetDraining.{IsDrainedTo, StopsShort}
+use Rattle.net_jobs.specs.NetDraining.{IsDrainedTo}
+use Rattle.scan_job.specs.FileOutputs.{StopsShort}
 
 -- ---- a scan turns no page
 

@@ -5,7 +5,8 @@ use Rattle.std.proofs.lemmas.List.{append-nil}
 use Rattle.scan_job.specs.Shelves.{Stock, ReturnedOutput, OpensOutput, IsNewOutput, Shelves}
 use Rattle.netpbm.specs.Pnm.{IsWhole}
 use Rattle.frame_join.specs.FrameHistory.{JoinHistory}
-use Rattle.net_jobs.specs.Outputs.{TakesBack, HasTaken, AreLeft, GivesBack, output_of, page_outputs_from}
+use Rattle.net_jobs.specs.Outputs.{HasTaken, page_outputs_from}
+use Rattle.scan_job.specs.FileOutputs.{TakesBack, AreLeft, GivesBack, output_of}
 
 -- an output that was had now
 told : (contents after : Option (List ℕ)) (bytes : List ℕ) → contents ≡ Some [] → Appends contents after bytes → after ≡ Some bytes

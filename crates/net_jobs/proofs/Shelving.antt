@@ -28,14 +28,15 @@ use Rattle.client_replies.specs.ProtocolStates.{ProtocolState, target_of, is_run
 use Rattle.net_client.specs.Sending.{optional_request_text}
 use Rattle.net_client.specs.ClientStates.{ClientState, ClientRepresents, IsNewClient, TurnsPage, protocol_of, after_client_end}
 use Rattle.net_jobs.specs.JobTraces.{JobTrace, EventLeads, Turned, protocol_of_next_page}
-use Rattle.net_jobs.specs.RunInvariants.{LinkMatchesTrace, ClientFollowsTrace, Falls, GivenFiles, no_files_given, RunInvariant, FullRunInvariant, EndsBy, ByLoss, ByMemory, ByGarble, ByShape}
+use Rattle.net_jobs.specs.RunInvariants.{LinkMatchesTrace, ClientFollowsTrace, Falls, GivenFiles, no_files_given, RunInvariant, FullRunInvariant, EndsBy, ByLoss, ByMemory, ByGarble, ByLength}
 use Rattle.net_jobs.specs.Links.{Calls, Wrote, Failed}
-use Rattle.net_jobs.specs.Outputs.{TakesBack, HasTaken, OutputIsUnderWay, page_outputs_from}
+use Rattle.net_jobs.specs.Outputs.{HasTaken, OutputIsUnderWay, page_outputs_from}
+use Rattle.scan_job.specs.FileOutputs.{TakesBack}
 use Rattle.net_jobs.specs.Paging.{IsFiling, PageGoesOn, TurnsOn, HasFiled}
 use Rattle.net_jobs.specs.Batches.{IsPageFile}
 use Rattle.net_jobs.proofs.Tracing.{did_say}
 use Rattle.net_jobs.proofs.KeepingInvariant.{following}
-use Rattle.net_jobs.proofs.DataLoop.{behind_some, unjoined_ended}
+use Rattle.net_jobs.proofs.DataLoop.{behind_some}
 use Rattle.net_jobs.proofs.RunInvariants.{none_open, stage_wrote, stage_cut, going_begun}
 use Rattle.net_jobs.proofs.FileNumbers.{Counts, counts, is_turning_at}
 use Rattle.net_jobs.proofs.JobEnds.{NoneBefore, more_given, stage_gave_by, task_is, cut_out, cut_alive, running_ends}
@@ -75,7 +76,7 @@ falls_ended : (protocol : ProtocolState) (rest : List ℕ) (outcome : Outcome) �
 falls_ended protocol rest outcome (ByLoss x) = ap is_ended x
 falls_ended protocol rest outcome (ByMemory x) = ap is_ended x
 falls_ended protocol rest outcome (ByGarble procedure awaits no_start x) = ap is_ended x
-falls_ended protocol rest outcome (ByShape task fault x) = ap is_ended x ∙ unjoined_ended task protocol.notes fault
+falls_ended protocol rest outcome (ByLength frame bytes under long x) = ap is_ended x
 
 number_by : {R : Type 0} (left_of : R → Option (List ℕ)) (coming0 coming : Option (List (List ℕ))) (task : Task) (trace : JobTrace) (rest : List ℕ) (stream : Option R) (c : ClientState) (past : JoinHistory) → Counts task trace → is_ended c.outcome ≡ false
     → ClientFollowsTrace left_of coming0 coming trace rest stream c past ⊎ Falls coming0 coming trace rest c → c.notes.file ≡ length trace.pages + 1

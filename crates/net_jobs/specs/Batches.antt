@@ -18,7 +18,8 @@ use Rattle.scan_job.specs.JobSize.{HasJobFault}
 use Rattle.scan_job.specs.Shelves.{Stock, ReturnedOutput}
 use Rattle.net_jobs.specs.JobTraces.{JobTrace, EndWell}
 use Rattle.net_jobs.specs.RunInvariants.{EndsBy}
-use Rattle.net_jobs.specs.Outputs.{TakesBack, AreLeft, page_outputs_from}
+use Rattle.net_jobs.specs.Outputs.{page_outputs_from}
+use Rattle.scan_job.specs.FileOutputs.{TakesBack, AreLeft}
 use Rattle.net_jobs.specs.RunPromises.{RanWithTrace, HasRefusal, refused_as}
 
 -- what was given of a page is a whole file, that of the picture that its frames show

@@ -2,7 +2,7 @@
 use Rattle.std.specs.Prelude.{ℕ, ◌≡◌, false, Option, List, ◌++◌}
 use Rattle.std.specs.Io.KnownBytes.{Appends}
 use Rattle.netpbm.specs.Picture.{Picture}
-use Rattle.netpbm.specs.Pnm.{Denotes, IsWhole}
+use Rattle.netpbm.specs.Pnm.{Denotes}
 use Rattle.page_picture.specs.Shows.{ShowsFrames}
 use Rattle.frame_join.specs.FrameHistory.{JoinHistory, IsJoined, after_pull}
 use Rattle.scan_job.specs.declared.job.Task.TheVariants as tasks
@@ -22,9 +22,3 @@ pub record IsDrainedTo (past : JoinHistory) (old : ClientState) (first : Option 
   pub rest : new ≡ record old { join = new.join }
   pub taken : Appends first contents (past.given ++ bytes)
   pub denotes : is_ended old.outcome ≡ false → IsJoined past → (p : Picture) → ShowsFrames past.ended p → Denotes (past.given ++ bytes) p
-
--- the output took a text that is no whole file
-pub record StopsShort (first contents : Option (List ℕ)) : Type 0 where
-  pub text : List ℕ
-  pub taken : Appends first contents text
-  pub not_whole : IsWhole text → ⊥

@@ -1,29 +1,13 @@
 -- The outputs of a job's files, as far as their shelf tells of them.
 use Rattle.std.specs.Prelude.{ℕ, suc, ◌≡◌, ◌<◌, ⊤, Option, Some, None, List, [], ◌∷◌, ◌++◌, length, take}
-use Rattle.netpbm.specs.Pnm.{IsWhole}
 use Rattle.frame_join.specs.FrameHistory.{JoinHistory}
-use Rattle.scan_job.specs.Shelves.{Stock, ReturnedOutput, Shelves}
-
--- the outputs that a shelf took back since, where it is known
-abbrev pub TakesBack : Option Stock → List ReturnedOutput → Option Stock → Type 0
-TakesBack None outputs new = ⊤
-TakesBack (Some old) outputs None = ⊥
-TakesBack (Some old) outputs (Some new) = new.taken ≡ old.taken ++ outputs
-
--- the output of the file of that number, with these bytes
-abbrev pub output_of : ℕ → List ℕ → ReturnedOutput
-output_of k text = record { number = k; text = Some text }
+use Rattle.scan_job.specs.Shelves.{Stock, ReturnedOutput}
+use Rattle.scan_job.specs.FileOutputs.{output_of}
 
 -- the outputs of the files of these pages, numbered from k on
 abbrev pub page_outputs_from : ℕ → List JoinHistory → List ReturnedOutput
 page_outputs_from k [] = []
 page_outputs_from k (page ∷ more) = output_of k page.given ∷ page_outputs_from (suc k) more
-
--- what is left of the file of that number which did not come to its end: no output, or one that took no whole file
-abbrev pub AreLeft : ℕ → List ReturnedOutput → Type 0
-AreLeft k [] = Unit {0}
-AreLeft k (output ∷ []) = (text : List ℕ) × (output ≡ output_of k text) × (IsWhole text → ⊥)
-AreLeft k (_ ∷ _ ∷ _) = ⊥
 
 -- ---- an output under way
 
@@ -51,8 +35,3 @@ TakesMore was out now new k bytes = (before : Option Stock) (outputs : List Retu
 abbrev pub TakesFront : Option Stock → Option (Option (List ℕ)) → Option Stock → Option (Option (List ℕ)) → ℕ → List ℕ → Type 0
 TakesFront was out now new k bytes =
     (before : Option Stock) (outputs : List ReturnedOutput) (had : List ℕ) → HasTaken before outputs was out k had → (n : ℕ) × (n < length bytes) × HasTaken before outputs now new k (had ++ take n bytes)
-
--- one that stands is taken back, with what it holds
-abbrev pub GivesBack : Option Stock → Option (Option (List ℕ)) → Option Stock → Type 0
-GivesBack old None new = new ≡ old
-GivesBack old (Some contents) new = Shelves old contents new

@@ -15,7 +15,8 @@ use Rattle.client_replies.specs.ProtocolStates.{is_ended, scans, turns}
 use Rattle.net_client.specs.ClientStates.{ClientState, ClientRepresents, TurnsPage}
 use Rattle.net_jobs.specs.JobTraces.{EndWell}
 use Rattle.net_jobs.specs.RunInvariants.{EndsBy}
-use Rattle.net_jobs.specs.Outputs.{TakesBack, HasTaken, OutputIsUnderWay, output_of, page_outputs_from}
+use Rattle.net_jobs.specs.Outputs.{HasTaken, OutputIsUnderWay, page_outputs_from}
+use Rattle.scan_job.specs.FileOutputs.{TakesBack, output_of}
 use Rattle.net_jobs.specs.RunPromises.{RanWithTrace, HasRefusal}
 use Rattle.net_jobs.specs.Batches.{IsPageFile, MayScan, pages_of}
 

@@ -1,23 +1,21 @@
 -- How far a job over streams is between two turns of its loop.
 use Rattle.std.specs.Io.KnownBytes.{Consumes}
-use Rattle.std.specs.Prelude.{ℕ, ◌≡◌, ◌≤◌, ◌⊎◌, Bool, true, false, Option, Some, None, List, [], ◌∷◌, ◌++◌, length}
+use Rattle.std.specs.Prelude.{ℕ, ◌+◌, ◌≡◌, ◌<◌, ◌≤◌, ◌⊎◌, Bool, true, false, Option, Some, None, List, [], ◌∷◌, ◌++◌, length}
 use Rattle.sane_fixed.specs.declared.status.Status.TheVariants as statuses
 use Rattle.page_picture.specs.Shows.{Frame}
 use Rattle.frame_join.specs.FrameHistory.{JoinHistory}
-use Rattle.frame_join.specs.declared.join_stage.JoinFault.{JoinFault}
+use Rattle.frame_join.specs.AloneFrame.{most_bytes}
 use Rattle.wire_format.specs.Limit.{IsNoStart}
 use Rattle.wire_message.specs.Message.{message_limit, reply}
 use Rattle.wire_message.specs.declared.message.Procedure.{Procedure}
 use Rattle.data_records.specs.declared.records.RecordPhase.TheVariants as phases
 use Rattle.data_records.specs.Records.{CarriesRecords}
 use Rattle.scan_job.specs.declared.job.Job.{Job}
-use Rattle.scan_job.specs.declared.job.Task.{Task}
 use Rattle.scan_job.specs.declared.outcome.Outcome.{Outcome}
 use Rattle.scan_job.specs.declared.outcome.Outcome.TheVariants.{Ended}
 use Rattle.scan_job.specs.declared.outcome.Why.TheVariants as whys
 use Rattle.client_replies.specs.declared.progress.Progress.TheVariants as stages
-use Rattle.client_replies.specs.ReplyTurns.{stop_unjoined}
-use Rattle.client_replies.specs.ProtocolStates.{ProtocolState, target_of, is_running, is_receiving, next_outcome}
+use Rattle.client_replies.specs.ProtocolStates.{ProtocolState, target_of, is_running, is_receiving}
 use Rattle.net_client.specs.ClientStates.{ClientState, ClientRepresents, protocol_of, after_client_end}
 use Rattle.net_client.specs.ReplyPieces.{awaited_procedure, Heeds}
 use Rattle.net_jobs.specs.JobTraces.{JobTrace, BytesMatchTrace}
@@ -60,12 +58,13 @@ pub record ClientFollowsTrace {R : Type 0} (remaining : R → Option (List ℕ))
   pub linked : LinkMatchesTrace remaining coming0 coming trace.streams stream c past
 
 -- What ends a job that is in that trace, apart from its replies and the ends of its frames: a lost connection, want of
--- memory, bytes that begin no reply to what is waited for, or a frame of a wrong shape.
+-- memory, bytes that begin no reply to what is waited for, or more bytes of a frame than it was to have.
 pub data EndsBy (protocol : ProtocolState) (rest : List ℕ) (outcome : Outcome) : Type 0 where
   ByLoss : outcome ≡ Ended statuses.IoError whys.Lost → EndsBy protocol rest outcome
   ByMemory : outcome ≡ Ended statuses.NoMem whys.Memory → EndsBy protocol rest outcome
   ByGarble : (procedure : Procedure) → awaited_procedure protocol.progress ≡ Some procedure → IsNoStart message_limit (reply procedure) rest → outcome ≡ Ended statuses.IoError whys.Malformed → EndsBy protocol rest outcome
-  ByShape : (task : Task) (fault : JoinFault) → outcome ≡ next_outcome task protocol.notes (stop_unjoined fault) → EndsBy protocol rest outcome
+  ByLength : (frame : Frame) (bytes : List ℕ) → protocol.history.under ≡ Some frame → most_bytes frame.params < length frame.payload + length bytes
+      → outcome ≡ Ended statuses.IoError whys.Long → EndsBy protocol rest outcome
 
 -- the job has ended otherwise; at most one data connection was open
 pub record Falls (coming0 coming : Option (List (List ℕ))) (trace : JobTrace) (rest : List ℕ) (c : ClientState) : Type 0 where

@@ -18,6 +18,7 @@ pub trait Dial {
 
     /// A connection to that port of the host of the control connection.
     fn dial(&mut self, port: u16) -> Result<Self::Conn, DialFault>
-        ensures brings { IfOk result (λ conn. DialBrings (coming self.old) (coming self.new) (Self.Conn.remaining conn)) }
+        ensures brings { IfOk result
+            (λ conn. DialBrings (coming self.old) (coming self.new) (Self.Conn.remaining conn)) }
         ensures none { OnErr result (coming self.new ≡ coming self.old) };
 }

@@ -7,7 +7,8 @@ ghost use Rattle.scan_job.specs.Shelves.{Stock, ReturnedOutput};
 ghost use Rattle.frame_join.specs.FrameHistory.{JoinHistory};
 ghost use Rattle.client_replies.specs.ProtocolStates.{scans};
 ghost use Rattle.net_client.specs.ClientStates.{IsNewClient};
-ghost use Rattle.net_jobs.specs.Outputs.{TakesMore, TakesFront, GivesBack};
+ghost use Rattle.net_jobs.specs.Outputs.{TakesMore, TakesFront};
+ghost use Rattle.scan_job.specs.FileOutputs.{GivesBack};
 ghost use Rattle.net_jobs.specs.Paging.{IsFiling, HasFiled, HasFiledShort, BatchHasCome};
 ghost use Rattle.net_jobs.specs.Batches.{HasBatchRun, RefusesBatch, closed_as};
 
@@ -43,8 +44,12 @@ fn shelve<S: Shelf>(
     reads: &mut u64,
 ) -> bool
     requires { 0 < length bytes.now }
-    ensures whole { result ≡ true → TakesMore (S.stock shelf.old) (option_map S.Out.contents under.old) (S.stock shelf.new) (option_map S.Out.contents under.new) number bytes.now }
-    ensures front { result ≡ false → TakesFront (S.stock shelf.old) (option_map S.Out.contents under.old) (S.stock shelf.new) (option_map S.Out.contents under.new) number bytes.now }
+    ensures whole { result ≡ true
+        → TakesMore (S.stock shelf.old) (option_map S.Out.contents under.old)
+        (S.stock shelf.new) (option_map S.Out.contents under.new) number bytes.now }
+    ensures front { result ≡ false
+        → TakesFront (S.stock shelf.old) (option_map S.Out.contents under.old)
+        (S.stock shelf.new) (option_map S.Out.contents under.new) number bytes.now }
 {
     match under {
         Some(out) => put(out, bytes, reads),
@@ -84,12 +89,16 @@ fn drain<S: Shelf>(
     ensures room { length room.new ≡ length room.old }
     ensures outcome { client.new.outcome ≡ client.old.outcome }
     // `k` is the number of the file under way, and `past` what the client was told and gave.
-    ensures drained { result ≡ true → (before : Option Stock) (outputs : List ReturnedOutput) (k : ℕ) (past : JoinHistory)
-        → IsFiling past client.old k before outputs (S.stock shelf.old) (option_map S.Out.contents under.old)
-        → HasFiled past client.old k before outputs client.new (S.stock shelf.new) (option_map S.Out.contents under.new) }
-    ensures short { result ≡ false → (before : Option Stock) (outputs : List ReturnedOutput) (k : ℕ) (past : JoinHistory)
-        → IsFiling past client.old k before outputs (S.stock shelf.old) (option_map S.Out.contents under.old)
-        → HasFiledShort past client.old k before outputs client.new (S.stock shelf.new) (option_map S.Out.contents under.new) }
+    ensures drained { result ≡ true
+        → (before : Option Stock) (outputs : List ReturnedOutput) (k : ℕ) (past : JoinHistory)
+        → IsFiling past client.old k before outputs (S.stock shelf.old)
+        (option_map S.Out.contents under.old) → HasFiled past client.old k before outputs client.new
+        (S.stock shelf.new) (option_map S.Out.contents under.new) }
+    ensures short { result ≡ false
+        → (before : Option Stock) (outputs : List ReturnedOutput) (k : ℕ) (past : JoinHistory)
+        → IsFiling past client.old k before outputs
+        (S.stock shelf.old) (option_map S.Out.contents under.old) → HasFiledShort past client.old
+        k before outputs client.new (S.stock shelf.new) (option_map S.Out.contents under.new) }
 {
     no_file_is_endless();
     no_front_is_whole();
@@ -123,13 +132,18 @@ fn fill<S: Shelf>(
     requires { 0 < length room.old }
     ensures room { length room.new ≡ length room.old }
     ensures outcome { client.new.outcome ≡ client.old.outcome }
-    ensures none { is_scanning ≡ false → (result ≡ true) × (client.new ≡ client.old) × (shelf.new ≡ shelf.old) × (under.new ≡ under.old) }
-    ensures drained { is_scanning ≡ true → result ≡ true → (before : Option Stock) (outputs : List ReturnedOutput) (k : ℕ) (past : JoinHistory)
-        → IsFiling past client.old k before outputs (S.stock shelf.old) (option_map S.Out.contents under.old)
-        → HasFiled past client.old k before outputs client.new (S.stock shelf.new) (option_map S.Out.contents under.new) }
-    ensures short { result ≡ false → (before : Option Stock) (outputs : List ReturnedOutput) (k : ℕ) (past : JoinHistory)
-        → IsFiling past client.old k before outputs (S.stock shelf.old) (option_map S.Out.contents under.old)
-        → HasFiledShort past client.old k before outputs client.new (S.stock shelf.new) (option_map S.Out.contents under.new) }
+    ensures none { is_scanning ≡ false → (result ≡ true)
+        × (client.new ≡ client.old) × (shelf.new ≡ shelf.old) × (under.new ≡ under.old) }
+    ensures drained { is_scanning ≡ true → result ≡ true
+        → (before : Option Stock) (outputs : List ReturnedOutput) (k : ℕ) (past : JoinHistory)
+        → IsFiling past client.old k before outputs (S.stock shelf.old)
+        (option_map S.Out.contents under.old) → HasFiled past client.old k before outputs client.new
+        (S.stock shelf.new) (option_map S.Out.contents under.new) }
+    ensures short { result ≡ false
+        → (before : Option Stock) (outputs : List ReturnedOutput) (k : ℕ) (past : JoinHistory)
+        → IsFiling past client.old k before outputs
+        (S.stock shelf.old) (option_map S.Out.contents under.old) → HasFiledShort past client.old
+        k before outputs client.new (S.stock shelf.new) (option_map S.Out.contents under.new) }
 {
     if !is_scanning {
         return true;
@@ -277,8 +291,9 @@ pub fn run_batch<C: Read + Write, D: Dial, S: Shelf>(
 ) -> Outcome
     ensures over { IsOver result }
     // A job that is refused, or finds no memory for its buffers, touches no stream and no shelf.
-    ensures ran { RefusesBatch job result control.old control.new dial.old dial.new shelf.old shelf.new
-        ⊎ HasBatchRun C.remaining C.contents job control.old (D.coming dial.old) control.new (D.coming dial.new) (S.stock shelf.old) (S.stock shelf.new) result }
+    ensures ran { RefusesBatch job result control.old control.new dial.old dial.new
+        shelf.old shelf.new ⊎ HasBatchRun C.remaining C.contents job control.old (D.coming dial.old)
+        control.new (D.coming dial.new) (S.stock shelf.old) (S.stock shelf.new) result }
 {
     match run_batch_with(alloc, job, control, dial, shelf, |_| Ok(())) {
         Ok((reports, ())) => Outcome::Done(reports),

@@ -9,7 +9,8 @@ ghost use Rattle.scan_job.specs.Outcomes.{IsOver, over_as};
 ghost use Rattle.frame_join.specs.FrameHistory.{JoinHistory};
 ghost use Rattle.client_replies.specs.ProtocolStates.{is_running, is_receiving, is_batch, wanted_port};
 ghost use Rattle.net_client.specs.ClientStates.{ClientRepresents, IsNewClient};
-ghost use Rattle.net_jobs.specs.NetDraining.{HoldsGiven, IsDrainedTo, StopsShort};
+ghost use Rattle.net_jobs.specs.NetDraining.{HoldsGiven, IsDrainedTo};
+ghost use Rattle.scan_job.specs.FileOutputs.{StopsShort};
 ghost use Rattle.net_jobs.specs.RunInvariants.{RunInvariantIsKept, TurnGoesOn, HeardOrLost};
 ghost use Rattle.net_jobs.specs.RunPromises.{HasRun, RefusesJob, StopsAs, refused_as};
 
@@ -72,9 +73,11 @@ fn write_out<C: Write>(
     requires { 0 < length room.old }
     ensures room { length room.new ≡ length room.old }
     ensures rest { client.new ≡ record client.old { out = client.new.out } }
-    ensures whole { IsTrue result → Appends (C.contents control.old) (C.contents control.new) client.old.out }
+    ensures whole { IsTrue result
+        → Appends (C.contents control.old) (C.contents control.new) client.old.out }
     ensures none { IsTrue result → client.new.out ≡ [] }
-    ensures front { result ≡ false → (n : ℕ) × (n < length client.old.out) × Appends (C.contents control.old) (C.contents control.new) (take n client.old.out) }
+    ensures front { result ≡ false → (n : ℕ) × (n < length client.old.out)
+        × Appends (C.contents control.old) (C.contents control.new) (take n client.old.out) }
 {
     loop {
         let n = client.take_out(room);
@@ -91,7 +94,8 @@ fn write_out<C: Write>(
 fn read_piece<R: Read>(stream: &mut R, piece: &mut [u8], reads: &mut u64) -> usize
     ensures count { result ≤ length piece.old }
     ensures room { length piece.new ≡ length piece.old }
-    ensures bytes { Consumes (R.remaining stream.old) (R.remaining stream.new) (take result piece.new) }
+    ensures bytes { Consumes (R.remaining stream.old)
+        (R.remaining stream.new) (take result piece.new) }
 {
     while *reads > 0 {
         *reads -= 1;
@@ -108,7 +112,9 @@ fn read_piece<R: Read>(stream: &mut R, piece: &mut [u8], reads: &mut u64) -> usi
 fn hear<C: Read>(client: &mut Client, control: &mut C, piece: &mut [u8], reads: &mut u64)
     requires { is_running client.old.outcome ≡ true }
     ensures room { length piece.new ≡ length piece.old }
-    ensures heard { (past : JoinHistory) → ClientRepresents past client.old → HeardOrLost (C.remaining control.old) (C.remaining control.new) client.old past client.new }
+    ensures heard { (past : JoinHistory)
+        → ClientRepresents past client.old → HeardOrLost (C.remaining control.old)
+        (C.remaining control.new) client.old past client.new }
 {
     let n = read_piece(control, piece, reads);
     if n == 0 {
@@ -127,7 +133,8 @@ fn see<R: Read + Drop>(
 )
     requires { is_receiving client.old.outcome client.old.progress ≡ true }
     ensures room { length piece.new ≡ length piece.old }
-    ensures stage { (coming : Option (List (List ℕ))) → RunInvariantIsKept R.remaining coming coming stream.old stream.new client.old client.new }
+    ensures stage { (coming : Option (List (List ℕ)))
+        → RunInvariantIsKept R.remaining coming coming stream.old stream.new client.old client.new }
 {
     let Some(mut conn) = stream.take() else {
         client.link_lost(Link::Image);
@@ -148,7 +155,8 @@ fn see<R: Read + Drop>(
 fn connect<D: Dial>(client: &mut Client, dial: &mut D, stream: &mut Option<D::Conn>, port: u16)
     requires running { is_running client.old.outcome ≡ true }
     requires wanted { wanted_port client.old.progress ≡ Some port }
-    ensures stage { RunInvariantIsKept D.Conn.remaining (D.coming dial.old) (D.coming dial.new) stream.old stream.new client.old client.new }
+    ensures stage { RunInvariantIsKept D.Conn.remaining
+        (D.coming dial.old) (D.coming dial.new) stream.old stream.new client.old client.new }
 {
     match dial.dial(port) {
         Ok(conn) => {
@@ -174,7 +182,9 @@ pub(crate) fn go_on<C: Read + Write, D: Dial>(
     requires running { is_running client.old.outcome ≡ true }
     ensures piece { length piece.new ≡ length piece.old }
     ensures room { length room.new ≡ length room.old }
-    ensures going { TurnGoesOn C.remaining C.contents D.Conn.remaining (not result) control.old control.new (D.coming dial.old) (D.coming dial.new) stream.old stream.new client.old client.new }
+    ensures going { TurnGoesOn C.remaining C.contents D.Conn.remaining
+        (not result) control.old control.new
+        (D.coming dial.old) (D.coming dial.new) stream.old stream.new client.old client.new }
 {
     if client.is_receiving() {
         see(client, stream, piece, reads);
@@ -203,8 +213,12 @@ fn drain<W: Write>(client: &mut Client, room: &mut [u8], out: &mut W, reads: &mu
     ensures room { length room.new ≡ length room.old }
     ensures outcome { client.new.outcome ≡ client.old.outcome }
     // `first` is what the output held before the file, and `past` what the client was told and gave.
-    ensures drained { result ≡ true → (first : Option (List ℕ)) (past : JoinHistory) → HoldsGiven past client.old first (W.contents out.old) → IsDrainedTo past client.old first client.new (W.contents out.new) }
-    ensures short { result ≡ false → (first : Option (List ℕ)) (past : JoinHistory) → HoldsGiven past client.old first (W.contents out.old) → StopsShort first (W.contents out.new) }
+    ensures drained { result ≡ true → (first : Option (List ℕ)) (past : JoinHistory)
+        → HoldsGiven past client.old first (W.contents out.old)
+        → IsDrainedTo past client.old first client.new (W.contents out.new) }
+    ensures short { result ≡ false → (first : Option (List ℕ)) (past : JoinHistory)
+        → HoldsGiven past client.old first (W.contents out.old)
+        → StopsShort first (W.contents out.new) }
 {
     no_file_is_endless();
     no_front_is_whole();
@@ -231,9 +245,15 @@ fn give<W: Write>(
     requires { 0 < length room.old }
     ensures room { length room.new ≡ length room.old }
     ensures outcome { client.new.outcome ≡ client.old.outcome }
-    ensures none { is_scan ≡ false → (result ≡ true) × (client.new ≡ client.old) × (W.contents out.new ≡ W.contents out.old) }
-    ensures drained { is_scan ≡ true → result ≡ true → (first : Option (List ℕ)) (past : JoinHistory) → HoldsGiven past client.old first (W.contents out.old) → IsDrainedTo past client.old first client.new (W.contents out.new) }
-    ensures short { result ≡ false → (first : Option (List ℕ)) (past : JoinHistory) → HoldsGiven past client.old first (W.contents out.old) → StopsShort first (W.contents out.new) }
+    ensures none { is_scan ≡ false
+        → (result ≡ true) × (client.new ≡ client.old) × (W.contents out.new ≡ W.contents out.old) }
+    ensures drained { is_scan ≡ true
+        → result ≡ true → (first : Option (List ℕ)) (past : JoinHistory)
+        → HoldsGiven past client.old first (W.contents out.old)
+        → IsDrainedTo past client.old first client.new (W.contents out.new) }
+    ensures short { result ≡ false → (first : Option (List ℕ)) (past : JoinHistory)
+        → HoldsGiven past client.old first (W.contents out.old)
+        → StopsShort first (W.contents out.new) }
 {
     if !is_scan {
         return true;
@@ -252,7 +272,8 @@ pub(crate) fn leave<C: Write>(
     requires over { is_running client.outcome ≡ false }
     ensures over { IsOver result }
     ensures outcome { result ≡ client.outcome }
-    ensures wrote { (n : ℕ) × (n ≤ length client.out) × Appends (C.contents control.old) (C.contents control.new) (take n client.out) }
+    ensures wrote { (n : ℕ) × (n ≤ length client.out)
+        × Appends (C.contents control.old) (C.contents control.new) (take n client.out) }
 {
     let mut client = client;
     let _ = write_out(&mut client, control, room, reads);
@@ -382,10 +403,10 @@ where
     F: FnOnce(&Reports) -> Result<T, NoMem> + Drop,
     requires tell { F.IsAlwaysCallable tell }
     // A job that is refused, or finds no memory for its buffers, touches no stream.
-    ensures ran { RefusesJob job (over_as result) control.old control.new dial.old dial.new out.old out.new
-        ⊎ ((is_batch job.task ≡ false) × HasRun C.remaining C.contents job control.old
-        (D.coming dial.old) control.new (D.coming dial.new)
-        (W.contents out.old) (W.contents out.new) (over_as result)) }
+    ensures ran { RefusesJob job (over_as result)
+        control.old control.new dial.old dial.new out.old out.new ⊎ ((is_batch job.task ≡ false)
+        × HasRun C.remaining C.contents job control.old (D.coming dial.old) control.new
+        (D.coming dial.new) (W.contents out.old) (W.contents out.new) (over_as result)) }
     ensures told { IfOk result (λ done. FnOnceReturnsAt F.FnOnce tell done.0 (Ok done.1)) }
 {
     if job.task.is_batch() {
@@ -425,7 +446,9 @@ pub fn run_job<C: Read + Write, D: Dial, W: Write>(
     ensures over { IsOver result }
     // A job that is refused, or finds no memory for its buffers, touches no stream.
     ensures ran { RefusesJob job result control.old control.new dial.old dial.new out.old out.new
-        ⊎ ((is_batch job.task ≡ false) × HasRun C.remaining C.contents job control.old (D.coming dial.old) control.new (D.coming dial.new) (W.contents out.old) (W.contents out.new) result) }
+        ⊎ ((is_batch job.task ≡ false)
+        × HasRun C.remaining C.contents job control.old (D.coming dial.old) control.new
+        (D.coming dial.new) (W.contents out.old) (W.contents out.new) result) }
 {
     match run_job_with(alloc, job, control, dial, out, |_| Ok(())) {
         Ok((reports, ())) => Outcome::Done(reports),

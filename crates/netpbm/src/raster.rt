@@ -55,7 +55,8 @@ fn words_fit(maxval: u32, raster: &[u8], count: usize) -> bool
 /// Whether no number of the raster is above the greatest.
 pub fn none_above(maxval: u32, raster: &[u8], count: usize) -> bool
     requires { length raster.now ≡ count * sample_bytes maxval }
-    ensures { MatchBool result (NoneAbove maxval raster.now count) (SomeAbove maxval raster.now count) }
+    ensures { MatchBool result
+        (NoneAbove maxval raster.now count) (SomeAbove maxval raster.now count) }
 {
     // No byte is above 255, and no two bytes are above 65,535.
     match maxval {

@@ -35,6 +35,6 @@ pub fn what_is_computed_is_read()
 
 /// A law: what is shown of a value that fits reads as that value.
 pub fn what_is_shown_is_read()
-    ensures { (desc : Descriptor) (value : Value)
-        → Fits desc value → IsRepresentable value → ReadsAsValue desc (shown_text desc value) value }
+    ensures { (desc : Descriptor) (value : Value) → Fits desc value
+        → IsRepresentable value → ReadsAsValue desc (shown_text desc value) value }
 {}

@@ -116,7 +116,8 @@ fn read_number(alloc: Global, kind: Kind, size: u32, text: &[u8]) -> Result<Valu
     ensures answer { MatchResult result
         (λ value. number_of kind size text.now ≡ Some value)
         (λ status. Refuses status (number_of kind size text.now)) }
-    ensures memory { result ≡ Err Status.NoMem → (value : AnyValue) → number_of kind size text.now ≡ Some value → takes_memory value ≡ true }
+    ensures memory { result ≡ Err Status.NoMem → (value : AnyValue)
+        → number_of kind size text.now ≡ Some value → takes_memory value ≡ true }
 {
     if size == 4 {
         let word = read_word(kind, text).ok_or(Status::Inval)?;
@@ -162,7 +163,8 @@ pub fn read_text(alloc: Global, desc: &Descriptor, text: &[u8]) -> Result<Value,
         (λ value. read_value desc.now text.now ≡ Some value)
         (λ status. Refuses status (read_value desc.now text.now)) }
     // One word is read without memory.
-    ensures memory { result ≡ Err Status.NoMem → (value : AnyValue) → read_value desc.now text.now ≡ Some value → takes_memory value ≡ true }
+    ensures memory { result ≡ Err Status.NoMem → (value : AnyValue)
+        → read_value desc.now text.now ≡ Some value → takes_memory value ≡ true }
 {
     read_as(alloc, desc.kind, desc.size, text)
 }
@@ -171,7 +173,8 @@ fn read_as(alloc: Global, kind: Kind, size: u32, text: &[u8]) -> Result<Value, S
     ensures answer { MatchResult result
         (λ value. read_as kind size text.now ≡ Some value)
         (λ status. Refuses status (read_as kind size text.now)) }
-    ensures memory { result ≡ Err Status.NoMem → (value : AnyValue) → read_as kind size text.now ≡ Some value → takes_memory value ≡ true }
+    ensures memory { result ≡ Err Status.NoMem
+        → (value : AnyValue) → read_as kind size text.now ≡ Some value → takes_memory value ≡ true }
 {
     match kind {
         Kind::Bool => read_flag(text).ok_or(Status::Inval),

@@ -5,3 +5,4 @@ pub mod RowLemmas
 pub mod ShownLemmas
 pub mod RunLemmas
 pub mod ScalingLemmas
+pub mod EightLemmas

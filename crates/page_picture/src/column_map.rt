@@ -31,7 +31,13 @@ impl Model for ColumnMap {
 fn place(left: u32, x: u32, dpi: u32, resolution: u32, width: u32) -> u32
     requires some { 1 ≤ resolution }
     requires dots { dpi ≤ 1200 }
-    ensures { result ≡ place_at (record { left = left; dpi = dpi; resolution = resolution; width = width; count = 0 }) x }
+    ensures { result ≡ place_at (record {
+      left = left;
+      dpi = dpi;
+      resolution = resolution;
+      width = width;
+      count = 0;
+    }) x }
 {
     let column = (u64::from(left) + u64::from(x)) * u64::from(dpi) / u64::from(resolution);
     if column < u64::from(width) {
@@ -53,7 +59,14 @@ fn places(
     requires some { 1 ≤ resolution }
     requires dots { dpi ≤ 1200 }
     ensures size { IfOk result (λ places. length places.items ≡ count) }
-    ensures each { IfOk result (λ places. (x : ℕ) → x < count → slice_index places.items x ≡ place_at (record { left = left; dpi = dpi; resolution = resolution; width = width; count = count }) x) }
+    ensures each { IfOk result (λ places. (x : ℕ)
+        → x < count → slice_index places.items x ≡ place_at (record {
+          left = left;
+          dpi = dpi;
+          resolution = resolution;
+          width = width;
+          count = count;
+        }) x) }
 {
     let mut places = vec![in alloc; 0u32; count as usize]?;
     for x in 0..count {
@@ -103,7 +116,8 @@ impl ColumnMap {
         ensures first { IfSome result (λ first. first ≡ self.now.left) }
         ensures run { IfSome result (λ _. IsRun self.now) }
         ensures none { result ≡ None → ¬ (IsRun self.now) }
-        ensures each { IfSome result (λ first. (x : ℕ) → x < self.now.count → place_at self.now x ≡ first + x) }
+        ensures each { IfSome result (λ first. (x : ℕ)
+            → x < self.now.count → place_at self.now x ≡ first + x) }
     {
         let end = u64::from(self.left) + self.places.len() as u64;
         if self.dpi == self.resolution && self.resolution > 0 && end <= u64::from(self.width) {
@@ -116,7 +130,8 @@ impl ColumnMap {
     /// The page's columns that all columns of the picture show, with the page's width for those off the page.
     pub fn places(&self) -> &[u32]
         ensures size { length result.now ≡ self.now.count }
-        ensures each { (x : ℕ) → x < self.now.count → slice_index result.now x ≡ place_at self.now x }
+        ensures each { (x : ℕ)
+            → x < self.now.count → slice_index result.now x ≡ place_at self.now x }
     {
         &self.places
     }

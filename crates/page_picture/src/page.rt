@@ -25,8 +25,14 @@ impl Page {
 
     /// The page of these samples, row by row from the top, three for each place.
     pub fn new(width: u32, height: u32, dpi: u32, samples: Vec<u16>) -> Self
-        requires { IsShaped (record { width = width; height = height; dpi = dpi; samples = samples.items }) }
-        ensures { result ≡ record { width = width; height = height; dpi = dpi; samples = samples.items } }
+        requires { IsShaped (record {
+          width = width;
+          height = height;
+          dpi = dpi;
+          samples = samples.items;
+        }) }
+        ensures { result
+            ≡ record { width = width; height = height; dpi = dpi; samples = samples.items } }
     {
         Page {
             width,

@@ -26,15 +26,19 @@ pub trait Rereadable: Read + Seek {
     /// Reads on, as `read`.
     fn read_on(&mut self, buf: &mut [u8]) -> io::Result<usize>
         ensures bound { ReadsAtMost result buf.new }
-        ensures bytes { is_kept self.old ≡ true → ReadConsumes (Some (left self.old)) (Some (left self.new)) result buf.new }
-        ensures faults { is_kept self.old ≡ true → CountsFault (faults self.old) result (faults self.new) }
+        ensures bytes { is_kept self.old ≡ true
+            → ReadConsumes (Some (left self.old)) (Some (left self.new)) result buf.new }
+        ensures faults { is_kept self.old ≡ true
+            → CountsFault (faults self.old) result (faults self.new) }
         ensures kept { is_kept self.new ≡ is_kept self.old }
         ensures text { text self.new ≡ text self.old };
 
     /// Goes to a place, counted in bytes from the start.
     fn start_from(&mut self, place: u64) -> io::Result<()>
-        ensures place { OnOk result (is_kept self.old ≡ true → left self.new ≡ drop place (text self.old)) }
-        ensures faults { is_kept self.old ≡ true → CountsFault (faults self.old) result (faults self.new) }
+        ensures place { OnOk result (is_kept self.old ≡ true
+            → left self.new ≡ drop place (text self.old)) }
+        ensures faults { is_kept self.old ≡ true
+            → CountsFault (faults self.old) result (faults self.new) }
         ensures kept { is_kept self.new ≡ is_kept self.old }
         ensures text { text self.new ≡ text self.old };
 }

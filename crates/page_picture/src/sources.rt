@@ -4,7 +4,9 @@ ghost use Rattle.std.specs.Prelude.{◌≡◌, ◌*◌, true, length};
 ghost use Rattle.page_picture.specs.Page.{IsShaped, IsPageView};
 ghost use Rattle.page_picture.specs.Source.{SourceState, GivesRow, Rewinds};
 
+mod eights;
 mod failing_page;
+mod fitting;
 mod header_scan;
 mod kinds;
 mod memory_page;

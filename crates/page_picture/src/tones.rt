@@ -85,7 +85,8 @@ pub fn toned(depth: u32, table: &[u8; 256], light: u16) -> u16
 pub fn in_channel(scene: &Scene, k: u32, tone: u16) -> u16
     requires channel { k < 3 }
     requires tone { tone ≤ greatest_at scene.now.depth }
-    ensures value { result ≡ in_channel scene.now.mode scene.now.depth scene.now.channel_gamma k tone }
+    ensures value { result
+        ≡ in_channel scene.now.mode scene.now.depth scene.now.channel_gamma k tone }
     ensures limit { result ≤ greatest_at scene.now.depth }
 {
     match scene.mode {

@@ -10,4 +10,6 @@ mod pnm;
 #[cfg(test)]
 mod sources;
 #[cfg(test)]
+mod widths;
+#[cfg(test)]
 mod writing;

@@ -97,8 +97,9 @@ fn push_place(
 ) -> Result<(), AllocError>
     requires known { scene.now.resolution ≤ 1200 }
     requires inside { IsInside page.now scene.now x y }
-    ensures { OnOk result (file.new.items ≡ file.old.items
-        ++ concat_up_to (λ k. sample_text (greatest_at scene.now.depth) (sample_of page.now scene.now x y k)) (channels_in scene.now.mode)) }
+    ensures { OnOk result (file.new.items
+        ≡ file.old.items ++ concat_up_to (λ k. sample_text (greatest_at scene.now.depth)
+        (sample_of page.now scene.now x y k)) (channels_in scene.now.mode)) }
 {
     for k in 0..channels(scene.mode) {
         push_sample(file, greatest(scene.depth), sample(page, scene, x, y, k))?;
@@ -117,8 +118,9 @@ fn push_row(
     requires known { scene.now.resolution ≤ 1200 }
     requires extent { extent_of page.now scene.now ≡ Some size }
     requires row { y < size.1 }
-    ensures { OnOk result (file.new.items ≡ file.old.items
-        ++ samples_text (channels_in scene.now.mode) (greatest_at scene.now.depth) size.0 (λ x k. sample_of page.now scene.now x y k)) }
+    ensures { OnOk result (file.new.items
+        ≡ file.old.items ++ samples_text (channels_in scene.now.mode)
+        (greatest_at scene.now.depth) size.0 (λ x k. sample_of page.now scene.now x y k)) }
 {
     for x in 0..size.0 {
         push_place(file, page, scene, x, y)?;
@@ -193,8 +195,9 @@ fn push_line(
     requires known { scene.now.resolution ≤ 1200 }
     requires extent { extent_of page.now scene.now ≡ Some size }
     requires row { y < size.1 }
-    ensures { OnOk result (file.new.items ≡ file.old.items
-        ++ row_text (format_in scene.now.mode scene.now.depth) (greatest_at scene.now.depth) size.0 (λ x k. sample_of page.now scene.now x y k)) }
+    ensures { OnOk result (file.new.items
+        ≡ file.old.items ++ row_text (format_in scene.now.mode scene.now.depth)
+        (greatest_at scene.now.depth) size.0 (λ x k. sample_of page.now scene.now x y k)) }
 {
     match scene.mode {
         Mode::Gray if scene.depth == 1 => push_bits(file, page, scene, size, y),
@@ -208,7 +211,8 @@ fn push_line(
 pub fn scan_plain(alloc: Global, page: &Page, scene: &Scene) -> Result<Vec<u8>, PlainFault>
     requires { scene.now.resolution ≤ 1200 }
     // The file denotes the picture, and nothing else.
-    ensures found { IfOk result (λ file. IsSomeAnd (meaning_of page.now scene.now) (Denotes file.items)) }
+    ensures found { IfOk result
+        (λ file. IsSomeAnd (meaning_of page.now scene.now) (Denotes file.items)) }
     // Of the texts that denote it, it is the writer's.
     ensures text { IfOk result (λ file. IsPlainFile page.now scene.now file.items) }
     ensures none { (result ≡ Err PlainFault.NoPicture) ↔ IsNone (meaning_of page.now scene.now) }

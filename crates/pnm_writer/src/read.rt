@@ -129,7 +129,8 @@ fn sample_at(header: &Header, raster: &[u8], x: u32, y: u32, k: u32) -> u16
     requires column { x < header.now.width }
     requires row { y < header.now.height }
     requires channel { k < channels_of header.now.format }
-    ensures { result ≡ sample_in header.now.format header.now.width header.now.maxval raster.now x y k }
+    ensures { result
+        ≡ sample_in header.now.format header.now.width header.now.maxval raster.now x y k }
 {
     let width = header.width as usize;
     let place = y as usize * width + x as usize;
@@ -157,8 +158,9 @@ fn push_place(
     requires size { length raster.now ≡ raster_size header.now }
     requires column { x < header.now.width }
     requires row { y < header.now.height }
-    ensures { OnOk result (samples.new.items ≡ samples.old.items
-        ++ concat_up_to (λ k. sample_in header.now.format header.now.width header.now.maxval raster.now x y k ∷ []) (channels_of header.now.format)) }
+    ensures { OnOk result (samples.new.items ≡ samples.old.items ++ concat_up_to (λ k.
+        sample_in header.now.format header.now.width header.now.maxval raster.now x y k
+        ∷ []) (channels_of header.now.format)) }
 {
     for k in 0..channels(header.format) {
         samples.push(sample_at(header, raster, x, y, k))?;
@@ -177,8 +179,9 @@ fn push_row(
     requires height { header.now.height ≤ 65536 }
     requires size { length raster.now ≡ raster_size header.now }
     requires row { y < header.now.height }
-    ensures { OnOk result (samples.new.items ≡ samples.old.items
-        ++ samples_text (channels_of header.now.format) 0 header.now.width (λ x k. sample_in header.now.format header.now.width header.now.maxval raster.now x y k)) }
+    ensures { OnOk result (samples.new.items
+        ≡ samples.old.items ++ samples_text (channels_of header.now.format) 0 header.now.width
+        (λ x k. sample_in header.now.format header.now.width header.now.maxval raster.now x y k)) }
 {
     for x in 0..header.width {
         push_place(samples, header, raster, x, y)?;
@@ -192,7 +195,9 @@ fn read_samples(alloc: Global, header: &Header, raster: &[u8]) -> Result<Samples
     requires height { header.now.height ≤ 65536 }
     requires size { length raster.now ≡ raster_size header.now }
     ensures { IfOk result (λ samples. samples
-        ≡ concat_up_to (λ y. samples_text (channels_of header.now.format) 0 header.now.width (λ x k. sample_in header.now.format header.now.width header.now.maxval raster.now x y k)) header.now.height) }
+        ≡ concat_up_to (λ y. samples_text (channels_of header.now.format) 0 header.now.width
+        (λ x k. sample_in header.now.format header.now.width header.now.maxval raster.now x y k))
+        header.now.height) }
 {
     let mut items = Vec::new(alloc);
     for y in 0..header.height {
@@ -207,7 +212,8 @@ fn read_samples(alloc: Global, header: &Header, raster: &[u8]) -> Result<Samples
 pub fn read_pnm(alloc: Global, text: &[u8]) -> Result<Picture, PnmFault>
     ensures found { IfOk result (λ picture. Denotes text.now (picture_of_held picture)) }
     // It holds a sample for each channel of each place, and no more.
-    ensures size { IfOk result (λ picture. length picture.samples ≡ picture.width * picture.height * picture.channels) }
+    ensures size { IfOk result (λ picture. length picture.samples
+        ≡ picture.width * picture.height * picture.channels) }
     // A refusal says the first fault that the text has.
     ensures fault { IfErr result (λ fault. HasPnmFault fault text.now) }
 {

@@ -78,7 +78,7 @@ fn run(rt: &HostRuntime) -> Result<(), DaemonEnding> {
     }
     let users = users(rt, &options)?;
     let registry = Registry::new(rt.alloc(), devices).map_err(|_| DaemonEnding::NoMemory)?;
-    let mut daemon = Daemon::new(registry, users, seed);
+    let mut daemon = Daemon::with_strings(registry, users, options.strings, seed);
     serve_at(rt, &options, &mut daemon)
 }
 

@@ -1,6 +1,6 @@
 -- The words of saned's command line behind the program's name: options, each `--NAME=VALUE` or `--NAME` and its value, which
--- is the next word, whatever that begins with. No value is empty.
-use Rattle.std.specs.Prelude.{ℕ, ◌+◌, ◌≡◌, ◌≢◌, ◌≤◌, ◌⊎◌, ◌==◌, ◌&&◌, Bool, true, false, if◌then◌else◌, Option, Some, None, option_map, option_and_then, is_none, List, [], ◌∷◌, ◌++◌, drop, take, length, position, slice_index}
+-- is the next word, whatever that begins with, and one flag, which has no value. No value is empty.
+use Rattle.std.specs.Prelude.{ℕ, ◌+◌, ◌≡◌, ◌≢◌, ◌≤◌, ◌⊎◌, ◌==◌, ◌&&◌, Bool, true, false, if◌then◌else◌, Option, Some, None, option_map, option_and_then, is_none, List, [], ◌∷◌, ◌++◌, codes, drop, take, length, position, slice_index}
 use Rattle.std.specs.Str.{bytes_eq}
 
 abbrev pub is_equals : ℕ → Bool
@@ -17,18 +17,22 @@ is_long (_ ∷ []) = false
 is_long (_ ∷ _ ∷ []) = false
 is_long (a ∷ b ∷ _ ∷ _) = (a == 45) && (b == 45)
 
+-- the flag
+abbrev pub is_flag : List ℕ → Bool
+is_flag word = bytes_eq word (codes "--pad-strings")
+
 -- a word that is no value, by the place of its first `=`: a name that waits for its value, or an option with its value
 abbrev pub step_at_equals : Option ℕ → List ℕ → Option (List (List ℕ) × Option (List ℕ))
 step_at_equals None word = Some ([], Some word)
 step_at_equals (Some at) word = if is_empty (drop (at + 1) word) then None else Some (word ∷ [], None)
 
--- one word, where a name waits for its value or none does: the options `--NAME=VALUE` that it completes, and the name that
--- waits then; none where it is refused
+-- one word, where a name waits for its value or none does: the options `--NAME=VALUE` that it completes, or the flag, and the
+-- name that waits then; none where it is refused
 abbrev pub word_step : Option (List ℕ) → List ℕ → Option (List (List ℕ) × Option (List ℕ))
 word_step (Some name) word = if is_empty word then None else Some ((name ++ 61 ∷ word) ∷ [], None)
-word_step None word = if is_long word then step_at_equals (position is_equals word) word else None
+word_step None word = if is_flag word then Some (word ∷ [], None) else if is_long word then step_at_equals (position is_equals word) word else None
 
--- all of the words as options `--NAME=VALUE`; none where one is refused, or where a value is missing at the end
+-- all of the words as options `--NAME=VALUE` and flags; none where one is refused, or where a value is missing at the end
 abbrev pub joined_from : Option (List ℕ) → List (List ℕ) → Option (List (List ℕ))
 joined_from waiting [] = if is_none waiting then Some [] else None
 joined_from waiting (word ∷ words) = option_and_then (λ step. option_map (λ more. step.0 ++ more) (joined_from step.1 words)) (word_step waiting word)

@@ -1,8 +1,10 @@
 -- What the words of saned's command line make of its options.
-use Rattle.std.specs.Prelude.{ℕ, ◌≡◌, ◌≤◌, IsSome, List, Option, Some, None, codes, decimal, drop, option_map, string_bytes}
+use Rattle.std.specs.Prelude.{ℕ, ◌≡◌, ◌≤◌, ◌||◌, Bool, true, false, IsSome, List, [], ◌∷◌, Option, Some, None, codes, decimal, drop, option_map, string_bytes}
 use Rattle.sane_fixed.specs.declared.byte_order.ByteOrder.{ByteOrder}
 use Rattle.sane_fixed.specs.declared.byte_order.ByteOrder.TheVariants.{Little, Big}
-use Rattle.saned_cli.specs.OptionWords.{words_joined, option_value_of}
+use Rattle.saned_requests.specs.declared.session.StringSize.{StringSize}
+use Rattle.saned_requests.specs.declared.session.StringSize.TheVariants.{OfText, OfOption}
+use Rattle.saned_cli.specs.OptionWords.{words_joined, option_value_of, is_flag}
 use Rattle.saned_cli.specs.declared.daemon_options.DaemonOptions.{DaemonOptions}
 
 -- the number of an option between two others: the one that its text writes in decimal digits, without a sign or a leading
@@ -17,6 +19,16 @@ IsOrderOf None order = order ≡ Little
 IsOrderOf (Some text) Little = text ≡ codes "little"
 IsOrderOf (Some text) Big = text ≡ codes "big"
 
+-- the flag is among the options
+abbrev pub has_flag : List (List ℕ) → Bool
+has_flag [] = false
+has_flag (option ∷ options) = is_flag option || has_flag options
+
+-- string values are filled up where it is
+abbrev pub string_size_by : Bool → StringSize
+string_size_by true = OfOption
+string_size_by false = OfText
+
 -- The options `--NAME=VALUE` give each its value, and the numbers are within their bounds: a port of 6566, no end by sessions
 -- and one behind 10,000,000 idle turns where nothing is said; where there are users there is a seed.
 pub record AreNamed (named : List (List ℕ)) (options : DaemonOptions) : Type 0 where
@@ -27,6 +39,7 @@ pub record AreNamed (named : List (List ℕ)) (options : DaemonOptions) : Type 0
   pub byte_order : IsOrderOf (option_value_of (codes "--byte-order=") named) options.byte_order
   pub sessions : IsNumberOf 0 1000000000 0 (option_value_of (codes "--sessions=") named) options.sessions
   pub idle_turns : IsNumberOf 1 1000000000 10000000 (option_value_of (codes "--idle-turns=") named) options.idle_turns
+  pub strings : options.strings ≡ string_size_by (has_flag named)
   pub seeded : IsSome options.users → IsSome options.seed
 
 -- so the words behind the program's name do

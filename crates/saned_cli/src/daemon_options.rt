@@ -1,11 +1,12 @@
 ghost use Rattle.std.specs.Prelude.{◌≡◌, ◌≤◌, ◌<◌, ◌^◌, ℕ, IfErr, IfOk, map, option_map, string_bytes};
-ghost use Rattle.saned_cli.specs.OptionsOfDaemon.{AreNamed, IsNumberOf, AreDaemonOptions, IsOrderOf};
+ghost use Rattle.saned_cli.specs.OptionsOfDaemon.{AreNamed, IsNumberOf, AreDaemonOptions, IsOrderOf, has_flag, string_size_by};
 ghost use Rattle.saned_cli.specs.OptionWords.{value_behind, option_value_of};
 
-use crate::daemon_words::{plain_number, words_joined};
+use crate::daemon_words::{is_flag, plain_number, words_joined};
 use clap::error::ErrorKind;
 use clap::{Arg, ArgAction, ArgMatches, Command};
 use sane_fixed::ByteOrder;
+use saned_requests::StringSize;
 use std::alloc::{AllocError, Global};
 use thiserror::Error;
 
@@ -19,6 +20,8 @@ pub struct DaemonOptions {
     /// 0 for any that is free.
     pub port: u16,
     pub byte_order: ByteOrder,
+    /// How string values are sent.
+    pub strings: StringSize,
     /// After how many sessions it ends, 0 to 1,000,000,000; 0 for no such end.
     pub sessions: u64,
     /// After how many turns in a row in which nothing moved it ends, 1 to 1,000,000,000.
@@ -76,6 +79,10 @@ fn value<'a>(alloc: Global, name: &'a str) -> Arg<'a> {
     Arg::new(alloc, name).long(name).action(ArgAction::Set)
 }
 
+fn flag<'a>(alloc: Global, name: &'a str) -> Arg<'a> {
+    Arg::new(alloc, name).long(name).action(ArgAction::SetTrue)
+}
+
 fn command<'a>(alloc: Global) -> Result<Command<'a>, AllocError> {
     Command::new(alloc, "saned")
         .arg(value(alloc, "config"))?
@@ -84,7 +91,8 @@ fn command<'a>(alloc: Global) -> Result<Command<'a>, AllocError> {
         .arg(value(alloc, "port"))?
         .arg(value(alloc, "byte-order"))?
         .arg(value(alloc, "sessions"))?
-        .arg(value(alloc, "idle-turns"))
+        .arg(value(alloc, "idle-turns"))?
+        .arg(flag(alloc, "pad-strings"))
 }
 
 /// What `clap` reads of the words, of which the first is the program's name.
@@ -115,7 +123,8 @@ fn value_behind<'a>(start: &[u8], option: &'a [u8]) -> Option<&'a [u8]>
 
 /// The value of the first option that begins so, with a name and `=`.
 fn option_value_of<'a>(start: &[u8], options: &'a [String]) -> Option<&'a [u8]>
-    ensures { option_map (λ value. value.now) result ≡ option_value_of start.now (map string_bytes options.now) }
+    ensures { option_map (λ value. value.now) result
+        ≡ option_value_of start.now (map string_bytes options.now) }
 {
     for option in options {
         if let Some(value) = value_behind(start, option.as_bytes()) {
@@ -161,6 +170,30 @@ fn byte_order(found: Option<&str>) -> Result<ByteOrder, DaemonOptionsFault>
     }
 }
 
+/// Whether the flag is among the options.
+fn has_flag(options: &[String]) -> bool
+    ensures { result ≡ has_flag (map string_bytes options.now) }
+{
+    for option in options {
+        if is_flag(option.as_bytes()) {
+            return true;
+        }
+    }
+    false
+}
+
+/// How string values are sent, where `clap` reads the same.
+fn strings(found: bool, options: &[String]) -> Result<StringSize, DaemonOptionsFault>
+    ensures { IfOk result (λ strings. strings
+        ≡ string_size_by (has_flag (map string_bytes options.now))) }
+{
+    match (found, has_flag(options)) {
+        (true, true) => Ok(StringSize::OfOption),
+        (false, false) => Ok(StringSize::OfText),
+        _ => Err(DaemonOptionsFault::Bad),
+    }
+}
+
 /// The number that a text writes where there is one, and else the default. `Bad` just where the text writes none between
 /// the two.
 fn number(
@@ -170,8 +203,10 @@ fn number(
     most: u64,
 ) -> Result<u64, DaemonOptionsFault>
     requires { (least ≤ default) × (default ≤ most) }
-    ensures ok { IfOk result (IsNumberOf least most default (option_map (λ text. text.now) text.entry)) }
-    ensures err { IfErr result (λ fault. (fault ≡ DaemonOptionsFault.Bad) × ((n : ℕ) → n < 2 ^ 64 → ¬ IsNumberOf least most default (option_map (λ text. text.now) text.entry) n)) }
+    ensures ok { IfOk result
+        (IsNumberOf least most default (option_map (λ text. text.now) text.entry)) }
+    ensures err { IfErr result (λ fault. (fault ≡ DaemonOptionsFault.Bad) × ((n : ℕ) → n < 2 ^ 64
+        → ¬ IsNumberOf least most default (option_map (λ text. text.now) text.entry) n)) }
 {
     let Some(text) = text else {
         return Ok(default);
@@ -209,16 +244,17 @@ fn options_found(
         seed,
         port: number(port, SANE_PORT, 0, MOST_PORT)? as u16,
         byte_order: byte_order(order)?,
+        strings: strings(found.get_flag("pad-strings"), options)?,
         sessions: number(sessions, 0, 0, MOST_SESSIONS)?,
         idle_turns: number(turns, IDLE_TURNS, 1, MOST_IDLE_TURNS)?,
     })
 }
 
 /// The options that the words of the command line give, each with the value that its word has; the first word is the program's
-/// name, and the word behind an option's name is its value, whatever it begins with. `Bad` where a word stands in no option's
-/// place, where a value is missing or empty, where `clap` refuses the options or reads another value, where a number is not
-/// within its bounds or has a sign or a leading zero, where there is no config, and where there are users and no seed; `NoMem`
-/// where there is no memory.
+/// name, and the word behind an option's name is its value, whatever it begins with; the flag has none. `Bad` where a word stands
+/// in no option's place, where a value is missing or empty, where `clap` refuses the options or reads another value, where a
+/// number is not within its bounds or has a sign or a leading zero, where there is no config, and where there are users and no
+/// seed; `NoMem` where there is no memory.
 pub fn read_options(alloc: Global, words: &[String]) -> Result<DaemonOptions, DaemonOptionsFault>
     ensures { IfOk result (AreDaemonOptions (map string_bytes words.now)) }
 {

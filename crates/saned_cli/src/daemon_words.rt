@@ -1,7 +1,7 @@
 //! The words of the command line, each option with its value.
 
 ghost use Rattle.std.specs.Prelude.{◌≡◌, ◌≢◌, ◌<◌, ◌↔◌, ◌++◌, ◌^◌, ◌∷◌, [], ℕ, Err, IfNone, IfOk, IfSome, IsTrue, None, Some, decimal, length, map, option_map, position, string_bytes};
-ghost use Rattle.saned_cli.specs.OptionWords.{BeginsPlainly, is_equals, is_long, words_joined, step_at_equals, with_word_step, word_step};
+ghost use Rattle.saned_cli.specs.OptionWords.{BeginsPlainly, is_equals, is_flag, is_long, words_joined, step_at_equals, with_word_step, word_step};
 
 use crate::daemon_options::DaemonOptionsFault;
 use std::alloc::Global;
@@ -11,6 +11,13 @@ fn is_long(word: &[u8]) -> bool
     ensures { result ≡ is_long word.now }
 {
     matches!(word, [b'-', b'-', _, ..])
+}
+
+/// Whether a word is the flag.
+pub fn is_flag(word: &[u8]) -> bool
+    ensures { result ≡ is_flag word.now }
+{
+    word == b"--pad-strings".as_slice()
 }
 
 /// Where the first `=` stands.
@@ -41,7 +48,8 @@ pub fn plain_number(text: &str) -> Option<u64>
 }
 
 fn add(alloc: Global, options: &mut Vec<String>, option: &str) -> Result<(), DaemonOptionsFault>
-    ensures added { IfOk result (λ _. map string_bytes options.new.items ≡ map string_bytes options.old.items ++ option.now ∷ []) }
+    ensures added { IfOk result (λ _. map string_bytes options.new.items
+        ≡ map string_bytes options.old.items ++ option.now ∷ []) }
     ensures bad { result ≢ Err DaemonOptionsFault.Bad }
 {
     let option = String::from_str(alloc, option)?;
@@ -55,8 +63,11 @@ fn take_word<'a>(
     waiting: Option<&'a str>,
     word: &'a str,
 ) -> Result<Option<&'a str>, DaemonOptionsFault>
-    ensures taken { IfOk result (λ next. with_word_step (map string_bytes options.old.items) (word_step (option_map (λ name. name.now) waiting.entry) word.now) ≡ Some (map string_bytes options.new.items, option_map (λ name. name.now) next)) }
-    ensures bad { result ≡ Err DaemonOptionsFault.Bad → word_step (option_map (λ name. name.now) waiting.entry) word.now ≡ None }
+    ensures taken { IfOk result (λ next. with_word_step (map string_bytes options.old.items)
+        (word_step (option_map (λ name. name.now) waiting.entry) word.now)
+        ≡ Some (map string_bytes options.new.items, option_map (λ name. name.now) next)) }
+    ensures bad { result ≡ Err DaemonOptionsFault.Bad
+        → word_step (option_map (λ name. name.now) waiting.entry) word.now ≡ None }
 {
     if let Some(name) = waiting {
         if word.is_empty() {
@@ -64,6 +75,10 @@ fn take_word<'a>(
         }
         let option = format!(in alloc; "{name}={word}")?;
         add(alloc, options, option.as_str())?;
+        return Ok(None);
+    }
+    if is_flag(word.as_bytes()) {
+        add(alloc, options, word)?;
         return Ok(None);
     }
     if !is_long(word.as_bytes()) {
@@ -79,10 +94,12 @@ fn take_word<'a>(
     }
 }
 
-/// The words as options `--NAME=VALUE`. `Bad` where one stands in no option's place, and where a value is missing or empty.
+/// The words as options `--NAME=VALUE` and flags. `Bad` where one stands in no option's place, and where a value is missing or empty.
 pub fn words_joined(alloc: Global, words: &[String]) -> Result<Vec<String>, DaemonOptionsFault>
-    ensures found { IfOk result (λ options. words_joined (map string_bytes words.now) ≡ Some (map string_bytes options.items)) }
-    ensures bad { result ≡ Err DaemonOptionsFault.Bad → words_joined (map string_bytes words.now) ≡ None }
+    ensures found { IfOk result (λ options. words_joined (map string_bytes words.now)
+        ≡ Some (map string_bytes options.items)) }
+    ensures bad { result ≡ Err DaemonOptionsFault.Bad
+        → words_joined (map string_bytes words.now) ≡ None }
 {
     let mut options = Vec::new(alloc);
     let mut waiting = None;

@@ -11,7 +11,8 @@ pub const MOST_OF_USERS: u64 = 256 * (256 + 2) + 1;
 
 /// The bytes of a text, at most so many of the first.
 pub fn text_of<R: Read + Drop>(alloc: Global, reader: R, most: u64) -> io::Result<Vec<u8>>
-    ensures { IfOk result (λ text. IfSome (R.remaining reader) (λ all. text.items ≡ take most all)) }
+    ensures { IfOk result
+        (λ text. IfSome (R.remaining reader) (λ all. text.items ≡ take most all)) }
 {
     let mut text = Vec::new(alloc);
     reader.take(most).read_to_end(&mut text)?;

@@ -125,8 +125,10 @@ fn how(outcome: io::Result<usize>, most: usize) -> Got
     requires { IfOk outcome (λ n. n ≤ most) }
     ensures within { MovesWithin result most }
     ensures moved { IfOk outcome (λ n. result ≡ (if n == 0 then Got.Lost else Got.Moved n)) }
-    ensures would_wait { IfErr outcome (λ e. error_kind e ≡ ErrorKind.WouldBlock → result ≡ Got.Nothing) }
-    ensures interrupted { IfErr outcome (λ e. error_kind e ≡ ErrorKind.Interrupted → result ≡ Got.Nothing) }
+    ensures would_wait { IfErr outcome (λ e. error_kind e ≡ ErrorKind.WouldBlock
+        → result ≡ Got.Nothing) }
+    ensures interrupted { IfErr outcome (λ e. error_kind e ≡ ErrorKind.Interrupted
+        → result ≡ Got.Nothing) }
     ensures lost { IfErr outcome (λ e. ¬ (error_kind e ≡ ErrorKind.WouldBlock)
         → ¬ (error_kind e ≡ ErrorKind.Interrupted) → result ≡ Got.Lost) }
 {

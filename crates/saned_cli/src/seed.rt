@@ -3,7 +3,8 @@ ghost use Rattle.hex.specs.Hex.{decode_sized};
 
 /// The seed that 64 hexadecimal digits spell.
 pub fn read_seed(text: &[u8]) -> Option<[u8; 32]>
-    ensures { MatchResult (decode_sized text.now 32) (λ bytes. result ≡ Some bytes) (λ _. result ≡ None) }
+    ensures { MatchResult (decode_sized text.now 32) (λ bytes. result
+        ≡ Some bytes) (λ _. result ≡ None) }
 {
     let mut seed = [0; 32];
     match hex::decode_to_slice(text, &mut seed) {

@@ -176,7 +176,7 @@ pub limits_new : (d : Core) → d.slots ≡ None ∷ None ∷ None ∷ None ∷ 
 limits_new d e = (ap (λ (l : List Place). length l) e, subst (λ (l : List Place). HaveOwnNumbers d.opened l) (sym e) tt)
 
 pub limits_opened : (d : Core) (port : ℕ) → HasDaemonLimits d → HasDaemonLimits (after_open_session d port)
-limits_opened d port h = (length_with d.slots (new_session_slot d.opened port) ∙ h.0, apart_with d.opened d.slots (new_session_slot d.opened port) refl h.1)
+limits_opened d port h = (length_with d.slots (new_session_slot d.strings d.opened port) ∙ h.0, apart_with d.opened d.slots (new_session_slot d.strings d.opened port) refl h.1)
 
 kept_fed : (o : Option (Session DeviceState)) (users : List Entry) (n : ℕ) (input : List ℕ) (slots : List Place) (registry : Table) (stream : ChaCha) (piece : List ℕ) (fed : Fed) (news : List Place) (registry_new : Table) (stream_new : ChaCha)
     → FeedsIf o users n input slots registry stream piece fed news registry_new stream_new → AreKept slots news

@@ -8,3 +8,4 @@ pub mod Saying
 pub mod TakenSlots
 pub mod Firsts
 pub mod DaemonLimits
+pub mod StringSizes

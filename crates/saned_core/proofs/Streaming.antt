@@ -1,5 +1,5 @@
 -- A turn of a data connection, by what its read gave.
-use Rattle.std.proofs.Common.{◌≡◌, ℕ, ◌+◌, ◌-◌, ◌≤◌, List, ◌++◌, take, drop, length, Option, Some, None, Result, refl, ap, subst, ◌∙◌, sym, arith}
+use Rattle.std.proofs.Common.{◌≡◌, ℕ, ◌+◌, ◌-◌, ◌≤◌, List, min, ◌++◌, take, drop, length, Option, Some, None, Result, refl, ap, subst, ◌∙◌, sym, arith}
 use Rattle.std.proofs.lemmas.Grind.{common_steps}
 use borrow.Rule.Slice.PartMut.{put_mid, post_of}
 use Rattle.std.proofs.Math.Seq.{drop-append_seam, take-append-add}
@@ -18,7 +18,7 @@ use Rattle.saned_core.specs.Turns.{ReadsLease, ReadsWord, Records, data_phase_af
 
 -- a read that gave an answer
 answered : (l lease : Option (Lease DeviceState)) (s : Session DeviceState) (word : ℕ) (answer : Result ℕ Status) (window buf : List ℕ) (step : DataStep)
-    → ReadsLease l (Some answer) lease window → length window ≤ 65536 → Records answer window step buf
+    → ReadsLease l (Some answer) lease window → 4 + length window ≡ min (length buf) 65540 → Records answer window step buf
     → StreamsFrom l word s step (record s { held = on_word (λ _. lease) s.held word; transfer = data_phase_after s.transfer answer }) buf
 answered None lease s word answer window buf step r n w = absurd (let e : Some answer ≡ None = r.0 in cc)
 answered (Some l) lease s word answer window buf step r n w =
@@ -27,7 +27,7 @@ answered (Some l) lease s word answer window buf step r n w =
       answer = answer;
       after = r.after;
       window = window;
-      most = n;
+      whole = n;
       reads = subst (λ (a : Result ℕ Status). Reads l.device a r.after window) (sym e) r.reads;
       written = w;
       new_is = ap (λ (x : Option (Lease DeviceState)). record s { held = on_word (λ _. x) s.held word; transfer = data_phase_after s.transfer answer }) r.new_is;
@@ -42,7 +42,7 @@ unanswered None lease s word window buf e r =
 unanswered (Some l) lease s word window buf e r = absurd (let t : None ≡ Some r.answer = r.told_is in cc)
 
 pub streams_answer : (s : Session DeviceState) (word : ℕ) (told : Option (Result ℕ Status)) (answer : Result ℕ Status) (held : List (Option (Lease DeviceState))) (window buf : List ℕ) (step : DataStep)
-    → s.transfer ≡ Streaming word → ReadsWord s.held word told held window → told ≡ Some answer → length window ≤ 65536 → Records answer window step buf
+    → s.transfer ≡ Streaming word → ReadsWord s.held word told held window → told ≡ Some answer → 4 + length window ≡ min (length buf) 65540 → Records answer window step buf
     → TurnsStream s step (record s { held = held; transfer = data_phase_after s.transfer answer }) buf
 streams_answer s word told answer held window buf step c r t n w =
     let reads = subst (λ (x : Option (Result ℕ Status)). ReadsLease (held_by s.held word) x r.lease window) t r.reads in
@@ -70,5 +70,20 @@ record_written head xs ys k n h x y =
     let first : take (4 + n) (head ++ (ys ++ p)) ≡ head ++ take n (ys ++ p) = subst (λ (m : ℕ). take (m + n) (head ++ (ys ++ p)) ≡ head ++ take n (ys ++ p)) h (take-append-add head (ys ++ p) n) in
     ap (λ (z : List ℕ). take (4 + n) (head ++ z)) behind ∙ first ∙ ap (λ (z : List ℕ). head ++ z) (take-append-le n ys p y)
 
-pub window_short : (window rest : List ℕ) (room : ℕ) → length window ≡ length (take (4 + room - 4) rest) → room ≤ 65536 → length window ≤ 65536
-window_short window rest room e n = rw e (grind (arith, common_steps))
+-- what a read puts behind the head leaves the buffer's length as it was
+pub mid_whole : (buf window : List ℕ) (room : ℕ) → 8 ≤ length buf → room ≡ min (length buf - 4) 65536
+    → length window ≡ length (take (4 + room - 4) (drop 4 buf)) → length (put_mid 4 (4 + room - 4) buf window) ≡ length buf
+mid_whole buf window room fits is same = grind (arith, common_steps)
+
+-- and so does the head
+pub head_whole : (head mid : List ℕ) → length head ≡ length (take 4 mid) → length (head ++ drop 4 mid) ≡ length mid
+head_whole head mid same = grind (arith, common_steps)
+
+pub window_whole : (window buf then : List ℕ) (room : ℕ) → 8 ≤ length buf → room ≡ min (length buf - 4) 65536
+    → length window ≡ length (take (4 + room - 4) (drop 4 buf)) → length then ≡ length buf
+    → 4 + length window ≡ min (length then) 65540
+window_whole window buf then room fits is same long = grind (arith, common_steps)
+
+-- and a window as long as the buffer lets is no longer than a record
+pub window_short : (window buf : List ℕ) → 4 + length window ≡ min (length buf) 65540 → length window ≤ 65536
+window_short window buf whole = grind (arith, common_steps)

@@ -10,6 +10,7 @@ use Rattle.saned_requests.specs.declared.session.DataPhase.TheVariants.{Quiet, W
 use Rattle.saned_core.specs.declared.session_slot.FrameState.{FrameState}
 use Rattle.saned_core.specs.declared.session_slot.FrameState.TheVariants as frames
 use Rattle.saned_requests.specs.declared.session.Session.{Session}
+use Rattle.saned_requests.specs.declared.session.StringSize.{StringSize}
 use Rattle.saned_core.specs.declared.session_slot.SessionSlot.{SessionSlot}
 use Rattle.saned_requests.specs.Holding.{seen_session, with_cancelled, given_back, fresh_session}
 
@@ -19,6 +20,8 @@ pub record DaemonState (S : Type 0) : Type 0 where
   pub slots : List (Option (SessionSlot S))
   pub registry : List (Place S)
   pub users : List Entry
+  -- how string values are sent
+  pub strings : StringSize
   -- whence the next challenge comes
   pub stream : ChaCha
   -- how many sessions were opened
@@ -33,7 +36,7 @@ abbrev pub seen_session_slots : {D S : Type 0} → (D → S) → List (Option (S
 seen_session_slots f slots = map (option_map (seen_session_slot f)) slots
 
 abbrev pub core : {D S : Type 0} → (D → S) → DaemonState D → DaemonState S
-core f d = record { slots = seen_session_slots f d.slots; registry = table f d.registry; users = d.users; stream = d.stream; opened = d.opened }
+core f d = record { slots = seen_session_slots f d.slots; registry = table f d.registry; users = d.users; strings = d.strings; stream = d.stream; opened = d.opened }
 
 abbrev pub Core : Type 0
 Core = DaemonState DeviceState
@@ -119,8 +122,8 @@ after_reply_bytes count slot = record slot { replies = drop count slot.replies }
 abbrev pub after_taken : {S : Type 0} → ℕ → SessionSlot S → Option (SessionSlot S)
 after_taken count slot = kept_if_open (after_reply_bytes count slot)
 
-abbrev pub new_session_slot : ℕ → ℕ → SessionSlot DeviceState
-new_session_slot number port = record { number = number; input = record { rest = []; fault = None }; replies = []; session = Some (fresh_session port) }
+abbrev pub new_session_slot : StringSize → ℕ → ℕ → SessionSlot DeviceState
+new_session_slot strings number port = record { number = number; input = record { rest = []; fault = None }; replies = []; session = Some (fresh_session strings port) }
 
 abbrev pub session_let_go : Table → Option (Session DeviceState) → Table
 session_let_go t None = t
@@ -132,7 +135,7 @@ is_closed d = (d.opened == 18446744073709551615) || all_slots_taken d.slots
 
 -- another session stands
 abbrev pub after_open_session : Core → ℕ → Core
-after_open_session d port = record d { slots = with_session_slot d.slots (new_session_slot d.opened port); opened = d.opened + 1 }
+after_open_session d port = record d { slots = with_session_slot d.slots (new_session_slot d.strings d.opened port); opened = d.opened + 1 }
 
 -- a session that ends: nothing of it stands, and its leases are given back
 abbrev pub no_more : {S : Type 0} → SessionSlot S → Option (SessionSlot S)

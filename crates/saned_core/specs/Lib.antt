@@ -3,3 +3,4 @@ pub mod Turns
 pub mod Feeding
 pub mod Loading
 pub mod DaemonLimits
+pub mod StringSizes

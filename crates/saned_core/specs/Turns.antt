@@ -1,5 +1,5 @@
 -- What a turn of a session's data connection does.
-use Rattle.std.specs.Prelude.{ℕ, ◌+◌, ◌≤◌, ◌≡◌, Option, Some, None, Result, Ok, Err, option_and_then, List, ◌++◌, take, length}
+use Rattle.std.specs.Prelude.{ℕ, ◌+◌, ◌≡◌, min, Option, Some, None, Result, Ok, Err, option_and_then, List, ◌++◌, take, length}
 use Rattle.std.specs.Int.{w32, to_be_bytes}
 use Rattle.sane_fixed.specs.declared.status.Status.{Status}
 use Rattle.sane_fixed.specs.declared.status.Status.TheVariants.{Cancelled}
@@ -47,12 +47,12 @@ abbrev pub data_phase_after : DataPhase → Result ℕ Status → DataPhase
 data_phase_after c (Ok n) = c
 data_phase_after c (Err status) = Quiet
 
--- one read of at most 65,536 bytes, and its record
+-- one read, into all of the buffer behind the record's head but at most 65,536 bytes, and its record
 pub record StreamsOn (lease : Lease DeviceState) (word : ℕ) (old : Session DeviceState) (step : DataStep) (new : Session DeviceState) (buf : List ℕ) : Type 0 where
   pub answer : Result ℕ Status
   pub after : DeviceState
   pub window : List ℕ
-  pub most : length window ≤ 65536
+  pub whole : 4 + length window ≡ min (length buf) 65540
   pub reads : Reads lease.device answer after window
   pub written : Records answer window step buf
   pub new_is : new ≡ record old { held = on_word (λ _. with_device lease after) old.held word; transfer = data_phase_after old.transfer answer }

@@ -21,6 +21,7 @@ use dispatch::Registry;
 use md5_auth::{Challenger, Users};
 use page_picture::{PageSource, Source};
 use sane_fixed::Status;
+use saned_requests::StringSize;
 use std::alloc::Global;
 use std::marker::Model;
 
@@ -43,6 +44,7 @@ impl<D: Drop> Drop for SessionTable<D> {
 pub struct Daemon<D = Box<dyn Device>> {
     sessions: SessionTable<D>,
     users: Users,
+    strings: StringSize,
     challenger: Challenger,
     opened: u64,
 }
@@ -52,14 +54,33 @@ impl<D> Model for Daemon<D> {
 
     ghost Value = { DaemonState D };
 
-    ghost view = { λ d. record { slots = d.sessions.slots; registry = d.sessions.registry; users = d.users; stream = d.challenger; opened = d.opened } };
+    ghost view = { λ d. record { slots = d.sessions.slots; registry = d.sessions.registry; users = d.users; strings = d.strings; stream = d.challenger; opened = d.opened } };
 }
 
 impl<D: Device> Daemon<D> {
-    /// A daemon of these devices and users, whose challenges come from the seed. No session stands.
+    /// A daemon of these devices and users, whose challenges come from the seed. No session stands. It sends a string
+    /// value as its text and a NUL.
     pub fn new(registry: Registry<D>, users: Users, seed: [u8; 32]) -> Daemon<D>
         ensures registry { (core D.state result).registry ≡ table D.state registry }
         ensures users { result.users ≡ users }
+        ensures strings { result.strings ≡ StringSize.OfText }
+        ensures seed { HasGiven seed 0 result.stream }
+        ensures none { result.slots ≡ None ∷ None ∷ None ∷ None ∷ None ∷ None ∷ None ∷ None ∷ [] }
+        ensures opened { result.opened ≡ 0 }
+    {
+        Daemon::with_strings(registry, users, StringSize::OfText, seed)
+    }
+
+    /// The same, which sends its string values so.
+    pub fn with_strings(
+        registry: Registry<D>,
+        users: Users,
+        strings: StringSize,
+        seed: [u8; 32],
+    ) -> Daemon<D>
+        ensures registry { (core D.state result).registry ≡ table D.state registry }
+        ensures users { result.users ≡ users }
+        ensures strings { result.strings ≡ strings }
         ensures seed { HasGiven seed 0 result.stream }
         ensures none { result.slots ≡ None ∷ None ∷ None ∷ None ∷ None ∷ None ∷ None ∷ None ∷ [] }
         ensures opened { result.opened ≡ 0 }
@@ -70,6 +91,7 @@ impl<D: Device> Daemon<D> {
                 slots: [None, None, None, None, None, None, None, None],
             },
             users,
+            strings,
             challenger: Challenger::new(seed),
             opened: 0,
         }
@@ -86,8 +108,13 @@ impl<D: Device> Daemon<D> {
 
     /// A data connection is made, where a frame waits for one; answers whether one does.
     pub fn data_connected(&mut self, id: SessionId) -> bool
-        ensures answer { result ≡ is_waiting (frame_in (session_of (core D.state self.old) id.number)) }
-        ensures after { core D.state self.new ≡ record (core D.state self.old) { slots = on_session_slot (on_session after_connected) id.number (core D.state self.old).slots } }
+        ensures answer { result
+            ≡ is_waiting (frame_in (session_of (core D.state self.old) id.number)) }
+        ensures after { core D.state self.new
+            ≡ record (core D.state self.old) {
+              slots = on_session_slot (on_session after_connected)
+                  id.number (core D.state self.old).slots;
+            } }
     {
         connect_at(&mut self.sessions.slots, id.number)
     }
@@ -95,7 +122,10 @@ impl<D: Device> Daemon<D> {
     /// The data connection is lost: a frame that streams or is to be ended is at its end, and a device that
     /// still streams it is cancelled.
     pub fn data_lost(&mut self, id: SessionId)
-        ensures { core D.state self.new ≡ record (core D.state self.old) { slots = on_session_slot (on_session after_lost) id.number (core D.state self.old).slots } }
+        ensures { core D.state self.new ≡ record (core D.state self.old) {
+          slots = on_session_slot
+              (on_session after_lost) id.number (core D.state self.old).slots;
+        } }
     {
         lose_at(&mut self.sessions.slots, id.number)
     }
@@ -112,9 +142,11 @@ impl<D: Device> Daemon<D> {
     /// Opens a session, whose data connections are accepted at that port. `Full` where eight stand, or 2^64-1 were
     /// opened. Its place is there from the start, so memory cannot run out.
     pub fn open_session(&mut self, alloc: Global, port: u16) -> Result<SessionId, OpenFault>
-        ensures ok { IfOk result (λ id. (id.number ≡ self.old.opened) × (core D.state self.new ≡ after_open_session (core D.state self.old) port)) }
+        ensures ok { IfOk result (λ id. (id.number ≡ self.old.opened)
+            × (core D.state self.new ≡ after_open_session (core D.state self.old) port)) }
         ensures room { OnOk result (is_closed (core D.state self.old) ≡ false) }
-        ensures full { OnErr result ((is_closed (core D.state self.old) ≡ true) × (core D.state self.new ≡ core D.state self.old)) }
+        ensures full { OnErr result ((is_closed (core D.state self.old) ≡ true)
+            × (core D.state self.new ≡ core D.state self.old)) }
         ensures err { IfErr result (λ e. e ≡ OpenFault.Full) }
     {
         if self.opened == u64::MAX {
@@ -125,6 +157,7 @@ impl<D: Device> Daemon<D> {
             &mut self.sessions.registry,
             &mut self.sessions.slots,
             alloc,
+            self.strings,
             number,
             port,
         ) {
@@ -163,9 +196,14 @@ impl<D: Device> Daemon<D> {
     pub fn take_reply(&mut self, id: SessionId, buf: &mut [u8]) -> usize
         ensures within { result ≤ length buf.old }
         ensures all { result ≤ length (replies_of (core D.state self.old) id.number) }
-        ensures most { (result ≡ length buf.old) ⊎ (result ≡ length (replies_of (core D.state self.old) id.number)) }
-        ensures bytes { buf.new ≡ take result (replies_of (core D.state self.old) id.number) ++ drop result buf.old }
-        ensures after { core D.state self.new ≡ record (core D.state self.old) { slots = on_session_slot (after_taken result) id.number (core D.state self.old).slots } }
+        ensures most { (result ≡ length buf.old)
+            ⊎ (result ≡ length (replies_of (core D.state self.old) id.number)) }
+        ensures bytes { buf.new
+            ≡ take result (replies_of (core D.state self.old) id.number) ++ drop result buf.old }
+        ensures after { core D.state self.new ≡ record (core D.state self.old) {
+          slots
+              = on_session_slot (after_taken result) id.number (core D.state self.old).slots;
+        } }
     {
         take_at(
             &mut self.sessions.registry,
@@ -190,8 +228,10 @@ impl<D: Device> Daemon<D> {
     /// `Inval` where none is listed under it, `DeviceBusy` where it is not at rest or has a full tray; then the page comes
     /// back.
     pub fn load(&mut self, name: &[u8], page: Source) -> Result<(), (Status, Source)>
-        ensures answer { without_return result ≡ daemon_load_answer (core D.state self.old) name.now }
-        ensures after { core D.state self.new ≡ core_after_load (core D.state self.old) name.now (⟦<Source as PageSource>⟧.source page) }
+        ensures answer { without_return result
+            ≡ daemon_load_answer (core D.state self.old) name.now }
+        ensures after { core D.state self.new ≡ core_after_load (core D.state self.old) name.now
+            (⟦<Source as PageSource>⟧.source page) }
         ensures given_back { IfErr result (λ e. e.1 ≡ page) }
     {
         match holder(&self.sessions.slots, name) {
@@ -203,8 +243,10 @@ impl<D: Device> Daemon<D> {
     /// The device of that name comes out, and is listed no more. `Inval` where none is listed under the name,
     /// `DeviceBusy` while it is leased.
     pub fn unplug(&mut self, name: &[u8]) -> Result<D, Status>
-        ensures answer { seen_unplug D.state result ≡ unplug_answer (core D.state self.old).registry name.now }
-        ensures after { core D.state self.new ≡ record (core D.state self.old) { registry = after_unplug (core D.state self.old).registry name.now } }
+        ensures answer { seen_unplug D.state result
+            ≡ unplug_answer (core D.state self.old).registry name.now }
+        ensures after { core D.state self.new ≡ record (core D.state
+            self.old) { registry = after_unplug (core D.state self.old).registry name.now } }
     {
         self.sessions.registry.unplug(name)
     }

@@ -25,19 +25,23 @@ fn is_lease_named<D: Device>(lease: &Option<Lease<D>>, name: &[u8]) -> bool
 }
 
 fn place_of_word<D: Device>(held: &[Option<Lease<D>>], name: &[u8]) -> Option<usize>
-    ensures { result ≡ position (λ lease. is_lease_named name.now (option_map (seen_lease D.state) lease)) held.now }
+    ensures { result ≡ position (λ lease.
+        is_lease_named name.now (option_map (seen_lease D.state) lease)) held.now }
 {
     held.iter().position(
         |lease: &Option<Lease<D>>| -> bool
-            ensures { result ≡ is_lease_named name.entry.now (option_map (seen_lease D.state) lease.now) }
+            ensures { result
+                ≡ is_lease_named name.entry.now (option_map (seen_lease D.state) lease.now) }
         { is_lease_named(lease, name) },
     )
 }
 
 /// The first word that stands for the device of that name.
 fn word_of<D: Device>(held: &[Option<Lease<D>>], name: &[u8]) -> Option<usize>
-    ensures found { IfSome result (IsFirstOf (λ lease. is_lease_named name.now (option_map (seen_lease D.state) lease)) held.now) }
-    ensures none { IfNone result (IsNoneOf (λ lease. is_lease_named name.now (option_map (seen_lease D.state) lease)) held.now) }
+    ensures found { IfSome result (IsFirstOf (λ lease.
+        is_lease_named name.now (option_map (seen_lease D.state) lease)) held.now) }
+    ensures none { IfNone result (IsNoneOf (λ lease.
+        is_lease_named name.now (option_map (seen_lease D.state) lease)) held.now) }
 {
     let place = place_of_word(held, name);
     match place {
@@ -69,19 +73,23 @@ fn holds<D: Device>(slot: &Option<SessionSlot<D>>, name: &[u8]) -> bool
 }
 
 fn place_of_slot<D: Device>(slots: &[Option<SessionSlot<D>>], name: &[u8]) -> Option<usize>
-    ensures { result ≡ position (λ slot. holds name.now (option_map (seen_session_slot D.state) slot)) slots.now }
+    ensures { result ≡ position (λ slot.
+        holds name.now (option_map (seen_session_slot D.state) slot)) slots.now }
 {
     slots.iter().position(
         |slot: &Option<SessionSlot<D>>| -> bool
-            ensures { result ≡ holds name.entry.now (option_map (seen_session_slot D.state) slot.now) }
+            ensures { result
+                ≡ holds name.entry.now (option_map (seen_session_slot D.state) slot.now) }
         { holds(slot, name) },
     )
 }
 
 /// The first session that holds the device of that name.
 pub fn holder<D: Device>(slots: &[Option<SessionSlot<D>>], name: &[u8]) -> Option<usize>
-    ensures found { IfSome result (IsFirstOf (λ slot. holds name.now (option_map (seen_session_slot D.state) slot)) slots.now) }
-    ensures none { IfNone result (IsNoneOf (λ slot. holds name.now (option_map (seen_session_slot D.state) slot)) slots.now) }
+    ensures found { IfSome result (IsFirstOf (λ slot.
+        holds name.now (option_map (seen_session_slot D.state) slot)) slots.now) }
+    ensures none { IfNone result (IsNoneOf (λ slot.
+        holds name.now (option_map (seen_session_slot D.state) slot)) slots.now) }
 {
     let place = place_of_slot(slots, name);
     match place {
@@ -91,8 +99,10 @@ pub fn holder<D: Device>(slots: &[Option<SessionSlot<D>>], name: &[u8]) -> Optio
 }
 
 fn load_lease<D: Device>(lease: &mut Option<Lease<D>>, page: Source) -> Result<(), (Status, Source)>
-    ensures answer { without_return result ≡ lease_load (option_map (seen_lease D.state) lease.old) }
-    ensures after { option_map (seen_lease D.state) lease.new ≡ lease_with (⟦<Source as PageSource>⟧.source page) (option_map (seen_lease D.state) lease.old) }
+    ensures answer { without_return result
+        ≡ lease_load (option_map (seen_lease D.state) lease.old) }
+    ensures after { option_map (seen_lease D.state) lease.new ≡ lease_with
+        (⟦<Source as PageSource>⟧.source page) (option_map (seen_lease D.state) lease.old) }
     ensures given_back { IfErr result (λ e. e.1 ≡ page) }
 {
     match lease {
@@ -110,7 +120,8 @@ fn load_held<D: Device>(
     page: Source,
 ) -> Result<(), (Status, Source)>
     ensures answer { without_return result ≡ held_load name.now (seen_held D.state held.old) }
-    ensures after { seen_held D.state held.new ≡ held_with name.now (⟦<Source as PageSource>⟧.source page) (seen_held D.state held.old) }
+    ensures after { seen_held D.state held.new
+        ≡ held_with name.now (⟦<Source as PageSource>⟧.source page) (seen_held D.state held.old) }
     ensures given_back { IfErr result (λ e. e.1 ≡ page) }
 {
     match word_of(held, name) {
@@ -125,8 +136,10 @@ pub fn load_into_slot<D: Device>(
     name: &[u8],
     page: Source,
 ) -> Result<(), (Status, Source)>
-    ensures answer { without_return result ≡ slot_load_answer name.now (option_map (seen_session_slot D.state) slot.old) }
-    ensures after { option_map (seen_session_slot D.state) slot.new ≡ slot_with_page name.now (⟦<Source as PageSource>⟧.source page) (option_map (seen_session_slot D.state) slot.old) }
+    ensures answer { without_return result
+        ≡ slot_load_answer name.now (option_map (seen_session_slot D.state) slot.old) }
+    ensures after { option_map (seen_session_slot D.state) slot.new ≡ slot_with_page name.now
+        (⟦<Source as PageSource>⟧.source page) (option_map (seen_session_slot D.state) slot.old) }
     ensures given_back { IfErr result (λ e. e.1 ≡ page) }
 {
     if let Some(slot) = slot {
@@ -144,9 +157,13 @@ pub fn load_at<D: Device>(
     name: &[u8],
     page: Source,
 ) -> Result<(), (Status, Source)>
-    requires { IsFirstOf (λ slot. holds name.now (option_map (seen_session_slot D.state) slot)) slots.old k }
-    ensures answer { (other : _) → without_return result ≡ first_answer_of (holds name.now) (slot_load_answer name.now) (seen_session_slots D.state slots.old) other }
-    ensures after { seen_session_slots D.state slots.new ≡ on_first (holds name.now) (slot_with_page name.now (⟦<Source as PageSource>⟧.source page)) (seen_session_slots D.state slots.old) }
+    requires { IsFirstOf (λ slot.
+        holds name.now (option_map (seen_session_slot D.state) slot)) slots.old k }
+    ensures answer { (other : _) → without_return result ≡ first_answer_of (holds name.now)
+        (slot_load_answer name.now) (seen_session_slots D.state slots.old) other }
+    ensures after { seen_session_slots D.state slots.new
+        ≡ on_first (holds name.now) (slot_with_page name.now (⟦<Source as PageSource>⟧.source page))
+        (seen_session_slots D.state slots.old) }
     ensures held { list_any (holds name.now) (seen_session_slots D.state slots.old) ≡ true }
     ensures given_back { IfErr result (λ e. e.1 ≡ page) }
 {

@@ -46,7 +46,8 @@ fn read_lease<D: Device>(
     window: &mut [u8],
 ) -> Option<Result<usize, Status>>
     requires { 0 < length window.old }
-    ensures reads { ReadsLease (option_map (seen_lease D.state) word.old) result (option_map (seen_lease D.state) word.new) window.new }
+    ensures reads { ReadsLease (option_map (seen_lease D.state) word.old) result
+        (option_map (seen_lease D.state) word.new) window.new }
     ensures room { IfSome result (λ answer. IfOk answer (λ n. n ≤ length window.new)) }
 {
     match word {
@@ -62,7 +63,8 @@ fn read_word<D: Device>(
     window: &mut [u8],
 ) -> Option<Result<usize, Status>>
     requires { 0 < length window.old }
-    ensures reads { ReadsWord (seen_held D.state held.old) word result (seen_held D.state held.new) window.new }
+    ensures reads { ReadsWord (seen_held D.state held.old) word result
+        (seen_held D.state held.new) window.new }
     ensures room { IfSome result (λ answer. IfOk answer (λ n. n ≤ length window.new)) }
 {
     if word < held.len() {
@@ -84,7 +86,8 @@ fn put_end(buf: &mut [u8], status: Status) -> DataStep
 /// One turn of the data connection.
 pub fn turn<D: Device>(session: &mut Session<D>, buf: &mut [u8]) -> DataStep
     requires { 8 ≤ length buf.old }
-    ensures { TurnsStream (seen_session D.state session.old) result (seen_session D.state session.new) buf.new }
+    ensures { TurnsStream (seen_session D.state session.old) result
+        (seen_session D.state session.new) buf.new }
 {
     match session.transfer {
         DataPhase::Quiet | DataPhase::Waiting(_) => DataStep::Idle,

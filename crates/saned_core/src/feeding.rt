@@ -65,7 +65,9 @@ fn feed_session<D: Device>(
     challenger: &mut Challenger,
     piece: &[u8],
 ) -> Fed
-    ensures desk { FeedsReplies result users.now (request_context D.state session.old registry.old challenger.old) input.old.rest piece.now input.new.rest (request_context D.state session.new registry.new challenger.new) replies.old replies.new }
+    ensures desk { FeedsReplies result users.now (request_context D.state
+        session.old registry.old challenger.old) input.old.rest piece.now input.new.rest
+        (request_context D.state session.new registry.new challenger.new) replies.old replies.new }
     ensures fault { result ≡ Fed.Standing → input.new.fault ≡ None }
 {
     match input.feed(piece) {
@@ -96,7 +98,8 @@ fn feed_session<D: Device>(
 /// Ends the session of a slot: its leases go back, and what came and was not answered is dropped.
 fn close<D: Device>(alloc: Global, slot: &mut SessionSlot<D>, registry: &mut Registry<D>)
     ensures seat { slot.new ≡ record slot.old { input = no_input; session = None } }
-    ensures registry { table D.state registry.new ≡ session_let_go (table D.state registry.old) (option_map (seen_session D.state) slot.old.session) }
+    ensures registry { table D.state registry.new ≡ session_let_go (table D.state registry.old)
+        (option_map (seen_session D.state) slot.old.session) }
 {
     slot.input = Decoder::new(alloc);
     match mem::replace(&mut slot.session, None) {
@@ -114,7 +117,9 @@ pub fn feed_slot<D: Device>(
     challenger: &mut Challenger,
     piece: &[u8],
 ) -> Fed
-    ensures { FeedsOne (option_map (seen_session D.state) slot.old.session) users.now (seen_session_slot D.state slot.old) (table D.state registry.old) challenger.old piece.now result (seen_session_slot D.state slot.new) (table D.state registry.new) challenger.new }
+    ensures { FeedsOne (option_map (seen_session D.state) slot.old.session) users.now
+        (seen_session_slot D.state slot.old) (table D.state registry.old) challenger.old piece.now
+        result (seen_session_slot D.state slot.new) (table D.state registry.new) challenger.new }
 {
     let Some(session) = &mut slot.session else {
         return Fed::Over;

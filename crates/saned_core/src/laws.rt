@@ -15,6 +15,7 @@ ghost use Rattle.saned_core.specs.Feeding.{AnsweredSoFar, SaysAll, session_goes_
 ghost use Rattle.saned_core.specs.Turns.{Turns};
 ghost use Rattle.saned_core.specs.Loading.{core_after_load};
 ghost use Rattle.saned_core.specs.DaemonLimits.{HasDaemonLimits};
+ghost use Rattle.saned_core.specs.StringSizes.{HasOneStringSize};
 ghost use Rattle.saned_core.specs.declared.session_slot.Fed.{Fed as AFed};
 ghost use Rattle.saned_core.specs.declared.session_slot.DataStep.{DataStep as ADataStep};
 ghost use Rattle.page_picture.specs.Source.{SourceState};
@@ -23,34 +24,77 @@ ghost use Rattle.dispatch.specs.Table.{after_unplug};
 /// A piece is answered request by request: before the first nothing is, and each one more is answered on the request context that
 /// those before it left.
 pub fn requests_are_answered_in_order()
-    ensures none { (users : List Entry) (d : RequestContext) (old piece : List ℕ) → AnsweredSoFar users d old piece (old ++ piece) d [] }
-    ensures more { (users : List Entry) (d mid new : RequestContext) (old piece rest left text more : List ℕ) (q : AnyRequest) (said : AnySaid)
-        → AnsweredSoFar users d old piece rest mid text → SpellsFront (limited_format message_limit request_format) rest left q → Answers users mid q said new
-        → session_goes_on said ≡ true → SaysAll (replies_to said) more → AnsweredSoFar users d old piece left new (text ++ more) }
+    ensures none { (users : List Entry) (d : RequestContext) (old piece : List ℕ)
+        → AnsweredSoFar users d old piece (old ++ piece) d [] }
+    ensures more { (users : List Entry) (d mid new : RequestContext)
+        (old piece rest left text more : List ℕ) (q : AnyRequest) (said : AnySaid)
+        → AnsweredSoFar users d old piece rest mid text
+        → SpellsFront (limited_format message_limit request_format) rest left q
+        → Answers users mid q said new → session_goes_on said ≡ true
+        → SaysAll (replies_to said) more → AnsweredSoFar users d old piece left new (text ++ more) }
 {}
 
 /// A request uses bytes: so many requests of a piece end.
 pub fn a_request_uses_bytes()
-    ensures { (rest left : List ℕ) (q : AnyRequest) → SpellsFront (limited_format message_limit request_format) rest left q → length left < length rest }
+    ensures { (rest left : List ℕ) (q : AnyRequest)
+        → SpellsFront (limited_format message_limit request_format) rest left q
+        → length left < length rest }
 {}
 
 /// What is done to one session changes no other one.
 pub fn sessions_are_independent()
-    ensures { (slots : List (Option (ASeat DeviceState))) (f : ASeat DeviceState → Option (ASeat DeviceState)) (n m : ℕ)
-        → ((slot new : ASeat DeviceState) → f slot ≡ Some new → new.number ≡ slot.number) → n ≢ m → session_slot_of (on_session_slot f n slots) m ≡ session_slot_of slots m }
+    ensures { (slots : List (Option (ASeat DeviceState))) (f : ASeat DeviceState
+        → Option (ASeat DeviceState)) (n m : ℕ)
+        → ((slot new : ASeat DeviceState) → f slot ≡ Some new → new.number ≡ slot.number)
+        → n ≢ m → session_slot_of (on_session_slot f n slots) m ≡ session_slot_of slots m }
 {}
 
 /// A new daemon has its limits, eight places and a number for each session that no other has, and every call of it, as its
 /// contract tells, leaves them. So they hold in every state.
 pub fn the_limits_are_kept()
-    ensures new { (d : Core) → d.slots ≡ None ∷ None ∷ None ∷ None ∷ None ∷ None ∷ None ∷ None ∷ [] → HasDaemonLimits d }
-    ensures open_session { (d : Core) (port : ℕ) → HasDaemonLimits d → HasDaemonLimits (after_open_session d port) }
-    ensures feed { (n : ℕ) (old : Core) (piece : List ℕ) (fed : AFed) (new : Core) → Feeds n old piece fed new → HasDaemonLimits old → HasDaemonLimits new }
-    ensures data_turn { (n : ℕ) (old : Core) (step : ADataStep) (new : Core) (buf : List ℕ) → Turns n old step new buf → HasDaemonLimits old → HasDaemonLimits new }
-    ensures data_connected { (d : Core) (n : ℕ) → HasDaemonLimits d → HasDaemonLimits (record d { slots = on_session_slot (on_session after_connected) n d.slots }) }
-    ensures data_lost { (d : Core) (n : ℕ) → HasDaemonLimits d → HasDaemonLimits (record d { slots = on_session_slot (on_session after_lost) n d.slots }) }
-    ensures take_reply { (d : Core) (n count : ℕ) → HasDaemonLimits d → HasDaemonLimits (record d { slots = on_session_slot (after_taken count) n d.slots }) }
-    ensures end_session { (d : Core) (n : ℕ) → HasDaemonLimits d → HasDaemonLimits (after_end_session d n) }
-    ensures load { (d : Core) (name : List ℕ) (source : SourceState) → HasDaemonLimits d → HasDaemonLimits (core_after_load d name source) }
-    ensures unplug { (d : Core) (name : List ℕ) → HasDaemonLimits d → HasDaemonLimits (record d { registry = after_unplug d.registry name }) }
+    ensures new { (d : Core)
+        → d.slots ≡ None ∷ None ∷ None ∷ None ∷ None ∷ None ∷ None ∷ None ∷ [] → HasDaemonLimits d }
+    ensures open_session { (d : Core) (port : ℕ)
+        → HasDaemonLimits d → HasDaemonLimits (after_open_session d port) }
+    ensures feed { (n : ℕ) (old : Core) (piece : List ℕ) (fed : AFed) (new : Core)
+        → Feeds n old piece fed new → HasDaemonLimits old → HasDaemonLimits new }
+    ensures data_turn { (n : ℕ) (old : Core) (step : ADataStep) (new : Core) (buf : List ℕ)
+        → Turns n old step new buf → HasDaemonLimits old → HasDaemonLimits new }
+    ensures data_connected { (d : Core) (n : ℕ) → HasDaemonLimits d → HasDaemonLimits
+        (record d { slots = on_session_slot (on_session after_connected) n d.slots }) }
+    ensures data_lost { (d : Core) (n : ℕ) → HasDaemonLimits d
+        → HasDaemonLimits (record d { slots = on_session_slot (on_session after_lost) n d.slots }) }
+    ensures take_reply { (d : Core) (n count : ℕ) → HasDaemonLimits d
+        → HasDaemonLimits (record d { slots = on_session_slot (after_taken count) n d.slots }) }
+    ensures end_session { (d : Core) (n : ℕ)
+        → HasDaemonLimits d → HasDaemonLimits (after_end_session d n) }
+    ensures load { (d : Core) (name : List ℕ) (source : SourceState)
+        → HasDaemonLimits d → HasDaemonLimits (core_after_load d name source) }
+    ensures unplug { (d : Core) (name : List ℕ) → HasDaemonLimits d
+        → HasDaemonLimits (record d { registry = after_unplug d.registry name }) }
+{}
+
+/// Each session sends string values as its daemon does: a new daemon has no session, and every call of it, as its contract tells,
+/// leaves it so. So it is in every state.
+pub fn one_string_size_is_kept()
+    ensures new { (d : Core) → d.slots ≡ None ∷ None ∷ None ∷ None ∷ None ∷ None ∷ None ∷ None ∷ []
+        → HasOneStringSize d }
+    ensures open_session { (d : Core) (port : ℕ)
+        → HasOneStringSize d → HasOneStringSize (after_open_session d port) }
+    ensures feed { (n : ℕ) (old : Core) (piece : List ℕ) (fed : AFed) (new : Core)
+        → Feeds n old piece fed new → HasOneStringSize old → HasOneStringSize new }
+    ensures data_turn { (n : ℕ) (old : Core) (step : ADataStep) (new : Core) (buf : List ℕ)
+        → Turns n old step new buf → HasOneStringSize old → HasOneStringSize new }
+    ensures data_connected { (d : Core) (n : ℕ) → HasOneStringSize d → HasOneStringSize
+        (record d { slots = on_session_slot (on_session after_connected) n d.slots }) }
+    ensures data_lost { (d : Core) (n : ℕ) → HasOneStringSize d → HasOneStringSize
+        (record d { slots = on_session_slot (on_session after_lost) n d.slots }) }
+    ensures take_reply { (d : Core) (n count : ℕ) → HasOneStringSize d
+        → HasOneStringSize (record d { slots = on_session_slot (after_taken count) n d.slots }) }
+    ensures end_session { (d : Core) (n : ℕ)
+        → HasOneStringSize d → HasOneStringSize (after_end_session d n) }
+    ensures load { (d : Core) (name : List ℕ) (source : SourceState)
+        → HasOneStringSize d → HasOneStringSize (core_after_load d name source) }
+    ensures unplug { (d : Core) (name : List ℕ) → HasOneStringSize d
+        → HasOneStringSize (record d { registry = after_unplug d.registry name }) }
 {}

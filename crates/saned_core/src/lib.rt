@@ -14,8 +14,8 @@ mod session_slots;
 
 pub use daemon::Daemon;
 pub use laws::{
-    a_request_uses_bytes, requests_are_answered_in_order, sessions_are_independent,
-    the_limits_are_kept,
+    a_request_uses_bytes, one_string_size_is_kept, requests_are_answered_in_order,
+    sessions_are_independent, the_limits_are_kept,
 };
 pub use replies::Replies;
 pub use session_slot::{DataStep, Fed, FrameState, OpenFault, SessionId};

@@ -11,7 +11,8 @@ use saned_requests::{drop_session, let_go};
 
 /// Ends the session of a slot, if it goes on.
 pub fn give_back_slot<D: Device>(registry: &mut Registry<D>, slot: Option<SessionSlot<D>>)
-    ensures { table D.state registry.new ≡ session_let_go (table D.state registry.old) (session_in (option_map (seen_session_slot D.state) slot)) }
+    ensures { table D.state registry.new ≡ session_let_go (table D.state registry.old)
+        (session_in (option_map (seen_session_slot D.state) slot)) }
 {
     match slot {
         None => {}

@@ -15,7 +15,7 @@ use crate::session_slot::{DataStep, Fed, FrameState, SessionSlot};
 use device_api::Device;
 use dispatch::Registry;
 use md5_auth::{Challenger, Users};
-use saned_requests::{DataPhase, Session};
+use saned_requests::{DataPhase, Session, StringSize};
 use std::alloc::Global;
 use std::mem;
 use wire_codec::Decoder;
@@ -67,7 +67,8 @@ fn frame_state_of<D: Device>(slot: &Option<SessionSlot<D>>) -> FrameState
 
 /// Where the session's frame is.
 pub fn frame_at<D: Device>(slots: &[Option<SessionSlot<D>>], number: u64) -> FrameState
-    ensures { result ≡ frame_in (session_in (session_slot_of (seen_session_slots D.state slots.now) number)) }
+    ensures { result
+        ≡ frame_in (session_in (session_slot_of (seen_session_slots D.state slots.now) number)) }
 {
     match find(slots, number) {
         Some(k) => frame_state_of(&slots[k]),
@@ -76,7 +77,8 @@ pub fn frame_at<D: Device>(slots: &[Option<SessionSlot<D>>], number: u64) -> Fra
 }
 
 fn has_waiting<D: Device>(slot: &Option<SessionSlot<D>>) -> bool
-    ensures { result ≡ not (length (replies_in (option_map (seen_session_slot D.state) slot.now)) == 0) }
+    ensures { result
+        ≡ not (length (replies_in (option_map (seen_session_slot D.state) slot.now)) == 0) }
 {
     match slot {
         Some(slot) => !slot.replies.is_empty(),
@@ -86,7 +88,8 @@ fn has_waiting<D: Device>(slot: &Option<SessionSlot<D>>) -> bool
 
 /// Whether replies of a session wait.
 pub fn replies_wait<D: Device>(slots: &[Option<SessionSlot<D>>], number: u64) -> bool
-    ensures { result ≡ not (length (replies_in (session_slot_of (seen_session_slots D.state slots.now) number)) == 0) }
+    ensures { result ≡ not
+        (length (replies_in (session_slot_of (seen_session_slots D.state slots.now) number)) == 0) }
 {
     match find(slots, number) {
         Some(k) => has_waiting(&slots[k]),
@@ -105,8 +108,10 @@ fn connect_session<D>(session: &mut Session<D>) -> bool
 }
 
 fn connect<D: Device>(slot: &mut Option<SessionSlot<D>>) -> bool
-    ensures answer { result ≡ is_waiting (frame_in (session_in (option_map (seen_session_slot D.state) slot.old))) }
-    ensures after { option_map (seen_session_slot D.state) slot.new ≡ option_and_then (on_session after_connected) (option_map (seen_session_slot D.state) slot.old) }
+    ensures answer { result
+        ≡ is_waiting (frame_in (session_in (option_map (seen_session_slot D.state) slot.old))) }
+    ensures after { option_map (seen_session_slot D.state) slot.new ≡ option_and_then
+        (on_session after_connected) (option_map (seen_session_slot D.state) slot.old) }
 {
     if let Some(slot) = slot {
         if let Some(session) = &mut slot.session {
@@ -118,8 +123,10 @@ fn connect<D: Device>(slot: &mut Option<SessionSlot<D>>) -> bool
 
 /// The data connection of the session of that number is made; tells whether a frame waited for it.
 pub fn connect_at<D: Device>(slots: &mut [Option<SessionSlot<D>>], number: u64) -> bool
-    ensures answer { result ≡ is_waiting (frame_in (session_in (session_slot_of (seen_session_slots D.state slots.old) number))) }
-    ensures after { seen_session_slots D.state slots.new ≡ on_session_slot (on_session after_connected) number (seen_session_slots D.state slots.old) }
+    ensures answer { result ≡ is_waiting
+        (frame_in (session_in (session_slot_of (seen_session_slots D.state slots.old) number))) }
+    ensures after { seen_session_slots D.state slots.new ≡ on_session_slot
+        (on_session after_connected) number (seen_session_slots D.state slots.old) }
 {
     match find(slots, number) {
         Some(k) => connect(&mut slots[k]),
@@ -129,7 +136,8 @@ pub fn connect_at<D: Device>(slots: &mut [Option<SessionSlot<D>>], number: u64) 
 
 /// The data connection of a slot is lost.
 fn lose_slot<D: Device>(slot: &mut Option<SessionSlot<D>>)
-    ensures { option_map (seen_session_slot D.state) slot.new ≡ option_and_then (on_session after_lost) (option_map (seen_session_slot D.state) slot.old) }
+    ensures { option_map (seen_session_slot D.state) slot.new ≡ option_and_then
+        (on_session after_lost) (option_map (seen_session_slot D.state) slot.old) }
 {
     if let Some(slot) = slot {
         if let Some(session) = &mut slot.session {
@@ -140,7 +148,8 @@ fn lose_slot<D: Device>(slot: &mut Option<SessionSlot<D>>)
 
 /// The data connection of the session of that number is lost.
 pub fn lose_at<D: Device>(slots: &mut [Option<SessionSlot<D>>], number: u64)
-    ensures { seen_session_slots D.state slots.new ≡ on_session_slot (on_session after_lost) number (seen_session_slots D.state slots.old) }
+    ensures { seen_session_slots D.state slots.new
+        ≡ on_session_slot (on_session after_lost) number (seen_session_slots D.state slots.old) }
 {
     if let Some(k) = find(slots, number) {
         lose_slot(&mut slots[k]);
@@ -150,7 +159,8 @@ pub fn lose_at<D: Device>(slots: &mut [Option<SessionSlot<D>>], number: u64)
 /// One turn of the data connection of a slot.
 fn turn_slot<D: Device>(slot: &mut Option<SessionSlot<D>>, buf: &mut [u8]) -> DataStep
     requires { 8 ≤ length buf.old }
-    ensures { TurnsSlot (option_map (seen_session_slot D.state) slot.old) result (option_map (seen_session_slot D.state) slot.new) buf.new }
+    ensures { TurnsSlot (option_map (seen_session_slot D.state) slot.old) result
+        (option_map (seen_session_slot D.state) slot.new) buf.new }
 {
     if let Some(slot) = slot {
         if let Some(session) = &mut slot.session {
@@ -167,7 +177,8 @@ pub fn turn_at<D: Device>(
     buf: &mut [u8],
 ) -> DataStep
     requires { 8 ≤ length buf.old }
-    ensures { TurnsSlots number (seen_session_slots D.state slots.old) result (seen_session_slots D.state slots.new) buf.new }
+    ensures { TurnsSlots number (seen_session_slots D.state slots.old) result
+        (seen_session_slots D.state slots.new) buf.new }
 {
     match find(slots, number) {
         Some(k) => turn_slot(&mut slots[k], buf),
@@ -229,7 +240,8 @@ fn kept_if_open<D>(slot: Option<SessionSlot<D>>) -> Option<SessionSlot<D>>
 fn settle<D: Device>(registry: &mut Registry<D>, slots: &mut [Option<SessionSlot<D>>], k: usize)
     requires { k < length slots.old }
     ensures registry { table D.state registry.new ≡ table D.state registry.old }
-    ensures seats { (d : _) → slots.new ≡ slice_set slots.old k (option_and_then kept_if_open (slice_index_or slots.old k d)) }
+    ensures seats { (d : _) → slots.new
+        ≡ slice_set slots.old k (option_and_then kept_if_open (slice_index_or slots.old k d)) }
 {
     let slot = swap_slot(slots, k, None);
     let slot = kept_if_open(slot);
@@ -243,8 +255,10 @@ pub fn end_at<D: Device>(
     slots: &mut [Option<SessionSlot<D>>],
     number: u64,
 )
-    ensures registry { table D.state registry.new ≡ session_let_go (table D.state registry.old) (session_in (session_slot_of (seen_session_slots D.state slots.old) number)) }
-    ensures seats { seen_session_slots D.state slots.new ≡ on_session_slot no_more number (seen_session_slots D.state slots.old) }
+    ensures registry { table D.state registry.new ≡ session_let_go (table D.state registry.old)
+        (session_in (session_slot_of (seen_session_slots D.state slots.old) number)) }
+    ensures seats { seen_session_slots D.state slots.new
+        ≡ on_session_slot no_more number (seen_session_slots D.state slots.old) }
 {
     if let Some(k) = find(slots, number) {
         let slot = swap_slot(slots, k, None);
@@ -256,9 +270,12 @@ pub fn end_at<D: Device>(
 fn take_slot<D: Device>(slot: &mut Option<SessionSlot<D>>, buf: &mut [u8]) -> usize
     ensures within { result ≤ length buf.old }
     ensures all { result ≤ length (replies_in (option_map (seen_session_slot D.state) slot.old)) }
-    ensures most { (result ≡ length buf.old) ⊎ (result ≡ length (replies_in (option_map (seen_session_slot D.state) slot.old))) }
-    ensures bytes { buf.new ≡ take result (replies_in (option_map (seen_session_slot D.state) slot.old)) ++ drop result buf.old }
-    ensures rest { option_map (seen_session_slot D.state) slot.new ≡ option_map (after_reply_bytes result) (option_map (seen_session_slot D.state) slot.old) }
+    ensures most { (result ≡ length buf.old)
+        ⊎ (result ≡ length (replies_in (option_map (seen_session_slot D.state) slot.old))) }
+    ensures bytes { buf.new ≡ take result
+        (replies_in (option_map (seen_session_slot D.state) slot.old)) ++ drop result buf.old }
+    ensures rest { option_map (seen_session_slot D.state) slot.new
+        ≡ option_map (after_reply_bytes result) (option_map (seen_session_slot D.state) slot.old) }
 {
     match slot {
         Some(slot) => slot.replies.take(buf),
@@ -274,10 +291,15 @@ pub fn take_at<D: Device>(
     buf: &mut [u8],
 ) -> usize
     ensures within { result ≤ length buf.old }
-    ensures all { result ≤ length (replies_in (session_slot_of (seen_session_slots D.state slots.old) number)) }
-    ensures most { (result ≡ length buf.old) ⊎ (result ≡ length (replies_in (session_slot_of (seen_session_slots D.state slots.old) number))) }
-    ensures bytes { buf.new ≡ take result (replies_in (session_slot_of (seen_session_slots D.state slots.old) number)) ++ drop result buf.old }
-    ensures seats { seen_session_slots D.state slots.new ≡ on_session_slot (after_taken result) number (seen_session_slots D.state slots.old) }
+    ensures all { result
+        ≤ length (replies_in (session_slot_of (seen_session_slots D.state slots.old) number)) }
+    ensures most { (result ≡ length buf.old) ⊎ (result
+        ≡ length (replies_in (session_slot_of (seen_session_slots D.state slots.old) number))) }
+    ensures bytes { buf.new
+        ≡ take result (replies_in (session_slot_of (seen_session_slots D.state slots.old) number))
+        ++ drop result buf.old }
+    ensures seats { seen_session_slots D.state slots.new
+        ≡ on_session_slot (after_taken result) number (seen_session_slots D.state slots.old) }
     ensures registry { table D.state registry.new ≡ table D.state registry.old }
 {
     match find(slots, number) {
@@ -326,25 +348,27 @@ pub fn put_in_first_slot<D: Device>(
     registry: &mut Registry<D>,
     slots: &mut [Option<SessionSlot<D>>],
     alloc: Global,
+    strings: StringSize,
     number: u64,
     port: u16,
 ) -> bool
     ensures answer { result ≡ not (all_slots_taken (seen_session_slots D.state slots.old)) }
-    ensures seats { seen_session_slots D.state slots.new ≡ with_session_slot (seen_session_slots D.state slots.old) (new_session_slot number port) }
+    ensures seats { seen_session_slots D.state slots.new ≡ with_session_slot
+        (seen_session_slots D.state slots.old) (new_session_slot strings number port) }
     ensures registry { table D.state registry.new ≡ table D.state registry.old }
 {
     let Some(k) = free_place(slots) else {
         return false;
     };
-    let slot = new_slot(alloc, number, port);
+    let slot = new_slot(alloc, strings, number, port);
     let vacant = swap_slot(slots, k, Some(slot));
     give_back_slot(registry, vacant);
     true
 }
 
 /// A session that was just opened.
-fn new_slot<D: Device>(alloc: Global, number: u64, port: u16) -> SessionSlot<D>
-    ensures { seen_session_slot D.state result ≡ new_session_slot number port }
+fn new_slot<D: Device>(alloc: Global, strings: StringSize, number: u64, port: u16) -> SessionSlot<D>
+    ensures { seen_session_slot D.state result ≡ new_session_slot strings number port }
 {
     SessionSlot {
         number,
@@ -352,6 +376,7 @@ fn new_slot<D: Device>(alloc: Global, number: u64, port: u16) -> SessionSlot<D>
         replies: Replies::new(alloc),
         session: Some(Session {
             port,
+            strings,
             greeted: false,
             held: [None, None, None, None],
             awaited: None,
@@ -378,7 +403,9 @@ fn feed_place<D: Device>(
     challenger: &mut Challenger,
     piece: &[u8],
 ) -> Fed
-    ensures { FeedsPlace users.now (option_map (seen_session_slot D.state) slot.old) (table D.state registry.old) challenger.old piece.now result (option_map (seen_session_slot D.state) slot.new) (table D.state registry.new) challenger.new }
+    ensures { FeedsPlace users.now (option_map (seen_session_slot D.state) slot.old)
+        (table D.state registry.old) challenger.old piece.now result (option_map
+        (seen_session_slot D.state) slot.new) (table D.state registry.new) challenger.new }
 {
     match slot {
         Some(slot) => feed_slot(alloc, slot, registry, users, challenger, piece),
@@ -396,7 +423,9 @@ pub fn feed_at<D: Device>(
     number: u64,
     piece: &[u8],
 ) -> Fed
-    ensures { FeedsAmong users.now number (seen_session_slots D.state slots.old) (table D.state registry.old) challenger.old piece.now result (seen_session_slots D.state slots.new) (table D.state registry.new) challenger.new }
+    ensures { FeedsAmong users.now number (seen_session_slots D.state slots.old)
+        (table D.state registry.old) challenger.old piece.now result
+        (seen_session_slots D.state slots.new) (table D.state registry.new) challenger.new }
 {
     let Some(k) = find(slots, number) else {
         return Fed::Over;

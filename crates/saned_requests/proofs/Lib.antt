@@ -6,3 +6,4 @@ pub mod RequestKinds
 pub mod Keeping
 pub mod Moving
 pub mod Returning
+pub mod StringSizes

@@ -21,6 +21,7 @@ use Rattle.saned_requests.specs.declared.request_answer.RequestAnswer.{RequestAn
 use Rattle.saned_requests.specs.declared.session.AwaitedAuthorization.{AwaitedAuthorization}
 use Rattle.saned_requests.specs.declared.session.DataPhase.{DataPhase}
 use Rattle.saned_requests.specs.declared.session.DataPhase.TheVariants.{Quiet, Waiting, Streaming, Ending}
+use Rattle.saned_requests.specs.declared.session.StringSize.{StringSize}
 use Rattle.saned_requests.specs.Holding.{held_by, on_word, with_device, free_word, cancelled_lease}
 use Rattle.saned_requests.specs.RequestAnswers.{RequestContext, take_device, take_into, reply_of_take, OpensAt, without_awaited, reply_if_allowed, close_lease, cancel_held, control_device, control_lease, control, did_set, set_asked, asked_at, StartsLease, AnswersFree, AnswersAwaiting, AnswersGreeted, AnswersBy, Answers, first_answer, OutOfMemoryFree, OutOfMemoryGreeted, OutOfMemoryBy, OutOfMemoryAt}
 use Rattle.saned_requests.proofs.LeaseWords.{on_word-none}
@@ -71,27 +72,27 @@ cancel_moves d new w (Some l) e n =
     at_word cancelled_lease d.session.held w ∙ ap (λ (x : Option (Lease DeviceState)). on_word (λ _. cancelled_lease x) d.session.held w) e in
     Moved w l (after_cancel l.device) e (cancel_same l.device).info (ap (λ (x : RequestContext). x.session.held) n ∙ written) (ap (λ (x : RequestContext). x.registry) n)
 
-did_info : (s : DeviceState) (n : ℕ) (kind : Kind) (value : WireValue) (r : Result (Value × Info) Status) → (did_set s n kind value r).1.info ≡ s.info
-did_info s n kind value (Ok given) = (set_same s n given.0).info
-did_info s n kind value (Err status) = refl
+did_info : (strings : StringSize) (s : DeviceState) (n : ℕ) (kind : Kind) (value : WireValue) (r : Result (Value × Info) Status) → (did_set strings s n kind value r).1.info ≡ s.info
+did_info strings s n kind value (Ok given) = (set_same s n given.0).info
+did_info strings s n kind value (Err status) = refl
 
-asked_info : (s : DeviceState) (n : ℕ) (kind : Kind) (value : WireValue) (o : Option Value) → (set_asked s n kind value o).1.info ≡ s.info
-asked_info s n kind value None = refl
-asked_info s n kind value (Some asked) = did_info s n kind value (set_answer s n asked)
+asked_info : (strings : StringSize) (s : DeviceState) (n : ℕ) (kind : Kind) (value : WireValue) (o : Option Value) → (set_asked strings s n kind value o).1.info ≡ s.info
+asked_info strings s n kind value None = refl
+asked_info strings s n kind value (Some asked) = did_info strings s n kind value (set_answer s n asked)
 
-control_info : (s : DeviceState) (n : ℕ) (action : ControlAction) (kind : Kind) (value : WireValue) → (control_device s n action kind value).1.info ≡ s.info
-control_info s n GetValue kind value = refl
-control_info s n SetValue kind value = asked_info s n kind value (asked_at (slice_get (descriptors_of s.setup) n) kind value)
+control_info : (strings : StringSize) (s : DeviceState) (n : ℕ) (action : ControlAction) (kind : Kind) (value : WireValue) → (control_device strings s n action kind value).1.info ≡ s.info
+control_info strings s n GetValue kind value = refl
+control_info strings s n SetValue kind value = asked_info strings s n kind value (asked_at (slice_get (descriptors_of s.setup) n) kind value)
 
 control_moves : (d new : RequestContext) (w n : ℕ) (action : ControlAction) (kind : Kind) (value : WireValue) (h : Option (Lease DeviceState)) → held_by d.session.held w ≡ h → new ≡ (control d w n action kind value).1 → MovesDesk d new
 control_moves d new w n action kind value None e i =
-    let written : on_word (λ _. (control_lease (held_by d.session.held w) n action kind value).1) d.session.held w ≡ d.session.held =
-    ap (λ (x : Option (Lease DeviceState)). on_word (λ _. (control_lease x n action kind value).1) d.session.held w) e ∙ on_word-none d.session.held w e in
+    let written : on_word (λ _. (control_lease d.session.strings (held_by d.session.held w) n action kind value).1) d.session.held w ≡ d.session.held =
+    ap (λ (x : Option (Lease DeviceState)). on_word (λ _. (control_lease d.session.strings x n action kind value).1) d.session.held w) e ∙ on_word-none d.session.held w e in
     Still (ap (λ (x : RequestContext). x.session.held) i ∙ written) (ap (λ (x : RequestContext). x.registry) i)
 control_moves d new w n action kind value (Some l) e i =
-    let written : on_word (λ _. (control_lease (held_by d.session.held w) n action kind value).1) d.session.held w ≡ on_word (λ _. with_device l (control_device l.device n action kind value).1) d.session.held w =
-    ap (λ (x : Option (Lease DeviceState)). on_word (λ _. (control_lease x n action kind value).1) d.session.held w) e in
-    Moved w l (control_device l.device n action kind value).1 e (control_info l.device n action kind value) (ap (λ (x : RequestContext). x.session.held) i ∙ written) (ap (λ (x : RequestContext). x.registry) i)
+    let written : on_word (λ _. (control_lease d.session.strings (held_by d.session.held w) n action kind value).1) d.session.held w ≡ on_word (λ _. with_device l (control_device d.session.strings l.device n action kind value).1) d.session.held w =
+    ap (λ (x : Option (Lease DeviceState)). on_word (λ _. (control_lease d.session.strings x n action kind value).1) d.session.held w) e in
+    Moved w l (control_device d.session.strings l.device n action kind value).1 e (control_info d.session.strings l.device n action kind value) (ap (λ (x : RequestContext). x.session.held) i ∙ written) (ap (λ (x : RequestContext). x.registry) i)
 
 -- a word written with what it stood for
 same_moves : (d new : RequestContext) (w : ℕ) (l : Lease DeviceState) (lease : Option (Lease DeviceState)) → held_by d.session.held w ≡ Some l → lease ≡ Some l → new.session.held ≡ on_word (λ _. lease) d.session.held w → new.registry ≡ d.registry → MovesDesk d new

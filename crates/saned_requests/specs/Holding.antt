@@ -5,13 +5,14 @@ use Rattle.dispatch.specs.declared.table.place.Lease.{Lease}
 use Rattle.dispatch.specs.Table.{Table, seen_lease, after_give_back}
 use Rattle.saned_requests.specs.declared.session.DataPhase.TheVariants.{Quiet}
 use Rattle.saned_requests.specs.declared.session.Session.{Session}
+use Rattle.saned_requests.specs.declared.session.StringSize.{StringSize}
 
 -- with each device seen as its state
 abbrev pub seen_held : {D S : Type 0} → (D → S) → List (Option (Lease D)) → List (Option (Lease S))
 seen_held f held = map (option_map (seen_lease f)) held
 
 abbrev pub seen_session : {D S : Type 0} → (D → S) → Session D → Session S
-seen_session f s = record { port = s.port; greeted = s.greeted; held = seen_held f s.held; awaited = s.awaited; transfer = s.transfer }
+seen_session f s = record { port = s.port; strings = s.strings; greeted = s.greeted; held = seen_held f s.held; awaited = s.awaited; transfer = s.transfer }
 
 -- what a word of a session stands for
 unfoldable pub held_by : {S : Type 0} → List (Option (Lease S)) → ℕ → Option (Lease S)
@@ -58,5 +59,5 @@ given_back t [] = t
 given_back t (lease ∷ held) = given_back (with_lease_back t lease) held
 
 -- a session that was just opened
-abbrev pub fresh_session : ℕ → Session DeviceState
-fresh_session port = record { port = port; greeted = false; held = None ∷ None ∷ None ∷ None ∷ []; awaited = None; transfer = Quiet }
+abbrev pub fresh_session : StringSize → ℕ → Session DeviceState
+fresh_session strings port = record { port = port; strings = strings; greeted = false; held = None ∷ None ∷ None ∷ None ∷ []; awaited = None; transfer = Quiet }

@@ -35,7 +35,8 @@ use Rattle.saned_requests.specs.declared.session.DataPhase.{DataPhase}
 use Rattle.saned_requests.specs.declared.session.DataPhase.TheVariants.{Quiet, Waiting, Streaming, Ending}
 use Rattle.saned_requests.specs.declared.session.AwaitedAuthorization.{AwaitedAuthorization}
 use Rattle.saned_requests.specs.declared.session.Session.{Session}
-use Rattle.saned_requests.specs.WireValues.{wire_of, value_asked}
+use Rattle.saned_requests.specs.declared.session.StringSize.{StringSize}
+use Rattle.saned_requests.specs.WireValues.{sent_as, size_of, value_asked}
 use Rattle.saned_requests.specs.Holding.{seen_session, held_by, on_word, with_device, free_word, cancelled_lease}
 
 abbrev pub no_mem : NoMem
@@ -204,44 +205,47 @@ abbrev pub kind_of : Option Descriptor → Kind → Kind
 kind_of None kind = kind
 kind_of (Some desc) kind = desc.kind
 
--- a GET tells the option's own type
-abbrev pub got_reply : DeviceState → ℕ → Kind → WireValue → Result Value Status → Reply
-got_reply s n kind value (Ok v) = replies.ControlOption statuses.Good no_info (kind_of (slice_get (descriptors_of s.setup) n) kind) (wire_of v) []
-got_reply s n kind value (Err status) = refused_control status kind value
+-- a GET tells the option's own type; its value is as long as the session's string values are
+abbrev pub got_reply : StringSize → DeviceState → ℕ → Kind → WireValue → Result Value Status → Reply
+got_reply strings s n kind value (Ok v) =
+    replies.ControlOption statuses.Good no_info (kind_of (slice_get (descriptors_of s.setup) n) kind) (sent_as strings (size_of (slice_get (descriptors_of s.setup) n)) v) []
+got_reply strings s n kind value (Err status) = refused_control status kind value
 
 -- what a SET answers, and the device behind it
-abbrev pub did_set : DeviceState → ℕ → Kind → WireValue → Result (Value × Info) Status → Reply × DeviceState
-did_set s n kind value (Ok given) = (replies.ControlOption statuses.Good given.1 kind (wire_of given.0) [], after_set s n given.0)
-did_set s n kind value (Err status) = (refused_control status kind value, s)
+abbrev pub did_set : StringSize → DeviceState → ℕ → Kind → WireValue → Result (Value × Info) Status → Reply × DeviceState
+did_set strings s n kind value (Ok given) =
+    (replies.ControlOption statuses.Good given.1 kind (sent_as strings (size_of (slice_get (descriptors_of s.setup) n)) given.0) [], after_set s n given.0)
+did_set strings s n kind value (Err status) = (refused_control status kind value, s)
 
-abbrev pub set_asked : DeviceState → ℕ → Kind → WireValue → Option Value → Reply × DeviceState
-set_asked s n kind value None = (refused_control statuses.Inval kind value, s)
-set_asked s n kind value (Some asked) = did_set s n kind value (set_answer s n asked)
+abbrev pub set_asked : StringSize → DeviceState → ℕ → Kind → WireValue → Option Value → Reply × DeviceState
+set_asked strings s n kind value None = (refused_control statuses.Inval kind value, s)
+set_asked strings s n kind value (Some asked) = did_set strings s n kind value (set_answer s n asked)
 
 -- an option that is not there has no type to test: the device's own set answers
 abbrev pub asked_at : Option Descriptor → Kind → WireValue → Option Value
 asked_at None kind value = Some (options.Flag false)
 asked_at (Some desc) kind value = value_asked desc kind value
 
-abbrev pub set_at : DeviceState → ℕ → Kind → WireValue → Option Descriptor → Reply × DeviceState
-set_at s n kind value desc = set_asked s n kind value (asked_at desc kind value)
+abbrev pub set_at : StringSize → DeviceState → ℕ → Kind → WireValue → Option Descriptor → Reply × DeviceState
+set_at strings s n kind value desc = set_asked strings s n kind value (asked_at desc kind value)
 
-abbrev pub control_device : DeviceState → ℕ → ControlAction → Kind → WireValue → Reply × DeviceState
-control_device s n GetValue kind value = (got_reply s n kind value (get_answer s n), s)
-control_device s n SetValue kind value = set_at s n kind value (slice_get (descriptors_of s.setup) n)
+abbrev pub control_device : StringSize → DeviceState → ℕ → ControlAction → Kind → WireValue → Reply × DeviceState
+control_device strings s n GetValue kind value = (got_reply strings s n kind value (get_answer s n), s)
+control_device strings s n SetValue kind value = set_at strings s n kind value (slice_get (descriptors_of s.setup) n)
 
 -- the same of what a word stands for
-abbrev pub control_lease : Option (Lease DeviceState) → ℕ → ControlAction → Kind → WireValue → Reply × Option (Lease DeviceState)
-control_lease None n action kind value = (refused_control statuses.Inval kind value, None)
-control_lease (Some lease) n action kind value = ((control_device lease.device n action kind value).0, with_device lease (control_device lease.device n action kind value).1)
+abbrev pub control_lease : StringSize → Option (Lease DeviceState) → ℕ → ControlAction → Kind → WireValue → Reply × Option (Lease DeviceState)
+control_lease strings None n action kind value = (refused_control statuses.Inval kind value, None)
+control_lease strings (Some lease) n action kind value =
+    ((control_device strings lease.device n action kind value).0, with_device lease (control_device strings lease.device n action kind value).1)
 
-abbrev pub control_held : List (Option (Lease DeviceState)) → ℕ → ℕ → ControlAction → Kind → WireValue → Reply × List (Option (Lease DeviceState))
-control_held held word n action kind value =
-    ((control_lease (held_by held word) n action kind value).0, on_word (λ _. (control_lease (held_by held word) n action kind value).1) held word)
+abbrev pub control_held : StringSize → List (Option (Lease DeviceState)) → ℕ → ℕ → ControlAction → Kind → WireValue → Reply × List (Option (Lease DeviceState))
+control_held strings held word n action kind value =
+    ((control_lease strings (held_by held word) n action kind value).0, on_word (λ _. (control_lease strings (held_by held word) n action kind value).1) held word)
 
 abbrev pub control : RequestContext → ℕ → ℕ → ControlAction → Kind → WireValue → ContextOutcome
 control d word n action kind value =
-    (One (control_held d.session.held word n action kind value).0, with_held d (control_held d.session.held word n action kind value).1)
+    (One (control_held d.session.strings d.session.held word n action kind value).0, with_held d (control_held d.session.strings d.session.held word n action kind value).1)
 
 -- the reply is told, or memory runs out for it: then nothing was done, or all of it
 abbrev pub GivesReply : {S : Type 0} → Reply × S → Result Reply NoMem → S → S → Type 0

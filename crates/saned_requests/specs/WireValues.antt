@@ -1,5 +1,5 @@
 -- Values of options as they travel, and the value that is asked of an option.
-use Rattle.std.specs.Prelude.{ℕ, ◌*◌, ◌==◌, true, false, if◌then◌else◌, Option, Some, None, option_map, List, [], ◌∷◌, ◌++◌, map, length, take, position}
+use Rattle.std.specs.Prelude.{ℕ, ◌*◌, ◌-◌, ◌==◌, true, false, if◌then◌else◌, Option, Some, None, option_map, List, [], ◌∷◌, ◌++◌, map, length, take, position, replicate}
 use Rattle.std.specs.Int.{w32, cast_signed, cast_unsigned}
 use Rattle.sane_fixed.specs.Kind.{kind_code}
 use Rattle.sane_fixed.specs.declared.kind.Kind.{Kind}
@@ -9,14 +9,31 @@ use Rattle.option_desc.specs.declared.value.Value.{Value}
 use Rattle.option_desc.specs.declared.value.Value.TheVariants as options
 use Rattle.wire_message.specs.declared.message.WireValue.{WireValue}
 use Rattle.wire_message.specs.declared.message.WireValue.TheVariants as wire
+use Rattle.saned_requests.specs.declared.session.StringSize.{StringSize}
+use Rattle.saned_requests.specs.declared.session.StringSize.TheVariants.{OfText, OfOption}
 
--- a value as it is sent: a text with its NUL
+-- a value by itself: a text with its NUL
 abbrev pub wire_of : Value → WireValue
 wire_of (options.Flag b) = wire.Words ((if b then 1 else 0) ∷ [])
 wire_of (options.Int n) = wire.Words (cast_unsigned w32 n ∷ [])
 wire_of (options.Fixed f) = wire.Words (cast_unsigned w32 f.0 ∷ [])
 wire_of (options.Words words) = wire.Words (map (cast_unsigned w32) words)
 wire_of (options.Text text) = wire.Bytes (text ++ 0 ∷ [])
+
+-- the size of an option, where there is one
+abbrev pub size_of : Option Descriptor → ℕ
+size_of None = 0
+size_of (Some desc) = desc.size
+
+-- zero bytes behind a string value, up to that size; one that is as long or longer stays whole
+abbrev pub filled : ℕ → WireValue → WireValue
+filled size (wire.Words words) = wire.Words words
+filled size (wire.Bytes bytes) = wire.Bytes (bytes ++ replicate (size - length bytes) 0)
+
+-- a value of an option of that size, as a reply has it
+abbrev pub sent_as : StringSize → ℕ → Value → WireValue
+sent_as OfText size value = wire_of value
+sent_as OfOption size value = filled size (wire_of value)
 
 -- a BOOL is one word, 0 or 1
 abbrev pub flag_value_of : ℕ → Option Value

@@ -9,7 +9,8 @@ use dispatch::Lease;
 
 /// Cancels a device, where there is one.
 fn cancel_lease<D: Device>(word: &mut Option<Lease<D>>)
-    ensures { option_map (seen_lease D.state) word.new ≡ cancelled_lease (option_map (seen_lease D.state) word.old) }
+    ensures { option_map (seen_lease D.state) word.new
+        ≡ cancelled_lease (option_map (seen_lease D.state) word.old) }
 {
     if let Some(lease) = word {
         lease.device.cancel();

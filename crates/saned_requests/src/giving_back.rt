@@ -10,7 +10,8 @@ use dispatch::{Lease, Registry, RetiredTable};
 
 /// Gives back what a device word stands for, if it stands for anything.
 pub fn give_back<D: Device>(registry: &mut Registry<D>, word: Option<Lease<D>>)
-    ensures { table D.state registry.new ≡ with_lease_back (table D.state registry.old) (option_map (seen_lease D.state) word) }
+    ensures { table D.state registry.new
+        ≡ with_lease_back (table D.state registry.old) (option_map (seen_lease D.state) word) }
 {
     match word {
         None => {}
@@ -20,7 +21,8 @@ pub fn give_back<D: Device>(registry: &mut Registry<D>, word: Option<Lease<D>>)
 
 /// Gives back all that a session holds.
 fn give_back_all<D: Device>(registry: &mut Registry<D>, held: [Option<Lease<D>>; 4])
-    ensures { table D.state registry.new ≡ given_back (table D.state registry.old) (seen_held D.state held) }
+    ensures { table D.state registry.new
+        ≡ given_back (table D.state registry.old) (seen_held D.state held) }
 {
     let [a, b, c, d] = held;
     give_back(registry, a);
@@ -31,10 +33,12 @@ fn give_back_all<D: Device>(registry: &mut Registry<D>, held: [Option<Lease<D>>;
 
 /// Ends a session: all its leases go back.
 pub fn let_go<D: Device>(registry: &mut Registry<D>, session: Session<D>)
-    ensures { table D.state registry.new ≡ given_back (table D.state registry.old) (seen_held D.state session.held) }
+    ensures { table D.state registry.new
+        ≡ given_back (table D.state registry.old) (seen_held D.state session.held) }
 {
     let Session {
         port: _,
+        strings: _,
         greeted: _,
         held,
         awaited: _awaited,
@@ -64,6 +68,7 @@ fn drop_all<D: Drop>(retired: &RetiredTable, held: [Option<Lease<D>>; 4]) {
 pub fn drop_session<D: Drop>(retired: &RetiredTable, session: Session<D>) {
     let Session {
         port: _,
+        strings: _,
         greeted: _,
         held,
         awaited: _awaited,

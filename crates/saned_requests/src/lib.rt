@@ -14,4 +14,4 @@ pub use cancelling::cancel_word;
 pub use giving_back::{drop_session, let_go};
 pub use laws::{a_request_keeps_leases, an_end_gives_all_back};
 pub use request_answer::RequestAnswer;
-pub use session::{AwaitedAuthorization, DataPhase, Session};
+pub use session::{AwaitedAuthorization, DataPhase, Session, StringSize};

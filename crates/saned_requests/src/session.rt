@@ -17,10 +17,19 @@ pub struct AwaitedAuthorization {
     pub resource: Text,
 }
 
+/// How long a string value is in a reply: as its text with a NUL, or as its option's size, filled up with zero bytes.
+#[derive(Clone, Copy, Debug, PartialEq, Eq)]
+pub enum StringSize {
+    OfText,
+    OfOption,
+}
+
 /// A session that goes on.
 pub struct Session<D> {
     /// Where its data connections are accepted.
     pub port: u16,
+    /// How string values are sent to it.
+    pub strings: StringSize,
     /// Whether its INIT was answered.
     pub greeted: bool,
     /// What it holds, by device word.

@@ -1,5 +1,6 @@
 pub mod SlotCounts
 pub mod ActionSteps
+pub mod DataActionSteps
 pub mod Daemon
 pub mod Ranges
 pub mod SlotGreeting

@@ -8,6 +8,7 @@ use Rattle.dispatch.specs.Table.{Table, TableInvariant}
 use Rattle.saned_requests.specs.declared.session.DataPhase.{DataPhase}
 use Rattle.saned_requests.specs.declared.session.DataPhase.TheVariants.{Quiet, Waiting, Streaming, Ending}
 use Rattle.saned_requests.specs.declared.session.Session.{Session}
+use Rattle.saned_requests.specs.declared.session.StringSize.{StringSize}
 use Rattle.saned_requests.specs.Holding.{held_by, on_word, cancelled_lease, with_cancelled, given_back, fresh_session}
 use Rattle.saned_requests.specs.LeaseLaws.{HoldsWell, IsElsewhere, KeepsLeases}
 use Rattle.saned_requests.specs.RequestAnswers.{RequestContext, RequestOutOfMemory}
@@ -181,22 +182,22 @@ seats_new (Some slot ∷ slots) new =
 bare_none : IsBare []
 bare_none w l e = no_lease w l e
 
-bare_fresh : (port : ℕ) → IsBare (fresh_session port).held
+bare_fresh : (strings : StringSize) (port : ℕ) → IsBare (fresh_session strings port).held
 unfolding held_by
-bare_fresh port zero l e = let wrong : None ≡ Some l = e in cc
-bare_fresh port (suc zero) l e = let wrong : None ≡ Some l = e in cc
-bare_fresh port (suc (suc zero)) l e = let wrong : None ≡ Some l = e in cc
-bare_fresh port (suc (suc (suc zero))) l e = let wrong : None ≡ Some l = e in cc
-bare_fresh port (suc (suc (suc (suc w)))) l e = let wrong : None ≡ Some l = e in cc
+bare_fresh strings port zero l e = let wrong : None ≡ Some l = e in cc
+bare_fresh strings port (suc zero) l e = let wrong : None ≡ Some l = e in cc
+bare_fresh strings port (suc (suc zero)) l e = let wrong : None ≡ Some l = e in cc
+bare_fresh strings port (suc (suc (suc zero))) l e = let wrong : None ≡ Some l = e in cc
+bare_fresh strings port (suc (suc (suc (suc w)))) l e = let wrong : None ≡ Some l = e in cc
 
 opened_apart : (d : Core) (port : ℕ) → HoldsApart d → HoldsApart (after_open_session d port)
 opened_apart d port was =
-    let new = new_session_slot d.opened port in
+    let new = new_session_slot d.strings d.opened port in
     let at = seats_new d.slots new in
     held_apart d.registry d.slots d.registry (with_session_slot d.slots new) at.place (keeps_bare d.registry (leases_at d.slots at.place) (leases_at (with_session_slot d.slots new) at.place) (bare at)) at.off was
   where
-    bare : (at : Seats d.slots (new_session_slot d.opened port)) → IsBare (leases_at (with_session_slot d.slots (new_session_slot d.opened port)) at.place)
-    bare at = elim at.now [ inl none ↦ subst (λ h. IsBare h) (sym none) bare_none | inr some ↦ subst (λ h. IsBare h) (sym some) (bare_fresh port) ]
+    bare : (at : Seats d.slots (new_session_slot d.strings d.opened port)) → IsBare (leases_at (with_session_slot d.slots (new_session_slot d.strings d.opened port)) at.place)
+    bare at = elim at.now [ inl none ↦ subst (λ h. IsBare h) (sym none) bare_none | inr some ↦ subst (λ h. IsBare h) (sym some) (bare_fresh d.strings port) ]
 
 -- requests are answered
 all_answered : (users : _) (d : RequestContext) (requests : _) (told : _) (e : RequestContext) → AnswersAll users d requests told e → Keeps d.registry d.session.held e.registry e.session.held

@@ -16,15 +16,18 @@ ghost use Rattle.saned_serve.specs.HeldLeases.{HoldsApart};
 /// one's records; and each session that was opened and does not stand was left, its control
 /// connection handed back with just those calls.
 pub fn connections_tell_their_sessions()
-    ensures fed { (journal : List LoopAction) (id : ℕ) → IsJournal journal
-        → IsFront (projection_of id journal).heard (trace_bytes_read (projection_of id journal).control) }
+    ensures fed { (journal : List LoopAction) (id : ℕ)
+        → IsJournal journal → IsFront (projection_of id journal).heard
+        (trace_bytes_read (projection_of id journal).control) }
     ensures all_fed { (journal : List LoopAction) (id : ℕ) → IsJournal journal
         → (projection_of id journal).is_open ≡ false
         → trace_bytes_read (projection_of id journal).control ≡ (projection_of id journal).heard }
-    ensures said { (journal : List LoopAction) (id : ℕ) → IsJournal journal
-        → IsFront (trace_bytes_written (projection_of id journal).control) (projection_of id journal).said }
-    ensures shown { (journal : List LoopAction) (id : ℕ) → IsJournal journal
-        → IsFront (trace_bytes_written (projection_of id journal).image) (projection_of id journal).shown }
+    ensures said { (journal : List LoopAction) (id : ℕ)
+        → IsJournal journal → IsFront (trace_bytes_written (projection_of id journal).control)
+        (projection_of id journal).said }
+    ensures shown { (journal : List LoopAction) (id : ℕ)
+        → IsJournal journal → IsFront (trace_bytes_written (projection_of id journal).image)
+        (projection_of id journal).shown }
     ensures left { (journal : List LoopAction) (id port : ℕ) → IsJournal journal
         → IsInJournal (Of id (Opens port)) journal
         → (projection_of id journal).is_open ≡ false → WasLeft id journal }
@@ -35,8 +38,8 @@ pub fn connections_tell_their_sessions()
 pub fn no_device_is_held_twice()
     ensures new { (d : Core) → TableInvariant d.registry
         → d.slots ≡ None ∷ None ∷ None ∷ None ∷ None ∷ None ∷ None ∷ None ∷ [] → HoldsApart d }
-    ensures behind { (d e : Core) (journal : List LoopAction) → DaemonRuns d journal e → HoldsApart d
-        → HoldsApart e }
-    ensures within { (d e : Core) (since past : List LoopAction) → DaemonRuns d (since ++ past) e → HoldsApart d
-        → (mid : Core) × DaemonRuns d past mid × HoldsApart mid }
+    ensures behind { (d e : Core) (journal : List LoopAction)
+        → DaemonRuns d journal e → HoldsApart d → HoldsApart e }
+    ensures within { (d e : Core) (since past : List LoopAction) → DaemonRuns d (since ++ past) e
+        → HoldsApart d → (mid : Core) × DaemonRuns d past mid × HoldsApart mid }
 {}

@@ -95,8 +95,8 @@ fn hear<D: Device, L: Listeners>(
     link: &mut SessionLink<L::Conn>,
 ) -> bool
     requires { link.old.replies ≡ [] }
-    ensures { JournalGoesOn L.Conn.history Filled Heard (core D.state daemon.old) (L.trace net.old) link.old
-        result (core D.state daemon.new) (L.trace net.new) link.new }
+    ensures { JournalGoesOn L.Conn.history Filled Heard (core D.state daemon.old)
+        (L.trace net.old) link.old result (core D.state daemon.new) (L.trace net.new) link.new }
 {
     let mut room = [0u8; PIECE];
     match link.conn.read(&mut room) {
@@ -114,10 +114,10 @@ fn hear<D: Device, L: Listeners>(
 
 /// Takes replies where none wait.
 fn fill_replies<D: Device, C: Socket>(daemon: &mut Daemon<D>, link: &mut SessionLink<C>)
-    ensures first { (n : Option ListenerTrace) → JournalGoesOn C.history Due Filled (core D.state daemon.old) n
-        link.old false (core D.state daemon.new) n link.new }
-    ensures again { (n : Option ListenerTrace) → JournalGoesOn C.history Heard Ready (core D.state daemon.old) n
-        link.old false (core D.state daemon.new) n link.new }
+    ensures first { (n : Option ListenerTrace) → JournalGoesOn C.history Due Filled
+        (core D.state daemon.old) n link.old false (core D.state daemon.new) n link.new }
+    ensures again { (n : Option ListenerTrace) → JournalGoesOn C.history Heard Ready
+        (core D.state daemon.old) n link.old false (core D.state daemon.new) n link.new }
 {
     if link.replies.is_empty() {
         link.replies.take_reply(daemon, link.id);
@@ -132,8 +132,8 @@ fn listen<D: Device, L: Listeners>(
     net: &mut L,
     link: &mut SessionLink<L::Conn>,
 ) -> bool
-    ensures { JournalGoesOn L.Conn.history Due Heard (core D.state daemon.old) (L.trace net.old) link.old
-        result (core D.state daemon.new) (L.trace net.new) link.new }
+    ensures { JournalGoesOn L.Conn.history Due Heard (core D.state daemon.old)
+        (L.trace net.old) link.old result (core D.state daemon.new) (L.trace net.new) link.new }
 {
     fill_replies(daemon, link);
     if link.replies.is_empty() {
@@ -173,8 +173,8 @@ fn send_replies<C: Socket>(link: &mut SessionLink<C>) -> bool
 
 /// One write of replies, which are taken from the daemon where none wait.
 fn speak<D: Device, C: Socket>(daemon: &mut Daemon<D>, link: &mut SessionLink<C>) -> bool
-    ensures { (n : Option ListenerTrace) → JournalGoesOn C.history Heard Spoken (core D.state daemon.old) n link.old
-        result (core D.state daemon.new) n link.new }
+    ensures { (n : Option ListenerTrace) → JournalGoesOn C.history Heard Spoken
+        (core D.state daemon.old) n link.old result (core D.state daemon.new) n link.new }
 {
     fill_replies(daemon, link);
     send_replies(link)
@@ -224,8 +224,8 @@ fn dial<D: Device, L: Listeners>(
 /// Takes a record where none waits.
 fn fill_records<D: Device, C: Socket>(daemon: &mut Daemon<D>, link: &mut SessionLink<C>)
     requires { IsSome link.old.image }
-    ensures { (n : Option ListenerTrace) → JournalGoesOn C.history Dialed Loaded (core D.state daemon.old) n
-        link.old false (core D.state daemon.new) n link.new }
+    ensures { (n : Option ListenerTrace) → JournalGoesOn C.history Dialed Loaded
+        (core D.state daemon.old) n link.old false (core D.state daemon.new) n link.new }
 {
     if link.records.is_empty() {
         let step = link.records.take_record(daemon, link.id);
@@ -249,8 +249,8 @@ fn show<D: Device, L: Listeners>(
     net: &mut L,
     link: &mut SessionLink<L::Conn>,
 ) -> bool
-    ensures { JournalGoesOn L.Conn.history Dialed Shown (core D.state daemon.old) (L.trace net.old) link.old
-        result (core D.state daemon.new) (L.trace net.new) link.new }
+    ensures { JournalGoesOn L.Conn.history Dialed Shown (core D.state daemon.old)
+        (L.trace net.old) link.old result (core D.state daemon.new) (L.trace net.new) link.new }
 {
     if link.image.is_none() {
         return false;
@@ -279,8 +279,8 @@ pub fn converse<D: Device, L: Listeners>(
     net: &mut L,
     link: &mut SessionLink<L::Conn>,
 ) -> bool
-    ensures { JournalGoesOn L.Conn.history Due Shown (core D.state daemon.old) (L.trace net.old) link.old
-        result (core D.state daemon.new) (L.trace net.new) link.new }
+    ensures { JournalGoesOn L.Conn.history Due Shown (core D.state daemon.old)
+        (L.trace net.old) link.old result (core D.state daemon.new) (L.trace net.new) link.new }
 {
     let has_heard = listen(alloc, daemon, net, link);
     let has_spoken = speak(daemon, link);

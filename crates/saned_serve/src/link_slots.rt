@@ -65,8 +65,8 @@ fn serve_slot<D: Device, L: Listeners>(
     net: &mut L,
     slot: &mut LinkSlot<L::Conn>,
 ) -> Visit
-    ensures keeps { KeepsSession L.Conn.history (core D.state daemon.old) (L.trace net.old) slot.old.link
-        result.has_moved (core D.state daemon.new) (L.trace net.new) slot.new.link }
+    ensures keeps { KeepsSession L.Conn.history (core D.state daemon.old) (L.trace net.old)
+        slot.old.link result.has_moved (core D.state daemon.new) (L.trace net.new) slot.new.link }
     ensures left { IsToBeLeft result.has_left slot.new.link }
     ensures roomed { HasRooms slot.old → HasRooms slot.new }
 {
@@ -111,9 +111,10 @@ pub fn turn_at<D: Device, L: Listeners>(
 ) -> Visit
     requires inside { i < length slots.old }
     requires roomed { All HasRooms slots.old }
-    ensures went { (d0 : Core) (n0 : Option ListenerTrace) (past : List LoopAction) → has_asked past ≡ true
-        → LoopInvariant L.Conn.history d0 n0 past (core D.state daemon.old) (L.trace net.old) i slots.old
-        → WentOn L.Conn.history d0 n0 past (one_if result.has_left) result.has_moved (core D.state daemon.new) (L.trace net.new) (i + 1) slots.new }
+    ensures went { (d0 : Core) (n0 : Option ListenerTrace) (past : List LoopAction)
+        → has_asked past ≡ true → LoopInvariant L.Conn.history d0 n0 past (core D.state daemon.old)
+        (L.trace net.old) i slots.old → WentOn L.Conn.history d0 n0 past (one_if result.has_left)
+        result.has_moved (core D.state daemon.new) (L.trace net.new) (i + 1) slots.new }
     ensures roomed { All HasRooms slots.new }
 {
     let slot = &mut slots[i];
@@ -206,9 +207,10 @@ fn greet_at<D: Device, L: Listeners>(
     requires len { length slots.old ≡ most_sessions }
     requires roomed { All HasRooms slots.old }
     ensures roomed { All HasRooms slots.new }
-    ensures went { (d0 : Core) (n0 : Option ListenerTrace) (past : List LoopAction) → has_asked past ≡ false
-        → LoopInvariant L.Conn.history d0 n0 past (core D.state daemon.old) (L.trace net.old) 0 slots.old
-        → WentOn L.Conn.history d0 n0 past 0 result (core D.state daemon.new) (L.trace net.new) 0 slots.new }
+    ensures went { (d0 : Core) (n0 : Option ListenerTrace) (past : List LoopAction)
+        → has_asked past ≡ false → LoopInvariant L.Conn.history d0 n0 past (core D.state daemon.old)
+        (L.trace net.old) 0 slots.old → WentOn L.Conn.history d0 n0 past 0 result
+        (core D.state daemon.new) (L.trace net.new) 0 slots.new }
 {
     let slot = &mut slots[i];
     greet(alloc, daemon, net, slot)
@@ -224,9 +226,10 @@ pub fn welcome<D: Device, L: Listeners>(
     requires len { length slots.old ≡ most_sessions }
     requires roomed { All HasRooms slots.old }
     ensures roomed { All HasRooms slots.new }
-    ensures went { (d0 : Core) (n0 : Option ListenerTrace) (past : List LoopAction) → has_asked past ≡ false
-        → LoopInvariant L.Conn.history d0 n0 past (core D.state daemon.old) (L.trace net.old) 0 slots.old
-        → WentOn L.Conn.history d0 n0 past 0 result (core D.state daemon.new) (L.trace net.new) 0 slots.new }
+    ensures went { (d0 : Core) (n0 : Option ListenerTrace) (past : List LoopAction)
+        → has_asked past ≡ false → LoopInvariant L.Conn.history d0 n0 past (core D.state daemon.old)
+        (L.trace net.old) 0 slots.old → WentOn L.Conn.history d0 n0 past 0 result
+        (core D.state daemon.new) (L.trace net.new) 0 slots.new }
 {
     for i in 0..slots.len() {
         if slots[i].link.is_none() {
@@ -253,9 +256,9 @@ pub fn close_all<D: Device, L: Listeners>(
     net: &mut L,
     mut slots: Vec<LinkSlot<L::Conn>>,
 )
-    ensures { (d0 : Core) (n0 : Option ListenerTrace) (past : List LoopAction) → has_stopped past ≡ true
-        → LoopInvariant L.Conn.history d0 n0 past (core D.state daemon.old) (L.trace net.old) 0
-        slots.items
+    ensures { (d0 : Core) (n0 : Option ListenerTrace) (past : List LoopAction)
+        → has_stopped past ≡ true → LoopInvariant L.Conn.history d0 n0 past
+        (core D.state daemon.old) (L.trace net.old) 0 slots.items
         → ClosesAll d0 n0 past (core D.state daemon.new) (L.trace net.new) }
 {
     while let Some(mut slot) = slots.pop() {

@@ -29,9 +29,10 @@ fn take_turn<D: Device, L: Listeners>(
     requires len { length slots.old ≡ most_sessions }
     requires roomed { All HasRooms slots.old }
     ensures roomed { All HasRooms slots.new }
-    ensures turned { (d0 : Core) (n0 : Option ListenerTrace) (past : List LoopAction) → has_asked past ≡ false
-        → LoopInvariant L.Conn.history d0 n0 past (core D.state daemon.old) (L.trace net.old) 0 slots.old
-        → TookTurn L.Conn.history d0 n0 past result.left result.has_moved (core D.state daemon.new) (L.trace net.new) slots.new }
+    ensures turned { (d0 : Core) (n0 : Option ListenerTrace) (past : List LoopAction)
+        → has_asked past ≡ false → LoopInvariant L.Conn.history d0 n0 past
+        (core D.state daemon.old) (L.trace net.old) 0 slots.old → TookTurn L.Conn.history d0
+        n0 past result.left result.has_moved (core D.state daemon.new) (L.trace net.new) slots.new }
     ensures few { result.left ≤ length slots.old }
 {
     let mut has_moved = welcome(alloc, daemon, net, slots);
@@ -77,9 +78,9 @@ fn take_turns<D: Device, L: Listeners>(
 ) -> ServeEnd
     requires len { length slots.old ≡ most_sessions }
     requires roomed { All HasRooms slots.old }
-    ensures ran { (d0 : Core) (n0 : Option ListenerTrace)
-        → LoopInvariant L.Conn.history d0 n0 [] (core D.state daemon.old) (L.trace net.old) 0 slots.old
-        → HasTakenAllTurns L.Conn.history d0 n0 result sessions idle_turns (core D.state daemon.new) (L.trace net.new) slots.new }
+    ensures ran { (d0 : Core) (n0 : Option ListenerTrace) → LoopInvariant L.Conn.history d0 n0 []
+        (core D.state daemon.old) (L.trace net.old) 0 slots.old → HasTakenAllTurns L.Conn.history
+        d0 n0 result sessions idle_turns (core D.state daemon.new) (L.trace net.new) slots.new }
     ensures memory { result ≢ ServeEnd.NoMem }
 {
     let mut all_left = 0u64;

@@ -60,7 +60,8 @@ pub trait Listeners {
 
     /// A connection at such a port, where one is there.
     fn accept_data(&mut self, port: u16) -> Option<Self::Conn>
-        ensures told { trace self.new ≡ with_notice (Dialed port (is_some result)) (trace self.old) }
+        ensures told { trace self.new
+            ≡ with_notice (Dialed port (is_some result)) (trace self.old) }
         ensures fresh { IfSome result (λ conn. IsTrace (Self.Conn.history conn) []) };
 
     /// No further connection is awaited at that port.

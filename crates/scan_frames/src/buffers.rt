@@ -62,7 +62,8 @@ pub fn reserve<S: PageSource>(
     height: u32,
 ) -> Result<Buffers, NoMem>
     requires { IsSetup setup.now }
-    ensures { IfOk result (λ b. IsNewFrame (S.source source.now).page setup.now pass height (state_of b)) }
+    ensures { IfOk result
+        (λ b. IsNewFrame (S.source source.now).page setup.now pass height (state_of b)) }
 {
     let (width, _) = source.size();
     let columns = ColumnMap::new(alloc, &setup.scene, width, source.dpi())?;
@@ -100,7 +101,8 @@ fn line_of_row<S: PageSource>(
     requires setup { IsSetup setup.now }
     requires frame { IsFrame (S.source source.old) setup.now (state_of buffers.old) }
     requires more { buffers.old.made < buffers.old.height }
-    ensures ok { OnOk result (MakesLine (S.source source.old) setup.now (state_of buffers.old) (S.source source.new) (state_of buffers.new)) }
+    ensures ok { OnOk result (MakesLine (S.source source.old) setup.now
+        (state_of buffers.old) (S.source source.new) (state_of buffers.new)) }
     ensures err { OnErr result (StopsFailing (S.source source.old) (S.source source.new)) }
     ensures count { OnErr result (KeepsCount (state_of buffers.old) (state_of buffers.new)) }
 {
@@ -125,8 +127,10 @@ fn line_again<S: PageSource>(buffers: &mut Buffers, source: &S, setup: &Setup)
     requires frame { IsFrame (S.source source.now) setup.now (state_of buffers.old) }
     requires more { buffers.old.made < buffers.old.height }
     requires begun { 0 < buffers.old.made }
-    requires same { row_of setup.now (S.source source.now).page (buffers.old.made - 1) ≡ row_of setup.now (S.source source.now).page buffers.old.made }
-    ensures { MakesLine (S.source source.now) setup.now (state_of buffers.old) (S.source source.now) (state_of buffers.new) }
+    requires same { row_of setup.now (S.source source.now).page (buffers.old.made - 1)
+        ≡ row_of setup.now (S.source source.now).page buffers.old.made }
+    ensures { MakesLine (S.source source.now) setup.now
+        (state_of buffers.old) (S.source source.now) (state_of buffers.new) }
 {
     buffers.made += 1;
     buffers.left = buffers.line.len();
@@ -141,7 +145,8 @@ fn next_line<S: PageSource>(
     requires setup { IsSetup setup.now }
     requires frame { IsFrame (S.source source.old) setup.now (state_of buffers.old) }
     requires more { buffers.old.made < buffers.old.height }
-    ensures ok { OnOk result (MakesLine (S.source source.old) setup.now (state_of buffers.old) (S.source source.new) (state_of buffers.new)) }
+    ensures ok { OnOk result (MakesLine (S.source source.old) setup.now
+        (state_of buffers.old) (S.source source.new) (state_of buffers.new)) }
     ensures err { OnErr result (StopsFailing (S.source source.old) (S.source source.new)) }
     ensures count { OnErr result (KeepsCount (state_of buffers.old) (state_of buffers.new)) }
 {
@@ -163,7 +168,8 @@ fn make_ready<S: PageSource>(
     requires frame { IsFrame (S.source source.old) setup.now (state_of buffers.old) }
     requires counted { IsLineCounted (state_of buffers.old) }
     requires more { is_frame_over (state_of buffers.old) ≡ false }
-    ensures ok { OnOk result (HasLineBytes (S.source source.old) setup.now (state_of buffers.old) (S.source source.new) (state_of buffers.new)) }
+    ensures ok { OnOk result (HasLineBytes (S.source source.old) setup.now
+        (state_of buffers.old) (S.source source.new) (state_of buffers.new)) }
     ensures err { OnErr result (StopsFailing (S.source source.old) (S.source source.new)) }
     ensures counted { OnErr result (IsLineCounted (state_of buffers.new)) }
 {
@@ -197,7 +203,8 @@ fn give_of_line<S: PageSource>(
     requires counted { IsLineCounted (state_of buffers.old) }
     requires more { is_frame_over (state_of buffers.old) ≡ false }
     requires buf { 0 < length buf.old }
-    ensures ok { IfOk result (λ n. GivesOfLine (S.source source.old) setup.now (state_of buffers.old) n (S.source source.new) (state_of buffers.new) buf.new) }
+    ensures ok { IfOk result (λ n. GivesOfLine (S.source source.old) setup.now
+        (state_of buffers.old) n (S.source source.new) (state_of buffers.new) buf.new) }
     ensures err { OnErr result (StopsFailing (S.source source.old) (S.source source.new)) }
     ensures counted { OnErr result (IsLineCounted (state_of buffers.new)) }
 {
@@ -223,7 +230,8 @@ pub fn read_on<S: PageSource>(
     requires frame { IsFrame (S.source source.old) setup.now (state_of buffers.old) }
     requires counted { IsLineCounted (state_of buffers.old) }
     requires buf { 0 < length buf.old }
-    ensures read { ReadsFrame (S.source source.old) setup.now (state_of buffers.old) result (S.source source.new) (state_of buffers.new) buf.new }
+    ensures read { ReadsFrame (S.source source.old) setup.now
+        (state_of buffers.old) result (S.source source.new) (state_of buffers.new) buf.new }
     ensures counted { IsLineCounted (state_of buffers.new) }
 {
     let most = buf.len().min(setup.limit as usize);

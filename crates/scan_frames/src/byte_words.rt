@@ -103,7 +103,8 @@ pub fn put_samples(order: ByteOrder, samples: &[u16], line: &mut [u8])
     requires room { 2 * length samples.now ≤ length line.old }
     ensures here { (i : ℕ) → i < length samples.now
         → HasSample Packing.Words order line.new i (slice_index samples.now i) }
-    ensures behind { (j : ℕ) → 2 * length samples.now ≤ j → slice_index line.new j ≡ slice_index line.old j }
+    ensures behind { (j : ℕ)
+        → 2 * length samples.now ≤ j → slice_index line.new j ≡ slice_index line.old j }
 {
     // The order is asked outside of the loops, so that each is one of many bytes at once.
     match order {

@@ -74,7 +74,8 @@ impl FrameRows {
         requires setup { IsSetup setup.now }
         requires frame { IsFrame (S.source source.old) setup.now self.old }
         requires buf { 0 < length buf.old }
-        ensures { ReadsFrame (S.source source.old) setup.now self.old result (S.source source.new) self.new buf.new }
+        ensures { ReadsFrame (S.source source.old) setup.now self.old result
+            (S.source source.new) self.new buf.new }
     {
         read_on(&mut self.buffers, source, setup, buf)
     }

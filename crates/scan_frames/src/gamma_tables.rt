@@ -7,7 +7,8 @@ use page_picture::Scene;
 
 /// A channel's table after the gamma table: one table for both.
 fn composed(gamma: &[u8; 256], channel: &[u8; 256]) -> [u8; 256]
-    ensures { (v : ℕ) → v < 256 → slice_index result v ≡ slice_index channel.now (slice_index gamma.now v) }
+    ensures { (v : ℕ)
+        → v < 256 → slice_index result v ≡ slice_index channel.now (slice_index gamma.now v) }
 {
     let mut table = [0u8; 256];
     for v in 0..256 {

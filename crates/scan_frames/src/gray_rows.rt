@@ -6,8 +6,10 @@ ghost use Rattle.scan_frames.specs.Samples.{IsGrayDot, IsGrayRow};
 /// Whether a sample is as the one beside it, or the last of its dot.
 fn is_as_next(row: &[u16], dot: usize, i: usize) -> bool
     requires { 3 * dot + i + 1 < length row.now }
-    ensures same { result ≡ true → (i % 3 ≡ 2 → ⊥) → slice_index row.now (3 * dot + i) ≡ slice_index row.now (3 * dot + i + 1) }
-    ensures other { result ≡ false → (i % 3 ≡ 2 → ⊥) × (slice_index row.now (3 * dot + i) ≡ slice_index row.now (3 * dot + i + 1) → ⊥) }
+    ensures same { result ≡ true → (i % 3 ≡ 2 → ⊥)
+        → slice_index row.now (3 * dot + i) ≡ slice_index row.now (3 * dot + i + 1) }
+    ensures other { result ≡ false → (i % 3 ≡ 2 → ⊥)
+        × (slice_index row.now (3 * dot + i) ≡ slice_index row.now (3 * dot + i + 1) → ⊥) }
 {
     row[3 * dot + i] == row[3 * dot + i + 1] || i % 3 == 2
 }

@@ -61,7 +61,8 @@ pub fn eights(row: &[u16], at: usize, dots: usize) -> usize
 pub fn put_eights(row: &[u16], at: usize, eights: usize, line: &mut [u8])
     requires row { (n : ℕ) → n < eights → at + 24 * n + 32 ≤ length row.now }
     requires line { 8 * eights ≤ length line.old }
-    ensures here { (x : ℕ) → x < 8 * eights → slice_index line.new x ≡ slice_index row.now (at + 3 * x) / 256 }
+    ensures here { (x : ℕ)
+        → x < 8 * eights → slice_index line.new x ≡ slice_index row.now (at + 3 * x) / 256 }
     ensures behind { (j : ℕ) → 8 * eights ≤ j → slice_index line.new j ≡ slice_index line.old j }
 {
     for n in 0..eights {

@@ -54,8 +54,10 @@ fn put(layout: Layout, line: &mut [u8], i: usize, v: u16)
     requires room { sample_end layout.packing (i + 1) ≤ length line.old }
     requires fits { layout.packing ≡ Packing.Bytes → v < 256 }
     ensures here { HasSample layout.packing layout.order line.new i v }
-    ensures before { (j u : ℕ) → j < i → HasSample layout.packing layout.order line.old j u → HasSample layout.packing layout.order line.new j u }
-    ensures behind { (j : ℕ) → sample_end layout.packing (i + 1) ≤ j → slice_index line.new j ≡ slice_index line.old j }
+    ensures before { (j u : ℕ) → j < i → HasSample layout.packing layout.order line.old j u
+        → HasSample layout.packing layout.order line.new j u }
+    ensures behind { (j : ℕ)
+        → sample_end layout.packing (i + 1) ≤ j → slice_index line.new j ≡ slice_index line.old j }
 {
     match layout.packing {
         Packing::Bits => {}
@@ -71,10 +73,15 @@ fn put_place(scene: &Scene, layout: Layout, row: &[u16], place: u32, first: usiz
     requires packing { layout.packing ≡ packing_of scene.now.depth }
     requires place { 3 * place + 2 < length row.now }
     requires few { first ≤ 2 ^ 32 }
-    requires room { sample_end layout.packing (first + channels_within layout.format) ≤ length line.old }
-    ensures here { (k : ℕ) → k < channels_within layout.format → HasSample layout.packing layout.order line.new (first + k) (sample_in_row scene.now row.now place (channel_in layout.format k)) }
-    ensures before { (j u : ℕ) → j < first → HasSample layout.packing layout.order line.old j u → HasSample layout.packing layout.order line.new j u }
-    ensures behind { (j : ℕ) → sample_end layout.packing (first + channels_within layout.format) ≤ j → slice_index line.new j ≡ slice_index line.old j }
+    requires room { sample_end layout.packing (first + channels_within layout.format)
+        ≤ length line.old }
+    ensures here { (k : ℕ)
+        → k < channels_within layout.format → HasSample layout.packing layout.order line.new
+        (first + k) (sample_in_row scene.now row.now place (channel_in layout.format k)) }
+    ensures before { (j u : ℕ) → j < first → HasSample layout.packing layout.order line.old j u
+        → HasSample layout.packing layout.order line.new j u }
+    ensures behind { (j : ℕ) → sample_end layout.packing (first + channels_within layout.format) ≤ j
+        → slice_index line.new j ≡ slice_index line.old j }
 {
     for k in 0..channels_within(layout.format) {
         let channel = channel_in(layout.format, k);
@@ -86,10 +93,14 @@ fn put_place(scene: &Scene, layout: Layout, row: &[u16], place: u32, first: usiz
 
 /// Puts the samples of all places in red, green and blue, a byte each, by a table for each channel.
 fn put_colors(tables: &[[u8; 256]; 3], row: &[u16], places: &[u32], line: &mut [u8])
-    requires places { (x : ℕ) → x < length places.now → 3 * slice_index places.now x + 2 < length row.now }
+    requires places { (x : ℕ)
+        → x < length places.now → 3 * slice_index places.now x + 2 < length row.now }
     requires room { 3 * length places.now ≤ length line.old }
-    ensures here { (x k : ℕ) → x < length places.now → k < 3 → slice_index line.new (3 * x + k) ≡ slice_index (get_or tables.now k []) (slice_index row.now (3 * slice_index places.now x + k) / 256) }
-    ensures behind { (j : ℕ) → 3 * length places.now ≤ j → slice_index line.new j ≡ slice_index line.old j }
+    ensures here { (x k : ℕ) → x < length places.now
+        → k < 3 → slice_index line.new (3 * x + k) ≡ slice_index (get_or tables.now k [])
+        (slice_index row.now (3 * slice_index places.now x + k) / 256) }
+    ensures behind { (j : ℕ)
+        → 3 * length places.now ≤ j → slice_index line.new j ≡ slice_index line.old j }
 {
     let [red, green, blue] = tables;
     for (x, place) in places.iter().enumerate() {
@@ -125,8 +136,10 @@ fn is_plain(tables: &[[u8; 256]; 3]) -> bool
 /// Puts the upper bytes of samples.
 fn put_upper(samples: &[u16], line: &mut [u8])
     requires room { length samples.now ≤ length line.old }
-    ensures here { (j : ℕ) → j < length samples.now → slice_index line.new j ≡ slice_index samples.now j / 256 }
-    ensures behind { (j : ℕ) → length samples.now ≤ j → slice_index line.new j ≡ slice_index line.old j }
+    ensures here { (j : ℕ)
+        → j < length samples.now → slice_index line.new j ≡ slice_index samples.now j / 256 }
+    ensures behind { (j : ℕ)
+        → length samples.now ≤ j → slice_index line.new j ≡ slice_index line.old j }
 {
     for (j, sample) in samples.iter().enumerate() {
         line[j] = (*sample / 256) as u8;
@@ -142,12 +155,17 @@ fn put_rgb(
     places: &[u32],
     line: &mut [u8],
 )
-    requires places { (x : ℕ) → x < length places.now → 3 * slice_index places.now x + 2 < length row.now }
-    requires run { IfSome first (λ f. (x : ℕ) → x < length places.now → slice_index places.now x ≡ f + x) }
+    requires places { (x : ℕ)
+        → x < length places.now → 3 * slice_index places.now x + 2 < length row.now }
+    requires run { IfSome first (λ f. (x : ℕ)
+        → x < length places.now → slice_index places.now x ≡ f + x) }
     requires few { length places.now ≤ 65536 }
     requires room { 3 * length places.now ≤ length line.old }
-    ensures here { (x k : ℕ) → x < length places.now → k < 3 → slice_index line.new (3 * x + k) ≡ slice_index (get_or tables.now k []) (slice_index row.now (3 * slice_index places.now x + k) / 256) }
-    ensures behind { (j : ℕ) → 3 * length places.now ≤ j → slice_index line.new j ≡ slice_index line.old j }
+    ensures here { (x k : ℕ) → x < length places.now
+        → k < 3 → slice_index line.new (3 * x + k) ≡ slice_index (get_or tables.now k [])
+        (slice_index row.now (3 * slice_index places.now x + k) / 256) }
+    ensures behind { (j : ℕ)
+        → 3 * length places.now ≤ j → slice_index line.new j ≡ slice_index line.old j }
 {
     if let Some(first) = first {
         let start = 3 * first as usize;
@@ -162,10 +180,13 @@ fn put_rgb(
 /// Puts the samples of all places in one channel, a byte each, by its table.
 fn put_color(table: &[u8; 256], k: u32, row: &[u16], places: &[u32], line: &mut [u8])
     requires channel { k < 3 }
-    requires places { (x : ℕ) → x < length places.now → 3 * slice_index places.now x + 2 < length row.now }
+    requires places { (x : ℕ)
+        → x < length places.now → 3 * slice_index places.now x + 2 < length row.now }
     requires room { length places.now ≤ length line.old }
-    ensures here { (x : ℕ) → x < length places.now → slice_index line.new x ≡ slice_index table.now (slice_index row.now (3 * slice_index places.now x + k) / 256) }
-    ensures behind { (j : ℕ) → length places.now ≤ j → slice_index line.new j ≡ slice_index line.old j }
+    ensures here { (x : ℕ) → x < length places.now → slice_index line.new x
+        ≡ slice_index table.now (slice_index row.now (3 * slice_index places.now x + k) / 256) }
+    ensures behind { (j : ℕ)
+        → length places.now ≤ j → slice_index line.new j ≡ slice_index line.old j }
 {
     for (x, place) in places.iter().enumerate() {
         let seen = row[3 * *place as usize + k as usize];
@@ -177,10 +198,13 @@ fn put_color(table: &[u8; 256], k: u32, row: &[u16], places: &[u32], line: &mut 
 fn put_run_upper(k: u32, row: &[u16], first: usize, places: &[u32], line: &mut [u8])
     requires channel { k < 3 }
     requires run { (x : ℕ) → x < length places.now → slice_index places.now x ≡ first + x }
-    requires places { (x : ℕ) → x < length places.now → 3 * slice_index places.now x + 2 < length row.now }
+    requires places { (x : ℕ)
+        → x < length places.now → 3 * slice_index places.now x + 2 < length row.now }
     requires room { length places.now ≤ length line.old }
-    ensures here { (x : ℕ) → x < length places.now → slice_index line.new x ≡ slice_index row.now (3 * slice_index places.now x + k) / 256 }
-    ensures behind { (j : ℕ) → length places.now ≤ j → slice_index line.new j ≡ slice_index line.old j }
+    ensures here { (x : ℕ) → x < length places.now
+        → slice_index line.new x ≡ slice_index row.now (3 * slice_index places.now x + k) / 256 }
+    ensures behind { (j : ℕ)
+        → length places.now ≤ j → slice_index line.new j ≡ slice_index line.old j }
 {
     if places.is_empty() {
         return;
@@ -197,10 +221,13 @@ fn put_run_upper(k: u32, row: &[u16], first: usize, places: &[u32], line: &mut [
 fn put_run(table: &[u8; 256], k: u32, row: &[u16], first: usize, places: &[u32], line: &mut [u8])
     requires channel { k < 3 }
     requires run { (x : ℕ) → x < length places.now → slice_index places.now x ≡ first + x }
-    requires places { (x : ℕ) → x < length places.now → 3 * slice_index places.now x + 2 < length row.now }
+    requires places { (x : ℕ)
+        → x < length places.now → 3 * slice_index places.now x + 2 < length row.now }
     requires room { length places.now ≤ length line.old }
-    ensures here { (x : ℕ) → x < length places.now → slice_index line.new x ≡ slice_index table.now (slice_index row.now (3 * slice_index places.now x + k) / 256) }
-    ensures behind { (j : ℕ) → length places.now ≤ j → slice_index line.new j ≡ slice_index line.old j }
+    ensures here { (x : ℕ) → x < length places.now → slice_index line.new x
+        ≡ slice_index table.now (slice_index row.now (3 * slice_index places.now x + k) / 256) }
+    ensures behind { (j : ℕ)
+        → length places.now ≤ j → slice_index line.new j ≡ slice_index line.old j }
 {
     if is_same(table) {
         return put_run_upper(k, row, first, places, line);
@@ -221,11 +248,15 @@ fn put_channel(
     line: &mut [u8],
 )
     requires channel { k < 3 }
-    requires run { IfSome first (λ f. (x : ℕ) → x < length places.now → slice_index places.now x ≡ f + x) }
-    requires places { (x : ℕ) → x < length places.now → 3 * slice_index places.now x + 2 < length row.now }
+    requires run { IfSome first (λ f. (x : ℕ)
+        → x < length places.now → slice_index places.now x ≡ f + x) }
+    requires places { (x : ℕ)
+        → x < length places.now → 3 * slice_index places.now x + 2 < length row.now }
     requires room { length places.now ≤ length line.old }
-    ensures here { (x : ℕ) → x < length places.now → slice_index line.new x ≡ slice_index table.now (slice_index row.now (3 * slice_index places.now x + k) / 256) }
-    ensures behind { (j : ℕ) → length places.now ≤ j → slice_index line.new j ≡ slice_index line.old j }
+    ensures here { (x : ℕ) → x < length places.now → slice_index line.new x
+        ≡ slice_index table.now (slice_index row.now (3 * slice_index places.now x + k) / 256) }
+    ensures behind { (j : ℕ)
+        → length places.now ≤ j → slice_index line.new j ≡ slice_index line.old j }
 {
     match first {
         Some(first) => put_run(table, k, row, first as usize, places, line),
@@ -236,11 +267,14 @@ fn put_channel(
 /// Puts the samples of all places in red, green and blue as they are, two bytes each.
 fn put_words(layout: Layout, row: &[u16], places: &[u32], line: &mut [u8])
     requires packing { layout.packing ≡ Packing.Words }
-    requires places { (x : ℕ) → x < length places.now → 3 * slice_index places.now x + 2 < length row.now }
+    requires places { (x : ℕ)
+        → x < length places.now → 3 * slice_index places.now x + 2 < length row.now }
     requires few { length places.now ≤ 65536 }
     requires room { 6 * length places.now ≤ length line.old }
-    ensures here { (x k : ℕ) → x < length places.now → k < 3 → HasSample Packing.Words layout.order line.new (3 * x + k) (slice_index row.now (3 * slice_index places.now x + k)) }
-    ensures behind { (j : ℕ) → 6 * length places.now ≤ j → slice_index line.new j ≡ slice_index line.old j }
+    ensures here { (x k : ℕ) → x < length places.now → k < 3 → HasSample Packing.Words
+        layout.order line.new (3 * x + k) (slice_index row.now (3 * slice_index places.now x + k)) }
+    ensures behind { (j : ℕ)
+        → 6 * length places.now ≤ j → slice_index line.new j ≡ slice_index line.old j }
 {
     for (x, place) in places.iter().enumerate() {
         let at = 3 * *place as usize;
@@ -253,12 +287,16 @@ fn put_words(layout: Layout, row: &[u16], places: &[u32], line: &mut [u8])
 /// The same as `put_words`, without a look-up where there is a `first` from which on the places lie one beside the other.
 fn put_row_words(layout: Layout, first: Option<u32>, row: &[u16], places: &[u32], line: &mut [u8])
     requires packing { layout.packing ≡ Packing.Words }
-    requires run { IfSome first (λ f. (x : ℕ) → x < length places.now → slice_index places.now x ≡ f + x) }
-    requires places { (x : ℕ) → x < length places.now → 3 * slice_index places.now x + 2 < length row.now }
+    requires run { IfSome first (λ f. (x : ℕ)
+        → x < length places.now → slice_index places.now x ≡ f + x) }
+    requires places { (x : ℕ)
+        → x < length places.now → 3 * slice_index places.now x + 2 < length row.now }
     requires few { length places.now ≤ 65536 }
     requires room { 6 * length places.now ≤ length line.old }
-    ensures here { (x k : ℕ) → x < length places.now → k < 3 → HasSample Packing.Words layout.order line.new (3 * x + k) (slice_index row.now (3 * slice_index places.now x + k)) }
-    ensures behind { (j : ℕ) → 6 * length places.now ≤ j → slice_index line.new j ≡ slice_index line.old j }
+    ensures here { (x k : ℕ) → x < length places.now → k < 3 → HasSample Packing.Words
+        layout.order line.new (3 * x + k) (slice_index row.now (3 * slice_index places.now x + k)) }
+    ensures behind { (j : ℕ)
+        → 6 * length places.now ≤ j → slice_index line.new j ≡ slice_index line.old j }
 {
     if let Some(first) = first {
         let start = 3 * first as usize;
@@ -308,14 +346,19 @@ fn put_bytes(
     line: &mut [u8],
 )
     requires tables { AreComposed scene.now tables.now }
-    requires run { IfSome first (λ f. (x : ℕ) → x < length places.now → slice_index places.now x ≡ f + x) }
+    requires run { IfSome first (λ f. (x : ℕ)
+        → x < length places.now → slice_index places.now x ≡ f + x) }
     requires packing { packing_of scene.now.depth ≡ Packing.Bytes }
     requires color { scene.now.mode ≡ Mode.Color }
-    requires places { (x : ℕ) → x < length places.now → 3 * slice_index places.now x + 2 < length row.now }
+    requires places { (x : ℕ)
+        → x < length places.now → 3 * slice_index places.now x + 2 < length row.now }
     requires few { length places.now ≤ 65536 }
     requires room { channels_within layout.format * length places.now ≤ length line.old }
-    ensures here { (x k : ℕ) → x < length places.now → k < channels_within layout.format → slice_index line.new (channels_within layout.format * x + k) ≡ sample_in_row scene.now row.now (slice_index places.now x) (channel_in layout.format k) }
-    ensures behind { (j : ℕ) → channels_within layout.format * length places.now ≤ j → slice_index line.new j ≡ slice_index line.old j }
+    ensures here { (x k : ℕ) → x < length places.now → k < channels_within layout.format
+        → slice_index line.new (channels_within layout.format * x + k)
+        ≡ sample_in_row scene.now row.now (slice_index places.now x) (channel_in layout.format k) }
+    ensures behind { (j : ℕ) → channels_within layout.format * length places.now ≤ j
+        → slice_index line.new j ≡ slice_index line.old j }
 {
     match layout.format {
         FrameFormat::Rgb => put_rgb(tables, first, row, places, line),
@@ -331,11 +374,17 @@ fn put_bytes(
 /// Puts the samples of all places, one by one.
 fn put_each(scene: &Scene, layout: Layout, row: &[u16], places: &[u32], line: &mut [u8])
     requires packing { layout.packing ≡ packing_of scene.now.depth }
-    requires places { (x : ℕ) → x < length places.now → 3 * slice_index places.now x + 2 < length row.now }
+    requires places { (x : ℕ)
+        → x < length places.now → 3 * slice_index places.now x + 2 < length row.now }
     requires few { length places.now ≤ 65536 }
-    requires room { sample_end layout.packing (channels_within layout.format * length places.now) ≤ length line.old }
-    ensures here { (x k : ℕ) → x < length places.now → k < channels_within layout.format → HasSample layout.packing layout.order line.new (channels_within layout.format * x + k) (sample_in_row scene.now row.now (slice_index places.now x) (channel_in layout.format k)) }
-    ensures behind { (j : ℕ) → sample_end layout.packing (channels_within layout.format * length places.now) ≤ j → slice_index line.new j ≡ slice_index line.old j }
+    requires room { sample_end layout.packing (channels_within layout.format * length places.now)
+        ≤ length line.old }
+    ensures here { (x k : ℕ) → x < length places.now → k < channels_within layout.format
+        → HasSample layout.packing layout.order line.new (channels_within layout.format * x + k)
+        (sample_in_row scene.now row.now (slice_index places.now x) (channel_in layout.format k)) }
+    ensures behind { (j : ℕ)
+        → sample_end layout.packing (channels_within layout.format * length places.now) ≤ j
+        → slice_index line.new j ≡ slice_index line.old j }
 {
     let step = channels_within(layout.format) as usize;
     for (x, place) in places.iter().enumerate() {
@@ -353,12 +402,19 @@ fn put_all(
     line: &mut [u8],
 )
     requires packing { layout.packing ≡ packing_of scene.now.depth }
-    requires run { IfSome first (λ f. (x : ℕ) → x < length places.now → slice_index places.now x ≡ f + x) }
-    requires places { (x : ℕ) → x < length places.now → 3 * slice_index places.now x + 2 < length row.now }
+    requires run { IfSome first (λ f. (x : ℕ)
+        → x < length places.now → slice_index places.now x ≡ f + x) }
+    requires places { (x : ℕ)
+        → x < length places.now → 3 * slice_index places.now x + 2 < length row.now }
     requires few { length places.now ≤ 65536 }
-    requires room { sample_end layout.packing (channels_within layout.format * length places.now) ≤ length line.old }
-    ensures here { (x k : ℕ) → x < length places.now → k < channels_within layout.format → HasSample layout.packing layout.order line.new (channels_within layout.format * x + k) (sample_in_row scene.now row.now (slice_index places.now x) (channel_in layout.format k)) }
-    ensures behind { (j : ℕ) → sample_end layout.packing (channels_within layout.format * length places.now) ≤ j → slice_index line.new j ≡ slice_index line.old j }
+    requires room { sample_end layout.packing (channels_within layout.format * length places.now)
+        ≤ length line.old }
+    ensures here { (x k : ℕ) → x < length places.now → k < channels_within layout.format
+        → HasSample layout.packing layout.order line.new (channels_within layout.format * x + k)
+        (sample_in_row scene.now row.now (slice_index places.now x) (channel_in layout.format k)) }
+    ensures behind { (j : ℕ)
+        → sample_end layout.packing (channels_within layout.format * length places.now) ≤ j
+        → slice_index line.new j ≡ slice_index line.old j }
 {
     match (layout.packing, layout.format, scene.mode) {
         (Packing::Words, FrameFormat::Rgb, Mode::Color) => {
@@ -378,10 +434,13 @@ fn put_all(
 
 /// Puts the samples of all places in gray, a byte each, by the gray sum of each.
 fn put_sums(table: &[u8; 256], row: &[u16], places: &[u32], line: &mut [u8])
-    requires places { (x : ℕ) → x < length places.now → 3 * slice_index places.now x + 2 < length row.now }
+    requires places { (x : ℕ)
+        → x < length places.now → 3 * slice_index places.now x + 2 < length row.now }
     requires room { length places.now ≤ length line.old }
-    ensures here { (x : ℕ) → x < length places.now → slice_index line.new x ≡ slice_index table.now (gray_in row.now (slice_index places.now x) / 256) }
-    ensures behind { (j : ℕ) → length places.now ≤ j → slice_index line.new j ≡ slice_index line.old j }
+    ensures here { (x : ℕ) → x < length places.now → slice_index line.new x
+        ≡ slice_index table.now (gray_in row.now (slice_index places.now x) / 256) }
+    ensures behind { (j : ℕ)
+        → length places.now ≤ j → slice_index line.new j ≡ slice_index line.old j }
 {
     for (x, place) in places.iter().enumerate() {
         line[x] = table[gray(row, *place) as usize / 256];
@@ -432,12 +491,16 @@ fn put_row_sums(table: &[u8; 256], first: Option<u32>, row: &[u16], places: &[u3
 /// Puts the samples of all places in gray, a byte each; of a gray row they are those of its first channel, without a sum.
 #[tactic(auto, using(crate::proofs::Grays::gray_of_even))]
 fn put_grays(table: &[u8; 256], first: Option<u32>, row: &[u16], places: &[u32], line: &mut [u8])
-    requires places { (x : ℕ) → x < length places.now → 3 * slice_index places.now x + 2 < length row.now }
-    requires run { IfSome first (λ f. (x : ℕ) → x < length places.now → slice_index places.now x ≡ f + x) }
+    requires places { (x : ℕ)
+        → x < length places.now → 3 * slice_index places.now x + 2 < length row.now }
+    requires run { IfSome first (λ f. (x : ℕ)
+        → x < length places.now → slice_index places.now x ≡ f + x) }
     requires few { length places.now ≤ 65536 }
     requires room { length places.now ≤ length line.old }
-    ensures here { (x : ℕ) → x < length places.now → slice_index line.new x ≡ slice_index table.now (gray_in row.now (slice_index places.now x) / 256) }
-    ensures behind { (j : ℕ) → length places.now ≤ j → slice_index line.new j ≡ slice_index line.old j }
+    ensures here { (x : ℕ) → x < length places.now → slice_index line.new x
+        ≡ slice_index table.now (gray_in row.now (slice_index places.now x) / 256) }
+    ensures behind { (j : ℕ)
+        → length places.now ≤ j → slice_index line.new j ≡ slice_index line.old j }
 {
     if is_gray(row) {
         put_channel(table, 0, first, row, places, line)
@@ -451,7 +514,8 @@ fn put_grays(table: &[u8; 256], first: Option<u32>, row: &[u16], places: &[u32],
 fn bit(scene: &Scene, row: &[u16], places: &[u32], channel: u32, x: usize) -> u8
     requires depth { packing_of scene.now.depth ≡ Packing.Bits }
     requires channel { channel < 3 }
-    requires places { (x : ℕ) → x < length places.now → 3 * slice_index places.now x + 2 < length row.now }
+    requires places { (x : ℕ)
+        → x < length places.now → 3 * slice_index places.now x + 2 < length row.now }
     ensures value { result ≡ bit_in scene.now row.now places.now channel x }
     ensures limit { result ≤ 1 }
 {
@@ -468,7 +532,8 @@ fn bit(scene: &Scene, row: &[u16], places: &[u32], channel: u32, x: usize) -> u8
 fn packed(scene: &Scene, row: &[u16], places: &[u32], channel: u32, b: usize) -> u8
     requires depth { packing_of scene.now.depth ≡ Packing.Bits }
     requires channel { channel < 3 }
-    requires places { (x : ℕ) → x < length places.now → 3 * slice_index places.now x + 2 < length row.now }
+    requires places { (x : ℕ)
+        → x < length places.now → 3 * slice_index places.now x + 2 < length row.now }
     requires few { b ≤ 65536 }
     ensures { result ≡ bits_in scene.now row.now places.now channel b }
 {
@@ -484,7 +549,8 @@ fn packed(scene: &Scene, row: &[u16], places: &[u32], channel: u32, b: usize) ->
 fn gray_bit(scene: &Scene, row: &[u16], places: &[u32], channel: u32, x: usize) -> u8
     requires depth { packing_of scene.now.depth ≡ Packing.Bits }
     requires gray { scene.now.mode ≡ Mode.Gray }
-    requires places { (x : ℕ) → x < length places.now → 3 * slice_index places.now x + 2 < length row.now }
+    requires places { (x : ℕ)
+        → x < length places.now → 3 * slice_index places.now x + 2 < length row.now }
     requires inside { x < length places.now }
     ensures value { result ≡ bit_in scene.now row.now places.now channel x }
     ensures limit { result ≤ 1 }
@@ -498,7 +564,8 @@ fn gray_bit(scene: &Scene, row: &[u16], places: &[u32], channel: u32, x: usize) 
 fn packed_grays(scene: &Scene, row: &[u16], places: &[u32], channel: u32, b: usize) -> u8
     requires depth { packing_of scene.now.depth ≡ Packing.Bits }
     requires gray { scene.now.mode ≡ Mode.Gray }
-    requires places { (x : ℕ) → x < length places.now → 3 * slice_index places.now x + 2 < length row.now }
+    requires places { (x : ℕ)
+        → x < length places.now → 3 * slice_index places.now x + 2 < length row.now }
     requires few { b ≤ 65536 }
     requires inside { 8 * b + 8 ≤ length places.now }
     ensures { result ≡ bits_in scene.now row.now places.now channel b }
@@ -514,9 +581,11 @@ fn packed_grays(scene: &Scene, row: &[u16], places: &[u32], channel: u32, b: usi
 fn put_any_bits(scene: &Scene, row: &[u16], places: &[u32], channel: u32, line: &mut [u8])
     requires depth { packing_of scene.now.depth ≡ Packing.Bits }
     requires channel { channel < 3 }
-    requires places { (x : ℕ) → x < length places.now → 3 * slice_index places.now x + 2 < length row.now }
+    requires places { (x : ℕ)
+        → x < length places.now → 3 * slice_index places.now x + 2 < length row.now }
     requires few { length line.old ≤ 65536 }
-    ensures { (b : ℕ) → b < length line.old → slice_index line.new b ≡ bits_in scene.now row.now places.now channel b }
+    ensures { (b : ℕ) → b < length line.old
+        → slice_index line.new b ≡ bits_in scene.now row.now places.now channel b }
 {
     let whole = match scene.mode {
         Mode::Gray => places.len() / 8,
@@ -538,7 +607,8 @@ fn run_bit(scene: &Scene, row: &[u16], first: usize, places: &[u32], channel: u3
     requires gray { scene.now.mode ≡ Mode.Gray }
     requires even { IsGrayRow row.now }
     requires run { (x : ℕ) → x < length places.now → slice_index places.now x ≡ first + x }
-    requires places { (x : ℕ) → x < length places.now → 3 * slice_index places.now x + 2 < length row.now }
+    requires places { (x : ℕ)
+        → x < length places.now → 3 * slice_index places.now x + 2 < length row.now }
     requires inside { x < length places.now }
     ensures value { result ≡ bit_in scene.now row.now places.now channel x }
     ensures limit { result ≤ 1 }
@@ -561,7 +631,8 @@ fn packed_run(
     requires gray { scene.now.mode ≡ Mode.Gray }
     requires even { IsGrayRow row.now }
     requires run { (x : ℕ) → x < length places.now → slice_index places.now x ≡ first + x }
-    requires places { (x : ℕ) → x < length places.now → 3 * slice_index places.now x + 2 < length row.now }
+    requires places { (x : ℕ)
+        → x < length places.now → 3 * slice_index places.now x + 2 < length row.now }
     requires few { b ≤ 65536 }
     requires inside { 8 * b + 8 ≤ length places.now }
     ensures { result ≡ bits_in scene.now row.now places.now channel b }
@@ -616,9 +687,11 @@ fn put_run_bits(
     requires even { IsGrayRow row.now }
     requires run { (x : ℕ) → x < length places.now → slice_index places.now x ≡ first + x }
     requires channel { channel < 3 }
-    requires places { (x : ℕ) → x < length places.now → 3 * slice_index places.now x + 2 < length row.now }
+    requires places { (x : ℕ)
+        → x < length places.now → 3 * slice_index places.now x + 2 < length row.now }
     requires few { length line.old ≤ 65536 }
-    ensures { (b : ℕ) → b < length line.old → slice_index line.new b ≡ bits_in scene.now row.now places.now channel b }
+    ensures { (b : ℕ) → b < length line.old
+        → slice_index line.new b ≡ bits_in scene.now row.now places.now channel b }
 {
     let whole = places.len() / 8;
     let eights = put_same_eights(scene, row, first, places, channel, line);
@@ -641,11 +714,14 @@ fn put_bits(
     line: &mut [u8],
 )
     requires depth { packing_of scene.now.depth ≡ Packing.Bits }
-    requires run { IfSome first (λ f. (x : ℕ) → x < length places.now → slice_index places.now x ≡ f + x) }
+    requires run { IfSome first (λ f. (x : ℕ)
+        → x < length places.now → slice_index places.now x ≡ f + x) }
     requires channel { channel < 3 }
-    requires places { (x : ℕ) → x < length places.now → 3 * slice_index places.now x + 2 < length row.now }
+    requires places { (x : ℕ)
+        → x < length places.now → 3 * slice_index places.now x + 2 < length row.now }
     requires few { length line.old ≤ 65536 }
-    ensures { (b : ℕ) → b < length line.old → slice_index line.new b ≡ bits_in scene.now row.now places.now channel b }
+    ensures { (b : ℕ) → b < length line.old
+        → slice_index line.new b ≡ bits_in scene.now row.now places.now channel b }
 {
     if let (Mode::Gray, Some(first)) = (scene.mode, first) {
         if is_gray(row) {
@@ -669,10 +745,15 @@ pub fn make_line(
     requires few { columns.now.count ≤ 65536 }
     requires short { length line.old ≤ 1048576 }
     requires bits { packing_of setup.now.scene.depth ≡ Packing.Bits → length line.old ≤ 65536 }
-    requires room { sample_end (packing_of setup.now.scene.depth) (channels_within (format_at setup.now pass) * columns.now.count) ≤ length line.old }
-    requires zeros { HasZeros (packing_of setup.now.scene.depth) (channels_within (format_at setup.now pass) * columns.now.count) line.old }
-    ensures zeros { HasZeros (packing_of setup.now.scene.depth) (channels_within (format_at setup.now pass) * columns.now.count) line.new }
-    ensures bytes { line.new ≡ line_of (packing_of setup.now.scene.depth) setup.now.order (channels_within (format_at setup.now pass)) columns.now.count (value_at setup.now.scene (format_at setup.now pass) row.now columns.now) (length line.old) }
+    requires room { sample_end (packing_of setup.now.scene.depth)
+        (channels_within (format_at setup.now pass) * columns.now.count) ≤ length line.old }
+    requires zeros { HasZeros (packing_of setup.now.scene.depth)
+        (channels_within (format_at setup.now pass) * columns.now.count) line.old }
+    ensures zeros { HasZeros (packing_of setup.now.scene.depth)
+        (channels_within (format_at setup.now pass) * columns.now.count) line.new }
+    ensures bytes { line.new ≡ line_of (packing_of setup.now.scene.depth) setup.now.order
+        (channels_within (format_at setup.now pass)) columns.now.count (value_at setup.now.scene
+        (format_at setup.now pass) row.now columns.now) (length line.old) }
 {
     let format = format_at(setup, pass);
     let layout = Layout {

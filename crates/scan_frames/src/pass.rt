@@ -111,7 +111,8 @@ pub fn bytes_per_line(setup: &Setup, pass: u32) -> usize
 pub fn sides<S: PageSource>(source: &S, setup: &Setup) -> Option<(u32, u32)>
     requires { setup.now.scene.resolution ≤ 1200 }
     ensures some { is_some result ≡ has_picture setup.now (S.source source.now).page }
-    ensures value { IfSome result (λ size. size ≡ (width_of setup.now, height_of setup.now (S.source source.now).page)) }
+    ensures value { IfSome result (λ size. size
+        ≡ (width_of setup.now, height_of setup.now (S.source source.now).page)) }
 {
     let (_, height) = source.size();
     extent_at(height, source.dpi(), &setup.scene)

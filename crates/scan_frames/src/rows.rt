@@ -18,7 +18,8 @@ fn advance<S: PageSource>(
     requires taken { taken ≡ (S.source source.old).given }
     requires behind { taken ≤ target + 1 }
     requires inside { target < (S.source source.old).page.height }
-    ensures ok { OnOk result (S.source source.new ≡ record (S.source source.old) { given = target + 1 }) }
+    ensures ok { OnOk result (S.source source.new
+        ≡ record (S.source source.old) { given = target + 1 }) }
     ensures row { OnOk result (KeepsRow (S.source source.old) row.old target row.new) }
     ensures rest { (j : ℕ) → size ≤ j → slice_index row.new j ≡ slice_index row.old j }
     ensures err { OnErr result (StopsFailing (S.source source.old) (S.source source.new)) }
@@ -48,7 +49,8 @@ pub fn see<S: PageSource>(
     ensures row { OnOk result (IsWhiteBehind (S.source source.old).page.width row.new) }
     ensures seen { OnOk result (SeesRow (S.source source.old) target row.new) }
     ensures known { IfOk result (λ n. HasRow (S.source source.old) target n row.new) }
-    ensures after { IfOk result (λ n. S.source source.new ≡ record (S.source source.old) { given = n }) }
+    ensures after { IfOk result (λ n. S.source source.new
+        ≡ record (S.source source.old) { given = n }) }
     ensures further { IfOk result (λ n. taken ≤ n) }
     ensures within { IfOk result (λ n. n ≤ (S.source source.old).page.height) }
     ensures behind { IfOk result (λ n. n ≤ target + 1) }

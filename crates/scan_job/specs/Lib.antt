@@ -3,4 +3,5 @@ pub mod JobSize
 pub mod Outcomes
 pub mod KnownValues
 pub mod Shelves
+pub mod FileOutputs
 pub mod Stops

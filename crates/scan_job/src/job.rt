@@ -130,7 +130,8 @@ fn is_short(text: &Text) -> bool
 }
 
 fn are_short(settings: &[(Text, Text)]) -> bool
-    ensures { IsTrue result ↔ All (λ setting. IsJobText setting.0 × IsJobText setting.1) settings.now }
+    ensures { IsTrue result
+        ↔ All (λ setting. IsJobText setting.0 × IsJobText setting.1) settings.now }
 {
     settings
         .iter()

@@ -24,7 +24,8 @@ use Rattle.scan_frames.proofs.Frames.{has_sides}
 use Rattle.scan_frames.proofs.FramesShow.{meant, shows_frames}
 use Rattle.device_api.specs.ScannerLimits.{IsAllowed}
 use Rattle.device_api.proofs.RunLaws.{length-payload}
-use Rattle.frame_join.specs.AloneFrame.{is_alone_format, most_bytes, most_lines, is_side as is_join_side}
+use Rattle.frame_join.specs.AloneFrame.{is_alone_format, most_bytes, most_lines}
+use Rattle.page_picture.specs.Extent.{is_side as is_join_side}
 use Rattle.frame_join.specs.FrameHistory.{is_accepted, is_full, is_full_at, is_joined}
 use Rattle.frame_join.proofs.AcceptLaws.{shown_is_accepted, colors_are_accepted}
 use Rattle.scan_laws.specs.Joins.{no_frame_left, JoinTakes, TakesAll}

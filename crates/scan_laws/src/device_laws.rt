@@ -24,30 +24,39 @@ ghost use Rattle.scan_laws.specs.SetInfo.{MayRefuseStart, TellsOfSet};
 /// What a set answers tells a client whether to ask for the descriptors again: they changed just where the bit
 /// RELOAD_OPTIONS stands.
 pub fn what_a_set_tells()
-    ensures { (s : Setup) (n : ℕ) (asked given : Value) (info : Info) → option_set s n asked ≡ Ok (given, info) → TellsOfSet s n asked given info }
+    ensures { (s : Setup) (n : ℕ) (asked given : Value) (info : Info)
+        → option_set s n asked ≡ Ok (given, info) → TellsOfSet s n asked given info }
 {}
 
 /// No scanner refuses with GOOD, and only a read with EOF.
 pub fn no_refusal_is_good()
-    ensures set { (s : Setup) (n : ℕ) (asked : Value) (status : Status) → option_set s n asked ≡ Err status → status ≡ Inval }
-    ensures get { (s : Setup) (n : ℕ) (status : Status) → option_got s n ≡ Err status → status ≡ Inval }
-    ensures start { (s t : DeviceState) (status : Status) → Starts s (Err status) t → MayRefuseStart status }
-    ensures read { (s t : DeviceState) (buf : List ℕ) → IsAllowed s.setup → Reads s (Err Good) t buf → ⊥ }
+    ensures set { (s : Setup) (n : ℕ) (asked : Value) (status : Status)
+        → option_set s n asked ≡ Err status → status ≡ Inval }
+    ensures get { (s : Setup) (n : ℕ) (status : Status)
+        → option_got s n ≡ Err status → status ≡ Inval }
+    ensures start { (s t : DeviceState) (status : Status)
+        → Starts s (Err status) t → MayRefuseStart status }
+    ensures read { (s t : DeviceState) (buf : List ℕ)
+        → IsAllowed s.setup → Reads s (Err Good) t buf → ⊥ }
 {}
 
 /// The limits of a scanner last, whatever is called.
 pub fn limits_last()
     ensures defaults { (kind : DeviceKind) (order : ByteOrder) → IsAllowed (defaults kind order) }
-    ensures set { (s : Setup) (n : ℕ) (asked given : Value) (info : Info) → IsAllowed s → option_set s n asked ≡ Ok (given, info) → IsAllowed (setup_after s n given) }
+    ensures set { (s : Setup) (n : ℕ) (asked given : Value) (info : Info) → IsAllowed s
+        → option_set s n asked ≡ Ok (given, info) → IsAllowed (setup_after s n given) }
     ensures reset { (s : DeviceState) → HasLimits s → HasLimits (after_reset s) }
-    ensures load { (s : DeviceState) (source : SourceState) → HasLimits s → takes_page s ≡ true → IsSourceShaped source → HasLimits (after_load s source) }
+    ensures load { (s : DeviceState) (source : SourceState) → HasLimits s
+        → takes_page s ≡ true → IsSourceShaped source → HasLimits (after_load s source) }
     ensures scan { (s t : DeviceState) → HasLimits s → IsSameScan s t → HasLimits t }
 {}
 
 /// A scan goes on with the options and the pages with which it began; a feeder lets go of the first when it is over.
 pub fn a_scan_keeps_its_options_and_page()
-    ensures start { (s t : DeviceState) (result : Result Unit Status) → Starts s result t → IsSameScan s t }
-    ensures read { (s t : DeviceState) (result : Result ℕ Status) (buf : List ℕ) → Reads s result t buf → IsSameScan s t }
+    ensures start { (s t : DeviceState) (result : Result Unit Status)
+        → Starts s result t → IsSameScan s t }
+    ensures read { (s t : DeviceState) (result : Result ℕ Status) (buf : List ℕ)
+        → Reads s result t buf → IsSameScan s t }
     ensures cancel { (s : DeviceState) → IsSameScan s (after_cancel s) }
 {}
 
@@ -55,17 +64,24 @@ pub fn a_scan_keeps_its_options_and_page()
 pub fn passes_are_counted()
     ensures reset { (s : DeviceState) → IsInScan (after_reset s) }
     ensures cancel { (s : DeviceState) → IsInScan (after_cancel s) }
-    ensures set { (s : DeviceState) (n : ℕ) (asked given : Value) (info : Info) → set_answer s n asked ≡ Ok (given, info) → IsInScan (after_set s n given) }
-    ensures start { (s t : DeviceState) (result : Result Unit Status) → IsInScan s → Starts s result t → IsInScan t }
-    ensures read { (s t : DeviceState) (result : Result ℕ Status) (buf : List ℕ) → IsInScan s → Reads s result t buf → IsInScan t }
+    ensures set { (s : DeviceState) (n : ℕ) (asked given : Value) (info : Info)
+        → set_answer s n asked ≡ Ok (given, info) → IsInScan (after_set s n given) }
+    ensures start { (s t : DeviceState) (result : Result Unit Status)
+        → IsInScan s → Starts s result t → IsInScan t }
+    ensures read { (s t : DeviceState) (result : Result ℕ Status) (buf : List ℕ)
+        → IsInScan s → Reads s result t buf → IsInScan t }
 {}
 
 /// A scan goes through its frames: a start begins the first of those to come, reads give its bytes, and its end comes
 /// behind the last of them, or before the first where the options say so.
 pub fn a_scan_goes_frame_by_frame()
-    ensures start { (s t : DeviceState) → IsInScan s → Starts s (Ok tt) t → BeginsFrame (place_of s) (frames_of s.setup (page_of s)) (place_of t) }
-    ensures read { (s t : DeviceState) (n : ℕ) (buf : List ℕ) → IsInScan s → steady_of s ≡ true → Reads s (Ok n) t buf → GivesOn (place_of s) (take n buf) (place_of t) }
-    ensures end { (s t : DeviceState) (buf : List ℕ) → IsInScan s → Reads s (Err Eof) t buf → EndsWhole (place_of s) (place_of t) ⊎ ((s.setup.told ≡ Some Eof) × EndsEmpty (place_of s) (place_of t)) }
+    ensures start { (s t : DeviceState) → IsInScan s → Starts s (Ok tt) t
+        → BeginsFrame (place_of s) (frames_of s.setup (page_of s)) (place_of t) }
+    ensures read { (s t : DeviceState) (n : ℕ) (buf : List ℕ) → IsInScan s → steady_of s ≡ true
+        → Reads s (Ok n) t buf → GivesOn (place_of s) (take n buf) (place_of t) }
+    ensures end { (s t : DeviceState) (buf : List ℕ)
+        → IsInScan s → Reads s (Err Eof) t buf → EndsWhole (place_of s) (place_of t)
+        ⊎ ((s.setup.told ≡ Some Eof) × EndsEmpty (place_of s) (place_of t)) }
 {}
 
 /// An option that a kind of scanner does not have keeps its default.
@@ -77,9 +93,12 @@ pub fn only_own_options_change()
 /// A set gives the admitted value that is nearest to the one asked for, and refuses only where there is none, or the
 /// option may not be set; and so does each setting of a job, from the options that those before it left.
 pub fn what_is_given_is_nearest()
-    ensures given { (s : Setup) (n : ℕ) (asked given : Value) (info : Info) → option_set s n asked ≡ Ok (given, info) → GivesNearest s n asked given }
-    ensures refused { (s : Setup) (n : ℕ) (asked given : Value) (status : Status) (desc : Descriptor) → option_set s n asked ≡ Err status
-        → slice_get (descriptors_of s) n ≡ Some desc → may_be_set desc ≡ true → Puts desc asked given → ⊥ }
-    ensures settings { (kind : DeviceKind) (order : ByteOrder) (settings : List (List ℕ × List ℕ)) (forced : Setup × List Placement) → in_force kind order settings ≡ Some forced
+    ensures given { (s : Setup) (n : ℕ) (asked given : Value) (info : Info)
+        → option_set s n asked ≡ Ok (given, info) → GivesNearest s n asked given }
+    ensures refused { (s : Setup) (n : ℕ) (asked given : Value) (status : Status)
+        (desc : Descriptor) → option_set s n asked ≡ Err status → slice_get (descriptors_of s) n
+        ≡ Some desc → may_be_set desc ≡ true → Puts desc asked given → ⊥ }
+    ensures settings { (kind : DeviceKind) (order : ByteOrder) (settings : List (List ℕ
+        × List ℕ)) (forced : Setup × List Placement) → in_force kind order settings ≡ Some forced
         → PutAllNearest (defaults kind order) settings forced.1 forced.0 }
 {}

@@ -18,36 +18,48 @@ ghost use Rattle.scan_laws.specs.Weights.{greatest_weight, weight};
 
 /// A join takes the frames of a scan one after another, to the whole picture.
 pub fn a_join_takes_the_frames_of_a_scan()
-    ensures { (setup : Setup) (page : PageView) → IsAllowed setup → IsShaped page → has_picture setup page ≡ true → TakesAll [] (frames_of setup page) }
+    ensures { (setup : Setup) (page : PageView) → IsAllowed setup
+        → IsShaped page → has_picture setup page ≡ true → TakesAll [] (frames_of setup page) }
 {}
 
 /// A join goes through a frame that it takes: it begins, its bytes come in whatever pieces, and it ends; and an end before
 /// its first byte is short.
 pub fn a_join_goes_through_a_frame()
-    ensures begin { (ended more : List Frame) (f : Frame) (past : JoinHistory) (starved : Bool) → JoinTakes ended f more → IsOpenJoin ended None past
-        → after_begin f.params f.order starved past ≡ with_frame_begun starved (with_bytes f []) past }
-    ensures feed { (ended more : List Frame) (f : Frame) (past : JoinHistory) (starved : Bool) (heard bytes rest : List ℕ) → JoinTakes ended f more → IsOpenJoin ended (Some (with_bytes f heard)) past
-        → (heard ++ bytes) ++ rest ≡ f.payload → after_feed bytes starved past ≡ with_frame_begun starved (with_bytes f (heard ++ bytes)) past }
-    ensures end { (ended more : List Frame) (f : Frame) (past : JoinHistory) → JoinTakes ended f more → IsOpenJoin ended (Some f) past
+    ensures begin { (ended more : List Frame) (f : Frame) (past : JoinHistory) (starved : Bool)
+        → JoinTakes ended f more
+        → IsOpenJoin ended None past → after_begin f.params f.order starved past
+        ≡ with_frame_begun starved (with_bytes f []) past }
+    ensures feed { (ended more : List Frame)
+        (f : Frame) (past : JoinHistory) (starved : Bool) (heard bytes rest : List ℕ)
+        → JoinTakes ended f more → IsOpenJoin ended (Some (with_bytes f heard)) past
+        → (heard ++ bytes) ++ rest ≡ f.payload → after_feed bytes starved past
+        ≡ with_frame_begun starved (with_bytes f (heard ++ bytes)) past }
+    ensures end { (ended more : List Frame) (f : Frame) (past : JoinHistory)
+        → JoinTakes ended f more → IsOpenJoin ended (Some f) past
         → after_end past ≡ record past { ended = ended ++ f ∷ []; under = None } }
-    ensures short { (ended more : List Frame) (f : Frame) (past : JoinHistory) → JoinTakes ended f more → IsOpenJoin ended (Some (with_bytes f [])) past
-        → after_end past ≡ with_fault Short past }
+    ensures short { (ended more : List Frame) (f : Frame) (past : JoinHistory)
+        → JoinTakes ended f more
+        → IsOpenJoin ended (Some (with_bytes f [])) past → after_end past ≡ with_fault Short past }
 {}
 
 /// No scan gives more bytes than the greatest of a flatbed: its whole bed in color at depth 16, with 64 lost pixels a line.
 pub fn no_scan_is_longer()
-    ensures { (setup : Setup) (page : PageView) → IsAllowed setup → has_picture setup page ≡ true → weight (frames_of setup page) ≤ greatest_weight }
+    ensures { (setup : Setup) (page : PageView) → IsAllowed setup
+        → has_picture setup page ≡ true → weight (frames_of setup page) ≤ greatest_weight }
 {}
 
 /// The frames of a scan, joined, are the picture that its scene means on its page: they show it, and their file
 /// denotes it.
 pub fn frames_join_to_the_meaning()
-    ensures there { (setup : Setup) (page : PageView) → has_picture setup page ≡ false → meaning_of page setup.scene ≡ None }
-    ensures shows { (setup : Setup) (page : PageView) → IsAllowed setup → IsPageView page → has_picture setup page ≡ true
-        → (p : Picture) × (meaning_of page setup.scene ≡ Some p) × ShowsFrames (frames_of setup page) p }
-    ensures file { (setup : Setup) (page : PageView) (past : JoinHistory) (join : JoinState) (p : Picture) → IsAllowed setup → IsPageView page
-        → meaning_of page setup.scene ≡ Some p → Represents past join → past.ended ≡ frames_of setup page → past.under ≡ None → past.fault ≡ None
-        → AllGone past.under past.ended past.given → Denotes past.given p }
+    ensures there { (setup : Setup) (page : PageView)
+        → has_picture setup page ≡ false → meaning_of page setup.scene ≡ None }
+    ensures shows { (setup : Setup) (page : PageView)
+        → IsAllowed setup → IsPageView page → has_picture setup page ≡ true → (p : Picture)
+        × (meaning_of page setup.scene ≡ Some p) × ShowsFrames (frames_of setup page) p }
+    ensures file { (setup : Setup) (page : PageView) (past : JoinHistory) (join : JoinState)
+        (p : Picture) → IsAllowed setup → IsPageView page → meaning_of page setup.scene ≡ Some p
+        → Represents past join → past.ended ≡ frames_of setup page → past.under ≡ None
+        → past.fault ≡ None → AllGone past.under past.ended past.given → Denotes past.given p }
 {}
 
 /// A scan in one sentence: from a start at rest that succeeds, whatever is called until the scanner rests again, the scan
@@ -55,5 +67,6 @@ pub fn frames_join_to_the_meaning()
 /// frame, what reads gave of it is a front of its bytes, and the end comes behind the last of them, or where the options
 /// tell of it in place of the first.
 pub fn a_scan_shows_its_first_picture()
-    ensures { (first begun : DeviceState) → HasLimits first → steady_of first ≡ true → is_at_rest first.phase ≡ true → Starts first (Ok tt) begun → ShowsOne first begun }
+    ensures { (first begun : DeviceState) → HasLimits first → steady_of first ≡ true
+        → is_at_rest first.phase ≡ true → Starts first (Ok tt) begun → ShowsOne first begun }
 {}

@@ -9,6 +9,7 @@ use Rattle.md5_auth.specs.declared.users.Entry.{Entry}
 use Rattle.md5_auth.specs.Challenges.{HasGiven}
 use Rattle.scan_job.specs.declared.job.Job.{Job}
 use Rattle.scan_job.specs.JobSize.{HasCount, HasJobSize}
+use Rattle.saned_requests.specs.declared.session.StringSize.TheVariants.{OfText}
 use Rattle.saned_core.specs.DaemonStates.{DaemonState, core}
 use Rattle.saned_core.specs.Loading as daemon
 use Rattle.scan_world.specs.declared.event.Event.{Event}
@@ -70,6 +71,7 @@ HasFaultAmong faults.NoMem devices jobs = AreRegistrable devices × HasWorldFaul
 pub record IsInitialWorld (devices : List DeviceState) (users : List Entry) (seed : List ℕ) (jobs : List Job) (w : WorldCore) : Type 0 where
   pub registry : w.daemon.registry ≡ fresh_table devices
   pub users_are : w.daemon.users ≡ users
+  pub strings : w.daemon.strings ≡ OfText
   pub challenges : HasGiven seed 0 w.daemon.stream
   pub sessions : w.daemon.slots ≡ None ∷ None ∷ None ∷ None ∷ None ∷ None ∷ None ∷ None ∷ []
   pub opened : w.daemon.opened ≡ 0

@@ -53,7 +53,8 @@ fn repeats<D: Device>(devices: &[D]) -> bool
 /// Why no world is made of these devices and jobs, apart from out of memory.
 fn fault_among<D: Device>(devices: &[D], jobs: &[Job]) -> Option<WorldFault>
     ensures some { IfSome result (λ f. HasFaultAmong f (map D.state devices.now) jobs.now) }
-    ensures none { IsNone result → HasFaultAmong WorldFault.NoMem (map D.state devices.now) jobs.now }
+    ensures none { IsNone result
+        → HasFaultAmong WorldFault.NoMem (map D.state devices.now) jobs.now }
 {
     if repeats(devices) {
         return Some(WorldFault::SameName);
@@ -76,9 +77,14 @@ impl World<Box<dyn Device>> {
         seed: [u8; 32],
         jobs: Vec<Job>,
     ) -> Result<World<Box<dyn Device>>, (WorldFault, Vec<Box<dyn Device>>)>
-        ensures begins { IfOk result (λ w. IsInitialWorld (map ⟦<Box<dyn Device> as Device>⟧.state devices.items) users seed jobs.items (seen_world ⟦<Box<dyn Device> as Device>⟧.state w)) }
-        ensures accepted { OnOk result (AreRegistrable (map ⟦<Box<dyn Device> as Device>⟧.state devices.items) × MayRun jobs.items) }
-        ensures fault { IfErr result (λ e. HasFaultAmong e.0 (map ⟦<Box<dyn Device> as Device>⟧.state devices.items) jobs.items) }
+        ensures begins { IfOk result
+            (λ w. IsInitialWorld (map ⟦<Box<dyn Device> as Device>⟧.state devices.items)
+            users seed jobs.items (seen_world ⟦<Box<dyn Device> as Device>⟧.state w)) }
+        ensures accepted { OnOk result
+            (AreRegistrable (map ⟦<Box<dyn Device> as Device>⟧.state devices.items)
+            × MayRun jobs.items) }
+        ensures fault { IfErr result (λ e.
+            HasFaultAmong e.0 (map ⟦<Box<dyn Device> as Device>⟧.state devices.items) jobs.items) }
         ensures back { IfErr result (λ e. e.1 ≡ devices) }
     {
         if let Some(fault) = fault_among(devices.as_slice(), jobs.as_slice()) {

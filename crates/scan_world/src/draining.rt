@@ -64,7 +64,9 @@ impl Endpoint {
 
     /// The next bytes of the file.
     fn pull(&mut self, alloc: Global) -> Pull
-        ensures pulls { (past : JoinHistory) (pages : List JoinHistory) → scans self.old.task ≡ true → HasPlace self.old pages → HoldsHistory past pages self.old → Pulls past pages self.old result self.new }
+        ensures pulls { (past : JoinHistory) (pages : List JoinHistory)
+            → scans self.old.task ≡ true → HasPlace self.old pages
+            → HoldsHistory past pages self.old → Pulls past pages self.old result self.new }
         ensures rest { IsLaid self.old self.new }
         ensures starved { StaysOutOfMemory self.old self.new }
     {
@@ -80,7 +82,9 @@ impl Endpoint {
     /// The next bytes of the file of a page that is whole.
     fn pull_page(&mut self, alloc: Global) -> Pull
         requires { turns self.old.client.outcome self.old.client.progress ≡ true }
-        ensures pulls { (past : JoinHistory) (pages : List JoinHistory) → scans self.old.task ≡ true → length pages < 16 → HoldsHistory past pages self.old → Pulls past pages self.old result self.new }
+        ensures pulls { (past : JoinHistory) (pages : List JoinHistory)
+            → scans self.old.task ≡ true → length pages < 16
+            → HoldsHistory past pages self.old → Pulls past pages self.old result self.new }
         ensures rest { IsLaid self.old self.new }
         ensures starved { StaysOutOfMemory self.old self.new }
     {

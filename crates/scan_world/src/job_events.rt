@@ -36,7 +36,8 @@ fn has_image(endpoint: &Endpoint) -> bool
 }
 
 fn has_replies<D: Device>(daemon: &Daemon<D>, endpoint: &Endpoint) -> bool
-    ensures { IsTrue result ↔ IfLinked endpoint.now.link (λ k. replies_of (core D.state daemon.now) k ≢ []) }
+    ensures { IsTrue result
+        ↔ IfLinked endpoint.now.link (λ k. replies_of (core D.state daemon.now) k ≢ []) }
 {
     match endpoint.link {
         Some(id) => daemon.has_replies(id),
@@ -45,7 +46,8 @@ fn has_replies<D: Device>(daemon: &Daemon<D>, endpoint: &Endpoint) -> bool
 }
 
 fn waits<D: Device>(daemon: &Daemon<D>, endpoint: &Endpoint) -> bool
-    ensures { IsTrue result ↔ IfLinked endpoint.now.link (λ k. frame_state_at (core D.state daemon.now) k ≡ frames.Waiting) }
+    ensures { IsTrue result ↔ IfLinked endpoint.now.link
+        (λ k. frame_state_at (core D.state daemon.now) k ≡ frames.Waiting) }
 {
     match endpoint.link {
         Some(id) => daemon.frame(id) == FrameState::Waiting,
@@ -54,7 +56,8 @@ fn waits<D: Device>(daemon: &Daemon<D>, endpoint: &Endpoint) -> bool
 }
 
 fn flows<D: Device>(daemon: &Daemon<D>, endpoint: &Endpoint) -> bool
-    ensures { IsTrue result ↔ IfLinked endpoint.now.link (λ k. IsFlowing (frame_state_at (core D.state daemon.now) k)) }
+    ensures { IsTrue result
+        ↔ IfLinked endpoint.now.link (λ k. IsFlowing (frame_state_at (core D.state daemon.now) k)) }
 {
     match endpoint.link {
         Some(id) => matches!(daemon.frame(id), FrameState::Streaming | FrameState::Ending),
@@ -83,7 +86,8 @@ pub fn can<D: Device>(daemon: &Daemon<D>, endpoint: &Endpoint, job_event: JobEve
 
 /// The control connection is made: a session is opened for it.
 fn connect<D: Device>(alloc: Global, daemon: &mut Daemon<D>, endpoint: &mut Endpoint)
-    ensures { Connects (is_closed (core D.state daemon.old)) (core D.state daemon.old) endpoint.old (core D.state daemon.new) endpoint.new }
+    ensures { Connects (is_closed (core D.state daemon.old))
+        (core D.state daemon.old) endpoint.old (core D.state daemon.new) endpoint.new }
 {
     endpoint.spend();
     match daemon.open_session(alloc, PORT) {
@@ -111,7 +115,10 @@ fn take_out(endpoint: &mut Endpoint, piece: &mut [u8], n: usize) -> usize
     requires { length piece.old ≡ 4096 }
     ensures within { result ≤ length piece.old }
     ensures bytes { take result piece.new ≡ delivered_bytes n endpoint.old.client.out }
-    ensures post { endpoint.new ≡ record endpoint.old { client = record endpoint.old.client { out = bytes_not_delivered n endpoint.old.client.out } } }
+    ensures post { endpoint.new ≡ record endpoint.old {
+      client
+          = record endpoint.old.client { out = bytes_not_delivered n endpoint.old.client.out };
+    } }
 {
     let most = n.min(PIECE);
     endpoint.client.take_out(&mut piece[..most])
@@ -125,7 +132,8 @@ fn to_daemon<D: Device>(
     id: SessionId,
     n: usize,
 )
-    ensures { FeedsPiece id.number n (core D.state daemon.old) endpoint.old (core D.state daemon.new) endpoint.new }
+    ensures { FeedsPiece id.number n
+        (core D.state daemon.old) endpoint.old (core D.state daemon.new) endpoint.new }
 {
     let mut piece = [0u8; PIECE];
     let count = take_out(endpoint, &mut piece, n);
@@ -154,7 +162,8 @@ fn take_replies<D: Device>(
 ) -> usize
     requires { length piece.old ≡ 4096 }
     ensures within { result ≤ length piece.old }
-    ensures bytes { take result piece.new ≡ delivered_bytes n (replies_of (core D.state daemon.old) id.number) }
+    ensures bytes { take result piece.new
+        ≡ delivered_bytes n (replies_of (core D.state daemon.old) id.number) }
     ensures daemon { core D.state daemon.new ≡ without_taken id.number n (core D.state daemon.old) }
 {
     let most = n.min(PIECE);
@@ -170,7 +179,8 @@ fn to_client<D: Device>(
     n: usize,
 )
     ensures daemon { core D.state daemon.new ≡ without_taken id.number n (core D.state daemon.old) }
-    ensures hears { HeedsPiece (delivered_bytes n (replies_of (core D.state daemon.old) id.number)) (after_move endpoint.old) endpoint.new }
+    ensures hears { HeedsPiece (delivered_bytes n (replies_of (core D.state daemon.old) id.number))
+        (after_move endpoint.old) endpoint.new }
 {
     let mut piece = [0u8; PIECE];
     let count = take_replies(daemon, id, &mut piece, n);
@@ -180,7 +190,10 @@ fn to_client<D: Device>(
 
 /// The connection for a frame is made.
 fn dial<D: Device>(alloc: Global, daemon: &mut Daemon<D>, endpoint: &mut Endpoint, id: SessionId)
-    ensures daemon { core D.state daemon.new ≡ record (core D.state daemon.old) { slots = on_session_slot (on_session after_connected) id.number (core D.state daemon.old).slots } }
+    ensures daemon { core D.state daemon.new ≡ record (core D.state daemon.old) {
+      slots
+          = on_session_slot (on_session after_connected) id.number (core D.state daemon.old).slots;
+    } }
     ensures post { endpoint.new ≡ with_image_link (after_move endpoint.old) }
 {
     let _waits = daemon.data_connected(id);
@@ -191,7 +204,8 @@ fn dial<D: Device>(alloc: Global, daemon: &mut Daemon<D>, endpoint: &mut Endpoin
 /// A record comes onto the data connection. Where there is no memory nothing changes.
 fn load(endpoint: &mut Endpoint, bytes: &[u8], is_last: bool) -> Result<(), AllocError>
     requires { IsSome endpoint.old.image }
-    ensures ok { OnOk result ((image : Image) × (endpoint.old.image ≡ Some image) × (endpoint.new ≡ with_image (with_data_record bytes.now is_last image) endpoint.old)) }
+    ensures ok { OnOk result ((image : Image) × (endpoint.old.image ≡ Some image)
+        × (endpoint.new ≡ with_image (with_data_record bytes.now is_last image) endpoint.old)) }
     ensures err { OnErr result (endpoint.new ≡ endpoint.old) }
 {
     if let Some(image) = &mut endpoint.image {
@@ -210,7 +224,8 @@ fn send<D: Device>(
     is_last: bool,
 )
     requires { IsSome endpoint.old.image }
-    ensures { SendsRecord id.number bytes.now is_last (core D.state daemon.old) endpoint.old (core D.state daemon.new) endpoint.new }
+    ensures { SendsRecord id.number bytes.now is_last
+        (core D.state daemon.old) endpoint.old (core D.state daemon.new) endpoint.new }
 {
     endpoint.spend();
     match load(endpoint, bytes, is_last) {
@@ -225,7 +240,8 @@ fn send<D: Device>(
 /// The daemon's turn of the data connection.
 fn take_turn<D: Device>(daemon: &mut Daemon<D>, endpoint: &mut Endpoint, id: SessionId)
     requires { IsSome endpoint.old.image }
-    ensures { TakesTurn id.number (core D.state daemon.old) endpoint.old (core D.state daemon.new) endpoint.new }
+    ensures { TakesTurn id.number
+        (core D.state daemon.old) endpoint.old (core D.state daemon.new) endpoint.new }
 {
     let mut room = [0u8; RECORD];
     // What it wrote is never more than the room.
@@ -270,8 +286,10 @@ fn see(alloc: Global, endpoint: &mut Endpoint, piece: &[u8])
 fn take_image(endpoint: &mut Endpoint, piece: &mut [u8], n: usize) -> usize
     requires { length piece.old ≡ 4096 }
     ensures within { result ≤ length piece.old }
-    ensures bytes { (image : Image) → endpoint.old.image ≡ Some image → take result piece.new ≡ delivered_bytes n image.bytes }
-    ensures post { (image : Image) → endpoint.old.image ≡ Some image → endpoint.new ≡ with_image (record image { bytes = bytes_not_delivered n image.bytes }) endpoint.old }
+    ensures bytes { (image : Image)
+        → endpoint.old.image ≡ Some image → take result piece.new ≡ delivered_bytes n image.bytes }
+    ensures post { (image : Image) → endpoint.old.image ≡ Some image → endpoint.new
+        ≡ with_image (record image { bytes = bytes_not_delivered n image.bytes }) endpoint.old }
 {
     let most = n.min(PIECE);
     match &mut endpoint.image {
@@ -307,7 +325,8 @@ fn data_to_client(alloc: Global, endpoint: &mut Endpoint, n: usize)
 
 /// The control connection is lost.
 fn lose_control<D: Device>(daemon: &mut Daemon<D>, endpoint: &mut Endpoint, id: SessionId)
-    ensures daemon { core D.state daemon.new ≡ after_end_session (core D.state daemon.old) id.number }
+    ensures daemon { core D.state daemon.new
+        ≡ after_end_session (core D.state daemon.old) id.number }
     ensures post { endpoint.new ≡ without_link (after_move endpoint.old) }
 {
     endpoint.spend();
@@ -345,7 +364,8 @@ fn do_linked<D: Device>(
     requires can { Can (core D.state daemon.old) endpoint.old job_event }
     requires link { endpoint.old.link ≡ Some id }
     requires needs { NeedsLink job_event }
-    ensures { Does (core D.state daemon.old) endpoint.old job_event (core D.state daemon.new) endpoint.new }
+    ensures { Does (core D.state daemon.old) endpoint.old job_event
+        (core D.state daemon.new) endpoint.new }
 {
     match job_event {
         JobEvent::ToDaemon(n) => to_daemon(alloc, daemon, endpoint, id, n),
@@ -366,7 +386,8 @@ fn make<D: Device>(
     job_event: JobEvent,
 )
     requires { Can (core D.state daemon.old) endpoint.old job_event }
-    ensures { Does (core D.state daemon.old) endpoint.old job_event (core D.state daemon.new) endpoint.new }
+    ensures { Does (core D.state daemon.old) endpoint.old job_event
+        (core D.state daemon.new) endpoint.new }
 {
     match job_event {
         JobEvent::Connect => connect(alloc, daemon, endpoint),
@@ -387,7 +408,8 @@ pub fn happen<D: Device>(
     endpoint: &mut Endpoint,
     job_event: JobEvent,
 )
-    ensures { Happens (core D.state daemon.old) endpoint.old job_event (core D.state daemon.new) endpoint.new }
+    ensures { Happens (core D.state daemon.old) endpoint.old job_event
+        (core D.state daemon.new) endpoint.new }
 {
     if can(daemon, endpoint, job_event) {
         make(alloc, daemon, endpoint, job_event);

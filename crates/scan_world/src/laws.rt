@@ -19,28 +19,41 @@ ghost use Rattle.scan_world.specs.Worlds.{AreNew, Leads, MayRun, Runs, WorldCore
 
 /// The files of jobs are those of what their clients were told: in a new world, and behind any events.
 pub fn files_are_represented()
-    ensures new { (jobs : List Job) (endpoints : List Endpoint) → MayRun jobs → AreNew jobs endpoints → AllFilesRepresent endpoints }
-    ensures run { (source : Source → SourceState) (events : List Event) (w v : WorldCore) → Runs source events w v → AllFilesRepresent w.endpoints → AllFilesRepresent v.endpoints }
+    ensures new { (jobs : List Job) (endpoints : List Endpoint)
+        → MayRun jobs → AreNew jobs endpoints → AllFilesRepresent endpoints }
+    ensures run { (source : Source → SourceState) (events : List Event) (w v : WorldCore)
+        → Runs source events w v → AllFilesRepresent w.endpoints → AllFilesRepresent v.endpoints }
 {}
 
 /// What these files tell: that of a finished page is whole, and of the picture that the page's frames show, and so is that of a
 /// scan that is done. The file under way of a job that is not done is never whole. Where there is none a growth was refused.
 pub fn files_tell()
-    ensures page { (p : Endpoint) (k : ℕ) (file : List ℕ) → FilesRepresent p → finished_page p k ≡ Some file → IsFileOf file }
-    ensures scan { (p : Endpoint) (file : List ℕ) → FilesRepresent p → p.task ≡ tasks.Scan → is_done p.client.outcome ≡ true → p.file ≡ Some file → IsFileOf file }
-    ensures short { (p : Endpoint) (file : List ℕ) → FilesRepresent p → is_done p.client.outcome ≡ false → p.file ≡ Some file → IsWhole file → ⊥ }
+    ensures page { (p : Endpoint) (k : ℕ) (file : List ℕ)
+        → FilesRepresent p → finished_page p k ≡ Some file → IsFileOf file }
+    ensures scan { (p : Endpoint) (file : List ℕ) → FilesRepresent p → p.task ≡ tasks.Scan
+        → is_done p.client.outcome ≡ true → p.file ≡ Some file → IsFileOf file }
+    ensures short { (p : Endpoint) (file : List ℕ) → FilesRepresent p
+        → is_done p.client.outcome ≡ false → p.file ≡ Some file → IsWhole file → ⊥ }
     ensures none { (p : Endpoint) → FilesRepresent p → p.file ≡ None → p.out_of_memory ≡ true }
-    ensures no_page { (p : Endpoint) (k : ℕ) → FilesRepresent p → 0 < k → k ≤ p.finished → k ≤ 16 → finished_page p k ≡ None → p.out_of_memory ≡ true }
+    ensures no_page { (p : Endpoint) (k : ℕ) → FilesRepresent p
+        → 0 < k → k ≤ p.finished → k ≤ 16 → finished_page p k ≡ None → p.out_of_memory ≡ true }
 {}
 
 /// What happens to a job takes one from the moves that it may still take, and no event raises them.
 pub fn moves_fall()
-    ensures spent { (d e : Core) (p q : Endpoint) (job_event : JobEvent) → Can d p job_event → Happens d p job_event e q → q.budget ≡ p.budget - 1 }
-    ensures less { (d e : Core) (p q : Endpoint) (job_event : JobEvent) → 0 < moves_left_of p → Can d p job_event → Happens d p job_event e q → moves_left_of q < moves_left_of p }
-    ensures never_more { (source : Source → SourceState) (event : Event) (w v : WorldCore) (i : ℕ) (p q : Endpoint) → Leads source event w v → slice_get w.endpoints i ≡ Some p → slice_get v.endpoints i ≡ Some q → moves_left_of q ≤ moves_left_of p }
+    ensures spent { (d e : Core) (p q : Endpoint) (job_event : JobEvent)
+        → Can d p job_event → Happens d p job_event e q → q.budget ≡ p.budget - 1 }
+    ensures less { (d e : Core) (p q : Endpoint) (job_event : JobEvent) → 0 < moves_left_of p
+        → Can d p job_event → Happens d p job_event e q → moves_left_of q < moves_left_of p }
+    ensures never_more { (source : Source
+        → SourceState) (event : Event) (w v : WorldCore) (i : ℕ) (p q : Endpoint)
+        → Leads source event w v → slice_get w.endpoints i ≡ Some p
+        → slice_get v.endpoints i ≡ Some q → moves_left_of q ≤ moves_left_of p }
 {}
 
 /// A job that rests behind all rounds has no next move, as long as it has moves left.
 pub fn rest_is_quiet()
-    ensures { (w : WorldCore) (i : ℕ) (p : Endpoint) (event : Event) → RestsAt w i → slice_get w.endpoints i ≡ Some p → IsNextMove w.daemon i p (Some event) → moves_left_of p ≡ 0 }
+    ensures { (w : WorldCore) (i : ℕ) (p : Endpoint) (event : Event)
+        → RestsAt w i → slice_get w.endpoints i ≡ Some p
+        → IsNextMove w.daemon i p (Some event) → moves_left_of p ≡ 0 }
 {}

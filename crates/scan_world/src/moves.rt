@@ -35,7 +35,8 @@ fn earlier<D: Device>(
     job_event: JobEvent,
     later: Option<JobEvent>,
 ) -> Option<JobEvent>
-    ensures { (ms : List JobEvent) → IsNext (core D.state daemon.now) endpoint.now ms later → IsNext (core D.state daemon.now) endpoint.now (job_event ∷ ms) result }
+    ensures { (ms : List JobEvent) → IsNext (core D.state daemon.now) endpoint.now ms later
+        → IsNext (core D.state daemon.now) endpoint.now (job_event ∷ ms) result }
 {
     if can(daemon, endpoint, job_event) {
         return Some(job_event);
@@ -45,7 +46,8 @@ fn earlier<D: Device>(
 
 /// The first of its moves that can happen.
 fn move_of<D: Device>(daemon: &Daemon<D>, endpoint: &Endpoint) -> Option<JobEvent>
-    ensures runs { is_running endpoint.now.client.outcome ≡ true → IsNext (core D.state daemon.now) endpoint.now in_order result }
+    ensures runs { is_running endpoint.now.client.outcome ≡ true
+        → IsNext (core D.state daemon.now) endpoint.now in_order result }
     ensures over { is_running endpoint.now.client.outcome ≡ false → result ≡ None }
 {
     if !endpoint.is_running() {
@@ -85,7 +87,8 @@ impl<D: Device> World<D> {
     /// client, the data connection made, its bytes to the client and the daemon's turn of it; and then the loss of a control
     /// connection whose session the daemon has ended. None where the job does not run.
     pub fn next_move(&self, i: usize) -> Option<Event>
-        ensures is { (p : Endpoint) → slice_get self.now.endpoints i ≡ Some p → IsNextMove (core D.state self.now.daemon) i p result }
+        ensures is { (p : Endpoint) → slice_get self.now.endpoints i ≡ Some p
+            → IsNextMove (core D.state self.now.daemon) i p result }
         ensures none { slice_get self.now.endpoints i ≡ None → result ≡ None }
     {
         match self.endpoint(i) {
@@ -96,7 +99,8 @@ impl<D: Device> World<D> {
 
     /// More moves than job i may still take; 0 where it does not run, or there is no such job.
     pub fn moves_left(&self, i: usize) -> u64
-        ensures is { (p : Endpoint) → slice_get self.now.endpoints i ≡ Some p → result ≡ moves_left_of p }
+        ensures is { (p : Endpoint)
+            → slice_get self.now.endpoints i ≡ Some p → result ≡ moves_left_of p }
         ensures none { slice_get self.now.endpoints i ≡ None → result ≡ 0 }
     {
         match self.endpoint(i) {
@@ -107,7 +111,8 @@ impl<D: Device> World<D> {
 
     /// The turn of job i: its next move is made, where it has one and may still take a move. Answers whether it was made.
     fn take_move(&mut self, i: usize) -> bool
-        ensures { HasTurn ⟦<Source as PageSource>⟧.source i result (seen_world D.state self.old) (seen_world D.state self.new) }
+        ensures { HasTurn ⟦<Source as PageSource>⟧.source i result
+            (seen_world D.state self.old) (seen_world D.state self.new) }
     {
         if self.moves_left(i) == 0 {
             return false;
@@ -123,7 +128,8 @@ impl<D: Device> World<D> {
 
     /// A turn of each job, in their order. Answers whether a move was made.
     fn round(&mut self) -> bool
-        ensures { HasRound ⟦<Source as PageSource>⟧.source result (seen_world D.state self.old) (seen_world D.state self.new) }
+        ensures { HasRound ⟦<Source as PageSource>⟧.source result
+            (seen_world D.state self.old) (seen_world D.state self.new) }
     {
         let mut goes_on = false;
         for i in 0..self.endpoints.len() {
@@ -136,7 +142,8 @@ impl<D: Device> World<D> {
 
     /// Next moves of all jobs by turns, until none has one, or may still take one.
     pub fn run_all(&mut self)
-        ensures { RoundsRunOut ⟦<Source as PageSource>⟧.source (seen_world D.state self.old) (seen_world D.state self.new) }
+        ensures { RoundsRunOut ⟦<Source as PageSource>⟧.source
+            (seen_world D.state self.old) (seen_world D.state self.new) }
     {
         let mut goes_on = true;
         while goes_on {

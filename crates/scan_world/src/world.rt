@@ -110,7 +110,8 @@ impl<D: Device> World<D> {
 
     /// Events in this order. One that cannot happen changes nothing.
     pub fn run(&mut self, events: Vec<Event>)
-        ensures { Runs ⟦<Source as PageSource>⟧.source events.items (seen_world D.state self.old) (seen_world D.state self.new) }
+        ensures { Runs ⟦<Source as PageSource>⟧.source events.items
+            (seen_world D.state self.old) (seen_world D.state self.new) }
     {
         for event in events {
             self.step(event);
@@ -119,7 +120,8 @@ impl<D: Device> World<D> {
 
     /// An event of a job.
     fn at(&mut self, i: usize, job_event: JobEvent)
-        ensures { AtEndpoint (seen_world D.state self.old) i job_event (seen_world D.state self.new) }
+        ensures { AtEndpoint (seen_world D.state self.old) i job_event
+            (seen_world D.state self.new) }
     {
         if i < self.endpoints.len() {
             happen(
@@ -133,7 +135,8 @@ impl<D: Device> World<D> {
 
     /// An event.
     pub(crate) fn step(&mut self, event: Event)
-        ensures { Leads ⟦<Source as PageSource>⟧.source event (seen_world D.state self.old) (seen_world D.state self.new) }
+        ensures { Leads ⟦<Source as PageSource>⟧.source event
+            (seen_world D.state self.old) (seen_world D.state self.new) }
     {
         match event {
             Event::Connect(i) => self.at(i, JobEvent::Connect),
@@ -166,7 +169,8 @@ impl<D: Device> World<D> {
 
     /// How far job i is; none where there is no such job.
     pub fn outcome(&self, i: usize) -> Option<&Outcome>
-        ensures { option_map (λ o. o.now) result ≡ option_map (λ p. p.client.outcome) (slice_get self.now.endpoints i) }
+        ensures { option_map (λ o. o.now) result
+            ≡ option_map (λ p. p.client.outcome) (slice_get self.now.endpoints i) }
     {
         match self.endpoint(i) {
             Some(endpoint) => Some(endpoint.client.outcome()),
@@ -177,7 +181,8 @@ impl<D: Device> World<D> {
     /// The file of job i under way, as far as it has come: that of a batch's next page is empty. None where there is no such
     /// job, or a growth of the file was refused.
     pub fn file(&self, i: usize) -> Option<&[u8]>
-        ensures { option_map (λ f. f.now) result ≡ option_and_then (λ p. p.file) (slice_get self.now.endpoints i) }
+        ensures { option_map (λ f. f.now) result
+            ≡ option_and_then (λ p. p.file) (slice_get self.now.endpoints i) }
     {
         match self.endpoint(i) {
             Some(endpoint) => endpoint.file_now(),
@@ -188,7 +193,8 @@ impl<D: Device> World<D> {
     /// The file of the k-th finished page of a batch, from 1. None where k is 0 or above `finished`, or a growth of that file
     /// was refused.
     pub fn file_at(&self, i: usize, k: u32) -> Option<&[u8]>
-        ensures { option_map (λ f. f.now) result ≡ option_and_then (λ p. finished_page p k) (slice_get self.now.endpoints i) }
+        ensures { option_map (λ f. f.now) result
+            ≡ option_and_then (λ p. finished_page p k) (slice_get self.now.endpoints i) }
     {
         match self.endpoint(i) {
             Some(endpoint) => endpoint.page(k as usize),
@@ -198,7 +204,8 @@ impl<D: Device> World<D> {
 
     /// How many pages of a batch are finished, at most 16; 0 where there is no such job.
     pub fn finished(&self, i: usize) -> u32
-        ensures is { (p : Endpoint) → slice_get self.now.endpoints i ≡ Some p → result ≡ min p.finished 16 }
+        ensures is { (p : Endpoint)
+            → slice_get self.now.endpoints i ≡ Some p → result ≡ min p.finished 16 }
         ensures none { slice_get self.now.endpoints i ≡ None → result ≡ 0 }
     {
         match self.endpoint(i) {
@@ -209,7 +216,8 @@ impl<D: Device> World<D> {
 
     /// Whether a growth was refused on a connection of job i, in its session or for a file of it.
     pub fn starved(&self, i: usize) -> bool
-        ensures is { (p : Endpoint) → slice_get self.now.endpoints i ≡ Some p → result ≡ p.out_of_memory }
+        ensures is { (p : Endpoint)
+            → slice_get self.now.endpoints i ≡ Some p → result ≡ p.out_of_memory }
         ensures none { slice_get self.now.endpoints i ≡ None → result ≡ false }
     {
         match self.endpoint(i) {

@@ -71,7 +71,8 @@ pub fn run_net_task(
     settings: Vec<(Text, Text)>,
     password: Text,
 ) -> Result<(), Ending>
-    ensures done { OnOk result (HasDoneThere options.now settings.items password host.now device.now) }
+    ensures done { OnOk result
+        (HasDoneThere options.now settings.items password host.now device.now) }
     ensures failed { IfErr result IsFailure }
 {
     let job = job_of(rt, device, options, settings, password)?;

@@ -14,7 +14,7 @@ use Rattle.sane_fixed.specs.declared.status.Status.{Status}
 use Rattle.sane_fixed.specs.declared.status.Status.TheVariants as statuses
 use Rattle.client_replies.specs.ProtocolStates.{is_batch}
 use Rattle.net_jobs.specs.Batches.{BatchDone, BatchEnded, HasBatchRun, RefusesBatch}
-use Rattle.net_jobs.specs.NetDraining.{StopsShort}
+use Rattle.scan_job.specs.FileOutputs.{StopsShort}
 use Rattle.net_jobs.specs.RunPromises.{HasRun, IsRefused, RanDone, RanEnded, RefusesJob, refused_as}
 use Rattle.net_jobs.proofs.NetDrains.{stays_short}
 

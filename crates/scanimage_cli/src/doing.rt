@@ -23,7 +23,8 @@ pub fn do_job<W: Write>(
     ensures done { IfOk result (λ printed. DoesJob (state device.old) job.now printed
         (W.contents output.old) (W.contents output.new) (state device.new)) }
     ensures no_file { OnErr result (LeavesNoFile (W.contents output.old) (W.contents output.new)) }
-    ensures ended { IfErr result (λ ending. EndsJob (state device.old) job.now (state device.new) ending) }
+    ensures ended { IfErr result
+        (λ ending. EndsJob (state device.old) job.now (state device.new) ending) }
     ensures failed { IfErr result IsFailure }
     ensures runs { ChangesDevice (state device.old) (state device.new) }
     ensures rest { is_at_rest (state device.new).phase ≡ true }

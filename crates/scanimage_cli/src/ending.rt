@@ -84,7 +84,8 @@ impl Ending {
 
     /// Writes the line that says how the program ended.
     pub fn tell<W: Write>(&self, to: &mut W) -> io::Result<()>
-        ensures { OnOk result (Appends (W.contents to.old) (W.contents to.new) (ending_line self.now)) }
+        ensures { OnOk result
+            (Appends (W.contents to.old) (W.contents to.new) (ending_line self.now)) }
     {
         match self {
             Ending::BadCommandLine => to.write_all(b"scanimage: bad command line\n"),
@@ -104,7 +105,8 @@ impl Ending {
 
 /// Writes that a line of the config is refused.
 fn tell_line<W: Write>(to: &mut W, line: u32, reason: &str) -> io::Result<()>
-    ensures { OnOk result (Appends (W.contents to.old) (W.contents to.new) (config_line_text line reason.now)) }
+    ensures { OnOk result
+        (Appends (W.contents to.old) (W.contents to.new) (config_line_text line reason.now)) }
 {
     let mut digits = Buffer::new();
     let line = digits.format(line).as_bytes();

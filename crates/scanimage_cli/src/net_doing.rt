@@ -1,5 +1,5 @@
 ghost use Rattle.std.specs.Prelude.{◌≡◌, IfOk, IfErr, OnErr};
-ghost use Rattle.net_jobs.specs.NetDraining.{StopsShort};
+ghost use Rattle.scan_job.specs.FileOutputs.{StopsShort};
 ghost use Rattle.scanimage_cli.specs.DeviceList.{net_prefix};
 ghost use Rattle.scanimage_cli.specs.NetDoing.{DoesNetJob, EndsNetJob, DoesNetBatch, EndsNetBatch};
 ghost use Rattle.scanimage_cli.specs.Programs.{IsFailure};

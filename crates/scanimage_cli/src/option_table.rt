@@ -74,7 +74,8 @@ fn add_bounds(
     desc: &Descriptor,
     range: &Range,
 ) -> Result<(), NoMem>
-    ensures { OnOk result (line.new.items ≡ line.old.items ++ option_bounds_text desc.now range.now) }
+    ensures { OnOk result (line.new.items
+        ≡ line.old.items ++ option_bounds_text desc.now range.now) }
 {
     let least = word_text(alloc, desc, range.min())?;
     let most = word_text(alloc, desc, range.max())?;
@@ -90,7 +91,8 @@ fn add_range(
     desc: &Descriptor,
     range: &Range,
 ) -> Result<(), NoMem>
-    ensures { OnOk result (line.new.items ≡ line.old.items ++ option_range_text desc.now range.now) }
+    ensures { OnOk result (line.new.items
+        ≡ line.old.items ++ option_range_text desc.now range.now) }
 {
     add_bounds(alloc, line, desc, range)?;
     add_steps(alloc, line, desc, range.quant())?;
@@ -104,7 +106,8 @@ fn add_more_words(
     desc: &Descriptor,
     words: &[i32],
 ) -> Result<(), NoMem>
-    ensures { OnOk result (line.new.items ≡ line.old.items ++ behind_bars (map (word_text desc.now.kind) words.now)) }
+    ensures { OnOk result (line.new.items
+        ≡ line.old.items ++ behind_bars (map (word_text desc.now.kind) words.now)) }
 {
     for word in words {
         let text = word_text(alloc, desc, *word)?;
@@ -120,7 +123,8 @@ fn add_joined_words(
     desc: &Descriptor,
     words: &[i32],
 ) -> Result<(), NoMem>
-    ensures { OnOk result (line.new.items ≡ line.old.items ++ join_with_byte 124 (map (word_text desc.now.kind) words.now)) }
+    ensures { OnOk result (line.new.items
+        ≡ line.old.items ++ join_with_byte 124 (map (word_text desc.now.kind) words.now)) }
 {
     match words {
         [] => Ok(()),
@@ -140,7 +144,8 @@ fn add_words(
     desc: &Descriptor,
     words: &[i32],
 ) -> Result<(), NoMem>
-    ensures { OnOk result (line.new.items ≡ line.old.items ++ list_text desc.now (map (word_text desc.now.kind) words.now)) }
+    ensures { OnOk result (line.new.items
+        ≡ line.old.items ++ list_text desc.now (map (word_text desc.now.kind) words.now)) }
 {
     add_joined_words(alloc, line, desc, words)?;
     line.extend_from_slice(unit_text(desc.unit).as_bytes())?;
@@ -203,7 +208,8 @@ fn add_any(line: &mut Vec<u8>, kind: Kind) -> Result<(), NoMem>
 
 /// Adds the numbers that the option may have.
 fn add_numbers(alloc: Global, line: &mut Vec<u8>, desc: &Descriptor) -> Result<(), NoMem>
-    ensures { OnOk result (line.new.items ≡ line.old.items ++ numbers_text desc.now desc.now.constraint) }
+    ensures { OnOk result (line.new.items
+        ≡ line.old.items ++ numbers_text desc.now desc.now.constraint) }
 {
     match &desc.constraint {
         Constraint::Span(range) => add_range(alloc, line, desc, range),
@@ -214,7 +220,8 @@ fn add_numbers(alloc: Global, line: &mut Vec<u8>, desc: &Descriptor) -> Result<(
 
 /// Adds the texts that the option may have.
 fn add_strings(line: &mut Vec<u8>, desc: &Descriptor) -> Result<(), NoMem>
-    ensures { OnOk result (line.new.items ≡ line.old.items ++ texts_text desc.now desc.now.constraint) }
+    ensures { OnOk result (line.new.items
+        ≡ line.old.items ++ texts_text desc.now desc.now.constraint) }
 {
     match &desc.constraint {
         Constraint::Strings(texts) => add_texts(line, desc, texts.as_slice()),
@@ -331,7 +338,8 @@ fn add_options(
     lines: &mut Vec<u8>,
     options: &[(Descriptor, Option<Value>)],
 ) -> Result<(), NoMem>
-    ensures { OnOk result (lines.new.items ≡ lines.old.items ++ concat (map option_line options.now)) }
+    ensures { OnOk result (lines.new.items
+        ≡ lines.old.items ++ concat (map option_line options.now)) }
 {
     for (desc, value) in options {
         add_option(alloc, lines, desc, value)?;

@@ -181,7 +181,8 @@ fn agreed_port(
     found: Option<u16>,
     words: &[Text],
 ) -> Result<Option<u16>, OptionsFault>
-    ensures { IfOk result (λ port. program_option_value ProgramOption.Port words.now ≡ option_map decimal port) }
+    ensures { IfOk result (λ port. program_option_value ProgramOption.Port words.now
+        ≡ option_map decimal port) }
 {
     match (found, program_option_value(ProgramOption::Port, words)) {
         (None, None) => Ok(None),
@@ -210,7 +211,9 @@ fn count_named(text: &[u8]) -> Option<u32>
 
 /// The count of a batch's pages, which `clap` has read as a number.
 fn agreed_count(found: Option<u32>, words: &[Text]) -> Result<Option<u32>, OptionsFault>
-    ensures { IfOk result (λ count. option_map count_named (program_option_value ProgramOption.BatchCount words.now) ≡ option_map (λ n. Some n) count) }
+    ensures { IfOk result
+        (λ count. option_map count_named (program_option_value ProgramOption.BatchCount words.now)
+        ≡ option_map (λ n. Some n) count) }
 {
     match (
         found,

@@ -10,7 +10,8 @@ const MOST_READ: u64 = 1_023 + 1 + 2;
 
 /// The front of a password file that shows its first line, or that this is too long for a job.
 fn front_text<R: Read + Drop>(alloc: Global, reader: R) -> io::Result<Vec<u8>>
-    ensures { IfOk result (λ text. IfSome (R.remaining reader) (λ all. text.items ≡ take 1026 all)) }
+    ensures { IfOk result
+        (λ text. IfSome (R.remaining reader) (λ all. text.items ≡ take 1026 all)) }
 {
     let mut text = Vec::new(alloc);
     reader.take(MOST_READ).read_to_end(&mut text)?;
@@ -30,7 +31,8 @@ fn line_of(text: &[u8]) -> &[u8]
 /// The password in a file: its first line, without the LF that ends it and a CR before that. Of a line that is longer than
 /// a job's password no more is given than shows it.
 pub fn password_line<R: Read + Drop>(alloc: Global, reader: R) -> io::Result<Vec<u8>>
-    ensures { IfOk result (λ line. IfSome (R.remaining reader) (λ all. line.items ≡ first_line_of (take 1026 all))) }
+    ensures { IfOk result
+        (λ line. IfSome (R.remaining reader) (λ all. line.items ≡ first_line_of (take 1026 all))) }
 {
     let text = front_text(alloc, reader)?;
     let line = Vec::from_slice(alloc, line_of(text.as_slice()))?;

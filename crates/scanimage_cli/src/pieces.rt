@@ -7,7 +7,8 @@ use std::io::{self, Write};
 
 /// Adds the pieces, one after another. The only error is out of memory.
 pub fn add_all(line: &mut Vec<u8>, pieces: &[&[u8]]) -> Result<(), NoMem>
-    ensures { OnOk result (line.new.items ≡ line.old.items ++ concat (map (λ piece. piece.now) pieces.now)) }
+    ensures { OnOk result (line.new.items
+        ≡ line.old.items ++ concat (map (λ piece. piece.now) pieces.now)) }
 {
     for piece in pieces {
         line.extend_from_slice(*piece)?;
@@ -17,7 +18,8 @@ pub fn add_all(line: &mut Vec<u8>, pieces: &[&[u8]]) -> Result<(), NoMem>
 
 /// Writes the pieces, one after another.
 pub fn write_pieces<W: Write>(to: &mut W, pieces: &[&[u8]]) -> io::Result<()>
-    ensures { OnOk result (Appends (W.contents to.old) (W.contents to.new) (concat (map (λ piece. piece.now) pieces.now))) }
+    ensures { OnOk result (Appends (W.contents to.old)
+        (W.contents to.new) (concat (map (λ piece. piece.now) pieces.now))) }
 {
     for piece in pieces {
         to.write_all(*piece)?;

@@ -280,7 +280,8 @@ fn add_window(
     settings: &mut Vec<(Text, Text)>,
     measures: Measures,
 ) -> Result<(), SplitFault>
-    ensures found { OnOk result (option_map (λ window. settings.old.items ++ window) (window_settings measures) ≡ Some settings.new.items) }
+    ensures found { OnOk result (option_map (λ window. settings.old.items
+        ++ window) (window_settings measures) ≡ Some settings.new.items) }
     ensures bad { result ≡ Err SplitFault.Bad → window_settings measures ≡ None }
 {
     let right = far_side(alloc, &measures.left, &measures.width)?;
@@ -299,7 +300,8 @@ fn add_window(
 /// that is no decimal number, or a far side that is no 32-bit word. `NoMem` where there is no memory.
 #[tactic(auto, unfolding(crate::specs::WordCut::split_of))]
 pub fn split_words(alloc: Global, words: &[Text]) -> Result<Split, SplitFault>
-    ensures found { IfOk result (λ split. split_of words.now ≡ Some (split.program.items, split.settings.items)) }
+    ensures found { IfOk result (λ split. split_of words.now
+        ≡ Some (split.program.items, split.settings.items)) }
     ensures bad { result ≡ Err SplitFault.Bad → split_of words.now ≡ None }
 {
     let items = cut(alloc, words)?;

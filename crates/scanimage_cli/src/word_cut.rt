@@ -167,7 +167,8 @@ fn item_with(alloc: Global, awaited: AwaitedValue, value: &Text) -> Result<Optio
 
 /// Adds an item; no value is awaited then.
 fn add(items: &mut Vec<Item>, item: Item) -> Result<Option<AwaitedValue>, SplitFault>
-    ensures added { IfOk result (λ next. (items.new.items ≡ items.old.items ++ item ∷ []) × (next ≡ None)) }
+    ensures added { IfOk result (λ next. (items.new.items ≡ items.old.items ++ item ∷ [])
+        × (next ≡ None)) }
     ensures fault { IfErr result (λ fault. fault ≡ SplitFault.NoMem) }
 {
     match items.push(item) {
@@ -184,7 +185,8 @@ fn take_word(
     awaited: Option<AwaitedValue>,
     word: &Text,
 ) -> Result<Option<AwaitedValue>, SplitFault>
-    ensures taken { IfOk result (λ next. with_cut_step items.old.items (cut_step awaited word.now) ≡ Some (items.new.items, next)) }
+    ensures taken { IfOk result (λ next. with_cut_step items.old.items (cut_step awaited word.now)
+        ≡ Some (items.new.items, next)) }
     ensures bad { result ≡ Err SplitFault.Bad → cut_step awaited word.now ≡ None }
 {
     match awaited {

@@ -11,11 +11,12 @@ use Rattle.system_model.specs.SystemStates.{JobState, SystemState, with_entry, l
 use Rattle.system_model.specs.Actions
 use Rattle.system_model.specs.Actions.{Action, environment_of, device_after, device_after_answer, image_off}
 use Rattle.system_model.specs.Transitions.{By, Loads, Unplugs, IsActionEnabled, with_page_laid_in, without_listing}
-use Rattle.system_model.specs.Marks.{is_feeder, Mark, DeviceView, is_busy, device_view, MayMark, view_after_mark, MarksLead, rested_if, left_marks, page_marks, tray_marks, pass_marks, start_marks, fault_marks, starts_marks, take_marks, open_marks, allow_marks, answer_marks, awaited_marks, request_marks, next_marks, lost_marks, off_marks, action_marks, marks, touched_device}
+use Rattle.system_model.specs.Marks.{Mark, DeviceView, is_busy, device_view, MayMark, view_after_mark, MarksLead, rested_if, left_marks, page_marks, tray_marks, pass_marks, start_marks, fault_marks, starts_marks, take_marks, open_marks, allow_marks, answer_marks, awaited_marks, request_marks, next_marks, lost_marks, off_marks, action_marks, marks, touched_device}
 use Rattle.system_model.specs.Marks
 use Rattle.system_model.specs.ModelPromises.{MarksAreEnabled}
 use Rattle.system_model.proofs.OtherJobs.{put_same}
 use Rattle.system_model.proofs.Treats.{is_held}
+use Rattle.device_api.specs.State.{is_feeder}
 
 -- a busy flag that is the same
 busy_same : (s : DeviceView) (b : Bool) → s.busy ≡ b → s ≡ record s { busy = b }

@@ -12,8 +12,9 @@ use Rattle.system_model.specs.AbstractDevices.{AbstractDevice, Begin, phase_afte
 use Rattle.system_model.specs.Daemon.{Quiet}
 use Rattle.system_model.specs.SystemStates.{SessionView}
 use Rattle.system_model.specs.Actions.{with_flight, with_nothing_in_flight}
-use Rattle.system_model.specs.Sync.{HoldsDevice, AllInForce, PageUnderWay, DataUnderWay, Images, InSync, IsPictureOfStart, ArePictures, Scans, no_frame_left}
+use Rattle.system_model.specs.Sync.{HoldsDevice, AllInForce, PageUnderWay, DataUnderWay, Images, InSync, IsPictureOfStart, ArePictures, Scans}
 use Rattle.system_model.specs.Invariants.{IsRight, IsRightlyDone, PagesAreOfStarts}
+use Rattle.scan_laws.specs.Joins.{no_frame_left}
 
 no_parts : (xs ys : List ℕ) → xs ++ ys ≡ [] → (xs ≡ []) × (ys ≡ [])
 no_parts [] ys e = (refl, e)

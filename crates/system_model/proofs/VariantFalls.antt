@@ -15,7 +15,7 @@ use Rattle.system_model.specs.SystemStates.{SessionView, JobState}
 use Rattle.system_model.specs.Actions
 use Rattle.system_model.specs.Actions.{Action, environment_of, served_by, session_after_answer, job_after_answer, answer_next, device_after_answer, job_after_action, device_after, with_flight, with_nothing_in_flight}
 use Rattle.system_model.specs.Transitions.{IsUnderWay, IsRunning, IsActionEnabled, ReadsFrameOf}
-use Rattle.system_model.specs.Sync.{DataUnderWay, Images, no_frame_left}
+use Rattle.system_model.specs.Sync.{DataUnderWay, Images}
 use Rattle.system_model.specs.Invariants.{IsCalm, RequestInFlight, StageInvariant}
 use Rattle.system_model.specs.Variant.{exchange_cost, page_cost, frames_cost, pages_variant, flow_variant, image_variant, stage_variant, later_pages, stage_variant_of, running_variant, control_variant_at, control_variant_of, action_cost}
 use Rattle.system_model.proofs.RightAnswers.{answers_right}
@@ -25,6 +25,7 @@ use Rattle.system_model.proofs.Kept.{heard_pages}
 use Rattle.system_model.proofs.Kept
 use Rattle.system_model.proofs.Lows.{answers_low}
 use Rattle.system_model.proofs.StageVariants.{at_least, runs_two, quiet, image_is}
+use Rattle.scan_laws.specs.Joins.{no_frame_left}
 
 -- THE CONNECTION
 connects_low : (i : ℕ) (k : Make) (p : JobState) (dev : AbstractDevice) (st : JobStage) → st ≡ Idle → StageInvariant i k p dev st → control_variant_of (Actions.after_connection p) dev + (exchange_cost + 1) ≤ control_variant_at st p dev

@@ -10,6 +10,7 @@ use Rattle.system_model.specs.SystemStates.{JobState, SystemState, listed_device
 use Rattle.system_model.specs.Actions
 use Rattle.system_model.specs.Actions.{Action, environment_of}
 use Rattle.system_model.specs.Transitions.{Transition, By, Loads, Unplugs}
+use Rattle.device_api.specs.State.{is_feeder}
 
 pub data Mark : Type 0 where
   -- client i is handed device d; it starts this page of it; the device is at rest again; it is given back
@@ -45,13 +46,6 @@ MayMark s (Rested i d) = (s.holder ≡ Some i) × (s.busy ≡ true)
 MayMark s (Returned i d) = (s.holder ≡ Some i) × (s.busy ≡ false)
 MayMark s (Loaded d page) = (s.listed ≡ true) × (s.busy ≡ false) × (has_room s.model s.tray ≡ true)
 MayMark s (Removed d) = (s.listed ≡ true) × (s.holder ≡ None)
-
--- a feeder's start takes the first page out of its tray
-abbrev pub is_feeder : Model → Bool
-is_feeder Feeder = true
-is_feeder Flatbed = false
-is_feeder Hand = false
-is_feeder ThreePass = false
 
 abbrev pub view_after_mark : DeviceView → Mark → DeviceView
 view_after_mark s (Took i d) = record s { holder = Some i }

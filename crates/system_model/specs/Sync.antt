@@ -12,10 +12,7 @@ use Rattle.system_model.specs.AbstractDevices.{AbstractDevice, Begin, ScanPhase,
 use Rattle.system_model.specs.Daemon.{Quiet, Waiting, Streaming}
 use Rattle.system_model.specs.Causes.{IsExplained}
 use Rattle.system_model.specs.SystemStates.{SessionView}
-
-abbrev pub no_frame_left : List Frame → Bool
-no_frame_left [] = true
-no_frame_left (f ∷ more) = false
+use Rattle.scan_laws.specs.Joins.{no_frame_left}
 
 -- the join of frames takes these frames behind those
 abbrev pub AreJoinable : Order → List Frame → List Frame → Type 0

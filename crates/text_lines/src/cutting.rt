@@ -26,7 +26,8 @@ pub fn first_line(text: &[u8]) -> Option<(&[u8], &[u8])>
     ensures found { IfSome result (λ cut. IsFirstLine text.now cut.0.now cut.1.now) }
     ensures none { IfNone result (text.now ≡ []) }
     // The same by the whole list of lines, for definitions that go on from it.
-    ensures lines { MatchOption result (lines_of text.now ≡ []) (λ cut. lines_of text.now ≡ cut.0.now ∷ lines_of cut.1.now) }
+    ensures lines { MatchOption result (lines_of text.now
+        ≡ []) (λ cut. lines_of text.now ≡ cut.0.now ∷ lines_of cut.1.now) }
     ensures shorter { IfSome result (λ cut. length cut.1.now < length text.now) }
 {
     match split_once(text, b'\n') {

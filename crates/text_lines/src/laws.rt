@@ -4,5 +4,6 @@ ghost use Rattle.text_lines.specs.Lines.{AreLines, lines_of};
 /// A text is cut into lines in one way, and `lines_of` is it.
 pub fn lines_are_cut()
     ensures cut { (text : List ℕ) → AreLines (lines_of text) text }
-    ensures one_way { (text : List ℕ) (cut : List (List ℕ)) → AreLines cut text → cut ≡ lines_of text }
+    ensures one_way { (text : List ℕ) (cut : List (List ℕ))
+        → AreLines cut text → cut ≡ lines_of text }
 {}

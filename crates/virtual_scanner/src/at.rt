@@ -66,7 +66,9 @@ pub fn answer_read(
     requires setup { IsSetup setup.now }
     requires frame { IsFrame (source_state source.old) setup.now frame.old }
     requires buf { 0 < length buf.old }
-    ensures { AnswersRead (read_status_at setup.now.told (given_in frame.old)) (source_state source.old) setup.now frame.old result (source_state source.new) frame.new buf.new }
+    ensures { AnswersRead (read_status_at setup.now.told (given_in frame.old))
+        (source_state source.old) setup.now frame.old result
+        (source_state source.new) frame.new buf.new }
 {
     if frame.is_new() {
         if let Some(status) = setup.told {

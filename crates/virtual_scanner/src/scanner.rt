@@ -81,7 +81,8 @@ impl VirtualScanner {
         order: ByteOrder,
     ) -> Result<Self, Source>
         requires { is_feeder kind ≡ false }
-        ensures ok { IfOk result (λ scanner. scanner ≡ new_scanner kind name (source_state source) order) }
+        ensures ok { IfOk result (λ scanner. scanner
+            ≡ new_scanner kind name (source_state source) order) }
         ensures err { IfErr result (λ back. back ≡ source) }
     {
         let Ok(info) = device_info(alloc, kind, name) else {
@@ -108,7 +109,8 @@ impl VirtualScanner {
         order: ByteOrder,
     ) -> Result<Self, Vec<Source>>
         requires { vec_len pages ≤ tray_room }
-        ensures ok { IfOk result (λ scanner. scanner ≡ new_device Feeder name (map source_state pages.items) order) }
+        ensures ok { IfOk result (λ scanner. scanner
+            ≡ new_device Feeder name (map source_state pages.items) order) }
         ensures err { IfErr result (λ back. back.items ≡ pages.items) }
     {
         let mut tray = pages;

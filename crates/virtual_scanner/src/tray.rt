@@ -48,7 +48,8 @@ pub fn begin_frame(
 ) -> Result<FrameRows, BeginFault>
     requires page { 0 < vec_len tray.old }
     requires setup { IsSetup setup.now }
-    ensures begins { OnFirst (λ s t. BeginsPass s setup.now pass result t) (map source_state tray.old.items) (map source_state tray.new.items) }
+    ensures begins { OnFirst (λ s t. BeginsPass s setup.now pass result t)
+        (map source_state tray.old.items) (map source_state tray.new.items) }
     ensures room { vec_capacity tray.new ≡ vec_capacity tray.old }
 {
     FrameRows::begin(alloc, &mut tray[0], setup, pass)
@@ -62,9 +63,12 @@ pub fn read_frame(
     buf: &mut [u8],
 ) -> Result<usize, Status>
     requires setup { IsSetup setup.now }
-    requires frame { OfFirst (λ s. IsFrame s setup.now frame.old) (map source_state tray.old.items) }
+    requires frame { OfFirst (λ s. IsFrame s setup.now frame.old)
+        (map source_state tray.old.items) }
     requires buf { 0 < length buf.old }
-    ensures answers { OnFirst (λ s t. AnswersRead (read_status_at setup.now.told (given_in frame.old)) s setup.now frame.old result t frame.new buf.new) (map source_state tray.old.items) (map source_state tray.new.items) }
+    ensures answers { OnFirst (λ s t. AnswersRead (read_status_at setup.now.told
+        (given_in frame.old)) s setup.now frame.old result t frame.new buf.new)
+        (map source_state tray.old.items) (map source_state tray.new.items) }
     ensures room { vec_capacity tray.new ≡ vec_capacity tray.old }
 {
     answer_read(frame, &mut tray[0], setup, buf)

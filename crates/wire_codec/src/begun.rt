@@ -108,7 +108,8 @@ where
     requires left { 0 < elements.old.left }
     ensures on { ReadsElements E.format bytes.now elements.old elements.new }
     ensures ok { OnOk result (elements.new.left + 1 ≡ elements.old.left) }
-    ensures err { IfErr result (λ e. ReadingFails e (E.format.read (drop elements.new.used bytes.now)) × (0 < elements.new.left)) }
+    ensures err { IfErr result (λ e. ReadingFails e
+        (E.format.read (drop elements.new.used bytes.now)) × (0 < elements.new.left)) }
 {
     let part = rest_of_array(bytes, elements.used);
     let (value, rest) = E::take(alloc, part)?;
@@ -130,7 +131,8 @@ where
     requires { elements.old.used ≤ length bytes.now }
     ensures on { ReadsElements E.format bytes.now elements.old elements.new }
     ensures ok { OnOk result (elements.new.left ≡ 0) }
-    ensures err { IfErr result (λ e. ReadingFails e (E.format.read (drop elements.new.used bytes.now)) × (0 < elements.new.left)) }
+    ensures err { IfErr result (λ e. ReadingFails e
+        (E.format.read (drop elements.new.used bytes.now)) × (0 < elements.new.left)) }
 {
     let count = elements.left;
     for _ in 0..count {
@@ -144,7 +146,8 @@ where
 fn begin_devices(alloc: Global, bytes: &[u8]) -> Result<Devices, ReadError>
     requires { length bytes.now ≤ message_limit }
     ensures ok { IfOk result (DevicesBegun bytes.now) }
-    ensures err { IfErr result (λ e. ReadingFails e ((reply_format Procedure.GetDevices).read bytes.now)) }
+    ensures err { IfErr result
+        (λ e. ReadingFails e ((reply_format Procedure.GetDevices).read bytes.now)) }
 {
     let (status, behind_status) = status(bytes)?;
     let (count, rest) = up_to(behind_status, 1024)?;
@@ -185,7 +188,8 @@ fn end_devices<'a>(
     requires short { length bytes.now ≤ message_limit }
     requires begun { DevicesBegun bytes.now devices }
     ensures kept { IfSome begun.new (DevicesBegun bytes.now) }
-    ensures read { Gives (λ x. (x.0, x.1.now)) result ((reply_format Procedure.GetDevices).read bytes.now) }
+    ensures read { Gives (λ x. (x.0, x.1.now)) result
+        ((reply_format Procedure.GetDevices).read bytes.now) }
 {
     *begun = None;
     match read_on::<NextDevice>(alloc, &mut devices.elements, bytes) {
@@ -221,7 +225,8 @@ pub(crate) fn devices_reply<'a>(
     requires short { length bytes.now ≤ message_limit }
     requires begun { IfSome begun.old (DevicesBegun bytes.now) }
     ensures kept { IfSome begun.new (DevicesBegun bytes.now) }
-    ensures read { Gives (λ x. (x.0, x.1.now)) result ((reply_format Procedure.GetDevices).read bytes.now) }
+    ensures read { Gives (λ x. (x.0, x.1.now)) result
+        ((reply_format Procedure.GetDevices).read bytes.now) }
 {
     let devices = match begun.take() {
         Some(devices) => devices,
@@ -235,7 +240,8 @@ pub(crate) fn devices_reply<'a>(
 fn begin_options(alloc: Global, bytes: &[u8]) -> Result<Elements<Descriptor>, ReadError>
     requires { length bytes.now ≤ message_limit }
     ensures ok { IfOk result (OptionsBegun bytes.now) }
-    ensures err { IfErr result (λ e. ReadingFails e ((reply_format Procedure.GetOptionDescriptors).read bytes.now)) }
+    ensures err { IfErr result
+        (λ e. ReadingFails e ((reply_format Procedure.GetOptionDescriptors).read bytes.now)) }
 {
     let (left, rest) = up_to(bytes, 1024)?;
     let used = used_bytes(bytes, rest);
@@ -256,7 +262,8 @@ fn end_options<'a>(
     requires short { length bytes.now ≤ message_limit }
     requires begun { OptionsBegun bytes.now elements }
     ensures kept { IfSome begun.new (OptionsBegun bytes.now) }
-    ensures read { Gives (λ x. (x.0, x.1.now)) result ((reply_format Procedure.GetOptionDescriptors).read bytes.now) }
+    ensures read { Gives (λ x. (x.0, x.1.now)) result
+        ((reply_format Procedure.GetOptionDescriptors).read bytes.now) }
 {
     *begun = None;
     match read_on::<NextDescriptor>(alloc, &mut elements, bytes) {
@@ -281,7 +288,8 @@ pub(crate) fn options_reply<'a>(
     requires short { length bytes.now ≤ message_limit }
     requires begun { IfSome begun.old (OptionsBegun bytes.now) }
     ensures kept { IfSome begun.new (OptionsBegun bytes.now) }
-    ensures read { Gives (λ x. (x.0, x.1.now)) result ((reply_format Procedure.GetOptionDescriptors).read bytes.now) }
+    ensures read { Gives (λ x. (x.0, x.1.now)) result
+        ((reply_format Procedure.GetOptionDescriptors).read bytes.now) }
 {
     let elements = match begun.take() {
         Some(elements) => elements,

@@ -19,7 +19,8 @@ use wire_message::{MESSAGE_LIMIT, Procedure, Reply, Request, WireFault};
 
 /// The first request of the bytes, and how many of them spell it.
 fn first_request(alloc: Global, bytes: &[u8]) -> Result<(Request, usize), ReadError>
-    ensures read { Gives (λ x. (x.0, drop x.1 bytes.now)) result ((limited_format message_limit request_format).read bytes.now) }
+    ensures read { Gives (λ x. (x.0, drop x.1 bytes.now)) result
+        ((limited_format message_limit request_format).read bytes.now) }
     ensures used { IfOk result (λ x. x.1 ≤ length bytes.now) }
     ensures bytes { IsBytes bytes.now }
 {
@@ -39,7 +40,8 @@ fn first_reply(
 ) -> Result<(Reply, usize), ReadError>
     requires { ArraysAreReadSoFar bytes.now begun.old }
     ensures kept { ArraysAreReadSoFar bytes.now begun.new }
-    ensures read { Gives (λ x. (x.0, drop x.1 bytes.now)) result ((limited_format message_limit (reply_format procedure)).read bytes.now) }
+    ensures read { Gives (λ x. (x.0, drop x.1 bytes.now)) result
+        ((limited_format message_limit (reply_format procedure)).read bytes.now) }
     ensures used { IfOk result (λ x. x.1 ≤ length bytes.now) }
     ensures bytes { IsBytes bytes.now }
 {
@@ -117,7 +119,8 @@ fn is_same(one: Option<Procedure>, other: Option<Procedure>) -> bool
 /// What is still wanted of the rest, where nothing else is to be told yet.
 fn waits_on(pending: Pending, rest: &[u8]) -> Option<Pending>
     requires { IsPending rest.now pending }
-    ensures waits { IfSome result (λ p. IsPending rest.now p × (p.procedure ≡ pending.procedure) × (p.seen ≡ length rest.now)) }
+    ensures waits { IfSome result (λ p. IsPending rest.now p
+        × (p.procedure ≡ pending.procedure) × (p.seen ≡ length rest.now)) }
     ensures stops { IfSome result (λ p. StopsForMore pending.procedure rest.now p.wanted) }
     ensures bytes { IsBytes rest.now }
 {
@@ -158,13 +161,16 @@ impl Decoder {
 
     /// Takes the next piece of the stream. A fault that was answered is answered again.
     pub fn feed(&mut self, piece: &[u8]) -> Result<(), WireFault>
-        ensures ok { OnOk result (self.new ≡ record { rest = self.old.rest ++ piece.now; fault = None }) }
+        ensures ok { OnOk result (self.new
+            ≡ record { rest = self.old.rest ++ piece.now; fault = None }) }
         ensures kept { IfSome self.old.fault (λ f. (result ≡ Err f) × (self.new ≡ self.old)) }
         ensures err { IfErr result (λ f. self.new.fault ≡ Some f) }
         ensures first { self.old.fault ≡ None → IfErr result (λ f. f ≡ WireFault.NoMem) }
         // What was fed are the spellings of what was taken, and then the rest; a piece that is refused was not fed.
-        ensures history { (fed : List ℕ) (taken : List TakenMessage) → HasDecoded fed taken self.old → OnOk result (HasDecoded (fed ++ piece.now) taken self.new) }
-        ensures refused { (fed : List ℕ) (taken : List TakenMessage) → HasDecoded fed taken self.old → OnErr result (HasDecoded fed taken self.new) }
+        ensures history { (fed : List ℕ) (taken : List TakenMessage) → HasDecoded fed taken self.old
+            → OnOk result (HasDecoded (fed ++ piece.now) taken self.new) }
+        ensures refused { (fed : List ℕ) (taken : List TakenMessage)
+            → HasDecoded fed taken self.old → OnErr result (HasDecoded fed taken self.new) }
     {
         if let Some(fault) = self.fault {
             return Err(fault);
@@ -183,7 +189,8 @@ impl Decoder {
     /// Whether the rest was read before for the same message, and nothing else is to be told yet.
     fn still_waits(&mut self, procedure: Option<Procedure>) -> bool
         ensures same { self.new ≡ self.old }
-        ensures waits { IsTrue result → (wanted : AnyWanted) × StopsForMore procedure self.old.rest wanted }
+        ensures waits { IsTrue result
+            → (wanted : AnyWanted) × StopsForMore procedure self.old.rest wanted }
         ensures bytes { IsTrue result → IsBytes self.old.rest }
     {
         let Some(pending) = self.pending else {
@@ -208,7 +215,8 @@ impl Decoder {
         error: ReadError,
     ) -> Result<Option<T>, WireFault>
         requires free { self.old.fault ≡ None }
-        requires waits { (wanted : AnyWanted) → error ≡ ReadError.Stop (More wanted) → StopsForMore procedure self.old.rest wanted }
+        requires waits { (wanted : AnyWanted)
+            → error ≡ ReadError.Stop (More wanted) → StopsForMore procedure self.old.rest wanted }
         ensures { Stops result self.old self.new error }
     {
         match error {
@@ -237,7 +245,8 @@ impl Decoder {
     fn read_request(&mut self, alloc: Global) -> Result<Option<Request>, WireFault>
         ensures kept { IfSome self.old.fault (λ f. (result ≡ Err f) × (self.new ≡ self.old)) }
         ensures bytes { self.old.fault ≡ None → IsBytes self.old.rest }
-        ensures exact { self.old.fault ≡ None → DecodesTo result self.old self.new ((limited_format message_limit request_format).read self.old.rest) }
+        ensures exact { self.old.fault ≡ None → DecodesTo result self.old self.new
+            ((limited_format message_limit request_format).read self.old.rest) }
     {
         if let Some(fault) = self.fault {
             return Err(fault);
@@ -264,7 +273,8 @@ impl Decoder {
     ) -> Result<Option<Reply>, WireFault>
         ensures kept { IfSome self.old.fault (λ f. (result ≡ Err f) × (self.new ≡ self.old)) }
         ensures bytes { self.old.fault ≡ None → IsBytes self.old.rest }
-        ensures exact { self.old.fault ≡ None → DecodesTo result self.old self.new ((limited_format message_limit (reply_format procedure)).read self.old.rest) }
+        ensures exact { self.old.fault ≡ None → DecodesTo result self.old self.new
+            ((limited_format message_limit (reply_format procedure)).read self.old.rest) }
     {
         if let Some(fault) = self.fault {
             return Err(fault);
@@ -286,18 +296,23 @@ impl Decoder {
     /// The next request; `None` where more bytes are wanted. The first fault is answered from then on.
     pub fn next_request(&mut self, alloc: Global) -> Result<Option<Request>, WireFault>
         // The bytes are a spelling of what is taken, and then the rest.
-        ensures taken { IfOk result (λ m. IfSome m (λ r. (self.new.fault ≡ None)
-            × SpellsFront (limited_format message_limit request_format) self.old.rest self.new.rest r)) }
+        ensures taken { IfOk result (λ m. IfSome m (λ r. (self.new.fault ≡ None) × SpellsFront
+            (limited_format message_limit request_format) self.old.rest self.new.rest r)) }
         // More bytes are wanted where a spelling has begun, within the limit.
-        ensures none { result ≡ Ok None → (self.new ≡ self.old) × NeedsMore message_limit request_format self.old.rest }
+        ensures none { result ≡ Ok None
+            → (self.new ≡ self.old) × NeedsMore message_limit request_format self.old.rest }
         // A first fault comes where no spelling stands and none has begun, or memory ran out.
-        ensures first { self.old.fault ≡ None → IfErr result (λ f. f ≢ WireFault.NoMem → IsNoStart message_limit request_format self.old.rest) }
+        ensures first { self.old.fault ≡ None → IfErr result (λ f. f ≢ WireFault.NoMem
+            → IsNoStart message_limit request_format self.old.rest) }
         // It is that of the first word or byte at which no spelling stands.
-        ensures which { self.old.fault ≡ None → IfErr result (λ f. f ≢ WireFault.NoMem → IsFaultOf message_limit request_format self.old.rest f) }
+        ensures which { self.old.fault ≡ None → IfErr result (λ f. f ≢ WireFault.NoMem
+            → IsFaultOf message_limit request_format self.old.rest f) }
         ensures err { IfErr result (λ f. self.new ≡ with_decoder_fault self.old f) }
         ensures kept { IfSome self.old.fault (λ f. result ≡ Err f) }
         // What was fed are the spellings of what was taken, and then the rest.
-        ensures history { (fed : List ℕ) (taken : List TakenMessage) → HasDecoded fed taken self.old → IfOk result (λ m. IfSome m (λ r. HasDecoded fed (taken ++ TakenRequest r ∷ []) self.new)) }
+        ensures history { (fed : List ℕ) (taken : List TakenMessage)
+            → HasDecoded fed taken self.old → IfOk result
+            (λ m. IfSome m (λ r. HasDecoded fed (taken ++ TakenRequest r ∷ []) self.new)) }
     {
         self.read_request(alloc)
     }
@@ -310,18 +325,24 @@ impl Decoder {
         procedure: Procedure,
     ) -> Result<Option<Reply>, WireFault>
         // The bytes are a spelling of what is taken, and then the rest.
-        ensures taken { IfOk result (λ m. IfSome m (λ r. (self.new.fault ≡ None)
-            × SpellsFront (limited_format message_limit (reply_format procedure)) self.old.rest self.new.rest r)) }
+        ensures taken { IfOk result
+            (λ m. IfSome m (λ r. (self.new.fault ≡ None) × SpellsFront (limited_format message_limit
+            (reply_format procedure)) self.old.rest self.new.rest r)) }
         // More bytes are wanted where a spelling has begun, within the limit.
-        ensures none { result ≡ Ok None → (self.new ≡ self.old) × NeedsMore message_limit (reply_format procedure) self.old.rest }
+        ensures none { result ≡ Ok None → (self.new ≡ self.old)
+            × NeedsMore message_limit (reply_format procedure) self.old.rest }
         // A first fault comes where no spelling stands and none has begun, or memory ran out.
-        ensures first { self.old.fault ≡ None → IfErr result (λ f. f ≢ WireFault.NoMem → IsNoStart message_limit (reply_format procedure) self.old.rest) }
+        ensures first { self.old.fault ≡ None → IfErr result (λ f. f ≢ WireFault.NoMem
+            → IsNoStart message_limit (reply_format procedure) self.old.rest) }
         // It is that of the first word or byte at which no spelling stands.
-        ensures which { self.old.fault ≡ None → IfErr result (λ f. f ≢ WireFault.NoMem → IsFaultOf message_limit (reply_format procedure) self.old.rest f) }
+        ensures which { self.old.fault ≡ None → IfErr result (λ f. f ≢ WireFault.NoMem
+            → IsFaultOf message_limit (reply_format procedure) self.old.rest f) }
         ensures err { IfErr result (λ f. self.new ≡ with_decoder_fault self.old f) }
         ensures kept { IfSome self.old.fault (λ f. result ≡ Err f) }
         // What was fed are the spellings of what was taken, and then the rest.
-        ensures history { (fed : List ℕ) (taken : List TakenMessage) → HasDecoded fed taken self.old → IfOk result (λ m. IfSome m (λ r. HasDecoded fed (taken ++ TakenReply procedure r ∷ []) self.new)) }
+        ensures history { (fed : List ℕ) (taken : List TakenMessage)
+            → HasDecoded fed taken self.old → IfOk result
+            (λ m. IfSome m (λ r. HasDecoded fed (taken ++ TakenReply procedure r ∷ []) self.new)) }
     {
         self.read_reply(alloc, procedure)
     }

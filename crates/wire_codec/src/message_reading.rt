@@ -217,7 +217,8 @@ fn last_entry(alloc: Global, bytes: &[u8]) -> Result<(Option<Text>, &[u8]), Read
 fn last_of(alloc: Global, count: u32, bytes: &[u8]) -> Result<(Option<Text>, &[u8]), ReadError>
     ensures one { count ≡ 1 → IfOk result (λ x. IsSome x.0) }
     ensures longest { count ≡ 1024 → IfOk result (λ x. IsNone x.0) }
-    ensures read { Gives (λ x. (option_list x.0, x.1.now)) result ((last_of (last_in count)).read bytes.now) }
+    ensures read { Gives (λ x. (option_list x.0, x.1.now)) result
+        ((last_of (last_in count)).read bytes.now) }
 {
     if count == 1 {
         let (only, rest) = Entry::read(alloc, bytes)?;
@@ -382,7 +383,8 @@ fn authorize(alloc: Global, bytes: &[u8]) -> Result<(Request, &[u8]), ReadError>
 }
 
 fn control_option(alloc: Global, bytes: &[u8]) -> Result<(Request, &[u8]), ReadError>
-    ensures { Gives (λ x. (x.0, x.1.now)) result ((arguments Procedure.ControlOption).read bytes.now) }
+    ensures { Gives (λ x. (x.0, x.1.now)) result
+        ((arguments Procedure.ControlOption).read bytes.now) }
 {
     let (device, rest) = any_word(bytes)?;
     let (option, rest) = any_word(rest)?;

@@ -49,7 +49,8 @@ pub(crate) fn up_to(bytes: &[u8], high: u32) -> Result<(u32, &[u8]), ReadError>
 /// A length of at least so much, and at most 1,024.
 pub(crate) fn length_from(bytes: &[u8], low: u32) -> Result<(u32, &[u8]), ReadError>
     ensures within { IfOk result (λ x. (low ≤ x.0) × (x.0 ≤ 1024)) }
-    ensures read { Gives (λ x. (x.0, x.1.now)) result ((word_of_kind (length_from low)).read bytes.now) }
+    ensures read { Gives (λ x. (x.0, x.1.now)) result
+        ((word_of_kind (length_from low)).read bytes.now) }
 {
     match split_word(bytes) {
         Word::Whole(n, rest) => {

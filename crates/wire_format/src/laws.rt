@@ -46,13 +46,14 @@ pub fn one_text_spells_one_value<A: Readable>()
 
 /// No spelling is a proper prefix of another.
 pub fn no_spelling_is_a_proper_prefix<A: Readable>()
-    ensures { (text more : List ℕ) (a b : A) → A.format.spells text a → A.format.spells (text ++ more) b → more ≡ [] }
+    ensures { (text more : List ℕ) (a b : A)
+        → A.format.spells text a → A.format.spells (text ++ more) b → more ≡ [] }
 {}
 
 /// Fronts of the same bytes have the same fault.
 pub fn one_fault_stands_first<A: Readable>()
-    ensures { (front rest other left : List ℕ) (f g : AnyFault) → IsBytes (front ++ rest) → front ++ rest ≡ other ++ left
-        → A.format.spoils front f → A.format.spoils other g → f ≡ g }
+    ensures { (front rest other left : List ℕ) (f g : AnyFault) → IsBytes (front ++ rest) → front
+        ++ rest ≡ other ++ left → A.format.spoils front f → A.format.spoils other g → f ≡ g }
 {}
 
 /// Nothing is a lawful format of a value that is known.
@@ -100,21 +101,27 @@ pub fn runs_are_lawful(least: u8, count: usize)
 /// Reading at most `limit` bytes: the laws of reading, with what a limit makes of them.
 pub fn reading_keeps_a_limit<A: Readable>(limit: usize)
     // What is read is spelled within the limit, and the rest stands behind it.
-    ensures sound { (bytes rest : List ℕ) (a : A) → IsBytes bytes → (limited_format limit A.format).read bytes ≡ Ok (a, rest)
+    ensures sound { (bytes rest : List ℕ) (a : A)
+        → IsBytes bytes → (limited_format limit A.format).read bytes ≡ Ok (a, rest)
         → SpellsFront (limited_format limit A.format) bytes rest a }
     // What is spelled within the limit is read, whatever follows.
     ensures complete { (text rest : List ℕ) (a : A) → (limited_format limit A.format).spells text a
         → (limited_format limit A.format).read (text ++ rest) ≡ Ok (a, rest) }
     // More is wanted only within the limit, where some continuation is spelled.
-    ensures more { (bytes : List ℕ) (wanted : AnyWanted) → IsBytes bytes → (limited_format limit A.format).read bytes ≡ Err (More wanted)
+    ensures more { (bytes : List ℕ) (wanted : AnyWanted)
+        → IsBytes bytes → (limited_format limit A.format).read bytes ≡ Err (More wanted)
         → NeedsMore limit A.format bytes }
     // Until as many bytes as are wanted have come, nothing else is to be told, unless one is below the least.
-    ensures waits { (bytes more : List ℕ) (wanted : AnyWanted) → IsBytes (bytes ++ more) → (limited_format limit A.format).read bytes ≡ Err (More wanted)
-        → IsStillWaiting wanted more → length (bytes ++ more) ≤ limit
-        → (limited_format limit A.format).read (bytes ++ more) ≡ Err (More (still_missing wanted (length more))) }
+    ensures waits { (bytes more : List ℕ) (wanted : AnyWanted)
+        → IsBytes (bytes ++ more) → (limited_format limit A.format).read bytes ≡ Err (More wanted)
+        → IsStillWaiting wanted more
+        → length (bytes ++ more) ≤ limit → (limited_format limit A.format).read (bytes ++ more)
+        ≡ Err (More (still_missing wanted (length more))) }
     // A fault comes only where no front is a spelling, and the bytes are past the limit or begin none.
-    ensures bad { (bytes : List ℕ) (fault : AnyFault) → (limited_format limit A.format).read bytes ≡ Err (Bad fault) → IsNoStart limit A.format bytes }
+    ensures bad { (bytes : List ℕ) (fault : AnyFault) → (limited_format limit A.format).read bytes
+        ≡ Err (Bad fault) → IsNoStart limit A.format bytes }
     // It is that of the first word or byte at which no spelling stands.
-    ensures first { (bytes : List ℕ) (fault : AnyFault) → IsBytes bytes → (limited_format limit A.format).read bytes ≡ Err (Bad fault)
+    ensures first { (bytes : List ℕ) (fault : AnyFault)
+        → IsBytes bytes → (limited_format limit A.format).read bytes ≡ Err (Bad fault)
         → IsFirstFault limit A.format bytes fault }
 {}

@@ -26,7 +26,8 @@ pub fn places<R: Reader>(
 ) -> Result<(Vec<R::Value>, &[u8]), ReadError>
 where
     R::Value: Drop,
-    ensures read { Gives (λ x. (x.0.items, x.1.now)) result ((places count R.format).read bytes.now) }
+    ensures read { Gives (λ x. (x.0.items, x.1.now)) result
+        ((places count R.format).read bytes.now) }
     ensures count { IfOk result (λ x. length x.0.items ≡ count) }
 {
     let mut values = Vec::new(alloc);
@@ -68,7 +69,8 @@ pub fn is_any_long<E: Encoder>(values: &[E::Value]) -> bool
 
 /// Writes the values one after another.
 pub fn put_all<E: Encoder>(out: &mut Vec<u8>, values: &[E::Value]) -> Result<(), WriteError>
-    ensures { PutsBehind result out.old.items out.new.items ((write_places (length values.now) E.writer).text values.now) }
+    ensures { PutsBehind result out.old.items out.new.items
+        ((write_places (length values.now) E.writer).text values.now) }
 {
     for value in values {
         E::put(out, value)?;

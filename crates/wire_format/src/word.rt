@@ -60,7 +60,8 @@ pub fn word_between(
     high: u32,
     fault: Fault,
 ) -> Result<(u32, &[u8]), ReadError>
-    ensures { Gives (λ x. (x.0, x.1.now)) result ((word_of_kind (between low high fault)).read bytes.now) }
+    ensures { Gives (λ x. (x.0, x.1.now)) result
+        ((word_of_kind (between low high fault)).read bytes.now) }
 {
     match split_word(bytes) {
         Word::Whole(n, rest) => {

@@ -49,10 +49,12 @@ pub trait NumberedKind: Sized {
 /// What a writer answers: a spelling of the value; `TooLong` exactly where a limit is passed; else
 /// `BadValue`, and nothing spells the value.
 pub fn what_is_written_is_spelled<A: HasWriting>()
-    ensures spelled { (a : A) (text : List ℕ) → encoding_or_fault A.writer a ≡ Ok text → A.format.spells text a }
-    ensures too_long { (a : A) → (encoding_or_fault A.writer a ≡ Err TooLong) ↔ (A.writer.long a ≡ true) }
-    ensures bad { (a : A) (fault : AnyFault) → encoding_or_fault A.writer a ≡ Err fault → fault ≢ TooLong
-        → (fault ≡ BadValue) × ((text : List ℕ) → A.format.spells text a → ⊥) }
+    ensures spelled { (a : A) (text : List ℕ)
+        → encoding_or_fault A.writer a ≡ Ok text → A.format.spells text a }
+    ensures too_long { (a : A)
+        → (encoding_or_fault A.writer a ≡ Err TooLong) ↔ (A.writer.long a ≡ true) }
+    ensures bad { (a : A) (fault : AnyFault) → encoding_or_fault A.writer a ≡ Err fault
+        → fault ≢ TooLong → (fault ≡ BadValue) × ((text : List ℕ) → A.format.spells text a → ⊥) }
 {}
 
 /// Nothing is written of a value that is known.
@@ -73,12 +75,14 @@ pub fn one_after_another_is_written<A: HasWriting, B: HasWritingBehind<A>>()
 
 /// A value that is made of another is written as what it is made of.
 pub fn what_is_made_of_another_is_written<A: HasWriting, B: MadeOf<A>>()
-    ensures { (b : B) → IsMadeOf B.part A.format B.make b → WritesFormat (map_format B.make A.format) (write_by B.part A.writer) b }
+    ensures { (b : B) → IsMadeOf B.part A.format B.make b
+        → WritesFormat (map_format B.make A.format) (write_by B.part A.writer) b }
 {}
 
 /// Values at `count` places are written so.
 pub fn values_at_places_are_written<A: HasWriting>(count: u32)
-    ensures { (all : List A) → WritesFormat (places count A.format) (write_places count A.writer) all }
+    ensures { (all : List A)
+        → WritesFormat (places count A.format) (write_places count A.writer) all }
 {}
 
 /// A word of a kind is written by its value's number.
@@ -88,7 +92,8 @@ pub fn words_of_a_kind_are_written<A: NumberedKind>()
 
 /// A word from `low` to `high` is written as it is.
 pub fn words_between_are_written(low: u32, high: u32, fault: Fault)
-    ensures { (n : ℕ) → WritesFormat (word_of_kind (between low high fault)) (write_word (between low high fault) (λ n. n)) n }
+    ensures { (n : ℕ) → WritesFormat (word_of_kind (between low high fault))
+        (write_word (between low high fault) (λ n. n)) n }
 {}
 
 /// A byte from `low` to `high` is written as it is.
@@ -103,5 +108,6 @@ pub fn runs_are_written(least: u8, count: usize)
 
 /// A limit is kept by what is written; a value whose text goes past it is too long.
 pub fn writing_keeps_a_limit<A: HasWriting>(limit: usize)
-    ensures { (a : A) → WritesFormat (limited_format limit A.format) (write_limited limit A.writer) a }
+    ensures { (a : A)
+        → WritesFormat (limited_format limit A.format) (write_limited limit A.writer) a }
 {}

@@ -33,7 +33,8 @@ pub fn put_word_between(
     high: u32,
     fault: Fault,
 ) -> Result<(), WriteError>
-    ensures { PutsBehind result out.old.items out.new.items ((write_word (between low high fault) (λ n. n)).text n) }
+    ensures { PutsBehind result out.old.items out.new.items
+        ((write_word (between low high fault) (λ n. n)).text n) }
 {
     let _fault = fault;
     if n < low || high < n {
@@ -63,7 +64,8 @@ fn may_all_run(bytes: &[u8], least: u8) -> bool
 
 /// Writes a run of `count` bytes, none of them below `least`.
 pub fn put_run(out: &mut Vec<u8>, bytes: &[u8], least: u8, count: usize) -> Result<(), WriteError>
-    ensures { PutsBehind result out.old.items out.new.items ((write_run least count).text bytes.now) }
+    ensures { PutsBehind result out.old.items out.new.items
+        ((write_run least count).text bytes.now) }
 {
     if !may_all_run(bytes, least) || bytes.len() != count {
         return Err(WriteError::Unspelled);

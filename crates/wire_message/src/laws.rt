@@ -9,12 +9,16 @@ use crate::message::Procedure;
 
 /// One text spells at most one request, and no spelling of a request is a proper prefix of another.
 pub fn requests_are_spelled_apart()
-    ensures value { (text : List ℕ) (a b : AnyRequest) → request.spells text a → request.spells text b → a ≡ b }
-    ensures prefix { (text more : List ℕ) (a b : AnyRequest) → request.spells text a → request.spells (text ++ more) b → more ≡ [] }
+    ensures value { (text : List ℕ) (a b : AnyRequest)
+        → request.spells text a → request.spells text b → a ≡ b }
+    ensures prefix { (text more : List ℕ) (a b : AnyRequest)
+        → request.spells text a → request.spells (text ++ more) b → more ≡ [] }
 {}
 
 /// The same of the replies to a procedure.
 pub fn replies_are_spelled_apart(procedure: Procedure)
-    ensures value { (text : List ℕ) (a b : AnyReply) → (reply procedure).spells text a → (reply procedure).spells text b → a ≡ b }
-    ensures prefix { (text more : List ℕ) (a b : AnyReply) → (reply procedure).spells text a → (reply procedure).spells (text ++ more) b → more ≡ [] }
+    ensures value { (text : List ℕ) (a b : AnyReply)
+        → (reply procedure).spells text a → (reply procedure).spells text b → a ≡ b }
+    ensures prefix { (text more : List ℕ) (a b : AnyReply)
+        → (reply procedure).spells text a → (reply procedure).spells (text ++ more) b → more ≡ [] }
 {}

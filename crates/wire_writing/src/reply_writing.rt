@@ -241,7 +241,8 @@ fn are_long_descriptors(descriptors: &Array<Descriptor>) -> bool
 }
 
 fn put_descriptors(out: &mut Vec<u8>, descriptors: &Array<Descriptor>) -> Result<(), WriteError>
-    ensures { PutsBehind result out.old.items out.new.items (write_descriptors.text descriptors.now) }
+    ensures { PutsBehind result out.old.items out.new.items
+        (write_descriptors.text descriptors.now) }
 {
     let descriptors = descriptors.as_slice();
     if descriptors.len() > 1024 {
@@ -389,11 +390,15 @@ impl Encoder for AnyReply {
 /// The bytes of a reply to the procedure that it answers: its text, `TooLong` exactly where a limit is passed, else
 /// `BadValue` exactly where nothing spells it, as that to `Exit`.
 pub fn encode_reply(alloc: Global, reply: &Reply) -> Result<Vec<u8>, WireFault>
-    ensures ok { IfOk result (λ v. (limited_format message_limit (reply_format (replied_procedure reply.now))).spells v.items reply.now) }
+    ensures ok { IfOk result (λ v. (limited_format message_limit
+        (reply_format (replied_procedure reply.now))).spells v.items reply.now) }
     ensures text { IfOk result (λ v. write_reply.text reply.now ≡ Some v.items) }
-    ensures long { result ≢ Err WireFault.NoMem → (result ≡ Err WireFault.TooLong) ↔ PassesLimit (reply_passes reply.now) (write_reply.text reply.now) }
-    ensures bad { IfErr result (λ e. e ≢ WireFault.NoMem → e ≢ WireFault.TooLong
-        → (e ≡ WireFault.BadValue) × (¬ PassesLimit (reply_passes reply.now) (write_reply.text reply.now)) × ((text : List ℕ) → (reply_format (replied_procedure reply.now)).spells text reply.now → ⊥)) }
+    ensures long { result ≢ Err WireFault.NoMem → (result ≡ Err WireFault.TooLong)
+        ↔ PassesLimit (reply_passes reply.now) (write_reply.text reply.now) }
+    ensures bad { IfErr result (λ e. e ≢ WireFault.NoMem
+        → e ≢ WireFault.TooLong → (e ≡ WireFault.BadValue)
+        × (¬ PassesLimit (reply_passes reply.now) (write_reply.text reply.now)) × ((text : List ℕ)
+        → (reply_format (replied_procedure reply.now)).spells text reply.now → ⊥)) }
 {
     encode::<AnyReply>(alloc, reply)
 }

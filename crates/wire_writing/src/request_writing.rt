@@ -82,7 +82,8 @@ pub(crate) fn is_long_value(value: &WireValue) -> bool
 }
 
 fn put_words(out: &mut Vec<u8>, words: &Array<u32>) -> Result<(), WriteError>
-    ensures { PutsBehind result out.old.items out.new.items (words_text (WireValue.Words words.now)) }
+    ensures { PutsBehind result out.old.items out.new.items
+        (words_text (WireValue.Words words.now)) }
 {
     let words = words.as_slice();
     if words.len() > 1024 {
@@ -94,7 +95,8 @@ fn put_words(out: &mut Vec<u8>, words: &Array<u32>) -> Result<(), WriteError>
 }
 
 fn put_bytes(out: &mut Vec<u8>, bytes: &Array<u8>) -> Result<(), WriteError>
-    ensures { PutsBehind result out.old.items out.new.items (bytes_text (WireValue.Bytes bytes.now)) }
+    ensures { PutsBehind result out.old.items out.new.items
+        (bytes_text (WireValue.Bytes bytes.now)) }
 {
     let bytes = bytes.as_slice();
     if bytes.len() > 1024 {
@@ -158,7 +160,8 @@ fn put_authorize(
     password: &Text,
 ) -> Result<(), WriteError>
     ensures { PutsBehind result out.old.items out.new.items
-        (append_text (write_resource.text resource.now) (append_text (write_string.text user.now) (write_string.text password.now))) }
+        (append_text (write_resource.text resource.now)
+        (append_text (write_string.text user.now) (write_string.text password.now))) }
 {
     put_resource(out, resource)?;
     put_string(out, user)?;
@@ -229,7 +232,8 @@ impl Encoder for AnyRequest {
 
 /// What is answered of a message.
 pub(crate) fn encode<E: Encoder>(alloc: Global, message: &E::Value) -> Result<Vec<u8>, WireFault>
-    ensures { EncodesAs (λ v. v.items) result (encoding_or_fault (write_limited message_limit E.writer) message.now) }
+    ensures { EncodesAs (λ v. v.items) result
+        (encoding_or_fault (write_limited message_limit E.writer) message.now) }
 {
     if E::is_long(message) {
         return Err(WireFault::TooLong);
@@ -251,11 +255,15 @@ pub(crate) fn encode<E: Encoder>(alloc: Global, message: &E::Value) -> Result<Ve
 /// The bytes of a request: its text, `TooLong` exactly where a limit is passed, else `BadValue` exactly where
 /// nothing spells it.
 pub fn encode_request(alloc: Global, request: &Request) -> Result<Vec<u8>, WireFault>
-    ensures ok { IfOk result (λ v. (limited_format message_limit request_format).spells v.items request.now) }
+    ensures ok { IfOk result
+        (λ v. (limited_format message_limit request_format).spells v.items request.now) }
     ensures text { IfOk result (λ v. write_request.text request.now ≡ Some v.items) }
-    ensures long { result ≢ Err WireFault.NoMem → (result ≡ Err WireFault.TooLong) ↔ PassesLimit (request_passes request.now) (write_request.text request.now) }
-    ensures bad { IfErr result (λ e. e ≢ WireFault.NoMem → e ≢ WireFault.TooLong
-        → (e ≡ WireFault.BadValue) × (¬ PassesLimit (request_passes request.now) (write_request.text request.now)) × ((text : List ℕ) → request_format.spells text request.now → ⊥)) }
+    ensures long { result ≢ Err WireFault.NoMem → (result ≡ Err WireFault.TooLong)
+        ↔ PassesLimit (request_passes request.now) (write_request.text request.now) }
+    ensures bad { IfErr result (λ e. e ≢ WireFault.NoMem
+        → e ≢ WireFault.TooLong → (e ≡ WireFault.BadValue)
+        × (¬ PassesLimit (request_passes request.now) (write_request.text request.now))
+        × ((text : List ℕ) → request_format.spells text request.now → ⊥)) }
 {
     encode::<AnyRequest>(alloc, request)
 }

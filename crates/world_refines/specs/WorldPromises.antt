@@ -1,5 +1,6 @@
 -- What is promised of a job's outcome and of its file, of whatever a world stands for.
 use Rattle.std.specs.Prelude.{◌<◌, ℕ, ◌≡◌, ◌≢◌, ◌⊎◌, true, false, Option, Some, None, IsSome, option_map, List, ◌∷◌, map, slice_get}
+use Rattle.sane_fixed.specs.declared.kind.Kind.{Kind}
 use Rattle.sane_fixed.specs.declared.status.Status.{Status as Code}
 use Rattle.netpbm.specs.Picture.{Picture}
 use Rattle.netpbm.specs.Pnm.{Denotes}
@@ -29,6 +30,9 @@ use Rattle.client_refines.specs.Filled.{IsFilled}
 use Rattle.client_refines.specs.DecodedReplies.{why_of}
 use Rattle.client_refines.specs.ClientRefinement.{descs, common_abstract_report, common_report, known_values, requested_setting}
 use Rattle.client_replies.specs.ProtocolStates.{is_running}
+use Rattle.client_replies.specs.WireValues.{given_like, wire_value_in}
+use Rattle.saned_requests.specs.declared.session.StringSize.{StringSize}
+use Rattle.saned_requests.specs.WireValues.{sent_as, wire_of}
 use Rattle.scan_world.specs.declared.event.Event.{Event}
 use Rattle.scan_world.specs.declared.endpoint.Endpoint.{Endpoint}
 use Rattle.scan_world.specs.JobMoves.{IsNextMove}
@@ -127,3 +131,11 @@ BatchesAreCounted =
 abbrev pub NobodyIsStuck : Type 0
 NobodyIsStuck =
     (t : Ghost) (w : WorldCore) (i : ℕ) (endpoint : Endpoint) (event : Option Event) → WorldRefines t w → slice_get w.endpoints i ≡ Some endpoint → IsNextMove w.daemon i endpoint event → (is_running endpoint.client.outcome ≡ true → IsSome event) × (is_running endpoint.client.outcome ≡ false → event ≡ None)
+
+-- ---- the size of string values
+
+-- A client reads the same value from a reply, as its text and a NUL or filled up to any size: in place of the one it asked for,
+-- and of an option that it asks for.
+abbrev pub ValuesAreReadAlike : Type 0
+ValuesAreReadAlike =
+    (strings : StringSize) (size : ℕ) (value : Value) → ((asked : Value) → given_like asked (sent_as strings size value) ≡ given_like asked (wire_of value)) × ((kind : Kind) → wire_value_in kind (sent_as strings size value) ≡ wire_value_in kind (wire_of value))

@@ -18,6 +18,7 @@ mod plain;
 mod records;
 mod refusals;
 mod sharing;
+mod strings;
 
 /// A scanner, and its pages.
 #[derive(Clone, Copy)]

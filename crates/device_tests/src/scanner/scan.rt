@@ -36,7 +36,8 @@ pub fn scan_with(
     n: u32,
     value: &Value,
 ) -> Result<Vec<u8>, Status>
-    ensures { IfOk result (λ bytes. HasScannedFirstFrame (state device.old) n value.now bytes.items (state device.new)) }
+    ensures { IfOk result (λ bytes.
+        HasScannedFirstFrame (state device.old) n value.now bytes.items (state device.new)) }
 {
     device.reset();
     let (_given, _info) = device.set(alloc, n, value)?;

@@ -39,7 +39,13 @@ impl FailingPage {
     /// with 0 none is.
     pub fn new(page: Page, n: u64) -> Self
         ensures { result ≡ record {
-          shown = record { page = page; given = 0; steady = true; infallible = n == 0; failures = 0 };
+          shown = record {
+            page = page;
+            given = 0;
+            steady = true;
+            infallible = n == 0;
+            failures = 0;
+          };
           calls = 0;
           refused = n;
         } }

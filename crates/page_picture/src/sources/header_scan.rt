@@ -38,17 +38,26 @@ fn next_byte<R: Rereadable>(
     ensures few { reads.new ≤ 2 ^ 40 }
     ensures size { length waiting.new + 4096 * reads.old ≤ length waiting.old + 4096 * reads.new }
     // Each read that is counted gave a byte.
-    ensures some { IfOk result (λ b. IfSome b (λ _. reads.new + length waiting.old ≤ reads.old + length waiting.new + 1)) }
-    ensures none { IfOk result (λ b. IfNone b (reads.new + length waiting.old ≤ reads.old + length waiting.new)) }
-    ensures refused { OnErr result (reads.new + length waiting.old ≤ reads.old + length waiting.new) }
-    ensures used { IfOk result (λ b. IfSome b (λ _. length waiting.new + 1 + 4096 * reads.old ≤ length waiting.old + 4096 * reads.new)) }
+    ensures some { IfOk result
+        (λ b. IfSome b (λ _. reads.new + length waiting.old ≤ reads.old + length waiting.new + 1)) }
+    ensures none { IfOk result
+        (λ b. IfNone b (reads.new + length waiting.old ≤ reads.old + length waiting.new)) }
+    ensures refused { OnErr result (reads.new + length waiting.old
+        ≤ reads.old + length waiting.new) }
+    ensures used { IfOk result (λ b. IfSome b (λ _. length waiting.new + 1 + 4096 * reads.old
+        ≤ length waiting.old + 4096 * reads.new)) }
     ensures kept { R.is_kept reader.new ≡ R.is_kept reader.old }
     ensures text { R.text reader.new ≡ R.text reader.old }
-    ensures ok { R.is_kept reader.old ≡ true → IfOk result (λ b. waiting.old ++ R.left reader.old ≡ from_hand b (waiting.new ++ R.left reader.new)) }
-    ensures end { R.is_kept reader.old ≡ true → IfOk result (λ b. IfNone b (waiting.new ++ R.left reader.new ≡ [])) }
-    ensures worked { OnOk result (R.is_kept reader.old ≡ true → R.faults reader.new ≡ R.faults reader.old) }
-    ensures failed { OnErr result (R.is_kept reader.old ≡ true → reads.old < 2 ^ 40 → R.faults reader.old < R.faults reader.new) }
-    ensures err { R.is_kept reader.old ≡ true → OnErr result (waiting.new ++ R.left reader.new ≡ waiting.old ++ R.left reader.old) }
+    ensures ok { R.is_kept reader.old ≡ true → IfOk result (λ b. waiting.old
+        ++ R.left reader.old ≡ from_hand b (waiting.new ++ R.left reader.new)) }
+    ensures end { R.is_kept reader.old ≡ true
+        → IfOk result (λ b. IfNone b (waiting.new ++ R.left reader.new ≡ [])) }
+    ensures worked { OnOk result (R.is_kept reader.old ≡ true
+        → R.faults reader.new ≡ R.faults reader.old) }
+    ensures failed { OnErr result (R.is_kept reader.old ≡ true
+        → reads.old < 2 ^ 40 → R.faults reader.old < R.faults reader.new) }
+    ensures err { R.is_kept reader.old ≡ true
+        → OnErr result (waiting.new ++ R.left reader.new ≡ waiting.old ++ R.left reader.old) }
 {
     if let Some(byte) = waiting.take() {
         return Ok(Some(byte));
@@ -93,8 +102,10 @@ impl<R: Rereadable> HeaderScan<R> {
     fn next(&mut self) -> Result<Option<u8>, ReadFault>
         ensures same { self.new ≡ record self.old { at = self.new.at; faults = self.new.faults } }
         ensures worked { OnOk result (self.old.kept ≡ true → self.new.faults ≡ self.old.faults) }
-        ensures failed { OnErr result (FailsByReader self.old.kept self.old.text self.old.faults self.new.faults) }
-        ensures byte { IfOk result (λ b. self.old.kept ≡ true → from_hand b (rest_of self.new) ≡ rest_of self.old) }
+        ensures failed { OnErr result
+            (FailsByReader self.old.kept self.old.text self.old.faults self.new.faults) }
+        ensures byte { IfOk result (λ b. self.old.kept ≡ true
+            → from_hand b (rest_of self.new) ≡ rest_of self.old) }
         ensures on { IfOk result (λ b. IfSome b (λ _. self.new.at ≡ self.old.at + 1)) }
         ensures limit { self.new.at ≤ 2 ^ 52 }
     {
@@ -111,9 +122,12 @@ impl<R: Rereadable> HeaderScan<R> {
     pub fn format(&mut self) -> Result<Option<PnmFormat>, ReadFault>
         ensures same { self.new ≡ record self.old { at = self.new.at; faults = self.new.faults } }
         ensures worked { OnOk result (self.old.kept ≡ true → self.new.faults ≡ self.old.faults) }
-        ensures failed { OnErr result (FailsByReader self.old.kept self.old.text self.old.faults self.new.faults) }
-        ensures format { IfOk result (λ format. self.old.kept ≡ true → format ≡ format_of (rest_of self.old)) }
-        ensures rest { IfOk result (λ format. self.old.kept ≡ true → IsSome format → rest_of self.new ≡ drop 2 (rest_of self.old)) }
+        ensures failed { OnErr result
+            (FailsByReader self.old.kept self.old.text self.old.faults self.new.faults) }
+        ensures format { IfOk result (λ format. self.old.kept ≡ true
+            → format ≡ format_of (rest_of self.old)) }
+        ensures rest { IfOk result (λ format. self.old.kept ≡ true
+            → IsSome format → rest_of self.new ≡ drop 2 (rest_of self.old)) }
     {
         let Some(first) = self.next()? else {
             return Ok(None);
@@ -128,8 +142,10 @@ impl<R: Rereadable> HeaderScan<R> {
     fn after_filler(&mut self) -> Result<Option<u8>, ReadFault>
         ensures same { self.new ≡ record self.old { at = self.new.at; faults = self.new.faults } }
         ensures worked { OnOk result (self.old.kept ≡ true → self.new.faults ≡ self.old.faults) }
-        ensures failed { OnErr result (FailsByReader self.old.kept self.old.text self.old.faults self.new.faults) }
-        ensures byte { IfOk result (λ hand. self.old.kept ≡ true → from_hand hand (rest_of self.new) ≡ after_filler false (rest_of self.old)) }
+        ensures failed { OnErr result
+            (FailsByReader self.old.kept self.old.text self.old.faults self.new.faults) }
+        ensures byte { IfOk result (λ hand. self.old.kept ≡ true
+            → from_hand hand (rest_of self.new) ≡ after_filler false (rest_of self.old)) }
     {
         let mut in_comment = false;
         for _used in 0..u64::MAX {
@@ -148,8 +164,10 @@ impl<R: Rereadable> HeaderScan<R> {
     fn number(&mut self, hand: Option<u8>) -> Result<Option<Number>, ReadFault>
         ensures same { self.new ≡ record self.old { at = self.new.at; faults = self.new.faults } }
         ensures worked { OnOk result (self.old.kept ≡ true → self.new.faults ≡ self.old.faults) }
-        ensures failed { OnErr result (FailsByReader self.old.kept self.old.text self.old.faults self.new.faults) }
-        ensures number { IfOk result (λ found. self.old.kept ≡ true → Finds (number_at (from_hand hand (rest_of self.old))) found (rest_of self.new)) }
+        ensures failed { OnErr result
+            (FailsByReader self.old.kept self.old.text self.old.faults self.new.faults) }
+        ensures number { IfOk result (λ found. self.old.kept ≡ true
+            → Finds (number_at (from_hand hand (rest_of self.old))) found (rest_of self.new)) }
     {
         let mut value = 0u64;
         let mut hand = hand;
@@ -171,8 +189,10 @@ impl<R: Rereadable> HeaderScan<R> {
     fn field(&mut self, hand: Option<u8>) -> Result<Option<Number>, ReadFault>
         ensures same { self.new ≡ record self.old { at = self.new.at; faults = self.new.faults } }
         ensures worked { OnOk result (self.old.kept ≡ true → self.new.faults ≡ self.old.faults) }
-        ensures failed { OnErr result (FailsByReader self.old.kept self.old.text self.old.faults self.new.faults) }
-        ensures field { IfOk result (λ found. self.old.kept ≡ true → Finds (field_at (from_hand hand (rest_of self.old))) found (rest_of self.new)) }
+        ensures failed { OnErr result
+            (FailsByReader self.old.kept self.old.text self.old.faults self.new.faults) }
+        ensures field { IfOk result (λ found. self.old.kept ≡ true
+            → Finds (field_at (from_hand hand (rest_of self.old))) found (rest_of self.new)) }
     {
         match hand {
             Some(byte) if is_white(byte) => {
@@ -188,9 +208,12 @@ impl<R: Rereadable> HeaderScan<R> {
     pub fn header(&mut self, format: PnmFormat) -> Result<Option<Header>, ReadFault>
         ensures same { self.new ≡ record self.old { at = self.new.at; faults = self.new.faults } }
         ensures worked { OnOk result (self.old.kept ≡ true → self.new.faults ≡ self.old.faults) }
-        ensures failed { OnErr result (FailsByReader self.old.kept self.old.text self.old.faults self.new.faults) }
-        ensures header { IfOk result (λ found. self.old.kept ≡ true → FindsHeader (header_from format (rest_of self.old)) found (rest_of self.new)) }
-        ensures format { IfOk result (λ found. IfSome found (λ header. (header.format ≡ format) × HasHeaderLimits header)) }
+        ensures failed { OnErr result
+            (FailsByReader self.old.kept self.old.text self.old.faults self.new.faults) }
+        ensures header { IfOk result (λ found. self.old.kept ≡ true
+            → FindsHeader (header_from format (rest_of self.old)) found (rest_of self.new)) }
+        ensures format { IfOk result
+            (λ found. IfSome found (λ header. (header.format ≡ format) × HasHeaderLimits header)) }
     {
         let hand = self.next()?;
         let Some((width, hand)) = self.field(hand)? else {
@@ -227,11 +250,14 @@ impl<R: Rereadable> HeaderScan<R> {
         requires { self.old.at ≡ 0 }
         ensures same { self.new ≡ record self.old { at = self.new.at; faults = self.new.faults } }
         ensures worked { OnOk result (self.old.kept ≡ true → self.new.faults ≡ self.old.faults) }
-        ensures failed { IfErr result (λ fault. fault ≡ OpenFault.Device → FailsByReader self.old.kept self.old.text self.old.faults self.new.faults) }
+        ensures failed { IfErr result (λ fault. fault ≡ OpenFault.Device
+            → FailsByReader self.old.kept self.old.text self.old.faults self.new.faults) }
         ensures page { IfOk result (λ header. IsPageHeader header) }
-        ensures begins { IfOk result (λ header. self.old.kept ≡ true → BeginsPage self.old.text header (rest_of self.new)) }
+        ensures begins { IfOk result (λ header. self.old.kept ≡ true
+            → BeginsPage self.old.text header (rest_of self.new)) }
         ensures file { IfErr result (λ fault. IsOfFile fault) }
-        ensures fault { IfErr result (λ fault. self.old.kept ≡ true → HasHeaderFault fault self.old.text) }
+        ensures fault { IfErr result (λ fault. self.old.kept ≡ true
+            → HasHeaderFault fault self.old.text) }
     {
         let Some(format) = self.format()? else {
             return Err(OpenFault::Page(PageFault::BadMagic));
@@ -250,9 +276,16 @@ impl<R: Rereadable> HeaderScan<R> {
 
     /// A scan from the reader's first byte on; the reader comes back where it cannot go there.
     pub fn begin(mut reader: R) -> Result<Self, R>
-        ensures begun { IfOk result (λ scan. scan ≡ record { kept = R.is_kept reader; text = R.text reader; at = 0; faults = scan.faults }) }
-        ensures worked { IfOk result (λ scan. R.is_kept reader ≡ true → scan.faults ≡ R.faults reader) }
-        ensures failed { IfErr result (λ back. R.is_kept reader ≡ true → R.faults reader < R.faults back) }
+        ensures begun { IfOk result (λ scan. scan ≡ record {
+          kept = R.is_kept reader;
+          text = R.text reader;
+          at = 0;
+          faults = scan.faults;
+        }) }
+        ensures worked { IfOk result (λ scan. R.is_kept reader ≡ true
+            → scan.faults ≡ R.faults reader) }
+        ensures failed { IfErr result (λ back. R.is_kept reader ≡ true
+            → R.faults reader < R.faults back) }
         ensures kept { IfErr result (λ back. R.is_kept back ≡ R.is_kept reader) }
         ensures text { IfErr result (λ back. R.text back ≡ R.text reader) }
     {

@@ -27,7 +27,8 @@ impl MemoryPage {
 
     /// The page from its first row on.
     pub fn new(page: Page) -> Self
-        ensures { result ≡ record { page = page; given = 0; steady = true; infallible = true; failures = 0 } }
+        ensures { result
+            ≡ record { page = page; given = 0; steady = true; infallible = true; failures = 0 } }
     {
         MemoryPage { page, given: 0 }
     }

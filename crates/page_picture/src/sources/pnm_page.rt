@@ -78,12 +78,18 @@ fn check_file<R: Rereadable>(
     ensures kept { R.is_kept reader.new ≡ R.is_kept reader.old }
     ensures text { R.text reader.new ≡ R.text reader.old }
     ensures room { IfOk result (λ bytes. file_row_size header.now ≤ length bytes.items) }
-    ensures start { IfOk result (λ _. R.is_kept reader.old ≡ true → R.left reader.new ≡ drop start (R.text reader.old)) }
-    ensures raster { IfOk result (λ _. R.is_kept reader.old ≡ true → IsRaster header.now (drop start (R.text reader.old))) }
-    ensures worked { IfOk result (λ _. R.is_kept reader.old ≡ true → R.faults reader.new ≡ R.faults reader.old) }
-    ensures failed { IfErr result (λ fault. fault ≡ OpenFault.Device → FailsWithin (R.is_kept reader.old) reads (R.text reader.old) (R.faults reader.old) (R.faults reader.new)) }
+    ensures start { IfOk result (λ _. R.is_kept reader.old ≡ true
+        → R.left reader.new ≡ drop start (R.text reader.old)) }
+    ensures raster { IfOk result (λ _. R.is_kept reader.old ≡ true
+        → IsRaster header.now (drop start (R.text reader.old))) }
+    ensures worked { IfOk result (λ _. R.is_kept reader.old ≡ true
+        → R.faults reader.new ≡ R.faults reader.old) }
+    ensures failed { IfErr result (λ fault. fault ≡ OpenFault.Device
+        → FailsWithin (R.is_kept reader.old) reads
+        (R.text reader.old) (R.faults reader.old) (R.faults reader.new)) }
     ensures file { IfErr result (λ fault. IsOfFile fault) }
-    ensures fault { IfErr result (λ fault. R.is_kept reader.old ≡ true → HasOpenFaultAfter fault header.now (drop start (R.text reader.old))) }
+    ensures fault { IfErr result (λ fault. R.is_kept reader.old ≡ true
+        → HasOpenFaultAfter fault header.now (drop start (R.text reader.old))) }
 {
     let mut room = [0u8; MOST_ROW];
     if reader.start_from(start).is_err() {
@@ -108,16 +114,26 @@ impl<R: Rereadable> PnmPage<R> {
     /// gives the reader back.
     pub fn open(alloc: Global, reader: R, dpi: u32) -> Result<Self, (OpenFault, R)>
         // The page is that of the text, where the reader keeps it.
-        ensures found { IfOk result (λ source. R.is_kept reader ≡ true → TellsPage (R.text reader) dpi source.shown.page) }
+        ensures found { IfOk result (λ source. R.is_kept reader ≡ true
+            → TellsPage (R.text reader) dpi source.shown.page) }
         // It stands before its first row, without a failure.
-        ensures begun { IfOk result (λ source. source.shown ≡ record { page = source.shown.page; given = 0; steady = R.is_kept reader; infallible = false; failures = 0 }) }
+        ensures begun { IfOk result (λ source. source.shown ≡ record {
+          page = source.shown.page;
+          given = 0;
+          steady = R.is_kept reader;
+          infallible = false;
+          failures = 0;
+        }) }
         ensures not_lost { IfOk result (λ source. source.is_lost ≡ false) }
-        ensures fault { IfErr result (λ refused. R.is_kept reader ≡ true → HasOpenFault refused.0 (R.text reader) dpi) }
+        ensures fault { IfErr result (λ refused. R.is_kept reader ≡ true
+            → HasOpenFault refused.0 (R.text reader) dpi) }
         // `Device` only where a call of the reader failed, or 2^40 reads do not go through its bytes twice.
-        ensures device { IfErr result (λ refused. refused.0 ≡ OpenFault.Device → FailsByReader (R.is_kept reader) (R.text reader) (R.faults reader) (R.faults refused.1)) }
+        ensures device { IfErr result (λ refused. refused.0 ≡ OpenFault.Device → FailsByReader
+            (R.is_kept reader) (R.text reader) (R.faults reader) (R.faults refused.1)) }
         // What holds of every reader.
         ensures dots { IfOk result (λ source. source.shown.page.dpi ≡ dpi) }
-        ensures bad_dots { IfErr result (λ refused. (refused.0 ≡ OpenFault.Page PageFault.BadDpi) ↔ ¬ IsDpi dpi) }
+        ensures bad_dots { IfErr result (λ refused. (refused.0 ≡ OpenFault.Page PageFault.BadDpi)
+            ↔ ¬ IsDpi dpi) }
         ensures kept { IfErr result (λ refused. R.is_kept refused.1 ≡ R.is_kept reader) }
         ensures text { IfErr result (λ refused. R.text refused.1 ≡ R.text reader) }
     {
@@ -185,7 +201,8 @@ impl<R: Rereadable + Drop> PageSource for PnmPage<R> {
         ensures row { GivesRow self.old.shown result self.new.shown row.new }
         ensures lost { LosesRows result self.new }
         // Over a reader that keeps its bytes it fails only where a call of the reader does, or the rows are lost.
-        ensures failed { OnErr result (self.old.shown.steady ≡ true → self.old.is_lost ≡ false → self.old.faults < self.new.faults) }
+        ensures failed { OnErr result (self.old.shown.steady ≡ true
+            → self.old.is_lost ≡ false → self.old.faults < self.new.faults) }
     {
         if self.is_lost {
             return Err(self.fail());
@@ -215,7 +232,8 @@ impl<R: Rereadable + Drop> PageSource for PnmPage<R> {
     fn rewind(&mut self) -> Result<(), SourceFault>
         ensures rewinds { Rewinds self.old.shown result self.new.shown }
         ensures lost { LosesRows result self.new }
-        ensures failed { OnErr result (self.old.shown.steady ≡ true → self.old.faults < self.new.faults) }
+        ensures failed { OnErr result (self.old.shown.steady ≡ true
+            → self.old.faults < self.new.faults) }
     {
         self.is_lost = true;
         if self.reader.start_from(self.start).is_err() {

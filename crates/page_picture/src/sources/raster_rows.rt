@@ -1,15 +1,17 @@
-ghost use Rattle.std.specs.Prelude.{ℕ, ◌≡◌, ◌≤◌, ◌<◌, ◌+◌, ◌*◌, ◌/◌, ◌^◌, ◌++◌, length, slice_index, true, false, Ok, min, max, IfOk, IfErr, MatchBool, OnOk, OnErr};
+ghost use Rattle.std.specs.Prelude.{ℕ, ◌≡◌, ◌≤◌, ◌<◌, ◌+◌, ◌-◌, ◌*◌, ◌/◌, ◌^◌, ◌++◌, length, slice_index, true, false, Ok, min, max, IfOk, IfErr, MatchBool, OnOk, OnErr};
 ghost use Rattle.netpbm.specs.Raster.{NoneAbove, SomeAbove, sample_count};
 ghost use Rattle.page_picture.specs.KnownBytes.{FailsWithin};
 ghost use Rattle.page_picture.specs.PageRows.{IsPageHeader, IsRaster, ReadsRaster, ShowsRow, GivesRowOf, HasRows, unused_bytes, row_count, row_header, file_row_size};
 ghost use Rattle.page_picture.specs.Opening.{HasOpenFaultAfter, IsOfFile};
 
-use crate::page_file::{PageFault, scaled};
+use crate::page_file::PageFault;
 use crate::rereadable::Rereadable;
+use crate::sources::eights::{eight_numbers, eight_scaled};
+use crate::sources::fitting::all_fit;
 use crate::sources::open_fault::OpenFault;
 use crate::sources::read_fault::{MOST_READS, ReadFault};
-use crate::sources::scaling::Scaling;
-use netpbm::{Header, PnmFormat, none_above, raster_size, sample_count};
+use crate::sources::scaling::{ByteScaling, Scaling};
+use netpbm::{Header, PnmFormat, raster_size, sample_count};
 
 /// The header of one row of a page alone.
 pub fn row_header(header: &Header) -> Header
@@ -25,11 +27,15 @@ pub fn row_header(header: &Header) -> Header
 fn fill<R: Rereadable>(reader: &mut R, bytes: &mut [u8], reads: &mut u64) -> Result<bool, ReadFault>
     ensures kept { R.is_kept reader.new ≡ R.is_kept reader.old }
     ensures text { R.text reader.new ≡ R.text reader.old }
-    ensures full { result ≡ Ok true → R.is_kept reader.old ≡ true → R.left reader.old ≡ bytes.new ++ R.left reader.new }
+    ensures full { result ≡ Ok true
+        → R.is_kept reader.old ≡ true → R.left reader.old ≡ bytes.new ++ R.left reader.new }
     ensures few { OnOk result (reads.new ≤ reads.old + length bytes.new) }
-    ensures worked { OnOk result (R.is_kept reader.old ≡ true → R.faults reader.new ≡ R.faults reader.old) }
-    ensures failed { OnErr result (FailsWithin (R.is_kept reader.old) reads.old (R.left reader.old) (R.faults reader.old) (R.faults reader.new)) }
-    ensures ended { result ≡ Ok false → R.is_kept reader.old ≡ true → length (R.left reader.old) < length bytes.new }
+    ensures worked { OnOk result (R.is_kept reader.old ≡ true
+        → R.faults reader.new ≡ R.faults reader.old) }
+    ensures failed { OnErr result (FailsWithin (R.is_kept reader.old) reads.old
+        (R.left reader.old) (R.faults reader.old) (R.faults reader.new)) }
+    ensures ended { result ≡ Ok false
+        → R.is_kept reader.old ≡ true → length (R.left reader.old) < length bytes.new }
 {
     let mut at = 0;
     for made in *reads..MOST_READS {
@@ -49,8 +55,8 @@ fn fill<R: Rereadable>(reader: &mut R, bytes: &mut [u8], reads: &mut u64) -> Res
 /// The bytes of as many rows as 65,536 bytes hold, at least of one, at most of all.
 pub fn room_size(header: &Header) -> usize
     requires { IsPageHeader header.now }
-    ensures value { result
-        ≡ min (max (65536 / file_row_size header.now) 1) header.now.height * file_row_size header.now }
+    ensures value { result ≡ min (max (65536 / file_row_size header.now) 1)
+        header.now.height * file_row_size header.now }
     ensures row { file_row_size header.now ≤ result }
 {
     let size = raster_size(&row_header(header));
@@ -118,7 +124,8 @@ fn put_gray(gray: u16, x: usize, row: &mut [u16])
 /// Writes the samples of a row of grays of a byte each, of which 255 is the greatest.
 fn write_grays(bytes: &[u8], row: &mut [u16])
     requires { length row.old ≡ 3 * length bytes.now }
-    ensures { (j : ℕ) → j < 3 * length bytes.now → slice_index row.new j ≡ 257 * slice_index bytes.now (j / 3) }
+    ensures { (j : ℕ)
+        → j < 3 * length bytes.now → slice_index row.new j ≡ 257 * slice_index bytes.now (j / 3) }
 {
     for x in 0..bytes.len() {
         let gray = 257 * u16::from(bytes[x]);
@@ -129,98 +136,148 @@ fn write_grays(bytes: &[u8], row: &mut [u16])
 /// Writes the samples of a row of colors of a byte each, of which 255 is the greatest.
 fn write_colors(bytes: &[u8], row: &mut [u16])
     requires { length row.old ≡ length bytes.now }
-    ensures { (j : ℕ) → j < length bytes.now → slice_index row.new j ≡ 257 * slice_index bytes.now j }
+    ensures { (j : ℕ)
+        → j < length bytes.now → slice_index row.new j ≡ 257 * slice_index bytes.now j }
 {
     for j in 0..bytes.len() {
         row[j] = 257 * u16::from(bytes[j]);
     }
 }
 
-/// Writes the samples of a row of colors of two bytes each, of which 65,535 is the greatest.
-fn write_words(bytes: &[u8], row: &mut [u16])
-    requires { length bytes.now ≡ 2 * length row.old }
-    ensures { (j : ℕ) → j < length row.old → slice_index row.new j ≡ 256 * slice_index bytes.now (2 * j) + slice_index bytes.now (2 * j + 1) }
+/// Writes eight samples from place `at` on.
+#[inline(always)]
+fn put_eight(samples: [u16; 8], at: usize, row: &mut [u16])
+    requires { at + 8 ≤ length row.old }
+    ensures before { (j : ℕ) → j < at → slice_index row.new j ≡ slice_index row.old j }
+    ensures here { (i : ℕ) → i < 8 → slice_index row.new (at + i) ≡ slice_index samples i }
+    ensures behind { (j : ℕ) → at + 8 ≤ j → slice_index row.new j ≡ slice_index row.old j }
 {
-    for j in 0..row.len() {
-        row[j] = 256 * u16::from(bytes[2 * j]) + u16::from(bytes[2 * j + 1]);
+    for i in 0..8 {
+        row[at + i] = samples[i];
     }
 }
 
-/// Writes the samples of a row of grays of two bytes each, of which 65,535 is the greatest.
+/// Writes eight grays as the samples of their places, the first as that of place `x`.
+#[inline(always)]
+fn put_eight_grays(grays: [u16; 8], x: usize, row: &mut [u16])
+    requires { 3 * x + 24 ≤ length row.old }
+    ensures before { (j : ℕ) → j < 3 * x → slice_index row.new j ≡ slice_index row.old j }
+    ensures here { (j : ℕ) → 3 * x ≤ j → j < 3 * x + 24
+        → slice_index row.new j ≡ slice_index grays (j / 3 - x) }
+    ensures behind { (j : ℕ) → 3 * x + 24 ≤ j → slice_index row.new j ≡ slice_index row.old j }
+{
+    for i in 0..8 {
+        put_gray(grays[i], x + i, row);
+    }
+}
+
+/// The number of two bytes at place `i`.
+fn word(bytes: &[u8], i: usize) -> u16
+    requires { 2 * i + 1 < length bytes.now }
+    ensures { result ≡ 256 * slice_index bytes.now (2 * i) + slice_index bytes.now (2 * i + 1) }
+{
+    256 * u16::from(bytes[2 * i]) + u16::from(bytes[2 * i + 1])
+}
+
+/// Writes the samples of a row of colors of two bytes each, of which 65,535 is the greatest; eight at once, since the bytes
+/// of one are turned in as many steps as those of eight.
+fn write_words(bytes: &[u8], row: &mut [u16])
+    requires { length bytes.now ≡ 2 * length row.old }
+    ensures { (j : ℕ) → j < length row.old → slice_index row.new j
+        ≡ 256 * slice_index bytes.now (2 * j) + slice_index bytes.now (2 * j + 1) }
+{
+    let eights = row.len() / 8;
+    for n in 0..eights {
+        put_eight(eight_numbers(bytes, 16 * n), 8 * n, row);
+    }
+    for j in 8 * eights..row.len() {
+        row[j] = word(bytes, j);
+    }
+}
+
+/// Writes the samples of a row of grays of two bytes each, of which 65,535 is the greatest; eight at once, as colors are.
 fn write_wide_grays(bytes: &[u8], row: &mut [u16])
     requires { 3 * length bytes.now ≡ 2 * length row.old }
     ensures { (j : ℕ) → j < length row.old → slice_index row.new j
         ≡ 256 * slice_index bytes.now (2 * (j / 3)) + slice_index bytes.now (2 * (j / 3) + 1) }
 {
-    // The greatest value is not asked for in the loop, so that a dot costs a load, a turn of its bytes and the stores.
-    for x in 0..bytes.len() / 2 {
-        let gray = 256 * u16::from(bytes[2 * x]) + u16::from(bytes[2 * x + 1]);
-        put_gray(gray, x, row);
+    let eights = bytes.len() / 16;
+    for n in 0..eights {
+        put_eight_grays(eight_numbers(bytes, 16 * n), 8 * n, row);
+    }
+    for x in 8 * eights..bytes.len() / 2 {
+        put_gray(word(bytes, x), x, row);
     }
 }
 
-/// Writes the samples of a row of grays of two bytes each.
+/// Writes the samples of a row of grays of two bytes each; eight at once, as where 65,535 is the greatest.
 fn write_gray_words(maxval: u32, bytes: &[u8], row: &mut [u16])
     requires maxval { 1 ≤ maxval }
     requires most { maxval ≤ 65535 }
     requires size { 3 * length bytes.now ≡ 2 * length row.old }
-    requires limit { (x : ℕ) → 2 * x < length bytes.now → 256 * slice_index bytes.now (2 * x) + slice_index bytes.now (2 * x + 1) ≤ maxval }
-    ensures { (j : ℕ) → j < length row.old → slice_index row.new j ≡ (256 * slice_index bytes.now (2 * (j / 3)) + slice_index bytes.now (2 * (j / 3) + 1)) * 65535 / maxval }
+    requires limit { (x : ℕ) → 2 * x < length bytes.now
+        → 256 * slice_index bytes.now (2 * x) + slice_index bytes.now (2 * x + 1) ≤ maxval }
+    ensures { (j : ℕ) → j < length row.old → slice_index row.new j ≡ (256 * slice_index bytes.now
+        (2 * (j / 3)) + slice_index bytes.now (2 * (j / 3) + 1)) * 65535 / maxval }
 {
     let scaling = Scaling::new(maxval);
-    for x in 0..bytes.len() / 2 {
-        let number = 256 * u32::from(bytes[2 * x]) + u32::from(bytes[2 * x + 1]);
-        let gray = scaling.apply(number);
-        put_gray(gray, x, row);
+    let eights = bytes.len() / 16;
+    for n in 0..eights {
+        put_eight_grays(eight_scaled(&scaling, bytes, 16 * n), 8 * n, row);
+    }
+    for x in 8 * eights..bytes.len() / 2 {
+        put_gray(scaling.apply(u32::from(word(bytes, x))), x, row);
     }
 }
 
-/// Writes the samples of a row of colors of two bytes each.
+/// Writes the samples of a row of colors of two bytes each; eight at once, as where 65,535 is the greatest.
 fn write_color_words(maxval: u32, bytes: &[u8], row: &mut [u16])
     requires maxval { 1 ≤ maxval }
     requires most { maxval ≤ 65535 }
     requires size { length bytes.now ≡ 2 * length row.old }
-    requires limit { (j : ℕ) → j < length row.old → 256 * slice_index bytes.now (2 * j) + slice_index bytes.now (2 * j + 1) ≤ maxval }
-    ensures { (j : ℕ) → j < length row.old → slice_index row.new j ≡ (256 * slice_index bytes.now (2 * j) + slice_index bytes.now (2 * j + 1)) * 65535 / maxval }
+    requires limit { (j : ℕ) → j < length row.old
+        → 256 * slice_index bytes.now (2 * j) + slice_index bytes.now (2 * j + 1) ≤ maxval }
+    ensures { (j : ℕ) → j < length row.old → slice_index row.new j ≡ (256 * slice_index bytes.now
+        (2 * j) + slice_index bytes.now (2 * j + 1)) * 65535 / maxval }
 {
     let scaling = Scaling::new(maxval);
-    for j in 0..row.len() {
-        let number = 256 * u32::from(bytes[2 * j]) + u32::from(bytes[2 * j + 1]);
-        row[j] = scaling.apply(number);
+    let eights = row.len() / 8;
+    for n in 0..eights {
+        put_eight(eight_scaled(&scaling, bytes, 16 * n), 8 * n, row);
+    }
+    for j in 8 * eights..row.len() {
+        row[j] = scaling.apply(u32::from(word(bytes, j)));
     }
 }
 
-/// What each byte up to `maxval` becomes.
-fn scale(maxval: u32) -> [u16; 256]
+/// Writes the samples of a row of grays of a byte each. A product takes many at once, where a table takes one by one.
+fn write_scaled_grays(maxval: u32, bytes: &[u8], row: &mut [u16])
     requires maxval { 1 ≤ maxval }
     requires byte { maxval < 256 }
-    ensures { (v : ℕ) → v ≤ maxval → slice_index result v ≡ v * 65535 / maxval }
+    requires size { length row.old ≡ 3 * length bytes.now }
+    requires limit { (x : ℕ) → x < length bytes.now → slice_index bytes.now x ≤ maxval }
+    ensures { (j : ℕ) → j < 3 * length bytes.now
+        → slice_index row.new j ≡ slice_index bytes.now (j / 3) * 65535 / maxval }
 {
-    let mut scale = [0u16; 256];
-    for v in 0..maxval + 1 {
-        scale[v as usize] = scaled(v, maxval);
-    }
-    scale
-}
-
-/// Writes the samples of a row of grays of a byte each.
-fn write_scaled_grays(scale: &[u16; 256], bytes: &[u8], row: &mut [u16])
-    requires { length row.old ≡ 3 * length bytes.now }
-    ensures { (j : ℕ) → j < 3 * length bytes.now → slice_index row.new j ≡ slice_index scale.now (slice_index bytes.now (j / 3)) }
-{
+    let scaling = ByteScaling::new(maxval);
     for x in 0..bytes.len() {
-        let gray = scale[usize::from(bytes[x])];
+        let gray = scaling.apply(bytes[x]);
         put_gray(gray, x, row);
     }
 }
 
-/// Writes the samples of a row of colors of a byte each.
-fn write_scaled_colors(scale: &[u16; 256], bytes: &[u8], row: &mut [u16])
-    requires { length row.old ≡ length bytes.now }
-    ensures { (j : ℕ) → j < length bytes.now → slice_index row.new j ≡ slice_index scale.now (slice_index bytes.now j) }
+/// Writes the samples of a row of colors of a byte each, by a product as those of grays.
+fn write_scaled_colors(maxval: u32, bytes: &[u8], row: &mut [u16])
+    requires maxval { 1 ≤ maxval }
+    requires byte { maxval < 256 }
+    requires size { length row.old ≡ length bytes.now }
+    requires limit { (j : ℕ) → j < length bytes.now → slice_index bytes.now j ≤ maxval }
+    ensures { (j : ℕ) → j < length bytes.now
+        → slice_index row.new j ≡ slice_index bytes.now j * 65535 / maxval }
 {
+    let scaling = ByteScaling::new(maxval);
     for j in 0..bytes.len() {
-        row[j] = scale[usize::from(bytes[j])];
+        row[j] = scaling.apply(bytes[j]);
     }
 }
 
@@ -236,15 +293,11 @@ fn write_row(header: &Header, bytes: &[u8], row: &mut [u16])
     match (header.format, maxval) {
         (PnmFormat::Ppm, 255) => write_colors(bytes, row),
         (PnmFormat::Ppm, 65535) => write_words(bytes, row),
-        (PnmFormat::Ppm, 0..=254) => write_scaled_colors(&scale(maxval), bytes, row),
+        (PnmFormat::Ppm, 0..=254) => write_scaled_colors(maxval, bytes, row),
         (PnmFormat::Ppm, _) => write_color_words(maxval, bytes, row),
         (PnmFormat::Pbm | PnmFormat::Pgm, 255) => write_grays(bytes, row),
         (PnmFormat::Pbm | PnmFormat::Pgm, 65535) => write_wide_grays(bytes, row),
-        (PnmFormat::Pbm | PnmFormat::Pgm, 0..=254) => write_scaled_grays(
-            &scale(maxval),
-            bytes,
-            row,
-        ),
+        (PnmFormat::Pbm | PnmFormat::Pgm, 0..=254) => write_scaled_grays(maxval, bytes, row),
         (PnmFormat::Pbm | PnmFormat::Pgm, _) => write_gray_words(maxval, bytes, row),
     }
 }
@@ -286,7 +339,7 @@ pub fn read_row<R: Rereadable>(
     let from = bytes.len() - *held as usize * size;
     *held -= 1;
     let shown = &bytes[from..from + size];
-    if !none_above(header.maxval, shown, sample_count(&row_header(header))) {
+    if !all_fit(header.maxval, shown, sample_count(&row_header(header))) {
         return Err(ReadFault);
     }
     write_row(header, shown, row);
@@ -304,17 +357,25 @@ fn check_rows<R: Rereadable>(
     requires room { file_row_size header.now ≤ length bytes.old }
     ensures kept { R.is_kept reader.new ≡ R.is_kept reader.old }
     ensures text { R.text reader.new ≡ R.text reader.old }
-    ensures read { IfOk result (λ _. R.is_kept reader.old ≡ true → ReadsRaster header.now (R.left reader.old) (R.left reader.new)) }
-    ensures few { IfOk result (λ _. R.is_kept reader.old ≡ true → reads.new + length (R.left reader.new) ≤ reads.old + length (R.left reader.old)) }
-    ensures worked { IfOk result (λ _. R.is_kept reader.old ≡ true → R.faults reader.new ≡ R.faults reader.old) }
-    ensures failed { IfErr result (λ fault. fault ≡ OpenFault.Device → FailsWithin (R.is_kept reader.old) reads.old (R.left reader.old) (R.faults reader.old) (R.faults reader.new)) }
-    ensures fits { IfOk result (λ fits. R.is_kept reader.old ≡ true → MatchBool fits (NoneAbove header.now.maxval (R.left reader.old) (sample_count header.now)) (SomeAbove header.now.maxval (R.left reader.old) (sample_count header.now))) }
+    ensures read { IfOk result (λ _. R.is_kept reader.old ≡ true
+        → ReadsRaster header.now (R.left reader.old) (R.left reader.new)) }
+    ensures few { IfOk result (λ _. R.is_kept reader.old ≡ true
+        → reads.new + length (R.left reader.new) ≤ reads.old + length (R.left reader.old)) }
+    ensures worked { IfOk result (λ _. R.is_kept reader.old ≡ true
+        → R.faults reader.new ≡ R.faults reader.old) }
+    ensures failed { IfErr result (λ fault. fault ≡ OpenFault.Device
+        → FailsWithin (R.is_kept reader.old) reads.old
+        (R.left reader.old) (R.faults reader.old) (R.faults reader.new)) }
+    ensures fits { IfOk result (λ fits. R.is_kept reader.old ≡ true
+        → MatchBool fits (NoneAbove header.now.maxval (R.left reader.old) (sample_count header.now))
+        (SomeAbove header.now.maxval (R.left reader.old) (sample_count header.now))) }
     ensures file { IfErr result (λ fault. IsOfFile fault) }
-    ensures fault { IfErr result (λ fault. R.is_kept reader.old ≡ true → HasOpenFaultAfter fault header.now (R.left reader.old)) }
+    ensures fault { IfErr result (λ fault. R.is_kept reader.old ≡ true
+        → HasOpenFaultAfter fault header.now (R.left reader.old)) }
 {
     let size = raster_size(&row_header(header));
     let count = sample_count(&row_header(header));
-    let mut all_fit = true;
+    let mut fit = true;
     let mut held = 0;
     // A read fills the room, so that the rows of a narrow page need few.
     for y in 0..header.height {
@@ -322,10 +383,10 @@ fn check_rows<R: Rereadable>(
             return Err(OpenFault::Page(PageFault::Short));
         }
         let from = bytes.len() - held as usize * size;
-        all_fit &= none_above(header.maxval, &bytes[from..from + size], count);
+        fit &= all_fit(header.maxval, &bytes[from..from + size], count);
         held -= 1;
     }
-    Ok(all_fit)
+    Ok(fit)
 }
 
 /// Reads the raster once through.
@@ -339,17 +400,22 @@ pub fn check_raster<R: Rereadable>(
     requires room { file_row_size header.now ≤ length bytes.old }
     ensures kept { R.is_kept reader.new ≡ R.is_kept reader.old }
     ensures text { R.text reader.new ≡ R.text reader.old }
-    ensures worked { OnOk result (R.is_kept reader.old ≡ true → R.faults reader.new ≡ R.faults reader.old) }
-    ensures failed { IfErr result (λ fault. fault ≡ OpenFault.Device → FailsWithin (R.is_kept reader.old) reads.old (R.left reader.old) (R.faults reader.old) (R.faults reader.new)) }
-    ensures raster { OnOk result (R.is_kept reader.old ≡ true → IsRaster header.now (R.left reader.old)) }
+    ensures worked { OnOk result (R.is_kept reader.old ≡ true
+        → R.faults reader.new ≡ R.faults reader.old) }
+    ensures failed { IfErr result (λ fault. fault ≡ OpenFault.Device
+        → FailsWithin (R.is_kept reader.old) reads.old
+        (R.left reader.old) (R.faults reader.old) (R.faults reader.new)) }
+    ensures raster { OnOk result (R.is_kept reader.old ≡ true
+        → IsRaster header.now (R.left reader.old)) }
     ensures file { IfErr result (λ fault. IsOfFile fault) }
-    ensures fault { IfErr result (λ fault. R.is_kept reader.old ≡ true → HasOpenFaultAfter fault header.now (R.left reader.old)) }
+    ensures fault { IfErr result (λ fault. R.is_kept reader.old ≡ true
+        → HasOpenFaultAfter fault header.now (R.left reader.old)) }
 {
-    let all_fit = check_rows(reader, header, bytes, reads)?;
+    let fit = check_rows(reader, header, bytes, reads)?;
     if fill(reader, &mut [0u8; 1], reads)? {
         return Err(OpenFault::Page(PageFault::Trailing));
     }
-    if !all_fit {
+    if !fit {
         return Err(OpenFault::Page(PageFault::SampleTooLarge));
     }
     Ok(())

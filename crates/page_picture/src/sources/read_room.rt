@@ -54,11 +54,14 @@ impl ReadRoom {
         ensures size { length self.new ≤ 4096 }
         ensures count { IfOk result (λ n. length self.new ≡ n) }
         ensures empty { OnErr result (self.new ≡ []) }
-        ensures faults { R.is_kept reader.old ≡ true → CountsFault (R.faults reader.old) result (R.faults reader.new) }
+        ensures faults { R.is_kept reader.old ≡ true
+            → CountsFault (R.faults reader.old) result (R.faults reader.new) }
         ensures kept { R.is_kept reader.new ≡ R.is_kept reader.old }
         ensures text { R.text reader.new ≡ R.text reader.old }
-        ensures bytes { R.is_kept reader.old ≡ true → R.left reader.old ≡ self.new ++ R.left reader.new }
-        ensures end { R.is_kept reader.old ≡ true → IfOk result (λ _. self.new ≡ [] → R.left reader.old ≡ []) }
+        ensures bytes { R.is_kept reader.old ≡ true
+            → R.left reader.old ≡ self.new ++ R.left reader.new }
+        ensures end { R.is_kept reader.old ≡ true
+            → IfOk result (λ _. self.new ≡ [] → R.left reader.old ≡ []) }
     {
         self.from = 0;
         self.to = 0;

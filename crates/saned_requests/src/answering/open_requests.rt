@@ -70,8 +70,10 @@ fn put_word<D: Device>(
     lease: Lease<D>,
 ) -> Option<Lease<D>>
     requires { word < length held.old }
-    ensures old { option_map (seen_lease D.state) result ≡ held_by (seen_held D.state held.old) word }
-    ensures new { seen_held D.state held.new ≡ on_word (λ _. Some (seen_lease D.state lease)) (seen_held D.state held.old) word }
+    ensures old { option_map (seen_lease D.state) result
+        ≡ held_by (seen_held D.state held.old) word }
+    ensures new { seen_held D.state held.new
+        ≡ on_word (λ _. Some (seen_lease D.state lease)) (seen_held D.state held.old) word }
 {
     mem::replace(&mut held[word], Some(lease))
 }
@@ -83,7 +85,9 @@ fn take_device<D: Device>(
     registry: &mut Registry<D>,
     name: &[u8],
 ) -> Reply
-    ensures { (stream : ChaCha) → Yields (take_device (request_context D.state session.old registry.old stream) name.now) result (request_context D.state session.new registry.new stream) }
+    ensures { (stream : ChaCha)
+        → Yields (take_device (request_context D.state session.old registry.old stream) name.now)
+        result (request_context D.state session.new registry.new stream) }
 {
     let Some(word) = free_word(&session.held) else {
         return refusal(alloc, Status::Unsupported);
@@ -122,8 +126,11 @@ pub fn open<D: Device>(
     challenger: &mut Challenger,
     name: Text,
 ) -> Result<RequestAnswer, NoMem>
-    ensures ok { IfOk result (λ said. OpensDevice users.now (request_context D.state session.old registry.old challenger.old) name said (request_context D.state session.new registry.new challenger.new)) }
-    ensures err { OnErr result (Draws (request_context D.state session.old registry.old challenger.old) (request_context D.state session.new registry.new challenger.new)) }
+    ensures ok { IfOk result (λ said. OpensDevice users.now
+        (request_context D.state session.old registry.old challenger.old) name said
+        (request_context D.state session.new registry.new challenger.new)) }
+    ensures err { OnErr result (Draws (request_context D.state session.old registry.old
+        challenger.old) (request_context D.state session.new registry.new challenger.new)) }
 {
     if free_word(&session.held).is_none() {
         return Ok(RequestAnswer::One(refusal(alloc, Status::Unsupported)));
@@ -178,7 +185,9 @@ pub fn authorize<D: Device>(
     password: Text,
 ) -> RequestAnswer
     requires { session.old.awaited ≡ None }
-    ensures { (stream : ChaCha) → Authorizes users.now (request_context D.state session.old registry.old stream) awaited resource user password result (request_context D.state session.new registry.new stream) }
+    ensures { (stream : ChaCha)
+        → Authorizes users.now (request_context D.state session.old registry.old stream) awaited
+        resource user password result (request_context D.state session.new registry.new stream) }
 {
     let reply = if may_open(users, &awaited, &resource, &user, &password) {
         take_device(alloc, session, registry, awaited.name.as_bytes())

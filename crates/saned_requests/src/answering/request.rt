@@ -59,8 +59,11 @@ fn answer_free<D: Device>(
     challenger: &mut Challenger,
     request: Request,
 ) -> Result<RequestAnswer, NoMem>
-    ensures ok { IfOk result (λ said. AnswersFree users.now (request_context D.state session.old registry.old challenger.old) request said (request_context D.state session.new registry.new challenger.new)) }
-    ensures err { OnErr result (OutOfMemoryFree (request_context D.state session.old registry.old challenger.old) request (request_context D.state session.new registry.new challenger.new)) }
+    ensures ok { IfOk result (λ said. AnswersFree users.now
+        (request_context D.state session.old registry.old challenger.old) request said
+        (request_context D.state session.new registry.new challenger.new)) }
+    ensures err { OnErr result (OutOfMemoryFree (request_context D.state session.old registry.old
+        challenger.old) request (request_context D.state session.new registry.new challenger.new)) }
 {
     match request {
         Request::Init { version, user: _ } => {
@@ -92,7 +95,9 @@ fn answer_free<D: Device>(
 
 /// The first request, which is INIT.
 fn answer_first<D: Device>(session: &mut Session<D>, request: Request) -> RequestAnswer
-    ensures { (registry : _) (stream : ChaCha) → IsContextOutcome (first_answer (request_context D.state session.old registry stream) request) result (request_context D.state session.new registry stream) }
+    ensures { (registry : _) (stream : ChaCha)
+        → IsContextOutcome (first_answer (request_context D.state session.old registry stream)
+        request) result (request_context D.state session.new registry stream) }
 {
     match request {
         Request::Init { version, user: _ } => {
@@ -113,7 +118,9 @@ fn answer_awaiting<D: Device>(
     request: Request,
 ) -> RequestAnswer
     requires { session.old.awaited ≡ None }
-    ensures { (stream : ChaCha) → AnswersAwaiting users.now (with_awaited (request_context D.state session.old registry.old stream) awaited) awaited request result (request_context D.state session.new registry.new stream) }
+    ensures { (stream : ChaCha) → AnswersAwaiting users.now
+        (with_awaited (request_context D.state session.old registry.old stream) awaited)
+        awaited request result (request_context D.state session.new registry.new stream) }
 {
     match request {
         Request::Authorize {
@@ -140,8 +147,11 @@ pub fn answer<D: Device>(
     challenger: &mut Challenger,
     request: Request,
 ) -> Result<RequestAnswer, NoMem>
-    ensures ok { IfOk result (λ said. Answers users.now (request_context D.state session.old registry.old challenger.old) request said (request_context D.state session.new registry.new challenger.new)) }
-    ensures err { OnErr result (OutOfMemoryAt (request_context D.state session.old registry.old challenger.old) request (request_context D.state session.new registry.new challenger.new)) }
+    ensures ok { IfOk result
+        (λ said. Answers users.now (request_context D.state session.old registry.old challenger.old)
+        request said (request_context D.state session.new registry.new challenger.new)) }
+    ensures err { OnErr result (OutOfMemoryAt (request_context D.state session.old registry.old
+        challenger.old) request (request_context D.state session.new registry.new challenger.new)) }
 {
     if !session.greeted {
         return Ok(answer_first(session, request));

@@ -43,7 +43,8 @@ fn start_lease<D: Device>(
     port: u16,
     word: usize,
 ) -> Result<(Reply, DataPhase), NoMem>
-    ensures { StartsLease transfer port word (option_map (seen_lease D.state) lease.old) result (option_map (seen_lease D.state) lease.new) }
+    ensures { StartsLease transfer port word (option_map (seen_lease D.state) lease.old) result
+        (option_map (seen_lease D.state) lease.new) }
 {
     let Some(lease) = lease else {
         let reply = start_reply(alloc, Status::Inval, 0, ByteOrder::Little);
@@ -75,7 +76,8 @@ fn start_held<D: Device>(
     port: u16,
     word: usize,
 ) -> Result<(Reply, DataPhase), NoMem>
-    ensures { StartsHeld transfer port (seen_held D.state held.old) word result (seen_held D.state held.new) }
+    ensures { StartsHeld transfer port
+        (seen_held D.state held.old) word result (seen_held D.state held.new) }
 {
     if word < held.len() {
         start_lease(alloc, &mut held[word], transfer, port, word)
@@ -93,8 +95,12 @@ pub fn start<D: Device>(
     session: &mut Session<D>,
     word: u32,
 ) -> Result<RequestAnswer, NoMem>
-    ensures ok { IfOk result (λ said. (registry : _) (stream : ChaCha) → AnswersStart (request_context D.state session.old registry stream) word said (request_context D.state session.new registry stream)) }
-    ensures err { IfErr result (λ _. (registry : _) (stream : ChaCha) → StartsWord (request_context D.state session.old registry stream) word (Err no_mem) (request_context D.state session.new registry stream)) }
+    ensures ok { IfOk result (λ said. (registry : _) (stream : ChaCha)
+        → AnswersStart (request_context D.state session.old registry stream) word said
+        (request_context D.state session.new registry stream)) }
+    ensures err { IfErr result (λ _. (registry : _) (stream : ChaCha)
+        → StartsWord (request_context D.state session.old registry stream) word
+        (Err no_mem) (request_context D.state session.new registry stream)) }
 {
     let (reply, transfer) = start_held(
         alloc,

@@ -1,10 +1,11 @@
 //! Values of options as they travel.
 
-ghost use Rattle.std.specs.Prelude.{◌≡◌, ◌++◌, ◌∷◌, [], ◌==◌, ◌*◌, IfOk, IfSome, length, map, option_map, position};
+ghost use Rattle.std.specs.Prelude.{◌≡◌, ◌++◌, ◌∷◌, [], ◌==◌, ◌*◌, ◌-◌, IfOk, IfSome, length, map, option_map, position, replicate};
 ghost use Rattle.std.specs.Int.{w32, cast_signed, cast_unsigned};
 ghost use Rattle.option_desc.specs.declared.value.Value.TheVariants.{Text as TextOf};
-ghost use Rattle.saned_requests.specs.WireValues.{wire_of, flag_value_of, flag_in, ints_of, fixed_value_of, text_in, words_asked, bytes_asked, asked_of, value_asked};
+ghost use Rattle.saned_requests.specs.WireValues.{wire_of, filled, sent_as, flag_value_of, flag_in, ints_of, fixed_value_of, text_in, words_asked, bytes_asked, asked_of, value_asked};
 
+use crate::session::StringSize;
 use option_desc::{Descriptor, Value, Words};
 use sane_fixed::{Fixed, Kind, NoMem, Text};
 use std::alloc::Global;
@@ -34,8 +35,8 @@ fn with_nul(alloc: Global, text: &[u8]) -> Result<WireValue, NoMem>
     Ok(WireValue::Bytes(Array::from_vec(bytes)))
 }
 
-/// A value as it is sent: a text with its NUL.
-pub fn wire_of(alloc: Global, value: &Value) -> Result<WireValue, NoMem>
+/// A value by itself: a text with its NUL.
+fn wire_of(alloc: Global, value: &Value) -> Result<WireValue, NoMem>
     ensures { IfOk result (λ sent. sent ≡ wire_of value.now) }
 {
     match value {
@@ -44,6 +45,38 @@ pub fn wire_of(alloc: Global, value: &Value) -> Result<WireValue, NoMem>
         Value::Fixed(fixed) => one_word(alloc, fixed.0.cast_unsigned()),
         Value::Words(words) => unsigned(alloc, words.as_slice()),
         Value::Text(text) => with_nul(alloc, text.as_bytes()),
+    }
+}
+
+/// A string value with zero bytes behind it, up to that size.
+fn filled(size: usize, value: WireValue) -> Result<WireValue, NoMem>
+    ensures { IfOk result (λ sent. sent ≡ filled size value) }
+{
+    match value {
+        WireValue::Words(words) => Ok(WireValue::Words(words)),
+        WireValue::Bytes(bytes) => {
+            let mut bytes = bytes.into_vec();
+            if bytes.len() < size {
+                bytes.resize(size, 0)?;
+            }
+            Ok(WireValue::Bytes(Array::from_vec(bytes)))
+        }
+    }
+}
+
+/// A value of an option of that size, as a reply has it.
+pub fn sent_as(
+    alloc: Global,
+    strings: StringSize,
+    size: u32,
+    value: &Value,
+) -> Result<WireValue, NoMem>
+    ensures { IfOk result (λ sent. sent ≡ sent_as strings size value.now) }
+{
+    let sent = wire_of(alloc, value)?;
+    match strings {
+        StringSize::OfText => Ok(sent),
+        StringSize::OfOption => filled(size as usize, sent),
     }
 }
 

@@ -34,8 +34,10 @@ impl DataPhase {
 
 /// Takes out what a word stands for.
 fn take_word<D: Device>(held: &mut [Option<Lease<D>>], word: usize) -> Option<Lease<D>>
-    ensures lease { option_map (seen_lease D.state) result ≡ held_by (seen_held D.state held.old) word }
-    ensures held { seen_held D.state held.new ≡ on_word (λ _. None) (seen_held D.state held.old) word }
+    ensures lease { option_map (seen_lease D.state) result
+        ≡ held_by (seen_held D.state held.old) word }
+    ensures held { seen_held D.state held.new
+        ≡ on_word (λ _. None) (seen_held D.state held.old) word }
 {
     if word < held.len() {
         mem::replace(&mut held[word], None)
@@ -70,7 +72,9 @@ pub fn close<D: Device>(
     registry: &mut Registry<D>,
     word: u32,
 ) -> RequestAnswer
-    ensures { (stream : ChaCha) → IsContextOutcome (close (request_context D.state session.old registry.old stream) word) result (request_context D.state session.new registry.new stream) }
+    ensures { (stream : ChaCha)
+        → IsContextOutcome (close (request_context D.state session.old registry.old stream) word)
+        result (request_context D.state session.new registry.new stream) }
 {
     let word = word as usize;
     let Some(lease) = take_word(&mut session.held, word) else {
@@ -83,7 +87,9 @@ pub fn close<D: Device>(
 
 /// CANCEL.
 pub fn cancel<D: Device>(session: &mut Session<D>, word: u32) -> RequestAnswer
-    ensures { (registry : _) (stream : ChaCha) → IsContextOutcome (cancel (request_context D.state session.old registry stream) word) result (request_context D.state session.new registry stream) }
+    ensures { (registry : _) (stream : ChaCha)
+        → IsContextOutcome (cancel (request_context D.state session.old registry stream) word)
+        result (request_context D.state session.new registry stream) }
 {
     let word = word as usize;
     if has_lease(&session.held, word) {
@@ -98,7 +104,8 @@ fn options_of_lease<D: Device>(
     alloc: Global,
     lease: &Option<Lease<D>>,
 ) -> Result<Vec<Descriptor>, NoMem>
-    ensures { IfOk result (λ all. all.items ≡ options_of_lease (option_map (seen_lease D.state) lease.now)) }
+    ensures { IfOk result (λ all. all.items
+        ≡ options_of_lease (option_map (seen_lease D.state) lease.now)) }
 {
     match lease {
         None => Ok(Vec::new(alloc)),
@@ -112,7 +119,8 @@ pub fn options_at<D: Device>(
     held: &[Option<Lease<D>>],
     word: usize,
 ) -> Result<Vec<Descriptor>, NoMem>
-    ensures { IfOk result (λ all. all.items ≡ options_of_lease (held_by (seen_held D.state held.now) word)) }
+    ensures { IfOk result (λ all. all.items
+        ≡ options_of_lease (held_by (seen_held D.state held.now) word)) }
 {
     if word < held.len() {
         options_of_lease(alloc, &held[word])
@@ -127,7 +135,9 @@ pub fn options<D: Device>(
     session: &Session<D>,
     word: u32,
 ) -> Result<RequestAnswer, NoMem>
-    ensures { IfOk result (λ said. (registry : _) (stream : ChaCha) → IsContextOutcome (options_reply (request_context D.state session.now registry stream) word) said (request_context D.state session.now registry stream)) }
+    ensures { IfOk result (λ said. (registry : _) (stream : ChaCha)
+        → IsContextOutcome (options_reply (request_context D.state session.now registry stream)
+        word) said (request_context D.state session.now registry stream)) }
 {
     let all = options_at(alloc, &session.held, word as usize)?;
     Ok(RequestAnswer::One(Reply::GetOptionDescriptors {
@@ -179,7 +189,9 @@ fn params_at<D: Device>(held: &[Option<Lease<D>>], word: usize) -> Reply
 
 /// GET_PARAMETERS.
 pub fn params<D: Device>(session: &Session<D>, word: u32) -> RequestAnswer
-    ensures { (registry : _) (stream : ChaCha) → IsContextOutcome (params_reply (request_context D.state session.now registry stream) word) result (request_context D.state session.now registry stream) }
+    ensures { (registry : _) (stream : ChaCha)
+        → IsContextOutcome (params_reply (request_context D.state session.now registry stream) word)
+        result (request_context D.state session.now registry stream) }
 {
     RequestAnswer::One(params_at(&session.held, word as usize))
 }

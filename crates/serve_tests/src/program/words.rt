@@ -5,6 +5,7 @@ use sane_fixed::ByteOrder;
 use saned_cli::{
     DaemonEnding, DaemonOptions, DaemonOptionsFault, read_options, read_seed, text_of,
 };
+use saned_requests::StringSize;
 use std::alloc::Global;
 use std::process::Abort;
 use std::test::Fail;
@@ -36,13 +37,14 @@ fn defaults(rt: HostRuntime) -> Result<(), Fail> {
     assert!(rt; found.byte_order == ByteOrder::Little);
     assert!(rt; found.sessions == 0);
     assert!(rt; found.idle_turns == 10_000_000);
+    assert!(rt; found.strings == StringSize::OfText);
     Ok(())
 }
 
 #[test]
 fn all_options(rt: HostRuntime) -> Result<(), Fail> {
     let line =
-        "--idle-turns 1 --sessions=1000000000 --byte-order big --port 65535 --seed x --users u --config c";
+        "--idle-turns 1 --pad-strings --sessions=1000000000 --byte-order big --port 65535 --seed x --users u --config c";
     let found = options(&rt, rt.alloc(), line)?;
     assert!(rt; found.config.as_str() == "c");
     let Some(users) = &found.users else {
@@ -57,6 +59,31 @@ fn all_options(rt: HostRuntime) -> Result<(), Fail> {
     assert!(rt; found.byte_order == ByteOrder::Big);
     assert!(rt; found.sessions == 1_000_000_000);
     assert!(rt; found.idle_turns == 1);
+    assert!(rt; found.strings == StringSize::OfOption);
+    Ok(())
+}
+
+/// The flag has no value, and is a value behind an option's name.
+#[test]
+fn the_flag(rt: HostRuntime) -> Result<(), Fail> {
+    for (line, config, strings) in [
+        ("--pad-strings --config c", "c", StringSize::OfOption),
+        ("--config c --pad-strings", "c", StringSize::OfOption),
+        (
+            "--config --pad-strings",
+            "--pad-strings",
+            StringSize::OfText,
+        ),
+        (
+            "--config=--pad-strings --pad-strings",
+            "--pad-strings",
+            StringSize::OfOption,
+        ),
+    ] {
+        let found = options(&rt, rt.alloc(), line)?;
+        assert!(rt; found.config.as_str() == config);
+        assert!(rt; found.strings == strings);
+    }
     Ok(())
 }
 
@@ -116,6 +143,11 @@ const BAD: &[&str] = &[
     "--config c --=1",
     "--config c -=1",
     "--config c port=1",
+    "--config c --pad-strings x",
+    "--config c --pad-strings=",
+    "--config c --pad-strings=true",
+    "--config c --pad-strings --pad-strings",
+    "--config c --pad-string",
 ];
 
 #[test]

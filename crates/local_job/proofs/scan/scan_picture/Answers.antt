@@ -2,7 +2,7 @@ use Rattle.std.proofs.Common.{◌≡◌, inr, refl, sym, subst, [], List, ℕ}
 use Rattle.std.specs.Prelude.{Option, OnOk, OnErr}
 use Rattle.std.specs.Io.KnownBytes.{Appends}
 use Rattle.device_api.specs.State.{DeviceState}
-use Rattle.local_job.specs.LocalDraining.{StopsShort}
+use Rattle.scan_job.specs.FileOutputs.{StopsShort}
 use Rattle.local_job.specs.FrameReading.{IsScanned}
 use Rattle.local_job.proofs.Pictures.{if_err_map}
 use Rattle.local_job.proofs.scan.scan_picture.Goals as goal

@@ -2,7 +2,7 @@ use Rattle.std.proofs.Common.{◌≡◌, ◌∙◌, rules, arith, ap, sym, subst
 use Rattle.std.specs.Prelude.{Option, option_map}
 use Rattle.std.proofs.lemmas.List.{length-take}
 use Rattle.client_replies.specs.ProtocolStates.{turns}
-use Rattle.net_jobs.specs.Outputs.{GivesBack}
+use Rattle.scan_job.specs.FileOutputs.{GivesBack}
 use Rattle.net_jobs.specs.Paging.{TurnsOn}
 use Rattle.net_jobs.proofs.Pages.{Pulls, begun, one_more, at_end, turned, stopped, never}
 use Rattle.net_jobs.proofs.net_batch.drain.Goals.{else-is_page-via-then-is_page+else-not-is_turning, else-is_page-via-else-is_page}

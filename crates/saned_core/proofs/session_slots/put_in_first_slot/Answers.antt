@@ -9,10 +9,10 @@ use Rattle.saned_core.proofs.SlotNumbers.{found_full, full_seats, vacant_seat}
 use Rattle.saned_core.proofs.session_slots.put_in_first_slot.Goals as goal
 
 pub returns-in_default-clause-answer : goal.returns-in_default-clause-answer
-returns-in_default-clause-answer g c = ap not (sym (full_seats g.D.Device.state c.args.slots.now (new_session_slot c.args.number c.args.port) (found_full c.args.slots.now (sym c.free_place.ensures.place ∙ c.in_default.is))).0)
+returns-in_default-clause-answer g c = ap not (sym (full_seats g.D.Device.state c.args.slots.now (new_session_slot c.args.strings c.args.number c.args.port) (found_full c.args.slots.now (sym c.free_place.ensures.place ∙ c.in_default.is))).0)
 
 pub returns-in_default-clause-seats : goal.returns-in_default-clause-seats
-returns-in_default-clause-seats g c = sym (full_seats g.D.Device.state c.args.slots.now (new_session_slot c.args.number c.args.port) (found_full c.args.slots.now (sym c.free_place.ensures.place ∙ c.in_default.is))).1
+returns-in_default-clause-seats g c = sym (full_seats g.D.Device.state c.args.slots.now (new_session_slot c.args.strings c.args.number c.args.port) (found_full c.args.slots.now (sym c.free_place.ensures.place ∙ c.in_default.is))).1
 
 pub returns-clause-answer : goal.returns-clause-answer
 returns-clause-answer g c =

@@ -2,7 +2,7 @@ use Rattle.std.proofs.Common.{◌≡◌, true, false, refl, rules, ◌∙◌, ap
 use Rattle.saned_core.specs.DaemonStates.{core, is_waiting}
 use Rattle.saned_core.specs.declared.session_slot.FrameState.TheVariants.{Quiet, Waiting, Streaming, Ending}
 use Rattle.saned_core.specs.declared.session_slot.FrameState.{FrameState}
-use Rattle.saned_serve.proofs.ActionSteps.{goes_dials, goes_misses, goes_looks, goes_images}
+use Rattle.saned_serve.proofs.DataActionSteps.{goes_dials, goes_misses, goes_looks, goes_images}
 use Rattle.saned_serve.proofs.link.dial.Goals as goal
 
 none_of : {A : Type 0} (o : Option A) → is_some o ≡ false → o ≡ None

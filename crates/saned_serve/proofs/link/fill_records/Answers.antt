@@ -1,7 +1,7 @@
 use Rattle.std.proofs.Common.{◌≡◌, true, false, refl}
 use Rattle.saned_core.specs.DaemonStates.{core}
 use Rattle.saned_serve.proofs.Daemon.{record_some}
-use Rattle.saned_serve.proofs.ActionSteps.{goes_records, goes_loaded}
+use Rattle.saned_serve.proofs.DataActionSteps.{goes_records, goes_loaded}
 use Rattle.saned_serve.proofs.link.fill_records.Goals as goal
 
 pub returns-then-is_empty : goal.returns-then-is_empty

@@ -2,7 +2,7 @@ use Rattle.std.proofs.Common.{◌∙◌, ap}
 use Rattle.saned_core.specs.DaemonStates.{core, after_end_session}
 use Rattle.saned_serve.specs.ListenerTraces.{with_notice}
 use Rattle.saned_serve.specs.ListenerTraces.Notice.{Shut, Back}
-use Rattle.saned_serve.proofs.ActionSteps.{parts_hung}
+use Rattle.saned_serve.proofs.DataActionSteps.{parts_hung}
 use Rattle.saned_serve.proofs.link.leave.Goals as goal
 
 pub returns : goal.returns

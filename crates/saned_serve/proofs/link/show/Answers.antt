@@ -3,7 +3,8 @@ use Rattle.saned_core.specs.DaemonStates.{core}
 use Rattle.saned_serve.specs.SessionActions.{ActsOn}
 use Rattle.saned_serve.specs.SessionActions.SessionAction.{Lose}
 use Rattle.saned_serve.specs.declared.link.SessionLink.{SessionLink}
-use Rattle.saned_serve.proofs.ActionSteps.{goes_then, goes_dark, goes_shows_none, goes_shows, goes_shows_last, goes_shows_lost}
+use Rattle.saned_serve.proofs.ActionSteps.{goes_then}
+use Rattle.saned_serve.proofs.DataActionSteps.{goes_dark, goes_shows_none, goes_shows, goes_shows_last, goes_shows_lost}
 use Rattle.saned_serve.proofs.link.show.Goals as goal
 use Rattle.saned_serve.proofs.link.show.Goals.{else-link-via-then-link+else-is_empty, else-link-via-else-link}
 

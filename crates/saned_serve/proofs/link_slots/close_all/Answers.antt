@@ -2,7 +2,7 @@ use Rattle.std.proofs.Common.{◌≡◌, ◌∷◌, [], suc, length, List, refl,
 use Rattle.saned_core.specs.DaemonStates.{core}
 use Rattle.saned_serve.specs.LoopInvariants.{LoopInvariant, Shuts}
 use Rattle.saned_serve.proofs.SlotGreeting.{shuts_here, stands_pops, stands_ends}
-use Rattle.saned_serve.proofs.ActionSteps.{closing_then}
+use Rattle.saned_serve.proofs.DataActionSteps.{closing_then}
 use Rattle.saned_serve.proofs.link_slots.close_all.Goals as goal
 
 no_items : {A : Type 0} (xs : List A) → length xs ≡ 0 → xs ≡ []

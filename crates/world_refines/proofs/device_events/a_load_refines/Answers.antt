@@ -1,4 +1,4 @@
-use Rattle.world_refines.proofs.Loading.{loads_follow}
+use Rattle.world_refines.proofs.job_events.Loading.{loads_follow}
 use Rattle.world_refines.proofs.device_events.a_load_refines.Goals as goal
 
 pub returns : goal.returns

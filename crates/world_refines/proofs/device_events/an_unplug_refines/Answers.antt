@@ -1,4 +1,4 @@
-use Rattle.world_refines.proofs.Unplugging.{unplugs_follow}
+use Rattle.world_refines.proofs.job_events.Unplugging.{unplugs_follow}
 use Rattle.world_refines.proofs.device_events.an_unplug_refines.Goals as goal
 
 pub returns : goal.returns

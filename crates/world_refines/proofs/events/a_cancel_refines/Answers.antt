@@ -1,7 +1,7 @@
 use Rattle.scan_world.specs.declared.event.JobEvent.TheVariants.{Cancel}
 use Rattle.world_refines.specs.GhostEvents.{GivesUp}
-use Rattle.world_refines.proofs.Cancelling.{cancel_decides}
-use Rattle.world_refines.proofs.Taking.{follows_by}
+use Rattle.world_refines.proofs.job_events.Cancelling.{cancel_decides}
+use Rattle.world_refines.proofs.state.Taking.{follows_by}
 use Rattle.world_refines.proofs.events.a_cancel_refines.Goals as goal
 
 pub returns : goal.returns

@@ -1,8 +1,8 @@
 use Rattle.scan_world.specs.declared.event.JobEvent.TheVariants.{ToDaemon}
 use Rattle.world_refines.specs.Answering.{AnswersSome}
-use Rattle.world_refines.proofs.FedEvent.{delivery_decides}
-use Rattle.world_refines.proofs.OneAnswer.{all_requests}
-use Rattle.world_refines.proofs.Taking.{follows_by}
+use Rattle.world_refines.proofs.requests.FedEvent.{delivery_decides}
+use Rattle.world_refines.proofs.requests.OneAnswer.{all_requests}
+use Rattle.world_refines.proofs.state.Taking.{follows_by}
 use Rattle.world_refines.proofs.events.a_delivery_to_the_daemon_refines.Goals as goal
 
 pub returns : goal.returns

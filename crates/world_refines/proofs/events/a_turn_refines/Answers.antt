@@ -1,7 +1,7 @@
 use Rattle.scan_world.specs.declared.event.JobEvent.TheVariants.{DataTurn}
 use Rattle.world_refines.specs.GhostEvents.{GhostTurns}
-use Rattle.world_refines.proofs.TurnEvents.{turn_decides}
-use Rattle.world_refines.proofs.Taking.{follows_by}
+use Rattle.world_refines.proofs.frames.TurnEvents.{turn_decides}
+use Rattle.world_refines.proofs.state.Taking.{follows_by}
 use Rattle.world_refines.proofs.events.a_turn_refines.Goals as goal
 
 pub returns : goal.returns

@@ -1,4 +1,4 @@
-use Rattle.world_refines.proofs.Followed.{events_follow}
+use Rattle.world_refines.proofs.job_events.Followed.{events_follow}
 use Rattle.world_refines.proofs.histories.a_run_refines.Goals as goal
 
 pub returns : goal.returns

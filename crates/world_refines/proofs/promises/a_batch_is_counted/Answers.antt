@@ -1,4 +1,4 @@
-use Rattle.world_refines.proofs.Counted
+use Rattle.world_refines.proofs.promise_proofs.Counted
 use Rattle.world_refines.proofs.promises.a_batch_is_counted.Goals as goal
 
 pub returns : goal.returns

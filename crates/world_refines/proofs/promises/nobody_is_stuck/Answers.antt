@@ -1,4 +1,4 @@
-use Rattle.world_refines.proofs.Stuck
+use Rattle.world_refines.proofs.moves.Stuck
 use Rattle.world_refines.proofs.promises.nobody_is_stuck.Goals as goal
 
 pub returns : goal.returns

@@ -1,4 +1,4 @@
-use Rattle.world_refines.proofs.PromiseProofs
+use Rattle.world_refines.proofs.promise_proofs.PromiseProofs
 use Rattle.world_refines.proofs.promises.outcomes_are_right.Goals as goal
 
 pub returns : goal.returns

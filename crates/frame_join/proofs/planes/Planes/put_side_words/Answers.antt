@@ -19,9 +19,7 @@ returns c =
     let pixel = (from + head) / 6 in
     let place = 2 * pixel in
     let turn = c.place_in-turn.result in
-    let buf = c.spread-3.new.buf in
-    let second_buf = c.spread-2.new.buf in
-    let first_buf = c.spread.new.buf in
+    let buf = c.weave_words.new.buf in
     -- what the slices of the three colors hold
     let red : (k : ℕ) → k < 2 * count → slice_index c.in-Some-Some-Some.red.now k ≡ slice_index planes.red.bytes (y * planes.red.line + (place + k)) = search rules in
     let green : (k : ℕ) → k < 2 * count → slice_index c.in-Some-Some-Some.green.now k ≡ slice_index planes.green.bytes (y * planes.green.line + (place + k)) = search rules in
@@ -35,34 +33,54 @@ returns c =
     λ p k. ap (λ (t : ℕ). slice_index p.bytes (y * p.line + t)) (let e : place + 2 * k ≡ 2 * (pixel + k) + 0 = omega arith in e) in
     let second : (p : Plane) (k : ℕ) → slice_index p.bytes (y * p.line + (place + (2 * k + 1))) ≡ slice_index p.bytes (y * p.line + (2 * (pixel + k) + 1)) =
     λ p k. ap (λ (t : ℕ). slice_index p.bytes (y * p.line + t)) (let e : place + (2 * k + 1) ≡ 2 * (pixel + k) + 1 = omega arith in e) in
-    -- what later colors leave as it is
-    let kept_by_blue : (k o : ℕ) → o < 4 → slice_index buf (head + 6 * k + o) ≡ slice_index second_buf (head + 6 * k + o) =
-    λ k o less. elim (cases_lt k 1) as (λ _. slice_index buf (head + 6 * k + o) ≡ slice_index second_buf (head + 6 * k + o)) [
-      | inl none ↦ c.spread-3.ensures.before (head + 6 * k + o) (omega (arith, less, none))
-      | inr some ↦ c.spread-3.ensures.between (head + 6 * k + o) (omega (arith, some)) (omega (arith, less, some))
-    ] in
-    let kept_by_green : (k o : ℕ) → o < 2 → slice_index second_buf (head + 6 * k + o) ≡ slice_index first_buf (head + 6 * k + o) =
-    λ k o less. elim (cases_lt k 1) as (λ _. slice_index second_buf (head + 6 * k + o) ≡ slice_index first_buf (head + 6 * k + o)) [
-      | inl none ↦ c.spread-2.ensures.before (head + 6 * k + o) (omega (arith, less, none))
-      | inr some ↦ c.spread-2.ensures.between (head + 6 * k + o) (omega (arith, some)) (omega (arith, less, some))
-    ] in
     let at : (xs : List ℕ) (i j : ℕ) → i ≡ j → slice_index xs i ≡ slice_index xs j = λ xs i j e. ap (slice_index xs) e in
-    let greens : length c.in-Some-Some-Some.green.now ≡ 2 * count = search rules in
-    let blues : length c.in-Some-Some-Some.blue.now ≡ 2 * count = search rules in
     let turn_is : turn ≡ place_in order 16 0 = search rules in
     let turn_low : turn ≤ 1 = omega (arith, turn_is, place_two order 0 (omega arith), place_turn order) in
+    let red_two : (k : ℕ) → k < count → (t : ℕ) → t < 2 → slice_index buf (head + 6 * k + 0 + t) ≡ slice_index planes.red.bytes (y * planes.red.line + (place + (2 * k + (turn + t) % 2))) =
+    λ k less t low. elim (cases_lt t 1) as (λ _. slice_index buf (head + 6 * k + 0 + t) ≡ slice_index planes.red.bytes (y * planes.red.line + (place + (2 * k + (turn + t) % 2)))) [
+      | inl none ↦
+          at buf (head + 6 * k + 0 + t) (head + 6 * k) (omega (arith, none)) ∙ (c.weave_words.ensures.red k (omega (arith, reds, less))
+          ∙ (at c.in-Some-Some-Some.red.now (2 * k + turn) (2 * k + (turn + t) % 2) (omega (arith, none, turn_low)) ∙ red (2 * k + (turn + t) % 2) (omega (arith, less))))
+      | inr some ↦
+          at buf (head + 6 * k + 0 + t) (head + 6 * k + 1) (omega (arith, some, low)) ∙ (c.weave_words.ensures.red_other k (omega (arith, reds, less))
+          ∙ (at c.in-Some-Some-Some.red.now (2 * k + (1 - turn)) (2 * k + (turn + t) % 2) (omega (arith, some, low, turn_low)) ∙ red (2 * k + (turn + t) % 2) (omega (arith, less))))
+    ] in
+    let green_two : (k : ℕ) → k < count → (t : ℕ) → t < 2 → slice_index buf (head + 6 * k + 2 + t) ≡ slice_index planes.green.bytes (y * planes.green.line + (place + (2 * k + (turn + t) % 2))) =
+    λ k less t low. elim (cases_lt t 1) as (λ _. slice_index buf (head + 6 * k + 2 + t) ≡ slice_index planes.green.bytes (y * planes.green.line + (place + (2 * k + (turn + t) % 2)))) [
+      | inl none ↦
+          at buf (head + 6 * k + 2 + t) (head + 6 * k + 2) (omega (arith, none)) ∙ (c.weave_words.ensures.green k (omega (arith, reds, less))
+          ∙ (at c.in-Some-Some-Some.green.now (2 * k + turn) (2 * k + (turn + t) % 2) (omega (arith, none, turn_low)) ∙ green (2 * k + (turn + t) % 2) (omega (arith, less))))
+      | inr some ↦
+          at buf (head + 6 * k + 2 + t) (head + 6 * k + 3) (omega (arith, some, low)) ∙ (c.weave_words.ensures.green_other k (omega (arith, reds, less))
+          ∙ (at c.in-Some-Some-Some.green.now (2 * k + (1 - turn)) (2 * k + (turn + t) % 2) (omega (arith, some, low, turn_low)) ∙ green (2 * k + (turn + t) % 2) (omega (arith, less))))
+    ] in
+    let blue_two : (k : ℕ) → k < count → (t : ℕ) → t < 2 → slice_index buf (head + 6 * k + 4 + t) ≡ slice_index planes.blue.bytes (y * planes.blue.line + (place + (2 * k + (turn + t) % 2))) =
+    λ k less t low. elim (cases_lt t 1) as (λ _. slice_index buf (head + 6 * k + 4 + t) ≡ slice_index planes.blue.bytes (y * planes.blue.line + (place + (2 * k + (turn + t) % 2)))) [
+      | inl none ↦
+          at buf (head + 6 * k + 4 + t) (head + 6 * k + 4) (omega (arith, none)) ∙ (c.weave_words.ensures.blue k (omega (arith, reds, less))
+          ∙ (at c.in-Some-Some-Some.blue.now (2 * k + turn) (2 * k + (turn + t) % 2) (omega (arith, none, turn_low)) ∙ blue (2 * k + (turn + t) % 2) (omega (arith, less))))
+      | inr some ↦
+          at buf (head + 6 * k + 4 + t) (head + 6 * k + 5) (omega (arith, some, low)) ∙ (c.weave_words.ensures.blue_other k (omega (arith, reds, less))
+          ∙ (at c.in-Some-Some-Some.blue.now (2 * k + (1 - turn)) (2 * k + (turn + t) % 2) (omega (arith, some, low, turn_low)) ∙ blue (2 * k + (turn + t) % 2) (omega (arith, less))))
+    ] in
     let zero : (k : ℕ) → k < count → Has k 0 = λ k less.
-    kept_by_blue k (place_in order 16 0) (omega (arith, place_one order 0 (omega arith), turn_is, turn_low)) ∙ (kept_by_green k (place_in order 16 0) (omega (arith, place_one order 0 (omega arith), turn_is, turn_low)) ∙ (at first_buf (head + 6 * k + place_in order 16 0) (head + 6 * k + turn) (omega (arith, place_one order 0 (omega arith), turn_is)) ∙ (c.spread.ensures.one k (omega (arith, reds, less)) ∙ (red (2 * k) (omega (arith, less)) ∙ first planes.red k)))) in
+    at buf (head + 6 * k + place_in order 16 0) (head + 6 * k + 0 + turn) (omega (arith, place_one order 0 (omega arith), turn_is))
+    ∙ (red_two k less turn (omega (arith, turn_low)) ∙ (ap (λ (q : ℕ). slice_index planes.red.bytes (y * planes.red.line + (place + q))) (let e : 2 * k + (turn + turn) % 2 ≡ 2 * k = omega (arith, turn_low) in e) ∙ first planes.red k)) in
     let one : (k : ℕ) → k < count → Has k 1 = λ k less.
-    kept_by_blue k (place_in order 16 1) (omega (arith, place_two order 0 (omega arith), turn_is, turn_low)) ∙ (kept_by_green k (place_in order 16 1) (omega (arith, place_two order 0 (omega arith), turn_is, turn_low)) ∙ (at first_buf (head + 6 * k + place_in order 16 1) (head + 6 * k + (1 - turn)) (omega (arith, place_two order 0 (omega arith), turn_is)) ∙ (c.spread.ensures.two k (omega (arith, reds, less)) ∙ (red (2 * k + 1) (omega (arith, less)) ∙ second planes.red k)))) in
+    at buf (head + 6 * k + place_in order 16 1) (head + 6 * k + 0 + (1 - turn)) (omega (arith, place_two order 0 (omega arith), turn_is))
+    ∙ (red_two k less (1 - turn) (omega (arith, turn_low)) ∙ (ap (λ (q : ℕ). slice_index planes.red.bytes (y * planes.red.line + (place + q))) (let e : 2 * k + (turn + (1 - turn)) % 2 ≡ 2 * k + 1 = omega (arith, turn_low) in e) ∙ second planes.red k)) in
     let two : (k : ℕ) → k < count → Has k 2 = λ k less.
-    kept_by_blue k (place_in order 16 2) (omega (arith, place_one order 1 (omega arith), turn_is, turn_low)) ∙ (at second_buf (head + 6 * k + place_in order 16 2) (head + 2 + 6 * k + turn) (omega (arith, place_one order 1 (omega arith), turn_is)) ∙ (c.spread-2.ensures.one k (omega (arith, greens, less)) ∙ (green (2 * k) (omega (arith, less)) ∙ first planes.green k))) in
+    at buf (head + 6 * k + place_in order 16 2) (head + 6 * k + 2 + turn) (omega (arith, place_one order 1 (omega arith), turn_is))
+    ∙ (green_two k less turn (omega (arith, turn_low)) ∙ (ap (λ (q : ℕ). slice_index planes.green.bytes (y * planes.green.line + (place + q))) (let e : 2 * k + (turn + turn) % 2 ≡ 2 * k = omega (arith, turn_low) in e) ∙ first planes.green k)) in
     let three : (k : ℕ) → k < count → Has k 3 = λ k less.
-    kept_by_blue k (place_in order 16 3) (omega (arith, place_two order 1 (omega arith), turn_is, turn_low)) ∙ (at second_buf (head + 6 * k + place_in order 16 3) (head + 2 + 6 * k + (1 - turn)) (omega (arith, place_two order 1 (omega arith), turn_is)) ∙ (c.spread-2.ensures.two k (omega (arith, greens, less)) ∙ (green (2 * k + 1) (omega (arith, less)) ∙ second planes.green k))) in
+    at buf (head + 6 * k + place_in order 16 3) (head + 6 * k + 2 + (1 - turn)) (omega (arith, place_two order 1 (omega arith), turn_is))
+    ∙ (green_two k less (1 - turn) (omega (arith, turn_low)) ∙ (ap (λ (q : ℕ). slice_index planes.green.bytes (y * planes.green.line + (place + q))) (let e : 2 * k + (turn + (1 - turn)) % 2 ≡ 2 * k + 1 = omega (arith, turn_low) in e) ∙ second planes.green k)) in
     let four : (k : ℕ) → k < count → Has k 4 = λ k less.
-    at buf (head + 6 * k + place_in order 16 4) (head + 4 + 6 * k + turn) (omega (arith, place_one order 2 (omega arith), turn_is)) ∙ (c.spread-3.ensures.one k (omega (arith, blues, less)) ∙ (blue (2 * k) (omega (arith, less)) ∙ first planes.blue k)) in
+    at buf (head + 6 * k + place_in order 16 4) (head + 6 * k + 4 + turn) (omega (arith, place_one order 2 (omega arith), turn_is))
+    ∙ (blue_two k less turn (omega (arith, turn_low)) ∙ (ap (λ (q : ℕ). slice_index planes.blue.bytes (y * planes.blue.line + (place + q))) (let e : 2 * k + (turn + turn) % 2 ≡ 2 * k = omega (arith, turn_low) in e) ∙ first planes.blue k)) in
     let five : (k : ℕ) → k < count → Has k 5 = λ k less.
-    at buf (head + 6 * k + place_in order 16 5) (head + 4 + 6 * k + (1 - turn)) (omega (arith, place_two order 2 (omega arith), turn_is)) ∙ (c.spread-3.ensures.two k (omega (arith, blues, less)) ∙ (blue (2 * k + 1) (omega (arith, less)) ∙ second planes.blue k)) in
+    at buf (head + 6 * k + place_in order 16 5) (head + 6 * k + 4 + (1 - turn)) (omega (arith, place_two order 2 (omega arith), turn_is))
+    ∙ (blue_two k less (1 - turn) (omega (arith, turn_low)) ∙ (ap (λ (q : ℕ). slice_index planes.blue.bytes (y * planes.blue.line + (place + q))) (let e : 2 * k + (turn + (1 - turn)) % 2 ≡ 2 * k + 1 = omega (arith, turn_low) in e) ∙ second planes.blue k)) in
     let any : (k o : ℕ) → k < count → o < 6 → Has k o = λ k o more less. one_of_six (λ o. Has k o) (zero k more) (one k more) (two k more) (three k more) (four k more) (five k more) o less in
     let woven : (i : ℕ) → head ≤ i → i < end → slice_index buf i ≡ side_byte planes 16 y (place_in order 16 (from + i)) =
     λ i above less.
@@ -78,7 +96,7 @@ returns c =
     let seen : (i : ℕ) → i < size → slice_index c.put_between-3.new.buf i ≡ side_byte planes 16 y (place_in order 16 (from + i)) =
     λ i less. elim (cases_lt i end) as (λ _. slice_index c.put_between-3.new.buf i ≡ side_byte planes 16 y (place_in order 16 (from + i))) [
       | inl below ↦ c.put_between-3.ensures.before i below ∙ elim (cases_lt i head) as (λ _. slice_index buf i ≡ side_byte planes 16 y (place_in order 16 (from + i))) [
-        | inl front ↦ c.spread-3.ensures.before i (omega (arith, front)) ∙ (c.spread-2.ensures.before i (omega (arith, front)) ∙ (c.spread.ensures.before i front ∙ subst (λ (q : Planes). slice_index c.put_between-2.new.buf i ≡ side_byte q 16 y (place_in order 16 (from + i))) (sym c.self.view_is) (c.put_between-2.ensures.here i (omega arith) front)))
+        | inl front ↦ c.weave_words.ensures.before i front ∙ subst (λ (q : Planes). slice_index c.put_between-2.new.buf i ≡ side_byte q 16 y (place_in order 16 (from + i))) (sym c.self.view_is) (c.put_between-2.ensures.here i (omega arith) front)
         | inr behind ↦ woven i behind below
       ]
       | inr rest ↦ search rules

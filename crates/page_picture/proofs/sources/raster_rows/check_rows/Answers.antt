@@ -39,7 +39,7 @@ loop-y-preserved g c =
     let read : g.R.Rereadable.is_kept c.args.reader.now ≡ true → RowsRead header raster left c.loop-y.y = λ kept. record { page = c.requires.page.format; left_is = before.left kept; within = before.within kept } in
     let step : g.R.Rereadable.is_kept c.args.reader.now ≡ true → left ≡ row ++ after = λ kept. row_taken header size c.loop-y.held held (held - 1) c.loop-y.bytes room (g.R.Rereadable.left c.loop-y.reader) (g.R.Rereadable.left c.hold_rows.new.reader) same (c.in_ok-hold_rows.ensures.same (search rules) (before.kept ∙ kept)) next within in
     let numbers : c.sample_count-count.result ≡ row_count header = search rules in
-    let tested : MatchBool c.none_above.result (NoneAbove header.maxval row (row_count header)) (SomeAbove header.maxval row (row_count header)) = subst (λ n. MatchBool c.none_above.result (NoneAbove header.maxval row n) (SomeAbove header.maxval row n)) numbers c.none_above.ensures in
+    let tested : MatchBool c.all_fit.result (NoneAbove header.maxval row (row_count header)) (SomeAbove header.maxval row (row_count header)) = subst (λ n. MatchBool c.all_fit.result (NoneAbove header.maxval row n) (SomeAbove header.maxval row n)) numbers c.all_fit.ensures in
     record {
       kept = c.hold_rows.ensures.kept ∙ before.kept;
       text = c.hold_rows.ensures.text ∙ before.text;
@@ -50,8 +50,8 @@ loop-y-preserved g c =
       room = omega arith;
       left = λ kept. (rows_next header raster left row after c.loop-y.y (read kept) (step kept) count).left_is;
       within = λ kept. (rows_next header raster left row after c.loop-y.y (read kept) (step kept) count).within;
-      none = λ kept. none_step header raster left row after c.loop-y.y c.loop-y.all_fit c.none_above.result (read kept) (step kept) count (before.none kept) tested;
-      some = λ kept. some_step header raster left row after c.loop-y.y c.loop-y.all_fit c.none_above.result (read kept) (step kept) count (before.some kept) tested;
+      none = λ kept. none_step header raster left row after c.loop-y.y c.loop-y.fit c.all_fit.result (read kept) (step kept) count (before.none kept) tested;
+      some = λ kept. some_step header raster left row after c.loop-y.y c.loop-y.fit c.all_fit.result (read kept) (step kept) count (before.some kept) tested;
     }
 
 pub returns-clause-read : goal.returns-clause-read
@@ -67,4 +67,4 @@ returns-clause-read g c = λ kept.
 pub returns-clause-fits : goal.returns-clause-fits
 returns-clause-fits g c = λ kept.
     let last = c.loop-y.invariant in
-    rows_fit c.args.header.now (g.R.Rereadable.left c.args.reader.now) c.loop-y.y c.loop-y.all_fit (omega arith) (last.none kept) (last.some kept)
+    rows_fit c.args.header.now (g.R.Rereadable.left c.args.reader.now) c.loop-y.y c.loop-y.fit (omega arith) (last.none kept) (last.some kept)

@@ -14,6 +14,6 @@ invariant-loop-y g l = record {
   room : l.held * file_row_size l.header ≤ length l.bytes;
   left : g.R.Rereadable.is_kept l.fn.reader ≡ true → unused_bytes (file_row_size l.header) l.held l.bytes (g.R.Rereadable.left l.reader) ≡ drop (l.y * file_row_size l.header) (g.R.Rereadable.left l.fn.reader);
   within : g.R.Rereadable.is_kept l.fn.reader ≡ true → l.y * file_row_size l.header ≤ length (g.R.Rereadable.left l.fn.reader);
-  none : g.R.Rereadable.is_kept l.fn.reader ≡ true → l.all_fit ≡ true → NoneAbove l.header.maxval (g.R.Rereadable.left l.fn.reader) (l.y * row_count l.header);
-  some : g.R.Rereadable.is_kept l.fn.reader ≡ true → l.all_fit ≡ false → SomeAbove l.header.maxval (g.R.Rereadable.left l.fn.reader) (l.y * row_count l.header);
+  none : g.R.Rereadable.is_kept l.fn.reader ≡ true → l.fit ≡ true → NoneAbove l.header.maxval (g.R.Rereadable.left l.fn.reader) (l.y * row_count l.header);
+  some : g.R.Rereadable.is_kept l.fn.reader ≡ true → l.fit ≡ false → SomeAbove l.header.maxval (g.R.Rereadable.left l.fn.reader) (l.y * row_count l.header);
 }

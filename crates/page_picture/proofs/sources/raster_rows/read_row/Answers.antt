@@ -4,8 +4,8 @@ use Rattle.page_picture.specs.PageRows.{file_row_size, unused_bytes}
 use Rattle.page_picture.proofs.RowLemmas.{gives_row, length-row_taken, row_fits, row_taken}
 use Rattle.page_picture.proofs.sources.raster_rows.read_row.Goals as goal
 
-pub returns-then-not-none_above-clause-failed : goal.returns-then-not-none_above-clause-failed
-returns-then-not-none_above-clause-failed g c = λ kept has.
+pub returns-then-not-all_fit-clause-failed : goal.returns-then-not-all_fit-clause-failed
+returns-then-not-all_fit-clause-failed g c = λ kept has.
     let header = c.args.header.now in
     let size = c.raster_size-size.result in
     let held = c.hold_rows.new.held in

@@ -5,5 +5,5 @@ use Rattle.page_picture.proofs.sources.raster_rows.write_scaled_grays.Given as g
 abbrev pub invariant-loop-x : goal.invariant-loop-x
 invariant-loop-x l = record {
   size : length l.row ≡ length l.fn.row;
-  each : (j : ℕ) → j < 3 * l.x → slice_index l.row j ≡ slice_index l.scale (slice_index l.bytes (j / 3));
+  each : (j : ℕ) → j < 3 * l.x → slice_index l.row j ≡ slice_index l.bytes (j / 3) * 65535 / l.maxval;
 }

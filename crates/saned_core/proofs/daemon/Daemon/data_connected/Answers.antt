@@ -10,5 +10,5 @@ returns-clause-answer g c = rw (← c.self.view_is) c.connect_at.ensures.answer
 
 pub returns-clause-after : goal.returns-clause-after
 returns-clause-after g c = rw (← c.self.view_is) (
-    let make : List (Option (SessionSlot DeviceState)) → Core = λ slots. record { slots = slots; registry = table g.D.Device.state c.self.inside.sessions.registry; users = c.self.inside.users; stream = c.self.inside.challenger; opened = c.self.inside.opened } in
+    let make : List (Option (SessionSlot DeviceState)) → Core = λ slots. record { slots = slots; registry = table g.D.Device.state c.self.inside.sessions.registry; users = c.self.inside.users; strings = c.self.inside.strings; stream = c.self.inside.challenger; opened = c.self.inside.opened } in
     ap make c.connect_at.ensures.after)

@@ -7,5 +7,5 @@ use Rattle.saned_core.proofs.daemon.Daemon.data_lost.Goals as goal
 
 pub returns : goal.returns
 returns g c = rw (← c.self.view_is) (
-    let make : List (Option (SessionSlot DeviceState)) → Core = λ slots. record { slots = slots; registry = table g.D.Device.state c.self.inside.sessions.registry; users = c.self.inside.users; stream = c.self.inside.challenger; opened = c.self.inside.opened } in
+    let make : List (Option (SessionSlot DeviceState)) → Core = λ slots. record { slots = slots; registry = table g.D.Device.state c.self.inside.sessions.registry; users = c.self.inside.users; strings = c.self.inside.strings; stream = c.self.inside.challenger; opened = c.self.inside.opened } in
     ap make c.lose_at.ensures)

@@ -18,7 +18,7 @@ returns-in-None-clause-answer g c =
 pub returns-in-None-clause-after : goal.returns-in-None-clause-after
 returns-in-None-clause-after g c =
     let f = g.D.Device.state in
-    let d : Core = core f (record { slots = c.self.inside.sessions.slots; registry = c.self.inside.sessions.registry; users = c.self.inside.users; stream = c.self.inside.challenger; opened = c.self.inside.opened }) in
+    let d : Core = core f (record { slots = c.self.inside.sessions.slots; registry = c.self.inside.sessions.registry; users = c.self.inside.users; strings = c.self.inside.strings; stream = c.self.inside.challenger; opened = c.self.inside.opened }) in
     rw (← c.self.view_is)
     (rw (none_any (option_map (seen_session_slot f)) (holds c.args.name.now) c.self.inside.sessions.slots c.in-None.ensures.none)
     (ap (λ (r : Table). record d { registry = r }) (search rules)))

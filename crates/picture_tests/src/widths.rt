@@ -1,0 +1,115 @@
+//! Rows of each width up to two eights and one, whose samples are worked on eight at once and one by one.
+
+use page_picture::{OpenFault, PageFault, PageSource, PnmPage};
+use std::alloc::Global;
+use std::io::Cursor;
+use std::process::Abort;
+
+/// Greatest values of a byte and of two.
+const GREATEST: &[u32] = &[
+    1, 2, 99, 100, 127, 254, 255, 256, 257, 999, 1023, 4095, 32767, 32768, 40000, 65534, 65535,
+];
+
+/// How a page file of grays begins, and one of colors, and how many samples a dot has in it.
+const KINDS: &[(&str, usize)] = &[("P5", 1), ("P6", 3)];
+
+/// Sample `i` of a row of so many: numbers up to the greatest value, which is the last one.
+fn number(maxval: u32, i: usize, count: usize) -> u32 {
+    if i.saturating_add(1) == count {
+        return maxval;
+    }
+    let noise = u32::try_from(i)
+        .unwrap_or(0)
+        .wrapping_add(1)
+        .wrapping_mul(40503);
+    noise % maxval.saturating_add(1).max(1)
+}
+
+/// A page file of one row of such samples, the last of them larger by so much.
+fn file(
+    rt: &impl Abort,
+    alloc: Global,
+    kind: &str,
+    width: usize,
+    maxval: u32,
+    count: usize,
+    more: u32,
+) -> Vec<u8> {
+    let head = format!(in alloc; "{kind}\n{width} 1\n{maxval}\n").expect(rt, "memory");
+    let mut text = Vec::from_slice(alloc, head.as_bytes()).expect(rt, "memory");
+    drop(head);
+    for i in 0..count {
+        let mut sample = number(maxval, i, count);
+        if i.saturating_add(1) == count {
+            sample = sample.saturating_add(more);
+        }
+        if maxval > 255 {
+            text.push((sample / 256 % 256) as u8).expect(rt, "memory");
+        }
+        text.push((sample % 256) as u8).expect(rt, "memory");
+    }
+    text
+}
+
+/// The row of such a page: each sample is its number times 65,535 by the greatest value.
+fn expect_numbers<S: PageSource>(
+    rt: &impl Abort,
+    alloc: Global,
+    page: &mut S,
+    maxval: u32,
+    channels: usize,
+    count: usize,
+) {
+    let mut row = vec![in alloc; 0u16; 3 * page.size().0 as usize].expect(rt, "memory");
+    assert!(rt; row.len() == (3 * page.size().0 as usize));
+    assert!(rt; page.next_row(&mut row) == Ok(true));
+    for (j, sample) in row.iter().enumerate() {
+        let i = if channels == 3 { j } else { j / 3 };
+        let number = u64::from(number(maxval, i, count));
+        assert!(rt;
+            u64::from(*sample) == number * 65535 / u64::from(maxval.max(1)),
+            "{j} of {count}"
+        );
+    }
+    drop(row);
+}
+
+#[test]
+fn rows_of_every_width(rt: HostRuntime) {
+    for &(kind, channels) in KINDS {
+        for &maxval in GREATEST {
+            for width in 1..18usize {
+                let count = width.saturating_mul(channels);
+                let text = file(&rt, rt.alloc(), kind, width, maxval, count, 0);
+                let mut page = match PnmPage::open(rt.alloc(), Cursor::new(text.as_slice()), 50) {
+                    Ok(page) => page,
+                    Err((fault, _)) => panic!(&rt; "{fault:?} at {width} of {maxval}"),
+                };
+                expect_numbers(&rt, rt.alloc(), &mut page, maxval, channels, count);
+                drop(page);
+                drop(text);
+            }
+        }
+    }
+}
+
+#[test]
+fn a_last_sample_above_the_greatest(rt: HostRuntime) {
+    for &(kind, channels) in KINDS {
+        for &maxval in GREATEST {
+            for width in 1..18usize {
+                let count = width.saturating_mul(channels);
+                let text = file(&rt, rt.alloc(), kind, width, maxval, count, 1);
+                let fault = match PnmPage::open(rt.alloc(), Cursor::new(text.as_slice()), 50) {
+                    Ok(_) => None,
+                    Err((fault, _)) => Some(fault),
+                };
+                // Behind 255 and 65,535 the bytes begin anew at 0.
+                let is_whole = maxval == 255 || maxval == 65535;
+                let wanted = OpenFault::Page(PageFault::SampleTooLarge);
+                assert!(rt; fault == if is_whole { None } else { Some(wanted) });
+                drop(text);
+            }
+        }
+    }
+}

@@ -1,0 +1,250 @@
+-- Events one after another.
+use Rattle.std.specs.Prelude.{◌<◌}
+use Rattle.std.proofs.Common.{◌≡◌, ◌≢◌, ◌⊎◌, inl, inr, ◌∙◌, ℕ, List, [], ◌∷◌, ◌++◌, Some, refl, sym, ap, subst, slice_get}
+use Rattle.sane_fixed.specs.declared.status.Status.{Status}
+use Rattle.sane_fixed.specs.declared.status.Status.TheVariants.{Good, Eof}
+use Rattle.page_picture.specs.Source.{SourceState}
+use Rattle.system_model.specs.Devices.{Page}
+use Rattle.page_picture.specs.declared.sources.kinds.Source.{Source}
+use Rattle.system_model.specs.Actions.{Action as Ruled}
+use Rattle.scan_job.specs.declared.outcome.Outcome.TheVariants.{Ended}
+use Rattle.scan_job.specs.declared.outcome.Why.{Why}
+use Rattle.system_model.specs.SystemStates.{SystemState, make_for}
+use Rattle.system_model.specs.Transitions.{IsHistory, Transition, after_all}
+use Rattle.system_model.proofs.RunMarks.{histories_legal}
+use Rattle.scan_world.specs.declared.event.Event.{Event}
+use Rattle.scan_world.specs.declared.event.Event.TheVariants.{Connect, ToDaemon, ToClient, DataConnect, DataTurn, DataToClient, LoseControl, LoseImage, Cancel, Load, Unplug}
+use Rattle.scan_world.specs.declared.event.JobEvent.{JobEvent}
+use Rattle.scan_world.specs.declared.event.JobEvent.TheVariants as actions
+use Rattle.scan_world.specs.declared.endpoint.Endpoint.{Endpoint}
+use Rattle.scan_world.specs.Worlds.{AtEndpoint, Leads, Runs, WorldCore}
+use Rattle.scan_world.proofs.Events.{stands_run}
+use Rattle.scan_world.proofs.FilesSay.{none_tells, page_none_tells, short_tells}
+use Rattle.world_refines.specs.GhostStates.{Ghost, Wires}
+use Rattle.world_refines.specs.WorldRefinement.{WorldRefines}
+use Rattle.world_refines.specs.Costs.{Pays}
+use Rattle.world_refines.specs.GhostEvents.{GhostCan, CanLoad, CanUnplug, GhostConnects, Dials, GivesUp, GhostHappens, LaysIn, GhostLeadsTo, LosesControl, LosesImage, GhostSends, GhostTakes, TakesOut, GhostTurns}
+use Rattle.world_refines.specs.Answering.{AnswersSome, BreaksOff, GoesOn, IsOver, WasOver}
+use Rattle.world_refines.specs.ClientDeliveries.{Delivers, GhostHears}
+use Rattle.world_refines.specs.DataDeliveries.{GhostSees}
+use Rattle.world_refines.specs.WorldPromises.{HasCause, IsOutcome}
+use Rattle.world_refines.specs.MainTheorem.{AllIsKept, AreTrueLoads, GhostComes, GhostComesAll, EventsFollow, IsTrueLoad}
+use Rattle.world_refines.proofs.job_events.Beginnings.{new_worlds_stand}
+use Rattle.world_refines.proofs.moves.Budgets.{Owns, new_worlds_pay, none_left, pays_at, pays_loads, pays_unplugs, rests_over, same_pays}
+use Rattle.world_refines.proofs.job_events.Cancelling.{cancel_decides}
+use Rattle.world_refines.proofs.requests.Closing.{history_then, steps_then}
+use Rattle.world_refines.proofs.job_events.ControlConnections.{connect_decides}
+use Rattle.world_refines.proofs.promise_proofs.Counted.{batches_are_counted}
+use Rattle.world_refines.proofs.frames.Dialling.{dial_decides}
+use Rattle.world_refines.proofs.requests.FedEvent.{delivery_decides}
+use Rattle.world_refines.proofs.promise_proofs.WorldFiles.{new_files}
+use Rattle.world_refines.proofs.replies.Hearing.{deliver_decides}
+use Rattle.world_refines.proofs.state.ListEntries.{within}
+use Rattle.world_refines.proofs.job_events.Loading.{loads_follow}
+use Rattle.world_refines.proofs.job_events.Losing.{control_decides}
+use Rattle.world_refines.proofs.promise_proofs.Named.{AllSpared, all_spared, refuses}
+use Rattle.world_refines.proofs.requests.OneAnswer.{all_requests}
+use Rattle.world_refines.proofs.frames.Paged.{pages_are_meant}
+use Rattle.world_refines.proofs.promise_proofs.PromiseProofs.{outcomes_are_right, scans_are_meant}
+use Rattle.world_refines.proofs.frames.Seeing.{data_decides}
+use Rattle.world_refines.proofs.moves.Spending.{answers_own, connects_own, dials_own, hears_own, image_own, loses_own, sees_own, stops_own, turns_own}
+use Rattle.world_refines.proofs.moves.Stuck.{nobody_is_stuck}
+use Rattle.world_refines.proofs.state.Taking.{DecidesAt, follows_by}
+use Rattle.world_refines.proofs.frames.TurnEvents.{turn_decides}
+use Rattle.world_refines.proofs.frames.Unimaged.{image_decides}
+use Rattle.world_refines.proofs.job_events.Unplugging.{unplugs_follow}
+
+-- ---- the steps of an event are enabled, and lead to what stands then
+
+record LeadsLegally (t : Ghost) (steps : List Transition) (u : Ghost) : Type 0 where
+  legal : IsHistory t.system steps
+  rules_are : u.system ≡ after_all t.system steps
+
+of_takes : (t : Ghost) (i : ℕ) (steps : List Transition) (x : Wires) (u : Ghost) → GhostTakes t i steps x u → LeadsLegally t steps u
+of_takes t i steps x u h = record { legal = h.legal; rules_are = ap (λ (v : Ghost). v.system) h.then_is }
+
+of_none : (t u : Ghost) (steps : List Transition) → (steps ≡ []) × (u ≡ t) → LeadsLegally t steps u
+of_none t u steps h = record { legal = subst (IsHistory t.system) (sym h.0) tt; rules_are = ap (λ (v : Ghost). v.system) h.1 ∙ ap (after_all t.system) (sym h.0) }
+
+of_connects : (t : Ghost) (i : ℕ) (steps : List Transition) (u : Ghost) → GhostConnects t i steps u → LeadsLegally t steps u
+of_connects t i steps u (inl h) = of_takes t i steps _ u h.1
+of_connects t i steps u (inr h) = of_takes t i steps _ u h.1
+
+of_sends : (t : Ghost) (i : ℕ) (action : Ruled) (text : List ℕ) (steps : List Transition) (u : Ghost) → GhostSends t i action text steps u → LeadsLegally t steps u
+of_sends t i action text steps u (inl h) = of_takes t i steps _ u h.1
+of_sends t i action text steps u (inr h) = of_takes t i steps _ u h.1
+
+of_answers : (n : ℕ) (t : Ghost) (i : ℕ) (steps : List Transition) (u : Ghost) → AnswersSome n t i steps u → LeadsLegally t steps u
+of_answers n t i steps u (GoesOn asked rest told c w e takes on) = of_takes t i steps _ u takes
+of_answers n t i steps u (IsOver asked rest told c e takes on off) = of_takes t i steps _ u takes
+of_answers n t i steps u (BreaksOff memory asked rest told before c e is takes) = of_takes t i steps _ u takes
+of_answers n t i steps u (WasOver off none takes) = subst (λ (xs : List Transition). LeadsLegally t xs u) (sym none) (of_takes t i [] _ u takes)
+
+of_delivers : (t : Ghost) (i n : ℕ) (telling text : List ℕ) (steps : List Transition) (u : Ghost) → Delivers t i n telling text steps u → LeadsLegally t steps u
+of_delivers t i n telling text steps u h = record { legal = h.legal; rules_are = ap (λ (v : Ghost). v.system) h.then_is }
+
+of_hears : (n : ℕ) (t : Ghost) (i : ℕ) (steps : List Transition) (u : Ghost) → GhostHears n t i steps u → LeadsLegally t steps u
+of_hears n t i steps u (inl h) = of_takes t i steps _ u h.takes
+of_hears n t i steps u (inr (under, inl h)) = of_delivers t i n _ _ steps u h.delivers
+of_hears n t i steps u (inr (under, inr (inl h))) = of_delivers t i n _ _ steps u h.delivers
+of_hears n t i steps u (inr (under, inr (inr (inl h)))) = of_delivers t i n _ _ steps u h.delivers
+of_hears n t i steps u (inr (under, inr (inr (inr h)))) = of_delivers t i n _ _ steps u h.delivers
+
+of_sees : (n : ℕ) (t : Ghost) (i : ℕ) (steps : List Transition) (u : Ghost) → GhostSees n t i steps u → LeadsLegally t steps u
+of_sees n t i steps u h = record { legal = h.legal; rules_are = ap (λ (v : Ghost). v.system) h.then_is }
+
+-- where it can happen, and where it cannot
+of_happens : (May Done : Type 0) (t : Ghost) (steps : List Transition) (u : Ghost) → (Done → LeadsLegally t steps u) → (h : GhostHappens May Done t steps u) → May ⊎ (May → ⊥) → LeadsLegally t steps u
+of_happens May Done t steps u does h (inl can) = does (h.does can)
+of_happens May Done t steps u does h (inr never) = of_none t u steps (h.cannot never)
+
+-- ---- one event
+
+record Behind (source : Source → SourceState) (e : Event) (t : Ghost) (w v : WorldCore) : Type 0 where
+  steps : List Transition
+  ghost_then : Ghost
+  comes : GhostComes source e t steps ghost_then
+  leads : LeadsLegally t steps ghost_then
+  stands : WorldRefines ghost_then v
+  pays : Pays t w → Pays ghost_then v
+
+behind : (source : Source → SourceState) (e : Event) (t : Ghost) (w v : WorldCore) (May : Type 0) (Does : List Transition → Ghost → Type 0) → ((steps : List Transition) (u : Ghost) → GhostHappens May (Does steps u) t steps u → GhostComes source e t steps u) → ((steps : List Transition) (u : Ghost) → Does steps u → LeadsLegally t steps u) → (l : GhostLeadsTo May Does t v) → (Pays t w → Pays l.ghost_then v) →
+    Behind source e t w v
+behind source e t w v May Does comes legal l pays =
+    record {
+      steps = l.steps;
+      ghost_then = l.ghost_then;
+      comes = comes l.steps l.ghost_then l.happens;
+      leads = of_happens May (Does l.steps l.ghost_then) t l.steps l.ghost_then (legal l.steps l.ghost_then) l.happens l.happens.either;
+      stands = l.stands;
+      pays = pays;
+    }
+
+-- what comes to a job
+record Comer (source : Source → SourceState) (e : Event) (i : ℕ) (action : JobEvent) (Does : Ghost → ℕ → List Transition → Ghost → Type 0) : Type 0 where
+  decides : DecidesAt action Does
+  owns : Owns action Does
+  legal : (t : Ghost) (steps : List Transition) (u : Ghost) → Does t i steps u → LeadsLegally t steps u
+  comes : (t : Ghost) (steps : List Transition) (u : Ghost) → GhostHappens (GhostCan t i action) (Does t i steps u) t steps u → GhostComes source e t steps u
+
+to_job : (source : Source → SourceState) (e : Event) (i : ℕ) (action : JobEvent) (Does : Ghost → ℕ → List Transition → Ghost → Type 0) → Comer source e i action Does → (t : Ghost) (w v : WorldCore) → WorldRefines t w → AtEndpoint w i action v → Behind source e t w v
+to_job source e i action Does c t w v h at =
+    let l = follows_by action Does c.decides t i w v h at in
+    behind source e t w v (GhostCan t i action) (Does t i) (c.comes t) (c.legal t) l (pays_at action Does c.decides c.owns t i w v h at l)
+
+-- what comes to a device: the other way that it may be, nothing changes
+beside : (t : Ghost) (w v : WorldCore) (May : Type 0) (Does : List Transition → Ghost → Type 0) → v.endpoints ≡ w.endpoints → ((steps : List Transition) (u : Ghost) → Does steps u → Pays t w → Pays u v) → (l : GhostLeadsTo May Does t v) → Pays t w → Pays l.ghost_then v
+beside t w v May Does endpoints does l pays = by_either l.happens.either
+  where
+    by_either : May ⊎ (May → ⊥) → Pays l.ghost_then v
+    by_either (inl may) = does l.steps l.ghost_then (l.happens.does may) pays
+    by_either (inr never) = same_pays t l.ghost_then w v (l.happens.cannot never).1 endpoints pays
+
+laid_pays : (t : Ghost) (w v : WorldCore) (name : List ℕ) (page : Page) → WorldRefines t w → v.endpoints ≡ w.endpoints → (steps : List Transition) (u : Ghost) → LaysIn t name page steps u → Pays t w → Pays u v
+laid_pays t w v name page h endpoints steps u d pays =
+    pays_loads t u w v d.place page h (subst (IsHistory t.system) d.steps_are d.legal).0 (d.then_is ∙ ap (λ (xs : List Transition). record t { system = after_all t.system xs }) d.steps_are) endpoints pays
+
+unplugged_pays : (t : Ghost) (w v : WorldCore) (name : List ℕ) → WorldRefines t w → v.endpoints ≡ w.endpoints → (steps : List Transition) (u : Ghost) → TakesOut t name steps u → Pays t w → Pays u v
+unplugged_pays t w v name h endpoints steps u d pays =
+    pays_unplugs t u w v d.place h (subst (IsHistory t.system) d.steps_are d.legal).0 (d.then_is ∙ ap (λ (xs : List Transition). record t { system = after_all t.system xs }) d.steps_are) endpoints pays
+
+one_event : (source : Source → SourceState) (e : Event) (t : Ghost) (w v : WorldCore) → WorldRefines t w → IsTrueLoad source e → Leads source e w v → Behind source e t w v
+one_event source (Connect i) t w v h page_view at =
+    to_job source (Connect i) i actions.Connect GhostConnects (record { decides = connect_decides; owns = λ t u w v i p q steps h k at there can d. connects_own t w i p steps u h at can d; legal = λ t. of_connects t i; comes = λ t steps u x. x }) t w v h at
+one_event source (ToDaemon i n) t w v h page_view at =
+    to_job source (ToDaemon i n) i (actions.ToDaemon n) (AnswersSome n) (record { decides = delivery_decides (λ t w i h low. all_requests t i) n; owns = λ t u w v i p q steps h k at there can d. answers_own t u w v i n p q steps h k at there can d; legal = λ t. of_answers n t i; comes = λ t steps u x. x }) t w v h at
+one_event source (ToClient i n) t w v h page_view at =
+    to_job source (ToClient i n) i (actions.ToClient n) (GhostHears n) (record { decides = deliver_decides n; owns = λ t u w v i p q steps h k at there can d. hears_own t w i n p steps u h at can d; legal = λ t. of_hears n t i; comes = λ t steps u x. x }) t w v h at
+one_event source (DataConnect i) t w v h page_view at =
+    to_job source (DataConnect i) i actions.DataConnect Dials (record { decides = dial_decides; owns = λ t u w v i p q steps h k at there can d. dials_own t i steps u can d; legal = λ t steps u d. of_takes t i steps _ u d.1; comes = λ t steps u x. x }) t w v h at
+one_event source (DataTurn i) t w v h page_view at =
+    to_job source (DataTurn i) i actions.DataTurn GhostTurns (record { decides = turn_decides; owns = λ t u w v i p q steps h k at there can d. turns_own t w i p steps u h at can d; legal = λ t steps u d. of_sends t i d.action d.text steps u d.sends; comes = λ t steps u x. x }) t w v h at
+one_event source (DataToClient i n) t w v h page_view at =
+    to_job source (DataToClient i n) i (actions.DataToClient n) (GhostSees n) (record { decides = data_decides n; owns = λ t u w v i p q steps h k at there can d. sees_own t w i n p steps u h at can d; legal = λ t. of_sees n t i; comes = λ t steps u x. x }) t w v h at
+one_event source (LoseControl i) t w v h page_view at =
+    to_job source (LoseControl i) i actions.LoseControl LosesControl (record { decides = control_decides; owns = λ t u w v i p q steps h k at there can d. loses_own t i steps u d; legal = λ t steps u d. of_takes t i steps _ u d.1; comes = λ t steps u x. x }) t w v h at
+one_event source (LoseImage i) t w v h page_view at =
+    to_job source (LoseImage i) i actions.LoseImage LosesImage (record { decides = image_decides; owns = λ t u w v i p q steps h k at there can d. image_own t i steps u d; legal = λ t steps u d. of_takes t i steps _ u d.1; comes = λ t steps u x. x }) t w v h at
+one_event source (Cancel i) t w v h page_view at =
+    to_job source (Cancel i) i actions.Cancel GivesUp (record { decides = cancel_decides; owns = λ t u w v i p q steps h k at there can d. stops_own t i steps u d; legal = λ t steps u d. of_takes t i steps _ u d.takes; comes = λ t steps u x. x }) t w v h at
+one_event source (Load name page) t w v h page_view at =
+    let l = subst (λ (x : WorldCore). GhostLeadsTo (CanLoad t name) (LaysIn t name (source page).page) t x) (sym at) (loads_follow t w name (source page) page_view.0 page_view.1 h) in
+    let endpoints : v.endpoints ≡ w.endpoints = ap (λ (x : WorldCore). x.endpoints) at in
+    behind source (Load name page) t w v (CanLoad t name) (LaysIn t name (source page).page) (λ steps u x. x) (λ steps u d. record { legal = d.legal; rules_are = ap (λ (v : Ghost). v.system) d.then_is }) l
+    (beside t w v (CanLoad t name) (LaysIn t name (source page).page) endpoints (laid_pays t w v name (source page).page h endpoints) l)
+one_event source (Unplug name) t w v h page_view at =
+    let l = subst (λ (x : WorldCore). GhostLeadsTo (CanUnplug t name) (TakesOut t name) t x) (sym at) (unplugs_follow t w name h) in
+    let endpoints : v.endpoints ≡ w.endpoints = ap (λ (x : WorldCore). x.endpoints) at in
+    behind source (Unplug name) t w v (CanUnplug t name) (TakesOut t name) (λ steps u x. x) (λ steps u d. record { legal = d.legal; rules_are = ap (λ (v : Ghost). v.system) d.then_is }) l
+    (beside t w v (CanUnplug t name) (TakesOut t name) endpoints (unplugged_pays t w v name h endpoints) l)
+
+-- ---- all of them
+
+record AllBehind (source : Source → SourceState) (events : List Event) (t : Ghost) (w v : WorldCore) : Type 0 where
+  ghost_then : Ghost
+  steps : List Transition
+  comes : GhostComesAll source events t steps ghost_then
+  leads : LeadsLegally t steps ghost_then
+  stands : WorldRefines ghost_then v
+  pays : Pays t w → Pays ghost_then v
+
+all_events : (source : Source → SourceState) (events : List Event) (t : Ghost) (w v : WorldCore) → WorldRefines t w → AreTrueLoads source events → Runs source events w v → AllBehind source events t w v
+all_events source [] t w v h page_views run = record { ghost_then = t; steps = []; comes = (refl, refl); leads = record { legal = tt; rules_are = refl }; stands = subst (WorldRefines t) (sym run) h; pays = λ pays. subst (Pays t) (sym run) pays }
+all_events source (e ∷ es) t w v h page_views (u, first, rest) =
+    let one = one_event source e t w u h page_views.0 first in
+    let more = all_events source es one.ghost_then u v one.stands page_views.1 rest in
+    let behind : IsHistory (after_all t.system one.steps) more.steps = subst (λ (s : SystemState). IsHistory s more.steps) one.leads.rules_are more.leads.legal in
+    record {
+      ghost_then = more.ghost_then;
+      steps = one.steps ++ more.steps;
+      comes = (one.steps, more.steps, one.ghost_then, refl, one.comes, more.comes);
+      leads = record {
+        legal = history_then t.system one.steps more.steps one.leads.legal behind;
+        rules_are = more.leads.rules_are ∙ (ap (λ (s : SystemState). after_all s more.steps) one.leads.rules_are ∙ sym (steps_then t.system one.steps more.steps));
+      };
+      stands = more.stands;
+      pays = λ pays. more.pays (one.pays pays);
+    }
+
+pub events_follow : EventsFollow
+events_follow source events t w v h page_views run =
+    let all = all_events source events t w v h page_views run in
+    record {
+      ghost_then = all.ghost_then;
+      steps = all.steps;
+      comes = all.comes;
+      legal = all.leads.legal;
+      rules_are = all.leads.rules_are;
+      marks = λ d. histories_legal d t.system all.steps h.sound all.leads.legal;
+      stands = all.stands;
+      pays = all.pays;
+    }
+
+ended_named : (u : Ghost) (v : WorldCore) (i : ℕ) (endpoint : Endpoint) (status : Status) (why : Why) → WorldRefines u v → slice_get v.endpoints i ≡ Some endpoint → AllSpared u.system → endpoint.client.outcome ≡ Ended status why → (status ≢ Good) × (status ≢ Eof)
+ended_named u v i endpoint status why h at spared e =
+    let cause : HasCause u i status why = subst (IsOutcome u i) e (outcomes_are_right u v i endpoint h at) in
+    refuses (make_for u.system i) (u.system.job i) status cause.0 (spared i) cause.2
+
+pub all_kept : AllIsKept
+all_kept source events jobs other devices w v new daemon names steady fit page_views run =
+    let stood = events_follow source events _ w v (new_worlds_stand jobs other devices w new daemon names steady fit) page_views run in
+    let u = stood.ghost_then in
+    let pays = stood.pays (new_worlds_pay jobs other devices w new fit) in
+    let files = stands_run source events w v run (new_files jobs w.endpoints fit new) in
+    let spared : AllSpared u.system = subst AllSpared (sym stood.rules_are) (all_spared _ stood.steps stood.legal (λ i none. none)) in
+    record {
+      run = stood;
+      promises = record {
+        outcomes = λ i endpoint at. outcomes_are_right u v i endpoint stood.stands at;
+        statuses = λ i endpoint status why at e. ended_named u v i endpoint status why stood.stands at spared e;
+        short = λ i endpoint file at undone file_is whole. short_tells endpoint file (files i endpoint at) undone file_is whole;
+        starved = λ i endpoint at none. none_tells endpoint (files i endpoint at) none;
+        pages_lost = λ i k endpoint at positive most few none. page_none_tells endpoint k (files i endpoint at) positive most few none;
+        scans = λ i endpoint reports file at task done file_is. scans_are_meant u v i endpoint reports file stood.stands at task done file_is;
+        batches = λ i count endpoint reports at task done. batches_are_counted u v i count endpoint reports stood.stands (subst (λ (n : ℕ). i < n) (sym stood.stands.is_of.count) (within v.endpoints i endpoint at)) at task done;
+        moves = λ i endpoint event at next. nobody_is_stuck u v i endpoint event stood.stands at next;
+        left = λ i endpoint at none. none_left u v i endpoint stood.stands pays at none;
+        rests = λ i endpoint at rests. rests_over u v i endpoint stood.stands pays at rests;
+        pages = λ i k endpoint file at low file_is. pages_are_meant u v i k endpoint file stood.stands at low file_is;
+      };
+    }

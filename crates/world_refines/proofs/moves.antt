@@ -1,0 +1,6 @@
+-- The moves that a job has left.
+pub mod Lengths
+pub mod Paying
+pub mod Spending
+pub mod Budgets
+pub mod Stuck

@@ -1,0 +1,25 @@
+-- A job's requests: sent, delivered to the daemon, and answered as the model says.
+pub mod Asked
+pub mod SentValues
+pub mod Spelling
+pub mod Cut
+pub mod Within
+pub mod Served
+pub mod Replied
+pub mod OneReply
+pub mod OneAnswer
+pub mod Kinded
+pub mod Listing
+pub mod PlainAnswers
+pub mod FittingAnswers
+pub mod AnswersKeep
+pub mod FoldedRequest
+pub mod Folding
+pub mod Stepped
+pub mod Closing
+pub mod Sent
+pub mod Fed
+pub mod FedSlot
+pub mod FedEvent
+pub mod RequestDeliveries
+pub mod Silent

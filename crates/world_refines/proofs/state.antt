@@ -1,0 +1,22 @@
+-- What a world refines, and what a change of one job leaves of the others.
+pub mod ListEntries
+pub mod Faithful
+pub mod GhostClients
+pub mod EndpointSlots
+pub mod Sees
+pub mod Held
+pub mod ListedPlaces
+pub mod Spoken
+pub mod Changing
+pub mod Taking
+pub mod Stepping
+pub mod Infos
+pub mod Finding
+pub mod Judged
+pub mod WorldPending
+pub mod Waiting
+pub mod Elsewhere
+pub mod StaysSteady
+pub mod ReadTrue
+pub mod BegunTrue
+pub mod CoreCallsKeep

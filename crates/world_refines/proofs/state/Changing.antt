@@ -1,0 +1,180 @@
+-- A world in which one job, its device and its session changed.
+use Rattle.std.proofs.Common.{◌≡◌, ◌≢◌, ◌⊎◌, inl, inr, ◌∙◌, ℕ, ◌<◌, ◌≤◌, List, [], Option, Some, None, refl, sym, ap, subst, length, slice_get, slice_set, arith}
+use Rattle.std.specs.List.{AllByRecursion}
+use Rattle.page_picture.specs.Page.{IsPageView}
+use Rattle.frame_join.specs.FrameHistory.{JoinHistory}
+use Rattle.device_api.specs.State.{DeviceState}
+use Rattle.device_api.specs.declared.device_info.DeviceInfo.{DeviceInfo}
+use Rattle.md5_auth.specs.declared.users.Entry.{Entry}
+use Rattle.saned_core.specs.declared.session_slot.SessionSlot.{SessionSlot}
+use Rattle.saned_core.specs.declared.session_slot.SessionId.{SessionId}
+use Rattle.saned_core.specs.DaemonStates.{Core}
+use Rattle.scan_job.specs.JobSize.{HasCount}
+use Rattle.scan_job.specs.declared.job.Job.{Job}
+use Rattle.system_model.specs.Devices.{Make}
+use Rattle.system_model.specs.AbstractDevices.{Begin}
+use Rattle.system_model.specs.SystemStates.{JobState}
+use Rattle.system_model.specs.Invariants.{Invariant}
+use Rattle.scan_world.specs.declared.endpoint.Endpoint.{Endpoint}
+use Rattle.scan_world.specs.Worlds.{WorldCore}
+use Rattle.saned_core.specs.DaemonStates.{session_in}
+use Rattle.world_refines.specs.Speaks.{AsksAsHeld, Speaks}
+use Rattle.world_refines.specs.GhostStates.{Ghost, Wires}
+use Rattle.daemon_refines.specs.ContextRefinement.{TableRefines}
+use Rattle.world_refines.specs.WorldRefinement.{HaveDifferentNames, WiresMatch, HaveOwn, IsNobody, IsServed, AreListedBelow, EndpointRefines, EndpointRefinesAt, WorldRefines, numbers_from, slot_of_link, session_by}
+use Rattle.world_refines.proofs.state.ListEntries.{is_same, set_elsewhere, set_length, set_there}
+use Rattle.world_refines.proofs.state.EndpointSlots.{Reseats, seated_change}
+use Rattle.world_refines.proofs.state.Sees.{IsOther, Leaves, seat_stands, served_stands, table_stands}
+
+-- what never changes is the same, and so is all of every job but i
+pub record IsChange (i : ℕ) (t u : Ghost) : Type 0 where
+  pub users : u.users ≡ t.users
+  pub infos : u.infos ≡ t.infos
+  pub count : u.count ≡ t.count
+  pub jobs : u.jobs ≡ t.jobs
+  pub make : u.system.make ≡ t.system.make
+  pub places : u.system.places ≡ t.system.places
+  pub job : (j : ℕ) → j ≢ i → u.system.job j ≡ t.system.job j
+  pub wires : (j : ℕ) → j ≢ i → u.wires j ≡ t.wires j
+  pub history : (j : ℕ) → j ≢ i → u.history j ≡ t.history j
+  pub pages : (j : ℕ) → j ≢ i → u.pages j ≡ t.pages j
+
+-- what all of the change comes to
+pub record Change (i : ℕ) (t u : Ghost) (w : WorldCore) (p q : Endpoint) (e : Core) : Type 0 where
+  pub told : IsChange i t u
+  pub leaves : Leaves i t.system.make p.link w.daemon e t.system.device u.system.device
+  pub sound : Invariant u.system
+  pub asks : (j : ℕ) → AsksAsHeld u.system j
+  pub shown : (j : ℕ) → AreListedBelow (length u.infos) (u.system.job j).session.shown
+  pub sits : EndpointRefinesAt u e i q
+  -- its session is the one that it had, or was not opened before
+  pub link : (id : SessionId) → q.link ≡ Some id → (p.link ≡ Some id) ⊎ ((w.daemon.opened ≤ id.number) × (id.number < e.opened))
+  pub reseats : Reseats p.link q.link w.daemon e
+  pub begun : AllByRecursion (λ (b : Begin). IsPageView b.page) (u.system.job i).session.started
+
+abbrev changed : WorldCore → ℕ → Endpoint → Core → WorldCore
+changed w i q e = record { daemon = e; endpoints = slice_set w.endpoints i q }
+
+-- ---- another job
+
+-- its session has another number
+own_number : (w : WorldCore) (i j : ℕ) (p endpoint : Endpoint) (id : SessionId) (link : Option SessionId) → HaveOwn w → j ≢ i → slice_get w.endpoints i ≡ Some p → slice_get w.endpoints j ≡ Some endpoint → endpoint.link ≡ Some id → p.link ≡ link → IsOther link id.number
+own_number w i j p endpoint id None own n at there is e = tt
+own_number w i j p endpoint id (Some x) own n at there is e = λ same. n (own j i endpoint p id x there at is e same)
+
+other_apart : (t : Ghost) (w : WorldCore) (i j : ℕ) (p endpoint : Endpoint) → WorldRefines t w → j ≢ i → slice_get w.endpoints i ≡ Some p → slice_get w.endpoints j ≡ Some endpoint → (id : SessionId) → endpoint.link ≡ Some id → IsOther p.link id.number × (id.number < w.daemon.opened)
+other_apart t w i j p endpoint h n at there id is = (own_number w i j p endpoint id p.link h.own n at there is refl, h.links j endpoint id there is)
+
+-- all that is said of it, of the same facts
+sits_same : (t u : Ghost) (d e : Core) (i j : ℕ) (endpoint : Endpoint) → j ≢ i → IsChange i t u → slot_of_link e endpoint.link ≡ slot_of_link d endpoint.link →
+    IsServed j t.system.make e endpoint.link (t.system.job j).served u.system.device (session_by j u.system.device (t.system.job j)) → EndpointRefinesAt t d j endpoint → EndpointRefinesAt u e j endpoint
+sits_same t u d e i j endpoint n c slot served h =
+    subst (λ (x : List Entry). EndpointRefines x u.infos (u.jobs j) u.system.make u.system.device j (u.system.job j) (u.wires j) (u.history j) (u.pages j) e endpoint) (sym c.users)
+    (subst (λ (x : List DeviceInfo). EndpointRefines t.users x (u.jobs j) u.system.make u.system.device j (u.system.job j) (u.wires j) (u.history j) (u.pages j) e endpoint) (sym c.infos)
+    (subst (λ (x : ℕ → Job). EndpointRefines t.users t.infos (x j) u.system.make u.system.device j (u.system.job j) (u.wires j) (u.history j) (u.pages j) e endpoint) (sym c.jobs)
+    (subst (λ (x : ℕ → Make). EndpointRefines t.users t.infos (t.jobs j) x u.system.device j (u.system.job j) (u.wires j) (u.history j) (u.pages j) e endpoint) (sym c.make)
+    (subst (λ (x : JobState). EndpointRefines t.users t.infos (t.jobs j) t.system.make u.system.device j x (u.wires j) (u.history j) (u.pages j) e endpoint) (sym (c.job j n))
+    (subst (λ (x : Wires). EndpointRefines t.users t.infos (t.jobs j) t.system.make u.system.device j (t.system.job j) x (u.history j) (u.pages j) e endpoint) (sym (c.wires j n))
+    (subst (λ (x : JoinHistory). EndpointRefines t.users t.infos (t.jobs j) t.system.make u.system.device j (t.system.job j) (t.wires j) x (u.pages j) e endpoint) (sym (c.history j n))
+    (subst (λ (x : List JoinHistory). EndpointRefines t.users t.infos (t.jobs j) t.system.make u.system.device j (t.system.job j) (t.wires j) (t.history j) x e endpoint) (sym (c.pages j n))
+    (record {
+      job_is = h.job_is;
+      talks = h.talks;
+      carries = subst (λ (x : Option (SessionSlot DeviceState)). WiresMatch (t.wires j) x endpoint) (sym slot) h.carries;
+      means = h.means;
+      served = served;
+      speaks = subst (λ (x : Option (SessionSlot DeviceState)). Speaks (t.jobs j).device (t.system.job j) (session_in x)) (sym slot) h.speaks;
+      waits = h.waits;
+      pends = h.pends;
+    }))))))))
+
+other_sits : (t u : Ghost) (w : WorldCore) (i j : ℕ) (p q endpoint : Endpoint) (e : Core) → WorldRefines t w → slice_get w.endpoints i ≡ Some p → Change i t u w p q e → j ≢ i → slice_get w.endpoints j ≡ Some endpoint → EndpointRefinesAt u e j endpoint
+other_sits t u w i j p q endpoint e h at c n there =
+    let s = h.endpoints j endpoint there in
+    let apart = other_apart t w i j p endpoint h n at there in
+    sits_same t u w.daemon e i j endpoint n c.told
+    (seat_stands i t.system.make p.link endpoint.link w.daemon e t.system.device u.system.device apart c.leaves)
+    (served_stands i j t.system.make p.link endpoint.link w.daemon e t.system.device u.system.device (t.system.job j) (t.system.job j).served n apart c.leaves s.served) s
+
+each_sits : (t u : Ghost) (w : WorldCore) (i j : ℕ) (p q endpoint : Endpoint) (e : Core) → WorldRefines t w → slice_get w.endpoints i ≡ Some p → Change i t u w p q e → (j ≡ i) ⊎ (j ≢ i) → slice_get (slice_set w.endpoints i q) j ≡ Some endpoint → EndpointRefinesAt u e j endpoint
+each_sits t u w i j p q endpoint e h at c (inl same) there =
+    let q_is : Some q ≡ Some endpoint = sym (set_there w.endpoints i q p at) ∙ (ap (slice_get (slice_set w.endpoints i q)) (sym same) ∙ there) in
+    let is : q ≡ endpoint = cc in
+    subst (λ (k : ℕ). EndpointRefinesAt u e k endpoint) (sym same) (subst (λ (x : Endpoint). EndpointRefinesAt u e i x) is c.sits)
+each_sits t u w i j p q endpoint e h at c (inr n) there = other_sits t u w i j p q endpoint e h at c n (sym (set_elsewhere w.endpoints i j q n) ∙ there)
+
+each_nobody : (t u : Ghost) (w : WorldCore) (i j : ℕ) (p q : Endpoint) (e : Core) → WorldRefines t w → Change i t u w p q e → j ≢ i → length w.endpoints ≤ j → IsNobody u (changed w i q e) j
+each_nobody t u w i j p q e h c n beyond =
+    let b = h.beyond j beyond in
+    let job_state = c.told.job j n in
+    record {
+      stage = ap (λ (x : JobState). x.client.stage) job_state ∙ b.stage;
+      linked = ap (λ (x : JobState). x.linked) job_state ∙ b.linked;
+      transfer = ap (λ (x : JobState). x.session.transfer) job_state ∙ b.transfer;
+      image = ap (λ (x : Wires). x.image) (c.told.wires j n) ∙ b.image;
+      table = subst (λ (make : ℕ → Make). TableRefines j make [] e.registry u.system.device) (sym c.told.make) (table_stands i j t.system.make c.leaves.held w.daemon.stream w.daemon.registry e.registry t.system.device u.system.device n c.leaves.shows c.leaves.others b.table);
+    }
+
+-- ---- sessions
+
+-- whose session it is: the changed job's, or one that was there
+link_of : (t u : Ghost) (w : WorldCore) (i j : ℕ) (p q a : Endpoint) (e : Core) → slice_get w.endpoints i ≡ Some p → (j ≡ i) ⊎ (j ≢ i) → slice_get (slice_set w.endpoints i q) j ≡ Some a → ((j ≡ i) × (a ≡ q)) ⊎ ((j ≢ i) × (slice_get w.endpoints j ≡ Some a))
+link_of t u w i j p q a e at (inl same) there =
+    let q_is : Some q ≡ Some a = sym (set_there w.endpoints i q p at) ∙ (ap (slice_get (slice_set w.endpoints i q)) (sym same) ∙ there) in
+    inl (same, let is : a ≡ q = cc in is)
+link_of t u w i j p q a e at (inr n) there = inr (n, sym (set_elsewhere w.endpoints i j q n) ∙ there)
+
+-- the changed job's session and another's have two numbers
+two_numbers : (t u : Ghost) (w : WorldCore) (i j : ℕ) (p q b : Endpoint) (e : Core) (x y : SessionId) → WorldRefines t w → slice_get w.endpoints i ≡ Some p → j ≢ i → slice_get w.endpoints j ≡ Some b → b.link ≡ Some y → (p.link ≡ Some x) ⊎ ((w.daemon.opened ≤ x.number) × (x.number < e.opened)) → x.number ≢ y.number
+two_numbers t u w i j p q b e x y h at n there is (inl old) = λ same. n (sym (h.own i j p b x y at there old is same))
+two_numbers t u w i j p q b e x y h at n there is (inr new) = λ same. let below : y.number < w.daemon.opened = h.links j b y there is in omega (arith, below, new.0, same)
+
+own_stays : (t u : Ghost) (w : WorldCore) (i j k : ℕ) (p q a b : Endpoint) (e : Core) (x y : SessionId) → WorldRefines t w → slice_get w.endpoints i ≡ Some p → Change i t u w p q e → a.link ≡ Some x → b.link ≡ Some y → x.number ≡ y.number →
+    ((j ≡ i) × (a ≡ q)) ⊎ ((j ≢ i) × (slice_get w.endpoints j ≡ Some a)) → ((k ≡ i) × (b ≡ q)) ⊎ ((k ≢ i) × (slice_get w.endpoints k ≡ Some b)) → j ≡ k
+own_stays t u w i j k p q a b e x y h at c is_x is_y same (inl m) (inl n) = m.0 ∙ sym n.0
+own_stays t u w i j k p q a b e x y h at c is_x is_y same (inl m) (inr n) =
+    absurd (two_numbers t u w i k p q b e x y h at n.0 n.1 is_y (c.link x (ap (λ (z : Endpoint). z.link) (sym m.1) ∙ is_x)) same)
+own_stays t u w i j k p q a b e x y h at c is_x is_y same (inr m) (inl n) =
+    absurd (two_numbers t u w i j p q a e y x h at m.0 m.1 is_x (c.link y (ap (λ (z : Endpoint). z.link) (sym n.1) ∙ is_y)) (sym same))
+own_stays t u w i j k p q a b e x y h at c is_x is_y same (inr m) (inr n) = h.own j k a b x y m.1 n.1 is_x is_y same
+
+number_below : (t : Ghost) (w : WorldCore) (i : ℕ) (p : Endpoint) (e : Core) (x : SessionId) → WorldRefines t w → slice_get w.endpoints i ≡ Some p → w.daemon.opened ≤ e.opened → (p.link ≡ Some x) ⊎ ((w.daemon.opened ≤ x.number) × (x.number < e.opened)) → x.number < e.opened
+number_below t w i p e x h at more (inl old) = let below : x.number < w.daemon.opened = h.links i p x at old in omega (arith, below, more)
+number_below t w i p e x h at more (inr new) = new.1
+
+link_below : (t u : Ghost) (w : WorldCore) (i j : ℕ) (p q a : Endpoint) (e : Core) (x : SessionId) → WorldRefines t w → slice_get w.endpoints i ≡ Some p → Change i t u w p q e → a.link ≡ Some x → ((j ≡ i) × (a ≡ q)) ⊎ ((j ≢ i) × (slice_get w.endpoints j ≡ Some a)) → x.number < e.opened
+link_below t u w i j p q a e x h at c is (inl m) = number_below t w i p e x h at c.leaves.opened (c.link x (ap (λ (z : Endpoint). z.link) (sym m.1) ∙ is))
+link_below t u w i j p q a e x h at c is (inr m) = let below : x.number < w.daemon.opened = h.links j a x m.1 is in let more = c.leaves.opened in omega (arith, below, more)
+
+-- ---- the world
+
+begun_stays : (t u : Ghost) (w : WorldCore) (i j : ℕ) (p q : Endpoint) (e : Core) → WorldRefines t w → Change i t u w p q e → (j ≡ i) ⊎ (j ≢ i) → AllByRecursion (λ (b : Begin). IsPageView b.page) (u.system.job j).session.started
+begun_stays t u w i j p q e h c (inl same) = subst (λ (k : ℕ). AllByRecursion (λ (b : Begin). IsPageView b.page) (u.system.job k).session.started) (sym same) c.begun
+begun_stays t u w i j p q e h c (inr n) = subst (λ (x : JobState). AllByRecursion (λ (b : Begin). IsPageView b.page) x.session.started) (sym (c.told.job j n)) (h.begun j)
+
+beyond_other : (i j n : ℕ) → i < n → n ≤ j → j ≢ i
+beyond_other i j n low high = λ same. omega (arith, low, high, same)
+
+pub stands_change : (t u : Ghost) (w : WorldCore) (i : ℕ) (p q : Endpoint) (e : Core) → WorldRefines t w → slice_get w.endpoints i ≡ Some p → i < length w.endpoints → Change i t u w p q e → WorldRefines u (record { daemon = e; endpoints = slice_set w.endpoints i q })
+stands_change t u w i p q e h at low c =
+    record {
+      sound = c.sound;
+      asks = c.asks;
+      shown = c.shown;
+      is_of = record {
+        count = c.told.count ∙ (h.is_of.count ∙ sym (set_length w.endpoints i q));
+        users = c.told.users ∙ (h.is_of.users ∙ sym c.leaves.users);
+        infos = c.told.infos ∙ (h.is_of.infos ∙ sym c.leaves.infos);
+        apart = subst HaveDifferentNames (sym c.told.infos) h.is_of.apart;
+        places = c.told.places ∙ (h.is_of.places ∙ ap (numbers_from 0) (sym c.told.infos));
+        counts = λ j low. subst (λ (jobs : ℕ → Job). HasCount (jobs j).task) (sym c.told.jobs) (h.is_of.counts j (subst (λ (n : ℕ). j < n) c.told.count low));
+      };
+      endpoints = λ j endpoint there. each_sits t u w i j p q endpoint e h at c (is_same j i) there;
+      beyond = λ j high. let far : length w.endpoints ≤ j = subst (λ (n : ℕ). n ≤ j) (set_length w.endpoints i q) high in each_nobody t u w i j p q e h c (beyond_other i j (length w.endpoints) low far) far;
+      own = λ j k a b x y at_j at_k is_x is_y same. own_stays t u w i j k p q a b e x y h at c is_x is_y same (link_of t u w i j p q a e at (is_same j i) at_j) (link_of t u w i k p q b e at (is_same k i) at_k);
+      links = λ j endpoint id there is. link_below t u w i j p q endpoint e id h at c is (link_of t u w i j p q endpoint e at (is_same j i) there);
+      slots = c.leaves.below;
+      slots_are = seated_change w.endpoints i p q w.daemon e at h.slots_are h.slots c.reseats;
+      faithful = c.leaves.faithful;
+      begun = λ j. begun_stays t u w i j p q e h c (is_same j i);
+    }
