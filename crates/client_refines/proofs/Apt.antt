@@ -10,8 +10,8 @@ use Rattle.sane_fixed.specs.declared.status.Status.TheVariants as statuses
 use Rattle.option_desc.specs.declared.descriptor.Descriptor.{Descriptor}
 use Rattle.option_desc.specs.declared.value.Value.{Value}
 use Rattle.option_desc.specs.Reads.{read_value}
-use Rattle.device_api.specs.declared.device_info.DeviceInfo.{DeviceInfo}
-use Rattle.device_api.specs.Options.{has_cap}
+use Rattle.sane_fixed.specs.declared.device_info.DeviceInfo.{DeviceInfo}
+use Rattle.sane_fixed.specs.Cap.{has_cap}
 use Rattle.frame_join.specs.declared.join_stage.JoinFault.{JoinFault}
 use Rattle.frame_join.specs.declared.join_stage.JoinFault.TheVariants as faults
 use Rattle.frame_join.specs.FrameHistory.{JoinHistory, after_begin, after_end, answer_of_end as joined_answer}
@@ -27,7 +27,7 @@ use Rattle.client_replies.specs.declared.progress.Progress.TheVariants as stages
 use Rattle.client_replies.specs.declared.progress.Notes.{Notes}
 use Rattle.client_replies.specs.declared.progress.Next.{Next}
 use Rattle.client_replies.specs.declared.progress.Next.TheVariants.{Wait, Finish, Stop}
-use Rattle.client_replies.specs.WireValues.{given_like, wire_value_in}
+use Rattle.client_replies.specs.GivenValues.{given_like, wire_value_in}
 use Rattle.client_replies.specs.ReplyTurns.{Turn, if_good, after_greeting, after_challenge, after_admission, opened_with, wants_value, element_number, gets_at, gets, next_shown, after_settings, option_number_of, puts, puts_at, puts_named, next_of, next_setting, after_put, given_to, of_kind, put_good, put_without_resource, after_get_value, got_good, got_without_resource, is_all, started_by, started_with, stop_unjoined, begun_by, status_of as status_at, page_whole, frame_joined, frame_ended_by, frame_ended}
 use Rattle.client_replies.specs.ProtocolStates.{shaped_by, heard_at}
 use Rattle.system_model.specs.AbstractMessages as words

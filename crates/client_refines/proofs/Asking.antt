@@ -5,7 +5,8 @@ use Rattle.std.proofs.lemmas.Option.{slice_get-map}
 use Rattle.sane_fixed.specs.declared.kind.Kind.{Kind}
 use Rattle.option_desc.specs.declared.descriptor.Descriptor.{Descriptor}
 use Rattle.option_desc.specs.declared.value.Value.{Value}
-use Rattle.client_replies.specs.WireValues.{wire_of, blank_value}
+use Rattle.client_replies.specs.GivenValues.{blank_value}
+use Rattle.wire_message.specs.WireValues.{wire_of}
 use Rattle.frame_join.specs.FrameHistory.{JoinHistory}
 use Rattle.scan_job.specs.declared.job.Task.{Task}
 use Rattle.scan_job.specs.declared.job.Task.TheVariants as tasks

@@ -3,7 +3,7 @@ use Rattle.std.proofs.Common.{◌≡◌, ℕ, Option, Some, Bool, true, false, L
 use Rattle.sane_fixed.specs.declared.status.Status.{Status}
 use Rattle.option_desc.specs.declared.descriptor.Descriptor.{Descriptor}
 use Rattle.option_desc.specs.declared.value.Value.{Value}
-use Rattle.device_api.specs.declared.device_info.DeviceInfo.{DeviceInfo}
+use Rattle.sane_fixed.specs.declared.device_info.DeviceInfo.{DeviceInfo}
 use Rattle.page_picture.specs.Shows.{Frame}
 use Rattle.frame_join.specs.FrameHistory.{JoinHistory, after_pull}
 use Rattle.scan_job.specs.declared.outcome.Outcome.{Outcome}

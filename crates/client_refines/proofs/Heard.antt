@@ -1,6 +1,6 @@
 -- Any reply, by what a client waits for.
 use Rattle.std.proofs.Common.{ℕ, ◌≡◌, true, sym, subst, List, map}
-use Rattle.device_api.specs.declared.device_info.DeviceInfo.{DeviceInfo}
+use Rattle.sane_fixed.specs.declared.device_info.DeviceInfo.{DeviceInfo}
 use Rattle.page_picture.specs.Shows.{Frame}
 use Rattle.wire_message.specs.declared.message.Reply.{Reply}
 use Rattle.scan_job.specs.declared.job.Task.{Task}

@@ -9,7 +9,7 @@ use Rattle.sane_fixed.specs.declared.kind.Kind.{Kind}
 use Rattle.sane_fixed.specs.declared.kind.Kind.TheVariants as kinds
 use Rattle.option_desc.specs.declared.descriptor.Descriptor.{Descriptor}
 use Rattle.option_desc.specs.declared.value.Value.{Value}
-use Rattle.device_api.specs.Options.{has_cap}
+use Rattle.sane_fixed.specs.Cap.{has_cap}
 use Rattle.scan_job.specs.KnownValues.{has_one_value, tells_value, with_known_value}
 use Rattle.client_replies.specs.ReplyTurns.{wants_value, with_no_value}
 use Rattle.system_model.specs.Devices.{is_single, is_readable, readable_from}

@@ -3,7 +3,7 @@ use Rattle.std.proofs.Common.{◌≡◌, ℕ, Option, Some, None, Bool, true, fa
 use Rattle.std.specs.Prelude.{option_map}
 use Rattle.sane_fixed.specs.declared.status.Status.{Status}
 use Rattle.sane_fixed.specs.declared.status.Status.TheVariants as statuses
-use Rattle.device_api.specs.declared.device_info.DeviceInfo.{DeviceInfo}
+use Rattle.sane_fixed.specs.declared.device_info.DeviceInfo.{DeviceInfo}
 use Rattle.md5.specs.Md5.{md5}
 use Rattle.md5_auth.specs.Allowed.{answer_text}
 use Rattle.md5_auth.specs.ChallengeReading.{challenge_of, answer_of as md5_answer}

@@ -1,7 +1,7 @@
 -- A job runs, is done or has ended for both.
 use Rattle.std.proofs.Common.{◌≡◌, ◌∙◌, ℕ, Some, List, refl, sym, ap, subst}
 use Rattle.sane_fixed.specs.declared.status.Status.{Status}
-use Rattle.device_api.specs.declared.device_info.DeviceInfo.{DeviceInfo}
+use Rattle.sane_fixed.specs.declared.device_info.DeviceInfo.{DeviceInfo}
 use Rattle.page_picture.specs.Shows.{Frame}
 use Rattle.frame_join.specs.FrameHistory.{JoinHistory}
 use Rattle.scan_job.specs.declared.outcome.Outcome.{Outcome}

@@ -5,7 +5,7 @@ use Rattle.sane_fixed.specs.declared.byte_order.ByteOrder.{ByteOrder}
 use Rattle.sane_fixed.specs.declared.params.Params.{Params}
 use Rattle.sane_fixed.specs.declared.status.Status.{Status}
 use Rattle.sane_fixed.specs.declared.status.Status.TheVariants as statuses
-use Rattle.device_api.specs.declared.device_info.DeviceInfo.{DeviceInfo}
+use Rattle.sane_fixed.specs.declared.device_info.DeviceInfo.{DeviceInfo}
 use Rattle.page_picture.specs.Shows.{Frame}
 use Rattle.frame_join.specs.AloneFrame.{is_alone_format, is_known, is_shaped, most_bytes}
 use Rattle.frame_join.specs.KeptFrame.{is_unknown, is_pass, goes_with}
@@ -22,14 +22,14 @@ use Rattle.client_replies.specs.declared.progress.Progress.TheVariants as stages
 use Rattle.client_replies.specs.declared.progress.Notes.{Notes}
 use Rattle.client_replies.specs.declared.progress.Next.TheVariants.{Wait, Finish}
 use Rattle.client_replies.specs.ReplyTurns.{turn, page_whole, frame_joined, frame_ended_by}
-use Rattle.client_replies.specs.ProtocolStates.{ProtocolState, protocol_after_turn, scans, is_batch, suits, FitsAt}
+use Rattle.client_replies.specs.ProtocolStates.{ProtocolState, protocol_after_turn, scans, is_batch, suits, FitsAt, protocol_of_next_page}
 use Rattle.scan_job.specs.JobSize.{HasCount}
 use Rattle.system_model.specs.AbstractMessages as words
 use Rattle.system_model.specs.Client as rules
 use Rattle.system_model.specs.ClientReplies.{client_after_bytes, reads_on, finish_in, end_frame, close_frame, close_page, after_page}
-use Rattle.system_model.specs.Devices.{abstract_status, overflows, fills}
+use Rattle.system_model.specs.Devices.{abstract_status, frame_overflows, frame_fills}
 use Rattle.client_refines.specs.ClientRefinement.{task_of, IsApt, parts, wholes, Files, is_nil, KnowsAs, FrameIsShared, WaitsAs, OutcomeRefines, ClientRefines}
-use Rattle.client_refines.specs.FrameRefinement.{protocol_after_bytes, protocol_after_bytes_by, BytesAreReadAlike, FramesEndAlike, PagesTurnUnseen, protocol_of_next_page}
+use Rattle.client_refines.specs.FrameRefinement.{protocol_after_bytes, protocol_after_bytes_by, BytesAreReadAlike, FramesEndAlike, PagesTurnUnseen}
 use Rattle.client_refines.proofs.Sides.{Side, onto, Goes, FilesAs, ends, part_is, no_whole, pages_are, settled_reads}
 use Rattle.client_replies.specs.declared.progress.JobTarget.{JobTarget}
 use Rattle.client_refines.proofs.Apt.{end_later, later_apt}
@@ -52,8 +52,8 @@ feeds past f bytes b c u e =
     ap (λ (o : Option JoinFault). fed_past o past.under bytes false past) c ∙ ap (λ (o : Option Frame). fed_past None o bytes false past) u
     ∙ ap (λ (t : Bool). if t then with_fault faults.Long past else record past { under = Some (record f { payload = f.payload ++ bytes }) }) e
 
-overflows_is : (params : Params) (heard bytes : List ℕ) → overflows params (heard ++ bytes) ≡ nat_lt (most_bytes params) (length heard + length bytes)
-unfolding overflows
+overflows_is : (params : Params) (heard bytes : List ℕ) → frame_overflows params (heard ++ bytes) ≡ nat_lt (most_bytes params) (length heard + length bytes)
+unfolding frame_overflows
 overflows_is params heard bytes = ap (λ (n : ℕ). nat_lt (most_bytes params) n) (length-append heard bytes)
 
 takes : (place : DeviceInfo → ℕ) (target : JobTarget) (job : rules.AbstractJob) (pages : List (List Frame)) (protocol : ProtocolState) (m : rules.ClientView) (bytes : List ℕ) (port : ℕ) (made b : Bool) (i : FrameIsShared protocol.history m)
@@ -176,8 +176,8 @@ closes past f b c u e =
     ap (λ (o : Option JoinFault). closed_past o past.under past) c ∙ ap (λ (o : Option Frame). closed_past None o past) u
     ∙ ap (λ (t : Bool). if t then record past { ended = past.ended ++ f ∷ []; under = None } else with_fault faults.Short past) e
 
-fills_is : (params : Params) (order : ByteOrder) (payload : List ℕ) → fills params payload ≡ is_full (record { params = params; order = order; payload = payload })
-unfolding fills
+fills_is : (params : Params) (order : ByteOrder) (payload : List ℕ) → frame_fills params payload ≡ is_full (record { params = params; order = order; payload = payload })
+unfolding frame_fills
 fills_is params order payload = refl
 
 closes_by : (x : Side) (task : Task) (notes : Notes) (m : rules.ClientView) (i : FrameIsShared x.history m) (b : Bool) (past : JoinHistory) → x.job.task ≡ task_of task → HasCount task → scans task ≡ true → x.history.fault ≡ None

@@ -5,7 +5,7 @@ use Rattle.wire_format.specs.Format.{Format, places}
 use Rattle.wire_format.specs.Limit.{limited_format}
 use Rattle.wire_format.specs.declared.fault.Fault.TheVariants.{TooLong}
 use Rattle.sane_fixed.specs.declared.status.Status.TheVariants as statuses
-use Rattle.device_api.specs.declared.device_info.DeviceInfo.{DeviceInfo}
+use Rattle.sane_fixed.specs.declared.device_info.DeviceInfo.{DeviceInfo}
 use Rattle.page_picture.specs.Shows.{Frame}
 use Rattle.frame_join.specs.FrameHistory.{JoinHistory}
 use Rattle.wire_message.specs.declared.message.Procedure.{Procedure}

@@ -2,7 +2,7 @@
 use Rattle.std.proofs.Common.{◌≡◌, ◌∙◌, ℕ, Option, Some, None, List, [], refl, sym, ap, subst, append-nil}
 use Rattle.wire_format.specs.Writer.{append_text}
 use Rattle.wire_writing.specs.RequestWriting.{write_request}
-use Rattle.device_api.specs.declared.device_info.DeviceInfo.{DeviceInfo}
+use Rattle.sane_fixed.specs.declared.device_info.DeviceInfo.{DeviceInfo}
 use Rattle.frame_join.specs.FrameHistory.{JoinHistory}
 use Rattle.wire_message.specs.declared.message.Reply.{Reply}
 use Rattle.wire_message.specs.declared.message.Request.{Request}

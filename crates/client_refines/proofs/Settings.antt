@@ -14,7 +14,7 @@ use Rattle.option_desc.specs.declared.descriptor.Descriptor.{Descriptor}
 use Rattle.option_desc.specs.declared.value.Value.{Value}
 use Rattle.option_desc.specs.Reads.{read_value}
 use Rattle.device_api.specs.InForce.{number_named}
-use Rattle.device_api.specs.Options.{has_cap}
+use Rattle.sane_fixed.specs.Cap.{has_cap}
 use Rattle.wire_message.specs.declared.message.Reply.{Reply}
 use Rattle.wire_message.specs.declared.message.Reply.TheVariants as replies
 use Rattle.wire_message.specs.declared.message.WireValue.{WireValue}
@@ -24,7 +24,7 @@ use Rattle.scan_job.specs.declared.outcome.Why.TheVariants as whys
 use Rattle.client_replies.specs.declared.progress.Progress.TheVariants as stages
 use Rattle.client_replies.specs.declared.progress.Notes.{Notes}
 use Rattle.scan_job.specs.declared.report.Report.{Report}
-use Rattle.client_replies.specs.WireValues.{given_like}
+use Rattle.client_replies.specs.GivenValues.{given_like}
 use Rattle.client_replies.specs.ReplyTurns.{turn, stop_bad_setting, element_number, next_shown, after_settings, option_number_of, puts, puts_at, puts_named, next_of, next_setting, with_no_value, after_describe_reply, after_put, given_to, of_kind, put_good, put_without_resource, was_put}
 use Rattle.system_model.specs.AbstractMessages as words
 use Rattle.system_model.specs.Client as rules

@@ -13,7 +13,7 @@ use Rattle.scan_job.specs.declared.job.Task.{Task}
 use Rattle.scan_job.specs.declared.job.Task.TheVariants as tasks
 use Rattle.client_replies.specs.declared.progress.Progress.TheVariants as stages
 use Rattle.client_replies.specs.declared.progress.Notes.{Notes}
-use Rattle.client_replies.specs.WireValues.{wire_value_in}
+use Rattle.client_replies.specs.GivenValues.{wire_value_in}
 use Rattle.client_replies.specs.ReplyTurns.{turn, wants_value, element_number, gets_at, gets, next_shown, of_kind, after_get_value, got_good, got_without_resource, was_got}
 use Rattle.scan_job.specs.KnownValues.{with_known_value}
 use Rattle.client_replies.specs.ProtocolStates.{shows}

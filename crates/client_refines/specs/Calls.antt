@@ -2,7 +2,7 @@
 -- connection is made.
 use Rattle.std.specs.Prelude.{ℕ, ◌≡◌, true, Some, List, [], ◌∷◌, ◌++◌, map}
 use Rattle.sane_fixed.specs.declared.status.Status.TheVariants as statuses
-use Rattle.device_api.specs.declared.device_info.DeviceInfo.{DeviceInfo}
+use Rattle.sane_fixed.specs.declared.device_info.DeviceInfo.{DeviceInfo}
 use Rattle.page_picture.specs.Shows.{Frame}
 use Rattle.frame_join.specs.FrameHistory.{JoinHistory, empty_history}
 use Rattle.wire_format.specs.Writer.{behind}

@@ -1,7 +1,7 @@
 -- That the beginning of a job, the ends that no message brings, and what the model does not speak of are read alike.
 use Rattle.std.specs.Prelude.{ℕ, ◌≡◌, Some, List, [], map}
 use Rattle.sane_fixed.specs.declared.status.Status.{Status}
-use Rattle.device_api.specs.declared.device_info.DeviceInfo.{DeviceInfo}
+use Rattle.sane_fixed.specs.declared.device_info.DeviceInfo.{DeviceInfo}
 use Rattle.page_picture.specs.Shows.{Frame}
 use Rattle.frame_join.specs.FrameHistory.{empty_history, after_pull}
 use Rattle.scan_job.specs.declared.outcome.Outcome.{Outcome}

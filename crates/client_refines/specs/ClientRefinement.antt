@@ -6,7 +6,7 @@ use Rattle.sane_fixed.specs.declared.kind.Kind.{Kind}
 use Rattle.option_desc.specs.declared.descriptor.Descriptor.{Descriptor}
 use Rattle.option_desc.specs.Reads.{read_value}
 use Rattle.option_desc.specs.declared.value.Value.{Value}
-use Rattle.device_api.specs.declared.device_info.DeviceInfo.{DeviceInfo}
+use Rattle.sane_fixed.specs.declared.device_info.DeviceInfo.{DeviceInfo}
 use Rattle.page_picture.specs.Shows.{Frame}
 use Rattle.md5_auth.specs.ChallengeReading.{answer_of}
 use Rattle.frame_join.specs.FrameHistory.{JoinHistory, is_joined, is_accepted}

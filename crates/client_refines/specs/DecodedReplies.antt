@@ -4,7 +4,7 @@ use Rattle.sane_fixed.specs.declared.status.Status.{Status}
 use Rattle.sane_fixed.specs.declared.status.Status.TheVariants as statuses
 use Rattle.sane_fixed.specs.declared.info.Info.{Info}
 use Rattle.option_desc.specs.declared.value.Value.{Value}
-use Rattle.device_api.specs.declared.device_info.DeviceInfo.{DeviceInfo}
+use Rattle.sane_fixed.specs.declared.device_info.DeviceInfo.{DeviceInfo}
 use Rattle.md5_auth.specs.ChallengeReading.{challenge_of}
 use Rattle.wire_message.specs.declared.message.Reply.{Reply}
 use Rattle.wire_message.specs.declared.message.Reply.TheVariants as replies
@@ -13,7 +13,7 @@ use Rattle.scan_job.specs.declared.outcome.Why.TheVariants as whys
 use Rattle.client_replies.specs.declared.progress.Progress.{Progress}
 use Rattle.client_replies.specs.declared.progress.Progress.TheVariants as stages
 use Rattle.client_replies.specs.ReplyTurns.{of_kind}
-use Rattle.client_replies.specs.WireValues.{given_like, wire_value_in}
+use Rattle.client_replies.specs.GivenValues.{given_like, wire_value_in}
 use Rattle.system_model.specs.AbstractMessages as words
 use Rattle.system_model.specs.Devices.{abstract_status, abstract_info}
 

@@ -1,16 +1,16 @@
 -- That the data of a frame, its end and the turn to the next page of a batch make of a client what they make of the reading.
-use Rattle.std.specs.Prelude.{ℕ, ◌≡◌, Bool, true, false, Option, Some, None, List, [], ◌∷◌, ◌++◌}
+use Rattle.std.specs.Prelude.{ℕ, ◌≡◌, Bool, false, Option, Some, None, List, [], ◌∷◌, ◌++◌}
 use Rattle.sane_fixed.specs.declared.status.Status.{Status}
-use Rattle.device_api.specs.declared.device_info.DeviceInfo.{DeviceInfo}
+use Rattle.sane_fixed.specs.declared.device_info.DeviceInfo.{DeviceInfo}
 use Rattle.page_picture.specs.Shows.{Frame}
-use Rattle.frame_join.specs.FrameHistory.{JoinHistory, empty_history, after_feed}
+use Rattle.frame_join.specs.FrameHistory.{JoinHistory, after_feed}
 use Rattle.frame_join.specs.declared.join_stage.JoinFault.{JoinFault}
 use Rattle.scan_job.specs.declared.job.Task.{Task}
 use Rattle.scan_job.specs.declared.outcome.Outcome.TheVariants.{Running}
 use Rattle.client_replies.specs.declared.progress.JobTarget.{JobTarget}
 use Rattle.client_replies.specs.declared.progress.Progress.TheVariants as stages
 use Rattle.client_replies.specs.ReplyTurns.{turn, stop_unjoined, frame_ended, status_of as status_at}
-use Rattle.client_replies.specs.ProtocolStates.{ProtocolState, HistoryFits, protocol_after_turn, next_file}
+use Rattle.client_replies.specs.ProtocolStates.{ProtocolState, HistoryFits, protocol_after_turn, protocol_of_next_page}
 use Rattle.scan_job.specs.JobSize.{HasCount}
 use Rattle.system_model.specs.Client as rules
 use Rattle.system_model.specs.ClientReplies.{client_after_bytes, finish_in}
@@ -47,9 +47,6 @@ FramesEndAlike =
     → ClientRefines place target job pages (protocol_after_end target.task protocol n) (finish_in m.stage job.task m (abstract_status status))
 
 -- ---- the next page of a batch: the model asked for it already
-
-abbrev pub protocol_of_next_page : ProtocolState → ProtocolState
-protocol_of_next_page protocol = record protocol { progress = stages.Starting true; notes = record protocol.notes { file = next_file protocol.notes.file }; history = empty_history }
 
 abbrev pub PagesTurnUnseen : Type 0
 PagesTurnUnseen =

@@ -3,7 +3,7 @@
 use Rattle.std.specs.Prelude.{ℕ, ◌≡◌, Option, Some, None, true, List, [], ◌∷◌, ◌++◌}
 use Rattle.sane_fixed.specs.declared.status.Status.{Status}
 use Rattle.sane_fixed.specs.declared.status.Status.TheVariants as statuses
-use Rattle.device_api.specs.declared.device_info.DeviceInfo.{DeviceInfo}
+use Rattle.sane_fixed.specs.declared.device_info.DeviceInfo.{DeviceInfo}
 use Rattle.page_picture.specs.Shows.{Frame}
 use Rattle.frame_join.specs.FrameHistory.{JoinHistory, empty_history, after_pull}
 use Rattle.wire_message.specs.declared.message.Reply.{Reply}

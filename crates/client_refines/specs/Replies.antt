@@ -1,6 +1,6 @@
 -- That a reply makes of a client what its decoded reply makes of the reading.
 use Rattle.std.specs.Prelude.{ℕ, ◌≡◌, List}
-use Rattle.device_api.specs.declared.device_info.DeviceInfo.{DeviceInfo}
+use Rattle.sane_fixed.specs.declared.device_info.DeviceInfo.{DeviceInfo}
 use Rattle.page_picture.specs.Shows.{Frame}
 use Rattle.wire_message.specs.declared.message.Reply.{Reply}
 use Rattle.scan_job.specs.declared.outcome.Outcome.TheVariants.{Running}

@@ -6,7 +6,8 @@ use Rattle.wire_message.specs.declared.message.Request.TheVariants as requests
 use Rattle.wire_message.specs.declared.message.ControlAction.TheVariants as actions
 use Rattle.md5_auth.specs.ChallengeReading.{answer_of}
 use Rattle.client_replies.specs.Asking.{request_for, goodbye, farewell}
-use Rattle.client_replies.specs.WireValues.{wire_of, blank_value}
+use Rattle.client_replies.specs.GivenValues.{blank_value}
+use Rattle.wire_message.specs.WireValues.{wire_of}
 use Rattle.client_replies.specs.declared.progress.JobTarget.{JobTarget}
 use Rattle.client_replies.specs.declared.progress.Progress.{Progress}
 use Rattle.client_replies.specs.declared.progress.Progress.TheVariants as stages

@@ -16,7 +16,7 @@ use Rattle.page_picture.specs.Shows.{Frame}
 use Rattle.frame_join.specs.declared.join_stage.JoinFault.{JoinFault}
 use Rattle.frame_join.specs.declared.join_stage.JoinFault.TheVariants as faults
 use Rattle.frame_join.specs.FrameHistory.{JoinHistory, after_begin_at, with_fault, after_begin, IsJoined, is_joined, is_accepted, answer_by}
-use Rattle.device_api.specs.Options.{has_cap}
+use Rattle.sane_fixed.specs.Cap.{has_cap}
 use Rattle.wire_message.specs.declared.message.Reply.{Reply}
 use Rattle.wire_message.specs.declared.message.Reply.TheVariants as replies
 use Rattle.wire_message.specs.declared.message.WireValue.{WireValue}
@@ -28,7 +28,7 @@ use Rattle.client_replies.specs.declared.progress.Progress.TheVariants as stages
 use Rattle.client_replies.specs.declared.progress.Notes.{Notes}
 use Rattle.client_replies.specs.declared.progress.Next.{Next}
 use Rattle.client_replies.specs.declared.progress.Next.TheVariants.{Wait, Finish}
-use Rattle.client_replies.specs.WireValues.{given_like, wire_value_in}
+use Rattle.client_replies.specs.GivenValues.{given_like, wire_value_in}
 use Rattle.client_replies.specs.ReplyTurns.{stop_by_answer, if_good, after_greeting, after_init_reply, after_list_reply, after_challenge, after_admission, opened_with, after_open_reply, after_authorize_reply, wants_value, element_number, gets_at, gets, next_shown, after_settings, option_number_of, puts, puts_at, puts_named, next_of, next_setting, after_describe_reply, after_put, given_to, of_kind, put_good, put_without_resource, was_put, after_get_value, got_good, got_without_resource, was_got, is_all, started_by, started_with, after_start_reply, stop_unjoined, begun_by, turn_after_reply}
 use Rattle.scan_job.specs.KnownValues.{with_known_value}
 use Rattle.client_replies.specs.ProtocolStates.{lists, shows, is_batch, scans, suits, IsBetweenFrames, IsWithinFrame, FitsAt, FitsDone, FitsEnded, NextFits, shaped_by, after_params_reply}

@@ -8,7 +8,8 @@ use Rattle.scan_job.specs.declared.job.Task.TheVariants as tasks
 use Rattle.client_replies.specs.declared.progress.JobTarget.{JobTarget}
 use Rattle.client_replies.specs.declared.progress.Progress.{Progress}
 use Rattle.client_replies.specs.declared.progress.Progress.TheVariants as stages
-use Rattle.client_replies.specs.WireValues.{wire_of, blank_value}
+use Rattle.client_replies.specs.GivenValues.{blank_value}
+use Rattle.wire_message.specs.WireValues.{wire_of}
 
 -- what a job asks for as it begins to wait
 abbrev pub request_for : JobTarget → ℕ → Progress → Option Request

@@ -1,4 +1,4 @@
-pub mod WireValues
+pub mod GivenValues
 pub mod ClearJoins
 pub mod ReplyTurns
 pub mod Asking

@@ -6,10 +6,10 @@ use Rattle.sane_fixed.specs.declared.params.Params.{Params}
 use Rattle.sane_fixed.specs.declared.byte_order.ByteOrder.{ByteOrder}
 use Rattle.option_desc.specs.declared.descriptor.Descriptor.{Descriptor}
 use Rattle.option_desc.specs.declared.value.Value.{Value}
-use Rattle.device_api.specs.declared.device_info.DeviceInfo.{DeviceInfo}
+use Rattle.sane_fixed.specs.declared.device_info.DeviceInfo.{DeviceInfo}
 use Rattle.netpbm.specs.Pnm.{IsWhole}
 use Rattle.page_picture.specs.Shows.{Frame}
-use Rattle.frame_join.specs.FrameHistory.{JoinHistory, after_begin, IsJoined, is_joined}
+use Rattle.frame_join.specs.FrameHistory.{JoinHistory, empty_history, after_begin, IsJoined, is_joined}
 use Rattle.wire_message.specs.declared.message.Reply.{Reply}
 use Rattle.wire_message.specs.declared.message.Reply.TheVariants as replies
 use Rattle.scan_job.specs.declared.job.Job.{Job}
@@ -226,3 +226,7 @@ is_receiving outcome progress = false
 -- so many bytes more came of the frame under way
 abbrev pub with_payload : JoinHistory → Frame → List ℕ → JoinHistory
 with_payload past frame given = record past { under = Some (record frame { payload = frame.payload ++ given }) }
+
+-- the next page of a batch
+abbrev pub protocol_of_next_page : ProtocolState → ProtocolState
+protocol_of_next_page protocol = record protocol { progress = stages.Starting true; notes = record protocol.notes { file = next_file protocol.notes.file }; history = empty_history }

@@ -1,11 +1,11 @@
 ghost use Rattle.std.specs.Prelude.{◌≡◌, IfOk};
 ghost use Rattle.client_replies.specs.Asking.{request_for};
 
+use crate::given_values::blank_value;
 use crate::progress::{JobTarget, Progress};
-use crate::wire_values::{blank_value, wire_of};
 use sane_fixed::NoMem;
 use std::alloc::Global;
-use wire_message::{ControlAction, Request};
+use wire_message::{ControlAction, Request, wire_of};
 
 /// The version that a client tells: 1.0, build 3.
 const VERSION: u32 = 0x01000003;

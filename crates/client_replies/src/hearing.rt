@@ -1,15 +1,15 @@
 ghost use Rattle.std.specs.Prelude.{◌≡◌, ◌==◌, ◌&&◌, ◌<◌, IfOk, IfSome, OnOk, OnErr, Some, None, Option, if◌then◌else◌, length, map, position, slice_get};
 ghost use Rattle.md5_auth.specs.ChallengeReading.{answer_of};
 ghost use Rattle.option_desc.specs.Reads.{read_value};
-ghost use Rattle.device_api.specs.Options.{has_cap};
+ghost use Rattle.sane_fixed.specs.Cap.{has_cap};
 ghost use Rattle.std.specs.Str.{bytes_eq};
 ghost use Rattle.option_desc.specs.declared.value.Value.{Value as AnyValue};
-ghost use Rattle.client_replies.specs.WireValues.{given_like, wire_value_in};
+ghost use Rattle.client_replies.specs.GivenValues.{given_like, wire_value_in};
 ghost use Rattle.client_replies.specs.ReplyTurns.{stop_by_answer, stop_malformed, stop_bad_setting, if_good, after_greeting, after_init_reply, after_list_reply, after_challenge, after_admission, opened_with, after_open_reply, after_authorize_reply, element_number, puts, wants_value, next_shown, after_settings, option_number_of, puts_named, next_setting, with_no_value, after_describe_reply, after_put, given_to, of_kind, put_good, was_put, after_get_value, got_good, was_got, is_all, started_by, after_start_reply, stop_unjoined, turn_after_reply};
 ghost use Rattle.scan_job.specs.KnownValues.{with_known_value};
 
+use crate::given_values::{given_like, wire_value_in};
 use crate::progress::{JobTarget, Next, Notes, Progress};
-use crate::wire_values::{given_like, wire_value_in};
 use frame_join::JoinFault;
 use md5_auth::answer;
 use option_desc::{Descriptor, Value, read_text};

@@ -4,16 +4,16 @@
 
 mod asking;
 mod frame_ending;
+mod given_values;
 mod hearing;
 mod progress;
 mod queue;
 mod shaping;
-mod wire_values;
 
 pub use asking::request_for;
 pub use frame_ending::frame_ended;
+pub use given_values::{blank_value, given_like, wire_value_in};
 pub use hearing::{hear, stop_unjoined};
 pub use progress::{JobTarget, Link, Next, Notes, Progress};
 pub use queue::Queue;
 pub use shaping::after_params_reply;
-pub use wire_values::{blank_value, given_like, wire_of, wire_value_in};

@@ -1,7 +1,6 @@
 use crate::queue::Queue;
-use device_api::DeviceInfo;
 use option_desc::{Descriptor, Value};
-use sane_fixed::{ByteOrder, Kind, Status, Text};
+use sane_fixed::{ByteOrder, DeviceInfo, Kind, Status, Text};
 use scan_job::{ItemList, Report, Task, Why};
 
 /// What a job is, its settings aside.

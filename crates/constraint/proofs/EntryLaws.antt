@@ -13,7 +13,8 @@ use Rattle.constraint.specs.Nearest.{BeginsWith, BeginsAt, IsFirstEqual, IsOnlyB
 use Rattle.constraint.specs.declared.string_list.Beginning.{Beginning}
 use Rattle.constraint.specs.declared.string_list.Beginning.TheVariants.{Nowhere, At, Several}
 use Rattle.constraint.specs.Beginning.{beginning_of, with_place}
-use Rattle.constraint.specs.NearestComputed.{begins_with, places_from, only, or_else, nearest_entry}
+use Rattle.constraint.specs.NearestComputed.{begins_with, places_from, only, nearest_entry}
+use Rattle.std.specs.Option.{option_or}
 
 some_is : {X : Type 0} (a b : X) → ◌≡◌ {A = Option X} (Some a) (Some b) → a ≡ b
 some_is a b e = (cc)
@@ -248,7 +249,7 @@ is_only entries text p none o =
       only = λ j b. o.only j (passes_at entries text j b);
     })
 
-found_at : (entries : List (List ℕ)) (text : List ℕ) (o : Option ℕ) (ps : List ℕ) (p : ℕ) → position_from (equals text) 0 entries ≡ o → places_from (begins text) 0 entries ≡ ps → or_else o (only ps) ≡ Some p → NearestEntry entries text p
+found_at : (entries : List (List ℕ)) (text : List ℕ) (o : Option ℕ) (ps : List ℕ) (p : ℕ) → position_from (equals text) 0 entries ≡ o → places_from (begins text) 0 entries ≡ ps → option_or o (only ps) ≡ Some p → NearestEntry entries text p
 found_at entries text (Some q) ps p e f g = inl (is_first entries text p (position_from-some (equals text) 0 entries p (e ∙ g)))
 found_at entries text None [] p e f g = absurd (no_some p g)
 found_at entries text None (q ∷ []) p e f g = inr (is_only entries text p (position_from-none (equals text) 0 entries e) (places_from-one (begins text) 0 entries p (f ∙ ap (λ x. x ∷ []) (some_is q p g))))
@@ -261,7 +262,7 @@ NearestEntry-nearest_entry entries text p e = found_at entries text _ _ p refl r
 same_two : (i j k : ℕ) → i < j → i ≡ k → j ≡ k → ⊥
 same_two i j k less e f = omega arith
 
-missing_at : (entries : List (List ℕ)) (text : List ℕ) (o : Option ℕ) (ps : List ℕ) → position_from (equals text) 0 entries ≡ o → places_from (begins text) 0 entries ≡ ps → or_else o (only ps) ≡ None → (p : ℕ) → NearestEntry entries text p → ⊥
+missing_at : (entries : List (List ℕ)) (text : List ℕ) (o : Option ℕ) (ps : List ℕ) → position_from (equals text) 0 entries ≡ o → places_from (begins text) 0 entries ≡ ps → option_or o (only ps) ≡ None → (p : ℕ) → NearestEntry entries text p → ⊥
 missing_at entries text (Some q) ps e f g p n = no_some q (sym g)
 missing_at entries text None ps e f g p (inl x) = none_equal entries text (position_from-none (equals text) 0 entries e) p x.equal
 missing_at entries text None [] e f g p (inr x) = none_passes (begins text) entries p (places_from-none (begins text) 0 entries f) (passes_at entries text p x.begins)
@@ -366,7 +367,7 @@ found_equal entries text i entry beginning within at s equal =
     ∙ position_from-append (equals text) 0 (take i entries) (entry ∷ drop (i + 1) entries) s.none_equal
     ∙ position_here (equals text) (0 + length (take i entries)) entry (drop (i + 1) entries) equal
     ∙ ap Some (front_length entries i within) in
-    ap (λ o. or_else o (only (places_from (begins text) 0 entries))) (sym here)
+    ap (λ o. option_or o (only (places_from (begins text) 0 entries))) (sym here)
 
 pub equal_at : (entries : List (List ℕ)) (text : List ℕ) (i : ℕ) (entry : List ℕ) → i < length entries → entry ≡ get_or entries i entry → bytes_eq entry text ≡ true → slice_get entries i ≡ Some text
 equal_at entries text i entry within at equal = slice_get_read entries (length entries) i entry refl within at ∙ ap Some ((bytes_eq-Decides entry text).0 equal)
@@ -389,7 +390,7 @@ searched_all entries text i beginning all s =
     let none : position_from (equals text) 0 entries ≡ None = subst (λ l. position_from (equals text) 0 l ≡ None) whole s.none_equal in
     ap place_of s.beginning_is ∙ place_of-beginning_of (places_from (begins text) 0 (take i entries))
     ∙ ap (λ l. only (places_from (begins text) 0 l)) whole
-    ∙ ap (λ o. or_else o (only (places_from (begins text) 0 entries))) (sym none)
+    ∙ ap (λ o. option_or o (only (places_from (begins text) 0 entries))) (sym none)
 
 pub none_equal_all : (entries : List (List ℕ)) (text : List ℕ) (i : ℕ) (beginning : Beginning) → length entries ≤ i → Searched entries text i beginning → (k : ℕ) → slice_get entries k ≢ Some text
 none_equal_all entries text i beginning all s =

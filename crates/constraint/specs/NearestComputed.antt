@@ -6,6 +6,7 @@ use Rattle.std.specs.Str.{bytes_eq}
 use Rattle.sane_fixed.specs.Decimal.{rounded_quotient}
 use Rattle.constraint.specs.Admitted.{Bounds}
 use Rattle.constraint.specs.Nearest.{distance}
+use Rattle.std.specs.Option.{option_or}
 
 -- how far a word lies above another, 0 where it does not
 abbrev pub height : ℤ → ℕ
@@ -47,12 +48,7 @@ only [] = None
 only (place ∷ []) = Some place
 only (place ∷ next ∷ places) = None
 
--- the first where there is one, else the second
-abbrev pub or_else : Option ℕ → Option ℕ → Option ℕ
-or_else None second = second
-or_else (Some place) second = Some place
-
 -- the place of the entry that a text is matched with
 unfoldable pub nearest_entry : List (List ℕ) → List ℕ → Option ℕ
 nearest_entry entries text =
-    or_else (position_from (λ entry. bytes_eq entry text) 0 entries) (only (places_from (λ entry. begins_with entry text) 0 entries))
+    option_or (position_from (λ entry. bytes_eq entry text) 0 entries) (only (places_from (λ entry. begins_with entry text) 0 entries))

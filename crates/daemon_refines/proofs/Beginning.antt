@@ -3,7 +3,7 @@ use Rattle.std.proofs.Common.{◌≡◌, ◌∙◌, ℕ, zero, suc, List, [], �
 use Rattle.device_api.specs.State.{DeviceState, after_cancel, after_reset}
 use Rattle.device_api.proofs.AllowedLaws.{defaults_allowed}
 use Rattle.device_api.proofs.SameLaws.{reset_same}
-use Rattle.device_api.specs.declared.device_info.DeviceInfo.{DeviceInfo}
+use Rattle.sane_fixed.specs.declared.device_info.DeviceInfo.{DeviceInfo}
 use Rattle.dispatch.specs.declared.table.place.Place.{Place}
 use Rattle.dispatch.specs.declared.table.place.Lease.{Lease}
 use Rattle.dispatch.specs.Table.{fresh_place, fresh_table}

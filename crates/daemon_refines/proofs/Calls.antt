@@ -23,7 +23,7 @@ use Rattle.saned_requests.specs.declared.request_answer.RequestAnswer.{RequestAn
 use Rattle.saned_requests.specs.declared.request_answer.RequestAnswer.TheVariants.{One, Last}
 use Rattle.saned_requests.specs.Holding.{free_word, held_by}
 use Rattle.saned_requests.specs.RequestAnswers.{AnswersAwaiting, AnswersFree, AnswersGreeted, RequestContext, IsContextOutcome, MayOpen, OpensAt, greeting, session_ended, own_version}
-use Rattle.saned_requests.specs.WireValues.{value_asked}
+use Rattle.saned_requests.specs.OptionValues.{value_asked}
 use Rattle.saned_core.specs.Feeding.{session_goes_on}
 use Rattle.system_model.specs.AbstractMessages.{Authorize, Cancel, Challenge, Close, Describe, Get, GetDevices, Init, Open, Parameters, AbstractRequest, Set, Start, same_text}
 use Rattle.system_model.specs.Devices.{Make}

@@ -1,7 +1,7 @@
 -- A request to a device word that leaves the word.
 use Rattle.std.proofs.Common.{inl, ◌≡◌, ◌≢◌, ◌∙◌, ℕ, Bool, true, false, Option, Some, None, option_map, refl, sym, ap, subst, eqb, eqb-true, cond, length, slice_get}
 use Rattle.std.proofs.lemmas.Bool.{eqb-false}
-use Rattle.device_api.specs.declared.device_info.DeviceInfo.{DeviceInfo}
+use Rattle.sane_fixed.specs.declared.device_info.DeviceInfo.{DeviceInfo}
 use Rattle.device_api.specs.State.{DeviceState}
 use Rattle.dispatch.specs.declared.table.place.Slot.TheVariants.{Out}
 use Rattle.dispatch.specs.declared.table.place.Lease.{Lease}

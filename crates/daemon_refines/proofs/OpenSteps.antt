@@ -3,7 +3,7 @@ use Rattle.std.proofs.Common.{inl, inr, ◌⊎◌, ◌≡◌, ◌≢◌, ◌∙�
 use Rattle.std.specs.Prelude.{Ok}
 use Rattle.std.proofs.lemmas.Bool.{eqb-false}
 use Rattle.std.proofs.lemmas.List.Quantifiers.{position-Some}
-use Rattle.device_api.specs.declared.device_info.DeviceInfo.{DeviceInfo}
+use Rattle.sane_fixed.specs.declared.device_info.DeviceInfo.{DeviceInfo}
 use Rattle.device_api.specs.State.{DeviceState, after_reset}
 use Rattle.device_api.proofs.SameLaws.{reset_same}
 use Rattle.dispatch.specs.declared.table.place.Slot.{Slot}

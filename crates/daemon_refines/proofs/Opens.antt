@@ -19,7 +19,7 @@ use Rattle.saned_requests.specs.Holding.{free_word}
 use Rattle.saned_requests.specs.RequestAnswers.{AsksAuthorization, RequestContext, OpensAt, reply_if_allowed, without_awaited, refusal, resource_of, take_into, reply_of_take}
 use Rattle.saned_requests.specs.RequestAnswers as daemon
 use Rattle.system_model.specs.AbstractMessages.{Busy, Challenge, Challenged, Inval, Opened, Refused, AbstractReply, Unsupported, same_text}
-use Rattle.system_model.specs.Devices.{Make, defaults, abstract_status}
+use Rattle.system_model.specs.Devices.{Make, default_options, abstract_status}
 use Rattle.system_model.specs.Causes.{WasUnlisted}
 use Rattle.system_model.specs.AbstractDevices.{AbstractDevice, Resting, is_held_by}
 use Rattle.system_model.specs.Daemon.{Environment, AnswerEffect, allow, held_cause, open_listed, reply_effect, hand_out_device, take_listed}
@@ -57,7 +57,7 @@ taken_in : (i : ℕ) (make : ℕ → Make) (d : RequestContext) (table : ℕ →
     slice_get d.registry p ≡ Some at → at.slot ≡ In st → Bound i make table s w p (take_listed i (make p) (table p) s.transfer (table p).listed) (reply_of_take d w (take_of p (Some st)))
 taken_in i make d table s w p at st old none free there in_it =
     let shown : SlotRefines i (make p) d.session.held p (table p) at.info.name (In st) = shown_by i (make p) d.session.held p (table p) (slice_get d.registry p) at (In st) there in_it (old.devices.places p) in
-    let dev : AbstractDevice = record (abstract_device None st) { holder = Some i; options = defaults (make p); phase = Resting } in
+    let dev : AbstractDevice = record (abstract_device None st) { holder = Some i; options = default_options (make p); phase = Resting } in
     let v = reply_effect Opened dev s.transfer in
     let v_is : take_listed i (make p) (table p) s.transfer (table p).listed ≡ v = ap (λ (t : AbstractDevice). take_listed i (make p) t s.transfer t.listed) shown.0 in
     let yes : cond (is_held_by i (table p).holder) false (eqb i i) ≡ true = ap (λ (t : AbstractDevice). cond (is_held_by i t.holder) false (eqb i i)) shown.0 ∙ own i in

@@ -21,7 +21,7 @@ use Rattle.scan_laws.specs.SetAndJoin as rules
 use Rattle.scan_laws.proofs.Places.{cancel_in, frames_from, reset_in, set_in}
 use Rattle.scan_laws.proofs.Sets.{get_refused, set_allowed, set_refused}
 use Rattle.system_model.specs.Daemon.{abstract_params}
-use Rattle.system_model.specs.Devices.{Make, defaults, params_at_rest, params_of_tray, accept_value, abstract_accepted_set}
+use Rattle.system_model.specs.Devices.{Make, default_options, params_at_rest, params_of_tray, accept_value, abstract_accepted_set}
 use Rattle.system_model.specs.AbstractDevices.{Resting, is_resting, put_back, put_down}
 use Rattle.daemon_refines.specs.ContextRefinement.{IsMade, pages_to_come, phase_at, abstract_device, abstract_device_as, page_views, tray_of}
 
@@ -77,7 +77,7 @@ made_cancelled k s h =
     let same = cancel_same s in
     record { kind = h.kind ∙ sym same.setup.kind; order = h.order ∙ sym same.setup.order; allowed = subst (λ (o : Setup). IsAllowed o) (sym (cancelled_setup s.phase s)) h.allowed; in_scan = cancel_in s }
 
--- ---- a device is handed out, all its options at their defaults
+-- ---- a device is handed out, all its options at their default_options
 
 reset_at : (phase : AnyPhase) (holder : Option ℕ) (s : DeviceState) → s.phase ≡ phase → abstract_device_as holder (values.defaults s.setup.scene.kind s.setup.order) (tray_of s) Resting ≡
     abstract_device_as holder (values.defaults (cancelled_in phase s).setup.scene.kind (cancelled_in phase s).setup.order) (page_views (cancelled_in phase s).pages) Resting
@@ -85,8 +85,8 @@ reset_at (Rest c) holder s e = ap (λ (p : AnyPhase). abstract_device_as holder 
 reset_at (Amid ended) holder s e = ap (λ (p : AnyPhase). abstract_device_as holder (values.defaults s.setup.scene.kind s.setup.order) (page_views (pages_to_come p s)) Resting) e
 reset_at (Read pass given) holder s e = ap (λ (p : AnyPhase). abstract_device_as holder (values.defaults s.setup.scene.kind s.setup.order) (page_views (pages_to_come p s)) Resting) e
 
-pub handed_is : (i : ℕ) (k : Make) (s : DeviceState) → IsMade k s → record (abstract_device None s) { holder = Some i; options = defaults k; phase = Resting } ≡ abstract_device (Some i) (after_reset s)
-unfolding defaults
+pub handed_is : (i : ℕ) (k : Make) (s : DeviceState) → IsMade k s → record (abstract_device None s) { holder = Some i; options = default_options k; phase = Resting } ≡ abstract_device (Some i) (after_reset s)
+unfolding default_options
 handed_is i k s made =
     ap (λ (x : _). abstract_device_as (Some i) (values.defaults x k.order) (tray_of s) Resting) made.kind ∙ ap (λ (y : _). abstract_device_as (Some i) (values.defaults s.setup.scene.kind y) (tray_of s) Resting) made.order ∙ reset_at s.phase (Some i) s refl
 

@@ -20,10 +20,10 @@ use Rattle.wire_message.specs.declared.message.WireValue.{WireValue}
 use Rattle.saned_requests.specs.declared.request_answer.RequestAnswer.TheVariants.{One}
 use Rattle.saned_requests.specs.Holding.{held_by, on_word, with_device}
 use Rattle.saned_requests.specs.RequestAnswers.{RequestContext, ContextOutcome, asked_at, control, did_set, options_of_lease, refused_control, set_asked, with_held}
-use Rattle.saned_requests.specs.WireValues.{sent_as, size_of}
+use Rattle.saned_requests.specs.OptionValues.{sent_as, size_of}
 use Rattle.saned_requests.proofs.LeaseWords.{on_word-same}
 use Rattle.system_model.specs.AbstractMessages.{Busy, Gave, Inval, Refused, Set}
-use Rattle.system_model.specs.Devices.{Make, AcceptedSet, abstract_info, accept_value}
+use Rattle.system_model.specs.Devices.{Make, AbstractAcceptedSet, abstract_info, accept_value}
 use Rattle.system_model.specs.AbstractDevices.{AbstractDevice, is_resting}
 use Rattle.system_model.specs.Daemon.{Environment, TransferState, put_reply, reply_effect, serve, set_reply}
 use Rattle.system_model.specs.AbstractSessions.{AbstractSession, serve_word, word_call}
@@ -56,7 +56,7 @@ put_by i make d table s x w n kind value v l (Err y) old none e still_there is a
     let at_rest : is_resting dev.phase ≡ true = ap (λ (t : AbstractDevice). is_resting t.phase) shown.device ∙ rests l.device shown.made.in_scan ∙ still_there in
     let put_none : accept_value k dev.options n v ≡ None = ap (λ (t : AbstractDevice). accept_value k t.options n v) shown.device ∙ put_is k l.device.setup n v (Err y) is in
     tells i make d _ table s x (Set n v) w l (Refused Inval) _ _ old none e (rewritten d w l e)
-    (sets (eqb w s.framed) i k dev s.transfer x n v ∙ ap (λ (b : Bool). set_reply k dev s.transfer n v b) at_rest ∙ ap (λ (p : Option AcceptedSet). put_reply dev s.transfer p) put_none) refl
+    (sets (eqb w s.framed) i k dev s.transfer x n v ∙ ap (λ (b : Bool). set_reply k dev s.transfer n v b) at_rest ∙ ap (λ (p : Option AbstractAcceptedSet). put_reply dev s.transfer p) put_none) refl
     (code.Inval, refl, ap (λ (y : Code). refused_control y kind value) (set_refusal l.device.setup n v y is))
 put_by i make d table s x w n kind value v l (Ok given) old none e still_there is answers =
     let shown = old.devices.leases w l e in
@@ -68,7 +68,7 @@ put_by i make d table s x w n kind value v l (Ok given) old none e still_there i
     let dev2 : AbstractDevice = record dev { options = s2.setup } in
     let new : RequestContext = with_held d (on_word (λ _. with_device l s2) d.session.held w) in
     answered i make (manner d w) _ table s x (Set n v) w l.place (Gave given.0 (abstract_info given.1)) _ new (reply_effect (Gave given.0 (abstract_info given.1)) dev2 s.transfer)
-    (sets (eqb w s.framed) i k dev s.transfer x n v ∙ ap (λ (b : Bool). set_reply k dev s.transfer n v b) at_rest ∙ ap (λ (p : Option AcceptedSet). put_reply dev s.transfer p) put_some) refl refl refl
+    (sets (eqb w s.framed) i k dev s.transfer x n v ∙ ap (λ (b : Bool). set_reply k dev s.transfer n v b) at_rest ∙ ap (λ (p : Option AbstractAcceptedSet). put_reply dev s.transfer p) put_some) refl refl refl
     (given.1, refl, ap (λ (h : Option (Lease DeviceState)). replies.ControlOption code.Good given.1 kind (sent_as d.session.strings (size_of (slice_get (options_of_lease h) n)) given.0) []) (sym e))
     (moved i make d table s w l old e new dev2 _
     (record {

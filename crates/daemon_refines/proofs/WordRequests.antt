@@ -22,9 +22,9 @@ use Rattle.saned_requests.specs.declared.session.DataPhase.TheVariants as word
 use Rattle.saned_requests.specs.declared.request_answer.RequestAnswer.TheVariants.{One}
 use Rattle.saned_requests.specs.Holding.{held_by, on_word}
 use Rattle.saned_requests.specs.RequestAnswers.{RequestContext, ContextOutcome, control, control_lease, got_reply, kind_of, options_of_lease, options_reply, params_reply, params_reply_of, refused_control, with_held}
-use Rattle.saned_requests.specs.WireValues.{sent_as, size_of}
+use Rattle.saned_requests.specs.OptionValues.{sent_as, size_of}
 use Rattle.system_model.specs.AbstractMessages.{Described, Describe, Get, Got, Inval, Parameters, Refused, AbstractReply, AbstractRequest, Shaped}
-use Rattle.system_model.specs.Devices.{Make, descriptors_of, is_answered_value, has_readable_value as told_there, readable_value, value_or_false}
+use Rattle.system_model.specs.Devices.{Make, descriptors_in_force, is_answered_value, has_readable_value as told_there, readable_value, value_or_false}
 use Rattle.system_model.specs.AbstractDevices.{AbstractDevice}
 use Rattle.system_model.specs.Daemon.{Environment, TransferState, Quiet, Waiting, Streaming, Ending, AnswerEffect, get_reply, abstract_params, reply_effect, serve}
 use Rattle.system_model.specs.SystemStates.{with_entry}
@@ -134,11 +134,11 @@ shapes false i k dev c x = refl
 
 options_at : (i : ℕ) (make : ℕ → Make) (d : RequestContext) (table : ℕ → AbstractDevice) (s : AbstractSession) (x : Environment) (w : ℕ) (h : Option (Lease DeviceState)) → ContextRefines i make d table s → d.session.awaited ≡ None → held_by d.session.held w ≡ h →
     Agrees i make (manner d w) (requests.GetOptionDescriptors w) (word_call i make table s x Describe w (place_in h)) (One (replies.GetOptionDescriptors (options_of_lease h))) d
-unfolding descriptors_of
+unfolding descriptors_in_force
 options_at i make d table s x w None old none e = says_unknown i make (manner d w) d table s _ Describe _ old refl
 options_at i make d table s x w (Some l) old none e =
     let shown = old.devices.leases w l e in
-    tells i make d _ table s x Describe w l (Described (descriptors_of (make l.place) (table l.place).options)) _ d old none e (untouched d w l e) (describes (eqb w s.framed) i (make l.place) (table l.place) s.transfer x) refl
+    tells i make d _ table s x Describe w l (Described (descriptors_in_force (make l.place) (table l.place).options)) _ d old none e (untouched d w l e) (describes (eqb w s.framed) i (make l.place) (table l.place) s.transfer x) refl
     (ap (λ (dev : AbstractDevice). replies.GetOptionDescriptors (table_options dev.options)) (sym shown.device))
 
 pub options_agree : OptionsAgree

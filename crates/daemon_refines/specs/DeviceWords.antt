@@ -16,7 +16,7 @@ use Rattle.saned_requests.specs.declared.request_answer.RequestAnswer.{RequestAn
 use Rattle.saned_requests.specs.declared.request_answer.RequestAnswer.TheVariants.{One}
 use Rattle.saned_requests.specs.Holding.{held_by}
 use Rattle.saned_requests.specs.RequestAnswers.{AnswersStart, RequestContext, ContextOutcome, cancel, close, control, options_reply, params_reply, refused_control}
-use Rattle.saned_requests.specs.WireValues.{value_asked}
+use Rattle.saned_requests.specs.OptionValues.{value_asked}
 use Rattle.system_model.specs.AbstractMessages.{Cancel, Close, Describe, Get, Parameters, AbstractRequest, Set, Start}
 use Rattle.system_model.specs.Transitions.{MayFail}
 use Rattle.system_model.specs.Devices.{Make}

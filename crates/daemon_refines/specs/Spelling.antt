@@ -8,7 +8,7 @@ use Rattle.sane_fixed.specs.declared.status.Status.{Status as Code}
 use Rattle.sane_fixed.specs.declared.status.Status.TheVariants as code
 use Rattle.option_desc.specs.declared.descriptor.Descriptor.{Descriptor}
 use Rattle.option_desc.specs.declared.value.Value.{Value}
-use Rattle.device_api.specs.declared.device_info.DeviceInfo.{DeviceInfo}
+use Rattle.sane_fixed.specs.declared.device_info.DeviceInfo.{DeviceInfo}
 use Rattle.device_api.specs.State.{DeviceState}
 use Rattle.dispatch.specs.Backend.{IsBackendOf}
 use Rattle.dispatch.specs.declared.table.place.Lease.{Lease}
@@ -21,7 +21,7 @@ use Rattle.saned_requests.specs.declared.request_answer.RequestAnswer.{RequestAn
 use Rattle.saned_requests.specs.declared.request_answer.RequestAnswer.TheVariants.{One, Two, Last}
 use Rattle.saned_requests.specs.RequestAnswers.{own_version, refusal, resource_of, refused_control, no_params, start_reply, kind_of}
 use Rattle.saned_requests.specs.declared.session.StringSize.{StringSize}
-use Rattle.saned_requests.specs.WireValues.{sent_as, size_of}
+use Rattle.saned_requests.specs.OptionValues.{sent_as, size_of}
 use Rattle.system_model.specs.AbstractMessages.{AbstractReply, Greeted, Listed, Opened, Challenged, Described, Got, Gave, Shaped, Begun, Acked, Refused}
 use Rattle.system_model.specs.Devices.{abstract_status, abstract_info}
 

@@ -1,7 +1,7 @@
 -- Requests to a whole session, by the daemon and by the model.
 use Rattle.std.specs.Prelude.{ℕ, ◌≡◌, ◌≢◌, ◌⊎◌, ◌/◌, ◌+◌, ◌∷◌, cond, Bool, true, false, Some, None, List, []}
 use Rattle.sane_fixed.specs.declared.status.Status.TheVariants as code
-use Rattle.device_api.specs.declared.device_info.DeviceInfo.{DeviceInfo}
+use Rattle.sane_fixed.specs.declared.device_info.DeviceInfo.{DeviceInfo}
 use Rattle.md5_auth.specs.declared.users.Entry.{Entry}
 use Rattle.md5_auth.specs.Allowed.{NamesBackend}
 use Rattle.dispatch.specs.Backend.{IsBackendOf}

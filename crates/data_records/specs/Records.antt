@@ -52,12 +52,7 @@ RecordsContinue (phases.Ended found) text payload status = (text ≡ []) × (pay
 
 abbrev pub HasEnded : RecordPhase → Type 0
 HasEnded (phases.Ended found) = Unit {0}
-HasEnded phases.Head = ⊥
-HasEnded (phases.Head1 a) = ⊥
-HasEnded (phases.Head2 a b) = ⊥
-HasEnded (phases.Head3 a b c) = ⊥
-HasEnded (phases.Body left) = ⊥
-HasEnded phases.Status = ⊥
+HasEnded _ = ⊥
 
 abbrev pub head_phase : ℕ → RecordPhase
 head_phase zero = phases.Head

@@ -20,7 +20,8 @@ use Rattle.device_api.specs.declared.choice.Choice.{Choice}
 use Rattle.device_api.specs.declared.choice.Choice.TheVariants as choice
 use Rattle.device_api.specs.declared.scan_option.ScanOption.{ScanOption}
 use Rattle.device_api.specs.declared.scan_option.ScanOption.TheVariants.{NumOptions, Mode, Depth, Resolution, TlX, TlY, BrX, BrY, GammaTable, RedGammaTable, GreenGammaTable, BlueGammaTable, ThreePassOrder, PplLoss, ReadLimitSize, ReadReturnValue, HandScanner}
-use Rattle.device_api.specs.Options.{choice_text, choices_of, option_constraint, option_caps, has_cap, is_active, option_at, descriptor_of}
+use Rattle.device_api.specs.Options.{choice_text, choices_of, option_constraint, option_caps, is_active, option_at, descriptor_of}
+use Rattle.sane_fixed.specs.Cap.{has_cap}
 use Rattle.device_api.specs.Values.{option_value, with_value, with_choice, with_chosen, choice_of, option_passing, get_result, option_got, option_set, set_to, with_given, setup_after}
 use Rattle.device_api.specs.ScannerLimits.{IsBetween, greatest_resolution}
 use Rattle.device_api.specs.AdmittedOptions.{IsByte, IsAdmittedNumber, IsAdmittedTable, IsAdmitted, takes, takes_flag, takes_number, takes_length, takes_words}
@@ -28,6 +29,7 @@ use Rattle.device_api.proofs.SameLaws.{value_same}
 use Rattle.device_api.proofs.TableLaws.{answer_with, set_is}
 use Rattle.device_api.proofs.TakesLaws.{taken}
 use Rattle.device_api.proofs.AdmittedLaws.{admitted, some_is}
+use Rattle.device_api.proofs.OptionForms.{all_readable}
 
 -- a number that is put is read again
 number_back : (low high : ℕ) (word : ℤ) → IsBetween low high word → pos (unsigned_abs word) ≡ word
@@ -195,11 +197,6 @@ still_active s ThreePassOrder (Fixed _) = refl
 still_active s ThreePassOrder (Words _) = refl
 still_active s ThreePassOrder (Text t) = order_active s (choices_of ThreePassOrder) t (all_belong ThreePassOrder)
 still_active s _ v = refl
-
-all_readable : (o : ScanOption) → has_cap (option_caps o) 4 ≡ true
-all_readable NumOptions = refl
-all_readable HandScanner = refl
-all_readable _ = refl
 
 first_true : (a b : Bool) → (a && b) ≡ true → a ≡ true
 first_true true b e = refl

@@ -9,7 +9,8 @@ use Rattle.option_desc.specs.Put.{resolve}
 use Rattle.option_desc.specs.Reads.{read_value}
 use Rattle.scan_frames.specs.declared.setup.Setup.{Setup}
 use Rattle.device_api.specs.declared.scan_option.ScanOption.{ScanOption}
-use Rattle.device_api.specs.Options.{options_of, option_at, option_caps, has_cap, is_active, descriptor_of, descriptors_of}
+use Rattle.device_api.specs.Options.{options_of, option_at, option_caps, is_active, descriptor_of, descriptors_of}
+use Rattle.sane_fixed.specs.Cap.{has_cap}
 use Rattle.device_api.specs.Values.{with_given, option_passing, setup_after}
 use Rattle.device_api.specs.InForce.{number_named, may_be_set, given_for, Placement, placement, force}
 use Rattle.device_api.specs.ScannerLimits.{IsAllowed}

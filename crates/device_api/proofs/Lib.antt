@@ -10,3 +10,6 @@ pub mod SameLaws
 pub mod BackLaws
 pub mod OtherLaws
 pub mod ForceLaws
+pub mod OptionForms
+pub mod SentOptions
+pub mod OwnLaws

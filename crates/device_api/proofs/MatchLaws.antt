@@ -4,7 +4,8 @@ use Rattle.std.specs.Prelude.{Option, Some, None, is_some}
 use Rattle.std.specs.List.{list_any, position_from}
 use Rattle.std.specs.Str.{bytes_eq}
 use Rattle.std.proofs.lemmas.Bool.Decides.{nat_tests}
-use Rattle.constraint.specs.NearestComputed.{begins_with, places_from, only, or_else, nearest_entry}
+use Rattle.constraint.specs.NearestComputed.{begins_with, places_from, only, nearest_entry}
+use Rattle.std.specs.Option.{option_or}
 
 is_some-cond : (b : Bool) (k : ℕ) (o : Option ℕ) → is_some (cond b (Some k) o) ≡ (b || is_some o)
 is_some-cond true k o = refl
@@ -28,15 +29,15 @@ is_some-only [] = refl
 is_some-only (p ∷ []) = refl
 is_some-only (p ∷ q ∷ ps) = grind (arith, nat_tests)
 
-is_some-or_else : (a b : Option ℕ) → is_some (or_else a b) ≡ (is_some a || is_some b)
-is_some-or_else (Some a) b = refl
-is_some-or_else None b = refl
+is_some-option_or : (a b : Option ℕ) → is_some (option_or a b) ≡ (is_some a || is_some b)
+is_some-option_or (Some a) b = refl
+is_some-option_or None b = refl
 
 pub matched : {A : Type 0} (f : A → List ℕ) (xs : List A) (text : List ℕ) → is_some (nearest_entry (map f xs) text) ≡ (list_any (λ x. bytes_eq (f x) text) xs || (length (filter (λ x. begins_with (f x) text) xs) == 1))
 unfolding nearest_entry
 matched f xs text =
     let first : Option ℕ = position_from (λ entry. bytes_eq entry text) 0 (map f xs) in
     let places : List ℕ = places_from (λ entry. begins_with entry text) 0 (map f xs) in
-    is_some-or_else first (only places)
+    is_some-option_or first (only places)
     ∙ ap (λ b. b || is_some (only places)) (found_any f (λ entry. bytes_eq entry text) 0 xs)
     ∙ ap (λ b. list_any (λ x. bytes_eq (f x) text) xs || b) (is_some-only places ∙ ap (λ n. n == 1) (places_count f (λ entry. begins_with entry text) 0 xs))

@@ -1,5 +1,5 @@
 -- The descriptors of a setup differ just in which of them are active.
-use Rattle.std.proofs.Common.{◌≡◌, ◌+◌, ◌&&◌, ◌||◌, ◌∙◌, sym, ap, subst, refl, ℕ, Bool, true, false, cond, not, List, [], ◌∷◌, map, arith}
+use Rattle.std.proofs.Common.{◌≡◌, ◌+◌, ◌&&◌, ◌||◌, ◌∙◌, sym, ap, subst, refl, ℕ, Bool, true, false, cond, List, [], ◌∷◌, map, arith}
 use Rattle.std.specs.Prelude.{Option, Some, None, Err, if◌then◌else◌, slice_get, option_map, Result}
 use Rattle.std.specs.Prelude.{◌↔◌}
 use Rattle.std.specs.List.{list_any}
@@ -17,10 +17,11 @@ use Rattle.option_desc.specs.Reads.{read_value}
 use Rattle.page_picture.specs.declared.scene.DeviceKind.{DeviceKind}
 use Rattle.scan_frames.specs.declared.setup.Setup.{Setup}
 use Rattle.device_api.specs.declared.scan_option.ScanOption.{ScanOption}
-use Rattle.device_api.specs.declared.scan_option.ScanOption.TheVariants.{NumOptions, HandScanner}
-use Rattle.device_api.specs.Options.{options_of, option_at, option_name, option_title, option_kind, option_unit, option_size, option_caps, option_constraint, is_active, has_cap, caps_of, descriptor_of, descriptors_of}
+use Rattle.device_api.specs.Options.{options_of, option_at, option_name, option_title, option_kind, option_unit, option_size, option_caps, option_constraint, is_active, descriptor_of, descriptors_of}
+use Rattle.sane_fixed.specs.Cap.{has_cap}
 use Rattle.device_api.specs.Values.{differ, reloads, option_passing, option_set, set_to, put_answer, setup_after}
-use Rattle.device_api.specs.InForce.{number_named, may_be_set, given_for, Placement, placement, IsPlacedBy}
+use Rattle.device_api.specs.InForce.{number_named, given_for, Placement, placement, IsPlacedBy}
+use Rattle.device_api.proofs.OptionForms.{may_be_set_is}
 
 -- a descriptor, by whether it is active
 abbrev desc_as : DeviceKind → Bool → ScanOption → Descriptor
@@ -98,36 +99,6 @@ reload_tells s t k = (
   λ e. all_tell s t (options_of s.scene.kind) (e ∙ ap (λ kind. map (descriptor_of t) (options_of kind)) k),
 )
 
--- what the capabilities say of setting
-select_is : (o : ScanOption) (a : Bool) → has_cap (option_caps o + (if a then 0 else 32)) 1 ≡ has_cap (option_caps o) 1
-select_is NumOptions true = refl
-select_is NumOptions false = refl
-select_is HandScanner true = refl
-select_is HandScanner false = refl
-select_is _ true = refl
-select_is _ false = refl
-
-inactive_is : (o : ScanOption) (a : Bool) → not (has_cap (option_caps o + (if a then 0 else 32)) 32) ≡ a
-inactive_is NumOptions true = refl
-inactive_is NumOptions false = refl
-inactive_is HandScanner true = refl
-inactive_is HandScanner false = refl
-inactive_is _ true = refl
-inactive_is _ false = refl
-
-and_swap : (a b : Bool) → (a && b) ≡ (b && a)
-and_swap true true = refl
-and_swap true false = refl
-and_swap false true = refl
-and_swap false false = refl
-
-may_is : (s : Setup) (o : ScanOption) → may_be_set (descriptor_of s o) ≡ (is_active s o && has_cap (option_caps o) 1)
-unfolding descriptor_of
-may_is s o =
-    ap (λ b. b && not (has_cap (caps_of s o) 32)) (select_is o (is_active s o))
-    ∙ ap (λ b. has_cap (option_caps o) 1 && b) (inactive_is o (is_active s o))
-    ∙ and_swap (has_cap (option_caps o) 1) (is_active s o)
-
 -- a set, by whether the option may be set, and by the nearest value
 abbrev pub answer_with : Setup → ScanOption → Value → Bool → Option Value → Result (Value × Info) Status
 answer_with s o asked true r = put_answer s o asked r
@@ -163,7 +134,7 @@ found s name text n desc e f =
 
 read_is : (s : Setup) (text : List ℕ) (n : ℕ) (o : ScanOption) (asked : Value) → read_value (descriptor_of s o) text ≡ Some asked → placed_at s text n (descriptor_of s o) ≡ placed_with s n asked (is_active s o && has_cap (option_caps o) 1) (resolve (descriptor_of s o) asked)
 read_is s text n o asked e =
-    ap (λ m. (cond m (read_value (descriptor_of s o) text >>= nearest_pair (descriptor_of s o)) None) >>= finished s n) (may_is s o)
+    ap (λ m. (cond m (read_value (descriptor_of s o) text >>= nearest_pair (descriptor_of s o)) None) >>= finished s n) (may_be_set_is s o)
     ∙ ap (λ x. (cond (is_active s o && has_cap (option_caps o) 1) (x >>= nearest_pair (descriptor_of s o)) None) >>= finished s n) e
 
 with_option : (s : Setup) (name text : List ℕ) (n : ℕ) (desc : Descriptor) (asked : Value) (oo : Option ScanOption) → option_at s.scene.kind n ≡ oo → option_map (descriptor_of s) oo ≡ Some desc → placement s (name, text) ≡ placed_at s text n desc → read_value desc text ≡ Some asked → IsPlacedBy s n asked (option_set s n asked) (placement s (name, text))

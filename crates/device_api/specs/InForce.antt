@@ -12,7 +12,8 @@ use Rattle.option_desc.specs.Put.{resolve}
 use Rattle.option_desc.specs.Reads.{read_value}
 use Rattle.page_picture.specs.declared.scene.DeviceKind.{DeviceKind}
 use Rattle.scan_frames.specs.declared.setup.Setup.{Setup}
-use Rattle.device_api.specs.Options.{descriptors_of, has_cap}
+use Rattle.device_api.specs.Options.{descriptors_of}
+use Rattle.sane_fixed.specs.Cap.{has_cap}
 use Rattle.device_api.specs.Values.{defaults, setup_after}
 
 -- the number of the first descriptor of that name

@@ -5,3 +5,4 @@ pub mod InForce
 pub mod ScannerLimits
 pub mod AdmittedOptions
 pub mod Same
+pub mod OwnOptions

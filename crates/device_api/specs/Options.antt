@@ -220,10 +220,6 @@ option_caps _ = 5
 abbrev pub caps_of : Setup → ScanOption → ℕ
 caps_of s o = option_caps o + (if is_active s o then 0 else 32)
 
--- the bit stands in the sum
-abbrev pub has_cap : ℕ → ℕ → Bool
-has_cap caps bit = caps / bit % 2 == 1
-
 unfoldable pub descriptor_of : Setup → ScanOption → Descriptor
 descriptor_of s o = record {
   name = option_name o;

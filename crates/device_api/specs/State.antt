@@ -11,7 +11,7 @@ use Rattle.page_picture.specs.declared.scene.DeviceKind.{DeviceKind}
 use Rattle.page_picture.specs.declared.scene.DeviceKind.TheVariants.{Flatbed, Hand, ThreePass, Feeder}
 use Rattle.scan_frames.specs.Frames.{has_picture, last_pass, payload, pass_length, params_at, params_without}
 use Rattle.scan_frames.specs.declared.setup.Setup.{Setup}
-use Rattle.device_api.specs.declared.device_info.DeviceInfo.{DeviceInfo}
+use Rattle.sane_fixed.specs.declared.device_info.DeviceInfo.{DeviceInfo}
 use Rattle.device_api.specs.Values.{defaults, option_got, option_set, setup_after}
 
 -- where a device is in a scan
@@ -197,15 +197,7 @@ StartsFrame old (Ok _) new = (has_picture old.setup (page_of old) ≡ true) × (
 StartsFrame old (Err Inval) new = (has_picture old.setup (page_of old) ≡ false) × (new ≡ after_stop old)
 StartsFrame old (Err IoError) new = (has_picture old.setup (page_of old) ≡ true) × HasStopped old new
 StartsFrame old (Err NoMem) new = (has_picture old.setup (page_of old) ≡ true) × (new ≡ after_stop old)
-StartsFrame old (Err Good) new = ⊥
-StartsFrame old (Err Unsupported) new = ⊥
-StartsFrame old (Err Cancelled) new = ⊥
-StartsFrame old (Err DeviceBusy) new = ⊥
-StartsFrame old (Err Eof) new = ⊥
-StartsFrame old (Err Jammed) new = ⊥
-StartsFrame old (Err NoDocs) new = ⊥
-StartsFrame old (Err CoverOpen) new = ⊥
-StartsFrame old (Err AccessDenied) new = ⊥
+StartsFrame old (Err _) new = ⊥
 
 -- where no page is left, there is nothing to scan
 abbrev pub StartsOn : List HeldPage → DeviceState → Result Unit Status → DeviceState → Type 0
@@ -246,16 +238,7 @@ abbrev pub ReadsOn : DeviceState → ℕ → ℕ → Result ℕ Status → Devic
 ReadsOn old pass given (Ok n) new buf = GivesBytes old pass given n new buf
 ReadsOn old pass given (Err Eof) new buf = (given ≡ pass_length old.setup (page_of old) pass) × (new ≡ goes_to old (after_pass old.setup pass))
 ReadsOn old pass given (Err IoError) new buf = (given < pass_length old.setup (page_of old) pass) × HasStopped old new
-ReadsOn old pass given (Err Good) new buf = ⊥
-ReadsOn old pass given (Err Unsupported) new buf = ⊥
-ReadsOn old pass given (Err Cancelled) new buf = ⊥
-ReadsOn old pass given (Err DeviceBusy) new buf = ⊥
-ReadsOn old pass given (Err Inval) new buf = ⊥
-ReadsOn old pass given (Err Jammed) new buf = ⊥
-ReadsOn old pass given (Err NoDocs) new buf = ⊥
-ReadsOn old pass given (Err CoverOpen) new buf = ⊥
-ReadsOn old pass given (Err NoMem) new buf = ⊥
-ReadsOn old pass given (Err AccessDenied) new buf = ⊥
+ReadsOn old pass given (Err _) new buf = ⊥
 
 -- what `read-return-value` says stands in the way of the first read of a frame alone
 abbrev pub read_status_at : Option Status → ℕ → Option Status

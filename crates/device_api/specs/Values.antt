@@ -21,7 +21,8 @@ use Rattle.device_api.specs.declared.choice.Choice.{Choice}
 use Rattle.device_api.specs.declared.choice.Choice.TheVariants as choice
 use Rattle.device_api.specs.declared.scan_option.ScanOption.{ScanOption}
 use Rattle.device_api.specs.declared.scan_option.ScanOption.TheVariants.{NumOptions, Mode, Depth, Resolution, TlX, TlY, BrX, BrY, GammaTable, RedGammaTable, GreenGammaTable, BlueGammaTable, ThreePassOrder, PplLoss, ReadLimitSize, ReadReturnValue, HandScanner}
-use Rattle.device_api.specs.Options.{options_of, option_at, choices_of, choice_text, is_active, option_caps, has_cap, descriptor_of}
+use Rattle.device_api.specs.Options.{options_of, option_at, choices_of, choice_text, is_active, option_caps, descriptor_of}
+use Rattle.sane_fixed.specs.Cap.{has_cap}
 
 -- the table that gives each upper byte itself: 0 to 255
 unfoldable pub identity : List ℕ

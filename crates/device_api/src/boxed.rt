@@ -1,8 +1,7 @@
 use crate::device::Device;
-use crate::device_info::DeviceInfo;
 use option_desc::{Descriptor, Value};
 use page_picture::Source;
-use sane_fixed::{ByteOrder, Info, Params, Status};
+use sane_fixed::{ByteOrder, DeviceInfo, Info, Params, Status};
 use std::alloc::Global;
 
 /// A boxed scanner is the scanner.

@@ -3,10 +3,9 @@ ghost use Rattle.device_api.specs.ScannerLimits.{HasLimits};
 ghost use Rattle.device_api.specs.Options.{descriptors_of};
 ghost use Rattle.device_api.specs.State.{DeviceState, is_at_rest, get_answer, set_answer, after_set, params_of, Starts, Reads, after_cancel, after_reset, takes_page, after_load};
 
-use crate::device_info::DeviceInfo;
 use option_desc::{Descriptor, Value};
 use page_picture::{PageSource, Source};
-use sane_fixed::{ByteOrder, Info, Params, Status};
+use sane_fixed::{ByteOrder, DeviceInfo, Info, Params, Status};
 use std::alloc::Global;
 
 /// A scanner (SANE Standard 1.06, "The SANE Application Programmer Interface").

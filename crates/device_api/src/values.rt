@@ -1,7 +1,8 @@
 ghost use Rattle.std.specs.Prelude.{◌≡◌, ◌≢◌, ◌≤◌, ◌&&◌, pos, map, IfOk, IsOk};
 ghost use Rattle.option_desc.specs.declared.value.Value.TheVariants.{Text as TextOf, Words as WordsOf};
 ghost use Rattle.device_api.specs.ScannerLimits.{IsAllowed};
-ghost use Rattle.device_api.specs.Options.{option_at, choice_text, is_active, option_caps, has_cap};
+ghost use Rattle.device_api.specs.Options.{option_at, choice_text, is_active, option_caps};
+ghost use Rattle.sane_fixed.specs.Cap.{has_cap};
 ghost use Rattle.device_api.specs.Values.{identity, default_resolution, mm, defaults, option_value, option_passing, option_got};
 
 use crate::choice::Choice;
@@ -9,7 +10,7 @@ use crate::scan_option::{ScanOption, option_at, options_of};
 use crate::tables::is_active;
 use option_desc::{Value, Words};
 use page_picture::{DeviceKind, Mode, Scene};
-use sane_fixed::{ByteOrder, Cap, Fixed, NoMem, Status, Text};
+use sane_fixed::{ByteOrder, Cap, Fixed, NoMem, Status, Text, has_cap};
 use scan_frames::{PassOrder, Setup};
 use std::alloc::Global;
 
@@ -66,14 +67,6 @@ pub fn reset_setup(setup: &mut Setup)
     ensures allowed { IsAllowed setup.new }
 {
     *setup = defaults(setup.scene.kind, setup.order);
-}
-
-/// Whether the bit, one of `Cap`'s, is among the capabilities.
-pub fn has_cap(caps: u32, bit: u32) -> bool
-    requires { 1 ≤ bit }
-    ensures { result ≡ has_cap caps bit }
-{
-    caps / bit % 2 == 1
 }
 
 /// The option of a number, where it is active and has the capability.

@@ -12,7 +12,7 @@ use Rattle.dispatch.specs.declared.table.place.Slot.{Slot}
 use Rattle.dispatch.specs.declared.table.place.Slot.TheVariants.{In, Out, Gone}
 use Rattle.dispatch.specs.declared.table.place.Place.{Place}
 use Rattle.dispatch.specs.Table.{seen_slot, seen_place, table, is_named, is_out, awaits, awaits_in, find_name, device_in, held_at, with_slot, take_answer, after_take, unplug_answer, after_unplug, after_give_back, filled_places, vacant_table, fresh_table, fresh_place, Table, take_at, take_of, after_take_answer, unplug_at, unplug_of, unplugged_at, unplugged_of}
-use Rattle.device_api.specs.declared.device_info.DeviceInfo.{DeviceInfo}
+use Rattle.sane_fixed.specs.declared.device_info.DeviceInfo.{DeviceInfo}
 
 prefix_len-map : {X Y : Type 0} (f : X → Y) (p : Y → Bool) (q : X → Bool) → ((x : X) → p (f x) ≡ q x) → (xs : List X) → prefix_len p (map f xs) ≡ prefix_len q xs
 prefix_len-map f p q h [] = refl

@@ -3,7 +3,7 @@ use Rattle.std.specs.Cmp.Lexicographic.{pointwise}
 use Rattle.device_api.specs.State.{DeviceState, after_reset, after_cancel, takes_page}
 use Rattle.device_api.specs.State.{after_load as page_loaded}
 use Rattle.page_picture.specs.Source.{SourceState}
-use Rattle.device_api.specs.declared.device_info.DeviceInfo.{DeviceInfo}
+use Rattle.sane_fixed.specs.declared.device_info.DeviceInfo.{DeviceInfo}
 use Rattle.sane_fixed.specs.declared.status.Status.{Status}
 use Rattle.sane_fixed.specs.declared.status.Status.TheVariants.{DeviceBusy, Inval}
 use Rattle.dispatch.specs.declared.table.place.Slot.{Slot}

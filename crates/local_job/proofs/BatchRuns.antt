@@ -57,7 +57,7 @@ put_here s job forced reset is =
 
 pub batch_done : (s mid new : DeviceState) (job : Job) (reports : Reports) (before after : Option Stock) → s ≡ after_reset s → HasJobFault job None → mid ≡ with_setup s mid.setup
     → put_all s.setup (settings_of job) ≡ Ok (mid.setup, reports.settings) → reports.devices ≡ devices_reported job.task mid.info → reports.options ≡ options_reported job.task mid.setup
-    → AreScanned mid (pages_of_task job.task) before after new → IsBatchDone s job reports before after new
+    → AreScanned (pages_of_task job.task) (record { device = mid; stock = before }) (record { device = new; stock = after }) → IsBatchDone job (record { device = s; stock = before }) (record { device = new; stock = after }) reports
 batch_done s mid new job reports before after reset taken is put devices options scanned =
     let was = was_put s job mid.setup reports.settings reset taken put in
     record {
@@ -67,7 +67,7 @@ batch_done s mid new job reports before after reset taken is put devices options
       told = was.told;
       devices = devices ∙ ap (λ (t : DeviceState). devices_reported job.task t.info) is;
       options = options;
-      scanned = subst (λ (t : DeviceState). AreScanned t (pages_of_task job.task) before after new) (is ∙ ap (λ (t : DeviceState). with_setup t mid.setup) reset) scanned;
+      scanned = subst (λ (t : DeviceState). AreScanned (pages_of_task job.task) (record { device = t; stock = before }) (record { device = new; stock = after })) (is ∙ ap (λ (t : DeviceState). with_setup t mid.setup) reset) scanned;
     }
 
 pages_kept : (s new : DeviceState) → s ≡ after_reset s → new ≡ with_setup s new.setup → new.pages ≡ (after_reset s).pages
@@ -76,7 +76,7 @@ pages_kept s new reset is = ap (λ (t : DeviceState). t.pages) is ∙ ap (λ (t 
 nothing_done : (s new : DeviceState) (stock : Option Stock) → s ≡ after_reset s → new ≡ with_setup s new.setup → ScansNothing s stock stock new
 nothing_done s new stock reset is = record { outputs = takes_none stock; info = ap (λ (t : DeviceState). t.info) is; pages = pages_kept s new reset is; rest = ap (λ (t : DeviceState). is_at_rest t.phase) is ∙ ap is_at_rest (phase_reset s reset) }
 
-pub ended_by_fault : (s : DeviceState) (job : Job) (stock : Option Stock) (stop : Stop) → s ≡ after_reset s → (HasJobFault job None → ⊥) → stop ≡ bad_setting → IsBatchEndedBy s job stock stock s stop
+pub ended_by_fault : (s : DeviceState) (job : Job) (stock : Option Stock) (stop : Stop) → s ≡ after_reset s → (HasJobFault job None → ⊥) → stop ≡ bad_setting → IsBatchEndedBy job (record { device = s; stock = stock }) (record { device = s; stock = stock }) stop
 ended_by_fault s job stock stop reset refused is = record {
   size = λ _. is;
   setting = λ taken why f. absurd (refused taken);
@@ -84,7 +84,7 @@ ended_by_fault s job stock stop reset refused is = record {
   put = λ forced p. absurd (refused p.taken);
 }
 
-pub ended_by_memory : (s new : DeviceState) (job : Job) (stock : Option Stock) (stop : Stop) → s ≡ after_reset s → HasJobFault job None → new ≡ with_setup s new.setup → stop ≡ no_memory → IsBatchEndedBy s job stock stock new stop
+pub ended_by_memory : (s new : DeviceState) (job : Job) (stock : Option Stock) (stop : Stop) → s ≡ after_reset s → HasJobFault job None → new ≡ with_setup s new.setup → stop ≡ no_memory → IsBatchEndedBy job (record { device = s; stock = stock }) (record { device = new; stock = stock }) stop
 ended_by_memory s new job stock stop reset taken same is = record {
   size = λ refused. absurd (refused taken);
   setting = λ _ why f. inl is;
@@ -92,7 +92,7 @@ ended_by_memory s new job stock stop reset taken same is = record {
   put = λ forced p. inl (is, nothing_done s new stock reset same);
 }
 
-ended_at : (s new : DeviceState) (job : Job) (stock : Option Stock) (stop : Stop) → s ≡ after_reset s → HasJobFault job None → new ≡ with_setup s new.setup → put_all s.setup (settings_of job) ≡ Err stop → IsBatchEndedBy s job stock stock new stop
+ended_at : (s new : DeviceState) (job : Job) (stock : Option Stock) (stop : Stop) → s ≡ after_reset s → HasJobFault job None → new ≡ with_setup s new.setup → put_all s.setup (settings_of job) ≡ Err stop → IsBatchEndedBy job (record { device = s; stock = stock }) (record { device = new; stock = stock }) stop
 ended_at s new job stock stop reset taken same fails = record {
   size = λ refused. absurd (refused taken);
   setting = λ _ why f. inr (let one : Err stop ≡ Err why = sym fails ∙ fails_here s job why reset f in cc);
@@ -103,12 +103,12 @@ ended_at s new job stock stop reset taken same fails = record {
 }
 
 pub ended_by_setting : (s new : DeviceState) (job : Job) (stock : Option Stock) (stop : Stop) → s ≡ after_reset s → HasJobFault job None → new ≡ with_setup s new.setup
-    → (stop ≡ no_memory) ⊎ (put_all s.setup (settings_of job) ≡ Err stop) → IsBatchEndedBy s job stock stock new stop
+    → (stop ≡ no_memory) ⊎ (put_all s.setup (settings_of job) ≡ Err stop) → IsBatchEndedBy job (record { device = s; stock = stock }) (record { device = new; stock = stock }) stop
 ended_by_setting s new job stock stop reset taken same (inl memory) = ended_by_memory s new job stock stop reset taken same memory
 ended_by_setting s new job stock stop reset taken same (inr fails) = ended_at s new job stock stop reset taken same fails
 
 pub ended_by_pages : (s mid new : DeviceState) (job : Job) (reports : List Report) (before after : Option Stock) (stop : Stop) → s ≡ after_reset s → HasJobFault job None → mid ≡ with_setup s mid.setup
-    → put_all s.setup (settings_of job) ≡ Ok (mid.setup, reports) → StopsAt mid (pages_of_task job.task) before after new stop → IsBatchEndedBy s job before after new stop
+    → put_all s.setup (settings_of job) ≡ Ok (mid.setup, reports) → StopsAt (pages_of_task job.task) (record { device = mid; stock = before }) (record { device = new; stock = after }) stop → IsBatchEndedBy job (record { device = s; stock = before }) (record { device = new; stock = after }) stop
 ended_by_pages s mid new job reports before after stop reset taken is puts stops =
     let was = was_put s job mid.setup reports reset taken puts in
     record {
@@ -119,7 +119,7 @@ ended_by_pages s mid new job reports before after stop reset taken is puts stops
           let put = put_here s job forced reset p in
           let one : Ok (mid.setup, reports) ≡ Ok (forced.0, put.0) = sym puts ∙ put.1 in
           let setup : mid.setup ≡ forced.0 = ap (setup_in mid.setup) one in
-          inr (subst (λ (t : DeviceState). StopsAt t (pages_of_task job.task) before after new stop) (is ∙ ap (with_setup s) setup ∙ ap (λ (t : DeviceState). with_setup t forced.0) reset) stops);
+          inr (subst (λ (t : DeviceState). StopsAt (pages_of_task job.task) (record { device = t; stock = before }) (record { device = new; stock = after }) stop) (is ∙ ap (with_setup s) setup ∙ ap (λ (t : DeviceState). with_setup t forced.0) reset) stops);
     }
 
 -- ---- before the reset, and after the cancel
@@ -136,10 +136,10 @@ put_behind s t job forced a p = record {
   put = sym (ap (λ k. in_force k t.setup.order (settings_of job)) a.kind ∙ ap (λ o. in_force s.setup.scene.kind o (settings_of job)) a.order) ∙ p.put;
 }
 
-at_rest_scanned : (s : DeviceState) (setup : Setup) (count : ℕ) (before after : Option Stock) (new : DeviceState) → AreScanned (with_setup (after_reset s) setup) count before after new → is_at_rest new.phase ≡ true
+at_rest_scanned : (s : DeviceState) (setup : Setup) (count : ℕ) (before after : Option Stock) (new : DeviceState) → AreScanned count (record { device = with_setup (after_reset s) setup; stock = before }) (record { device = new; stock = after }) → is_at_rest new.phase ≡ true
 at_rest_scanned s setup count before after new scanned = ap (λ (t : DeviceState). is_at_rest t.phase) scanned.left ∙ at_rest_behind (length scanned.files) (with_setup (after_reset s) setup) refl
 
-pub done_first : (s mid new last : DeviceState) (job : Job) (reports : Reports) (before after : Option Stock) → mid ≡ after_reset s → IsBatchDone mid job reports before after new → last ≡ after_cancel new → IsBatchDone s job reports before after last
+pub done_first : (s mid new last : DeviceState) (job : Job) (reports : Reports) (before after : Option Stock) → mid ≡ after_reset s → IsBatchDone job (record { device = mid; stock = before }) (record { device = new; stock = after }) reports → last ≡ after_cancel new → IsBatchDone job (record { device = s; stock = before }) (record { device = last; stock = after }) reports
 done_first s mid new last job reports before after reset is cancelled =
     let a = anew s mid reset in
     let same : after_reset mid ≡ after_reset s = sym a.again ∙ reset in
@@ -151,8 +151,8 @@ done_first s mid new last job reports before after reset is cancelled =
       told = subst (λ (o : Setup). SettingsAreReported o (settings_of job) is.placed reports.settings) (options_anew s mid a) is.told;
       devices = is.devices ∙ ap (devices_reported job.task) a.info;
       options = is.options;
-      scanned = subst (λ (t : DeviceState). AreScanned (with_setup (after_reset s) is.setup) (pages_of_task job.task) before after t) (sym stays)
-          (subst (λ (t : DeviceState). AreScanned (with_setup t is.setup) (pages_of_task job.task) before after new) same is.scanned);
+      scanned = subst (λ (t : DeviceState). AreScanned (pages_of_task job.task) (record { device = with_setup (after_reset s) is.setup; stock = before }) (record { device = t; stock = after })) (sym stays)
+          (subst (λ (t : DeviceState). AreScanned (pages_of_task job.task) (record { device = with_setup t is.setup; stock = before }) (record { device = new; stock = after })) same is.scanned);
     }
 
 page_cancelled : (t : DeviceState) (n : ℕ) (new : DeviceState) (stop : Stop) → EndsPage t n new stop → EndsPage t n (after_cancel new) stop
@@ -172,7 +172,7 @@ last_cancelled t n left new stop rest is = record {
   after = cancel_rests new (ap (λ (x : DeviceState). is_at_rest x.phase) is.after ∙ at_rest_behind n t rest) ∙ is.after;
 }
 
-stops_cancelled : (t : DeviceState) (count : ℕ) (before after : Option Stock) (new : DeviceState) (stop : Stop) → is_at_rest t.phase ≡ true → StopsAt t count before after new stop → StopsAt t count before after (after_cancel new) stop
+stops_cancelled : (t : DeviceState) (count : ℕ) (before after : Option Stock) (new : DeviceState) (stop : Stop) → is_at_rest t.phase ≡ true → StopsAt count (record { device = t; stock = before }) (record { device = new; stock = after }) stop → StopsAt count (record { device = t; stock = before }) (record { device = after_cancel new; stock = after }) stop
 stops_cancelled t count before after new stop rest is = record {
   files = is.files;
   pages = is.pages;
@@ -197,7 +197,7 @@ nothing_before s mid new last before after reset cancelled is =
       rest = is.rest;
     })
 
-pub ended_first : (s mid new last : DeviceState) (job : Job) (before after : Option Stock) (stop : Stop) → mid ≡ after_reset s → IsBatchEndedBy mid job before after new stop → last ≡ after_cancel new → IsBatchEndedBy s job before after last stop
+pub ended_first : (s mid new last : DeviceState) (job : Job) (before after : Option Stock) (stop : Stop) → mid ≡ after_reset s → IsBatchEndedBy job (record { device = mid; stock = before }) (record { device = new; stock = after }) stop → last ≡ after_cancel new → IsBatchEndedBy job (record { device = s; stock = before }) (record { device = last; stock = after }) stop
 ended_first s mid new last job before after stop reset is cancelled =
     let a = anew s mid reset in
     let same : after_reset mid ≡ after_reset s = sym a.again ∙ reset in
@@ -207,8 +207,8 @@ ended_first s mid new last job before after stop reset is cancelled =
       none = λ never. nothing_before s mid new last before after reset cancelled (is.none (λ forced p. never forced (put_behind s mid job forced a p)));
       put = λ forced p. elim (is.put forced (put_before s mid job forced a p)) [
         | inl nothing ↦ inl (nothing.0, nothing_before s mid new last before after reset cancelled nothing.1)
-        | inr stops ↦ inr (subst (λ (t : DeviceState). StopsAt (with_setup (after_reset s) forced.0) (pages_of_task job.task) before after t stop) (sym cancelled)
+        | inr stops ↦ inr (subst (λ (t : DeviceState). StopsAt (pages_of_task job.task) (record { device = with_setup (after_reset s) forced.0; stock = before }) (record { device = t; stock = after }) stop) (sym cancelled)
             (stops_cancelled (with_setup (after_reset s) forced.0) (pages_of_task job.task) before after new stop refl
-            (subst (λ (t : DeviceState). StopsAt (with_setup t forced.0) (pages_of_task job.task) before after new stop) same stops)))
+            (subst (λ (t : DeviceState). StopsAt (pages_of_task job.task) (record { device = with_setup t forced.0; stock = before }) (record { device = new; stock = after }) stop) same stops)))
       ];
     }

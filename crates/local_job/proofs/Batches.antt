@@ -102,7 +102,7 @@ one_run s now new n before stock next run filed is untold = record {
 
 -- ---- the end
 
-pub all_scanned : (s now : DeviceState) (n count : ℕ) (before stock : Option Stock) → HasRun s now n before stock → n ≡ count → AreScanned s count before stock now
+pub all_scanned : (s now : DeviceState) (n count : ℕ) (before stock : Option Stock) → HasRun s now n before stock → n ≡ count → AreScanned count (record { device = s; stock = before }) (record { device = now; stock = stock })
 all_scanned s now n count before stock run same = record {
   files = run.files;
   pages = run.pages;
@@ -132,7 +132,7 @@ no_page_by now new stop (held ∷ pages) e is untold none cause =
 pub out_of_pages : (s now new : DeviceState) (n count : ℕ) (before stock next : Option Stock) (stop : Stop) → HasRun s now n before stock → 0 < n → n < count → stop ≡ stop_by_status NoDocs
     → (now.pages ≡ [] → new ≡ with_phase now (AtRest false)) → (now.pages ≡ [] → next ≡ stock)
     → (now.pages ≢ [] → has_picture now.setup (page_of now) ≡ false → stop ≡ stop_by_status Inval) → (now.pages ≢ [] → has_picture now.setup (page_of now) ≡ true → ScanHasCause stop now new)
-    → AreScanned s count before next new
+    → AreScanned count (record { device = s; stock = before }) (record { device = new; stock = next })
 out_of_pages s now new n count before stock next stop run some few is stays silent none cause =
     let told : now.setup.told ≡ s.setup.told = ap (λ (t : Setup). t.told) (ap (λ (t : DeviceState). t.setup) run.left ∙ setup_behind n s) in
     let empty : now.pages ≡ [] = no_page_by now new stop now.pages refl is (λ e. run.untold some (sym told ∙ e)) none cause in
@@ -147,7 +147,7 @@ out_of_pages s now new n count before stock next stop run some few is stays sile
     }
 
 -- the shelf did not take the last output back
-pub last_refused : (s now : DeviceState) (n count : ℕ) (before stock : Option Stock) (stop : Stop) → HasRun s now n before stock → 0 < n → n ≤ count → stop ≡ failed_output → StopsAt s count before stock now stop
+pub last_refused : (s now : DeviceState) (n count : ℕ) (before stock : Option Stock) (stop : Stop) → HasRun s now n before stock → 0 < n → n ≤ count → stop ≡ failed_output → StopsAt count (record { device = s; stock = before }) (record { device = now; stock = stock }) stop
 last_refused s now n count before stock stop run some few is = record {
   files = run.files;
   pages = run.pages;
@@ -160,7 +160,7 @@ last_refused s now n count before stock stop run some few is = record {
 
 -- a page was not scanned
 pub page_ended : (s now new : DeviceState) (n count : ℕ) (before stock next : Option Stock) (stop : Stop) → HasRun s now n before stock → n ≤ count → LeavesPage (n + 1) stock next
-    → EndsPage now n new stop → StopsAt s count before next new stop
+    → EndsPage now n new stop → StopsAt count (record { device = s; stock = before }) (record { device = new; stock = next }) stop
 page_ended s now new n count before stock next stop run few left ends =
     let number : n ≡ length run.files = sym run.count in
     record {
@@ -174,6 +174,6 @@ page_ended s now new n count before stock next stop run few left ends =
     }
 
 -- there is no memory for the first
-pub no_memory_first : (s : DeviceState) (count : ℕ) (before : Option Stock) (stop : Stop) → stop ≡ no_memory → StopsAt s count before before s stop
+pub no_memory_first : (s : DeviceState) (count : ℕ) (before : Option Stock) (stop : Stop) → stop ≡ no_memory → StopsAt count (record { device = s; stock = before }) (record { device = s; stock = before }) stop
 no_memory_first s count before stop is = page_ended s s s 0 count before before before stop (none_run s before) (omega arith) (record { left = []; is_left = tt; outputs = takes_none before })
     (record { no_page = λ _. (refl, inl is); no_picture = λ _ _. inl is; cause = λ _ _. subst (λ (t : Stop). ScanHasCause t s s) (sym is) refl; same = of_nothing s s refl })

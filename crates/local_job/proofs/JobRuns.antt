@@ -206,7 +206,7 @@ put_behind s t job forced a p = record {
   put = sym (ap (λ k. in_force k t.setup.order (settings_of job)) a.kind ∙ ap (λ o. in_force s.setup.scene.kind o (settings_of job)) a.order) ∙ p.put;
 }
 
-done_before : (s t : DeviceState) (job : Job) (reports : Reports) (before after : Option (List ℕ)) (new : DeviceState) → t ≡ after_reset s → IsDone t job reports before after new → IsDone s job reports before after new
+done_before : (s t : DeviceState) (job : Job) (reports : Reports) (before after : Option (List ℕ)) (new : DeviceState) → t ≡ after_reset s → IsDone job (record { device = t; output = before }) (record { device = new; output = after }) reports → IsDone job (record { device = s; output = before }) (record { device = new; output = after }) reports
 done_before s t job reports before after new reset is =
     let a = anew s t reset in
     let same : after_reset t ≡ after_reset s = sym a.again ∙ reset in
@@ -221,10 +221,10 @@ done_before s t job reports before after new reset is =
       left = is.left ∙ ap (λ (x : DeviceState). left_by job.task (with_setup x is.setup)) same;
     }
 
-pub done_first : (s mid new last : DeviceState) (job : Job) (reports : Reports) (before after : Option (List ℕ)) → mid ≡ after_reset s → IsDone mid job reports before after new → last ≡ after_cancel new → IsDone s job reports before after last
+pub done_first : (s mid new last : DeviceState) (job : Job) (reports : Reports) (before after : Option (List ℕ)) → mid ≡ after_reset s → IsDone job (record { device = mid; output = before }) (record { device = new; output = after }) reports → last ≡ after_cancel new → IsDone job (record { device = s; output = before }) (record { device = last; output = after }) reports
 done_first s mid new last job reports before after reset is cancelled =
-    let here : IsDone s job reports before after new = done_before s mid job reports before after new reset is in
-    subst (λ (t : DeviceState). IsDone s job reports before after t) (sym (cancelled ∙ left_rests job.task s new here.setup here.left)) here
+    let here : IsDone job (record { device = s; output = before }) (record { device = new; output = after }) reports = done_before s mid job reports before after new reset is in
+    subst (λ (t : DeviceState). IsDone job (record { device = s; output = before }) (record { device = t; output = after }) reports) (sym (cancelled ∙ left_rests job.task s new here.setup here.left)) here
 
 ended_before : (s t new : DeviceState) (job : Job) (stop : Stop) → t ≡ after_reset s → IsEndedBy t job new stop → IsEndedBy s job new stop
 ended_before s t new job stop reset is =

@@ -19,39 +19,18 @@ use Rattle.scan_job.specs.Stops.{no_memory}
 use Rattle.option_desc.specs.declared.descriptor.Descriptor.{Descriptor}
 use Rattle.scan_frames.specs.declared.setup.Setup.{Setup}
 use Rattle.device_api.specs.declared.scan_option.ScanOption.{ScanOption}
-use Rattle.device_api.specs.declared.scan_option.ScanOption.TheVariants.{NumOptions, HandScanner}
-use Rattle.device_api.specs.Options.{options_of, option_at, option_caps, is_active, has_cap, caps_of, descriptor_of, descriptors_of}
+use Rattle.device_api.proofs.OptionForms.{active_is, active_is_read}
+use Rattle.device_api.specs.Options.{options_of, option_at, option_caps, is_active, descriptor_of, descriptors_of}
+use Rattle.sane_fixed.specs.Cap.{has_cap}
 use Rattle.device_api.specs.Values.{option_passing, option_got, get_result, option_value}
 use Rattle.scan_job.specs.KnownValues.{tells_value}
 
--- what the capabilities say of an option by whether it is active
-detect_is : (o : ScanOption) (a : Bool) → has_cap (option_caps o + (if a then 0 else 32)) 4 ≡ has_cap (option_caps o) 4
-detect_is NumOptions true = refl
-detect_is NumOptions false = refl
-detect_is HandScanner true = refl
-detect_is HandScanner false = refl
-detect_is _ true = refl
-detect_is _ false = refl
-
-inactive_is : (o : ScanOption) (a : Bool) → not (has_cap (option_caps o + (if a then 0 else 32)) 32) ≡ a
-inactive_is NumOptions true = refl
-inactive_is NumOptions false = refl
-inactive_is HandScanner true = refl
-inactive_is HandScanner false = refl
-inactive_is _ true = refl
-inactive_is _ false = refl
-
-both : (a b c : Bool) → (a && (b && c)) ≡ true → (a && b) ≡ true
-both true true c e = refl
-both true false c e = e
-both false b c e = e
+first_of : (a b : Bool) → (a && b) ≡ true → a ≡ true
+first_of true b e = refl
+first_of false b e = e
 
 may_tell : (s : Setup) (o : ScanOption) → tells_value (descriptor_of s o) ≡ true → (is_active s o && has_cap (option_caps o) 4) ≡ true
-unfolding descriptor_of
-may_tell s o e =
-    sym (ap (λ b. b && has_cap (option_caps o) 4) (inactive_is o (is_active s o)))
-    ∙ sym (ap (λ b. not (has_cap (caps_of s o) 32) && b) (detect_is o (is_active s o)))
-    ∙ both (not (has_cap (caps_of s o) 32)) (has_cap (caps_of s o) 4) _ e
+may_tell s o e = active_is_read s o (sym (active_is s o) ∙ first_of (not (has_cap (descriptor_of s o).caps.0 32)) _ e)
 
 got_by : (s : Setup) (o : ScanOption) (b : Bool) → b ≡ true → get_result s (if b then Some o else None) ≡ Ok (option_value s o)
 got_by s o true e = refl

@@ -15,7 +15,7 @@ use Rattle.local_job.specs.LocalStops.{bad_setting}
 use Rattle.scan_job.specs.Stops.{no_memory}
 use Rattle.local_job.specs.SettingReports.{SettingsAreReported, FailsAt}
 use Rattle.local_job.specs.LocalRun.{devices_reported, options_reported, settings_put}
-use Rattle.local_job.specs.LocalPages.{AreScanned, StopsAt}
+use Rattle.local_job.specs.LocalPages.{AreScanned, DeviceAndShelf, StopsAt}
 use Rattle.scan_job.specs.FileOutputs.{TakesBack}
 
 -- how many pages a task scans at most: one that is no batch one, or none
@@ -34,14 +34,14 @@ pub record IsBatchPut (s : DeviceState) (job : Job) (forced : Setup × List Plac
 
 -- The job was done on this scanner: its settings are in force and reported, its task was done and reported, and its pages
 -- were scanned with these settings, from a scanner that was reset.
-pub record IsBatchDone (old : DeviceState) (job : Job) (reports : Reports) (before after : Option Stock) (new : DeviceState) : Type 0 where
+pub record IsBatchDone (job : Job) (was now : DeviceAndShelf) (reports : Reports) : Type 0 where
   pub setup : Setup
   pub placed : List Placement
-  pub put : IsBatchPut old job (setup, placed)
-  pub told : SettingsAreReported (defaults old.setup.scene.kind old.setup.order) (settings_put job.task job.settings.items) placed reports.settings
-  pub devices : reports.devices ≡ devices_reported job.task old.info
+  pub put : IsBatchPut was.device job (setup, placed)
+  pub told : SettingsAreReported (defaults was.device.setup.scene.kind was.device.setup.order) (settings_put job.task job.settings.items) placed reports.settings
+  pub devices : reports.devices ≡ devices_reported job.task was.device.info
   pub options : reports.options ≡ options_reported job.task setup
-  pub scanned : AreScanned (with_setup (after_reset old) setup) (pages_of_task job.task) before after new
+  pub scanned : AreScanned (pages_of_task job.task) (record was { device = with_setup (after_reset was.device) setup }) now
 
 -- no page was scanned: the shelf was asked for nothing, and the scanner is at rest with all pages that the reset left
 pub record ScansNothing (old : DeviceState) (before after : Option Stock) (new : DeviceState) : Type 0 where
@@ -52,9 +52,10 @@ pub record ScansNothing (old : DeviceState) (before after : Option Stock) (new :
 
 -- What ends a job that is not done: its size or count; the setting that is not put; out of memory; or what ends the scan
 -- of a page.
-pub record IsBatchEndedBy (old : DeviceState) (job : Job) (before after : Option Stock) (new : DeviceState) (stop : Stop) : Type 0 where
+pub record IsBatchEndedBy (job : Job) (was now : DeviceAndShelf) (stop : Stop) : Type 0 where
   pub size : (HasJobFault job None → ⊥) → stop ≡ bad_setting
-  pub setting : HasJobFault job None → (why : Stop) → FailsAt (defaults old.setup.scene.kind old.setup.order) (settings_put job.task job.settings.items) why → (stop ≡ no_memory) ⊎ (stop ≡ why)
-  pub none : ((forced : Setup × List Placement) → IsBatchPut old job forced → ⊥) → ScansNothing old before after new
-  pub put : (forced : Setup × List Placement) → IsBatchPut old job forced →
-      ((stop ≡ no_memory) × ScansNothing old before after new) ⊎ StopsAt (with_setup (after_reset old) forced.0) (pages_of_task job.task) before after new stop
+  pub setting : HasJobFault job None → (why : Stop) → FailsAt (defaults was.device.setup.scene.kind was.device.setup.order) (settings_put job.task job.settings.items) why → (stop ≡ no_memory) ⊎ (stop ≡ why)
+  pub none : ((forced : Setup × List Placement) → IsBatchPut was.device job forced → ⊥) → ScansNothing was.device was.stock now.stock now.device
+  pub put : (forced : Setup × List Placement) → IsBatchPut was.device job forced →
+      ((stop ≡ no_memory) × ScansNothing was.device was.stock now.stock now.device)
+      ⊎ StopsAt (pages_of_task job.task) (record was { device = with_setup (after_reset was.device) forced.0 }) now stop

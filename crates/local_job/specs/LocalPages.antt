@@ -51,14 +51,19 @@ pub record LeavesPage (k : ℕ) (before after : Option Stock) : Type 0 where
 
 -- ---- how pages end
 
+-- a scanner, and the shelf of a job's files
+pub record DeviceAndShelf : Type 0 where
+  pub device : DeviceState
+  pub stock : Option Stock
+
 -- So many pages were scanned, or fewer, at least one, where no page was left. Each has its file, and they went out under
 -- the numbers from 1 on.
-pub record AreScanned (s : DeviceState) (count : ℕ) (before after : Option Stock) (new : DeviceState) : Type 0 where
+pub record AreScanned (count : ℕ) (was now : DeviceAndShelf) : Type 0 where
   pub files : List (List ℕ)
-  pub pages : ArePageFiles s files
-  pub all : (length files ≡ count) ⊎ ((0 < length files) × (length files < count) × (new.pages ≡ []))
-  pub outputs : TakesBack before (outputs_from 1 files) after
-  pub left : new ≡ after_pages (length files) s
+  pub pages : ArePageFiles was.device files
+  pub all : (length files ≡ count) ⊎ ((0 < length files) × (length files < count) × (now.device.pages ≡ []))
+  pub outputs : TakesBack was.stock (outputs_from 1 files) now.stock
+  pub left : now.device ≡ after_pages (length files) was.device
 
 -- What ended the scan of a page behind so many others: there is no page, which is no error behind another; the options
 -- mean no picture on it; or what ends a scan of one.
@@ -77,11 +82,11 @@ pub record RefusesLast (s : DeviceState) (scanned : ℕ) (left : List ReturnedOu
 
 -- Some pages were scanned, each has its file, and one output at most is left of the page that was not. What ended them is
 -- what ended the scan of that page, or a refusal of the shelf to take back the output before.
-pub record StopsAt (s : DeviceState) (count : ℕ) (before after : Option Stock) (new : DeviceState) (stop : Stop) : Type 0 where
+pub record StopsAt (count : ℕ) (was now : DeviceAndShelf) (stop : Stop) : Type 0 where
   pub files : List (List ℕ)
-  pub pages : ArePageFiles s files
+  pub pages : ArePageFiles was.device files
   pub few : length files ≤ count
   pub left : List ReturnedOutput
   pub is_left : AreLeft (length files + 1) left
-  pub outputs : TakesBack before (outputs_from 1 files ++ left) after
-  pub ended : RefusesLast s (length files) left new stop ⊎ EndsPage (after_pages (length files) s) (length files) new stop
+  pub outputs : TakesBack was.stock (outputs_from 1 files ++ left) now.stock
+  pub ended : RefusesLast was.device (length files) left now.device stop ⊎ EndsPage (after_pages (length files) was.device) (length files) now.device stop

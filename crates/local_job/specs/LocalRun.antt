@@ -6,7 +6,7 @@ use Rattle.scan_frames.specs.declared.setup.Setup.{Setup}
 use Rattle.scan_frames.specs.Frames.{has_picture}
 use Rattle.option_desc.specs.declared.descriptor.Descriptor.{Descriptor}
 use Rattle.option_desc.specs.declared.value.Value.{Value}
-use Rattle.device_api.specs.declared.device_info.DeviceInfo.{DeviceInfo}
+use Rattle.sane_fixed.specs.declared.device_info.DeviceInfo.{DeviceInfo}
 use Rattle.device_api.specs.State.{DeviceState, after_reset, feeds, left_behind, state_at_rest, with_setup, page_of}
 use Rattle.device_api.specs.InForce.{Placement, in_force}
 use Rattle.device_api.specs.Values.{defaults}
@@ -77,17 +77,22 @@ left_by SetOnly s = s
 left_by Scan s = state_at_rest s false
 left_by (Batch count) s = s
 
+-- a scanner, and what the output of a job holds
+pub record DeviceAndOutput : Type 0 where
+  pub device : DeviceState
+  pub output : Option (List ℕ)
+
 -- The job was done on this scanner: its settings are in force and reported, its task was done and reported, and the
 -- scanner is left as after a reset, at rest, with the options of the settings.
-pub record IsDone (old : DeviceState) (job : Job) (reports : Reports) (before after : Option (List ℕ)) (new : DeviceState) : Type 0 where
+pub record IsDone (job : Job) (was now : DeviceAndOutput) (reports : Reports) : Type 0 where
   pub setup : Setup
   pub placed : List Placement
-  pub put : IsPut old job (setup, placed)
-  pub told : SettingsAreReported (defaults old.setup.scene.kind old.setup.order) (settings_put job.task job.settings.items) placed reports.settings
-  pub devices : reports.devices ≡ devices_reported job.task old.info
+  pub put : IsPut was.device job (setup, placed)
+  pub told : SettingsAreReported (defaults was.device.setup.scene.kind was.device.setup.order) (settings_put job.task job.settings.items) placed reports.settings
+  pub devices : reports.devices ≡ devices_reported job.task was.device.info
   pub options : reports.options ≡ options_reported job.task setup
-  pub output : Writes job.task (with_setup (after_reset old) setup) before after
-  pub left : new ≡ left_by job.task (with_setup (after_reset old) setup)
+  pub output : Writes job.task (with_setup (after_reset was.device) setup) was.output now.output
+  pub left : now.device ≡ left_by job.task (with_setup (after_reset was.device) setup)
 
 -- What ends a job that is not done: its size, or more than one file; the setting that is not put; a feeder without a page; settings that mean no
 -- picture on the page; what ends a scan of one; and out of memory. The page is that of the scanner after its reset.

@@ -28,12 +28,7 @@ IsCause Memory status old new = status ≡ NoMem
 IsCause Sink status old new = status ≡ IoError
 IsCause Short status old new = (status ≡ IoError) × (old.setup.told ≡ Some Eof)
 IsCause Answer status old new = ScannerAnswers old new status
-IsCause Cancelled status old new = ⊥
-IsCause Lost status old new = ⊥
-IsCause Malformed status old new = ⊥
-IsCause Long status old new = ⊥
-IsCause Setting status old new = ⊥
-IsCause Plain status old new = ⊥
+IsCause _ status old new = ⊥
 
 -- a scan that went from one state to the other ended so for its cause
 abbrev pub ScanHasCause : Stop → DeviceState → DeviceState → Type 0

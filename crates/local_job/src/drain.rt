@@ -7,7 +7,7 @@ ghost use Rattle.local_job.specs.LocalDraining.{JoinIsDrainedTo};
 ghost use Rattle.scan_job.specs.FileOutputs.{StopsShort};
 
 use crate::outlet::Outlet;
-use pnm_writer::{FrameJoin, PnmOut, no_file_is_endless, no_front_is_whole};
+use frame_join::{FrameJoin, PnmOut, no_file_is_endless, no_front_is_whole};
 
 /// More than a file has bytes.
 const MOST_PULLS: u64 = 1 << 40;

@@ -16,7 +16,7 @@ use crate::drain::drain;
 use crate::local_stop::{read_refused, stop_of_join};
 use crate::outlet::Outlet;
 use device_api::Device;
-use pnm_writer::{FrameJoin, not_whole_before};
+use frame_join::{FrameJoin, not_whole_before};
 use sane_fixed::Status;
 use scan_job::Stop;
 

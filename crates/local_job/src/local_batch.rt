@@ -44,11 +44,13 @@ fn do_batch<S: Shelf, T: Drop, F: FnOnce(&Reports) -> Result<T, NoMem> + Drop>(
 ) -> Result<(Reports, T), Stop>
     requires reset { state device.old ≡ after_reset (state device.old) }
     requires tell { F.IsAlwaysCallable tell }
-    ensures done { IfOk result (λ done. IsBatchDone (state device.old) job.now done.0
-        (S.stock shelf.old) (S.stock shelf.new) (state device.new)) }
+    ensures done { IfOk result (λ done.
+        IsBatchDone job.now (record { device = state device.old; stock = S.stock shelf.old })
+        (record { device = state device.new; stock = S.stock shelf.new }) done.0) }
     ensures told { IfOk result (λ done. FnOnceReturnsAt F.FnOnce tell done.0 (Ok done.1)) }
-    ensures stop { IfErr result (λ stop. IsBatchEndedBy (state device.old) job.now
-        (S.stock shelf.old) (S.stock shelf.new) (state device.new) stop) }
+    ensures stop { IfErr result (λ stop.
+        IsBatchEndedBy job.now (record { device = state device.old; stock = S.stock shelf.old })
+        (record { device = state device.new; stock = S.stock shelf.new }) stop) }
     ensures refusal { IfErr result (λ stop. IsRefusal stop) }
 {
     if !is_taken(job) {
@@ -77,11 +79,13 @@ pub fn run_local_batch_with<S: Shelf, T: Drop, F: FnOnce(&Reports) -> Result<T, 
     tell: F,
 ) -> Result<(Reports, T), Stop>
     requires { F.IsAlwaysCallable tell }
-    ensures done { IfOk result (λ done. IsBatchDone (state device.old) job.now done.0
-        (S.stock shelf.old) (S.stock shelf.new) (state device.new)) }
+    ensures done { IfOk result (λ done.
+        IsBatchDone job.now (record { device = state device.old; stock = S.stock shelf.old })
+        (record { device = state device.new; stock = S.stock shelf.new }) done.0) }
     ensures told { IfOk result (λ done. FnOnceReturnsAt F.FnOnce tell done.0 (Ok done.1)) }
-    ensures stop { IfErr result (λ stop. IsBatchEndedBy (state device.old) job.now
-        (S.stock shelf.old) (S.stock shelf.new) (state device.new) stop) }
+    ensures stop { IfErr result (λ stop.
+        IsBatchEndedBy job.now (record { device = state device.old; stock = S.stock shelf.old })
+        (record { device = state device.new; stock = S.stock shelf.new }) stop) }
     ensures refusal { IfErr result (λ stop. IsRefusal stop) }
     ensures rest { is_at_rest (state device.new).phase ≡ true }
 {
@@ -102,12 +106,14 @@ pub fn run_local_batch<S: Shelf>(
     shelf: &mut S,
 ) -> Outcome
     ensures over { IsOver result }
-    ensures done { IfDone result (λ reports. IsBatchDone (state device.old) job.now reports
-        (S.stock shelf.old) (S.stock shelf.new) (state device.new)) }
+    ensures done { IfDone result (λ reports.
+        IsBatchDone job.now (record { device = state device.old; stock = S.stock shelf.old })
+        (record { device = state device.new; stock = S.stock shelf.new }) reports) }
     ensures ended { IfEnded result (λ status why. (status ≢ Good) × (status ≢ Eof)) }
-    ensures stop { IfEnded result
-        (λ status why. IsBatchEndedBy (state device.old) job.now (S.stock shelf.old)
-        (S.stock shelf.new) (state device.new) (record { status = status; why = why })) }
+    ensures stop { IfEnded result (λ status why.
+        IsBatchEndedBy job.now (record { device = state device.old; stock = S.stock shelf.old })
+        (record { device = state device.new; stock = S.stock shelf.new })
+        (record { status = status; why = why })) }
     ensures rest { is_at_rest (state device.new).phase ≡ true }
 {
     match run_local_batch_with(alloc, device, job, shelf, |_| Ok(())) {

@@ -1,7 +1,7 @@
 ghost use Rattle.std.specs.Prelude.{◌≡◌};
 ghost use Rattle.local_job.specs.LocalStops.{bad_setting, stop_by_status, read_refused, stop_of_join, malformed_frames};
 
-use pnm_writer::JoinFault;
+use frame_join::JoinFault;
 use sane_fixed::Status;
 use scan_job::{Stop, Why};
 

@@ -11,7 +11,7 @@ use crate::page_out::{PageOut, give_back};
 use crate::scan::{PIECE, ROOM, scan_passes, zeros};
 use byte_output::MOST_AGAIN;
 use device_api::Device;
-use pnm_writer::{FrameJoin, not_whole_before};
+use frame_join::{FrameJoin, not_whole_before};
 use sane_fixed::Status;
 use scan_job::{Shelf, Stop, Why};
 use std::alloc::Global;
@@ -98,10 +98,14 @@ fn scan_each<S: Shelf>(
     requires rest { is_at_rest (state device.old).phase ≡ true }
     requires piece { 0 < length piece.old }
     requires room { 0 < length room.old }
-    ensures done { OnOk result (AreScanned (state device.old) count
-        (S.stock shelf.old) (S.stock shelf.new) (state device.new)) }
-    ensures stop { IfErr result (λ stop. StopsAt (state device.old) count
-        (S.stock shelf.old) (S.stock shelf.new) (state device.new) stop) }
+    ensures done { OnOk result (AreScanned count (record {
+      device = state device.old;
+      stock
+          = S.stock shelf.old;
+    }) (record { device = state device.new; stock = S.stock shelf.new })) }
+    ensures stop { IfErr result
+        (λ stop. StopsAt count (record { device = state device.old; stock = S.stock shelf.old })
+        (record { device = state device.new; stock = S.stock shelf.new }) stop) }
     ensures refusal { IfErr result (λ stop. IsRefusal stop) }
 {
     let mut again = MOST_AGAIN;
@@ -125,10 +129,14 @@ pub fn scan_pages<S: Shelf>(
     shelf: &mut S,
 ) -> Result<(), Stop>
     requires { is_at_rest (state device.old).phase ≡ true }
-    ensures done { OnOk result (AreScanned (state device.old) count
-        (S.stock shelf.old) (S.stock shelf.new) (state device.new)) }
-    ensures stop { IfErr result (λ stop. StopsAt (state device.old) count
-        (S.stock shelf.old) (S.stock shelf.new) (state device.new) stop) }
+    ensures done { OnOk result (AreScanned count (record {
+      device = state device.old;
+      stock
+          = S.stock shelf.old;
+    }) (record { device = state device.new; stock = S.stock shelf.new })) }
+    ensures stop { IfErr result
+        (λ stop. StopsAt count (record { device = state device.old; stock = S.stock shelf.old })
+        (record { device = state device.new; stock = S.stock shelf.new }) stop) }
     ensures refusal { IfErr result (λ stop. IsRefusal stop) }
 {
     if count == 0 {

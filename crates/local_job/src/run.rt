@@ -80,8 +80,9 @@ fn do_job<W: Write, T: Drop, F: FnOnce(&Reports) -> Result<T, NoMem> + Drop>(
 ) -> Result<(Reports, T), Stop>
     requires reset { state device.old ≡ after_reset (state device.old) }
     requires tell { F.IsAlwaysCallable tell }
-    ensures done { IfOk result (λ done. IsDone (state device.old) job.now done.0
-        (W.contents out.old) (W.contents out.new) (state device.new)) }
+    ensures done { IfOk result
+        (λ done. IsDone job.now (record { device = state device.old; output = W.contents out.old })
+        (record { device = state device.new; output = W.contents out.new }) done.0) }
     ensures told { IfOk result (λ done. FnOnceReturnsAt F.FnOnce tell done.0 (Ok done.1)) }
     ensures no_file { OnErr result (LeavesNoFile (W.contents out.old) (W.contents out.new)) }
     ensures refusal { IfErr result (λ stop. IsRefusal stop) }
@@ -117,8 +118,9 @@ pub fn run_local_with<W: Write, T: Drop, F: FnOnce(&Reports) -> Result<T, NoMem>
     tell: F,
 ) -> Result<(Reports, T), Stop>
     requires { F.IsAlwaysCallable tell }
-    ensures done { IfOk result (λ done. IsDone (state device.old) job.now done.0
-        (W.contents out.old) (W.contents out.new) (state device.new)) }
+    ensures done { IfOk result
+        (λ done. IsDone job.now (record { device = state device.old; output = W.contents out.old })
+        (record { device = state device.new; output = W.contents out.new }) done.0) }
     ensures told { IfOk result (λ done. FnOnceReturnsAt F.FnOnce tell done.0 (Ok done.1)) }
     ensures no_file { OnErr result (LeavesNoFile (W.contents out.old) (W.contents out.new)) }
     ensures refusal { IfErr result (λ stop. IsRefusal stop) }
@@ -142,8 +144,9 @@ pub fn run_local<W: Write>(
     out: &mut W,
 ) -> Outcome
     ensures over { IsOver result }
-    ensures done { IfDone result (λ reports. IsDone (state device.old) job.now reports
-        (W.contents out.old) (W.contents out.new) (state device.new)) }
+    ensures done { IfDone result (λ reports.
+        IsDone job.now (record { device = state device.old; output = W.contents out.old })
+        (record { device = state device.new; output = W.contents out.new }) reports) }
     ensures ended { IfEnded result (λ status why. (status ≢ Good)
         × (status ≢ Eof) × LeavesNoFile (W.contents out.old) (W.contents out.new)) }
     ensures stop { IfEnded result (λ status why. IsEndedBy (state device.old) job.now

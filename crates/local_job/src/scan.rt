@@ -19,7 +19,7 @@ use crate::local_stop::{malformed_frames, stop_by_status, stop_of_join};
 use crate::outlet::{GivenOutput, Outlet};
 use byte_output::MOST_AGAIN;
 use device_api::Device;
-use pnm_writer::{FrameJoin, not_whole_before, whole_shows};
+use frame_join::{FrameJoin, not_whole_before, whole_shows};
 use scan_frames::frames_show_the_picture;
 use scan_job::Stop;
 use scan_laws::a_join_takes_the_frames_of_a_scan;

@@ -11,10 +11,9 @@ use client_replies::{
     JobTarget, Link, Next, Notes, Progress, Queue, after_params_reply, frame_ended, hear,
 };
 use data_records::RecordReader;
-use device_api::DeviceInfo;
 use frame_join::{FrameJoin, JoinFault, PnmOut, not_whole_before};
 use option_desc::{Descriptor, Value};
-use sane_fixed::{NoMem, Status};
+use sane_fixed::{DeviceInfo, NoMem, Status};
 use scan_job::{ItemList, Job, JobFault, Outcome, Reports, Task, Why};
 use std::alloc::Global;
 use std::marker::Model;

@@ -1,7 +1,6 @@
 -- How a job over streams is over whose files go to a shelf.
-use Rattle.std.proofs.Common.{◌≡◌, ◌≢◌, ◌∙◌, ◌⊎◌, ◌≤◌, ◌+◌, ℕ, Bool, true, false, not, take, Option, Some, None, Ok, Err, Result, List, [], ◌++◌, length, refl, sym, ap, subst, inl, inr, arith, length-append}
-use Rattle.std.specs.Prelude.{All}
-use Rattle.std.specs.Io.KnownBytes.{Appends}
+use Rattle.std.proofs.Common.{◌≡◌, ◌≢◌, ◌∙◌, ◌⊎◌, ◌≤◌, ◌+◌, ℕ, Bool, true, false, Option, Some, None, Ok, Err, Result, List, [], ◌∷◌, ◌++◌, length, refl, sym, ap, subst, append_assoc, inl, inr, arith, length-append}
+use Rattle.std.specs.Prelude.{All, IfOk, IfErr}
 use Rattle.std.proofs.lemmas.List.{append-nil}
 use Rattle.std.proofs.lemmas.List.Elements.{All-append, All-nil, All-same}
 use Rattle.sane_fixed.specs.declared.status.Status.{Status}
@@ -15,6 +14,7 @@ use Rattle.frame_join.specs.JoinStates.{JoinState, Represents}
 use Rattle.frame_join.proofs.JoinedLaws.{rests_silent}
 use Rattle.frame_join.proofs.StreamLaws.{nothing_is_not_whole}
 use Rattle.scan_job.specs.JobSize.{HasCount}
+use Rattle.scan_job.specs.Outcomes.{over_as}
 use Rattle.scan_job.specs.Shelves.{Stock, ReturnedOutput}
 use Rattle.scan_job.specs.declared.job.Job.{Job}
 use Rattle.scan_job.specs.declared.job.Task.{Task}
@@ -27,17 +27,20 @@ use Rattle.scan_job.specs.declared.report.Reports.{Reports}
 use Rattle.scan_job.specs.declared.stop.Stop.{Stop}
 use Rattle.client_replies.specs.ProtocolStates.{ProtocolState, target_of, is_running, is_ended, scans, HistoryFits, FitsDone, FitsEnded, IsBetweenFrames}
 use Rattle.net_client.specs.ClientStates.{ClientState}
-use Rattle.net_jobs.specs.RunInvariants.{GivenFiles, FullRunInvariant, ByMemory}
-use Rattle.net_jobs.specs.RunPromises.{StopsAs, HasRefusal}
-use Rattle.net_jobs.specs.Links.{HasBrought}
-use Rattle.net_jobs.specs.Outputs.{HasTaken, page_outputs_from}
+use Rattle.net_jobs.specs.JobJournal.{JobMove, GivesAll, dialled_by, given_by}
+use Rattle.net_jobs.specs.RunPromises.{JobStreams, SeenStreams, RanWithTrace, StopsAs, ByMemory}
+use Rattle.net_jobs.specs.TurnSteps.{CallNotes, NotesMatch}
+use Rattle.net_jobs.specs.Links.{LinkViews, HasBrought}
+use Rattle.net_jobs.proofs.InvariantRecords.{GivenFiles, FullRunInvariant}
+use Rattle.net_jobs.proofs.Asking.{asked_for}
+use Rattle.net_jobs.specs.Outputs.{files_text, HasTaken, page_outputs_from}
 use Rattle.scan_job.specs.FileOutputs.{TakesBack, GivesBack}
 use Rattle.net_jobs.specs.Paging.{IsFiling, TurnsOn, FallsShort, HasFiledShort, BatchCameDone, BatchCameEnded, BatchHasCome}
-use Rattle.net_jobs.specs.Batches.{IsPageFile, MayScan, last_whole_page, pages_of, closed_as, BatchEnded, HasBatchRun}
+use Rattle.net_jobs.specs.Batches.{IsPageFile, MayScan, last_whole_page, pages_of, closed_as, BatchDone, BatchEnded, HasBatchRun, RefusesBatch}
 use Rattle.net_jobs.proofs.FileNumbers.{IsFew, HasSome, counts}
-use Rattle.net_jobs.proofs.JobEnds.{NoneBefore, ran_refuses, sink_refuses, memory_refuses, cause_of, followed, unopened, task_is, ran_by, ends_well}
+use Rattle.net_jobs.proofs.JobEnds.{NoneBefore, stops_over, HasRefusal, Leaves, all_written, ran_refuses, cause_of, followed, unopened, task_is, ran_by, ends_well}
 use Rattle.net_jobs.proofs.Shelves.{given_back, none_back, left_behind, outputs_more}
-use Rattle.net_jobs.proofs.Shelving.{Laid, Shut, OnShelf, Lying, shut_parted, shut_parted_given, ended_part, one_file, laid_next, from_here}
+use Rattle.net_jobs.proofs.Shelving.{Laid, Shut, OnShelf, Lying, shut_parted, ended_part, one_file, laid_next, from_here}
 
 -- ---- a join between frames has given nothing, if its picture is not whole
 
@@ -104,12 +107,21 @@ last_file (Ok true) page file = one_file page (file refl)
 last_file (Ok false) page file = All-nil IsPageFile
 last_file (Err fault) page file = All-nil IsPageFile
 
-pub came_done : {C R : Type 0} (remaining contents : C → Option (List ℕ)) (left_of : R → Option (List ℕ)) (job : Job) (first : C) (coming0 : Option (List (List ℕ))) (before : Option Stock) (control : C) (coming : Option (List (List ℕ))) (stream : Option R) (c : ClientState) (now : Option Stock) (out : Option (Option (List ℕ))) (reports : Reports)
+files_append : (pages more : List JoinHistory) → files_text (pages ++ more) ≡ files_text pages ++ files_text more
+files_append [] more = refl
+files_append (page ∷ pages) more = ap (λ (l : List ℕ). page.given ++ l) (files_append pages more) ∙ sym (append_assoc page.given (files_text pages) (files_text more))
+
+last_text : (a : Result Bool JoinFault) (page : JoinHistory) → ((a ≡ Ok true → ⊥) → page.given ≡ []) → files_text (last_whole_page a page) ≡ page.given
+last_text (Ok true) page none = append-nil page.given
+last_text (Ok false) page none = sym (none (λ e. (let clash : Ok false ≡ Ok true = e in cc)))
+last_text (Err fault) page none = sym (none (λ e. (let clash : Err fault ≡ Ok true = e in cc)))
+
+pub came_done : {C R : Type 0} (views : LinkViews C) (left_of : R → Option (List ℕ)) (job : Job) (first : C) (coming0 : Option (List (List ℕ))) (before : Option Stock) (notes : CallNotes) (links : C) (coming : Option (List (List ℕ))) (stream : Option R) (c : ClientState) (now : Option Stock) (out : Option (Option (List ℕ))) (reports : Reports)
     → HasCount job.task → ((past : JoinHistory) (join : JoinState) → Represents past join → IsJoined past → (p : Picture) × ShowsFrames past.ended p) → c.outcome ≡ Done reports
-    → Shut remaining contents left_of job first coming0 before true control coming stream c now out → BatchCameDone remaining contents job first coming0 control coming before now out (Done reports)
-came_done remaining contents left_of job first coming0 before control coming stream c now out reports h shows done d =
+    → Shut views left_of job first coming0 before notes true links coming stream c now out → BatchHasCome views job (record { links = first; coming = coming0; output = before }) (record { links = links; coming = coming; output = now }) out (Done reports) notes
+came_done views left_of job first coming0 before notes links coming stream c now out reports h shows done d =
     let s = d.stage in
-    let f = followed left_of coming0 coming s.trace s.rest stream c s.history reports done s.stands in
+    let f = followed left_of d.moves coming0 coming s.trace s.rest stream c s.history reports done s.stands in
     let l = unopened left_of coming0 coming s.trace.streams stream c s.history (ap is_running done) f.linked in
     let told : s.trace.protocol.outcome ≡ Done reports = ap (λ (t : ProtocolState). t.outcome) (sym f.protocol_is) ∙ done in
     let past_is : s.history ≡ s.trace.protocol.history = ap (λ (t : ProtocolState). t.history) f.protocol_is in
@@ -118,167 +130,174 @@ came_done remaining contents left_of job first coming0 before control coming str
     let file : IsJoined s.history → IsPageFile s.history = λ joined.
     (let p = shows s.history c.join s.serves.stands joined in
     record { picture = p.0; shows = p.1; file = subst (λ (t : List ℕ). Denotes t p.0) given_is (d.shelf.shown refl (joined_scans job.task s.history fits joined) (ap is_ended done) joined p.0 p.1) }) in
-    let counted = counts job s.did.events s.trace h s.did.runs in
-    record {
-      ran = record {
-        read_ = d.read_;
-        wrote = d.wrote;
-        rest = s.rest;
-        left = d.left;
-        failed = d.failed;
-        trace = s.trace;
-        calls = d.calls;
-        did = s.did;
-        wholes = l.wholes;
-        unread = [];
-        begin = l.begin;
-        brought = subst (λ (w : List (List ℕ)). HasBrought coming0 coming w) (sym (append-nil l.wholes)) l.brought;
-        few = omega arith;
-      };
-      told = told;
-      all = d.all;
-      read_all = refl;
-      end_well = ends_well (target_of job) _ s.did.events s.trace s.did.runs (ap is_ended told);
-      count = subst (λ (n : ℕ). MayScan job.task n) (sym (length-append s.trace.pages (last_whole_page (answer_of_end s.trace.protocol.history) s.trace.protocol.history)))
-          (may_scan job.task (length s.trace.pages) s.trace.protocol.notes.file s.trace.protocol.history (subst (λ (q : JoinHistory). FitsDone job.task q) past_is fits) counted.few counted.number (counted.done reports told));
-      files = All-append IsPageFile s.trace.pages (last_whole_page (answer_of_end s.trace.protocol.history) s.trace.protocol.history) (All-same IsPageFile s.trace.pages d.given.pages s.pages_is d.shelf.files)
-          (subst (λ (q : JoinHistory). All IsPageFile (last_whole_page (answer_of_end q) q)) past_is (last_file (answer_of_end s.history) s.history file));
-      taken = subst (λ (q : List JoinHistory). HasTaken before (page_outputs_from 1 q) now out (length q + 1) s.trace.protocol.history.given) (sym s.pages_is)
-          (subst (λ (t : List ℕ). HasTaken before (page_outputs_from 1 d.given.pages) now out (length d.given.pages + 1) t) (given_is ∙ ap (λ (q : JoinHistory). q.given) past_is) d.shelf.under_way.taken);
-      none = λ unjoined. d.shelf.under_way.asked (given_is ∙ done_none job.task s.history c.join s.serves.stands fits (λ joined. unjoined (subst (λ (q : JoinHistory). IsJoined q) past_is joined)) (λ other. s.given_is ∙ d.shelf.none other));
-      last = λ joined. subst (λ (q : JoinHistory). IsPageFile q) past_is (file (subst (λ (q : JoinHistory). IsJoined q) (sym past_is) joined));
-    }
+    let counted = counts job s.did.events s.trace h s.did.runs in (
+      record {
+        ran = record {
+          moves = d.moves;
+          first = d.fresh;
+          last = d.last;
+          fresh = d.is_fresh;
+          leads = d.leads;
+          rest = s.rest;
+          left = d.left;
+          trace = s.trace;
+          calls = d.calls;
+          did = s.did;
+          asked = asked_for job s.did.events s.trace (dialled_by d.moves) c.outcome s.did.runs s.asked;
+          wholes = l.wholes;
+          unread = [];
+          begin = l.begin;
+          brought = subst (λ (w : List (List ℕ)). HasBrought coming0 coming w) (sym (append-nil l.wholes)) l.brought;
+          few = omega arith;
+        };
+        told = told;
+        last_told = d.ends ∙ done;
+        all = d.all;
+        read_all = refl;
+        end_well = ends_well (target_of job) _ s.did.events s.trace s.did.runs (ap is_ended told);
+        count = subst (λ (n : ℕ). MayScan job.task n) (sym (length-append s.trace.pages (last_whole_page (answer_of_end s.trace.protocol.history) s.trace.protocol.history)))
+            (may_scan job.task (length s.trace.pages) s.trace.protocol.notes.file s.trace.protocol.history (subst (λ (q : JoinHistory). FitsDone job.task q) past_is fits) counted.few counted.number (counted.done reports told));
+        files = All-append IsPageFile s.trace.pages (last_whole_page (answer_of_end s.trace.protocol.history) s.trace.protocol.history) (All-same IsPageFile s.trace.pages d.given.pages s.pages_is d.shelf.files)
+            (subst (λ (q : JoinHistory). All IsPageFile (last_whole_page (answer_of_end q) q)) past_is (last_file (answer_of_end s.history) s.history file));
+        gave = files_append s.trace.pages (last_whole_page (answer_of_end s.trace.protocol.history) s.trace.protocol.history)
+            ∙ ap (λ (l : List ℕ). files_text s.trace.pages ++ l) (last_text (answer_of_end s.trace.protocol.history) s.trace.protocol.history
+            (λ unjoined. sym (ap (λ (q : JoinHistory). q.given) past_is) ∙ done_none job.task s.history c.join s.serves.stands fits (λ joined. unjoined (subst (λ (q : JoinHistory). IsJoined q) past_is joined)) (λ other. s.given_is ∙ d.shelf.none other)))
+            ∙ ap (λ (l : List JoinHistory). files_text l ++ s.trace.protocol.history.given) s.pages_is ∙ ap (λ (l : List ℕ). files_text d.given.pages ++ l) (sym (ap (λ (q : JoinHistory). q.given) past_is) ∙ s.given_is) ∙ d.gave;
+        taken = subst (λ (q : List JoinHistory). HasTaken before (page_outputs_from 1 q) now out (length q + 1) s.trace.protocol.history.given) (sym s.pages_is)
+            (subst (λ (t : List ℕ). HasTaken before (page_outputs_from 1 d.given.pages) now out (length d.given.pages + 1) t) (given_is ∙ ap (λ (q : JoinHistory). q.given) past_is) d.shelf.under_way.taken);
+        none = λ unjoined. d.shelf.under_way.asked (given_is ∙ done_none job.task s.history c.join s.serves.stands fits (λ joined. unjoined (subst (λ (q : JoinHistory). IsJoined q) past_is joined)) (λ other. s.given_is ∙ d.shelf.none other));
+        last = λ joined. subst (λ (q : JoinHistory). IsPageFile q) past_is (file (subst (λ (q : JoinHistory). IsJoined q) (sym past_is) joined));
+      },
+      d.notes_are,
+    )
 
 -- ---- a job that has ended otherwise
 
 ended_fits : (outcome : Outcome) (status : Status) (why : Why) (task : Task) (v : ClientState) (past : JoinHistory) → outcome ≡ Ended status why → HistoryFits task outcome v.progress past → FitsEnded task past
 ended_fits outcome status why task v past e f = subst (λ (o : Outcome). HistoryFits task o v.progress past) e f
 
-pub came_ended : {C R : Type 0} {whole : Bool} (remaining contents : C → Option (List ℕ)) (left_of : R → Option (List ℕ)) (job : Job) (first : C) (coming0 : Option (List (List ℕ))) (before : Option Stock) (control : C) (coming : Option (List (List ℕ))) (stream : Option R) (c : ClientState) (now : Option Stock) (out : Option (Option (List ℕ))) (status : Status) (why : Why)
-    → ((past : JoinHistory) (join : JoinState) → Represents past join → (IsJoined past → ⊥) → IsWhole past.given → ⊥) → c.outcome ≡ Ended status why
-    → Shut remaining contents left_of job first coming0 before whole control coming stream c now out → BatchCameEnded remaining contents job first coming0 control coming before now out (Ended status why)
-came_ended remaining contents left_of job first coming0 before control coming stream c now out status why law over d =
+pub came_ended : {L R : Type 0} {whole : Bool} (views : LinkViews L) (left_of : R → Option (List ℕ)) (job : Job) (first : L) (coming0 : Option (List (List ℕ))) (before : Option Stock) (notes : CallNotes) (links : L) (coming : Option (List (List ℕ))) (stream : Option R) (c : ClientState) (now : Option Stock) (out : Option (Option (List ℕ))) (status : Status) (why : Why)
+    → NoneBefore → c.outcome ≡ Ended status why
+    → Shut views left_of job first coming0 before notes whole links coming stream c now out → BatchHasCome views job (record { links = first; coming = coming0; output = before }) (record { links = links; coming = coming; output = now }) out (Ended status why) notes
+came_ended views left_of job first coming0 before notes links coming stream c now out status why law over d =
     let s = d.stage in
-    let r = ran_by remaining contents left_of job first coming0 control coming stream c d.given d.read_ d.wrote d.left d.failed d.calls s s.stands in
-    let fits = ended_fits c.outcome status why c.target.task c s.history over s.serves.fits in
-    record {
-      ran = r.0;
-      cause = cause_of r.0.trace.protocol r.0.rest c.outcome (Ended status why) over r.1;
-      refusal = subst HasRefusal over (ran_refuses job r.0.trace r.0.read_ r.0.wrote r.0.rest r.0.left c.outcome r.0.did r.1);
-      files = All-same IsPageFile r.0.trace.pages d.given.pages r.2 d.shelf.files;
-      text = d.given.bytes;
-      taken = subst (λ (q : List JoinHistory). HasTaken before (page_outputs_from 1 q) now out (length q + 1) d.given.bytes) (sym r.2) d.shelf.under_way.taken;
-      not_whole = subst (λ (t : List ℕ). IsWhole t → ⊥) s.given_is (λ w. law s.history c.join s.serves.stands (λ joined. ended_part c.target.task s.history fits joined w) w);
-    }
-
-came_over : {C R : Type 0} (remaining contents : C → Option (List ℕ)) (left_of : R → Option (List ℕ)) (job : Job) (first : C) (coming0 : Option (List (List ℕ))) (before : Option Stock) (control : C) (coming : Option (List (List ℕ))) (stream : Option R) (c : ClientState) (now : Option Stock) (out : Option (Option (List ℕ))) (outcome : Outcome)
-    → HasCount job.task → ((past : JoinHistory) (join : JoinState) → Represents past join → (IsJoined past → ⊥) → IsWhole past.given → ⊥)
-    → ((past : JoinHistory) (join : JoinState) → Represents past join → IsJoined past → (p : Picture) × ShowsFrames past.ended p) → is_running outcome ≡ false → c.outcome ≡ outcome
-    → Shut remaining contents left_of job first coming0 before true control coming stream c now out → BatchHasCome remaining contents job first coming0 control coming before now out outcome
-came_over remaining contents left_of job first coming0 before control coming stream c now out Running h law shows over e d = let clash : true ≡ false = over in cc
-came_over remaining contents left_of job first coming0 before control coming stream c now out (Done reports) h law shows over e d = came_done remaining contents left_of job first coming0 before control coming stream c now out reports h shows e d
-came_over remaining contents left_of job first coming0 before control coming stream c now out (Ended status why) h law shows over e d = came_ended remaining contents left_of job first coming0 before control coming stream c now out status why law e d
-
-pub has_come : {C R : Type 0} (remaining contents : C → Option (List ℕ)) (left_of : R → Option (List ℕ)) (job : Job) (first : C) (coming0 : Option (List (List ℕ))) (before : Option Stock) (control : C) (coming : Option (List (List ℕ))) (stream : Option R) (c : ClientState) (now : Option Stock) (out : Option (Option (List ℕ))) (outcome : Outcome)
-    → HasCount job.task → ((past : JoinHistory) (join : JoinState) → Represents past join → (IsJoined past → ⊥) → IsWhole past.given → ⊥)
-    → ((past : JoinHistory) (join : JoinState) → Represents past join → IsJoined past → (p : Picture) × ShowsFrames past.ended p) → is_running c.outcome ≡ false → outcome ≡ c.outcome
-    → Shut remaining contents left_of job first coming0 before true control coming stream c now out → BatchHasCome remaining contents job first coming0 control coming before now out outcome
-has_come remaining contents left_of job first coming0 before control coming stream c now out outcome h law shows over e d =
-    came_over remaining contents left_of job first coming0 before control coming stream c now out outcome h law shows (ap is_running e ∙ over) (sym e) d
+    let r = ran_by views left_of job (record { links = first; coming = coming0; output = before }) (record { links = links; coming = coming; output = now }) stream c d.given d.moves d.left d.fresh d.last d.is_fresh d.leads d.calls s s.stands in
+    let fits = ended_fits c.outcome status why c.target.task c s.history over s.serves.fits in (
+      record {
+        ran = r.ran;
+        cause = cause_of r.ran.moves r.ran.trace.protocol r.ran.rest c.outcome (Ended status why) over r.cause;
+        all = λ other. all_written d.moves r.ran.moves d.left r.ran.left r.moves_is r.left_is d.all;
+        refusal = subst HasRefusal over (ran_refuses job r.ran.moves r.ran.trace _ _ r.ran.rest r.ran.left c.outcome r.ran.did r.cause);
+        files = All-same IsPageFile r.ran.trace.pages d.given.pages r.pages_is d.shelf.files;
+        text = d.given.bytes;
+        taken = subst (λ (q : List JoinHistory). HasTaken before (page_outputs_from 1 q) now out (length q + 1) d.given.bytes) (sym r.pages_is) d.shelf.under_way.taken;
+        not_whole = subst (λ (t : List ℕ). IsWhole t → ⊥) s.given_is (λ w. law s.history c.join s.serves.stands (λ joined. ended_part c.target.task s.history fits joined w) w);
+      },
+      subst (λ (m : List JobMove). NotesMatch m notes) (sym r.moves_is) d.notes_are,
+    )
 
 -- there was no memory for what was to be told
-came_untold : {C R : Type 0} (remaining contents : C → Option (List ℕ)) (left_of : R → Option (List ℕ)) (job : Job) (first : C) (coming0 : Option (List (List ℕ))) (before : Option Stock) (control : C) (coming : Option (List (List ℕ))) (stream : Option R) (c : ClientState) (now : Option Stock) (out : Option (Option (List ℕ))) → (d : Shut remaining contents left_of job first coming0 before false control coming stream c now out)
-    → (IsWhole d.given.bytes → ⊥) → BatchCameEnded remaining contents job first coming0 control coming before now out (Ended statuses.NoMem whys.Memory)
-came_untold remaining contents left_of job first coming0 before control coming stream c now out d not_whole =
+came_untold : {L R : Type 0} {whole : Bool} (views : LinkViews L) (left_of : R → Option (List ℕ)) (job : Job) (first : L) (coming0 : Option (List (List ℕ))) (before : Option Stock) (notes : CallNotes) (links : L) (coming : Option (List (List ℕ))) (stream : Option R) (c : ClientState) (now : Option Stock) (out : Option (Option (List ℕ)))
+    → (d : Shut views left_of job first coming0 before notes whole links coming stream c now out) → (IsWhole d.given.bytes → ⊥) → BatchHasCome views job (record { links = first; coming = coming0; output = before }) (record { links = links; coming = coming; output = now }) out (Ended statuses.NoMem whys.Memory) notes
+came_untold views left_of job first coming0 before notes links coming stream c now out d not_whole =
     let s = d.stage in
-    let r = ran_by remaining contents left_of job first coming0 control coming stream c d.given d.read_ d.wrote d.left d.failed d.calls s s.stands in
-    record {
-      ran = r.0;
-      cause = inr (inl (ByMemory refl));
-      refusal = memory_refuses;
-      files = All-same IsPageFile r.0.trace.pages d.given.pages r.2 d.shelf.files;
-      text = d.given.bytes;
-      taken = subst (λ (q : List JoinHistory). HasTaken before (page_outputs_from 1 q) now out (length q + 1) d.given.bytes) (sym r.2) d.shelf.under_way.taken;
-      not_whole = not_whole;
-    }
+    let r = ran_by views left_of job (record { links = first; coming = coming0; output = before }) (record { links = links; coming = coming; output = now }) stream c d.given d.moves d.left d.fresh d.last d.is_fresh d.leads d.calls s s.stands in (
+      record {
+        ran = r.ran;
+        cause = inr (inl (ByMemory refl));
+        all = λ other. all_written d.moves r.ran.moves d.left r.ran.left r.moves_is r.left_is d.all;
+        refusal = λ e. cc;
+        files = All-same IsPageFile r.ran.trace.pages d.given.pages r.pages_is d.shelf.files;
+        text = d.given.bytes;
+        taken = subst (λ (q : List JoinHistory). HasTaken before (page_outputs_from 1 q) now out (length q + 1) d.given.bytes) (sym r.pages_is) d.shelf.under_way.taken;
+        not_whole = not_whole;
+      },
+      subst (λ (m : List JobMove). NotesMatch m notes) (sym r.moves_is) d.notes_are,
+    )
 
-stopped_by : {C R : Type 0} (remaining contents : C → Option (List ℕ)) (left_of : R → Option (List ℕ)) (job : Job) (first : C) (coming0 : Option (List (List ℕ))) (before : Option Stock) (control : C) (coming : Option (List (List ℕ))) (stream : Option R) (c : ClientState) (now : Option Stock) (out : Option (Option (List ℕ))) (outcome : Outcome) (stop : Stop)
-    → NoneBefore → c.outcome ≡ outcome → StopsAs outcome stop → (d : Shut remaining contents left_of job first coming0 before false control coming stream c now out) → (IsWhole d.given.bytes → ⊥)
-    → BatchCameEnded remaining contents job first coming0 control coming before now out (Ended stop.status stop.why)
-stopped_by remaining contents left_of job first coming0 before control coming stream c now out Running stop law over ends d not_whole = absurd ends
-stopped_by remaining contents left_of job first coming0 before control coming stream c now out (Done reports) stop law over ends d not_whole =
-    subst (λ (x : Stop). BatchCameEnded remaining contents job first coming0 control coming before now out (Ended x.status x.why)) (sym ends) (came_untold remaining contents left_of job first coming0 before control coming stream c now out d not_whole)
-stopped_by remaining contents left_of job first coming0 before control coming stream c now out (Ended status why) stop law over ends d not_whole =
-    subst (λ (x : Stop). BatchCameEnded remaining contents job first coming0 control coming before now out (Ended x.status x.why)) (sym ends) (came_ended remaining contents left_of job first coming0 before control coming stream c now out status why law over d)
+stopped_by : {L R : Type 0} {whole : Bool} (views : LinkViews L) (left_of : R → Option (List ℕ)) (job : Job) (first : L) (coming0 : Option (List (List ℕ))) (before : Option Stock) (notes : CallNotes) (links : L) (coming : Option (List (List ℕ))) (stream : Option R) (c : ClientState) (now : Option Stock) (out : Option (Option (List ℕ))) (outcome : Outcome) (stop : Stop)
+    → NoneBefore → c.outcome ≡ outcome → StopsAs outcome stop → (d : Shut views left_of job first coming0 before notes whole links coming stream c now out) → (IsWhole d.given.bytes → ⊥)
+    → BatchHasCome views job (record { links = first; coming = coming0; output = before }) (record { links = links; coming = coming; output = now }) out (Ended stop.status stop.why) notes
+stopped_by views left_of job first coming0 before notes links coming stream c now out Running stop law over ends d not_whole = absurd ends
+stopped_by views left_of job first coming0 before notes links coming stream c now out (Done reports) stop law over ends d not_whole =
+    subst (λ (x : Stop). BatchHasCome views job (record { links = first; coming = coming0; output = before }) (record { links = links; coming = coming; output = now }) out (Ended x.status x.why) notes) (sym ends) (came_untold views left_of job first coming0 before notes links coming stream c now out d not_whole)
+stopped_by views left_of job first coming0 before notes links coming stream c now out (Ended status why) stop law over ends d not_whole =
+    subst (λ (x : Stop). BatchHasCome views job (record { links = first; coming = coming0; output = before }) (record { links = links; coming = coming; output = now }) out (Ended x.status x.why) notes) (sym ends) (came_ended views left_of job first coming0 before notes links coming stream c now out status why law over d)
 
 -- a job that is over of which nothing is told
-pub came_stopped : {C R : Type 0} (remaining contents : C → Option (List ℕ)) (left_of : R → Option (List ℕ)) (job : Job) (first : C) (coming0 : Option (List (List ℕ))) (before : Option Stock) (is_up : Bool) (control then_ : C) (coming : Option (List (List ℕ))) (stream : Option R) (c : ClientState) (now : Option Stock) (out : Option (Option (List ℕ))) (stop : Stop) → NoneBefore → StopsAs c.outcome stop
-    → (is_up ≡ true → (n : ℕ) × (n ≤ length c.out) × Appends (contents control) (contents then_) (take n c.out)) → (is_up ≡ false → then_ ≡ control)
-    → Lying remaining contents left_of job first coming0 before (not is_up) control coming stream c now out
-    → BatchCameEnded remaining contents job first coming0 then_ coming before now out (Ended stop.status stop.why)
-came_stopped remaining contents left_of job first coming0 before is_up control then_ coming stream c now out stop law ends wrote still p =
-    stopped_by remaining contents left_of job first coming0 before then_ coming stream c now out c.outcome stop law refl ends
-    (shut_parted remaining contents left_of job first coming0 before is_up control then_ coming stream c now out wrote still p.laid)
-    (subst (λ (g : GivenFiles). IsWhole g.bytes → ⊥) (sym (shut_parted_given remaining contents left_of job first coming0 before is_up control then_ coming stream c now out wrote still p.laid)) p.not_whole)
+pub came_stopped : {L R : Type 0} (views : LinkViews L) (left_of : R → Option (List ℕ)) (job : Job) (first : L) (coming0 : Option (List (List ℕ))) (before : Option Stock) (was notes : CallNotes) (then_ links : L) (coming : Option (List (List ℕ))) (stream : Option R) (c : ClientState) (now : Option Stock) (out : Option (Option (List ℕ))) (stop : Stop)
+    → NoneBefore → StopsAs c.outcome stop → Leaves views then_ was c.out links notes → Lying views left_of job first coming0 before was then_ coming stream c now out
+    → BatchHasCome views job (record { links = first; coming = coming0; output = before }) (record { links = links; coming = coming; output = now }) out (Ended stop.status stop.why) notes
+came_stopped views left_of job first coming0 before was notes then_ links coming stream c now out stop law ends leaves p =
+    let d = shut_parted views left_of job first coming0 before was notes then_ links coming stream c now out (stops_over c.outcome stop ends) leaves p.laid in
+    stopped_by views left_of job first coming0 before notes links coming stream c now out c.outcome stop law refl ends d.0 (subst (λ (g : GivenFiles). IsWhole g.bytes → ⊥) (sym d.1) p.not_whole)
 
 -- ---- the shelf or an output did not take what it was to
 
-sunk_next : {C R : Type 0} (remaining contents : C → Option (List ℕ)) (left_of : R → Option (List ℕ)) (job : Job) (first : C) (coming0 : Option (List (List ℕ))) (before : Option Stock) (failed : Bool) (control : C) (coming : Option (List (List ℕ))) (stream : Option R) (c : ClientState) (now : Option Stock) (out : Option (Option (List ℕ)))
-    → out ≡ None → (d : Laid remaining contents left_of job first coming0 before failed true control coming stream c now out) → d.given.bytes ≡ [] → BatchCameEnded remaining contents job first coming0 control coming before now out (Ended statuses.IoError whys.Sink)
-sunk_next remaining contents left_of job first coming0 before failed control coming stream c now out none d silent =
+sunk_next : {L R : Type 0} (views : LinkViews L) (left_of : R → Option (List ℕ)) (job : Job) (first : L) (coming0 : Option (List (List ℕ))) (before : Option Stock) (notes : CallNotes) (links : L) (coming : Option (List (List ℕ))) (stream : Option R) (c : ClientState) (now : Option Stock) (out : Option (Option (List ℕ)))
+    → (d : Laid views left_of job first coming0 before notes true links coming stream c now out) → d.given.bytes ≡ [] → BatchHasCome views job (record { links = first; coming = coming0; output = before }) (record { links = links; coming = coming; output = now }) out (Ended statuses.IoError whys.Sink) notes
+sunk_next views left_of job first coming0 before notes links coming stream c now out d silent =
     let s = d.going.stage in
-    let r = ran_by remaining contents left_of job first coming0 control coming stream c d.given d.going.read_ d.going.wrote d.going.left failed d.going.calls s s.stands in
-    record {
-      ran = r.0;
-      cause = inr (inr refl);
-      refusal = sink_refuses;
-      files = All-same IsPageFile r.0.trace.pages d.given.pages r.2 d.shelf.files;
-      text = d.given.bytes;
-      taken = subst (λ (q : List JoinHistory). HasTaken before (page_outputs_from 1 q) now out (length q + 1) d.given.bytes) (sym r.2) d.shelf.under_way.taken;
-      not_whole = λ w. nothing_is_not_whole (subst (λ (t : List ℕ). IsWhole t) silent w);
-    }
+    let r = ran_by views left_of job (record { links = first; coming = coming0; output = before }) (record { links = links; coming = coming; output = now }) stream c d.given d.going.moves d.going.left d.going.fresh c d.going.is_fresh d.going.leads d.going.calls s s.stands in (
+      record {
+        ran = r.ran;
+        cause = inr (inr refl);
+        all = λ other. absurd (other refl);
+        refusal = λ e. cc;
+        files = All-same IsPageFile r.ran.trace.pages d.given.pages r.pages_is d.shelf.files;
+        text = d.given.bytes;
+        taken = subst (λ (q : List JoinHistory). HasTaken before (page_outputs_from 1 q) now out (length q + 1) d.given.bytes) (sym r.pages_is) d.shelf.under_way.taken;
+        not_whole = λ w. nothing_is_not_whole (subst (λ (t : List ℕ). IsWhole t) silent w);
+      },
+      subst (λ (m : List JobMove). NotesMatch m notes) (sym r.moves_is) d.going.notes_are,
+    )
 
-sunk_by : {C R : Type 0} (remaining contents : C → Option (List ℕ)) (left_of : R → Option (List ℕ)) (job : Job) (first : C) (coming0 : Option (List (List ℕ))) (before : Option Stock) (failed : Bool) (control : C) (coming : Option (List (List ℕ))) (stream : Option R) (c now : ClientState) (then_ : Option Stock) (out : Option (Option (List ℕ))) (given : GivenFiles)
+sunk_by : {L R : Type 0} (views : LinkViews L) (left_of : R → Option (List ℕ)) (job : Job) (first : L) (coming0 : Option (List (List ℕ))) (before : Option Stock) (notes : CallNotes) (links : L) (coming : Option (List (List ℕ))) (stream : Option R) (c new : ClientState) (now : Option Stock) (out : Option (Option (List ℕ))) (given : GivenFiles) (gives : List JobMove)
     → ((past : JoinHistory) (join : JoinState) → Represents past join → IsJoined past → (p : Picture) × ShowsFrames past.ended p) → scans job.task ≡ true → All IsPageFile given.pages
-    → (g : FullRunInvariant remaining contents left_of job first coming0 given failed control coming stream c)
-    → FallsShort (length given.pages + 1) before (page_outputs_from 1 given.pages) then_ out ⊎ TurnsOn g.stage.history c (length given.pages + 1) before (page_outputs_from 1 given.pages) now then_ out
-    → BatchCameEnded remaining contents job first coming0 control coming before then_ out (Ended statuses.IoError whys.Sink)
-sunk_by remaining contents left_of job first coming0 before failed control coming stream c now then_ out given shows scanning files g (inl short) =
+    → (g : FullRunInvariant views left_of job first coming0 given notes links coming stream c) → GivesAll c gives new
+    → FallsShort (length given.pages + 1) before (page_outputs_from 1 given.pages) now out ⊎ TurnsOn g.stage.history c (length given.pages + 1) before (page_outputs_from 1 given.pages) (given_by gives) new now out
+    → BatchHasCome views job (record { links = first; coming = coming0; output = before }) (record { links = links; coming = coming; output = now }) out (Ended statuses.IoError whys.Sink) notes
+sunk_by views left_of job first coming0 before notes links coming stream c new now out given gives shows scanning files g all (inl short) =
     let s = g.stage in
-    let r = ran_by remaining contents left_of job first coming0 control coming stream c given g.read_ g.wrote g.left failed g.calls s s.stands in
-    record {
-      ran = r.0;
-      cause = inr (inr refl);
-      refusal = sink_refuses;
-      files = All-same IsPageFile r.0.trace.pages given.pages r.2 files;
-      text = short.text;
-      taken = subst (λ (q : List JoinHistory). HasTaken before (page_outputs_from 1 q) then_ out (length q + 1) short.text) (sym r.2) short.taken;
-      not_whole = short.not_whole;
-    }
-sunk_by remaining contents left_of job first coming0 before failed control coming stream c now then_ out given shows scanning files g (inr e) =
-    let d = laid_next remaining contents left_of job first coming0 before failed control coming stream c now then_ out given shows scanning files g e in
-    sunk_next remaining contents left_of job first coming0 before failed control coming stream now then_ out e.none d.0 d.1
+    let r = ran_by views left_of job (record { links = first; coming = coming0; output = before }) (record { links = links; coming = coming; output = now }) stream c given g.moves g.left g.fresh c g.is_fresh g.leads g.calls s s.stands in (
+      record {
+        ran = r.ran;
+        cause = inr (inr refl);
+        all = λ other. absurd (other refl);
+        refusal = λ e. cc;
+        files = All-same IsPageFile r.ran.trace.pages given.pages r.pages_is files;
+        text = short.text;
+        taken = subst (λ (q : List JoinHistory). HasTaken before (page_outputs_from 1 q) now out (length q + 1) short.text) (sym r.pages_is) short.taken;
+        not_whole = short.not_whole;
+      },
+      subst (λ (m : List JobMove). NotesMatch m notes) (sym r.moves_is) g.notes_are,
+    )
+sunk_by views left_of job first coming0 before notes links coming stream c new now out given gives shows scanning files g all (inr e) =
+    let d = laid_next views left_of job first coming0 before notes links coming stream c new now out given gives shows scanning files g all e in
+    sunk_next views left_of job first coming0 before notes links coming stream new now out d.0 d.1
 
-sunk_at : {C R : Type 0} {was_whole : Bool} (remaining contents : C → Option (List ℕ)) (left_of : R → Option (List ℕ)) (job : Job) (first : C) (coming0 : Option (List (List ℕ))) (before was : Option Stock) (failed : Bool) (control : C) (coming : Option (List (List ℕ))) (stream : Option R) (c old now : ClientState) (then_ : Option Stock) (under out : Option (Option (List ℕ))) (given : GivenFiles) (past : JoinHistory) (is_scanning b : Bool) (result : Bool)
+sunk_at : {L R : Type 0} {was_whole : Bool} (views : LinkViews L) (left_of : R → Option (List ℕ)) (job : Job) (first : L) (coming0 : Option (List (List ℕ))) (before was : Option Stock) (notes : CallNotes) (links : L) (coming : Option (List (List ℕ))) (stream : Option R) (c old new : ClientState) (now : Option Stock) (under out : Option (Option (List ℕ))) (given : GivenFiles) (past : JoinHistory) (is_scanning b : Bool) (result : Bool)
     → is_scanning ≡ b → is_scanning ≡ scans job.task → HasCount job.task → ((past : JoinHistory) (join : JoinState) → Represents past join → IsJoined past → (p : Picture) × ShowsFrames past.ended p)
-    → OnShelf was_whole job before was under given old past → (g : FullRunInvariant remaining contents left_of job first coming0 given failed control coming stream c)
+    → OnShelf was_whole job before was under given old past → (g : FullRunInvariant views left_of job first coming0 given notes links coming stream c)
     → result ≡ false → (is_scanning ≡ false → result ≡ true)
-    → ((before : Option Stock) (outputs : List ReturnedOutput) (k : ℕ) (q : JoinHistory) → IsFiling q c k before outputs was under → HasFiledShort q c k before outputs now then_ out)
-    → BatchCameEnded remaining contents job first coming0 control coming before then_ out (Ended statuses.IoError whys.Sink)
-sunk_at remaining contents left_of job first coming0 before was failed control coming stream c old now then_ under out given past is_scanning true result e scanning h shows shelf g fails none goes =
-    sunk_by remaining contents left_of job first coming0 before failed control coming stream c now then_ out given shows (sym scanning ∙ e) shelf.files g
-    (from_here remaining contents left_of job first coming0 before was failed control coming stream c old under given past (λ b outputs k q. HasFiledShort q c k b outputs now then_ out) (sym scanning ∙ e) h shelf g goes)
-sunk_at remaining contents left_of job first coming0 before was failed control coming stream c old now then_ under out given past is_scanning false result e scanning h shows shelf g fails none goes =
+    → (gives : List JobMove) × GivesAll c gives new
+    × ((before : Option Stock) (outputs : List ReturnedOutput) (k : ℕ) (q : JoinHistory) → IsFiling q c k before outputs was under → HasFiledShort q c k before outputs (given_by gives) new now out)
+    → BatchHasCome views job (record { links = first; coming = coming0; output = before }) (record { links = links; coming = coming; output = now }) out (Ended statuses.IoError whys.Sink) notes
+sunk_at views left_of job first coming0 before was notes links coming stream c old new now under out given past is_scanning true result e scanning h shows shelf g fails none goes =
+    sunk_by views left_of job first coming0 before notes links coming stream c new now out given goes.0 shows (sym scanning ∙ e) shelf.files g goes.1
+    (from_here views left_of job first coming0 before was notes links coming stream c old under given past (λ b outputs k q. HasFiledShort q c k b outputs (given_by goes.0) new now out) (sym scanning ∙ e) h shelf g goes.2)
+sunk_at views left_of job first coming0 before was notes links coming stream c old new now under out given past is_scanning false result e scanning h shows shelf g fails none goes =
     absurd (let clash : true ≡ false = sym (none e) ∙ fails in cc)
 
-pub came_sunk : {C R : Type 0} {was_whole : Bool} (remaining contents : C → Option (List ℕ)) (left_of : R → Option (List ℕ)) (job : Job) (first : C) (coming0 : Option (List (List ℕ))) (before was : Option Stock) (failed : Bool) (control : C) (coming : Option (List (List ℕ))) (stream : Option R) (c old now : ClientState) (then_ : Option Stock) (under out : Option (Option (List ℕ))) (given : GivenFiles) (past : JoinHistory) (is_scanning result : Bool)
+pub came_sunk : {L R : Type 0} {was_whole : Bool} (views : LinkViews L) (left_of : R → Option (List ℕ)) (job : Job) (first : L) (coming0 : Option (List (List ℕ))) (before was : Option Stock) (notes : CallNotes) (links : L) (coming : Option (List (List ℕ))) (stream : Option R) (c old new : ClientState) (now : Option Stock) (under out : Option (Option (List ℕ))) (given : GivenFiles) (past : JoinHistory) (is_scanning result : Bool)
     → is_scanning ≡ scans job.task → HasCount job.task → ((past : JoinHistory) (join : JoinState) → Represents past join → IsJoined past → (p : Picture) × ShowsFrames past.ended p)
-    → OnShelf was_whole job before was under given old past → (g : FullRunInvariant remaining contents left_of job first coming0 given failed control coming stream c)
+    → OnShelf was_whole job before was under given old past → (g : FullRunInvariant views left_of job first coming0 given notes links coming stream c)
     → result ≡ false → (is_scanning ≡ false → result ≡ true)
-    → ((before : Option Stock) (outputs : List ReturnedOutput) (k : ℕ) (q : JoinHistory) → IsFiling q c k before outputs was under → HasFiledShort q c k before outputs now then_ out)
-    → BatchCameEnded remaining contents job first coming0 control coming before then_ out (Ended statuses.IoError whys.Sink)
-came_sunk remaining contents left_of job first coming0 before was failed control coming stream c old now then_ under out given past is_scanning result scanning h shows shelf g fails none goes =
-    sunk_at remaining contents left_of job first coming0 before was failed control coming stream c old now then_ under out given past is_scanning is_scanning result refl scanning h shows shelf g fails none goes
+    → (gives : List JobMove) × GivesAll c gives new
+    × ((before : Option Stock) (outputs : List ReturnedOutput) (k : ℕ) (q : JoinHistory) → IsFiling q c k before outputs was under → HasFiledShort q c k before outputs (given_by gives) new now out)
+    → BatchHasCome views job (record { links = first; coming = coming0; output = before }) (record { links = links; coming = coming; output = now }) out (Ended statuses.IoError whys.Sink) notes
+came_sunk views left_of job first coming0 before was notes links coming stream c old new now under out given past is_scanning result scanning h shows shelf g fails none goes =
+    sunk_at views left_of job first coming0 before was notes links coming stream c old new now under out given past is_scanning is_scanning result refl scanning h shows shelf g fails none goes
 
 -- ---- the last output is given back
 
@@ -294,38 +313,63 @@ last_back (Err fault) page pages before was new out taken none some back =
 file_is_some : (page : JoinHistory) → IsPageFile page → page.given ≢ []
 file_is_some page f e = nothing_is_not_whole (subst (λ (t : List ℕ). IsWhole t) e (f.picture, f.file))
 
-pub close_done : {C : Type 0} (remaining contents : C → Option (List ℕ)) (job : Job) (first : C) (coming0 : Option (List (List ℕ))) (now : C) (coming : Option (List (List ℕ))) (before was new : Option Stock) (out : Option (Option (List ℕ))) (reports : Reports) (is_taken : Bool)
-    → BatchCameDone remaining contents job first coming0 now coming before was out (Done reports) → GivesBack was out new → HasBatchRun remaining contents job first coming0 now coming before new (closed_as (Done reports) is_taken)
-close_done remaining contents job first coming0 now coming before was new out reports true d back = record {
-  ran = d.ran;
+-- what a job did says nothing of its outputs
+abbrev with_output : {L : Type 0} (views : LinkViews L) (job : Job) (was now : SeenStreams L (Option Stock)) (new : Option Stock) → RanWithTrace views job was now → RanWithTrace views job was (record now { output = new })
+with_output views job was now new r = record {
+  moves = r.moves;
+  first = r.first;
+  last = r.last;
+  fresh = r.fresh;
+  leads = r.leads;
+  rest = r.rest;
+  left = r.left;
+  trace = r.trace;
+  calls = r.calls;
+  did = r.did;
+  asked = r.asked;
+  wholes = r.wholes;
+  unread = r.unread;
+  begin = r.begin;
+  brought = r.brought;
+  few = r.few;
+}
+
+pub close_done : {L : Type 0} (views : LinkViews L) (job : Job) (was now : SeenStreams L (Option Stock)) (new : Option Stock) (out : Option (Option (List ℕ))) (reports : Reports) (is_taken : Bool)
+    → BatchCameDone views job was now out reports → GivesBack now.output out new → HasBatchRun views job was (record now { output = new }) (closed_as (Done reports) is_taken)
+close_done views job was now new out reports true d back = record {
+  ran = with_output views job was now new d.ran;
   told = d.told;
+  last_told = d.last_told;
   all = d.all;
   read_all = d.read_all;
   end_well = d.end_well;
   count = d.count;
   files = d.files;
-  outputs = last_back (answer_of_end d.ran.trace.protocol.history) d.ran.trace.protocol.history d.ran.trace.pages before was new out d.taken d.none (λ joined. file_is_some d.ran.trace.protocol.history (d.last joined)) back;
+  gave = d.gave;
+  outputs = last_back (answer_of_end d.ran.trace.protocol.history) d.ran.trace.protocol.history d.ran.trace.pages was.output now.output new out d.taken d.none (λ joined. file_is_some d.ran.trace.protocol.history (d.last joined)) back;
 }
-close_done remaining contents job first coming0 now coming before was new out reports false d back = record {
-  ran = d.ran;
+close_done views job was now new out reports false d back = record {
+  ran = with_output views job was now new d.ran;
   cause = inr (inr refl);
-  refusal = sink_refuses;
+  all = λ other. absurd (other refl);
+  refusal = λ e. cc;
   pages = pages_of d.ran.trace;
   left = [];
   finished = inr (refl, refl, refl, (reports, d.told));
   files = d.files;
   is_left = tt;
-  outputs = subst (λ (l : List ReturnedOutput). TakesBack before l new) (sym (append-nil (page_outputs_from 1 (pages_of d.ran.trace))))
-      (last_back (answer_of_end d.ran.trace.protocol.history) d.ran.trace.protocol.history d.ran.trace.pages before was new out d.taken d.none (λ joined. file_is_some d.ran.trace.protocol.history (d.last joined)) back);
+  outputs = subst (λ (l : List ReturnedOutput). TakesBack was.output l new) (sym (append-nil (page_outputs_from 1 (pages_of d.ran.trace))))
+      (last_back (answer_of_end d.ran.trace.protocol.history) d.ran.trace.protocol.history d.ran.trace.pages was.output now.output new out d.taken d.none (λ joined. file_is_some d.ran.trace.protocol.history (d.last joined)) back);
 }
 
-pub close_ended : {C : Type 0} (remaining contents : C → Option (List ℕ)) (job : Job) (first : C) (coming0 : Option (List (List ℕ))) (now : C) (coming : Option (List (List ℕ))) (before was new : Option Stock) (out : Option (Option (List ℕ))) (status : Status) (why : Why)
-    → BatchCameEnded remaining contents job first coming0 now coming before was out (Ended status why) → GivesBack was out new → BatchEnded remaining contents job first coming0 now coming before new (Ended status why)
-close_ended remaining contents job first coming0 now coming before was new out status why d back =
-    let left = left_behind before was new (page_outputs_from 1 d.ran.trace.pages) (length d.ran.trace.pages + 1) d.text out d.taken back d.not_whole in
+pub close_ended : {L : Type 0} (views : LinkViews L) (job : Job) (was now : SeenStreams L (Option Stock)) (new : Option Stock) (out : Option (Option (List ℕ))) (status : Status) (why : Why)
+    → BatchCameEnded views job was now out status why → GivesBack now.output out new → BatchEnded views job was (record now { output = new }) status why
+close_ended views job was now new out status why d back =
+    let left = left_behind was.output now.output new (page_outputs_from 1 d.ran.trace.pages) (length d.ran.trace.pages + 1) d.text out d.taken back d.not_whole in
     record {
-      ran = d.ran;
+      ran = with_output views job was now new d.ran;
       cause = d.cause;
+      all = d.all;
       refusal = d.refusal;
       pages = d.ran.trace.pages;
       left = left.0;
@@ -335,8 +379,18 @@ close_ended remaining contents job first coming0 now coming before was new out s
       outputs = left.2;
     }
 
-pub close : {C : Type 0} (remaining contents : C → Option (List ℕ)) (job : Job) (first : C) (coming0 : Option (List (List ℕ))) (now : C) (coming : Option (List (List ℕ))) (before was new : Option Stock) (out : Option (Option (List ℕ))) (outcome : Outcome) (is_taken : Bool)
-    → BatchHasCome remaining contents job first coming0 now coming before was out outcome → GivesBack was out new → HasBatchRun remaining contents job first coming0 now coming before new (closed_as outcome is_taken)
-close remaining contents job first coming0 now coming before was new out Running is_taken d back = absurd d
-close remaining contents job first coming0 now coming before was new out (Done reports) is_taken d back = close_done remaining contents job first coming0 now coming before was new out reports is_taken d back
-close remaining contents job first coming0 now coming before was new out (Ended status why) is_taken d back = close_ended remaining contents job first coming0 now coming before was new out status why d back
+pub close : {L : Type 0} (views : LinkViews L) (job : Job) (was now : SeenStreams L (Option Stock)) (new : Option Stock) (out : Option (Option (List ℕ))) (outcome : Outcome) (notes : CallNotes) (is_taken : Bool)
+    → BatchHasCome views job was now out outcome notes → GivesBack now.output out new → HasBatchRun views job was (record now { output = new }) (closed_as outcome is_taken)
+close views job was now new out Running notes is_taken d back = absurd d
+close views job was now new out (Done reports) notes is_taken d back = close_done views job was now new out reports is_taken d.0 back
+close views job was now new out (Ended status why) notes is_taken d back = close_ended views job was now new out status why d.0 back
+
+-- by the case of what a batch gave
+pub batch_ok : {L T : Type 0} (views : LinkViews L) (job : Job) (was now : SeenStreams L (Option Stock)) (result : Result (Reports × T) Stop) → HasBatchRun views job was now (over_as result) → IfOk result (λ done. BatchDone views job was now done.0)
+batch_ok views job was now (Ok done) run = run
+batch_ok views job was now (Err stop) run = tt
+
+pub batch_err : {L T C D S : Type 0} (views : LinkViews L) (job : Job) (was now : SeenStreams L (Option Stock)) (before behind : JobStreams C D S) (result : Result (Reports × T) Stop) → HasBatchRun views job was now (over_as result)
+    → IfErr result (λ stop. RefusesBatch job (Ended stop.status stop.why) before behind ⊎ BatchEnded views job was now stop.status stop.why)
+batch_err views job was now before behind (Ok done) run = tt
+batch_err views job was now before behind (Err stop) run = inr run

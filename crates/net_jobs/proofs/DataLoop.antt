@@ -27,26 +27,30 @@ use Rattle.client_replies.specs.declared.progress.Progress.TheVariants as stages
 use Rattle.client_replies.specs.declared.progress.Notes.{Notes}
 use Rattle.client_replies.specs.declared.progress.Next.TheVariants.{Wait, Finish}
 use Rattle.client_replies.specs.ReplyTurns.{stop_unjoined, page_whole, frame_joined, frame_ended_by, status_of}
-use Rattle.client_replies.specs.ProtocolStates.{ProtocolState, target_of, is_running, is_receiving, is_ended, is_lost_by, next_outcome, next_progress, with_payload, wanted_port, progress_connected, FitsAt}
+use Rattle.client_replies.specs.ProtocolStates.{ProtocolState, target_of, is_running, is_receiving, is_lost_by, next_outcome, next_progress, with_payload, wanted_port, progress_connected, FitsAt}
 use Rattle.client_replies.proofs.Fitting.{may_end}
 use Rattle.net_client.specs.ClientStates.{ClientState, protocol_of, ClientRepresents, after_client_end, phase_connected}
 use Rattle.net_client.specs.FramePieces.{Receives, TakesBytes, TakesFrameEnd, FailsAtBytes, TakesEndRecord}
 use Rattle.net_client.proofs.Hearings.{fits_at, calm_at}
 use Rattle.net_client.proofs.FrameRecords.{two_steps}
-use Rattle.net_jobs.specs.JobTraces.{Opened, Came, Finished, JobTrace, BytesMatchTrace, EventLeads, protocol_after_frame, sent_after, frame_end_at}
+use Rattle.net_jobs.specs.JobJournal.{JobMove, Dials, after_loss, dialled_by, HasLoss}
+use Rattle.net_jobs.specs.RunPromises.{EndsBy, ByLoss, ByMemory, ByLength}
+use Rattle.net_jobs.specs.JobTraces.{Opened, Came, Finished, JobTrace, EventLeads, protocol_after_frame, sent_after, frame_end_at}
 use Rattle.net_jobs.specs.Links.{DialBrings}
-use Rattle.net_jobs.specs.RunInvariants.{came_in, BetweenFrames, LinkMatchesTrace, ClientFollowsTrace, GivenFiles, RunInvariant, EndsBy, ByLoss, ByMemory, ByLength}
-use Rattle.net_jobs.proofs.Tracing.{did_quiet, did_say}
+use Rattle.net_jobs.proofs.InvariantRecords.{came_in, BetweenFrames, LinkMatchesTrace, ClientFollowsTrace, GivenFiles, RunInvariant, AsksPorts}
+use Rattle.net_jobs.proofs.Tracing.{did_leave, did_quiet, did_say}
 use Rattle.net_jobs.proofs.DataStreams.{records_end, brought_one, read_more, front_of, begin_more}
-use Rattle.net_jobs.proofs.KeepingInvariant.{following, falls}
+use Rattle.net_jobs.proofs.KeepingInvariant.{following, asked_now, falls}
 
 -- ---- a connection is lost
 
-pub lost_from : {R : Type 0} (left_of : R → Option (List ℕ)) (job : Job) (read_ wrote left : List ℕ) (coming0 coming : Option (List (List ℕ))) (given : GivenFiles) (stream after_ : Option R) (old new : ClientState) → is_running old.outcome ≡ true
-    → new ≡ after_client_end statuses.IoError whys.Lost old → (s : RunInvariant left_of job read_ wrote left coming0 coming given stream old) → (t : RunInvariant left_of job read_ wrote left coming0 coming given after_ new) × (t.history ≡ s.history)
-lost_from left_of job read_ wrote left coming0 coming given stream after_ old new running new_is s =
+-- by a move that tells of a loss
+pub lost_from : {R : Type 0} (left_of : R → Option (List ℕ)) (job : Job) (moves more : List JobMove) (read_ wrote left : List ℕ) (coming0 coming : Option (List (List ℕ))) (given : GivenFiles) (stream after_ : Option R) (old new : ClientState) → is_running old.outcome ≡ true
+    → new ≡ after_client_end statuses.IoError whys.Lost old → HasLoss more → (s : RunInvariant left_of job moves read_ wrote left coming0 coming given stream old) → AsksPorts (dialled_by more) s.did.events s.trace.protocol new.outcome
+    → (t : RunInvariant left_of job more read_ wrote left coming0 coming given after_ new) × (t.history ≡ s.history)
+lost_from left_of job moves more read_ wrote left coming0 coming given stream after_ old new running new_is loss s asked =
     let at = fits_at s.history old running s.serves in
-    let f = following left_of coming0 coming s.trace s.rest stream old s.history running s.stands in (
+    let f = following left_of moves coming0 coming s.trace s.rest stream old s.history running s.stands in (
       record {
         target = ap (λ (v : ClientState). v.target) new_is ∙ s.target;
         history = s.history;
@@ -56,14 +60,18 @@ lost_from left_of job read_ wrote left coming0 coming given stream after_ old ne
         pages_is = s.pages_is;
         rest = s.rest;
         did = s.did;
-        stands = inr (falls left_of coming0 coming s.trace s.rest s.rest stream old new s.history f running (ByLoss (ap (λ (v : ClientState). v.outcome) new_is)) (ap (λ (v : ClientState). is_running v.outcome) new_is));
+        asked = asked;
+        stands = inr (falls left_of more coming0 coming s.trace s.rest s.rest stream old new s.history f running (ByLoss loss (ap (λ (v : ClientState). v.outcome) new_is)) (ap (λ (v : ClientState). is_running v.outcome) new_is));
       },
       refl,
     )
 
-pub stage_lost : {R : Type 0} (left_of : R → Option (List ℕ)) (job : Job) (read_ wrote left : List ℕ) (coming0 coming : Option (List (List ℕ))) (given : GivenFiles) (stream after_ : Option R) (old new : ClientState) → is_running old.outcome ≡ true
-    → new ≡ after_client_end statuses.IoError whys.Lost old → RunInvariant left_of job read_ wrote left coming0 coming given stream old → RunInvariant left_of job read_ wrote left coming0 coming given after_ new
-stage_lost left_of job read_ wrote left coming0 coming given stream after_ old new running new_is s = (lost_from left_of job read_ wrote left coming0 coming given stream after_ old new running new_is s).0
+-- one that asks for no data connection
+pub stage_lost : {R : Type 0} (left_of : R → Option (List ℕ)) (job : Job) (moves more : List JobMove) (read_ wrote left : List ℕ) (coming0 coming : Option (List (List ℕ))) (given : GivenFiles) (stream after_ : Option R) (old new : ClientState) → is_running old.outcome ≡ true
+    → new ≡ after_client_end statuses.IoError whys.Lost old → HasLoss more → dialled_by more ≡ dialled_by moves → (s : RunInvariant left_of job moves read_ wrote left coming0 coming given stream old)
+    → (t : RunInvariant left_of job more read_ wrote left coming0 coming given after_ new) × (t.history ≡ s.history)
+stage_lost left_of job moves more read_ wrote left coming0 coming given stream after_ old new running new_is loss asks s =
+    lost_from left_of job moves more read_ wrote left coming0 coming given stream after_ old new running new_is loss s (inl (asks ∙ asked_now (dialled_by moves) s.did.events s.trace.protocol old.outcome running s.asked))
 
 -- ---- the data connection is made
 
@@ -91,18 +99,18 @@ between : {R : Type 0} (left_of : R → Option (List ℕ)) (coming0 coming : Opt
 between left_of coming0 coming streams None c past e l = l
 between left_of coming0 coming streams (Some conn) c past e l = absurd (let clash : true ≡ false = sym l.receives ∙ e in cc)
 
-opened_from : {R : Type 0} (left_of : R → Option (List ℕ)) (job : Job) (read_ wrote : List ℕ) (coming0 coming now : Option (List (List ℕ))) (given : GivenFiles) (stream : Option R) (conn : R) (old new : ClientState) (port : ℕ)
+opened_from : {R : Type 0} (left_of : R → Option (List ℕ)) (job : Job) (moves : List JobMove) (read_ wrote : List ℕ) (coming0 coming now : Option (List (List ℕ))) (given : GivenFiles) (stream : Option R) (conn : R) (old new : ClientState) (port : ℕ)
     → is_running old.outcome ≡ true → old.progress ≡ stages.Imaging port false → DialBrings coming now (left_of conn)
     → new ≡ record old { progress = progress_connected old.progress; phase = phase_connected old.progress old.phase } → ((past : JoinHistory) → ClientRepresents past old → ClientRepresents past new)
-    → (s : RunInvariant left_of job read_ wrote old.out coming0 coming given stream old) → ClientFollowsTrace left_of coming0 coming s.trace s.rest stream old s.history → RunInvariant left_of job read_ wrote new.out coming0 now given (Some conn) new
-opened_from left_of job read_ wrote coming0 coming now given stream conn old new port running e brings new_is serves s f =
+    → (s : RunInvariant left_of job moves read_ wrote old.out coming0 coming given stream old) → ClientFollowsTrace left_of coming0 coming s.trace s.rest stream old s.history → RunInvariant left_of job (Dials port true ∷ moves) read_ wrote new.out coming0 now given (Some conn) new
+opened_from left_of job moves read_ wrote coming0 coming now given stream conn old new port running e brings new_is serves s f =
     let b = between left_of coming0 coming s.trace.streams stream old s.history (is_open_at old port e) f.linked in
     let within = subst (λ (p : Progress). FitsAt p s.history) e (fits_at s.history old running s.serves).1 in
     let frame : Frame = within.1.0 in
     let none : frame.payload ≡ [] = ap came_in (sym within.1.1) ∙ b.empty port e in
     let brought = brought_one coming0 coming now (left_of conn) b.wholes b.brought brings in
     let trace : JobTrace = record s.trace { protocol = record s.trace.protocol { progress = progress_connected s.trace.protocol.progress } } in
-    let lives : EventLeads (target_of job) s.trace Opened trace = (ap (λ (t : ProtocolState). is_running t.outcome) (sym f.protocol_is) ∙ running, refl) in
+    let lives : EventLeads (target_of job) s.trace (Opened port) trace = (ap (λ (t : ProtocolState). is_running t.outcome) (sym f.protocol_is) ∙ running, ap (λ (t : ProtocolState). wanted_port t.progress) (sym f.protocol_is) ∙ ap wanted_port e, refl) in
     let phase : new.phase ≡ phases.Head = ap (λ (v : ClientState). v.phase) new_is ∙ ap (λ (p : Progress). phase_connected p old.phase) e in
     record {
       target = ap (λ (v : ClientState). v.target) new_is ∙ s.target;
@@ -112,7 +120,8 @@ opened_from left_of job read_ wrote coming0 coming now given stream conn old new
       trace = trace;
       pages_is = s.pages_is;
       rest = s.rest;
-      did = subst (λ (l : List ℕ). BytesMatchTrace job trace read_ wrote s.rest l) (sym (ap (λ (v : ClientState). v.out) new_is)) (did_quiet job s.trace trace Opened read_ wrote s.rest old.out lives refl refl s.did);
+      did = did_leave job trace read_ wrote s.rest old.out new.out (sym (ap (λ (v : ClientState). v.out) new_is)) (did_quiet job s.trace trace (Opened port) read_ wrote s.rest old.out lives refl refl s.did);
+      asked = inl (ap (λ (l : List ℕ). port ∷ l) (asked_now (dialled_by moves) s.did.events s.trace.protocol old.outcome running s.asked));
       stands = inl (record {
         protocol_is = ap (λ (v : ClientState). protocol_of v s.history) new_is ∙ ap (λ (t : ProtocolState). record t { progress = progress_connected t.progress }) f.protocol_is;
         rest_is = ap (λ (v : ClientState). v.input.rest) new_is ∙ f.rest_is;
@@ -131,14 +140,14 @@ opened_from left_of job read_ wrote coming0 coming now given stream conn old new
       });
     }
 
-pub stage_opened : {R : Type 0} (left_of : R → Option (List ℕ)) (job : Job) (read_ wrote : List ℕ) (coming0 coming now : Option (List (List ℕ))) (given : GivenFiles) (stream : Option R) (conn : R) (old new : ClientState) (port : ℕ)
+pub stage_opened : {R : Type 0} (left_of : R → Option (List ℕ)) (job : Job) (moves : List JobMove) (read_ wrote : List ℕ) (coming0 coming now : Option (List (List ℕ))) (given : GivenFiles) (stream : Option R) (conn : R) (old new : ClientState) (port : ℕ)
     → is_running old.outcome ≡ true → wanted_port old.progress ≡ Some port → DialBrings coming now (left_of conn)
     → new ≡ record old { progress = progress_connected old.progress; phase = phase_connected old.progress old.phase } → ((past : JoinHistory) → ClientRepresents past old → ClientRepresents past new)
-    → RunInvariant left_of job read_ wrote old.out coming0 coming given stream old → RunInvariant left_of job read_ wrote new.out coming0 now given (Some conn) new
-stage_opened left_of job read_ wrote coming0 coming now given stream conn old new port running wants brings new_is serves s =
+    → RunInvariant left_of job moves read_ wrote old.out coming0 coming given stream old → RunInvariant left_of job (Dials port true ∷ moves) read_ wrote new.out coming0 now given (Some conn) new
+stage_opened left_of job moves read_ wrote coming0 coming now given stream conn old new port running wants brings new_is serves s =
     let e : old.progress ≡ stages.Imaging port false = port_of old.progress port wants in
-    let f = following left_of coming0 coming s.trace s.rest stream old s.history running s.stands in
-    opened_from left_of job read_ wrote coming0 coming now given stream conn old new port running e brings new_is serves s f
+    let f = following left_of moves coming0 coming s.trace s.rest stream old s.history running s.stands in
+    opened_from left_of job moves read_ wrote coming0 coming now given stream conn old new port running e brings new_is serves s f
 
 -- ---- bytes of it
 
@@ -158,11 +167,11 @@ lives_came target trace old past frame given talk_is running under = (
   refl,
 )
 
-pub stage_goes : {R : Type 0} (left_of : R → Option (List ℕ)) (job : Job) (read_ wrote : List ℕ) (coming0 coming : Option (List (List ℕ))) (given : GivenFiles) (was now : R) (old new : ClientState) (piece : List ℕ)
+pub stage_goes : {R : Type 0} (left_of : R → Option (List ℕ)) (job : Job) (moves : List JobMove) (read_ wrote : List ℕ) (coming0 coming : Option (List (List ℕ))) (given : GivenFiles) (was now : R) (old new : ClientState) (piece : List ℕ)
     → is_running old.outcome ≡ true → Consumes (left_of was) (left_of now) piece
-    → (s : RunInvariant left_of job read_ wrote old.out coming0 coming given (Some was) old) → ClientFollowsTrace left_of coming0 coming s.trace s.rest (Some was) old s.history → TakesBytes old s.history piece new
-    → RunInvariant left_of job read_ wrote new.out coming0 coming given (Some now) new
-stage_goes left_of job read_ wrote coming0 coming given was now old new piece running consumed s f g =
+    → (s : RunInvariant left_of job moves read_ wrote old.out coming0 coming given (Some was) old) → ClientFollowsTrace left_of coming0 coming s.trace s.rest (Some was) old s.history → TakesBytes old s.history piece new
+    → RunInvariant left_of job moves read_ wrote new.out coming0 coming given (Some now) new
+stage_goes left_of job moves read_ wrote coming0 coming given was now old new piece running consumed s f g =
     let l = f.linked in
     let more = read_more coming0 coming (left_of was) (left_of now) l.wholes l.whole l.bytes piece l.brought l.reads consumed in
     let trace : JobTrace = came_course s.trace g.frame g.reads.given in
@@ -175,7 +184,8 @@ stage_goes left_of job read_ wrote coming0 coming given was now old new piece ru
       trace = trace;
       pages_is = s.pages_is;
       rest = s.rest;
-      did = subst (λ (x : List ℕ). BytesMatchTrace job trace read_ wrote s.rest x) (sym (ap (λ (v : ClientState). v.out) g.rest)) (did_quiet job s.trace trace (Came g.reads.given) read_ wrote s.rest old.out lives refl refl s.did);
+      did = did_leave job trace read_ wrote s.rest old.out new.out (sym (ap (λ (v : ClientState). v.out) g.rest)) (did_quiet job s.trace trace (Came g.reads.given) read_ wrote s.rest old.out lives refl refl s.did);
+      asked = inl (asked_now (dialled_by moves) s.did.events s.trace.protocol old.outcome running s.asked);
       stands = inl (record {
         protocol_is = ap (λ (v : ClientState). protocol_of v (with_payload s.history g.frame g.reads.given)) g.rest ∙ ap (λ (t : ProtocolState). record t { history = with_payload t.history g.frame g.reads.given }) f.protocol_is;
         rest_is = ap (λ (v : ClientState). v.input.rest) g.rest ∙ f.rest_is;
@@ -290,11 +300,11 @@ feed_gives : (bytes : List ℕ) (starved : Bool) (past : JoinHistory) → (after
 unfolding after_feed
 feed_gives bytes starved past = fed_with past.fault past.under bytes starved past
 
-pub stage_ends : {R : Type 0} (left_of : R → Option (List ℕ)) (job : Job) (read_ wrote : List ℕ) (coming0 coming : Option (List (List ℕ))) (given : GivenFiles) (was now : R) (old new : ClientState) (piece : List ℕ)
+pub stage_ends : {R : Type 0} (left_of : R → Option (List ℕ)) (job : Job) (moves : List JobMove) (read_ wrote : List ℕ) (coming0 coming : Option (List (List ℕ))) (given : GivenFiles) (was now : R) (old new : ClientState) (piece : List ℕ)
     → is_running old.outcome ≡ true → Consumes (left_of was) (left_of now) piece
-    → (s : RunInvariant left_of job read_ wrote old.out coming0 coming given (Some was) old) → ClientFollowsTrace left_of coming0 coming s.trace s.rest (Some was) old s.history → TakesFrameEnd old s.history piece new
-    → RunInvariant left_of job read_ wrote new.out coming0 coming given None new
-stage_ends left_of job read_ wrote coming0 coming given was now old new piece running consumed s f e =
+    → (s : RunInvariant left_of job moves read_ wrote old.out coming0 coming given (Some was) old) → ClientFollowsTrace left_of coming0 coming s.trace s.rest (Some was) old s.history → TakesFrameEnd old s.history piece new
+    → RunInvariant left_of job moves read_ wrote new.out coming0 coming given None new
+stage_ends left_of job moves read_ wrote coming0 coming given was now old new piece running consumed s f e =
     let l = f.linked in
     let bytes : List ℕ = e.reads.reads.given in
     let frame : Frame = record e.frame { payload = e.frame.payload ++ bytes } in
@@ -311,7 +321,7 @@ stage_ends left_of job read_ wrote coming0 coming given was now old new piece ru
     let trace : JobTrace = ended_course (target_of job) first e.status stream says.0 in
     let carries = two_steps phases.Head old.phase (phases.Ended e.status) l.bytes e.reads.used e.frame.payload bytes (carried_in s.history l.frame e.frame old.phase l.bytes l.under e.under l.carries) e.reads.reads.carries in
     let lives : EventLeads (target_of job) first (Finished e.status) trace
-    = (frame, stream, says.0, ap (λ (t : ProtocolState). is_running t.outcome) (sym f.protocol_is) ∙ running, refl, records_end stream frame.payload e.status carries, sym sent ∙ says.1, refl) in
+    = (frame, stream, says.0, ap (λ (t : ProtocolState). is_receiving t.outcome t.progress) (sym f.protocol_is) ∙ l.receives, refl, records_end stream frame.payload e.status carries, sym sent ∙ says.1, refl) in
     let did = did_say job first trace (Finished e.status) read_ wrote s.rest old.out says.0 lives refl refl (did_quiet job s.trace first (Came bytes) read_ wrote s.rest old.out came refl refl s.did) in
     record {
       target = ap (λ (v : ClientState). v.target) e.ends.rest ∙ s.target;
@@ -321,7 +331,8 @@ stage_ends left_of job read_ wrote coming0 coming given was now old new piece ru
       trace = trace;
       pages_is = s.pages_is;
       rest = s.rest;
-      did = subst (λ (x : List ℕ). BytesMatchTrace job trace read_ wrote s.rest x) (sym says.2) did;
+      did = did_leave job trace read_ wrote s.rest (old.out ++ says.0) new.out (sym says.2) did;
+      asked = inl (asked_now (dialled_by moves) s.did.events s.trace.protocol old.outcome running s.asked);
       stands = inl (record {
         protocol_is = e.ends.protocol ∙ alike;
         rest_is = ap (λ (v : ClientState). v.input.rest) e.ends.rest ∙ f.rest_is;
@@ -375,16 +386,16 @@ refused past frame before last starved fault clear e =
       | inr w ↦ inr w
     ]
 
-ends_by : (protocol : ProtocolState) (rest : List ℕ) (outcome : Outcome) (task : Task) (notes : Notes) (frame : Frame) (bytes : List ℕ) (fault : JoinFault) → protocol.history.under ≡ Some frame → outcome ≡ next_outcome task notes (stop_unjoined fault)
-    → ((most_bytes frame.params < length frame.payload + length bytes) × (fault ≡ Long)) ⊎ (fault ≡ NoMem) → EndsBy protocol rest outcome
-ends_by protocol rest outcome task notes frame bytes fault under ends (inl w) = ByLength frame bytes under w.0 (ends ∙ ap (λ (f : JoinFault). next_outcome task notes (stop_unjoined f)) w.1)
-ends_by protocol rest outcome task notes frame bytes fault under ends (inr w) = ByMemory (ends ∙ ap (λ (f : JoinFault). next_outcome task notes (stop_unjoined f)) w)
+ends_by : (moves : List JobMove) (protocol : ProtocolState) (rest : List ℕ) (outcome : Outcome) (task : Task) (notes : Notes) (frame : Frame) (bytes : List ℕ) (fault : JoinFault) → protocol.history.under ≡ Some frame → outcome ≡ next_outcome task notes (stop_unjoined fault)
+    → ((most_bytes frame.params < length frame.payload + length bytes) × (fault ≡ Long)) ⊎ (fault ≡ NoMem) → EndsBy moves protocol rest outcome
+ends_by moves protocol rest outcome task notes frame bytes fault under ends (inl w) = ByLength frame bytes under w.0 (ends ∙ ap (λ (f : JoinFault). next_outcome task notes (stop_unjoined f)) w.1)
+ends_by moves protocol rest outcome task notes frame bytes fault under ends (inr w) = ByMemory (ends ∙ ap (λ (f : JoinFault). next_outcome task notes (stop_unjoined f)) w)
 
-pub stage_fails : {R : Type 0} (left_of : R → Option (List ℕ)) (job : Job) (read_ wrote : List ℕ) (coming0 coming : Option (List (List ℕ))) (given : GivenFiles) (was : R) (old new : ClientState) (piece : List ℕ)
+pub stage_fails : {R : Type 0} (left_of : R → Option (List ℕ)) (job : Job) (moves : List JobMove) (read_ wrote : List ℕ) (coming0 coming : Option (List (List ℕ))) (given : GivenFiles) (was : R) (old new : ClientState) (piece : List ℕ)
     → is_running old.outcome ≡ true
-    → (s : RunInvariant left_of job read_ wrote old.out coming0 coming given (Some was) old) → ClientFollowsTrace left_of coming0 coming s.trace s.rest (Some was) old s.history → FailsAtBytes old s.history piece new
-    → RunInvariant left_of job read_ wrote new.out coming0 coming given None new
-stage_fails left_of job read_ wrote coming0 coming given was old new piece running s f e = record {
+    → (s : RunInvariant left_of job moves read_ wrote old.out coming0 coming given (Some was) old) → ClientFollowsTrace left_of coming0 coming s.trace s.rest (Some was) old s.history → FailsAtBytes old s.history piece new
+    → RunInvariant left_of job moves read_ wrote new.out coming0 coming given None new
+stage_fails left_of job moves read_ wrote coming0 coming given was old new piece running s f e = record {
   target = ap (λ (v : ClientState). v.target) e.rest ∙ s.target;
   history = after_feed e.reads.last e.reads.starved (with_payload s.history e.frame e.reads.before);
   serves = e.serves;
@@ -392,9 +403,10 @@ stage_fails left_of job read_ wrote coming0 coming given was old new piece runni
   trace = s.trace;
   pages_is = s.pages_is;
   rest = s.rest;
-  did = subst (λ (l : List ℕ). BytesMatchTrace job s.trace read_ wrote s.rest l) (sym (ap (λ (v : ClientState). v.out) e.rest)) s.did;
-  stands = inr (falls left_of coming0 coming s.trace s.rest s.rest (Some was) old new s.history f running
-      (ends_by s.trace.protocol s.rest new.outcome old.target.task old.notes e.frame (e.reads.before ++ e.reads.last) e.fault (ap (λ (t : ProtocolState). t.history.under) (sym f.protocol_is) ∙ e.under) (ap (λ (v : ClientState). v.outcome) e.rest)
+  did = did_leave job s.trace read_ wrote s.rest old.out new.out (sym (ap (λ (v : ClientState). v.out) e.rest)) s.did;
+  asked = inl (asked_now (dialled_by moves) s.did.events s.trace.protocol old.outcome running s.asked);
+  stands = inr (falls left_of moves coming0 coming s.trace s.rest s.rest (Some was) old new s.history f running
+      (ends_by moves s.trace.protocol s.rest new.outcome old.target.task old.notes e.frame (e.reads.before ++ e.reads.last) e.fault (ap (λ (t : ProtocolState). t.history.under) (sym f.protocol_is) ∙ e.under) (ap (λ (v : ClientState). v.outcome) e.rest)
       (refused s.history e.frame e.reads.before e.reads.last e.reads.starved e.fault (calm_at old.progress s.history (fits_at s.history old running s.serves).1) e.reads.fails))
       (ap (λ (v : ClientState). is_running v.outcome) e.rest ∙ unjoined_over old.target.task old.notes e.fault));
 }
@@ -415,54 +427,60 @@ over_shut outcome progress e = refl
 ends_shut : (old new : ClientState) (past : JoinHistory) (status : ℕ) → TakesEndRecord old past status new → is_receiving new.outcome new.progress ≡ false
 ends_shut old new past status e = ap (λ (t : ProtocolState). is_receiving new.outcome t.progress) e.protocol ∙ status_shut old.target.task old.notes.file past (status_of status) new.outcome
 
-pub stage_received : {R : Type 0} (left_of : R → Option (List ℕ)) (job : Job) (read_ wrote : List ℕ) (coming0 coming : Option (List (List ℕ))) (given : GivenFiles) (was now : R) (old new : ClientState) (piece : List ℕ)
+pub stage_received : {R : Type 0} (left_of : R → Option (List ℕ)) (job : Job) (moves : List JobMove) (read_ wrote : List ℕ) (coming0 coming : Option (List (List ℕ))) (given : GivenFiles) (was now : R) (old new : ClientState) (piece : List ℕ)
     → is_running old.outcome ≡ true → Consumes (left_of was) (left_of now) piece → is_receiving new.outcome new.progress ≡ true
-    → (s : RunInvariant left_of job read_ wrote old.out coming0 coming given (Some was) old) → Receives old s.history piece new
-    → RunInvariant left_of job read_ wrote new.out coming0 coming given (Some now) new
-stage_received left_of job read_ wrote coming0 coming given was now old new piece running consumed still s (inl g) =
-    stage_goes left_of job read_ wrote coming0 coming given was now old new piece running consumed s (following left_of coming0 coming s.trace s.rest (Some was) old s.history running s.stands) g
-stage_received left_of job read_ wrote coming0 coming given was now old new piece running consumed still s (inr (inl e)) =
+    → (s : RunInvariant left_of job moves read_ wrote old.out coming0 coming given (Some was) old) → Receives old s.history piece new
+    → RunInvariant left_of job moves read_ wrote new.out coming0 coming given (Some now) new
+stage_received left_of job moves read_ wrote coming0 coming given was now old new piece running consumed still s (inl g) =
+    stage_goes left_of job moves read_ wrote coming0 coming given was now old new piece running consumed s (following left_of moves coming0 coming s.trace s.rest (Some was) old s.history running s.stands) g
+stage_received left_of job moves read_ wrote coming0 coming given was now old new piece running consumed still s (inr (inl e)) =
     absurd (let clash : true ≡ false = sym still ∙ ends_shut _ new _ e.status e.ends in cc)
-stage_received left_of job read_ wrote coming0 coming given was now old new piece running consumed still s (inr (inr e)) =
+stage_received left_of job moves read_ wrote coming0 coming given was now old new piece running consumed still s (inr (inr e)) =
     absurd (let clash : true ≡ false = sym still ∙ ap (λ (v : ClientState). is_receiving v.outcome v.progress) e.rest in cc)
 
-pub stage_let_go : {R : Type 0} (left_of : R → Option (List ℕ)) (job : Job) (read_ wrote : List ℕ) (coming0 coming : Option (List (List ℕ))) (given : GivenFiles) (was now : R) (old new : ClientState) (piece : List ℕ)
+pub stage_let_go : {R : Type 0} (left_of : R → Option (List ℕ)) (job : Job) (moves : List JobMove) (read_ wrote : List ℕ) (coming0 coming : Option (List (List ℕ))) (given : GivenFiles) (was now : R) (old new : ClientState) (piece : List ℕ)
     → is_receiving old.outcome old.progress ≡ true → Consumes (left_of was) (left_of now) piece → is_receiving new.outcome new.progress ≡ false
-    → (s : RunInvariant left_of job read_ wrote old.out coming0 coming given (Some was) old) → Receives old s.history piece new
-    → RunInvariant left_of job read_ wrote new.out coming0 coming given None new
-stage_let_go left_of job read_ wrote coming0 coming given was now old new piece receives consumed still s (inl g) =
+    → (s : RunInvariant left_of job moves read_ wrote old.out coming0 coming given (Some was) old) → Receives old s.history piece new
+    → RunInvariant left_of job moves read_ wrote new.out coming0 coming given None new
+stage_let_go left_of job moves read_ wrote coming0 coming given was now old new piece receives consumed still s (inl g) =
     absurd (let clash : true ≡ false = sym receives ∙ sym (ap (λ (v : ClientState). is_receiving v.outcome v.progress) g.rest) ∙ still in cc)
-stage_let_go left_of job read_ wrote coming0 coming given was now old new piece receives consumed still s (inr (inl e)) =
+stage_let_go left_of job moves read_ wrote coming0 coming given was now old new piece receives consumed still s (inr (inl e)) =
     let running = receiving_runs old.outcome old.progress receives in
-    stage_ends left_of job read_ wrote coming0 coming given was now old new piece running consumed s (following left_of coming0 coming s.trace s.rest (Some was) old s.history running s.stands) e
-stage_let_go left_of job read_ wrote coming0 coming given was now old new piece receives consumed still s (inr (inr e)) =
+    stage_ends left_of job moves read_ wrote coming0 coming given was now old new piece running consumed s (following left_of moves coming0 coming s.trace s.rest (Some was) old s.history running s.stands) e
+stage_let_go left_of job moves read_ wrote coming0 coming given was now old new piece receives consumed still s (inr (inr e)) =
     let running = receiving_runs old.outcome old.progress receives in
-    stage_fails left_of job read_ wrote coming0 coming given was old new piece running s (following left_of coming0 coming s.trace s.rest (Some was) old s.history running s.stands) e
+    stage_fails left_of job moves read_ wrote coming0 coming given was old new piece running s (following left_of moves coming0 coming s.trace s.rest (Some was) old s.history running s.stands) e
 
 -- ---- the data connection is lost
 
-lost_image : (outcome : Outcome) (progress : Progress) → is_receiving outcome progress ≡ true → is_lost_by links.Image outcome progress ≡ true
+pub lost_image : (outcome : Outcome) (progress : Progress) → is_receiving outcome progress ≡ true → is_lost_by links.Image outcome progress ≡ true
 lost_image outcome (stages.Imaging port true) e = e
 lost_image outcome (stages.Imaging port false) e = absurd (let clash : false ≡ true = sym (shut (is_running outcome)) ∙ e in cc)
 lost_image outcome progress e = absurd (let clash : false ≡ true = e in cc)
 
-pub stage_image_lost : {R : Type 0} (left_of : R → Option (List ℕ)) (job : Job) (read_ wrote : List ℕ) (coming0 coming : Option (List (List ℕ))) (given : GivenFiles) (stream after_ : Option R) (old new : ClientState) → is_receiving old.outcome old.progress ≡ true
-    → new ≡ (if is_lost_by links.Image old.outcome old.progress then after_client_end statuses.IoError whys.Lost old else old)
-    → RunInvariant left_of job read_ wrote old.out coming0 coming given stream old → RunInvariant left_of job read_ wrote new.out coming0 coming given after_ new
-stage_image_lost left_of job read_ wrote coming0 coming given stream after_ old new receives lost s =
+pub stage_image_lost : {R : Type 0} (left_of : R → Option (List ℕ)) (job : Job) (moves more : List JobMove) (read_ wrote left : List ℕ) (coming0 coming : Option (List (List ℕ))) (given : GivenFiles) (stream after_ : Option R) (old new : ClientState) → is_receiving old.outcome old.progress ≡ true
+    → new ≡ after_loss links.Image old → HasLoss more → dialled_by more ≡ dialled_by moves
+    → (s : RunInvariant left_of job moves read_ wrote left coming0 coming given stream old) → (t : RunInvariant left_of job more read_ wrote left coming0 coming given after_ new) × (t.history ≡ s.history)
+stage_image_lost left_of job moves more read_ wrote left coming0 coming given stream after_ old new receives lost loss asks s =
     let new_is : new ≡ after_client_end statuses.IoError whys.Lost old = lost ∙ ap (λ (b : Bool). if b then after_client_end statuses.IoError whys.Lost old else old) (lost_image old.outcome old.progress receives) in
-    subst (λ (l : List ℕ). RunInvariant left_of job read_ wrote l coming0 coming given after_ new) (sym (ap (λ (v : ClientState). v.out) new_is))
-    (stage_lost left_of job read_ wrote old.out coming0 coming given stream after_ old new (receiving_runs old.outcome old.progress receives) new_is s)
+    stage_lost left_of job moves more read_ wrote left coming0 coming given stream after_ old new (receiving_runs old.outcome old.progress receives) new_is loss asks s
 
 -- while its connection is not made
 lost_wanted : (outcome : Outcome) (progress : Progress) (port : ℕ) → is_running outcome ≡ true → wanted_port progress ≡ Some port → is_lost_by links.Image outcome progress ≡ true
 lost_wanted outcome (stages.Imaging other opened) port running e = ap (λ (b : Bool). b && true) running
 lost_wanted outcome progress port running e = absurd (let clash : None ≡ Some port = e in cc)
 
-pub stage_wanted_lost : {R : Type 0} (left_of : R → Option (List ℕ)) (job : Job) (read_ wrote : List ℕ) (coming0 coming : Option (List (List ℕ))) (given : GivenFiles) (stream after_ : Option R) (old new : ClientState) (port : ℕ) → is_running old.outcome ≡ true
-    → wanted_port old.progress ≡ Some port → new ≡ (if is_lost_by links.Image old.outcome old.progress then after_client_end statuses.IoError whys.Lost old else old)
-    → RunInvariant left_of job read_ wrote old.out coming0 coming given stream old → RunInvariant left_of job read_ wrote new.out coming0 coming given after_ new
-stage_wanted_lost left_of job read_ wrote coming0 coming given stream after_ old new port running wants lost s =
+pub stage_missed : {R : Type 0} (left_of : R → Option (List ℕ)) (job : Job) (moves : List JobMove) (read_ wrote left : List ℕ) (coming0 coming : Option (List (List ℕ))) (given : GivenFiles) (stream after_ : Option R) (old new : ClientState) (port : ℕ) → is_running old.outcome ≡ true
+    → wanted_port old.progress ≡ Some port → new ≡ after_loss links.Image old
+    → (s : RunInvariant left_of job moves read_ wrote left coming0 coming given stream old) → (t : RunInvariant left_of job (Dials port false ∷ moves) read_ wrote left coming0 coming given after_ new) × (t.history ≡ s.history)
+stage_missed left_of job moves read_ wrote left coming0 coming given stream after_ old new port running wants lost s =
     let new_is : new ≡ after_client_end statuses.IoError whys.Lost old = lost ∙ ap (λ (b : Bool). if b then after_client_end statuses.IoError whys.Lost old else old) (lost_wanted old.outcome old.progress port running wants) in
-    subst (λ (l : List ℕ). RunInvariant left_of job read_ wrote l coming0 coming given after_ new) (sym (ap (λ (v : ClientState). v.out) new_is))
-    (stage_lost left_of job read_ wrote old.out coming0 coming given stream after_ old new running new_is s)
+    let f = following left_of moves coming0 coming s.trace s.rest stream old s.history running s.stands in
+    let asked : AsksPorts (port ∷ dialled_by moves) s.did.events s.trace.protocol new.outcome = inr (
+      port,
+      ap (λ (t : ProtocolState). wanted_port t.progress) (sym f.protocol_is) ∙ wants,
+      ap (λ (t : ProtocolState). is_running t.outcome) (sym f.protocol_is) ∙ running,
+      ap (λ (v : ClientState). is_running v.outcome) new_is,
+      ap (λ (l : List ℕ). port ∷ l) (asked_now (dialled_by moves) s.did.events s.trace.protocol old.outcome running s.asked),
+    ) in
+    lost_from left_of job moves (Dials port false ∷ moves) read_ wrote left coming0 coming given stream after_ old new running new_is tt s asked

@@ -11,7 +11,7 @@ use Rattle.sane_fixed.specs.declared.params.Params.{Params}
 use Rattle.option_desc.specs.declared.descriptor.Descriptor.{Descriptor}
 use Rattle.option_desc.specs.declared.value.Value.{Value}
 use Rattle.option_desc.specs.Reads.{read_value}
-use Rattle.device_api.specs.Options.{has_cap}
+use Rattle.sane_fixed.specs.Cap.{has_cap}
 use Rattle.md5_auth.specs.ChallengeReading.{answer_of}
 use Rattle.frame_join.specs.declared.join_stage.JoinFault.{JoinFault}
 use Rattle.frame_join.specs.declared.join_stage.JoinFault.TheVariants.{Shape, Long, Short, NoMem}
@@ -28,7 +28,7 @@ use Rattle.scan_job.specs.declared.report.Reports.{Reports}
 use Rattle.scan_job.specs.declared.outcome.Why.TheVariants as whys
 use Rattle.scan_job.specs.declared.outcome.Outcome.{Outcome}
 use Rattle.scan_job.specs.declared.outcome.Outcome.TheVariants.{Running, Done, Ended}
-use Rattle.client_replies.specs.WireValues.{given_like, wire_value_in}
+use Rattle.client_replies.specs.GivenValues.{given_like, wire_value_in}
 use Rattle.client_replies.specs.declared.progress.JobTarget.{JobTarget}
 use Rattle.client_replies.specs.declared.progress.Progress.{Progress}
 use Rattle.client_replies.specs.declared.progress.Progress.TheVariants as stages
@@ -406,8 +406,8 @@ one_longer pages page = length-append pages (page ∷ [])
 
 counts_on : (target : JobTarget) (was now : JobTrace) (event : TraceEvent) → HasCount target.task → Counts target.task was → EventLeads target was event now → Counts target.task now
 counts_on target was now (Replied r) h c l = subst (λ (x : JobTrace). Counts target.task x) (sym l.5) (counts_replied target was r _ _ c)
-counts_on target was now Opened h c l =
-    subst (λ (x : JobTrace). Counts target.task x) (sym l.1) (record { number = c.number; turning = λ e. c.turning (stays_turning was.protocol.progress e); few = c.few; apt = stays_apt target.task was.protocol.progress c.apt; done = c.done })
+counts_on target was now (Opened port) h c l =
+    subst (λ (x : JobTrace). Counts target.task x) (sym l.2) (record { number = c.number; turning = λ e. c.turning (stays_turning was.protocol.progress e); few = c.few; apt = stays_apt target.task was.protocol.progress c.apt; done = c.done })
 counts_on target was now (Came bytes) h c l = subst (λ (x : JobTrace). Counts target.task x) (sym l.3) (record { number = c.number; turning = c.turning; few = c.few; apt = c.apt; done = λ reports e. absurd (let clash : true ≡ false = sym l.1 ∙ ap is_running e in cc) })
 counts_on target was now (Finished status) h c l =
     subst (λ (x : JobTrace). Counts target.task x) (sym l.7) (record {

@@ -1,21 +1,20 @@
 -- How a job over streams is over.
-use Rattle.std.proofs.Common.{◌≡◌, ◌∙◌, ◌⊎◌, ◌≤◌, ◌↔◌, ℕ, Bool, true, false, not, Option, Some, None, Ok, Err, Result, List, [], ◌∷◌, ◌++◌, length, take, drop, refl, sym, ap, subst, inl, inr, arith}
-use Rattle.std.specs.Prelude.{nat_lt, if◌then◌else◌, IsTrue, IfOk, IfErr}
+use Rattle.std.proofs.Common.{◌≡◌, ◌≢◌, ◌∙◌, ◌⊎◌, ◌<◌, ◌↔◌, ℕ, Bool, true, false, Option, Some, None, Ok, Err, Result, List, [], ◌∷◌, ◌++◌, length, take, drop, refl, sym, ap, subst, append_assoc, inl, inr, arith}
+use Rattle.std.specs.Prelude.{if◌then◌else◌, IsTrue, IfOk, IfErr}
 use Rattle.std.specs.Io.KnownBytes.{Appends}
 use Rattle.std.proofs.KnownBytes.{Appends-nil}
-use Rattle.std.proofs.lemmas.Bool.{ltb-false}
-use Rattle.std.proofs.lemmas.List.{append-nil, take-append-drop, drop_all}
+use Rattle.std.proofs.lemmas.List.{append-nil, take-append-drop}
 use Rattle.sane_fixed.specs.declared.status.Status.{Status}
 use Rattle.sane_fixed.specs.declared.status.Status.TheVariants as statuses
 use Rattle.netpbm.specs.Picture.{Picture}
 use Rattle.netpbm.specs.Pnm.{Denotes, IsWhole}
 use Rattle.page_picture.specs.Shows.{ShowsFrames}
-use Rattle.frame_join.specs.declared.join_stage.JoinFault.{JoinFault}
-use Rattle.frame_join.specs.declared.join_stage.JoinFault.TheVariants.{Shape, Long, Short, NoMem}
+use Rattle.frame_join.specs.declared.join_stage.JoinFault.TheVariants.{Short}
 use Rattle.frame_join.specs.FrameHistory.{JoinHistory, IsJoined, after_pull}
 use Rattle.frame_join.specs.JoinStates.{JoinState, Represents}
 use Rattle.scan_job.specs.declared.job.Job.{Job}
-use Rattle.scan_job.specs.JobSize.{IsBatch}
+use Rattle.scan_job.specs.JobSize.{HasCount, IsBatch}
+use Rattle.scan_job.specs.Outcomes.{IfEnded, over_as}
 use Rattle.scan_job.specs.declared.job.Task.{Task}
 use Rattle.scan_job.specs.declared.job.Task.TheVariants as tasks
 use Rattle.scan_job.specs.declared.outcome.Outcome.{Outcome}
@@ -24,23 +23,27 @@ use Rattle.scan_job.specs.declared.outcome.Why.{Why}
 use Rattle.scan_job.specs.declared.outcome.Why.TheVariants as whys
 use Rattle.scan_job.specs.declared.report.Reports.{Reports}
 use Rattle.client_replies.specs.declared.progress.JobTarget.{JobTarget}
-use Rattle.client_replies.specs.declared.progress.Link.TheVariants as links
 use Rattle.client_replies.specs.declared.progress.Progress.{Progress}
 use Rattle.client_replies.specs.declared.progress.Notes.{Notes}
 use Rattle.scan_job.specs.declared.stop.Stop.{Stop}
 use Rattle.client_replies.proofs.Fitting.{may_end}
 use Rattle.client_replies.specs.ReplyTurns.{stop_unjoined, frame_ended_by, status_of}
-use Rattle.client_replies.specs.ProtocolStates.{ProtocolState, target_of, is_running, is_ended, is_batch, is_lost_by, turns, next_outcome, HistoryFits, FitsEnded}
+use Rattle.client_replies.specs.ProtocolStates.{ProtocolState, target_of, is_running, is_ended, is_batch, turns, next_outcome, HistoryFits, FitsEnded}
 use Rattle.net_client.specs.ClientStates.{ClientState, ClientRepresents, IsNewClient, after_client_end}
 use Rattle.net_jobs.specs.JobTraces.{TraceEvent, Replied, Opened, Came, Finished, Gave, Turned, JobTrace, BytesMatchTrace, EventsLead, EndWell}
-use Rattle.net_jobs.specs.Links.{Calls, Wrote, Failed, HasBrought, BeginWith}
-use Rattle.net_jobs.specs.RunInvariants.{LinkMatchesTrace, ClientFollowsTrace, Falls, GivenFiles, no_files_given, RunInvariant, FullRunInvariant, EndsBy, ByLoss, ByMemory, ByGarble, ByLength}
-use Rattle.net_jobs.specs.RunPromises.{RanWithTrace, RanDone, RanEnded, HasRun, HasRefusal, StopsAs}
-use Rattle.net_jobs.specs.NetDraining.{HoldsGiven, IsDrainedTo}
-use Rattle.scan_job.specs.FileOutputs.{StopsShort}
+use Rattle.net_jobs.specs.JobJournal.{JobMove, GivesAll, MovesLead, WritesShort, Writes, Fails, given_by, bytes_written_by, heard_by, dialled_by, has_write_failed}
+use Rattle.net_jobs.specs.Links.{JobLinks, LinkViews, views_of, Calls, Called, HasBrought, BeginWith}
+use Rattle.net_jobs.specs.TurnSteps.{CallNotes, NotesMatch, HasRunNoted, no_notes, TakesLeave, Silent, Whole, Short}
+use Rattle.net_jobs.proofs.InvariantRecords.{LinkMatchesTrace, ClientFollowsTrace, Falls, GivenFiles, no_files_given, RunInvariant, FullRunInvariant, AsksPorts}
+use Rattle.net_jobs.specs.RunPromises.{JobStreams, SeenStreams, RefusesJob, EndsBy, ByLoss, ByMemory, ByGarble, ByLength, HasEndingCause, RanWithTrace, RanDone, RanEnded, StopsAs}
+use Rattle.net_jobs.specs.NetDraining.{HoldsGiven, IsDrainedTo, StopsBehind}
 use Rattle.net_jobs.proofs.Tracing.{did_quiet}
-use Rattle.net_jobs.proofs.KeepingInvariant.{lets_go}
-use Rattle.net_jobs.proofs.RunInvariants.{stage_wrote, stage_cut, going_begun}
+use Rattle.net_jobs.proofs.KeepingInvariant.{lets_go, stage_on}
+use Rattle.net_jobs.specs.Outputs.{files_text}
+use Rattle.net_jobs.proofs.FileNumbers.{IsFew, counts}
+use Rattle.net_jobs.proofs.RunInvariants.{stage_wrote, going_begun, gave_on}
+use Rattle.net_jobs.proofs.Turning.{some_left}
+use Rattle.net_jobs.proofs.Asking.{asked_for}
 use Rattle.net_jobs.proofs.DataLoop.{receiving_runs}
 use Rattle.net_jobs.proofs.Refusing.{course_refuses}
 
@@ -64,11 +67,11 @@ turning_runs (Ended status why) progress e = absurd (let clash : false ≡ true 
 pub ends_well : (target : JobTarget) (first : JobTrace) (events : List TraceEvent) (trace : JobTrace) → EventsLead target first events trace → is_ended trace.protocol.outcome ≡ false → EndWell events
 ends_well target first [] trace r e = tt
 ends_well target first (Replied x ∷ before) trace r e = ends_well target first before r.0 r.1 (runs_on r.0.protocol.outcome r.2.2)
-ends_well target first (Opened ∷ before) trace r e = ends_well target first before r.0 r.1 (runs_on r.0.protocol.outcome r.2.0)
+ends_well target first (Opened port ∷ before) trace r e = ends_well target first before r.0 r.1 (runs_on r.0.protocol.outcome r.2.0)
 ends_well target first (Came bytes ∷ before) trace r e = ends_well target first before r.0 r.1 (runs_on r.0.protocol.outcome r.2.1)
 ends_well target first (Finished status ∷ before) trace r e = (
   eof_only target.task r.0.protocol.notes r.0.protocol.notes.file r.0.protocol.history (status_of status) (ap (λ (c : JobTrace). is_ended c.protocol.outcome) (sym r.2.7) ∙ e),
-  ends_well target first before r.0 r.1 (runs_on r.0.protocol.outcome r.2.3),
+  ends_well target first before r.0 r.1 (runs_on r.0.protocol.outcome (receiving_runs r.0.protocol.outcome r.0.protocol.progress r.2.3)),
 )
 ends_well target first (Turned bytes ∷ before) trace r e = ends_well target first before r.0 r.1 (turning_runs r.0.protocol.outcome r.0.protocol.progress r.2.1)
 ends_well target first (Gave bytes ∷ before) trace r e = ends_well target first before r.0 r.1 (ap (λ (c : JobTrace). is_ended c.protocol.outcome) (sym r.2) ∙ e)
@@ -98,11 +101,11 @@ gave_linked left_of coming0 coming streams (Some conn) c join past bytes l = rec
 abbrev pub more_given : GivenFiles → List ℕ → GivenFiles
 more_given given bytes = record { pages = given.pages; bytes = given.bytes ++ bytes }
 
-pub stage_gave_by : {R : Type 0} (left_of : R → Option (List ℕ)) (job : Job) (read_ wrote left : List ℕ) (coming0 coming : Option (List (List ℕ))) (given : GivenFiles) (bytes : List ℕ) (stream : Option R) (c : ClientState) (join : JoinState)
-    → c.target ≡ target_of job → (past : JoinHistory) → past.given ≡ given.bytes → ClientRepresents (after_pull bytes past) (record c { join = join }) → (trace : JobTrace) (rest : List ℕ) → trace.pages ≡ given.pages → BytesMatchTrace job trace read_ wrote rest left
-    → ClientFollowsTrace left_of coming0 coming trace rest stream c past ⊎ Falls coming0 coming trace rest c
-    → (s : RunInvariant left_of job read_ wrote left coming0 coming (more_given given bytes) stream (record c { join = join })) × (s.history ≡ after_pull bytes past)
-stage_gave_by left_of job read_ wrote left coming0 coming given bytes stream c join target past given_is serves trace rest pages_is did (inl f) = (
+pub stage_gave_by : {R : Type 0} (left_of : R → Option (List ℕ)) (job : Job) (moves : List JobMove) (read_ wrote left : List ℕ) (coming0 coming : Option (List (List ℕ))) (given : GivenFiles) (bytes : List ℕ) (stream : Option R) (c : ClientState) (join : JoinState)
+    → c.target ≡ target_of job → (past : JoinHistory) → past.given ≡ given.bytes → ClientRepresents (after_pull bytes past) (record c { join = join }) → (trace : JobTrace) (rest : List ℕ) → trace.pages ≡ given.pages → (did : BytesMatchTrace job trace read_ wrote rest left) → AsksPorts (dialled_by moves) did.events trace.protocol c.outcome
+    → ClientFollowsTrace left_of coming0 coming trace rest stream c past ⊎ Falls moves coming0 coming trace rest c
+    → (s : RunInvariant left_of job moves read_ wrote left coming0 coming (more_given given bytes) stream (record c { join = join })) × (s.history ≡ after_pull bytes past)
+stage_gave_by left_of job moves read_ wrote left coming0 coming given bytes stream c join target past given_is serves trace rest pages_is did asked (inl f) = (
   record {
     target = target;
     history = after_pull bytes past;
@@ -112,6 +115,7 @@ stage_gave_by left_of job read_ wrote left coming0 coming given bytes stream c j
     pages_is = pages_is;
     rest = rest;
     did = did_quiet job trace (gave_course trace bytes) (Gave bytes) read_ wrote rest left refl refl refl did;
+    asked = asked;
     stands = inl (record {
       protocol_is = ap (λ (t : ProtocolState). record t { history = after_pull bytes t.history }) f.protocol_is;
       rest_is = f.rest_is;
@@ -120,7 +124,7 @@ stage_gave_by left_of job read_ wrote left coming0 coming given bytes stream c j
   },
   refl,
 )
-stage_gave_by left_of job read_ wrote left coming0 coming given bytes stream c join target past given_is serves trace rest pages_is did (inr f) = (
+stage_gave_by left_of job moves read_ wrote left coming0 coming given bytes stream c join target past given_is serves trace rest pages_is did asked (inr f) = (
   record {
     target = target;
     history = after_pull bytes past;
@@ -130,6 +134,7 @@ stage_gave_by left_of job read_ wrote left coming0 coming given bytes stream c j
     pages_is = pages_is;
     rest = rest;
     did = did;
+    asked = asked;
     stands = inr (record {
       cause = f.cause;
       is_over = f.is_over;
@@ -146,17 +151,17 @@ stage_gave_by left_of job read_ wrote left coming0 coming given bytes stream c j
 
 -- ---- between two turns: how far the job is, and that the output holds what was given of the file; all of it, or not yet
 
-pub record Drained {C R : Type 0} (remaining contents : C → Option (List ℕ)) (left_of : R → Option (List ℕ)) (job : Job) (first : C) (coming0 : Option (List (List ℕ))) (held : Option (List ℕ)) (failed whole : Bool) (control : C) (coming : Option (List (List ℕ))) (stream : Option R) (c : ClientState) (holds : Option (List ℕ)) : Type 0 where
+pub record Drained {C R : Type 0} (views : LinkViews C) (left_of : R → Option (List ℕ)) (job : Job) (first : C) (coming0 : Option (List (List ℕ))) (held : Option (List ℕ)) (notes : CallNotes) (whole : Bool) (control : C) (coming : Option (List (List ℕ))) (stream : Option R) (c : ClientState) (holds : Option (List ℕ)) : Type 0 where
   pub given : GivenFiles
-  pub going : FullRunInvariant remaining contents left_of job first coming0 given failed control coming stream c
+  pub going : FullRunInvariant views left_of job first coming0 given notes control coming stream c
   pub taken : Appends held holds given.bytes
   pub none : (job.task ≡ tasks.Scan → ⊥) → given.bytes ≡ []
   pub shown : whole ≡ true → job.task ≡ tasks.Scan → is_ended c.outcome ≡ false → IsJoined going.stage.history → (p : Picture) → ShowsFrames going.stage.history.ended p → Denotes given.bytes p
 
-pub drained_first : {C R : Type 0} (remaining contents : C → Option (List ℕ)) (left_of : R → Option (List ℕ)) (job : Job) (control : C) (coming : Option (List (List ℕ))) (held : Option (List ℕ)) (c : ClientState) → IsNewClient job c
-    → Drained remaining contents left_of job control coming held false false control coming None c held
-drained_first remaining contents left_of job control coming held c f =
-    let g = going_begun remaining contents left_of job control coming c f in
+pub drained_first : {C R : Type 0} (views : LinkViews C) (left_of : R → Option (List ℕ)) (job : Job) (control : C) (coming : Option (List (List ℕ))) (held : Option (List ℕ)) (c : ClientState) → IsNewClient job c
+    → Drained views left_of job control coming held no_notes false control coming None c held
+drained_first views left_of job control coming held c f =
+    let g = going_begun views left_of job control coming c f in
     record {
       given = no_files_given;
       going = g.0;
@@ -165,37 +170,35 @@ drained_first remaining contents left_of job control coming held c f =
       shown = λ w scan alive joined. absurd (let clash : Ok false ≡ Ok true = subst (λ (q : JoinHistory). IsJoined q) g.1 joined in cc);
     }
 
-drained_at : {C R : Type 0} (remaining contents : C → Option (List ℕ)) (left_of : R → Option (List ℕ)) (job : Job) (first : C) (coming0 : Option (List (List ℕ))) (held : Option (List ℕ)) (failed : Bool) (control : C) (coming : Option (List (List ℕ))) (stream : Option R) (c now : ClientState) (was holds : Option (List ℕ)) (given : GivenFiles)
-    → job.task ≡ tasks.Scan → (g : FullRunInvariant remaining contents left_of job first coming0 given failed control coming stream c) → (d : IsDrainedTo g.stage.history c held now holds)
-    → (s : RunInvariant left_of job g.read_ g.wrote g.left coming0 coming (more_given given d.bytes) stream (record c { join = now.join })) → s.history ≡ after_pull d.bytes g.stage.history
-    → Drained remaining contents left_of job first coming0 held failed true control coming stream now holds
-drained_at {C} {R} remaining contents left_of job first coming0 held failed control coming stream c now was holds given scan g d s past_is =
-    subst (λ (v : ClientState). Drained remaining contents left_of job first coming0 held failed true control coming stream v holds) (sym d.rest) (record {
-      given = more_given given d.bytes;
-      going = record { read_ = g.read_; wrote = g.wrote; left = g.left; calls = g.calls; stage = s; left_is = g.left_is };
-      taken = subst (λ (l : List ℕ). Appends held holds (l ++ d.bytes)) g.stage.given_is d.taken;
+-- a turn in which the output took what was given
+pub drained_more : {C R : Type 0} (views : LinkViews C) (left_of : R → Option (List ℕ)) (job : Job) (first : C) (coming0 : Option (List (List ℕ))) (held : Option (List ℕ)) (notes : CallNotes) (control : C) (coming : Option (List (List ℕ))) (stream : Option R) (c now : ClientState) (was holds : Option (List ℕ)) (given : GivenFiles) (gives : List JobMove)
+    → job.task ≡ tasks.Scan → Appends held was given.bytes → (g : FullRunInvariant views left_of job first coming0 given notes control coming stream c) → GivesAll c gives now
+    → ((first : Option (List ℕ)) (past : JoinHistory) → HoldsGiven past c first was → IsDrainedTo past c first (given_by gives) now holds)
+    → Drained views left_of job first coming0 held notes true control coming stream now holds
+drained_more {C} {R} views left_of job first coming0 held notes control coming stream c now was holds given gives scan taken g all drains =
+    let s = g.stage in
+    let bytes : List ℕ = given_by gives in
+    let d = drains held s.history (record { scan = ap (λ (e : JobTarget). e.task) s.target ∙ scan; serves = s.serves; taken = subst (λ (l : List ℕ). Appends held was l) (sym s.given_is) taken }) in
+    let serves = subst (λ (v : ClientState). ClientRepresents (after_pull bytes s.history) v) d.rest d.serves in
+    let gave = stage_gave_by left_of job g.moves (heard_by g.moves) (bytes_written_by g.moves) g.left coming0 coming given bytes stream c now.join s.target s.history s.given_is serves s.trace s.rest s.pages_is s.did s.asked s.stands in
+    let at = subst (λ (v : ClientState). (t : RunInvariant left_of job g.moves (heard_by g.moves) (bytes_written_by g.moves) g.left coming0 coming (more_given given bytes) stream v) × (t.history ≡ after_pull bytes s.history)) (sym d.rest) gave in
+    let h = gave_on views left_of job first coming0 given (more_given given bytes) notes control coming stream c now gives g.left all g at.0 (λ e. g.left_is e ∙ sym (ap (λ (v : ClientState). v.out) d.rest)) (sym (append_assoc (files_text given.pages) given.bytes bytes)) in
+    let past_is = h.1 ∙ at.1 in
+    record {
+      given = more_given given bytes;
+      going = h.0;
+      taken = subst (λ (l : List ℕ). Appends held holds (l ++ bytes)) s.given_is d.taken;
       none = λ other. absurd (other scan);
       shown = λ w scans alive joined p shows.
-          subst (λ (l : List ℕ). Denotes (l ++ d.bytes) p) g.stage.given_is (d.denotes alive (subst (λ (q : JoinHistory). IsJoined q) past_is joined) p (subst (λ (q : JoinHistory). ShowsFrames q.ended p) past_is shows));
-    })
-
--- a turn in which the output took what was given
-pub drained_more : {C R : Type 0} (remaining contents : C → Option (List ℕ)) (left_of : R → Option (List ℕ)) (job : Job) (first : C) (coming0 : Option (List (List ℕ))) (held : Option (List ℕ)) (failed : Bool) (control : C) (coming : Option (List (List ℕ))) (stream : Option R) (c now : ClientState) (was holds : Option (List ℕ)) (given : GivenFiles)
-    → job.task ≡ tasks.Scan → Appends held was given.bytes → (g : FullRunInvariant remaining contents left_of job first coming0 given failed control coming stream c)
-    → ((past : JoinHistory) → HoldsGiven past c held was → IsDrainedTo past c held now holds)
-    → Drained remaining contents left_of job first coming0 held failed true control coming stream now holds
-drained_more {C} {R} remaining contents left_of job first coming0 held failed control coming stream c now was holds given scan taken g drains =
-    let s = g.stage in
-    let d = drains s.history (record { scan = ap (λ (e : JobTarget). e.task) s.target ∙ scan; serves = s.serves; taken = subst (λ (l : List ℕ). Appends held was l) (sym s.given_is) taken }) in
-    let serves = subst (λ (v : ClientState). ClientRepresents (after_pull d.bytes s.history) v) d.rest d.serves in
-    let gave = stage_gave_by left_of job g.read_ g.wrote g.left coming0 coming given d.bytes stream c now.join s.target s.history s.given_is serves s.trace s.rest s.pages_is s.did s.stands in
-    drained_at remaining contents left_of job first coming0 held failed control coming stream c now was holds given scan g d gave.0 gave.1
+          subst (λ (l : List ℕ). Denotes (l ++ bytes) p) s.given_is
+          (d.denotes (sym (ap (λ (v : ClientState). is_ended v.outcome) d.rest) ∙ alive) (subst (λ (q : JoinHistory). IsJoined q) past_is joined) p (subst (λ (q : JoinHistory). ShowsFrames q.ended p) past_is shows));
+    }
 
 -- one that writes nothing
-pub drained_none : {C R : Type 0} (remaining contents : C → Option (List ℕ)) (left_of : R → Option (List ℕ)) (job : Job) (first : C) (coming0 : Option (List (List ℕ))) (held : Option (List ℕ)) (failed : Bool) (control : C) (coming : Option (List (List ℕ))) (stream : Option R) (c : ClientState) (holds : Option (List ℕ)) (given : GivenFiles)
-    → (job.task ≡ tasks.Scan → ⊥) → given.bytes ≡ [] → Appends held holds given.bytes → FullRunInvariant remaining contents left_of job first coming0 given failed control coming stream c
-    → Drained remaining contents left_of job first coming0 held failed true control coming stream c holds
-drained_none remaining contents left_of job first coming0 held failed control coming stream c holds given other none taken g = record {
+pub drained_none : {C R : Type 0} (views : LinkViews C) (left_of : R → Option (List ℕ)) (job : Job) (first : C) (coming0 : Option (List (List ℕ))) (held : Option (List ℕ)) (notes : CallNotes) (control : C) (coming : Option (List (List ℕ))) (stream : Option R) (c : ClientState) (holds : Option (List ℕ)) (given : GivenFiles)
+    → (job.task ≡ tasks.Scan → ⊥) → given.bytes ≡ [] → Appends held holds given.bytes → FullRunInvariant views left_of job first coming0 given notes control coming stream c
+    → Drained views left_of job first coming0 held notes true control coming stream c holds
+drained_none views left_of job first coming0 held notes control coming stream c holds given other none taken g = record {
   given = given;
   going = g;
   taken = taken;
@@ -203,126 +206,144 @@ drained_none remaining contents left_of job first coming0 held failed control co
   shown = λ w scan alive joined p shows. absurd (other scan);
 }
 
-pub drained_as : {C R : Type 0} {whole : Bool} (remaining contents : C → Option (List ℕ)) (left_of : R → Option (List ℕ)) (job : Job) (first : C) (coming0 : Option (List (List ℕ))) (held : Option (List ℕ)) (failed other : Bool) (control : C) (coming : Option (List (List ℕ))) (stream : Option R) (c : ClientState) (holds : Option (List ℕ)) → failed ≡ other
-    → Drained remaining contents left_of job first coming0 held failed whole control coming stream c holds → Drained remaining contents left_of job first coming0 held other whole control coming stream c holds
-drained_as {whole = whole} remaining contents left_of job first coming0 held failed other control coming stream c holds e d = subst (λ (b : Bool). Drained remaining contents left_of job first coming0 held b whole control coming stream c holds) e d
-
--- the control connection is lost, if the job runs
-pub cut_out : (runs : Bool) (c new : ClientState) → new ≡ (if runs then after_client_end statuses.IoError whys.Lost c else c) → new.out ≡ c.out
-cut_out true c new e = ap (λ (v : ClientState). v.out) e
-cut_out false c new e = ap (λ (v : ClientState). v.out) e
-
-pub cut_alive : (runs : Bool) (c new : ClientState) → new ≡ (if runs then after_client_end statuses.IoError whys.Lost c else c) → is_ended new.outcome ≡ false → is_ended c.outcome ≡ false
-cut_alive true c new e alive = absurd (let clash : true ≡ false = sym (ap (λ (v : ClientState). is_ended v.outcome) e) ∙ alive in cc)
-cut_alive false c new e alive = ap (λ (v : ClientState). is_ended v.outcome) (sym e) ∙ alive
-
-cut_over_by : (runs : Bool) (c new : ClientState) → is_running c.outcome ≡ runs → new ≡ (if runs then after_client_end statuses.IoError whys.Lost c else c) → is_running new.outcome ≡ false
-cut_over_by true c new running e = ap (λ (v : ClientState). is_running v.outcome) e
-cut_over_by false c new running e = ap (λ (v : ClientState). is_running v.outcome) e ∙ running
-
-pub cut_over : (c new : ClientState) → new ≡ (if is_lost_by links.Control c.outcome c.progress then after_client_end statuses.IoError whys.Lost c else c) → is_running new.outcome ≡ false
-cut_over c new e = cut_over_by (is_running c.outcome) c new refl e
-
-pub drained_cut : {C R : Type 0} {whole : Bool} (remaining contents : C → Option (List ℕ)) (left_of : R → Option (List ℕ)) (job : Job) (first : C) (coming0 : Option (List (List ℕ))) (held : Option (List ℕ)) (failed : Bool) (control : C) (coming : Option (List (List ℕ))) (stream : Option R) (c new : ClientState) (holds : Option (List ℕ))
-    → new ≡ (if is_lost_by links.Control c.outcome c.progress then after_client_end statuses.IoError whys.Lost c else c)
-    → Drained remaining contents left_of job first coming0 held failed whole control coming stream c holds → Drained remaining contents left_of job first coming0 held failed whole control coming stream new holds
-drained_cut remaining contents left_of job first coming0 held failed control coming stream c new holds lost d =
-    let g = d.going in
-    let s = stage_cut left_of job g.read_ g.wrote g.left coming0 coming d.given stream c new lost g.stage in
-    record {
-      given = d.given;
-      going = record { read_ = g.read_; wrote = g.wrote; left = g.left; calls = g.calls; stage = s.0; left_is = λ e. g.left_is e ∙ sym (cut_out (is_running c.outcome) c new lost) };
-      taken = d.taken;
-      none = d.none;
-      shown = λ w scan alive joined p shows. d.shown w scan (cut_alive (is_running c.outcome) c new lost alive) (subst (λ (q : JoinHistory). IsJoined q) s.1 joined) p (subst (λ (q : JoinHistory). ShowsFrames q.ended p) s.1 shows);
-    }
-
 -- ---- the end
 
 -- what a job that is over did, before its outcome is told
-pub record Closed {C R : Type 0} (remaining contents : C → Option (List ℕ)) (left_of : R → Option (List ℕ)) (job : Job) (first : C) (coming0 : Option (List (List ℕ))) (held : Option (List ℕ)) (whole : Bool) (control : C) (coming : Option (List (List ℕ))) (stream : Option R) (c : ClientState) (holds : Option (List ℕ)) : Type 0 where
+pub record Closed {C R : Type 0} (views : LinkViews C) (left_of : R → Option (List ℕ)) (job : Job) (first : C) (coming0 : Option (List (List ℕ))) (held : Option (List ℕ)) (notes : CallNotes) (whole : Bool) (control : C) (coming : Option (List (List ℕ))) (stream : Option R) (c : ClientState) (holds : Option (List ℕ)) : Type 0 where
   pub given : GivenFiles
-  pub read_ : List ℕ
-  pub wrote : List ℕ
+  pub moves : List JobMove
   pub left : List ℕ
-  pub failed : Bool
-  pub calls : Calls remaining contents first read_ wrote failed control
-  pub stage : RunInvariant left_of job read_ wrote left coming0 coming given stream c
-  pub all : failed ≡ false → left ≡ []
+  pub calls : Calls views first moves control
+  pub stage : RunInvariant left_of job moves (heard_by moves) (bytes_written_by moves) left coming0 coming given stream c
+  pub notes_are : NotesMatch moves notes
+  pub fresh : ClientState
+  pub last : ClientState
+  pub is_fresh : IsNewClient job fresh
+  pub leads : MovesLead fresh moves last
+  pub ends : last.outcome ≡ c.outcome
+  pub gave : files_text given.pages ++ given.bytes ≡ given_by moves
+  pub all : has_write_failed moves ≡ false → left ≡ []
   pub taken : Appends held holds given.bytes
   pub none : (job.task ≡ tasks.Scan → ⊥) → given.bytes ≡ []
   pub shown : whole ≡ true → job.task ≡ tasks.Scan → is_ended c.outcome ≡ false → IsJoined stage.history → (p : Picture) → ShowsFrames stage.history.ended p → Denotes given.bytes p
 
--- the last bytes, or a front of them, were written
-closed_by : {C R : Type 0} {whole : Bool} (remaining contents : C → Option (List ℕ)) (left_of : R → Option (List ℕ)) (job : Job) (first : C) (coming0 : Option (List (List ℕ))) (held : Option (List ℕ)) (control now : C) (coming : Option (List (List ℕ))) (stream : Option R) (c : ClientState) (holds : Option (List ℕ)) (n : ℕ) (short : Bool)
-    → nat_lt n (length c.out) ≡ short → n ≤ length c.out → Appends (contents control) (contents now) (take n c.out) → (d : Drained remaining contents left_of job first coming0 held false whole control coming stream c holds)
-    → (s : RunInvariant left_of job d.going.read_ (d.going.wrote ++ take n c.out) (drop n c.out) coming0 coming d.given stream c) → s.history ≡ d.going.stage.history
-    → Closed remaining contents left_of job first coming0 held whole now coming stream c holds
-closed_by remaining contents left_of job first coming0 held control now coming stream c holds n true short within took d s same = record {
-  given = d.given;
-  read_ = d.going.read_;
-  wrote = d.going.wrote ++ take n c.out;
-  left = drop n c.out;
-  failed = true;
-  calls = Failed d.going.read_ d.going.wrote false control now (take n c.out) d.going.calls took;
-  stage = s;
-  all = λ e. absurd (let clash : true ≡ false = e in cc);
-  taken = d.taken;
-  none = d.none;
-  shown = λ w scan alive joined p shows. d.shown w scan alive (subst (λ (q : JoinHistory). IsJoined q) same joined) p (subst (λ (q : JoinHistory). ShowsFrames q.ended p) same shows);
-}
-closed_by remaining contents left_of job first coming0 held control now coming stream c holds n false short within took d s same = record {
-  given = d.given;
-  read_ = d.going.read_;
-  wrote = d.going.wrote ++ take n c.out;
-  left = drop n c.out;
-  failed = false;
-  calls = Wrote d.going.read_ d.going.wrote false control now (take n c.out) d.going.calls took;
-  stage = s;
-  all = λ e. drop_all n c.out (ltb-false n (length c.out) short);
-  taken = d.taken;
-  none = d.none;
-  shown = λ w scan alive joined p shows. d.shown w scan alive (subst (λ (q : JoinHistory). IsJoined q) same joined) p (subst (λ (q : JoinHistory). ShowsFrames q.ended p) same shows);
-}
+-- how leave was taken of the daemon, by its links
+pub data Leaves {L : Type 0} (views : LinkViews L) (was : L) (before : CallNotes) (out : List ℕ) (now : L) (behind : CallNotes) : Type 0 where
+  PartedBefore : before.write_failed ≡ true → now ≡ was → behind ≡ before → Leaves views was before out now behind
+  PartsWhole : before.write_failed ≡ false → Called views was (Writes out) now → behind ≡ before → Leaves views was before out now behind
+  PartsShort : before.write_failed ≡ false → (n : ℕ) → n < length out → Called views was (Fails (take n out)) now → behind ≡ record before { write_failed = true } → Leaves views was before out now behind
 
-pub closed_left : {C R : Type 0} {whole : Bool} (remaining contents : C → Option (List ℕ)) (left_of : R → Option (List ℕ)) (job : Job) (first : C) (coming0 : Option (List (List ℕ))) (held : Option (List ℕ)) (control now : C) (coming : Option (List (List ℕ))) (stream : Option R) (c : ClientState) (holds : Option (List ℕ))
-    → (n : ℕ) × (n ≤ length c.out) × Appends (contents control) (contents now) (take n c.out) → Drained remaining contents left_of job first coming0 held false whole control coming stream c holds
-    → Closed remaining contents left_of job first coming0 held whole now coming stream c holds
-closed_left remaining contents left_of job first coming0 held control now coming stream c holds w d =
+pub leaves_links : {C D : Type 0} (remaining contents : C → Option (List ℕ)) (ports : D → Option (List ℕ)) (was now : C) (dial : D) (before behind : CallNotes) (out : List ℕ) → TakesLeave contents was before out now behind
+    → Leaves (views_of remaining contents ports) (record { control = was; dial = dial }) before out (record { control = now; dial = dial }) behind
+leaves_links {C} {D} remaining contents ports was now dial before behind out (Silent failed same notes) = PartedBefore failed (ap (λ (c : C). let l : JobLinks C D = record { control = c; dial = dial } in l) same) notes
+leaves_links remaining contents ports was now dial before behind out (Whole up took notes) = PartsWhole up (took, refl) notes
+leaves_links remaining contents ports was now dial before behind out (Short up n short took notes) = PartsShort up n short (took, refl) notes
+
+-- a write that fails changes nothing of how a job that is over has ended
+pub falls_short : (c : ClientState) (n : ℕ) → is_running c.outcome ≡ false → n < length c.out → WritesShort c (take n c.out) (record c { out = drop n c.out })
+falls_short c n over short =
+    let new : ClientState = record c { out = drop n c.out } in
+    record {
+      rest = drop n c.out;
+      front = sym (take-append-drop n c.out);
+      short = some_left n c.out short;
+      new_is = ap (λ (b : Bool). if b then after_client_end statuses.IoError whys.Lost new else new) (sym over);
+    }
+
+pub stops_over : (outcome : Outcome) (stop : Stop) → StopsAs outcome stop → is_running outcome ≡ false
+stops_over Running stop ends = absurd ends
+stops_over (Done reports) stop ends = refl
+stops_over (Ended status why) stop ends = refl
+
+-- leave was taken of the daemon: the last bytes were written
+pub closed_parted : {C R : Type 0} {whole : Bool} (views : LinkViews C) (left_of : R → Option (List ℕ)) (job : Job) (first : C) (coming0 : Option (List (List ℕ))) (held : Option (List ℕ)) (was now : CallNotes) (control then_ : C) (coming : Option (List (List ℕ))) (stream : Option R) (c : ClientState) (holds : Option (List ℕ))
+    → is_running c.outcome ≡ false → Leaves views control was c.out then_ now → (d : Drained views left_of job first coming0 held was whole control coming stream c holds)
+    → (e : Closed views left_of job first coming0 held now whole then_ coming stream c holds) × (e.given ≡ d.given)
+closed_parted {whole = whole} views left_of job first coming0 held was now control then_ coming stream c holds over (PartedBefore up same notes) d = (
+  record {
+    given = d.given;
+    moves = d.going.moves;
+    left = d.going.left;
+    calls = subst (λ x. Calls views first d.going.moves x) (sym same) d.going.calls;
+    stage = d.going.stage;
+    notes_are = subst (λ (n : CallNotes). NotesMatch d.going.moves n) (sym notes) d.going.notes_are;
+    fresh = d.going.fresh;
+    last = c;
+    is_fresh = d.going.is_fresh;
+    leads = d.going.leads;
+    ends = refl;
+    gave = d.going.gave;
+    all = λ e. absurd (let clash : true ≡ false = sym up ∙ sym d.going.notes_are.write_failed ∙ e in cc);
+    taken = d.taken;
+    none = d.none;
+    shown = d.shown;
+  },
+  refl,
+)
+closed_parted {whole = whole} views left_of job first coming0 held was now control then_ coming stream c holds over (PartsWhole up called notes) d =
     let g = d.going in
-    let s = stage_wrote left_of job g.read_ g.wrote g.left (take w.0 c.out) (drop w.0 c.out) coming0 coming d.given stream c c (g.left_is refl ∙ sym (take-append-drop w.0 c.out)) refl g.stage in
-    closed_by remaining contents left_of job first coming0 held control now coming stream c holds w.0 (nat_lt w.0 (length c.out)) refl w.1 w.2 d s.0 s.1
-
--- a write failed before
-pub closed_cut : {C R : Type 0} {whole : Bool} (remaining contents : C → Option (List ℕ)) (left_of : R → Option (List ℕ)) (job : Job) (first : C) (coming0 : Option (List (List ℕ))) (held : Option (List ℕ)) (control : C) (coming : Option (List (List ℕ))) (stream : Option R) (c : ClientState) (holds : Option (List ℕ))
-    → Drained remaining contents left_of job first coming0 held true whole control coming stream c holds → Closed remaining contents left_of job first coming0 held whole control coming stream c holds
-closed_cut remaining contents left_of job first coming0 held control coming stream c holds d = record {
-  given = d.given;
-  read_ = d.going.read_;
-  wrote = d.going.wrote;
-  left = d.going.left;
-  failed = true;
-  calls = d.going.calls;
-  stage = d.going.stage;
-  all = λ e. absurd (let clash : true ≡ false = e in cc);
-  taken = d.taken;
-  none = d.none;
-  shown = d.shown;
-}
+    let s = stage_wrote left_of job g.moves (heard_by g.moves) (bytes_written_by g.moves) g.left c.out [] coming0 coming d.given stream c c (g.left_is up ∙ sym (append-nil c.out)) refl g.stage in
+    let t = stage_on left_of job g.moves (Writes c.out ∷ g.moves) (heard_by g.moves) (bytes_written_by g.moves ++ c.out) [] coming0 coming d.given stream c refl (λ l. l) s.0 in
+    let same = t.1 ∙ s.1 in (
+      record {
+        given = d.given;
+        moves = Writes c.out ∷ g.moves;
+        left = [];
+        calls = (control, g.calls, called);
+        stage = t.0;
+        notes_are = subst (λ (n : CallNotes). NotesMatch (Writes c.out ∷ g.moves) n) (sym notes) (record { loss = g.notes_are.loss; write_failed = g.notes_are.write_failed });
+        fresh = g.fresh;
+        last = record c { out = [] };
+        is_fresh = g.is_fresh;
+        leads = (c, g.leads, record { all = refl; new_is = refl });
+        ends = refl;
+        gave = g.gave;
+        all = λ e. refl;
+        taken = d.taken;
+        none = d.none;
+        shown = λ w scan alive joined p shows. d.shown w scan alive (subst (λ (q : JoinHistory). IsJoined q) same joined) p (subst (λ (q : JoinHistory). ShowsFrames q.ended p) same shows);
+      },
+      refl,
+    )
+closed_parted {whole = whole} views left_of job first coming0 held was now control then_ coming stream c holds over (PartsShort up n short called notes) d =
+    let g = d.going in
+    let s = stage_wrote left_of job g.moves (heard_by g.moves) (bytes_written_by g.moves) g.left (take n c.out) (drop n c.out) coming0 coming d.given stream c c (g.left_is up ∙ sym (take-append-drop n c.out)) refl g.stage in
+    let t = stage_on left_of job g.moves (Fails (take n c.out) ∷ g.moves) (heard_by g.moves) (bytes_written_by g.moves ++ take n c.out) (drop n c.out) coming0 coming d.given stream c refl (λ l. tt) s.0 in
+    let same = t.1 ∙ s.1 in (
+      record {
+        given = d.given;
+        moves = Fails (take n c.out) ∷ g.moves;
+        left = drop n c.out;
+        calls = (control, g.calls, called);
+        stage = t.0;
+        notes_are = subst (λ (x : CallNotes). NotesMatch (Fails (take n c.out) ∷ g.moves) x) (sym notes) (record { loss = g.notes_are.loss; write_failed = refl });
+        fresh = g.fresh;
+        last = record c { out = drop n c.out };
+        is_fresh = g.is_fresh;
+        leads = (c, g.leads, falls_short c n over short);
+        ends = refl;
+        gave = g.gave;
+        all = λ e. absurd (let clash : true ≡ false = e in cc);
+        taken = d.taken;
+        none = d.none;
+        shown = λ w scan alive joined p shows. d.shown w scan alive (subst (λ (q : JoinHistory). IsJoined q) same joined) p (subst (λ (q : JoinHistory). ShowsFrames q.ended p) same shows);
+      },
+      refl,
+    )
 
 -- ---- what such a job promises
 
 -- only what ends a job otherwise falls out of its trace
-not_done : (protocol : ProtocolState) (rest : List ℕ) (outcome : Outcome) (reports : Reports) → outcome ≡ Done reports → EndsBy protocol rest outcome → ⊥
-not_done protocol rest outcome reports e (ByLoss x) = let clash : Done reports ≡ Ended statuses.IoError whys.Lost = sym e ∙ x in cc
-not_done protocol rest outcome reports e (ByMemory x) = let clash : Done reports ≡ Ended statuses.NoMem whys.Memory = sym e ∙ x in cc
-not_done protocol rest outcome reports e (ByGarble procedure awaits no_start x) = let clash : Done reports ≡ Ended statuses.IoError whys.Malformed = sym e ∙ x in cc
-not_done protocol rest outcome reports e (ByLength frame bytes under long x) = let clash : Done reports ≡ Ended statuses.IoError whys.Long = sym e ∙ x in cc
+not_done : (moves : List JobMove) (protocol : ProtocolState) (rest : List ℕ) (outcome : Outcome) (reports : Reports) → outcome ≡ Done reports → EndsBy moves protocol rest outcome → ⊥
+not_done moves protocol rest outcome reports e (ByLoss loss x) = let clash : Done reports ≡ Ended statuses.IoError whys.Lost = sym e ∙ x in cc
+not_done moves protocol rest outcome reports e (ByMemory x) = let clash : Done reports ≡ Ended statuses.NoMem whys.Memory = sym e ∙ x in cc
+not_done moves protocol rest outcome reports e (ByGarble procedure awaits no_start x) = let clash : Done reports ≡ Ended statuses.IoError whys.Malformed = sym e ∙ x in cc
+not_done moves protocol rest outcome reports e (ByLength frame bytes under long x) = let clash : Done reports ≡ Ended statuses.IoError whys.Long = sym e ∙ x in cc
 
-pub followed : {R : Type 0} (left_of : R → Option (List ℕ)) (coming0 coming : Option (List (List ℕ))) (trace : JobTrace) (rest : List ℕ) (stream : Option R) (c : ClientState) (past : JoinHistory) (reports : Reports) → c.outcome ≡ Done reports
-    → ClientFollowsTrace left_of coming0 coming trace rest stream c past ⊎ Falls coming0 coming trace rest c → ClientFollowsTrace left_of coming0 coming trace rest stream c past
-followed left_of coming0 coming trace rest stream c past reports e (inl f) = f
-followed left_of coming0 coming trace rest stream c past reports e (inr f) = absurd (not_done trace.protocol rest c.outcome reports e f.cause)
+pub followed : {R : Type 0} (left_of : R → Option (List ℕ)) (moves : List JobMove) (coming0 coming : Option (List (List ℕ))) (trace : JobTrace) (rest : List ℕ) (stream : Option R) (c : ClientState) (past : JoinHistory) (reports : Reports) → c.outcome ≡ Done reports
+    → ClientFollowsTrace left_of coming0 coming trace rest stream c past ⊎ Falls moves coming0 coming trace rest c → ClientFollowsTrace left_of coming0 coming trace rest stream c past
+followed left_of moves coming0 coming trace rest stream c past reports e (inl f) = f
+followed left_of moves coming0 coming trace rest stream c past reports e (inr f) = absurd (not_done moves trace.protocol rest c.outcome reports e f.cause)
 
 -- no connection is open behind a job's end
 pub record Unopened (coming0 coming : Option (List (List ℕ))) (streams : List (List ℕ)) : Type 0 where
@@ -342,106 +363,155 @@ scan_joined : (outcome : Outcome) (progress : Progress) (past : JoinHistory) (ta
 scan_joined outcome progress past task reports scan done f =
     subst (λ (o : Outcome). HistoryFits tasks.Scan o progress past) done (subst (λ (t : Task). HistoryFits t outcome progress past) scan f)
 
-pub run_done : {C R : Type 0} (remaining contents : C → Option (List ℕ)) (left_of : R → Option (List ℕ)) (job : Job) (first : C) (coming0 : Option (List (List ℕ))) (held : Option (List ℕ)) (control : C) (coming : Option (List (List ℕ))) (stream : Option R) (c : ClientState) (holds : Option (List ℕ)) (reports : Reports)
-    → ((past : JoinHistory) (join : JoinState) → Represents past join → IsJoined past → (p : Picture) × ShowsFrames past.ended p) → c.outcome ≡ Done reports
-    → Closed remaining contents left_of job first coming0 held true control coming stream c holds → RanDone remaining contents job first coming0 control coming held holds (Done reports)
-run_done remaining contents left_of job first coming0 held control coming stream c holds reports shows done d =
+few_pages : (task : Task) → is_batch task ≡ false → HasCount task × ((n : ℕ) → IsFew task n → n ≡ 0)
+few_pages tasks.List single = (tt, λ n few. few)
+few_pages tasks.Show single = (tt, λ n few. few)
+few_pages tasks.SetOnly single = (tt, λ n few. few)
+few_pages tasks.Scan single = (tt, λ n few. few)
+few_pages (tasks.Batch count) single = absurd (let clash : true ≡ false = single in cc)
+
+no_pages : (pages : List JoinHistory) → length pages ≡ 0 → files_text pages ≡ []
+no_pages [] e = refl
+no_pages (page ∷ pages) e = absurd (omega (arith, e))
+
+-- a job that is no batch turns no page: all that was given is of one file
+pub one_file_given : (job : Job) (trace : JobTrace) (read_ wrote rest left : List ℕ) (given : GivenFiles) (gave : List ℕ) → is_batch job.task ≡ false → BytesMatchTrace job trace read_ wrote rest left → trace.pages ≡ given.pages → files_text given.pages ++ given.bytes ≡ gave → given.bytes ≡ gave
+one_file_given job trace read_ wrote rest left given gave single did pages e =
+    let few = few_pages job.task single in
+    let none = few.1 (length trace.pages) (counts job did.events trace few.0 did.runs).few in
+    sym (ap (λ (l : List ℕ). l ++ given.bytes) (no_pages given.pages (ap (λ (l : List JoinHistory). length l) (sym pages) ∙ none))) ∙ e
+
+pub run_done : {C R : Type 0} (views : LinkViews C) (left_of : R → Option (List ℕ)) (job : Job) (first : C) (coming0 : Option (List (List ℕ))) (held : Option (List ℕ)) (notes : CallNotes) (control : C) (coming : Option (List (List ℕ))) (stream : Option R) (c : ClientState) (holds : Option (List ℕ)) (reports : Reports)
+    → is_batch job.task ≡ false → ((past : JoinHistory) (join : JoinState) → Represents past join → IsJoined past → (p : Picture) × ShowsFrames past.ended p) → c.outcome ≡ Done reports
+    → (d : Closed views left_of job first coming0 held notes true control coming stream c holds)
+    → HasRunNoted views job (record { links = first; coming = coming0; output = held }) (record { links = control; coming = coming; output = holds }) (Done reports) notes
+run_done views left_of job first coming0 held notes control coming stream c holds reports single shows done d =
     let s = d.stage in
-    let f = followed left_of coming0 coming s.trace s.rest stream c s.history reports done s.stands in
+    let f = followed left_of d.moves coming0 coming s.trace s.rest stream c s.history reports done s.stands in
     let l = unopened left_of coming0 coming s.trace.streams stream c s.history (ap is_running done) f.linked in
-    let told : s.trace.protocol.outcome ≡ Done reports = ap (λ (t : ProtocolState). t.outcome) (sym f.protocol_is) ∙ done in
-    record {
-      ran = record {
-        read_ = d.read_;
-        wrote = d.wrote;
-        rest = s.rest;
-        left = d.left;
-        failed = d.failed;
-        trace = s.trace;
-        calls = d.calls;
-        did = s.did;
-        wholes = l.wholes;
-        unread = [];
-        begin = l.begin;
-        brought = subst (λ (w : List (List ℕ)). HasBrought coming0 coming w) (sym (append-nil l.wholes)) l.brought;
-        few = omega arith;
-      };
-      told = told;
-      all = d.all;
-      read_all = refl;
-      end_well = ends_well (target_of job) _ s.did.events s.trace s.did.runs (ap is_ended told);
-      text = d.given.bytes;
-      taken = d.taken;
-      file = λ scan.
-          let joined = scan_joined c.outcome c.progress s.history c.target.task reports (task_is c job s.target ∙ scan) done s.serves.fits in
-          let p = shows s.history c.join s.serves.stands joined in
-          (p.0, subst (λ (q : JoinHistory). ShowsFrames q.ended p.0) (ap (λ (t : ProtocolState). t.history) f.protocol_is) p.1, d.shown refl scan (ap is_ended done) joined p.0 p.1);
-      none = d.none;
-    }
+    let told : s.trace.protocol.outcome ≡ Done reports = ap (λ (t : ProtocolState). t.outcome) (sym f.protocol_is) ∙ done in (
+      record {
+        single = single;
+        ran = record {
+          moves = d.moves;
+          first = d.fresh;
+          last = d.last;
+          fresh = d.is_fresh;
+          leads = d.leads;
+          rest = s.rest;
+          left = d.left;
+          trace = s.trace;
+          calls = d.calls;
+          did = s.did;
+          asked = asked_for job s.did.events s.trace (dialled_by d.moves) c.outcome s.did.runs s.asked;
+          wholes = l.wholes;
+          unread = [];
+          begin = l.begin;
+          brought = subst (λ (w : List (List ℕ)). HasBrought coming0 coming w) (sym (append-nil l.wholes)) l.brought;
+          few = omega arith;
+        };
+        told = told;
+        last_told = d.ends ∙ done;
+        all = d.all;
+        read_all = refl;
+        end_well = ends_well (target_of job) _ s.did.events s.trace s.did.runs (ap is_ended told);
+        text = d.given.bytes;
+        taken = d.taken;
+        gave = one_file_given job s.trace _ _ s.rest d.left d.given (given_by d.moves) single s.did s.pages_is d.gave;
+        file = λ scan.
+            let joined = scan_joined c.outcome c.progress s.history c.target.task reports (task_is c job s.target ∙ scan) done s.serves.fits in
+            let p = shows s.history c.join s.serves.stands joined in
+            (p.0, subst (λ (q : JoinHistory). ShowsFrames q.ended p.0) (ap (λ (t : ProtocolState). t.history) f.protocol_is) p.1, d.shown refl scan (ap is_ended done) joined p.0 p.1);
+        none = d.none;
+      },
+      d.notes_are,
+    )
 
 ended_unjoined : (task : Task) (past : JoinHistory) → is_batch task ≡ false → FitsEnded task past → IsJoined past → ⊥
 ended_unjoined (tasks.Batch count) past single f = absurd (let clash : true ≡ false = single in cc)
 ended_unjoined task past single f = f
 
 -- what a job did, whether it follows its trace or not
-pub ran_by : {C R : Type 0} (remaining contents : C → Option (List ℕ)) (left_of : R → Option (List ℕ)) (job : Job) (first : C) (coming0 : Option (List (List ℕ))) (control : C) (coming : Option (List (List ℕ))) (stream : Option R) (c : ClientState) (given : GivenFiles) (read_ wrote left : List ℕ) (failed : Bool)
-    → Calls remaining contents first read_ wrote failed control → (s : RunInvariant left_of job read_ wrote left coming0 coming given stream c)
-    → (stands : ClientFollowsTrace left_of coming0 coming s.trace s.rest stream c s.history ⊎ Falls coming0 coming s.trace s.rest c)
-    → (ran : RanWithTrace remaining contents job first coming0 control coming) × ((ran.trace.protocol.outcome ≡ c.outcome) ⊎ EndsBy ran.trace.protocol ran.rest c.outcome) × (ran.trace.pages ≡ given.pages)
-ran_by remaining contents left_of job first coming0 control coming stream c given read_ wrote left failed calls s (inl f) =
-    let l = lets_go left_of coming0 coming s.trace.streams stream c s.history f.linked in (
-      record {
-        read_ = read_;
-        wrote = wrote;
+pub record RanBy {L O : Type 0} (views : LinkViews L) (job : Job) (was now : SeenStreams L O) (outcome : Outcome) (given : GivenFiles) (moves : List JobMove) (left : List ℕ) : Type 0 where
+  pub ran : RanWithTrace views job was now
+  pub cause : (ran.trace.protocol.outcome ≡ outcome) ⊎ EndsBy ran.moves ran.trace.protocol ran.rest outcome
+  pub pages_is : ran.trace.pages ≡ given.pages
+  pub moves_is : ran.moves ≡ moves
+  pub left_is : ran.left ≡ left
+
+pub ran_by : {L O R : Type 0} (views : LinkViews L) (left_of : R → Option (List ℕ)) (job : Job) (was now : SeenStreams L O) (stream : Option R) (c : ClientState) (given : GivenFiles) (moves : List JobMove) (left : List ℕ) (fresh last : ClientState)
+    → IsNewClient job fresh → MovesLead fresh moves last → Calls views was.links moves now.links → (s : RunInvariant left_of job moves (heard_by moves) (bytes_written_by moves) left was.coming now.coming given stream c)
+    → (stands : ClientFollowsTrace left_of was.coming now.coming s.trace s.rest stream c s.history ⊎ Falls moves was.coming now.coming s.trace s.rest c)
+    → RanBy views job was now c.outcome given moves left
+ran_by views left_of job was now stream c given moves left fresh last is_fresh leads calls s (inl f) =
+    let l = lets_go left_of was.coming now.coming s.trace.streams stream c s.history f.linked in
+    record {
+      ran = record {
+        moves = moves;
+        first = fresh;
+        last = last;
+        fresh = is_fresh;
+        leads = leads;
         rest = s.rest;
         left = left;
-        failed = failed;
         trace = s.trace;
         calls = calls;
         did = s.did;
+        asked = asked_for job s.did.events s.trace (dialled_by moves) c.outcome s.did.runs s.asked;
         wholes = l.wholes;
         unread = l.unread;
         begin = l.begin;
         brought = l.brought;
         few = l.few;
-      },
-      inl (ap (λ (t : ProtocolState). t.outcome) (sym f.protocol_is)),
-      s.pages_is,
-    )
-ran_by remaining contents left_of job first coming0 control coming stream c given read_ wrote left failed calls s (inr f) = (
-  record {
-    read_ = read_;
-    wrote = wrote;
+      };
+      cause = inl (ap (λ (t : ProtocolState). t.outcome) (sym f.protocol_is));
+      pages_is = s.pages_is;
+      moves_is = refl;
+      left_is = refl;
+    }
+ran_by views left_of job was now stream c given moves left fresh last is_fresh leads calls s (inr f) = record {
+  ran = record {
+    moves = moves;
+    first = fresh;
+    last = last;
+    fresh = is_fresh;
+    leads = leads;
     rest = s.rest;
     left = left;
-    failed = failed;
     trace = s.trace;
     calls = calls;
     did = s.did;
+    asked = asked_for job s.did.events s.trace (dialled_by moves) c.outcome s.did.runs s.asked;
     wholes = f.wholes;
     unread = f.unread;
     begin = f.begin;
     brought = f.brought;
     few = f.few;
-  },
-  inr f.cause,
-  s.pages_is,
-)
+  };
+  cause = inr f.cause;
+  pages_is = s.pages_is;
+  moves_is = refl;
+  left_is = refl;
+}
 
-pub cause_of : (protocol : ProtocolState) (rest : List ℕ) (outcome told : Outcome) → outcome ≡ told → (protocol.outcome ≡ outcome) ⊎ EndsBy protocol rest outcome → (protocol.outcome ≡ told) ⊎ (EndsBy protocol rest told ⊎ (told ≡ Ended statuses.IoError whys.Sink))
-cause_of protocol rest outcome told e (inl x) = inl (x ∙ e)
-cause_of protocol rest outcome told e (inr x) = inr (inl (subst (λ (o : Outcome). EndsBy protocol rest o) e x))
+pub cause_of : (moves : List JobMove) (protocol : ProtocolState) (rest : List ℕ) (outcome told : Outcome) → outcome ≡ told → (protocol.outcome ≡ outcome) ⊎ EndsBy moves protocol rest outcome → HasEndingCause moves protocol rest told
+cause_of moves protocol rest outcome told e (inl x) = inl (x ∙ e)
+cause_of moves protocol rest outcome told e (inr x) = inr (inl (subst (λ (o : Outcome). EndsBy moves protocol rest o) e x))
 
-cut_refuses : (protocol : ProtocolState) (rest : List ℕ) (outcome : Outcome) → EndsBy protocol rest outcome → HasRefusal outcome
-cut_refuses protocol rest outcome (ByLoss x) = subst HasRefusal (sym x) (λ e. cc)
-cut_refuses protocol rest outcome (ByMemory x) = subst HasRefusal (sym x) (λ e. cc)
-cut_refuses protocol rest outcome (ByGarble procedure awaits no_start x) = subst HasRefusal (sym x) (λ e. cc)
-cut_refuses protocol rest outcome (ByLength frame bytes under long x) = subst HasRefusal (sym x) (λ e. cc)
+-- a job that has ended otherwise has another status than GOOD
+abbrev pub HasRefusal : Outcome → Type 0
+HasRefusal outcome = IfEnded outcome (λ status why. status ≢ statuses.Good)
+
+cut_refuses : (moves : List JobMove) (protocol : ProtocolState) (rest : List ℕ) (outcome : Outcome) → EndsBy moves protocol rest outcome → HasRefusal outcome
+cut_refuses moves protocol rest outcome (ByLoss loss x) = subst HasRefusal (sym x) (λ e. cc)
+cut_refuses moves protocol rest outcome (ByMemory x) = subst HasRefusal (sym x) (λ e. cc)
+cut_refuses moves protocol rest outcome (ByGarble procedure awaits no_start x) = subst HasRefusal (sym x) (λ e. cc)
+cut_refuses moves protocol rest outcome (ByLength frame bytes under long x) = subst HasRefusal (sym x) (λ e. cc)
 
 -- however a job has ended otherwise, it has another status than GOOD
-pub ran_refuses : (job : Job) (trace : JobTrace) (read_ wrote rest left : List ℕ) (outcome : Outcome) → BytesMatchTrace job trace read_ wrote rest left → (trace.protocol.outcome ≡ outcome) ⊎ EndsBy trace.protocol rest outcome → HasRefusal outcome
-ran_refuses job trace read_ wrote rest left outcome did (inl e) = subst HasRefusal e (course_refuses job did.events trace did.runs)
-ran_refuses job trace read_ wrote rest left outcome did (inr by) = cut_refuses trace.protocol rest outcome by
+pub ran_refuses : (job : Job) (moves : List JobMove) (trace : JobTrace) (read_ wrote rest left : List ℕ) (outcome : Outcome) → BytesMatchTrace job trace read_ wrote rest left → (trace.protocol.outcome ≡ outcome) ⊎ EndsBy moves trace.protocol rest outcome → HasRefusal outcome
+ran_refuses job moves trace read_ wrote rest left outcome did (inl e) = subst HasRefusal e (course_refuses job did.events trace did.runs)
+ran_refuses job moves trace read_ wrote rest left outcome did (inr by) = cut_refuses moves trace.protocol rest outcome by
 
 pub sink_refuses : HasRefusal (Ended statuses.IoError whys.Sink)
 sink_refuses = λ e. cc
@@ -449,57 +519,55 @@ sink_refuses = λ e. cc
 pub memory_refuses : HasRefusal (Ended statuses.NoMem whys.Memory)
 memory_refuses = λ e. cc
 
-pub run_ended : {C R : Type 0} {whole : Bool} (remaining contents : C → Option (List ℕ)) (left_of : R → Option (List ℕ)) (job : Job) (first : C) (coming0 : Option (List (List ℕ))) (held : Option (List ℕ)) (control : C) (coming : Option (List (List ℕ))) (stream : Option R) (c : ClientState) (holds : Option (List ℕ)) (status : Status) (why : Why)
-    → is_batch job.task ≡ false → ((past : JoinHistory) (join : JoinState) → Represents past join → (IsJoined past → ⊥) → IsWhole past.given → ⊥) → c.outcome ≡ Ended status why
-    → Closed remaining contents left_of job first coming0 held whole control coming stream c holds → RanEnded remaining contents job first coming0 control coming held holds (Ended status why)
-run_ended remaining contents left_of job first coming0 held control coming stream c holds status why single law over d =
-    let s = d.stage in
-    let r = ran_by remaining contents left_of job first coming0 control coming stream c d.given d.read_ d.wrote d.left d.failed d.calls s s.stands in
-    let fits = subst (λ (o : Outcome). HistoryFits c.target.task o c.progress s.history) over s.serves.fits in
-    record {
-      ran = r.0;
-      cause = cause_of r.0.trace.protocol r.0.rest c.outcome (Ended status why) over r.1;
-      refusal = subst HasRefusal over (ran_refuses job r.0.trace r.0.read_ r.0.wrote r.0.rest r.0.left c.outcome r.0.did r.1);
-      text = d.given.bytes;
-      taken = d.taken;
-      not_whole = subst (λ (l : List ℕ). IsWhole l → ⊥) s.given_is (law s.history c.join s.serves.stands (ended_unjoined c.target.task s.history (ap is_batch (task_is c job s.target) ∙ single) fits));
-    }
-
-run_over : {C R : Type 0} (remaining contents : C → Option (List ℕ)) (left_of : R → Option (List ℕ)) (job : Job) (first : C) (coming0 : Option (List (List ℕ))) (held : Option (List ℕ)) (control : C) (coming : Option (List (List ℕ))) (stream : Option R) (c : ClientState) (holds : Option (List ℕ)) (outcome : Outcome)
-    → is_batch job.task ≡ false → ((past : JoinHistory) (join : JoinState) → Represents past join → (IsJoined past → ⊥) → IsWhole past.given → ⊥)
-    → ((past : JoinHistory) (join : JoinState) → Represents past join → IsJoined past → (p : Picture) × ShowsFrames past.ended p) → is_running outcome ≡ false → c.outcome ≡ outcome
-    → Closed remaining contents left_of job first coming0 held true control coming stream c holds → HasRun remaining contents job first coming0 control coming held holds outcome
-run_over remaining contents left_of job first coming0 held control coming stream c holds Running single law shows over e d = let clash : true ≡ false = over in cc
-run_over remaining contents left_of job first coming0 held control coming stream c holds (Done reports) single law shows over e d = run_done remaining contents left_of job first coming0 held control coming stream c holds reports shows e d
-run_over remaining contents left_of job first coming0 held control coming stream c holds (Ended status why) single law shows over e d = run_ended remaining contents left_of job first coming0 held control coming stream c holds status why single law e d
-
-pub has_run : {C R : Type 0} (remaining contents : C → Option (List ℕ)) (left_of : R → Option (List ℕ)) (job : Job) (first : C) (coming0 : Option (List (List ℕ))) (held : Option (List ℕ)) (control : C) (coming : Option (List (List ℕ))) (stream : Option R) (c : ClientState) (holds : Option (List ℕ)) (outcome : Outcome)
-    → is_batch job.task ≡ false → ((past : JoinHistory) (join : JoinState) → Represents past join → (IsJoined past → ⊥) → IsWhole past.given → ⊥)
-    → ((past : JoinHistory) (join : JoinState) → Represents past join → IsJoined past → (p : Picture) × ShowsFrames past.ended p) → is_running c.outcome ≡ false → outcome ≡ c.outcome
-    → Closed remaining contents left_of job first coming0 held true control coming stream c holds → HasRun remaining contents job first coming0 control coming held holds outcome
-has_run remaining contents left_of job first coming0 held control coming stream c holds outcome single law shows over e d =
-    run_over remaining contents left_of job first coming0 held control coming stream c holds outcome single law shows (ap is_running e ∙ over) (sym e) d
-
--- the output did not take the file
-pub run_sunk : {C R : Type 0} (remaining contents : C → Option (List ℕ)) (left_of : R → Option (List ℕ)) (job : Job) (first : C) (coming0 : Option (List (List ℕ))) (held was : Option (List ℕ)) (failed : Bool) (control : C) (coming : Option (List (List ℕ))) (stream : Option R) (c : ClientState) (holds : Option (List ℕ)) (given : GivenFiles)
-    → job.task ≡ tasks.Scan → Appends held was given.bytes → (g : FullRunInvariant remaining contents left_of job first coming0 given failed control coming stream c)
-    → ((past : JoinHistory) → HoldsGiven past c held was → StopsShort held holds)
-    → RanEnded remaining contents job first coming0 control coming held holds (Ended statuses.IoError whys.Sink)
-run_sunk remaining contents left_of job first coming0 held was failed control coming stream c holds given scan taken g stops =
-    let s = g.stage in
-    let r = ran_by remaining contents left_of job first coming0 control coming stream c given g.read_ g.wrote g.left failed g.calls s s.stands in
-    let short = stops s.history (record { scan = task_is c job s.target ∙ scan; serves = s.serves; taken = subst (λ (l : List ℕ). Appends held was l) (sym s.given_is) taken }) in
-    record { ran = r.0; cause = inr (inr refl); refusal = sink_refuses; text = short.text; taken = short.taken; not_whole = short.not_whole }
-
--- ---- a job whose last bytes are not given
-
 -- before the picture is whole, what was given is no whole file
 abbrev pub NoneBefore : Type 0
 NoneBefore = (past : JoinHistory) (join : JoinState) → Represents past join → (IsJoined past → ⊥) → IsWhole past.given → ⊥
 
+-- what is written to its end is so where no write failed
+pub all_written : (moves more : List JobMove) (left rest : List ℕ) → more ≡ moves → rest ≡ left → (has_write_failed moves ≡ false → left ≡ []) → has_write_failed more ≡ false → rest ≡ []
+all_written moves more left rest same left_is all up = left_is ∙ all (ap has_write_failed (sym same) ∙ up)
+
+pub run_ended : {L R : Type 0} {whole : Bool} (views : LinkViews L) (left_of : R → Option (List ℕ)) (job : Job) (first : L) (coming0 : Option (List (List ℕ))) (held : Option (List ℕ)) (notes : CallNotes) (links : L) (coming : Option (List (List ℕ))) (stream : Option R) (c : ClientState) (holds : Option (List ℕ)) (status : Status) (why : Why)
+    → is_batch job.task ≡ false → NoneBefore → c.outcome ≡ Ended status why
+    → Closed views left_of job first coming0 held notes whole links coming stream c holds → HasRunNoted views job (record { links = first; coming = coming0; output = held }) (record { links = links; coming = coming; output = holds }) (Ended status why) notes
+run_ended views left_of job first coming0 held notes links coming stream c holds status why single law over d =
+    let s = d.stage in
+    let r = ran_by views left_of job (record { links = first; coming = coming0; output = held }) (record { links = links; coming = coming; output = holds }) stream c d.given d.moves d.left d.fresh d.last d.is_fresh d.leads d.calls s s.stands in
+    let fits = subst (λ (o : Outcome). HistoryFits c.target.task o c.progress s.history) over s.serves.fits in (
+      record {
+        single = single;
+        ran = r.ran;
+        cause = cause_of r.ran.moves r.ran.trace.protocol r.ran.rest c.outcome (Ended status why) over r.cause;
+        all = λ other. all_written d.moves r.ran.moves d.left r.ran.left r.moves_is r.left_is d.all;
+        refusal = subst HasRefusal over (ran_refuses job r.ran.moves r.ran.trace _ _ r.ran.rest r.ran.left c.outcome r.ran.did r.cause);
+        text = d.given.bytes;
+        taken = d.taken;
+        behind = [];
+        gave = one_file_given job s.trace _ _ s.rest d.left d.given (given_by d.moves) single s.did s.pages_is d.gave ∙ ap (λ (m : List JobMove). given_by m) (sym r.moves_is) ∙ sym (append-nil (given_by r.ran.moves));
+        none_behind = λ other. refl;
+        not_whole = subst (λ (l : List ℕ). IsWhole l → ⊥) s.given_is (law s.history c.join s.serves.stands (ended_unjoined c.target.task s.history (ap is_batch (task_is c job s.target) ∙ single) fits));
+      },
+      subst (λ (m : List JobMove). NotesMatch m notes) (sym r.moves_is) d.notes_are,
+    )
+
+-- the output did not take the file
+pub run_sunk : {L R : Type 0} (views : LinkViews L) (left_of : R → Option (List ℕ)) (job : Job) (first : L) (coming0 : Option (List (List ℕ))) (held was : Option (List ℕ)) (notes : CallNotes) (links : L) (coming : Option (List (List ℕ))) (stream : Option R) (c : ClientState) (holds : Option (List ℕ)) (given : GivenFiles)
+    → is_batch job.task ≡ false → job.task ≡ tasks.Scan → Appends held was given.bytes → (g : FullRunInvariant views left_of job first coming0 given notes links coming stream c)
+    → ((past : JoinHistory) → HoldsGiven past c held was → StopsBehind past.given held holds)
+    → HasRunNoted views job (record { links = first; coming = coming0; output = held }) (record { links = links; coming = coming; output = holds }) (Ended statuses.IoError whys.Sink) notes
+run_sunk views left_of job first coming0 held was notes links coming stream c holds given single scan taken g stops =
+    let s = g.stage in
+    let r = ran_by views left_of job (record { links = first; coming = coming0; output = held }) (record { links = links; coming = coming; output = holds }) stream c given g.moves g.left g.fresh c g.is_fresh g.leads g.calls s s.stands in
+    let short = stops s.history (record { scan = task_is c job s.target ∙ scan; serves = s.serves; taken = subst (λ (l : List ℕ). Appends held was l) (sym s.given_is) taken }) in (
+      record { single = single; ran = r.ran; cause = inr (inr refl); all = λ other. absurd (other refl); refusal = λ e. cc; text = s.history.given ++ short.behind; taken = short.taken; behind = short.behind; gave = ap (λ (l : List ℕ). l ++ short.behind) (s.given_is ∙ one_file_given job s.trace _ _ s.rest g.left given (given_by g.moves) single s.did s.pages_is g.gave ∙ ap (λ (m : List JobMove). given_by m) (sym r.moves_is)); none_behind = λ other. absurd (other refl); not_whole = short.not_whole },
+      subst (λ (m : List JobMove). NotesMatch m notes) (sym r.moves_is) g.notes_are,
+    )
+
+-- ---- a job whose last bytes are not given
+
 -- the output holds what was given, which is no whole file
-pub record Pending {C R : Type 0} (remaining contents : C → Option (List ℕ)) (left_of : R → Option (List ℕ)) (job : Job) (first : C) (coming0 : Option (List (List ℕ))) (held : Option (List ℕ)) (failed : Bool) (control : C) (coming : Option (List (List ℕ))) (stream : Option R) (c : ClientState) (holds : Option (List ℕ)) : Type 0 where
-  pub drained : Drained remaining contents left_of job first coming0 held failed false control coming stream c holds
+pub record Pending {C R : Type 0} (views : LinkViews C) (left_of : R → Option (List ℕ)) (job : Job) (first : C) (coming0 : Option (List (List ℕ))) (held : Option (List ℕ)) (notes : CallNotes) (control : C) (coming : Option (List (List ℕ))) (stream : Option R) (c : ClientState) (holds : Option (List ℕ)) : Type 0 where
+  pub drained : Drained views left_of job first coming0 held notes false control coming stream c holds
   pub not_whole : IsWhole drained.given.bytes → ⊥
 
 not_given : (law : NoneBefore) (past : JoinHistory) (join : JoinState) (bytes : List ℕ) → past.given ≡ bytes → Represents past join → (IsJoined past → ⊥) → IsWhole bytes → ⊥
@@ -510,109 +578,84 @@ running_ends Running task progress past e f = may_end task progress past f.0 f.1
 running_ends (Done reports) task progress past e f = absurd (let clash : false ≡ true = e in cc)
 running_ends (Ended status why) task progress past e f = absurd (let clash : false ≡ true = e in cc)
 
-running_unjoined : {R : Type 0} (left_of : R → Option (List ℕ)) (job : Job) (read_ wrote left : List ℕ) (coming0 coming : Option (List (List ℕ))) (given : GivenFiles) (stream : Option R) (c : ClientState) → is_batch job.task ≡ false → is_running c.outcome ≡ true
-    → (s : RunInvariant left_of job read_ wrote left coming0 coming given stream c) → IsJoined s.history → ⊥
-running_unjoined left_of job read_ wrote left coming0 coming given stream c single runs s =
+running_unjoined : {R : Type 0} (left_of : R → Option (List ℕ)) (job : Job) (moves : List JobMove) (read_ wrote left : List ℕ) (coming0 coming : Option (List (List ℕ))) (given : GivenFiles) (stream : Option R) (c : ClientState) → is_batch job.task ≡ false → is_running c.outcome ≡ true
+    → (s : RunInvariant left_of job moves read_ wrote left coming0 coming given stream c) → IsJoined s.history → ⊥
+running_unjoined left_of job moves read_ wrote left coming0 coming given stream c single runs s =
     ended_unjoined c.target.task s.history (ap is_batch (task_is c job s.target) ∙ single) (running_ends c.outcome c.target.task c.progress s.history runs s.serves.fits)
 
-pub pending_first : {C R : Type 0} (remaining contents : C → Option (List ℕ)) (left_of : R → Option (List ℕ)) (job : Job) (control : C) (coming : Option (List (List ℕ))) (held : Option (List ℕ)) (c : ClientState) → NoneBefore → is_batch job.task ≡ false → IsNewClient job c
-    → Pending remaining contents left_of job control coming held false control coming None c held
-pending_first remaining contents left_of job control coming held c law single f =
-    let d = drained_first remaining contents left_of job control coming held c f in
+pub pending_first : {C R : Type 0} (views : LinkViews C) (left_of : R → Option (List ℕ)) (job : Job) (control : C) (coming : Option (List (List ℕ))) (held : Option (List ℕ)) (c : ClientState) → NoneBefore → is_batch job.task ≡ false → IsNewClient job c
+    → Pending views left_of job control coming held no_notes control coming None c held
+pending_first views left_of job control coming held c law single f =
+    let d = drained_first views left_of job control coming held c f in
     let s = d.going.stage in
-    record { drained = d; not_whole = not_given law s.history c.join d.given.bytes s.given_is s.serves.stands (running_unjoined left_of job d.going.read_ d.going.wrote d.going.left coming coming d.given None c single (ap (λ (v : ClientState). is_running v.outcome) f.value) s) }
+    record { drained = d; not_whole = not_given law s.history c.join d.given.bytes s.given_is s.serves.stands (running_unjoined left_of job d.going.moves (heard_by d.going.moves) (bytes_written_by d.going.moves) d.going.left coming coming d.given None c single (ap (λ (v : ClientState). is_running v.outcome) f.value) s) }
+
+pub pending_fresh : {C R : Type 0} (views : LinkViews C) (left_of : R → Option (List ℕ)) (job : Job) (notes : CallNotes) (control : C) (coming : Option (List (List ℕ))) (held : Option (List ℕ)) (c : ClientState) → notes ≡ no_notes → NoneBefore → is_batch job.task ≡ false → IsNewClient job c
+    → Pending views left_of job control coming held notes control coming None c held
+pending_fresh views left_of job notes control coming held c none law single f =
+    subst (λ (n : CallNotes). Pending views left_of job control coming held n control coming None c held) (sym none) (pending_first views left_of job control coming held c law single f)
 
 -- a turn in which the output took what was given, and the job runs on
-pub pending_gave : {C R : Type 0} (remaining contents : C → Option (List ℕ)) (left_of : R → Option (List ℕ)) (job : Job) (first : C) (coming0 : Option (List (List ℕ))) (held : Option (List ℕ)) (failed : Bool) (control : C) (coming : Option (List (List ℕ))) (stream : Option R) (c : ClientState) (holds : Option (List ℕ)) → NoneBefore → is_batch job.task ≡ false → is_running c.outcome ≡ true
-    → Drained remaining contents left_of job first coming0 held failed true control coming stream c holds → Pending remaining contents left_of job first coming0 held failed control coming stream c holds
-pending_gave remaining contents left_of job first coming0 held failed control coming stream c holds law single runs d =
+pub pending_gave : {C R : Type 0} (views : LinkViews C) (left_of : R → Option (List ℕ)) (job : Job) (first : C) (coming0 : Option (List (List ℕ))) (held : Option (List ℕ)) (notes : CallNotes) (control : C) (coming : Option (List (List ℕ))) (stream : Option R) (c : ClientState) (holds : Option (List ℕ)) → NoneBefore → is_batch job.task ≡ false → is_running c.outcome ≡ true
+    → Drained views left_of job first coming0 held notes true control coming stream c holds → Pending views left_of job first coming0 held notes control coming stream c holds
+pending_gave views left_of job first coming0 held notes control coming stream c holds law single runs d =
     let s = d.going.stage in
     record {
       drained = record { given = d.given; going = d.going; taken = d.taken; none = d.none; shown = λ w. absurd (let clash : false ≡ true = w in cc) };
-      not_whole = not_given law s.history c.join d.given.bytes s.given_is s.serves.stands (running_unjoined left_of job d.going.read_ d.going.wrote d.going.left coming0 coming d.given stream c single runs s);
+      not_whole = not_given law s.history c.join d.given.bytes s.given_is s.serves.stands (running_unjoined left_of job d.going.moves (heard_by d.going.moves) (bytes_written_by d.going.moves) d.going.left coming0 coming d.given stream c single runs s);
     }
 
 -- one in which nothing was given
-pub pending_went : {C R : Type 0} (remaining contents : C → Option (List ℕ)) (left_of : R → Option (List ℕ)) (job : Job) (first : C) (coming0 : Option (List (List ℕ))) (held : Option (List ℕ)) (failed then_ : Bool) (control now : C) (coming come : Option (List (List ℕ))) (stream next : Option R) (c new : ClientState) (holds : Option (List ℕ))
-    → (p : Pending remaining contents left_of job first coming0 held failed control coming stream c holds) → FullRunInvariant remaining contents left_of job first coming0 p.drained.given then_ now come next new
-    → Pending remaining contents left_of job first coming0 held then_ now come next new holds
-pending_went remaining contents left_of job first coming0 held failed then_ control now coming come stream next c new holds p g = record {
+pub pending_went : {C R : Type 0} (views : LinkViews C) (left_of : R → Option (List ℕ)) (job : Job) (first : C) (coming0 : Option (List (List ℕ))) (held : Option (List ℕ)) (notes then_ : CallNotes) (control now : C) (coming come : Option (List (List ℕ))) (stream next : Option R) (c new : ClientState) (holds : Option (List ℕ))
+    → (p : Pending views left_of job first coming0 held notes control coming stream c holds) → FullRunInvariant views left_of job first coming0 p.drained.given then_ now come next new
+    → Pending views left_of job first coming0 held then_ now come next new holds
+pending_went views left_of job first coming0 held notes then_ control now coming come stream next c new holds p g = record {
   drained = record { given = p.drained.given; going = g; taken = p.drained.taken; none = p.drained.none; shown = λ w. absurd (let clash : false ≡ true = w in cc) };
   not_whole = p.not_whole;
 }
 
-pub pending_as : {C R : Type 0} (remaining contents : C → Option (List ℕ)) (left_of : R → Option (List ℕ)) (job : Job) (first : C) (coming0 : Option (List (List ℕ))) (held : Option (List ℕ)) (failed other : Bool) (control : C) (coming : Option (List (List ℕ))) (stream : Option R) (c : ClientState) (holds : Option (List ℕ)) → failed ≡ other
-    → Pending remaining contents left_of job first coming0 held failed control coming stream c holds → Pending remaining contents left_of job first coming0 held other control coming stream c holds
-pending_as remaining contents left_of job first coming0 held failed other control coming stream c holds e p = subst (λ (b : Bool). Pending remaining contents left_of job first coming0 held b control coming stream c holds) e p
-
-pub pending_cut : {C R : Type 0} (remaining contents : C → Option (List ℕ)) (left_of : R → Option (List ℕ)) (job : Job) (first : C) (coming0 : Option (List (List ℕ))) (held : Option (List ℕ)) (failed : Bool) (control : C) (coming : Option (List (List ℕ))) (stream : Option R) (c new : ClientState) (holds : Option (List ℕ))
-    → new ≡ (if is_lost_by links.Control c.outcome c.progress then after_client_end statuses.IoError whys.Lost c else c)
-    → Pending remaining contents left_of job first coming0 held failed control coming stream c holds → Pending remaining contents left_of job first coming0 held failed control coming stream new holds
-unfolding drained_cut
-pending_cut remaining contents left_of job first coming0 held failed control coming stream c new holds lost p =
-    record { drained = drained_cut remaining contents left_of job first coming0 held failed control coming stream c new holds lost p.drained; not_whole = p.not_whole }
-
--- leave was taken of the daemon, where no write had failed
-pub closed_parted : {whole : Bool} {C R : Type 0} (remaining contents : C → Option (List ℕ)) (left_of : R → Option (List ℕ)) (job : Job) (first : C) (coming0 : Option (List (List ℕ))) (held : Option (List ℕ)) (is_up : Bool) (control now : C) (coming : Option (List (List ℕ))) (stream : Option R) (c : ClientState) (holds : Option (List ℕ))
-    → (is_up ≡ true → (n : ℕ) × (n ≤ length c.out) × Appends (contents control) (contents now) (take n c.out)) → (is_up ≡ false → now ≡ control)
-    → Drained remaining contents left_of job first coming0 held (not is_up) whole control coming stream c holds → Closed remaining contents left_of job first coming0 held whole now coming stream c holds
-closed_parted remaining contents left_of job first coming0 held true control now coming stream c holds wrote still d = closed_left remaining contents left_of job first coming0 held control now coming stream c holds (wrote refl) d
-closed_parted remaining contents left_of job first coming0 held false control now coming stream c holds wrote still d = record {
-  given = d.given;
-  read_ = d.going.read_;
-  wrote = d.going.wrote;
-  left = d.going.left;
-  failed = true;
-  calls = subst (λ x. Calls remaining contents first d.going.read_ d.going.wrote true x) (sym (still refl)) d.going.calls;
-  stage = d.going.stage;
-  all = λ e. absurd (let clash : true ≡ false = e in cc);
-  taken = d.taken;
-  none = d.none;
-  shown = d.shown;
-}
-
-closed_by_given : {whole : Bool} {C R : Type 0} (remaining contents : C → Option (List ℕ)) (left_of : R → Option (List ℕ)) (job : Job) (first : C) (coming0 : Option (List (List ℕ))) (held : Option (List ℕ)) (control now : C) (coming : Option (List (List ℕ))) (stream : Option R) (c : ClientState) (holds : Option (List ℕ)) (n : ℕ) (short : Bool)
-    → (is : nat_lt n (length c.out) ≡ short) → (within : n ≤ length c.out) → (took : Appends (contents control) (contents now) (take n c.out)) → (d : Drained remaining contents left_of job first coming0 held false whole control coming stream c holds)
-    → (s : RunInvariant left_of job d.going.read_ (d.going.wrote ++ take n c.out) (drop n c.out) coming0 coming d.given stream c) → (same : s.history ≡ d.going.stage.history)
-    → (closed_by remaining contents left_of job first coming0 held control now coming stream c holds n short is within took d s same).given ≡ d.given
-unfolding closed_by
-closed_by_given remaining contents left_of job first coming0 held control now coming stream c holds n true is within took d s same = refl
-closed_by_given remaining contents left_of job first coming0 held control now coming stream c holds n false is within took d s same = refl
-
-closed_parted_given : {whole : Bool} {C R : Type 0} (remaining contents : C → Option (List ℕ)) (left_of : R → Option (List ℕ)) (job : Job) (first : C) (coming0 : Option (List (List ℕ))) (held : Option (List ℕ)) (is_up : Bool) (control now : C) (coming : Option (List (List ℕ))) (stream : Option R) (c : ClientState) (holds : Option (List ℕ))
-    → (wrote : is_up ≡ true → (n : ℕ) × (n ≤ length c.out) × Appends (contents control) (contents now) (take n c.out)) → (still : is_up ≡ false → now ≡ control)
-    → (d : Drained remaining contents left_of job first coming0 held (not is_up) whole control coming stream c holds) → (closed_parted remaining contents left_of job first coming0 held is_up control now coming stream c holds wrote still d).given ≡ d.given
-unfolding closed_parted closed_left
-closed_parted_given remaining contents left_of job first coming0 held true control now coming stream c holds wrote still d = closed_by_given remaining contents left_of job first coming0 held control now coming stream c holds _ _ refl _ _ d _ _
-closed_parted_given remaining contents left_of job first coming0 held false control now coming stream c holds wrote still d = refl
-
 -- there was no memory for what was to be told
-run_untold : {C R : Type 0} (remaining contents : C → Option (List ℕ)) (left_of : R → Option (List ℕ)) (job : Job) (first : C) (coming0 : Option (List (List ℕ))) (held : Option (List ℕ)) (control : C) (coming : Option (List (List ℕ))) (stream : Option R) (c : ClientState) (holds : Option (List ℕ)) → (d : Closed remaining contents left_of job first coming0 held false control coming stream c holds) → (IsWhole d.given.bytes → ⊥)
-    → RanEnded remaining contents job first coming0 control coming held holds (Ended statuses.NoMem whys.Memory)
-run_untold remaining contents left_of job first coming0 held control coming stream c holds d not_whole =
+run_untold : {L R : Type 0} {whole : Bool} (views : LinkViews L) (left_of : R → Option (List ℕ)) (job : Job) (first : L) (coming0 : Option (List (List ℕ))) (held : Option (List ℕ)) (notes : CallNotes) (links : L) (coming : Option (List (List ℕ))) (stream : Option R) (c : ClientState) (holds : Option (List ℕ))
+    → is_batch job.task ≡ false → (d : Closed views left_of job first coming0 held notes whole links coming stream c holds) → (IsWhole d.given.bytes → ⊥)
+    → HasRunNoted views job (record { links = first; coming = coming0; output = held }) (record { links = links; coming = coming; output = holds }) (Ended statuses.NoMem whys.Memory) notes
+run_untold views left_of job first coming0 held notes links coming stream c holds single d not_whole =
     let s = d.stage in
-    let r = ran_by remaining contents left_of job first coming0 control coming stream c d.given d.read_ d.wrote d.left d.failed d.calls s s.stands in
-    record { ran = r.0; cause = inr (inl (ByMemory refl)); refusal = memory_refuses; text = d.given.bytes; taken = d.taken; not_whole = not_whole }
+    let r = ran_by views left_of job (record { links = first; coming = coming0; output = held }) (record { links = links; coming = coming; output = holds }) stream c d.given d.moves d.left d.fresh d.last d.is_fresh d.leads d.calls s s.stands in (
+      record {
+        single = single;
+        ran = r.ran;
+        cause = inr (inl (ByMemory refl));
+        all = λ other. all_written d.moves r.ran.moves d.left r.ran.left r.moves_is r.left_is d.all;
+        refusal = λ e. cc;
+        text = d.given.bytes;
+        taken = d.taken;
+        behind = [];
+        gave = one_file_given job s.trace _ _ s.rest d.left d.given (given_by d.moves) single s.did s.pages_is d.gave ∙ ap (λ (m : List JobMove). given_by m) (sym r.moves_is) ∙ sym (append-nil (given_by r.ran.moves));
+        none_behind = λ other. refl;
+        not_whole = not_whole;
+      },
+      subst (λ (m : List JobMove). NotesMatch m notes) (sym r.moves_is) d.notes_are,
+    )
 
-stopped_by : {C R : Type 0} (remaining contents : C → Option (List ℕ)) (left_of : R → Option (List ℕ)) (job : Job) (first : C) (coming0 : Option (List (List ℕ))) (held : Option (List ℕ)) (control : C) (coming : Option (List (List ℕ))) (stream : Option R) (c : ClientState) (holds : Option (List ℕ)) (outcome : Outcome) (stop : Stop)
-    → is_batch job.task ≡ false → NoneBefore → c.outcome ≡ outcome → StopsAs outcome stop → (d : Closed remaining contents left_of job first coming0 held false control coming stream c holds) → (IsWhole d.given.bytes → ⊥)
-    → RanEnded remaining contents job first coming0 control coming held holds (Ended stop.status stop.why)
-stopped_by remaining contents left_of job first coming0 held control coming stream c holds Running stop single law over ends d not_whole = absurd ends
-stopped_by remaining contents left_of job first coming0 held control coming stream c holds (Done reports) stop single law over ends d not_whole =
-    subst (λ (x : Stop). RanEnded remaining contents job first coming0 control coming held holds (Ended x.status x.why)) (sym ends) (run_untold remaining contents left_of job first coming0 held control coming stream c holds d not_whole)
-stopped_by remaining contents left_of job first coming0 held control coming stream c holds (Ended status why) stop single law over ends d not_whole =
-    subst (λ (x : Stop). RanEnded remaining contents job first coming0 control coming held holds (Ended x.status x.why)) (sym ends) (run_ended remaining contents left_of job first coming0 held control coming stream c holds status why single law over d)
+stopped_by : {L R : Type 0} {whole : Bool} (views : LinkViews L) (left_of : R → Option (List ℕ)) (job : Job) (first : L) (coming0 : Option (List (List ℕ))) (held : Option (List ℕ)) (notes : CallNotes) (links : L) (coming : Option (List (List ℕ))) (stream : Option R) (c : ClientState) (holds : Option (List ℕ)) (outcome : Outcome) (stop : Stop)
+    → is_batch job.task ≡ false → NoneBefore → c.outcome ≡ outcome → StopsAs outcome stop → (d : Closed views left_of job first coming0 held notes whole links coming stream c holds) → (IsWhole d.given.bytes → ⊥)
+    → HasRunNoted views job (record { links = first; coming = coming0; output = held }) (record { links = links; coming = coming; output = holds }) (Ended stop.status stop.why) notes
+stopped_by views left_of job first coming0 held notes links coming stream c holds Running stop single law over ends d not_whole = absurd ends
+stopped_by views left_of job first coming0 held notes links coming stream c holds (Done reports) stop single law over ends d not_whole =
+    subst (λ (x : Stop). HasRunNoted views job (record { links = first; coming = coming0; output = held }) (record { links = links; coming = coming; output = holds }) (Ended x.status x.why) notes) (sym ends)
+    (run_untold views left_of job first coming0 held notes links coming stream c holds single d not_whole)
+stopped_by views left_of job first coming0 held notes links coming stream c holds (Ended status why) stop single law over ends d not_whole =
+    subst (λ (x : Stop). HasRunNoted views job (record { links = first; coming = coming0; output = held }) (record { links = links; coming = coming; output = holds }) (Ended x.status x.why) notes) (sym ends)
+    (run_ended views left_of job first coming0 held notes links coming stream c holds status why single law over d)
 
 -- a job that is over of which nothing is told
-pub run_stopped : {C R : Type 0} (remaining contents : C → Option (List ℕ)) (left_of : R → Option (List ℕ)) (job : Job) (first : C) (coming0 : Option (List (List ℕ))) (held : Option (List ℕ)) (is_up : Bool) (control now : C) (coming : Option (List (List ℕ))) (stream : Option R) (c : ClientState) (holds : Option (List ℕ)) (stop : Stop)
-    → is_batch job.task ≡ false → NoneBefore → StopsAs c.outcome stop
-    → (is_up ≡ true → (n : ℕ) × (n ≤ length c.out) × Appends (contents control) (contents now) (take n c.out)) → (is_up ≡ false → now ≡ control)
-    → Pending remaining contents left_of job first coming0 held (not is_up) control coming stream c holds
-    → RanEnded remaining contents job first coming0 now coming held holds (Ended stop.status stop.why)
-run_stopped remaining contents left_of job first coming0 held is_up control now coming stream c holds stop single law ends wrote still p =
-    stopped_by remaining contents left_of job first coming0 held now coming stream c holds c.outcome stop single law refl ends
-    (closed_parted remaining contents left_of job first coming0 held is_up control now coming stream c holds wrote still p.drained)
-    (subst (λ (g : GivenFiles). IsWhole g.bytes → ⊥) (sym (closed_parted_given remaining contents left_of job first coming0 held is_up control now coming stream c holds wrote still p.drained)) p.not_whole)
+pub run_stopped : {L R : Type 0} (views : LinkViews L) (left_of : R → Option (List ℕ)) (job : Job) (first : L) (coming0 : Option (List (List ℕ))) (held : Option (List ℕ)) (was notes : CallNotes) (links then_ : L) (coming : Option (List (List ℕ))) (stream : Option R) (c : ClientState) (holds : Option (List ℕ)) (stop : Stop)
+    → is_batch job.task ≡ false → NoneBefore → StopsAs c.outcome stop → Leaves views links was c.out then_ notes
+    → Pending views left_of job first coming0 held was links coming stream c holds
+    → HasRunNoted views job (record { links = first; coming = coming0; output = held }) (record { links = then_; coming = coming; output = holds }) (Ended stop.status stop.why) notes
+run_stopped views left_of job first coming0 held was notes links then_ coming stream c holds stop single law ends leaves p =
+    let d = closed_parted views left_of job first coming0 held was notes links then_ coming stream c holds (stops_over c.outcome stop ends) leaves p.drained in
+    stopped_by views left_of job first coming0 held notes then_ coming stream c holds c.outcome stop single law refl ends d.0 (subst (λ (g : GivenFiles). IsWhole g.bytes → ⊥) (sym d.1) p.not_whole)
 
 -- what holds of a result
 pub ok_of : {T E : Type 0} (r : Result T E) (t : T) (P : T → Type 0) → r ≡ Ok t → IfOk r P → P t
@@ -621,6 +664,16 @@ ok_of r t P e is = subst (λ x. IfOk x P) e is
 pub err_of : {T E : Type 0} (r : Result T E) (stop : E) (P : E → Type 0) → r ≡ Err stop → IfErr r P → P stop
 err_of r stop P e is = subst (λ x. IfErr x P) e is
 
+-- by the case of what a run gave
+pub ran_ok : {L T : Type 0} (views : LinkViews L) (job : Job) (was now : SeenStreams L (Option (List ℕ))) (notes : CallNotes) (result : Result (Reports × T) Stop) → HasRunNoted views job was now (over_as result) notes → IfOk result (λ done. RanDone views job was now done.0)
+ran_ok views job was now notes (Ok done) run = run.0
+ran_ok views job was now notes (Err stop) run = tt
+
+pub ran_err : {L T C D W : Type 0} (views : LinkViews L) (job : Job) (was now : SeenStreams L (Option (List ℕ))) (before behind : JobStreams C D W) (notes : CallNotes) (result : Result (Reports × T) Stop) → HasRunNoted views job was now (over_as result) notes
+    → IfErr result (λ stop. RefusesJob job (Ended stop.status stop.why) before behind ⊎ RanEnded views job was now stop.status stop.why)
+ran_err views job was now before behind notes (Ok done) run = tt
+ran_err views job was now before behind notes (Err stop) run = inr run.0
+
 -- only what scans can refuse
 pub scan_by : (is_scan result : Bool) → (is_scan ≡ false → result ≡ true) → result ≡ false → is_scan ≡ true
 scan_by true result none failed = refl
@@ -628,26 +681,27 @@ scan_by false result none failed = absurd (let clash : true ≡ false = sym (non
 
 -- ---- a turn's end: what a job gave of its file, if it is a scan
 
-given_by : {C R : Type 0} (remaining contents : C → Option (List ℕ)) (left_of : R → Option (List ℕ)) (job : Job) (first : C) (coming0 : Option (List (List ℕ))) (held : Option (List ℕ)) (failed : Bool) (control : C) (coming : Option (List (List ℕ))) (stream : Option R) (c now : ClientState) (was holds : Option (List ℕ)) (given : GivenFiles) (is_scan : Bool) (scans : Bool)
-    → is_scan ≡ scans → is_scan ≡ true ↔ job.task ≡ tasks.Scan → Appends held was given.bytes → ((job.task ≡ tasks.Scan → ⊥) → given.bytes ≡ []) → FullRunInvariant remaining contents left_of job first coming0 given failed control coming stream c
+gave_by : {C R : Type 0} (views : LinkViews C) (left_of : R → Option (List ℕ)) (job : Job) (first : C) (coming0 : Option (List (List ℕ))) (held : Option (List ℕ)) (notes : CallNotes) (control : C) (coming : Option (List (List ℕ))) (stream : Option R) (c now : ClientState) (was holds : Option (List ℕ)) (given : GivenFiles) (is_scan : Bool) (scans : Bool)
+    → is_scan ≡ scans → is_scan ≡ true ↔ job.task ≡ tasks.Scan → Appends held was given.bytes → ((job.task ≡ tasks.Scan → ⊥) → given.bytes ≡ []) → FullRunInvariant views left_of job first coming0 given notes control coming stream c
     → (is_scan ≡ false → (now ≡ c) × (holds ≡ was))
-    → (is_scan ≡ true → (past : JoinHistory) → HoldsGiven past c held was → IsDrainedTo past c held now holds)
-    → Drained remaining contents left_of job first coming0 held failed true control coming stream now holds
-given_by remaining contents left_of job first coming0 held failed control coming stream c now was holds given is_scan true e scan taken none g same drains =
-    drained_more remaining contents left_of job first coming0 held failed control coming stream c now was holds given (scan.0 e) taken g (drains e)
-given_by remaining contents left_of job first coming0 held failed control coming stream c now was holds given is_scan false e scan taken none g same drains =
+    → (is_scan ≡ true → (gives : List JobMove) × GivesAll c gives now × ((first : Option (List ℕ)) (past : JoinHistory) → HoldsGiven past c first was → IsDrainedTo past c first (given_by gives) now holds))
+    → Drained views left_of job first coming0 held notes true control coming stream now holds
+gave_by views left_of job first coming0 held notes control coming stream c now was holds given is_scan true e scan taken none g same drains =
+    let gives = drains e in
+    drained_more views left_of job first coming0 held notes control coming stream c now was holds given gives.0 (scan.0 e) taken g gives.1 gives.2
+gave_by views left_of job first coming0 held notes control coming stream c now was holds given is_scan false e scan taken none g same drains =
     let other : job.task ≡ tasks.Scan → ⊥ = λ s. (let clash : true ≡ false = sym (scan.1 s) ∙ e in cc) in
     let kept = same e in
-    subst (λ (v : ClientState). Drained remaining contents left_of job first coming0 held failed true control coming stream v holds) (sym kept.0)
-    (drained_none remaining contents left_of job first coming0 held failed control coming stream c holds given other (none other) (subst (λ (o : Option (List ℕ)). Appends held o given.bytes) (sym kept.1) taken) g)
+    subst (λ (v : ClientState). Drained views left_of job first coming0 held notes true control coming stream v holds) (sym kept.0)
+    (drained_none views left_of job first coming0 held notes control coming stream c holds given other (none other) (subst (λ (o : Option (List ℕ)). Appends held o given.bytes) (sym kept.1) taken) g)
 
-pub given_more : {C R : Type 0} (remaining contents : C → Option (List ℕ)) (left_of : R → Option (List ℕ)) (job : Job) (first : C) (coming0 : Option (List (List ℕ))) (held : Option (List ℕ)) (failed : Bool) (control : C) (coming : Option (List (List ℕ))) (stream : Option R) (c now : ClientState) (was holds : Option (List ℕ)) (given : GivenFiles) (is_scan : Bool)
-    → is_scan ≡ true ↔ job.task ≡ tasks.Scan → Appends held was given.bytes → ((job.task ≡ tasks.Scan → ⊥) → given.bytes ≡ []) → FullRunInvariant remaining contents left_of job first coming0 given failed control coming stream c
+pub given_more : {C R : Type 0} (views : LinkViews C) (left_of : R → Option (List ℕ)) (job : Job) (first : C) (coming0 : Option (List (List ℕ))) (held : Option (List ℕ)) (notes : CallNotes) (control : C) (coming : Option (List (List ℕ))) (stream : Option R) (c now : ClientState) (was holds : Option (List ℕ)) (given : GivenFiles) (is_scan : Bool)
+    → is_scan ≡ true ↔ job.task ≡ tasks.Scan → Appends held was given.bytes → ((job.task ≡ tasks.Scan → ⊥) → given.bytes ≡ []) → FullRunInvariant views left_of job first coming0 given notes control coming stream c
     → (is_scan ≡ false → (now ≡ c) × (holds ≡ was))
-    → (is_scan ≡ true → (past : JoinHistory) → HoldsGiven past c held was → IsDrainedTo past c held now holds)
-    → Drained remaining contents left_of job first coming0 held failed true control coming stream now holds
-given_more remaining contents left_of job first coming0 held failed control coming stream c now was holds given is_scan scan taken none g same drains =
-    given_by remaining contents left_of job first coming0 held failed control coming stream c now was holds given is_scan is_scan refl scan taken none g same drains
+    → (is_scan ≡ true → (gives : List JobMove) × GivesAll c gives now × ((first : Option (List ℕ)) (past : JoinHistory) → HoldsGiven past c first was → IsDrainedTo past c first (given_by gives) now holds))
+    → Drained views left_of job first coming0 held notes true control coming stream now holds
+given_more views left_of job first coming0 held notes control coming stream c now was holds given is_scan scan taken none g same drains =
+    gave_by views left_of job first coming0 held notes control coming stream c now was holds given is_scan is_scan refl scan taken none g same drains
 
 -- ---- a job that is no batch
 

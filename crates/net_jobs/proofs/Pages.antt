@@ -61,8 +61,7 @@ has_turned was now t = ap (λ (v : ClientState). turns v.outcome v.progress) t.r
 
 -- ---- after so many pulls
 
-pub record IsPulled (past : JoinHistory) (old : ClientState) (k : ℕ) (before : Option Stock) (outputs : List ReturnedOutput) (pulls : ℕ) (now : ClientState) (stock : Option Stock) (out : Option (Option (List ℕ))) : Type 0 where
-  pub bytes : List ℕ
+pub record IsPulled (past : JoinHistory) (old : ClientState) (k : ℕ) (before : Option Stock) (outputs : List ReturnedOutput) (bytes : List ℕ) (pulls : ℕ) (now : ClientState) (stock : Option Stock) (out : Option (Option (List ℕ))) : Type 0 where
   pub serves : ClientRepresents (after_pull bytes past) now
   pub rest : now ≡ record old { join = now.join }
   pub under_way : OutputIsUnderWay before outputs stock out k (past.given ++ bytes)
@@ -70,9 +69,8 @@ pub record IsPulled (past : JoinHistory) (old : ClientState) (k : ℕ) (before :
   pub alive : 0 < pulls → is_ended old.outcome ≡ false
 
 pub begun : (past : JoinHistory) (old : ClientState) (k : ℕ) (before : Option Stock) (outputs : List ReturnedOutput) (stock : Option Stock) (out : Option (Option (List ℕ))) → ClientRepresents past old → OutputIsUnderWay before outputs stock out k past.given
-    → IsPulled past old k before outputs 0 old stock out
+    → IsPulled past old k before outputs [] 0 old stock out
 begun past old k before outputs stock out serves under_way = record {
-  bytes = [];
   serves = subst (λ (q : JoinHistory). ClientRepresents q old) (sym (pulled_none past)) serves;
   rest = refl;
   under_way = subst (λ (l : List ℕ). OutputIsUnderWay before outputs stock out k l) (sym (append-nil past.given)) under_way;
@@ -113,22 +111,21 @@ took_as : (k file : ℕ) (before : Option Stock) (outputs : List ReturnedOutput)
 took_as k file before outputs was now out new had piece e took h =
     subst (λ (i : ℕ). HasTaken before outputs now new i (had ++ piece)) e (took (subst (λ (i : ℕ). HasTaken before outputs was out i had) (sym e) h))
 
-pub one_more : (past : JoinHistory) (old was now : ClientState) (k i n file : ℕ) (before : Option Stock) (outputs : List ReturnedOutput) (stock then_ : Option Stock) (out new : Option (Option (List ℕ))) (piece : List ℕ) → n ≢ 0 → Pulls was piece n now
+pub one_more : (past : JoinHistory) (old was now : ClientState) (k i n file : ℕ) (before : Option Stock) (outputs : List ReturnedOutput) (stock then_ : Option Stock) (out new : Option (Option (List ℕ))) (bytes piece : List ℕ) → n ≢ 0 → Pulls was piece n now
     → (turns was.outcome was.progress ≡ true → turns now.outcome now.progress ≡ true) → file ≡ was.notes.file → (is_ended old.outcome ≡ false → old.notes.file ≡ k)
     → ((had : List ℕ) → HasTaken before outputs stock out file had → HasTaken before outputs then_ new file (had ++ piece))
-    → IsPulled past old k before outputs i was stock out → IsPulled past old k before outputs (i + 1) now then_ new
-one_more past old was now k i n file before outputs stock then_ out new piece some p still file_is number took u =
+    → IsPulled past old k before outputs bytes i was stock out → IsPulled past old k before outputs (bytes ++ piece) (i + 1) now then_ new
+one_more past old was now k i n file before outputs stock then_ out new bytes piece some p still file_is number took u =
     let alive = pulls_alive was now piece n p some in
-    let goes = goes_by (turns was.outcome was.progress) was now (after_pull u.bytes past) piece n refl p alive still u.serves in
+    let goes = goes_by (turns was.outcome was.progress) was now (after_pull bytes past) piece n refl p alive still u.serves in
     record {
-      bytes = u.bytes ++ piece;
-      serves = subst (λ (q : JoinHistory). ClientRepresents q now) (pulled_twice past u.bytes piece) goes.0;
+      serves = subst (λ (q : JoinHistory). ClientRepresents q now) (pulled_twice past bytes piece) goes.0;
       rest = join_only old was now u.rest goes.1;
-      under_way = subst (λ (l : List ℕ). OutputIsUnderWay before outputs then_ new k l) (append_assoc past.given u.bytes piece) (record {
-        taken = took_as k file before outputs stock then_ out new (past.given ++ u.bytes) piece (was_file old was k file file_is u.rest number alive) (took (past.given ++ u.bytes)) u.under_way.taken;
-        asked = λ none. absurd (some_piece (past.given ++ u.bytes) piece n some p.size none);
+      under_way = subst (λ (l : List ℕ). OutputIsUnderWay before outputs then_ new k l) (append_assoc past.given bytes piece) (record {
+        taken = took_as k file before outputs stock then_ out new (past.given ++ bytes) piece (was_file old was k file file_is u.rest number alive) (took (past.given ++ bytes)) u.under_way.taken;
+        asked = λ none. absurd (some_piece (past.given ++ bytes) piece n some p.size none);
       });
-      some = omega (arith, length-append u.bytes piece, p.size, u.some, λ (e : n ≡ 0). some e);
+      some = omega (arith, length-append bytes piece, p.size, u.some, λ (e : n ≡ 0). some e);
       alive = λ positive. sym (ap (λ (v : ClientState). is_ended v.outcome) u.rest) ∙ alive;
     }
 
@@ -142,30 +139,28 @@ dry_by : (turning : Bool) (was now : ClientState) (q : JoinHistory) (piece : Lis
 dry_by true was now q piece n e none p serves = dry_page was now q piece none (turning_fits was.target.task was.outcome was.progress q e serves.fits).1 (p.page e q serves)
 dry_by false was now q piece n e none p serves = (p.carried q serves e, unmoved (is_ended was.outcome) was now refl (λ x. (p.ended x).1) (λ x. p.same x e))
 
-pub at_end : (past : JoinHistory) (old was now : ClientState) (k i n : ℕ) (before : Option Stock) (outputs : List ReturnedOutput) (stock : Option Stock) (out : Option (Option (List ℕ))) (piece : List ℕ) → piece ≡ [] → Pulls was piece n now
+pub at_end : (past : JoinHistory) (old was now : ClientState) (k i n : ℕ) (before : Option Stock) (outputs : List ReturnedOutput) (stock : Option Stock) (out : Option (Option (List ℕ))) (bytes piece : List ℕ) → piece ≡ [] → Pulls was piece n now
     → ((q : JoinHistory) → ClientRepresents q was → is_ended was.outcome ≡ false → IsJoined q → (p : Picture) → ShowsFrames q.ended p → Denotes q.given p)
-    → IsPulled past old k before outputs i was stock out → PageGoesOn past old k before outputs now stock out
-at_end past old was now k i n before outputs stock out piece none p denotes u =
-    let goes = dry_by (turns was.outcome was.progress) was now (after_pull u.bytes past) piece n refl none p u.serves in
+    → IsPulled past old k before outputs bytes i was stock out → PageGoesOn past old k before outputs bytes now stock out
+at_end past old was now k i n before outputs stock out bytes piece none p denotes u =
+    let goes = dry_by (turns was.outcome was.progress) was now (after_pull bytes past) piece n refl none p u.serves in
     record {
-      bytes = u.bytes;
-      serves = subst (λ (q : JoinHistory). ClientRepresents q now) (ap (λ (l : List ℕ). after_pull l (after_pull u.bytes past)) none ∙ pulled_none (after_pull u.bytes past)) goes.0;
+      serves = subst (λ (q : JoinHistory). ClientRepresents q now) (ap (λ (l : List ℕ). after_pull l (after_pull bytes past)) none ∙ pulled_none (after_pull bytes past)) goes.0;
       rest = join_only old was now u.rest goes.1;
       under_way = u.under_way;
-      denotes = λ e joined p shows. denotes (after_pull u.bytes past) u.serves (ap (λ (v : ClientState). is_ended v.outcome) u.rest ∙ e) joined p shows;
+      denotes = λ e joined p shows. denotes (after_pull bytes past) u.serves (ap (λ (v : ClientState). is_ended v.outcome) u.rest ∙ e) joined p shows;
     }
 
 -- ---- the last bytes of a page
 
 turned_by : (past : JoinHistory) (old was now : ClientState) (k n : ℕ) (before : Option Stock) (outputs : List ReturnedOutput) (stock then_ : Option Stock) (out : Option (Option (List ℕ))) (bytes piece : List ℕ) → was ≡ record old { join = was.join }
     → turns was.outcome was.progress ≡ true → turns now.outcome now.progress ≡ false → HasTaken before outputs stock out k ((past.given ++ bytes) ++ piece) → (past.given ++ bytes) ++ piece ≢ [] → GivesBack stock out then_
-    → TakesPage was (after_pull bytes past) piece now → TurnsOn past old k before outputs now then_ None
+    → TakesPage was (after_pull bytes past) piece now → TurnsOn past old k before outputs (bytes ++ piece) now then_ None
 turned_by past old was now k n before outputs stock then_ out bytes piece rest turning turned taken some back (Stays not_whole same serves) =
     absurd (let clash : true ≡ false = sym (ap (λ (v : ClientState). turns v.outcome v.progress) same ∙ turning) ∙ turned in cc)
 turned_by past old was now k n before outputs stock then_ out bytes piece rest turning turned taken some back (Turns whole denotes client serves) =
     let text : (past.given ++ bytes) ++ piece ≡ past.given ++ (bytes ++ piece) = append_assoc past.given bytes piece in
     record {
-      bytes = bytes ++ piece;
       turning = sym (ap (λ (v : ClientState). turns v.outcome v.progress) rest) ∙ turning;
       whole = subst (λ (l : List ℕ). IsWhole l) text whole;
       denotes = λ p shows. subst (λ (l : List ℕ). Denotes l p) text (denotes p shows);
@@ -176,14 +171,14 @@ turned_by past old was now k n before outputs stock then_ out bytes piece rest t
       none = refl;
     }
 
-pub turned : (past : JoinHistory) (old was now : ClientState) (k i n file : ℕ) (before : Option Stock) (outputs : List ReturnedOutput) (first stock then_ : Option Stock) (under out : Option (Option (List ℕ))) (piece : List ℕ) → n ≢ 0 → Pulls was piece n now
+pub turned : (past : JoinHistory) (old was now : ClientState) (k i n file : ℕ) (before : Option Stock) (outputs : List ReturnedOutput) (first stock then_ : Option Stock) (under out : Option (Option (List ℕ))) (bytes piece : List ℕ) → n ≢ 0 → Pulls was piece n now
     → turns was.outcome was.progress ≡ true → turns now.outcome now.progress ≡ false → file ≡ was.notes.file → (is_ended old.outcome ≡ false → old.notes.file ≡ k)
     → ((had : List ℕ) → HasTaken before outputs first under file had → HasTaken before outputs stock out file (had ++ piece)) → GivesBack stock out then_
-    → IsPulled past old k before outputs i was first under → TurnsOn past old k before outputs now then_ None
-turned past old was now k i n file before outputs first stock then_ under out piece some p turning has file_is number took back u =
+    → IsPulled past old k before outputs bytes i was first under → TurnsOn past old k before outputs (bytes ++ piece) now then_ None
+turned past old was now k i n file before outputs first stock then_ under out bytes piece some p turning has file_is number took back u =
     let alive = pulls_alive was now piece n p some in
-    let taken = took_as k file before outputs first stock under out (past.given ++ u.bytes) piece (was_file old was k file file_is u.rest number alive) (took (past.given ++ u.bytes)) u.under_way.taken in
-    turned_by past old was now k n before outputs stock then_ out u.bytes piece u.rest turning has taken (some_piece (past.given ++ u.bytes) piece n some p.size) back (p.page turning (after_pull u.bytes past) u.serves)
+    let taken = took_as k file before outputs first stock under out (past.given ++ bytes) piece (was_file old was k file file_is u.rest number alive) (took (past.given ++ bytes)) u.under_way.taken in
+    turned_by past old was now k n before outputs stock then_ out bytes piece u.rest turning has taken (some_piece (past.given ++ bytes) piece n some p.size) back (p.page turning (after_pull bytes past) u.serves)
 
 -- ---- an output that did not take all bytes
 
@@ -211,26 +206,26 @@ short_at : (turning : Bool) (was now : ClientState) (q : JoinHistory) (piece : L
 short_at true was now q piece n m e law prefix calm less p serves = short_page was now q piece m law prefix calm less (p.page e q serves)
 short_at false was now q piece n m e law prefix calm less p serves = short_by now q piece m law calm less (p.carried q serves e)
 
-pub stopped : (past : JoinHistory) (old was now : ClientState) (k i n file : ℕ) (before : Option Stock) (outputs : List ReturnedOutput) (stock then_ : Option Stock) (out new : Option (Option (List ℕ))) (piece : List ℕ) → n ≢ 0 → Pulls was piece n now
+pub stopped : (past : JoinHistory) (old was now : ClientState) (k i n file : ℕ) (before : Option Stock) (outputs : List ReturnedOutput) (stock then_ : Option Stock) (out new : Option (Option (List ℕ))) (bytes piece : List ℕ) → n ≢ 0 → Pulls was piece n now
     → ((q : JoinHistory) (join : JoinState) (front more : List ℕ) → Represents q join → q.fault ≡ None → q.given ≡ front ++ more → more ≢ [] → IsWhole front → ⊥)
     → ((front more : List ℕ) → IsWhole front → IsWhole (front ++ more) → more ≡ [])
     → scans old.target.task ≡ true → file ≡ was.notes.file → (is_ended old.outcome ≡ false → old.notes.file ≡ k)
     → ((had : List ℕ) → HasTaken before outputs stock out file had → (m : ℕ) × (m < length piece) × HasTaken before outputs then_ new file (had ++ take m piece))
-    → IsPulled past old k before outputs i was stock out → FallsShort k before outputs then_ new
-stopped past old was now k i n file before outputs stock then_ out new piece some p law prefix scanning file_is number took u =
+    → IsPulled past old k before outputs bytes i was stock out → FallsShort k before outputs then_ new
+stopped past old was now k i n file before outputs stock then_ out new bytes piece some p law prefix scanning file_is number took u =
     let alive = pulls_alive was now piece n p some in
     let number_is = was_file old was k file file_is u.rest number alive in
-    let q = after_pull u.bytes past in
-    let short = took (past.given ++ u.bytes) (subst (λ (j : ℕ). HasTaken before outputs stock out j (past.given ++ u.bytes)) (sym number_is) u.under_way.taken) in
+    let q = after_pull bytes past in
+    let short = took (past.given ++ bytes) (subst (λ (j : ℕ). HasTaken before outputs stock out j (past.given ++ bytes)) (sym number_is) u.under_way.taken) in
     let calm = calm was q (ap (λ (v : ClientState). scans v.target.task) u.rest ∙ scanning) alive u.serves in
     record {
-      text = (past.given ++ u.bytes) ++ take short.0 piece;
-      taken = subst (λ (j : ℕ). HasTaken before outputs then_ new j ((past.given ++ u.bytes) ++ take short.0 piece)) number_is short.2;
+      text = (past.given ++ bytes) ++ take short.0 piece;
+      taken = subst (λ (j : ℕ). HasTaken before outputs then_ new j ((past.given ++ bytes) ++ take short.0 piece)) number_is short.2;
       not_whole = short_at (turns was.outcome was.progress) was now q piece n short.0 refl law prefix calm short.1 p u.serves;
     }
 
-pub never : (past : JoinHistory) (old now : ClientState) (k i : ℕ) (before : Option Stock) (outputs : List ReturnedOutput) (stock : Option Stock) (out : Option (Option (List ℕ))) → scans old.target.task ≡ true → 2 ^ 40 ≤ i
-    → ((q : JoinHistory) (join : JoinState) → Represents q join → q.fault ≡ None → length q.given < 2 ^ 40) → IsPulled past old k before outputs i now stock out → ⊥
-never past old now k i before outputs stock out scanning many law u =
-    let no_fault : past.fault ≡ None = calm now (after_pull u.bytes past) (ap (λ (v : ClientState). scans v.target.task) u.rest ∙ scanning) (ap (λ (v : ClientState). is_ended v.outcome) u.rest ∙ u.alive (omega (arith, many))) u.serves in
-    omega (arith, law (after_pull u.bytes past) now.join u.serves.stands no_fault, length-append past.given u.bytes, u.some, many)
+pub never : (past : JoinHistory) (old now : ClientState) (k i : ℕ) (before : Option Stock) (outputs : List ReturnedOutput) (stock : Option Stock) (out : Option (Option (List ℕ))) (bytes : List ℕ) → scans old.target.task ≡ true → 2 ^ 40 ≤ i
+    → ((q : JoinHistory) (join : JoinState) → Represents q join → q.fault ≡ None → length q.given < 2 ^ 40) → IsPulled past old k before outputs bytes i now stock out → ⊥
+never past old now k i before outputs stock out bytes scanning many law u =
+    let no_fault : past.fault ≡ None = calm now (after_pull bytes past) (ap (λ (v : ClientState). scans v.target.task) u.rest ∙ scanning) (ap (λ (v : ClientState). is_ended v.outcome) u.rest ∙ u.alive (omega (arith, many))) u.serves in
+    omega (arith, law (after_pull bytes past) now.join u.serves.stands no_fault, length-append past.given bytes, u.some, many)

@@ -1,7 +1,6 @@
 -- That no job stops with GOOD, whatever the daemon says.
-use Rattle.std.proofs.Common.{◌≡◌, ◌∙◌, ◌⊎◌, inl, inr, ◌+◌, ◌<◌, ℕ, Bool, true, false, Option, Some, None, Result, Ok, Err, List, [], ◌∷◌, ◌++◌, length, refl, sym, ap, subst, arith, length-append}
-use Rattle.std.specs.Prelude.{◌≢◌, ◌&&◌, if◌then◌else◌, nat_lt, position, slice_get}
-use Rattle.std.proofs.lemmas.Bool.{ltb-true, ltb-false}
+use Rattle.std.proofs.Common.{◌≡◌, ℕ, Bool, true, false, Option, Some, None, Result, Ok, Err, List, [], ◌∷◌, refl, sym, ap, subst}
+use Rattle.std.specs.Prelude.{◌≢◌, if◌then◌else◌, nat_lt, position, slice_get}
 use Rattle.sane_fixed.specs.declared.status.Status.{Status}
 use Rattle.sane_fixed.specs.declared.status.Status.TheVariants as statuses
 use Rattle.sane_fixed.specs.declared.kind.Kind.{Kind}
@@ -11,11 +10,11 @@ use Rattle.sane_fixed.specs.declared.params.Params.{Params}
 use Rattle.option_desc.specs.declared.descriptor.Descriptor.{Descriptor}
 use Rattle.option_desc.specs.declared.value.Value.{Value}
 use Rattle.option_desc.specs.Reads.{read_value}
-use Rattle.device_api.specs.Options.{has_cap}
+use Rattle.sane_fixed.specs.Cap.{has_cap}
 use Rattle.md5_auth.specs.ChallengeReading.{answer_of}
 use Rattle.frame_join.specs.declared.join_stage.JoinFault.{JoinFault}
 use Rattle.frame_join.specs.declared.join_stage.JoinFault.TheVariants.{Shape, Long, Short, NoMem}
-use Rattle.frame_join.specs.FrameHistory.{JoinHistory, IsJoined, after_begin, after_pull}
+use Rattle.frame_join.specs.FrameHistory.{JoinHistory, after_begin}
 use Rattle.wire_message.specs.declared.message.Reply.{Reply}
 use Rattle.wire_message.specs.declared.message.Reply.TheVariants as replies
 use Rattle.wire_message.specs.declared.message.WireValue.{WireValue}
@@ -24,19 +23,17 @@ use Rattle.scan_job.specs.Outcomes.{IfEnded}
 use Rattle.scan_job.specs.declared.job.Job.{Job}
 use Rattle.scan_job.specs.declared.job.Task.{Task}
 use Rattle.scan_job.specs.declared.job.Task.TheVariants as tasks
-use Rattle.scan_job.specs.declared.report.Reports.{Reports}
-use Rattle.scan_job.specs.declared.outcome.Why.TheVariants as whys
 use Rattle.scan_job.specs.declared.outcome.Outcome.{Outcome}
 use Rattle.scan_job.specs.declared.outcome.Outcome.TheVariants.{Running, Done, Ended}
-use Rattle.client_replies.specs.WireValues.{given_like, wire_value_in}
+use Rattle.client_replies.specs.GivenValues.{given_like, wire_value_in}
 use Rattle.client_replies.specs.declared.progress.JobTarget.{JobTarget}
 use Rattle.client_replies.specs.declared.progress.Progress.{Progress}
 use Rattle.client_replies.specs.declared.progress.Progress.TheVariants as stages
 use Rattle.client_replies.specs.declared.progress.Notes.{Notes}
 use Rattle.client_replies.specs.declared.progress.Next.{Next}
 use Rattle.client_replies.specs.declared.progress.Next.TheVariants.{Wait, Finish, Stop}
-use Rattle.client_replies.specs.ReplyTurns.{Turn, turn, stop_by_answer, if_good, after_greeting, after_init_reply, after_list_reply, after_challenge, after_admission, opened_with, after_open_reply, after_authorize_reply, element_number, wants_value, gets_at, gets, after_settings, option_number_of, puts, puts_at, puts_named, next_of, next_setting, after_describe_reply, after_put, given_to, of_kind, put_good, put_without_resource, was_put, after_get_value, got_good, got_without_resource, was_got, is_all, started_by, started_with, after_start_reply, stop_unjoined, begun_by, status_of, page_whole, frame_joined, frame_ended_by}
-use Rattle.client_replies.specs.ProtocolStates.{is_running, lists, shows, next_outcome, target_of, next_notes, next_progress, shaped_by, after_params_reply, heard_at, answer_to, after_reply, progress_connected, turns, next_file}
+use Rattle.client_replies.specs.ReplyTurns.{stop_by_answer, if_good, after_greeting, after_init_reply, after_list_reply, after_challenge, after_admission, opened_with, after_open_reply, after_authorize_reply, element_number, wants_value, gets_at, gets, after_settings, option_number_of, puts, puts_at, puts_named, next_of, next_setting, after_describe_reply, after_put, given_to, of_kind, put_good, put_without_resource, was_put, after_get_value, got_good, got_without_resource, was_got, is_all, started_by, started_with, after_start_reply, stop_unjoined, begun_by, status_of, page_whole, frame_joined, frame_ended_by}
+use Rattle.client_replies.specs.ProtocolStates.{next_outcome, target_of, shaped_by, after_params_reply, heard_at, answer_to}
 use Rattle.net_jobs.specs.JobTraces.{TraceEvent, Replied, Opened, Came, Finished, Gave, Turned, JobTrace, EventsLead, EventLeads, initial_trace, frame_end_at}
 
 abbrev refuses : Status → Bool
@@ -242,7 +239,7 @@ outcome_names task notes (Stop status why) r = r
 names_on : (target : JobTarget) (was now : JobTrace) (event : TraceEvent) → Names was.protocol.outcome → EventLeads target was event now → Names now.protocol.outcome
 names_on target was now (Replied r) n l =
     subst (λ (x : JobTrace). Names x.protocol.outcome) (sym l.5) (outcome_names target.task (answer_to target was.protocol r).turn.notes (answer_to target was.protocol r).turn.next (reply_refuses was.protocol.progress target was.protocol.notes was.protocol.history r))
-names_on target was now Opened n l = subst (λ (x : JobTrace). Names x.protocol.outcome) (sym l.1) n
+names_on target was now (Opened port) n l = subst (λ (x : JobTrace). Names x.protocol.outcome) (sym l.2) n
 names_on target was now (Came bytes) n l = subst (λ (x : JobTrace). Names x.protocol.outcome) (sym l.3) n
 names_on target was now (Finished status) n l =
     subst (λ (x : JobTrace). Names x.protocol.outcome) (sym l.7) (outcome_names target.task was.protocol.notes (frame_end_at target was.protocol status).next (frame_refuses target.task was.protocol.notes.file was.protocol.history (status_of status)))

@@ -1,22 +1,29 @@
--- A turn of a job's loop: how far it is, with its control connection.
-use Rattle.std.proofs.Common.{◌≡◌, ◌∙◌, ◌⊎◌, ℕ, Bool, true, false, Option, Some, None, List, [], ◌++◌, take, drop, refl, sym, ap, subst, inl, inr}
-use Rattle.std.specs.Prelude.{if◌then◌else◌}
-use Rattle.std.specs.Io.KnownBytes.{Appends}
-use Rattle.std.proofs.lemmas.List.{append-nil, take-append-drop}
+-- A turn of a job's loop: how far the job is, move by move.
+use Rattle.std.proofs.Common.{◌≡◌, ◌∙◌, ◌⊎◌, ℕ, Bool, true, false, Option, Some, None, List, [], ◌∷◌, ◌++◌, refl, sym, ap, subst, inl, inr}
+use Rattle.std.specs.Prelude.{if◌then◌else◌, ◌&&◌}
+use Rattle.std.specs.Io.KnownBytes.{Consumes}
+use Rattle.std.proofs.lemmas.List.{append-nil}
 use Rattle.sane_fixed.specs.declared.status.Status.TheVariants as statuses
 use Rattle.frame_join.specs.FrameHistory.{JoinHistory, empty_history}
 use Rattle.scan_job.specs.declared.job.Job.{Job}
 use Rattle.scan_job.specs.declared.outcome.Why.TheVariants as whys
+use Rattle.scan_job.specs.declared.outcome.Outcome.{Outcome}
+use Rattle.client_replies.specs.declared.progress.Progress.{Progress}
+use Rattle.client_replies.specs.declared.progress.Link.{Link}
 use Rattle.client_replies.specs.declared.progress.Link.TheVariants as links
-use Rattle.client_replies.specs.ProtocolStates.{is_running, is_receiving, is_lost_by}
-use Rattle.net_client.specs.ClientStates.{ClientState, ClientRepresents, after_client_end, IsNewClient}
-use Rattle.net_client.specs.ReplyPieces.{Heeds}
+use Rattle.client_replies.specs.ProtocolStates.{is_running, is_receiving, is_imaging, is_lost_by}
+use Rattle.net_client.specs.ClientStates.{ClientState, after_client_end, IsNewClient}
+use Rattle.net_jobs.specs.declared.calls.Loss.TheVariants.{DialFailed}
+use Rattle.net_jobs.specs.JobJournal.{JobMove, Writes, Fails, Hears, Resumes, Dials, Takes, Gives, Loses, AreGives, GivesAll, given_by, HearsPiece, TakesPiece, LosesLink, after_loss, dialled_by, heard_by, bytes_written_by, HasLoss}
 use Rattle.net_jobs.specs.JobTraces.{JobTrace}
-use Rattle.net_jobs.specs.Links.{Begun, Read, Wrote, Failed}
-use Rattle.net_jobs.specs.RunInvariants.{LinkMatchesTrace, ClientFollowsTrace, Falls, GivenFiles, no_files_given, RunInvariant, FullRunInvariant, HeardOrLost}
+use Rattle.net_jobs.specs.Links.{LinkViews}
+use Rattle.net_jobs.specs.TurnSteps.{CallNotes, NotesMatch, no_notes, LoopState, Moves, MovesAll}
+use Rattle.net_jobs.specs.Outputs.{files_text}
+use Rattle.net_jobs.proofs.InvariantRecords.{LinkMatchesTrace, ClientFollowsTrace, Falls, GivenFiles, no_files_given, RunInvariant, FullRunInvariant}
+use Rattle.net_jobs.proofs.Giving.{leads_on, calls_on, heard_on_gives, written_on_gives, dialled_on_gives, loss_on_gives, failed_on_gives, lost_on_gives, given_on_gives}
 use Rattle.net_jobs.proofs.Tracing.{did_write}
-use Rattle.net_jobs.proofs.KeepingInvariant.{following, stage_begun, stage_heard}
-use Rattle.net_jobs.proofs.DataLoop.{stage_lost, lost_from}
+use Rattle.net_jobs.proofs.KeepingInvariant.{following, stage_begun, stage_heard, stage_on}
+use Rattle.net_jobs.proofs.DataLoop.{stage_lost, stage_missed, stage_opened, stage_received, stage_let_go, receiving_runs}
 
 -- ---- no data connection is open while none is received
 
@@ -25,10 +32,10 @@ pub none_open : {R : Type 0} (left_of : R → Option (List ℕ)) (coming0 coming
 none_open left_of coming0 coming streams None c past e l = refl
 none_open left_of coming0 coming streams (Some conn) c past e l = absurd (let clash : true ≡ false = sym l.receives ∙ e in cc)
 
-stage_none : {R : Type 0} (left_of : R → Option (List ℕ)) (job : Job) (read_ wrote left : List ℕ) (coming0 coming : Option (List (List ℕ))) (given : GivenFiles) (stream : Option R) (c : ClientState) → is_running c.outcome ≡ true
-    → is_receiving c.outcome c.progress ≡ false → RunInvariant left_of job read_ wrote left coming0 coming given stream c → stream ≡ None
-stage_none left_of job read_ wrote left coming0 coming given stream c running shut s =
-    none_open left_of coming0 coming s.trace.streams stream c s.history shut (following left_of coming0 coming s.trace s.rest stream c s.history running s.stands).linked
+stage_none : {R : Type 0} (left_of : R → Option (List ℕ)) (job : Job) (moves : List JobMove) (read_ wrote left : List ℕ) (coming0 coming : Option (List (List ℕ))) (given : GivenFiles) (stream : Option R) (c : ClientState) → is_running c.outcome ≡ true
+    → is_receiving c.outcome c.progress ≡ false → RunInvariant left_of job moves read_ wrote left coming0 coming given stream c → stream ≡ None
+stage_none left_of job moves read_ wrote left coming0 coming given stream c running shut s =
+    none_open left_of coming0 coming s.trace.streams stream c s.history shut (following left_of moves coming0 coming s.trace s.rest stream c s.history running s.stands).linked
 
 out_linked : {R : Type 0} (left_of : R → Option (List ℕ)) (coming0 coming : Option (List (List ℕ))) (streams : List (List ℕ)) (stream : Option R) (c : ClientState) (out : List ℕ) (past : JoinHistory)
     → LinkMatchesTrace left_of coming0 coming streams stream c past → LinkMatchesTrace left_of coming0 coming streams stream (record c { out = out }) past
@@ -46,10 +53,10 @@ out_linked left_of coming0 coming streams (Some conn) c out past l = record {
   receives = l.receives;
 }
 
-out_only : {R : Type 0} (left_of : R → Option (List ℕ)) (coming0 coming : Option (List (List ℕ))) (trace : JobTrace) (rest : List ℕ) (stream : Option R) (c : ClientState) (out : List ℕ) (past : JoinHistory)
-    → ClientFollowsTrace left_of coming0 coming trace rest stream c past ⊎ Falls coming0 coming trace rest c → ClientFollowsTrace left_of coming0 coming trace rest stream (record c { out = out }) past ⊎ Falls coming0 coming trace rest (record c { out = out })
-out_only left_of coming0 coming trace rest stream c out past (inl f) = inl (record { protocol_is = f.protocol_is; rest_is = f.rest_is; linked = out_linked left_of coming0 coming trace.streams stream c out past f.linked })
-out_only left_of coming0 coming trace rest stream c out past (inr f) = inr (record {
+out_only : {R : Type 0} (left_of : R → Option (List ℕ)) (moves : List JobMove) (coming0 coming : Option (List (List ℕ))) (trace : JobTrace) (rest : List ℕ) (stream : Option R) (c : ClientState) (out : List ℕ) (past : JoinHistory)
+    → ClientFollowsTrace left_of coming0 coming trace rest stream c past ⊎ Falls moves coming0 coming trace rest c → ClientFollowsTrace left_of coming0 coming trace rest stream (record c { out = out }) past ⊎ Falls moves coming0 coming trace rest (record c { out = out })
+out_only left_of moves coming0 coming trace rest stream c out past (inl f) = inl (record { protocol_is = f.protocol_is; rest_is = f.rest_is; linked = out_linked left_of coming0 coming trace.streams stream c out past f.linked })
+out_only left_of moves coming0 coming trace rest stream c out past (inr f) = inr (record {
   cause = f.cause;
   is_over = f.is_over;
   was_running = f.was_running;
@@ -61,9 +68,9 @@ out_only left_of coming0 coming trace rest stream c out past (inr f) = inr (reco
 })
 
 -- bytes that went out, and those that are left
-wrote_from : {R : Type 0} (left_of : R → Option (List ℕ)) (job : Job) (read_ wrote left piece after_ : List ℕ) (coming0 coming : Option (List (List ℕ))) (given : GivenFiles) (stream : Option R) (c : ClientState) (out : List ℕ) → left ≡ piece ++ after_
-    → (s : RunInvariant left_of job read_ wrote left coming0 coming given stream c) → (t : RunInvariant left_of job read_ (wrote ++ piece) after_ coming0 coming given stream (record c { out = out })) × (t.history ≡ s.history)
-wrote_from left_of job read_ wrote left piece after_ coming0 coming given stream c out e s = (
+wrote_from : {R : Type 0} (left_of : R → Option (List ℕ)) (job : Job) (moves : List JobMove) (read_ wrote left piece after_ : List ℕ) (coming0 coming : Option (List (List ℕ))) (given : GivenFiles) (stream : Option R) (c : ClientState) (out : List ℕ) → left ≡ piece ++ after_
+    → (s : RunInvariant left_of job moves read_ wrote left coming0 coming given stream c) → (t : RunInvariant left_of job moves read_ (wrote ++ piece) after_ coming0 coming given stream (record c { out = out })) × (t.history ≡ s.history)
+wrote_from left_of job moves read_ wrote left piece after_ coming0 coming given stream c out e s = (
   record {
     target = s.target;
     history = s.history;
@@ -73,123 +80,263 @@ wrote_from left_of job read_ wrote left piece after_ coming0 coming given stream
     pages_is = s.pages_is;
     rest = s.rest;
     did = did_write job s.trace read_ wrote s.rest left piece after_ e s.did;
-    stands = out_only left_of coming0 coming s.trace s.rest stream c out s.history s.stands;
+    asked = s.asked;
+    stands = out_only left_of moves coming0 coming s.trace s.rest stream c out s.history s.stands;
   },
   refl,
 )
 
-pub stage_wrote : {R : Type 0} (left_of : R → Option (List ℕ)) (job : Job) (read_ wrote left piece after_ : List ℕ) (coming0 coming : Option (List (List ℕ))) (given : GivenFiles) (stream : Option R) (c new : ClientState) → left ≡ piece ++ after_
-    → new ≡ record c { out = new.out } → (s : RunInvariant left_of job read_ wrote left coming0 coming given stream c) → (t : RunInvariant left_of job read_ (wrote ++ piece) after_ coming0 coming given stream new) × (t.history ≡ s.history)
-stage_wrote left_of job read_ wrote left piece after_ coming0 coming given stream c new e new_is s =
-    subst (λ (v : ClientState). (t : RunInvariant left_of job read_ (wrote ++ piece) after_ coming0 coming given stream v) × (t.history ≡ s.history)) (sym new_is)
-    (wrote_from left_of job read_ wrote left piece after_ coming0 coming given stream c new.out e s)
+pub stage_wrote : {R : Type 0} (left_of : R → Option (List ℕ)) (job : Job) (moves : List JobMove) (read_ wrote left piece after_ : List ℕ) (coming0 coming : Option (List (List ℕ))) (given : GivenFiles) (stream : Option R) (c new : ClientState) → left ≡ piece ++ after_
+    → new ≡ record c { out = new.out } → (s : RunInvariant left_of job moves read_ wrote left coming0 coming given stream c) → (t : RunInvariant left_of job moves read_ (wrote ++ piece) after_ coming0 coming given stream new) × (t.history ≡ s.history)
+stage_wrote left_of job moves read_ wrote left piece after_ coming0 coming given stream c new e new_is s =
+    subst (λ (v : ClientState). (t : RunInvariant left_of job moves read_ (wrote ++ piece) after_ coming0 coming given stream v) × (t.history ≡ s.history)) (sym new_is)
+    (wrote_from left_of job moves read_ wrote left piece after_ coming0 coming given stream c new.out e s)
 
--- ---- the control connection: what it is to have heard, written and lost
+-- ---- the control connection
 
-pub going_begun : {C R : Type 0} (remaining contents : C → Option (List ℕ)) (left_of : R → Option (List ℕ)) (job : Job) (control : C) (coming : Option (List (List ℕ))) (c : ClientState) → IsNewClient job c
-    → (g : FullRunInvariant remaining contents left_of job control coming no_files_given false control coming None c) × (g.stage.history ≡ empty_history)
-going_begun remaining contents left_of job control coming c f =
+pub going_begun : {C R : Type 0} (views : LinkViews C) (left_of : R → Option (List ℕ)) (job : Job) (control : C) (coming : Option (List (List ℕ))) (c : ClientState) → IsNewClient job c
+    → (g : FullRunInvariant views left_of job control coming no_files_given no_notes control coming None c) × (g.stage.history ≡ empty_history)
+going_begun views left_of job control coming c f =
     let s = stage_begun left_of job coming c f in
-    (record { read_ = []; wrote = []; left = c.out; calls = Begun; stage = s.0; left_is = λ e. refl }, s.1)
+    (record { moves = []; left = c.out; calls = refl; stage = s.0; left_is = λ e. refl; notes_are = record { loss = refl; write_failed = refl }; fresh = c; is_fresh = f; leads = refl; gave = refl }, s.1)
 
-heard_or_lost : {R : Type 0} (left_of : R → Option (List ℕ)) (job : Job) (read_ wrote : List ℕ) (coming0 coming : Option (List (List ℕ))) (given : GivenFiles) (old new : ClientState) (piece : List ℕ)
-    → is_running old.outcome ≡ true → is_receiving old.outcome old.progress ≡ false
-    → (s : RunInvariant left_of job read_ wrote old.out coming0 coming given None old) → ((piece ≡ []) × (new ≡ after_client_end statuses.IoError whys.Lost old)) ⊎ Heeds old s.history piece new
-    → RunInvariant left_of job (read_ ++ piece) wrote new.out coming0 coming given None new
-heard_or_lost left_of job read_ wrote coming0 coming given old new piece running shut s (inl lost) =
-    subst (λ (l : List ℕ). RunInvariant left_of job l wrote new.out coming0 coming given None new) (sym (ap (λ (l : List ℕ). read_ ++ l) lost.0 ∙ append-nil read_))
-    (subst (λ (l : List ℕ). RunInvariant left_of job read_ wrote l coming0 coming given None new) (sym (ap (λ (v : ClientState). v.out) lost.1))
-    (stage_lost left_of job read_ wrote old.out coming0 coming given None None old new running lost.1 s))
-heard_or_lost left_of job read_ wrote coming0 coming given old new piece running shut s (inr heeds) = stage_heard left_of job read_ wrote coming0 coming given old new piece running shut s heeds
+-- a piece is heard while no data connection is open
+stage_hears : {R : Type 0} (left_of : R → Option (List ℕ)) (job : Job) (moves : List JobMove) (read_ wrote : List ℕ) (coming0 coming : Option (List (List ℕ))) (given : GivenFiles) (stream : Option R) (old new : ClientState) (piece : List ℕ)
+    → HearsPiece old piece new → RunInvariant left_of job moves read_ wrote old.out coming0 coming given stream old → RunInvariant left_of job moves (read_ ++ piece) wrote new.out coming0 coming given stream new
+stage_hears {R} left_of job moves read_ wrote coming0 coming given stream old new piece h s =
+    let none = stage_none left_of job moves read_ wrote old.out coming0 coming given stream old h.running h.quiet s in
+    let from = subst (λ (o : Option R). RunInvariant left_of job moves read_ wrote old.out coming0 coming given o old) none s in
+    subst (λ (o : Option R). RunInvariant left_of job moves (read_ ++ piece) wrote new.out coming0 coming given o new) (sym none)
+    (stage_heard left_of job moves read_ wrote coming0 coming given old new piece h.running h.quiet from (h.heeds from.history from.serves))
 
--- a read of the control connection
-pub going_read : {C R : Type 0} (remaining contents : C → Option (List ℕ)) (left_of : R → Option (List ℕ)) (job : Job) (first : C) (coming0 : Option (List (List ℕ))) (given : GivenFiles) (control now : C) (coming : Option (List (List ℕ))) (stream : Option R) (old new : ClientState)
-    → is_running old.outcome ≡ true → is_receiving old.outcome old.progress ≡ false
-    → ((past : JoinHistory) → ClientRepresents past old → HeardOrLost (remaining control) (remaining now) old past new)
-    → FullRunInvariant remaining contents left_of job first coming0 given false control coming stream old → FullRunInvariant remaining contents left_of job first coming0 given false now coming stream new
-going_read {C} {R} remaining contents left_of job first coming0 given control now coming stream old new running shut hears g =
-    let none = stage_none left_of job g.read_ g.wrote g.left coming0 coming given stream old running shut g.stage in
-    let here = subst (λ (l : List ℕ). RunInvariant left_of job g.read_ g.wrote l coming0 coming given stream old) (g.left_is refl) g.stage in
-    let from = subst (λ (o : Option R). RunInvariant left_of job g.read_ g.wrote old.out coming0 coming given o old) none here in
-    let h = hears from.history from.serves in
+-- the control connection is lost, if the job runs
+lost_if : {R : Type 0} (left_of : R → Option (List ℕ)) (job : Job) (moves more : List JobMove) (read_ wrote left : List ℕ) (coming0 coming : Option (List (List ℕ))) (given : GivenFiles) (stream : Option R) (old new : ClientState) (runs : Bool) → is_running old.outcome ≡ runs
+    → new ≡ (if runs then after_client_end statuses.IoError whys.Lost old else old) → HasLoss more → dialled_by more ≡ dialled_by moves
+    → RunInvariant left_of job moves read_ wrote left coming0 coming given stream old → RunInvariant left_of job more read_ wrote left coming0 coming given stream new
+lost_if left_of job moves more read_ wrote left coming0 coming given stream old new true runs lost loss asks s = (stage_lost left_of job moves more read_ wrote left coming0 coming given stream stream old new runs lost loss asks s).0
+lost_if left_of job moves more read_ wrote left coming0 coming given stream old new false runs same loss asks s =
+    subst (λ (v : ClientState). RunInvariant left_of job more read_ wrote left coming0 coming given stream v) (sym same) (stage_on left_of job moves more read_ wrote left coming0 coming given stream old asks (λ l. loss) s).0
+
+out_of_loss : (runs : Bool) (c : ClientState) → (if runs then after_client_end statuses.IoError whys.Lost c else c).out ≡ c.out
+out_of_loss true c = refl
+out_of_loss false c = refl
+
+pub out_lost : (link : Link) (old new : ClientState) → new ≡ after_loss link old → new.out ≡ old.out
+out_lost link old new e = ap (λ (v : ClientState). v.out) e ∙ out_of_loss (is_lost_by link old.outcome old.progress) old
+
+-- ---- one move
+
+kept_stream : {R : Type 0} (left_of : R → Option (List ℕ)) (job : Job) (moves : List JobMove) (read_ wrote : List ℕ) (coming0 coming : Option (List (List ℕ))) (given : GivenFiles) (before behind : R) (old new : ClientState) (piece : List ℕ) (still : Bool)
+    → is_receiving new.outcome new.progress ≡ still → TakesPiece old piece new → Consumes (left_of before) (left_of behind) piece
+    → RunInvariant left_of job moves read_ wrote old.out coming0 coming given (Some before) old → RunInvariant left_of job moves read_ wrote new.out coming0 coming given (if still then Some behind else None) new
+kept_stream left_of job moves read_ wrote coming0 coming given before behind old new piece true still t consumed s =
+    stage_received left_of job moves read_ wrote coming0 coming given before behind old new piece (receiving_runs old.outcome old.progress t.receiving) consumed still s (t.receives s.history s.serves)
+kept_stream left_of job moves read_ wrote coming0 coming given before behind old new piece false still t consumed s =
+    stage_let_go left_of job moves read_ wrote coming0 coming given before behind old new piece t.receiving consumed still s (t.receives s.history s.serves)
+
+and_left : (a b : Bool) → (a && b) ≡ true → a ≡ true
+and_left true b e = refl
+and_left false b e = e
+
+lost_runs : (link : Link) (outcome : Outcome) (progress : Progress) → is_lost_by link outcome progress ≡ true → is_running outcome ≡ true
+lost_runs links.Control outcome progress e = e
+lost_runs links.Image outcome progress e = and_left (is_running outcome) (is_imaging progress) e
+
+-- a connection is lost while the job runs
+stage_loses : {R : Type 0} (left_of : R → Option (List ℕ)) (job : Job) (moves more : List JobMove) (read_ wrote : List ℕ) (coming0 coming : Option (List (List ℕ))) (given : GivenFiles) (stream after_ : Option R) (old new : ClientState) (link : Link)
+    → LosesLink old link new → HasLoss more → dialled_by more ≡ dialled_by moves
+    → RunInvariant left_of job moves read_ wrote old.out coming0 coming given stream old → RunInvariant left_of job more read_ wrote new.out coming0 coming given after_ new
+stage_loses left_of job moves more read_ wrote coming0 coming given stream after_ old new link l loss asks s =
+    subst (λ (o : List ℕ). RunInvariant left_of job more read_ wrote o coming0 coming given after_ new) (sym (ap (λ (v : ClientState). v.out) l.new_is))
+    (stage_lost left_of job moves more read_ wrote old.out coming0 coming given stream after_ old new (lost_runs link old.outcome old.progress l.lost) l.new_is loss asks s).0
+
+-- the data connections are as they were
+relinked : {R : Type 0} (left_of : R → Option (List ℕ)) (job : Job) (moves : List JobMove) (read_ wrote left : List ℕ) (coming0 was now : Option (List (List ℕ))) (given : GivenFiles) (before behind : Option R) (c : ClientState) → now ≡ was → behind ≡ before
+    → RunInvariant left_of job moves read_ wrote left coming0 was given before c → RunInvariant left_of job moves read_ wrote left coming0 now given behind c
+relinked {R} left_of job moves read_ wrote left coming0 was now given before behind c same kept s =
+    subst (λ (o : Option R). RunInvariant left_of job moves read_ wrote left coming0 now given o c) (sym kept) (subst (λ (o : Option (List (List ℕ))). RunInvariant left_of job moves read_ wrote left coming0 o given before c) (sym same) s)
+
+-- what is left to go out is what the client has
+here : {L R : Type 0} (views : LinkViews L) (left_of : R → Option (List ℕ)) (job : Job) (first : L) (coming0 : Option (List (List ℕ))) (given : GivenFiles) (was : LoopState L R) → was.notes.write_failed ≡ false
+    → (g : FullRunInvariant views left_of job first coming0 given was.notes was.links was.coming was.stream was.client) → RunInvariant left_of job g.moves (heard_by g.moves) (bytes_written_by g.moves) was.client.out coming0 was.coming given was.stream was.client
+here views left_of job first coming0 given was up g = subst (λ (l : List ℕ). RunInvariant left_of job g.moves (heard_by g.moves) (bytes_written_by g.moves) l coming0 was.coming given was.stream was.client) (g.left_is up) g.stage
+
+noted : (moves : List JobMove) (was now : CallNotes) → now ≡ was → NotesMatch moves was → NotesMatch moves now
+noted moves was now e n = subst (λ (x : CallNotes). NotesMatch moves x) (sym e) n
+
+pub going_moved : {L R : Type 0} (views : LinkViews L) (left_of : R → Option (List ℕ)) (job : Job) (first : L) (coming0 : Option (List (List ℕ))) (given : GivenFiles) (was now : LoopState L R) (move : JobMove) → Moves views left_of was move now
+    → FullRunInvariant views left_of job first coming0 given was.notes was.links was.coming was.stream was.client → FullRunInvariant views left_of job first coming0 given now.notes now.links now.coming now.stream now.client
+going_moved views left_of job first coming0 given was now (Writes bytes) m g =
+    let moves : List JobMove = g.moves in
+    let left : was.client.out ≡ bytes ++ [] = sym m.client.all ∙ sym (append-nil bytes) in
+    let new_is : now.client ≡ record was.client { out = now.client.out } = m.client.new_is ∙ ap (λ (o : List ℕ). record was.client { out = o }) (sym (ap (λ (v : ClientState). v.out) m.client.new_is)) in
+    let wrote = stage_wrote left_of job moves (heard_by moves) (bytes_written_by moves) was.client.out bytes [] coming0 was.coming given was.stream was.client now.client left new_is (here views left_of job first coming0 given was m.up g) in
+    let on = stage_on left_of job moves (Writes bytes ∷ moves) (heard_by moves) (bytes_written_by moves ++ bytes) [] coming0 was.coming given was.stream now.client refl (λ l. l) wrote.0 in
     record {
-      read_ = g.read_ ++ h.bytes;
-      wrote = g.wrote;
-      left = new.out;
-      calls = Read g.read_ g.wrote false control now h.bytes g.calls h.consumed;
-      stage = subst (λ (o : Option R). RunInvariant left_of job (g.read_ ++ h.bytes) g.wrote new.out coming0 coming given o new) (sym none)
-          (heard_or_lost left_of job g.read_ g.wrote coming0 coming given old new h.bytes running shut from h.then_);
-      left_is = λ e. refl;
+      moves = Writes bytes ∷ moves;
+      left = [];
+      calls = (was.links, g.calls, m.links);
+      stage = relinked left_of job (Writes bytes ∷ moves) (heard_by moves) (bytes_written_by moves ++ bytes) [] coming0 was.coming now.coming given was.stream now.stream now.client m.data_is.0 m.data_is.1 on.0;
+      left_is = λ e. sym (ap (λ (v : ClientState). v.out) m.client.new_is);
+      notes_are = noted (Writes bytes ∷ moves) was.notes now.notes m.notes (record { loss = g.notes_are.loss; write_failed = g.notes_are.write_failed });
+      fresh = g.fresh;
+      is_fresh = g.is_fresh;
+      leads = (was.client, g.leads, m.client);
+      gave = g.gave;
     }
-
--- a client that was fed nothing may have more to hear of what came before
-pub going_fed : {C R : Type 0} (remaining contents : C → Option (List ℕ)) (left_of : R → Option (List ℕ)) (job : Job) (first : C) (coming0 : Option (List (List ℕ))) (given : GivenFiles) (control : C) (coming : Option (List (List ℕ))) (stream : Option R) (old new : ClientState)
-    → is_running old.outcome ≡ true → is_receiving old.outcome old.progress ≡ false
-    → ((past : JoinHistory) → ClientRepresents past old → Heeds old past [] new)
-    → FullRunInvariant remaining contents left_of job first coming0 given false control coming stream old → FullRunInvariant remaining contents left_of job first coming0 given false control coming stream new
-going_fed {C} {R} remaining contents left_of job first coming0 given control coming stream old new running shut heeds g =
-    let none = stage_none left_of job g.read_ g.wrote g.left coming0 coming given stream old running shut g.stage in
-    let here = subst (λ (l : List ℕ). RunInvariant left_of job g.read_ g.wrote l coming0 coming given stream old) (g.left_is refl) g.stage in
-    let from = subst (λ (o : Option R). RunInvariant left_of job g.read_ g.wrote old.out coming0 coming given o old) none here in
-    let then_ = stage_heard left_of job g.read_ g.wrote coming0 coming given old new [] running shut from (heeds from.history from.serves) in
+going_moved views left_of job first coming0 given was now (Fails bytes) m g =
+    let moves : List JobMove = g.moves in
+    let short : ClientState = record was.client { out = now.client.out } in
+    let wrote = stage_wrote left_of job moves (heard_by moves) (bytes_written_by moves) was.client.out bytes m.client.rest coming0 was.coming given was.stream was.client short m.client.front refl (here views left_of job first coming0 given was m.up g) in
+    let lost = lost_if left_of job moves (Fails bytes ∷ moves) (heard_by moves) (bytes_written_by moves ++ bytes) m.client.rest coming0 was.coming given was.stream short now.client (is_running was.client.outcome) refl m.client.new_is tt refl wrote.0 in
     record {
-      read_ = g.read_;
-      wrote = g.wrote;
-      left = new.out;
-      calls = g.calls;
-      stage = subst (λ (l : List ℕ). RunInvariant left_of job l g.wrote new.out coming0 coming given stream new) (append-nil g.read_) (subst (λ (o : Option R). RunInvariant left_of job (g.read_ ++ []) g.wrote new.out coming0 coming given o new) (sym none) then_);
-      left_is = λ e. refl;
+      moves = Fails bytes ∷ moves;
+      left = m.client.rest;
+      calls = (was.links, g.calls, m.links);
+      stage = relinked left_of job (Fails bytes ∷ moves) (heard_by moves) (bytes_written_by moves ++ bytes) m.client.rest coming0 was.coming now.coming given was.stream now.stream now.client m.data_is.0 m.data_is.1 lost;
+      left_is = λ e. absurd (let clash : true ≡ false = sym (ap (λ (n : CallNotes). n.write_failed) m.notes) ∙ e in cc);
+      notes_are = noted (Fails bytes ∷ moves) (record was.notes { write_failed = true }) now.notes m.notes (record { loss = g.notes_are.loss; write_failed = refl });
+      fresh = g.fresh;
+      is_fresh = g.is_fresh;
+      leads = (was.client, g.leads, m.client);
+      gave = g.gave;
     }
+going_moved views left_of job first coming0 given was now (Hears piece) m g =
+    let moves : List JobMove = g.moves in
+    let heard = stage_hears left_of job moves (heard_by moves) (bytes_written_by moves) coming0 was.coming given was.stream was.client now.client piece m.client.0 (here views left_of job first coming0 given was m.up g) in
+    let on = stage_on left_of job moves (Hears piece ∷ moves) (heard_by moves ++ piece) (bytes_written_by moves) now.client.out coming0 was.coming given was.stream now.client refl (λ l. l) heard in
+    record {
+      moves = Hears piece ∷ moves;
+      left = now.client.out;
+      calls = (was.links, g.calls, m.links);
+      stage = relinked left_of job (Hears piece ∷ moves) (heard_by moves ++ piece) (bytes_written_by moves) now.client.out coming0 was.coming now.coming given was.stream now.stream now.client m.data_is.0 m.data_is.1 on.0;
+      left_is = λ e. refl;
+      notes_are = noted (Hears piece ∷ moves) was.notes now.notes m.notes (record { loss = g.notes_are.loss; write_failed = g.notes_are.write_failed });
+      fresh = g.fresh;
+      is_fresh = g.is_fresh;
+      leads = (was.client, g.leads, m.client);
+      gave = g.gave;
+    }
+going_moved views left_of job first coming0 given was now Resumes m g =
+    let moves : List JobMove = g.moves in
+    let heard = stage_hears left_of job moves (heard_by moves) (bytes_written_by moves) coming0 was.coming given was.stream was.client now.client [] m.client (here views left_of job first coming0 given was m.up g) in
+    let none = subst (λ (l : List ℕ). RunInvariant left_of job moves l (bytes_written_by moves) now.client.out coming0 was.coming given was.stream now.client) (append-nil (heard_by moves)) heard in
+    let on = stage_on left_of job moves (Resumes ∷ moves) (heard_by moves) (bytes_written_by moves) now.client.out coming0 was.coming given was.stream now.client refl (λ l. l) none in
+    record {
+      moves = Resumes ∷ moves;
+      left = now.client.out;
+      calls = (was.links, g.calls, m.links);
+      stage = relinked left_of job (Resumes ∷ moves) (heard_by moves) (bytes_written_by moves) now.client.out coming0 was.coming now.coming given was.stream now.stream now.client m.data_is.0 m.data_is.1 on.0;
+      left_is = λ e. refl;
+      notes_are = noted (Resumes ∷ moves) was.notes now.notes m.notes (record { loss = g.notes_are.loss; write_failed = g.notes_are.write_failed });
+      fresh = g.fresh;
+      is_fresh = g.is_fresh;
+      leads = (was.client, g.leads, m.client);
+      gave = g.gave;
+    }
+going_moved {L} {R} views left_of job first coming0 given was now (Dials port true) m g =
+    let moves : List JobMove = g.moves in
+    let opened = stage_opened left_of job moves (heard_by moves) (bytes_written_by moves) coming0 was.coming now.coming given was.stream m.data_is.0 was.client now.client port m.client.running m.client.wanted m.data_is.2 m.client.new_is m.client.serves
+    (here views left_of job first coming0 given was m.up g) in
+    record {
+      moves = Dials port true ∷ moves;
+      left = now.client.out;
+      calls = (was.links, g.calls, m.links);
+      stage = subst (λ (o : Option R). RunInvariant left_of job (Dials port true ∷ moves) (heard_by moves) (bytes_written_by moves) now.client.out coming0 now.coming given o now.client) (sym m.data_is.1) opened;
+      left_is = λ e. refl;
+      notes_are = noted (Dials port true ∷ moves) was.notes now.notes m.notes (record { loss = g.notes_are.loss; write_failed = g.notes_are.write_failed });
+      fresh = g.fresh;
+      is_fresh = g.is_fresh;
+      leads = (was.client, g.leads, m.client);
+      gave = g.gave;
+    }
+going_moved views left_of job first coming0 given was now (Dials port false) m g =
+    let moves : List JobMove = g.moves in
+    let missed = stage_missed left_of job moves (heard_by moves) (bytes_written_by moves) was.client.out coming0 was.coming given was.stream now.stream was.client now.client port m.client.running m.client.wanted m.client.new_is (here views left_of job first coming0 given was m.up g) in
+    let left = subst (λ (l : List ℕ). RunInvariant left_of job (Dials port false ∷ moves) (heard_by moves) (bytes_written_by moves) l coming0 was.coming given now.stream now.client) (sym (out_lost links.Image was.client now.client m.client.new_is)) missed.0 in
+    record {
+      moves = Dials port false ∷ moves;
+      left = now.client.out;
+      calls = (was.links, g.calls, m.links);
+      stage = relinked left_of job (Dials port false ∷ moves) (heard_by moves) (bytes_written_by moves) now.client.out coming0 was.coming now.coming given now.stream now.stream now.client m.data_is refl left;
+      left_is = λ e. refl;
+      notes_are = noted (Dials port false ∷ moves) (record was.notes { loss = Some DialFailed }) now.notes m.notes (record { loss = refl; write_failed = g.notes_are.write_failed });
+      fresh = g.fresh;
+      is_fresh = g.is_fresh;
+      leads = (was.client, g.leads, m.client);
+      gave = g.gave;
+    }
+going_moved {L} {R} views left_of job first coming0 given was now (Takes piece) m g =
+    let moves : List JobMove = g.moves in
+    let from = subst (λ (o : Option R). RunInvariant left_of job moves (heard_by moves) (bytes_written_by moves) was.client.out coming0 was.coming given o was.client) m.data_is.2 (here views left_of job first coming0 given was m.up g) in
+    let took = kept_stream left_of job moves (heard_by moves) (bytes_written_by moves) coming0 was.coming given m.data_is.0 m.data_is.1 was.client now.client piece (is_receiving now.client.outcome now.client.progress) refl m.client.0 m.data_is.3 from in
+    let on = stage_on left_of job moves (Takes piece ∷ moves) (heard_by moves) (bytes_written_by moves) now.client.out coming0 was.coming given _ now.client refl (λ l. l) took in
+    record {
+      moves = Takes piece ∷ moves;
+      left = now.client.out;
+      calls = (was.links, g.calls, m.links);
+      stage = relinked left_of job (Takes piece ∷ moves) (heard_by moves) (bytes_written_by moves) now.client.out coming0 was.coming now.coming given _ now.stream now.client m.data_is.4 m.data_is.5 on.0;
+      left_is = λ e. refl;
+      notes_are = noted (Takes piece ∷ moves) was.notes now.notes m.notes (record { loss = g.notes_are.loss; write_failed = g.notes_are.write_failed });
+      fresh = g.fresh;
+      is_fresh = g.is_fresh;
+      leads = (was.client, g.leads, m.client);
+      gave = g.gave;
+    }
+going_moved views left_of job first coming0 given was now (Loses link reason) m g =
+    let moves : List JobMove = g.moves in
+    let lost = stage_loses left_of job moves (Loses link reason ∷ moves) (heard_by moves) (bytes_written_by moves) coming0 was.coming given was.stream now.stream was.client now.client link m.client tt refl (here views left_of job first coming0 given was m.up g) in
+    record {
+      moves = Loses link reason ∷ moves;
+      left = now.client.out;
+      calls = (was.links, g.calls, m.links);
+      stage = relinked left_of job (Loses link reason ∷ moves) (heard_by moves) (bytes_written_by moves) now.client.out coming0 was.coming now.coming given now.stream now.stream now.client m.data_is refl lost;
+      left_is = λ e. refl;
+      notes_are = noted (Loses link reason ∷ moves) (record was.notes { loss = Some reason }) now.notes m.notes (record { loss = refl; write_failed = g.notes_are.write_failed });
+      fresh = g.fresh;
+      is_fresh = g.is_fresh;
+      leads = (was.client, g.leads, m.client);
+      gave = g.gave;
+    }
+going_moved views left_of job first coming0 given was now (Gives bytes) m g = absurd m.of_links
 
--- all bytes that were to go out went
-pub going_wrote : {C R : Type 0} (remaining contents : C → Option (List ℕ)) (left_of : R → Option (List ℕ)) (job : Job) (first : C) (coming0 : Option (List (List ℕ))) (given : GivenFiles) (control now : C) (coming : Option (List (List ℕ))) (stream : Option R) (old new : ClientState)
-    → Appends (contents control) (contents now) old.out → new.out ≡ [] → new ≡ record old { out = new.out }
-    → FullRunInvariant remaining contents left_of job first coming0 given false control coming stream old → FullRunInvariant remaining contents left_of job first coming0 given false now coming stream new
-going_wrote remaining contents left_of job first coming0 given control now coming stream old new took none new_is g = record {
-  read_ = g.read_;
-  wrote = g.wrote ++ old.out;
-  left = [];
-  calls = Wrote g.read_ g.wrote false control now old.out g.calls took;
-  stage = (stage_wrote left_of job g.read_ g.wrote g.left old.out [] coming0 coming given stream old new (g.left_is refl ∙ sym (append-nil old.out)) new_is g.stage).0;
-  left_is = λ e. sym none;
-}
+-- ---- bytes of the files
 
--- some went, and a write failed
-pub going_short : {C R : Type 0} (remaining contents : C → Option (List ℕ)) (left_of : R → Option (List ℕ)) (job : Job) (first : C) (coming0 : Option (List (List ℕ))) (given : GivenFiles) (control now : C) (coming : Option (List (List ℕ))) (stream : Option R) (old new : ClientState) (n : ℕ)
-    → Appends (contents control) (contents now) (take n old.out) → new ≡ record old { out = new.out }
-    → FullRunInvariant remaining contents left_of job first coming0 given false control coming stream old → FullRunInvariant remaining contents left_of job first coming0 given true now coming stream new
-going_short remaining contents left_of job first coming0 given control now coming stream old new n took new_is g = record {
-  read_ = g.read_;
-  wrote = g.wrote ++ take n old.out;
-  left = drop n old.out;
-  calls = Failed g.read_ g.wrote false control now (take n old.out) g.calls took;
-  stage = (stage_wrote left_of job g.read_ g.wrote g.left (take n old.out) (drop n old.out) coming0 coming given stream old new (g.left_is refl ∙ sym (take-append-drop n old.out)) new_is g.stage).0;
-  left_is = λ e. absurd (let clash : true ≡ false = e in cc);
-}
+-- what was given changes nothing of what was heard, written and asked for
+gave_stage : {R : Type 0} (left_of : R → Option (List ℕ)) (job : Job) (gives moves : List JobMove) (left : List ℕ) (coming0 coming : Option (List (List ℕ))) (given : GivenFiles) (stream : Option R) (c : ClientState) → AreGives gives
+    → (s : RunInvariant left_of job moves (heard_by moves) (bytes_written_by moves) left coming0 coming given stream c)
+    → (t : RunInvariant left_of job (gives ++ moves) (heard_by (gives ++ moves)) (bytes_written_by (gives ++ moves)) left coming0 coming given stream c) × (t.history ≡ s.history)
+gave_stage left_of job gives moves left coming0 coming given stream c are s =
+    let on = stage_on left_of job moves (gives ++ moves) (heard_by moves) (bytes_written_by moves) left coming0 coming given stream c (dialled_on_gives gives moves are) (lost_on_gives gives moves are) s in
+    subst (λ (h : List ℕ). (t : RunInvariant left_of job (gives ++ moves) h (bytes_written_by (gives ++ moves)) left coming0 coming given stream c) × (t.history ≡ s.history)) (sym (heard_on_gives gives moves are))
+    (subst (λ (w : List ℕ). (t : RunInvariant left_of job (gives ++ moves) (heard_by moves) w left coming0 coming given stream c) × (t.history ≡ s.history)) (sym (written_on_gives gives moves are)) on)
 
--- the control connection is lost
-lost_if : {R : Type 0} (left_of : R → Option (List ℕ)) (job : Job) (read_ wrote left : List ℕ) (coming0 coming : Option (List (List ℕ))) (given : GivenFiles) (stream : Option R) (old new : ClientState) (runs : Bool) → is_running old.outcome ≡ runs
-    → new ≡ (if runs then after_client_end statuses.IoError whys.Lost old else old) → (s : RunInvariant left_of job read_ wrote left coming0 coming given stream old)
-    → (t : RunInvariant left_of job read_ wrote left coming0 coming given stream new) × (t.history ≡ s.history)
-lost_if left_of job read_ wrote left coming0 coming given stream old new true runs lost s = lost_from left_of job read_ wrote left coming0 coming given stream stream old new runs lost s
-lost_if left_of job read_ wrote left coming0 coming given stream old new false runs same s =
-    subst (λ (v : ClientState). (t : RunInvariant left_of job read_ wrote left coming0 coming given stream v) × (t.history ≡ s.history)) (sym same) (s, refl)
+pub gave_on : {L R : Type 0} (views : LinkViews L) (left_of : R → Option (List ℕ)) (job : Job) (first : L) (coming0 : Option (List (List ℕ))) (given more : GivenFiles) (notes : CallNotes) (links : L) (coming : Option (List (List ℕ))) (stream : Option R) (c now : ClientState) (gives : List JobMove) (left : List ℕ)
+    → GivesAll c gives now → (g : FullRunInvariant views left_of job first coming0 given notes links coming stream c) → (s : RunInvariant left_of job g.moves (heard_by g.moves) (bytes_written_by g.moves) left coming0 coming more stream now)
+    → (notes.write_failed ≡ false → left ≡ now.out) → files_text more.pages ++ more.bytes ≡ (files_text given.pages ++ given.bytes) ++ given_by gives
+    → (h : FullRunInvariant views left_of job first coming0 more notes links coming stream now) × (h.stage.history ≡ s.history)
+gave_on views left_of job first coming0 given more notes links coming stream c now gives left all g s left_is files =
+    let t = gave_stage left_of job gives g.moves left coming0 coming more stream now all.are s in (
+      record {
+        moves = gives ++ g.moves;
+        left = left;
+        calls = calls_on views first links gives g.moves all.are g.calls;
+        stage = t.0;
+        left_is = left_is;
+        notes_are = record { loss = loss_on_gives gives g.moves all.are ∙ g.notes_are.loss; write_failed = failed_on_gives gives g.moves all.are ∙ g.notes_are.write_failed };
+        fresh = g.fresh;
+        is_fresh = g.is_fresh;
+        leads = leads_on g.fresh c now gives g.moves g.leads all.leads;
+        gave = files ∙ ap (λ (l : List ℕ). l ++ given_by gives) g.gave ∙ sym (given_on_gives gives g.moves all.are);
+      },
+      t.1,
+    )
 
-pub stage_cut : {R : Type 0} (left_of : R → Option (List ℕ)) (job : Job) (read_ wrote left : List ℕ) (coming0 coming : Option (List (List ℕ))) (given : GivenFiles) (stream : Option R) (old new : ClientState)
-    → new ≡ (if is_lost_by links.Control old.outcome old.progress then after_client_end statuses.IoError whys.Lost old else old) → (s : RunInvariant left_of job read_ wrote left coming0 coming given stream old)
-    → (t : RunInvariant left_of job read_ wrote left coming0 coming given stream new) × (t.history ≡ s.history)
-stage_cut left_of job read_ wrote left coming0 coming given stream old new lost s = lost_if left_of job read_ wrote left coming0 coming given stream old new (is_running old.outcome) refl lost s
+-- ---- a turn
 
--- ---- the data connection: what goes on without the control connection
-
-pub going_staged : {C R : Type 0} (remaining contents : C → Option (List ℕ)) (left_of : R → Option (List ℕ)) (job : Job) (first : C) (coming0 : Option (List (List ℕ))) (given : GivenFiles) (control : C) (coming now : Option (List (List ℕ))) (stream after_ : Option R) (old new : ClientState)
-    → ((read_ wrote : List ℕ) → RunInvariant left_of job read_ wrote old.out coming0 coming given stream old → RunInvariant left_of job read_ wrote new.out coming0 now given after_ new)
-    → FullRunInvariant remaining contents left_of job first coming0 given false control coming stream old → FullRunInvariant remaining contents left_of job first coming0 given false control now after_ new
-going_staged remaining contents left_of job first coming0 given control coming now stream after_ old new goes g = record {
-  read_ = g.read_;
-  wrote = g.wrote;
-  left = new.out;
-  calls = g.calls;
-  stage = goes g.read_ g.wrote (subst (λ (l : List ℕ). RunInvariant left_of job g.read_ g.wrote l coming0 coming given stream old) (g.left_is refl) g.stage);
-  left_is = λ e. refl;
-}
+pub going_on : {L R : Type 0} (views : LinkViews L) (left_of : R → Option (List ℕ)) (job : Job) (first : L) (coming0 : Option (List (List ℕ))) (given : GivenFiles) (was now : LoopState L R) (moves : List JobMove) → MovesAll views left_of was moves now
+    → FullRunInvariant views left_of job first coming0 given was.notes was.links was.coming was.stream was.client → FullRunInvariant views left_of job first coming0 given now.notes now.links now.coming now.stream now.client
+going_on {L} {R} views left_of job first coming0 given was now [] same g =
+    subst (λ (s : LoopState L R). FullRunInvariant views left_of job first coming0 given s.notes s.links s.coming s.stream s.client) (sym same) g
+going_on views left_of job first coming0 given was now (move ∷ moves) m g =
+    going_moved views left_of job first coming0 given m.0 now move m.2 (going_on views left_of job first coming0 given was m.0 moves m.1 g)

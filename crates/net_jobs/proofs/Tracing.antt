@@ -24,8 +24,8 @@ use Rattle.client_replies.specs.declared.progress.Next.TheVariants.{Wait, Finish
 use Rattle.client_replies.specs.ProtocolStates.{ProtocolState, target_of, is_running, next_outcome, next_progress, heard_at, answer_to, after_reply, shaped_by}
 use Rattle.net_client.specs.ClientStates.{ClientState, protocol_of, IsNewClient}
 use Rattle.net_client.specs.ReplyPieces.{awaited_procedure, HearsReplies, HasHeard}
-use Rattle.net_jobs.specs.JobTraces.{TraceEvent, Replied, JobTrace, EventLeads, EventsLead, initial_trace, BytesMatchTrace}
-use Rattle.net_jobs.specs.RunInvariants.{came_in}
+use Rattle.net_jobs.specs.JobTraces.{TraceEvent, Replied, JobTrace, EventLeads, EventsLead, initial_trace, BytesMatchTrace, ports_opened}
+use Rattle.net_jobs.proofs.InvariantRecords.{came_in}
 
 -- ---- what a reply makes of the join's history
 
@@ -106,8 +106,8 @@ heard_twice was front back said more t u =
     ∙ ap (λ (l : List ℕ). record { text = was.text ++ (front ++ back); streams = was.streams; pages = was.pages; sent = l; protocol = u }) (append_assoc was.sent said more)
 
 pub runs_hear : (target : JobTarget) (first was : JobTrace) (events : List TraceEvent) (rs : List Reply) (text sent : List ℕ) (u : ProtocolState) → ((procedure : Procedure) → awaited_procedure was.protocol.progress ≡ Some procedure → is_running was.protocol.outcome ≡ true)
-    → EventsLead target first events was → HearsReplies target was.protocol rs text sent u → (more : List TraceEvent) × EventsLead target first more (heard_on was text sent u)
-runs_hear target first was events [] text sent u live runs h = (events, subst (λ (c : JobTrace). EventsLead target first events c) (heard_none was text sent u h.0 h.1 h.2) runs)
+    → EventsLead target first events was → HearsReplies target was.protocol rs text sent u → (more : List TraceEvent) × EventsLead target first more (heard_on was text sent u) × (ports_opened more ≡ ports_opened events)
+runs_hear target first was events [] text sent u live runs h = (events, subst (λ (c : JobTrace). EventsLead target first events c) (heard_none was text sent u h.0 h.1 h.2) runs, refl)
 runs_hear target first was events (r ∷ rs) text sent u live runs h =
     let now : JobTrace = heard_on was h.0 h.2 (after_reply target was.protocol r) in
     let here : EventLeads target was (Replied r) now = (h.0, h.2, live h.6.procedure h.6.awaited_is, h.6, h.7, refl) in
@@ -115,11 +115,12 @@ runs_hear target first was events (r ∷ rs) text sent u live runs h =
       rest.0,
       subst (λ (c : JobTrace). EventsLead target first rest.0 c)
           (heard_twice was h.0 h.1 h.2 h.3 (after_reply target was.protocol r) u ∙ ap (λ (l : List ℕ). heard_on was l (h.2 ++ h.3) u) (sym h.4) ∙ ap (λ (l : List ℕ). heard_on was text l u) (sym h.5)) rest.1,
+      rest.2,
     )
 
 -- ---- what a job did
 
-pub did_nothing : (job : Job) (c : ClientState) → IsNewClient job c → BytesMatchTrace job (initial_trace job) [] [] [] c.out
+abbrev pub did_nothing : (job : Job) (c : ClientState) → IsNewClient job c → BytesMatchTrace job (initial_trace job) [] [] [] c.out
 did_nothing job c f = record { events = []; hello = c.out; runs = refl; read_is = refl; hello_is = f.text; wrote_is = append-nil c.out }
 
 pub fresh_is : (job : Job) (c : ClientState) → IsNewClient job c → protocol_of c empty_history ≡ (initial_trace job).protocol
@@ -127,23 +128,25 @@ fresh_is job c f = ap (λ (v : ClientState). protocol_of v empty_history) f.valu
 
 -- replies of a piece
 pub did_hear : (job : Job) (trace : JobTrace) (read_ wrote rest : List ℕ) (old new : ClientState) (past : JoinHistory) (piece : List ℕ) → old.target ≡ target_of job → protocol_of old past ≡ trace.protocol → old.input.rest ≡ rest
-    → is_running old.outcome ≡ true → BytesMatchTrace job trace read_ wrote rest old.out → (h : HasHeard old past piece new)
-    → BytesMatchTrace job (heard_on trace h.text h.sent (protocol_of new h.history_then)) (read_ ++ piece) wrote new.input.rest new.out
+    → is_running old.outcome ≡ true → (d : BytesMatchTrace job trace read_ wrote rest old.out) → (h : HasHeard old past piece new)
+    → (e : BytesMatchTrace job (heard_on trace h.text h.sent (protocol_of new h.history_then)) (read_ ++ piece) wrote new.input.rest new.out) × (ports_opened e.events ≡ ports_opened d.events)
 did_hear job trace read_ wrote rest old new past piece target talk_is rest_is running d h =
     let hears : HearsReplies (target_of job) trace.protocol h.told h.text h.sent (protocol_of new h.history_then)
     = subst (λ (t : ProtocolState). HearsReplies (target_of job) t h.told h.text h.sent (protocol_of new h.history_then)) talk_is (subst (λ (e : JobTarget). HearsReplies e (protocol_of old past) h.told h.text h.sent (protocol_of new h.history_then)) target h.hears) in
-    let runs = runs_hear (target_of job) (initial_trace job) trace d.events h.told h.text h.sent (protocol_of new h.history_then) (λ procedure e. ap (λ (t : ProtocolState). is_running t.outcome) (sym talk_is) ∙ running) d.runs hears in
-    record {
-      events = runs.0;
-      hello = d.hello;
-      runs = runs.1;
-      read_is = ap (λ (l : List ℕ). l ++ piece) d.read_is ∙ append_assoc trace.text rest piece ∙ ap (λ (l : List ℕ). trace.text ++ l) (ap (λ (l : List ℕ). l ++ piece) (sym rest_is) ∙ h.whole) ∙ sym (append_assoc trace.text h.text new.input.rest);
-      hello_is = d.hello_is;
-      wrote_is = sym (append_assoc d.hello trace.sent h.sent) ∙ ap (λ (l : List ℕ). l ++ h.sent) d.wrote_is ∙ append_assoc wrote old.out h.sent ∙ ap (λ (l : List ℕ). wrote ++ l) (sym h.out);
-    }
+    let runs = runs_hear (target_of job) (initial_trace job) trace d.events h.told h.text h.sent (protocol_of new h.history_then) (λ procedure e. ap (λ (t : ProtocolState). is_running t.outcome) (sym talk_is) ∙ running) d.runs hears in (
+      record {
+        events = runs.0;
+        hello = d.hello;
+        runs = runs.1;
+        read_is = ap (λ (l : List ℕ). l ++ piece) d.read_is ∙ append_assoc trace.text rest piece ∙ ap (λ (l : List ℕ). trace.text ++ l) (ap (λ (l : List ℕ). l ++ piece) (sym rest_is) ∙ h.whole) ∙ sym (append_assoc trace.text h.text new.input.rest);
+        hello_is = d.hello_is;
+        wrote_is = sym (append_assoc d.hello trace.sent h.sent) ∙ ap (λ (l : List ℕ). l ++ h.sent) d.wrote_is ∙ append_assoc wrote old.out h.sent ∙ ap (λ (l : List ℕ). wrote ++ l) (sym h.out);
+      },
+      runs.2,
+    )
 
 -- bytes that go out
-pub did_write : (job : Job) (trace : JobTrace) (read_ wrote rest left piece after_ : List ℕ) → left ≡ piece ++ after_ → BytesMatchTrace job trace read_ wrote rest left → BytesMatchTrace job trace read_ (wrote ++ piece) rest after_
+abbrev pub did_write : (job : Job) (trace : JobTrace) (read_ wrote rest left piece after_ : List ℕ) → left ≡ piece ++ after_ → BytesMatchTrace job trace read_ wrote rest left → BytesMatchTrace job trace read_ (wrote ++ piece) rest after_
 did_write job trace read_ wrote rest left piece after_ e d = record {
   events = d.events;
   hello = d.hello;
@@ -153,8 +156,19 @@ did_write job trace read_ wrote rest left piece after_ e d = record {
   wrote_is = d.wrote_is ∙ ap (λ (l : List ℕ). wrote ++ l) e ∙ sym (append_assoc wrote piece after_);
 }
 
+-- the same bytes are left
+abbrev pub did_leave : (job : Job) (trace : JobTrace) (read_ wrote rest left after_ : List ℕ) → left ≡ after_ → BytesMatchTrace job trace read_ wrote rest left → BytesMatchTrace job trace read_ wrote rest after_
+did_leave job trace read_ wrote rest left after_ e d = record {
+  events = d.events;
+  hello = d.hello;
+  runs = d.runs;
+  read_is = d.read_is;
+  hello_is = d.hello_is;
+  wrote_is = d.wrote_is ∙ ap (λ (l : List ℕ). wrote ++ l) e;
+}
+
 -- bytes that were read and no more
-pub did_read : (job : Job) (trace : JobTrace) (read_ wrote rest left piece : List ℕ) → BytesMatchTrace job trace read_ wrote rest left → BytesMatchTrace job trace (read_ ++ piece) wrote (rest ++ piece) left
+abbrev pub did_read : (job : Job) (trace : JobTrace) (read_ wrote rest left piece : List ℕ) → BytesMatchTrace job trace read_ wrote rest left → BytesMatchTrace job trace (read_ ++ piece) wrote (rest ++ piece) left
 did_read job trace read_ wrote rest left piece d = record {
   events = d.events;
   hello = d.hello;
@@ -165,7 +179,7 @@ did_read job trace read_ wrote rest left piece d = record {
 }
 
 -- an event for which nothing is sent
-pub did_quiet : (job : Job) (trace now : JobTrace) (event : TraceEvent) (read_ wrote rest left : List ℕ) → EventLeads (target_of job) trace event now → now.text ≡ trace.text → now.sent ≡ trace.sent
+abbrev pub did_quiet : (job : Job) (trace now : JobTrace) (event : TraceEvent) (read_ wrote rest left : List ℕ) → EventLeads (target_of job) trace event now → now.text ≡ trace.text → now.sent ≡ trace.sent
     → BytesMatchTrace job trace read_ wrote rest left → BytesMatchTrace job now read_ wrote rest left
 did_quiet job trace now event read_ wrote rest left lives text sent d = record {
   events = event ∷ d.events;
@@ -177,7 +191,7 @@ did_quiet job trace now event read_ wrote rest left lives text sent d = record {
 }
 
 -- one for which this is sent
-pub did_say : (job : Job) (trace now : JobTrace) (event : TraceEvent) (read_ wrote rest left said : List ℕ) → EventLeads (target_of job) trace event now → now.text ≡ trace.text → now.sent ≡ trace.sent ++ said
+abbrev pub did_say : (job : Job) (trace now : JobTrace) (event : TraceEvent) (read_ wrote rest left said : List ℕ) → EventLeads (target_of job) trace event now → now.text ≡ trace.text → now.sent ≡ trace.sent ++ said
     → BytesMatchTrace job trace read_ wrote rest left → BytesMatchTrace job now read_ wrote rest (left ++ said)
 did_say job trace now event read_ wrote rest left said lives text sent d = record {
   events = event ∷ d.events;

@@ -1,5 +1,6 @@
 -- What is promised of a job over streams whose files go to the outputs of a shelf.
-use Rattle.std.specs.Prelude.{ℕ, ◌+◌, ◌≡◌, ◌≤◌, ◌⊎◌, true, false, Bool, Result, Ok, Err, Option, Some, List, [], ◌∷◌, ◌++◌, All, length}
+use Rattle.std.specs.Prelude.{ℕ, ◌+◌, ◌≡◌, ◌≢◌, ◌≤◌, ◌⊎◌, true, false, Bool, Result, Ok, Err, Option, Some, List, [], ◌∷◌, ◌++◌, All, length}
+use Rattle.sane_fixed.specs.declared.status.Status.{Status}
 use Rattle.sane_fixed.specs.declared.status.Status.TheVariants as statuses
 use Rattle.netpbm.specs.Picture.{Picture}
 use Rattle.netpbm.specs.Pnm.{Denotes}
@@ -12,15 +13,17 @@ use Rattle.scan_job.specs.declared.job.Task.{Task}
 use Rattle.scan_job.specs.declared.job.Task.TheVariants as tasks
 use Rattle.scan_job.specs.declared.outcome.Outcome.{Outcome}
 use Rattle.scan_job.specs.declared.outcome.Outcome.TheVariants.{Running, Done, Ended}
+use Rattle.scan_job.specs.declared.outcome.Why.{Why}
 use Rattle.scan_job.specs.declared.outcome.Why.TheVariants as whys
 use Rattle.scan_job.specs.declared.report.Reports.{Reports}
 use Rattle.scan_job.specs.JobSize.{HasJobFault}
 use Rattle.scan_job.specs.Shelves.{Stock, ReturnedOutput}
 use Rattle.net_jobs.specs.JobTraces.{JobTrace, EndWell}
-use Rattle.net_jobs.specs.RunInvariants.{EndsBy}
-use Rattle.net_jobs.specs.Outputs.{page_outputs_from}
+use Rattle.net_jobs.specs.JobJournal.{given_by, has_write_failed}
+use Rattle.net_jobs.specs.Links.{LinkViews}
+use Rattle.net_jobs.specs.Outputs.{files_text, page_outputs_from}
 use Rattle.scan_job.specs.FileOutputs.{TakesBack, AreLeft}
-use Rattle.net_jobs.specs.RunPromises.{RanWithTrace, HasRefusal, refused_as}
+use Rattle.net_jobs.specs.RunPromises.{JobStreams, SeenStreams, RanWithTrace, HasEndingCause, refused_as}
 
 -- what was given of a page is a whole file, that of the picture that its frames show
 pub record IsPageFile (page : JoinHistory) : Type 0 where
@@ -50,18 +53,21 @@ abbrev pub closed_as : Outcome → Bool → Outcome
 closed_as (Done reports) false = Ended statuses.IoError whys.Sink
 closed_as outcome is_taken = outcome
 
--- The job is done, as the client's rules have it for these replies and frames. All was written unless a write failed; each
--- data connection began with its frame's records, which ended with EOF; and the shelf took back one output for each page, in
--- their order, numbered from 1, each with the whole file of the picture that the page's frames show, and no other.
-pub record BatchDone {C : Type 0} (remaining contents : C → Option (List ℕ)) (job : Job) (first : C) (coming0 : Option (List (List ℕ))) (now : C) (coming : Option (List (List ℕ))) (before after : Option Stock) (outcome : Outcome) : Type 0 where
-  pub ran : RanWithTrace remaining contents job first coming0 now coming
-  pub told : ran.trace.protocol.outcome ≡ outcome
-  pub all : ran.failed ≡ false → ran.left ≡ []
+-- The job is done, as the client's rules have it for these replies and frames. All was written, with CLOSE and EXIT, unless a
+-- write failed; each data connection began with its frame's records, which ended with EOF; and the shelf took back one output
+-- for each page, in their order, numbered from 1, each with the whole file of the picture that the page's frames show, and no
+-- other.
+pub record BatchDone {L : Type 0} (views : LinkViews L) (job : Job) (was now : SeenStreams L (Option Stock)) (reports : Reports) : Type 0 where
+  pub ran : RanWithTrace views job was now
+  pub told : ran.trace.protocol.outcome ≡ Done reports
+  pub last_told : ran.last.outcome ≡ Done reports
+  pub all : has_write_failed ran.moves ≡ false → ran.left ≡ []
   pub read_all : ran.unread ≡ []
   pub end_well : EndWell ran.did.events
   pub count : MayScan job.task (length (pages_of ran.trace))
   pub files : All IsPageFile (pages_of ran.trace)
-  pub outputs : TakesBack before (page_outputs_from 1 (pages_of ran.trace)) after
+  pub gave : files_text (pages_of ran.trace) ≡ given_by ran.moves
+  pub outputs : TakesBack was.output (page_outputs_from 1 (pages_of ran.trace)) now.output
 
 -- The pages whose files came to their end: those behind which another was asked for; and the last one of a job that was done
 -- but for the shelf, which refused to take its output back.
@@ -70,29 +76,28 @@ AreFinished trace pages left outcome =
     (pages ≡ trace.pages)
     ⊎ ((pages ≡ pages_of trace) × (left ≡ []) × (outcome ≡ Ended statuses.IoError whys.Sink) × ((reports : Reports) × (trace.protocol.outcome ≡ Done reports)))
 
--- The job has ended otherwise: by a reply or a frame's end, as the client's rules have it, by another cause, or since an output
--- could not be had, did not take its file, or was not taken back. The pages before have whole files, and at most one more output
--- stands, which took no whole file.
-pub record BatchEnded {C : Type 0} (remaining contents : C → Option (List ℕ)) (job : Job) (first : C) (coming0 : Option (List (List ℕ))) (now : C) (coming : Option (List (List ℕ))) (before after : Option Stock) (outcome : Outcome) : Type 0 where
-  pub ran : RanWithTrace remaining contents job first coming0 now coming
-  pub cause : (ran.trace.protocol.outcome ≡ outcome) ⊎ (EndsBy ran.trace.protocol ran.rest outcome ⊎ (outcome ≡ Ended statuses.IoError whys.Sink))
-  pub refusal : HasRefusal outcome
+-- The job has ended otherwise, with a cause: an output could not be had, did not take its file, or was not taken back, or
+-- another. All that was to go out was written, unless a write failed, or an output did. The pages before have whole files, and
+-- at most one more output stands, which took no whole file.
+pub record BatchEnded {L : Type 0} (views : LinkViews L) (job : Job) (was now : SeenStreams L (Option Stock)) (status : Status) (why : Why) : Type 0 where
+  pub ran : RanWithTrace views job was now
+  pub cause : HasEndingCause ran.moves ran.trace.protocol ran.rest (Ended status why)
+  pub all : why ≢ whys.Sink → has_write_failed ran.moves ≡ false → ran.left ≡ []
+  pub refusal : status ≢ statuses.Good
   pub pages : List JoinHistory
   pub left : List ReturnedOutput
-  pub finished : AreFinished ran.trace pages left outcome
+  pub finished : AreFinished ran.trace pages left (Ended status why)
   pub files : All IsPageFile pages
   pub is_left : AreLeft (length pages + 1) left
-  pub outputs : TakesBack before (page_outputs_from 1 pages ++ left) after
+  pub outputs : TakesBack was.output (page_outputs_from 1 pages ++ left) now.output
 
 -- how such a job is over
-abbrev pub HasBatchRun : {C : Type 0} → (C → Option (List ℕ)) → (C → Option (List ℕ)) → Job → C → Option (List (List ℕ)) → C → Option (List (List ℕ)) → Option Stock → Option Stock → Outcome → Type 0
-HasBatchRun remaining contents job first coming0 now coming before after Running = ⊥
-HasBatchRun remaining contents job first coming0 now coming before after (Done reports) = BatchDone remaining contents job first coming0 now coming before after (Done reports)
-HasBatchRun remaining contents job first coming0 now coming before after (Ended status why) = BatchEnded remaining contents job first coming0 now coming before after (Ended status why)
+abbrev pub HasBatchRun : {L : Type 0} → LinkViews L → Job → SeenStreams L (Option Stock) → SeenStreams L (Option Stock) → Outcome → Type 0
+HasBatchRun views job was now Running = ⊥
+HasBatchRun views job was now (Done reports) = BatchDone views job was now reports
+HasBatchRun views job was now (Ended status why) = BatchEnded views job was now status why
 
 -- a job that is refused, for a fault or since there is no memory for its buffers, touches no stream and no shelf
-pub record RefusesBatch {C D S : Type 0} (job : Job) (outcome : Outcome) (control control_then : C) (dial dial_then : D) (shelf shelf_then : S) : Type 0 where
+pub record RefusesBatch {C D S : Type 0} (job : Job) (outcome : Outcome) (was now : JobStreams C D S) : Type 0 where
   pub why : ((fault : JobFault) × HasJobFault job (Some fault) × (outcome ≡ refused_as fault)) ⊎ (outcome ≡ Ended statuses.NoMem whys.Memory)
-  pub control_is : control_then ≡ control
-  pub dial_is : dial_then ≡ dial
-  pub shelf_is : shelf_then ≡ shelf
+  pub same : now ≡ was

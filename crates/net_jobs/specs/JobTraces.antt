@@ -4,6 +4,7 @@ use Rattle.page_picture.specs.Shows.{Frame}
 use Rattle.netpbm.specs.Pnm.{IsWhole}
 use Rattle.frame_join.specs.FrameHistory.{JoinHistory, empty_history, after_pull}
 use Rattle.wire_message.specs.declared.message.Reply.{Reply}
+use Rattle.wire_message.specs.declared.message.Reply.TheVariants as replies
 use Rattle.data_records.specs.Records.{IsRecords}
 use Rattle.sane_fixed.specs.declared.status.Status.TheVariants as statuses
 use Rattle.scan_job.specs.declared.job.Job.{Job}
@@ -11,17 +12,17 @@ use Rattle.scan_job.specs.declared.outcome.Outcome.TheVariants.{Running}
 use Rattle.client_replies.specs.declared.progress.JobTarget.{JobTarget}
 use Rattle.client_replies.specs.declared.progress.Progress.TheVariants as stages
 use Rattle.client_replies.specs.ReplyTurns.{turn, frame_ended, FrameEnd, status_of}
-use Rattle.client_replies.specs.ProtocolStates.{ProtocolState, with_payload, protocol_after_turn, after_reply, progress_connected, target_of, is_running, turns, next_file}
+use Rattle.client_replies.specs.ProtocolStates.{ProtocolState, with_payload, protocol_after_turn, after_reply, progress_connected, target_of, is_receiving, is_running, turns, protocol_of_next_page, wanted_port}
 use Rattle.client_replies.specs.Asking.{request_for}
 use Rattle.net_client.specs.ClientStates.{sends, sent_by}
 use Rattle.net_client.specs.ReplyPieces.{IsReply}
 use Rattle.net_client.specs.Sending.{optional_request_text}
 
--- what a job lives through: a reply, its data connection made, bytes of the frame that this carries, the frame's end with a
+-- what a job lives through: a reply, its data connection made at that port, bytes of the frame that this carries, the frame's end with a
 -- status, bytes of the file that were given, and the last bytes of the file of a page behind which a batch asks for another
 pub data TraceEvent : Type 0 where
   Replied : Reply → TraceEvent
-  Opened : TraceEvent
+  Opened : ℕ → TraceEvent
   Came : List ℕ → TraceEvent
   Finished : ℕ → TraceEvent
   Gave : List ℕ → TraceEvent
@@ -46,21 +47,19 @@ protocol_after_frame target t status = protocol_after_turn target.task (turn t.n
 abbrev pub sent_after : JobTarget → ProtocolState → ℕ → Option (List ℕ)
 sent_after target t status = sends target t.notes.word (frame_end_at target t status).next
 
--- the next page of a batch
-abbrev pub protocol_of_next_page : ProtocolState → ProtocolState
-protocol_of_next_page protocol = record protocol { progress = stages.Starting true; notes = record protocol.notes { file = next_file protocol.notes.file }; history = empty_history }
-
 -- One event: a reply is spelled for what a job that runs waits for, and is answered as the client's rules say; the data of a
--- frame are records of its payload that end with that status; a page is turned where its file is whole.
+-- frame, which are received, are records of its payload that end with that status; a page is turned where its file is whole.
 abbrev pub EventLeads : JobTarget → JobTrace → TraceEvent → JobTrace → Type 0
 EventLeads target was (Replied r) now =
     (front : List ℕ) × (said : List ℕ) × (is_running was.protocol.outcome ≡ true) × IsReply was.protocol.progress front r × (sent_by target was.protocol r ≡ Some said)
     × (now ≡ record { text = was.text ++ front; streams = was.streams; pages = was.pages; sent = was.sent ++ said; protocol = after_reply target was.protocol r })
-EventLeads target was Opened now = (is_running was.protocol.outcome ≡ true) × (now ≡ record was { protocol = record was.protocol { progress = progress_connected was.protocol.progress } })
+EventLeads target was (Opened port) now =
+    (is_running was.protocol.outcome ≡ true) × (wanted_port was.protocol.progress ≡ Some port)
+    × (now ≡ record was { protocol = record was.protocol { progress = progress_connected was.protocol.progress } })
 EventLeads target was (Came bytes) now =
     (frame : Frame) × (is_running was.protocol.outcome ≡ true) × (was.protocol.history.under ≡ Some frame) × (now ≡ record was { protocol = record was.protocol { history = with_payload was.protocol.history frame bytes } })
 EventLeads target was (Finished status) now =
-    (frame : Frame) × (stream : List ℕ) × (said : List ℕ) × (is_running was.protocol.outcome ≡ true) × (was.protocol.history.under ≡ Some frame) × IsRecords stream frame.payload status
+    (frame : Frame) × (stream : List ℕ) × (said : List ℕ) × (is_receiving was.protocol.outcome was.protocol.progress ≡ true) × (was.protocol.history.under ≡ Some frame) × IsRecords stream frame.payload status
     × (sent_after target was.protocol status ≡ Some said)
     × (now ≡ record { text = was.text; streams = was.streams ++ stream ∷ []; pages = was.pages; sent = was.sent ++ said; protocol = protocol_after_frame target was.protocol status })
 EventLeads target was (Gave bytes) now = now ≡ record was { protocol = record was.protocol { history = after_pull bytes was.protocol.history } }
@@ -78,6 +77,24 @@ abbrev pub EndWell : List TraceEvent → Type 0
 EndWell [] = Unit {0}
 EndWell (Finished status ∷ events) = (status_of status ≡ Some statuses.Eof) × EndWell events
 EndWell (event ∷ events) = EndWell events
+
+-- ---- the ports of the data connections, the newest first
+
+-- those of the connections that were made
+abbrev pub ports_opened : List TraceEvent → List ℕ
+ports_opened [] = []
+ports_opened (Opened port ∷ events) = port ∷ ports_opened events
+ports_opened (event ∷ events) = ports_opened events
+
+-- that of a START reply by which a frame begins
+abbrev pub port_named : Reply → List ℕ
+port_named (replies.Start statuses.Good port order []) = port ∷ []
+port_named reply = []
+
+abbrev pub ports_named : List TraceEvent → List ℕ
+ports_named [] = []
+ports_named (Replied reply ∷ events) = port_named reply ++ ports_named events
+ports_named (event ∷ events) = ports_named events
 
 -- a job before the first reply
 abbrev pub initial_trace : Job → JobTrace

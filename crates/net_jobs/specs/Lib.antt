@@ -1,7 +1,9 @@
+pub mod CallResults
 pub mod ControlWriting
+pub mod JobJournal
 pub mod JobTraces
-pub mod RunInvariants
 pub mod Links
+pub mod TurnSteps
 pub mod RunPromises
 pub mod NetDraining
 pub mod Outputs

@@ -1,14 +1,46 @@
 -- What a job's streams gave and took, as far as their traits tell it.
-use Rattle.std.specs.Prelude.{ℕ, ◌≡◌, Bool, true, false, Option, Some, None, List, [], ◌∷◌, ◌++◌}
+use Rattle.std.specs.Prelude.{ℕ, ◌≡◌, Option, Some, None, List, [], ◌∷◌, ◌++◌, option_map}
 use Rattle.std.specs.Io.KnownBytes.{Appends, Consumes}
+use Rattle.net_jobs.specs.JobJournal.{JobMove, Writes, Fails, Hears, Dials, Loses}
 
--- Calls on one connection after another: what they read in all, what they wrote, whether a write failed, and how it stands
--- then. (That a read leaves what was written is in no clause of a stream's traits, so this goes call by call.)
-pub data Calls {C : Type 0} (remaining contents : C → Option (List ℕ)) (first : C) : List ℕ → List ℕ → Bool → C → Type 0 where
-  Begun : Calls remaining contents first [] [] false first
-  Read : (read_ wrote : List ℕ) (failed : Bool) (was now : C) (piece : List ℕ) → Calls remaining contents first read_ wrote failed was → Consumes (remaining was) (remaining now) piece → Calls remaining contents first (read_ ++ piece) wrote failed now
-  Wrote : (read_ wrote : List ℕ) (failed : Bool) (was now : C) (piece : List ℕ) → Calls remaining contents first read_ wrote failed was → Appends (contents was) (contents now) piece → Calls remaining contents first read_ (wrote ++ piece) failed now
-  Failed : (read_ wrote : List ℕ) (failed : Bool) (was now : C) (piece : List ℕ) → Calls remaining contents first read_ wrote failed was → Appends (contents was) (contents now) piece → Calls remaining contents first read_ (wrote ++ piece) true now
+-- ---- the control connection, and the ports of the data connections
+
+-- a job's control connection, and what makes its data connections
+pub record JobLinks (C D : Type 0) : Type 0 where
+  pub control : C
+  pub dial : D
+
+-- what such links tell: what reads of the control connection will give, what was written to it, and the ports that were asked
+-- for, the newest first
+pub record LinkViews (L : Type 0) : Type 0 where
+  pub remaining : L → Option (List ℕ)
+  pub contents : L → Option (List ℕ)
+  pub ports : L → Option (List ℕ)
+
+abbrev pub views_of : {C D : Type 0} → (C → Option (List ℕ)) → (C → Option (List ℕ)) → (D → Option (List ℕ)) → LinkViews (JobLinks C D)
+views_of remaining contents ports = record { remaining = λ l. remaining l.control; contents = λ l. contents l.control; ports = λ l. ports l.dial }
+
+-- a data connection at that port was asked for
+abbrev pub with_port : ℕ → Option (List ℕ) → Option (List ℕ)
+with_port port asked = option_map (λ ports. port ∷ ports) asked
+
+-- What a move makes of the links. (That a read leaves what was written, or a write what is to be read, is in no clause of a
+-- stream's traits, so this goes call by call.)
+abbrev pub Called : {L : Type 0} → LinkViews L → L → JobMove → L → Type 0
+Called views was (Writes bytes) now = Appends (views.contents was) (views.contents now) bytes × (views.ports now ≡ views.ports was)
+Called views was (Fails bytes) now = Appends (views.contents was) (views.contents now) bytes × (views.ports now ≡ views.ports was)
+Called views was (Hears piece) now = Consumes (views.remaining was) (views.remaining now) piece × (views.ports now ≡ views.ports was)
+Called views was (Loses link reason) now = Consumes (views.remaining was) (views.remaining now) [] × (views.ports now ≡ views.ports was)
+Called views was (Dials port made) now =
+    (views.remaining now ≡ views.remaining was) × (views.contents now ≡ views.contents was) × (views.ports now ≡ with_port port (views.ports was))
+Called views was move now = now ≡ was
+
+-- what a journal makes of them
+abbrev pub Calls : {L : Type 0} → LinkViews L → L → List JobMove → L → Type 0
+Calls views first [] now = now ≡ first
+Calls {L} views first (move ∷ moves) now = (was : L) × Calls views first moves was × Called views was move now
+
+-- ---- the data connections
 
 -- The bytes of the connections that are to come, one dial after another, where they are known: a dial brings the first.
 abbrev pub DialBrings : Option (List (List ℕ)) → Option (List (List ℕ)) → Option (List ℕ) → Type 0

@@ -2,7 +2,7 @@
 use Rattle.std.specs.Prelude.{ℕ, ◌≡◌, false, Option, List, ◌++◌}
 use Rattle.std.specs.Io.KnownBytes.{Appends}
 use Rattle.netpbm.specs.Picture.{Picture}
-use Rattle.netpbm.specs.Pnm.{Denotes}
+use Rattle.netpbm.specs.Pnm.{Denotes, IsWhole}
 use Rattle.page_picture.specs.Shows.{ShowsFrames}
 use Rattle.frame_join.specs.FrameHistory.{JoinHistory, IsJoined, after_pull}
 use Rattle.scan_job.specs.declared.job.Task.TheVariants as tasks
@@ -15,10 +15,15 @@ pub record HoldsGiven (past : JoinHistory) (client : ClientState) (first content
   pub serves : ClientRepresents past client
   pub taken : Appends first contents past.given
 
--- more bytes were given, the output took all that were given so far, and once the picture is whole they denote it
-pub record IsDrainedTo (past : JoinHistory) (old : ClientState) (first : Option (List ℕ)) (new : ClientState) (contents : Option (List ℕ)) : Type 0 where
-  pub bytes : List ℕ
+-- these bytes more were given, the output took all that were given so far, and once the picture is whole they denote it
+pub record IsDrainedTo (past : JoinHistory) (old : ClientState) (first : Option (List ℕ)) (bytes : List ℕ) (new : ClientState) (contents : Option (List ℕ)) : Type 0 where
   pub serves : ClientRepresents (after_pull bytes past) new
   pub rest : new ≡ record old { join = new.join }
   pub taken : Appends first contents (past.given ++ bytes)
   pub denotes : is_ended old.outcome ≡ false → IsJoined past → (p : Picture) → ShowsFrames past.ended p → Denotes (past.given ++ bytes) p
+
+-- the output took what was given, and then not all: no whole file
+pub record StopsBehind (given : List ℕ) (first contents : Option (List ℕ)) : Type 0 where
+  pub behind : List ℕ
+  pub taken : Appends first contents (given ++ behind)
+  pub not_whole : IsWhole (given ++ behind) → ⊥

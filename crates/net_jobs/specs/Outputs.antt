@@ -9,6 +9,11 @@ abbrev pub page_outputs_from : ℕ → List JoinHistory → List ReturnedOutput
 page_outputs_from k [] = []
 page_outputs_from k (page ∷ more) = output_of k page.given ∷ page_outputs_from (suc k) more
 
+-- the bytes of these pages' files, one behind the other
+abbrev pub files_text : List JoinHistory → List ℕ
+files_text [] = []
+files_text (page ∷ more) = page.given ++ files_text more
+
 -- ---- an output under way
 
 -- it was asked for under that number, and took these bytes; there is none before the first of them

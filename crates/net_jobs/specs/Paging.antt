@@ -1,5 +1,6 @@
 -- The bytes of a job's files on their way from a client to the outputs of a shelf.
-use Rattle.std.specs.Prelude.{ℕ, ◌+◌, ◌≡◌, ◌⊎◌, true, false, Option, None, List, [], ◌∷◌, ◌++◌, All, length}
+use Rattle.std.specs.Prelude.{ℕ, ◌+◌, ◌≡◌, ◌≢◌, ◌⊎◌, true, false, Option, None, List, [], ◌∷◌, ◌++◌, All, length}
+use Rattle.sane_fixed.specs.declared.status.Status.{Status}
 use Rattle.sane_fixed.specs.declared.status.Status.TheVariants as statuses
 use Rattle.netpbm.specs.Picture.{Picture}
 use Rattle.netpbm.specs.Pnm.{Denotes, IsWhole}
@@ -9,15 +10,19 @@ use Rattle.frame_join.specs.JoinStates.{JoinState}
 use Rattle.scan_job.specs.declared.job.Job.{Job}
 use Rattle.scan_job.specs.declared.outcome.Outcome.{Outcome}
 use Rattle.scan_job.specs.declared.outcome.Outcome.TheVariants.{Running, Done, Ended}
+use Rattle.scan_job.specs.declared.outcome.Why.{Why}
 use Rattle.scan_job.specs.declared.outcome.Why.TheVariants as whys
+use Rattle.scan_job.specs.declared.report.Reports.{Reports}
 use Rattle.scan_job.specs.Shelves.{Stock, ReturnedOutput}
 use Rattle.client_replies.specs.ProtocolStates.{is_ended, scans, turns}
 use Rattle.net_client.specs.ClientStates.{ClientState, ClientRepresents, TurnsPage}
 use Rattle.net_jobs.specs.JobTraces.{EndWell}
-use Rattle.net_jobs.specs.RunInvariants.{EndsBy}
-use Rattle.net_jobs.specs.Outputs.{HasTaken, OutputIsUnderWay, page_outputs_from}
+use Rattle.net_jobs.specs.JobJournal.{given_by, has_write_failed}
+use Rattle.net_jobs.specs.Links.{LinkViews}
+use Rattle.net_jobs.specs.TurnSteps.{CallNotes, NotesMatch}
+use Rattle.net_jobs.specs.Outputs.{files_text, HasTaken, OutputIsUnderWay, page_outputs_from}
 use Rattle.scan_job.specs.FileOutputs.{TakesBack, output_of}
-use Rattle.net_jobs.specs.RunPromises.{RanWithTrace, HasRefusal}
+use Rattle.net_jobs.specs.RunPromises.{SeenStreams, RanWithTrace, HasEndingCause}
 use Rattle.net_jobs.specs.Batches.{IsPageFile, MayScan, pages_of}
 
 -- a client that scans stands for what was told to it and given, and the output of the file under way, which is number k, took
@@ -28,17 +33,15 @@ pub record IsFiling (past : JoinHistory) (client : ClientState) (k : ℕ) (befor
   pub serves : ClientRepresents past client
   pub under_way : OutputIsUnderWay before outputs now out k past.given
 
--- the client gave bytes of its file, not the last ones of a page, and the output took them
-pub record PageGoesOn (past : JoinHistory) (old : ClientState) (k : ℕ) (before : Option Stock) (outputs : List ReturnedOutput) (new : ClientState) (after : Option Stock) (out : Option (Option (List ℕ))) : Type 0 where
-  pub bytes : List ℕ
+-- the client gave these bytes of its file, not the last ones of a page, and the output took them
+pub record PageGoesOn (past : JoinHistory) (old : ClientState) (k : ℕ) (before : Option Stock) (outputs : List ReturnedOutput) (bytes : List ℕ) (new : ClientState) (after : Option Stock) (out : Option (Option (List ℕ))) : Type 0 where
   pub serves : ClientRepresents (after_pull bytes past) new
   pub rest : new ≡ record old { join = new.join }
   pub under_way : OutputIsUnderWay before outputs after out k (past.given ++ bytes)
   pub denotes : is_ended old.outcome ≡ false → IsJoined past → (p : Picture) → ShowsFrames past.ended p → Denotes (past.given ++ bytes) p
 
 -- the client gave the last bytes of a page's file and turned to the next page, and the file's output was given back
-pub record TurnsOn (past : JoinHistory) (old : ClientState) (k : ℕ) (before : Option Stock) (outputs : List ReturnedOutput) (new : ClientState) (after : Option Stock) (out : Option (Option (List ℕ))) : Type 0 where
-  pub bytes : List ℕ
+pub record TurnsOn (past : JoinHistory) (old : ClientState) (k : ℕ) (before : Option Stock) (outputs : List ReturnedOutput) (bytes : List ℕ) (new : ClientState) (after : Option Stock) (out : Option (Option (List ℕ))) : Type 0 where
   pub turning : turns old.outcome old.progress ≡ true
   pub whole : IsWhole (past.given ++ bytes)
   pub denotes : (p : Picture) → ShowsFrames past.ended p → Denotes (past.given ++ bytes) p
@@ -55,37 +58,40 @@ pub record FallsShort (k : ℕ) (before : Option Stock) (outputs : List Returned
   pub not_whole : IsWhole text → ⊥
 
 -- all that was given was taken: the client goes on with its file, or it turned to the next page
-abbrev pub HasFiled : JoinHistory → ClientState → ℕ → Option Stock → List ReturnedOutput → ClientState → Option Stock → Option (Option (List ℕ)) → Type 0
-HasFiled past old k before outputs new after out = PageGoesOn past old k before outputs new after out ⊎ TurnsOn past old k before outputs new after out
+abbrev pub HasFiled : JoinHistory → ClientState → ℕ → Option Stock → List ReturnedOutput → List ℕ → ClientState → Option Stock → Option (Option (List ℕ)) → Type 0
+HasFiled past old k before outputs bytes new after out = PageGoesOn past old k before outputs bytes new after out ⊎ TurnsOn past old k before outputs bytes new after out
 
 -- not all was: an output fell short, or the shelf refused the one that was given back as the client turned to the next page
-abbrev pub HasFiledShort : JoinHistory → ClientState → ℕ → Option Stock → List ReturnedOutput → ClientState → Option Stock → Option (Option (List ℕ)) → Type 0
-HasFiledShort past old k before outputs new after out = FallsShort k before outputs after out ⊎ TurnsOn past old k before outputs new after out
+abbrev pub HasFiledShort : JoinHistory → ClientState → ℕ → Option Stock → List ReturnedOutput → List ℕ → ClientState → Option Stock → Option (Option (List ℕ)) → Type 0
+HasFiledShort past old k before outputs bytes new after out = FallsShort k before outputs after out ⊎ TurnsOn past old k before outputs bytes new after out
 
 -- ---- a job that is over, before the output under way is given back
 
-pub record BatchCameDone {C : Type 0} (remaining contents : C → Option (List ℕ)) (job : Job) (first : C) (coming0 : Option (List (List ℕ))) (now : C) (coming : Option (List (List ℕ))) (before after : Option Stock) (out : Option (Option (List ℕ))) (outcome : Outcome) : Type 0 where
-  pub ran : RanWithTrace remaining contents job first coming0 now coming
-  pub told : ran.trace.protocol.outcome ≡ outcome
-  pub all : ran.failed ≡ false → ran.left ≡ []
+pub record BatchCameDone {L : Type 0} (views : LinkViews L) (job : Job) (was now : SeenStreams L (Option Stock)) (out : Option (Option (List ℕ))) (reports : Reports) : Type 0 where
+  pub ran : RanWithTrace views job was now
+  pub told : ran.trace.protocol.outcome ≡ Done reports
+  pub last_told : ran.last.outcome ≡ Done reports
+  pub all : has_write_failed ran.moves ≡ false → ran.left ≡ []
   pub read_all : ran.unread ≡ []
   pub end_well : EndWell ran.did.events
   pub count : MayScan job.task (length (pages_of ran.trace))
   pub files : All IsPageFile (pages_of ran.trace)
-  pub taken : HasTaken before (page_outputs_from 1 ran.trace.pages) after out (length ran.trace.pages + 1) ran.trace.protocol.history.given
+  pub gave : files_text (pages_of ran.trace) ≡ given_by ran.moves
+  pub taken : HasTaken was.output (page_outputs_from 1 ran.trace.pages) now.output out (length ran.trace.pages + 1) ran.trace.protocol.history.given
   pub none : (IsJoined ran.trace.protocol.history → ⊥) → out ≡ None
   pub last : IsJoined ran.trace.protocol.history → IsPageFile ran.trace.protocol.history
 
-pub record BatchCameEnded {C : Type 0} (remaining contents : C → Option (List ℕ)) (job : Job) (first : C) (coming0 : Option (List (List ℕ))) (now : C) (coming : Option (List (List ℕ))) (before after : Option Stock) (out : Option (Option (List ℕ))) (outcome : Outcome) : Type 0 where
-  pub ran : RanWithTrace remaining contents job first coming0 now coming
-  pub cause : (ran.trace.protocol.outcome ≡ outcome) ⊎ (EndsBy ran.trace.protocol ran.rest outcome ⊎ (outcome ≡ Ended statuses.IoError whys.Sink))
-  pub refusal : HasRefusal outcome
+pub record BatchCameEnded {L : Type 0} (views : LinkViews L) (job : Job) (was now : SeenStreams L (Option Stock)) (out : Option (Option (List ℕ))) (status : Status) (why : Why) : Type 0 where
+  pub ran : RanWithTrace views job was now
+  pub cause : HasEndingCause ran.moves ran.trace.protocol ran.rest (Ended status why)
+  pub all : why ≢ whys.Sink → has_write_failed ran.moves ≡ false → ran.left ≡ []
+  pub refusal : status ≢ statuses.Good
   pub files : All IsPageFile ran.trace.pages
   pub text : List ℕ
-  pub taken : HasTaken before (page_outputs_from 1 ran.trace.pages) after out (length ran.trace.pages + 1) text
+  pub taken : HasTaken was.output (page_outputs_from 1 ran.trace.pages) now.output out (length ran.trace.pages + 1) text
   pub not_whole : IsWhole text → ⊥
 
-abbrev pub BatchHasCome : {C : Type 0} → (C → Option (List ℕ)) → (C → Option (List ℕ)) → Job → C → Option (List (List ℕ)) → C → Option (List (List ℕ)) → Option Stock → Option Stock → Option (Option (List ℕ)) → Outcome → Type 0
-BatchHasCome remaining contents job first coming0 now coming before after out Running = ⊥
-BatchHasCome remaining contents job first coming0 now coming before after out (Done reports) = BatchCameDone remaining contents job first coming0 now coming before after out (Done reports)
-BatchHasCome remaining contents job first coming0 now coming before after out (Ended status why) = BatchCameEnded remaining contents job first coming0 now coming before after out (Ended status why)
+abbrev pub BatchHasCome : {L : Type 0} → LinkViews L → Job → SeenStreams L (Option Stock) → SeenStreams L (Option Stock) → Option (Option (List ℕ)) → Outcome → CallNotes → Type 0
+BatchHasCome views job was now out Running notes = ⊥
+BatchHasCome views job was now out (Done reports) notes = (run : BatchCameDone views job was now out reports) × NotesMatch run.ran.moves notes
+BatchHasCome views job was now out (Ended status why) notes = (run : BatchCameEnded views job was now out status why) × NotesMatch run.ran.moves notes

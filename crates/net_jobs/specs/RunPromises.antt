@@ -1,76 +1,136 @@
 -- What is promised of a job over streams.
-use Rattle.std.specs.Prelude.{ℕ, ◌≡◌, ◌≢◌, ◌≤◌, ◌⊎◌, Bool, true, false, Option, Some, List, [], ◌++◌, length}
+use Rattle.std.specs.Prelude.{ℕ, ◌+◌, ◌≡◌, ◌≢◌, ◌<◌, ◌≤◌, ◌⊎◌, true, false, Option, Some, List, [], ◌∷◌, ◌++◌, length}
 use Rattle.std.specs.Io.KnownBytes.{Appends}
+use Rattle.sane_fixed.specs.declared.status.Status.{Status}
 use Rattle.sane_fixed.specs.declared.status.Status.TheVariants as statuses
 use Rattle.netpbm.specs.Picture.{Picture}
 use Rattle.netpbm.specs.Pnm.{Denotes, IsWhole}
-use Rattle.page_picture.specs.Shows.{ShowsFrames}
+use Rattle.page_picture.specs.Shows.{Frame, ShowsFrames}
+use Rattle.frame_join.specs.AloneFrame.{most_bytes}
+use Rattle.wire_format.specs.Limit.{IsNoStart}
+use Rattle.wire_message.specs.Message.{message_limit, reply}
+use Rattle.wire_message.specs.declared.message.Procedure.{Procedure}
 use Rattle.scan_job.specs.declared.job.Job.{Job}
 use Rattle.scan_job.specs.declared.job.JobFault.{JobFault}
 use Rattle.scan_job.specs.declared.job.JobFault.TheVariants.{TooManySettings, TextTooLong, NoMem, BadCount}
 use Rattle.scan_job.specs.JobSize.{HasJobFault}
-use Rattle.scan_job.specs.Outcomes.{IfEnded}
-use Rattle.client_replies.specs.ProtocolStates.{is_batch}
+use Rattle.client_replies.specs.ProtocolStates.{ProtocolState, is_batch}
+use Rattle.net_client.specs.ClientStates.{ClientState, IsNewClient}
+use Rattle.net_client.specs.ReplyPieces.{awaited_procedure}
 use Rattle.scan_job.specs.declared.job.Task.TheVariants as tasks
 use Rattle.scan_job.specs.declared.outcome.Outcome.{Outcome}
 use Rattle.scan_job.specs.declared.outcome.Outcome.TheVariants.{Running, Done, Ended}
+use Rattle.scan_job.specs.declared.outcome.Why.{Why}
 use Rattle.scan_job.specs.declared.outcome.Why.TheVariants as whys
+use Rattle.scan_job.specs.declared.report.Reports.{Reports}
 use Rattle.scan_job.specs.declared.stop.Stop.{Stop}
 use Rattle.scan_job.specs.Stops.{no_memory}
-use Rattle.net_jobs.specs.JobTraces.{JobTrace, BytesMatchTrace, EndWell}
-use Rattle.net_jobs.specs.Links.{Calls, HasBrought, BeginWith}
-use Rattle.net_jobs.specs.RunInvariants.{EndsBy}
+use Rattle.net_jobs.specs.JobJournal.{JobMove, MovesLead, bytes_written_by, heard_by, given_by, dialled_by, has_write_failed, HasLoss}
+use Rattle.net_jobs.specs.JobTraces.{JobTrace, BytesMatchTrace, EndWell, ports_named}
+use Rattle.net_jobs.specs.Links.{JobLinks, LinkViews, Calls, HasBrought, BeginWith}
 
--- What a job did over its streams: the replies that it read, what it wrote for them (all of it, where no write failed), and the
--- data connections, each of which began with a frame's records but for one that was let go within its frame.
-pub record RanWithTrace {C : Type 0} (remaining contents : C → Option (List ℕ)) (job : Job) (first : C) (coming0 : Option (List (List ℕ))) (now : C) (coming : Option (List (List ℕ))) : Type 0 where
-  pub read_ : List ℕ
-  pub wrote : List ℕ
+-- ---- a job's streams
+
+-- the control connection, what makes the data connections, and the output, or the shelf of the outputs
+pub record JobStreams (C D W : Type 0) : Type 0 where
+  pub control : C
+  pub dial : D
+  pub output : W
+
+abbrev pub streams : {C D W : Type 0} → C → D → W → JobStreams C D W
+streams control dial output = record { control = control; dial = dial; output = output }
+
+-- What is seen of them: the links call by call, the bytes of the data connections that are to come, and what the output holds.
+pub record SeenStreams (L O : Type 0) : Type 0 where
+  pub links : L
+  pub coming : Option (List (List ℕ))
+  pub output : O
+
+abbrev pub seen : {C D W O : Type 0} → (D → Option (List (List ℕ))) → (W → O) → JobStreams C D W → SeenStreams (JobLinks C D) O
+seen coming holds s = record {
+  links = record { control = s.control; dial = s.dial };
+  coming = coming s.dial;
+  output = holds s.output;
+}
+
+-- ---- what a job did
+
+-- the ports that were asked for are those that START replies named, in their order, but for the last one where the job ended
+-- before its frame's connection was asked for
+abbrev pub AreAskedFor : List ℕ → List ℕ → Type 0
+AreAskedFor asked named = (named ≡ asked) ⊎ ((port : ℕ) × (named ≡ port ∷ asked))
+
+-- What a job did over its streams: its moves, from the new client on, by the client's own contracts; the replies that it read
+-- by them, and what it wrote for them; the ports of its data connections, which are those of its START replies; and these
+-- connections, each of which began with a frame's records but for one that was let go within its frame.
+pub record RanWithTrace {L O : Type 0} (views : LinkViews L) (job : Job) (was now : SeenStreams L O) : Type 0 where
+  pub moves : List JobMove
+  pub first : ClientState
+  pub last : ClientState
+  pub fresh : IsNewClient job first
+  pub leads : MovesLead first moves last
   pub rest : List ℕ
   pub left : List ℕ
-  pub failed : Bool
   pub trace : JobTrace
-  pub calls : Calls remaining contents first read_ wrote failed now
-  pub did : BytesMatchTrace job trace read_ wrote rest left
+  pub calls : Calls views was.links moves now.links
+  pub did : BytesMatchTrace job trace (heard_by moves) (bytes_written_by moves) rest left
+  pub asked : AreAskedFor (dialled_by moves) (ports_named did.events)
   pub wholes : List (List ℕ)
   pub unread : List (List ℕ)
   pub begin : BeginWith wholes trace.streams
-  pub brought : HasBrought coming0 coming (wholes ++ unread)
+  pub brought : HasBrought was.coming now.coming (wholes ++ unread)
   pub few : length unread ≤ 1
 
--- The job is done, as the client's rules have it for these replies and frames. All was written unless a write failed; each
--- data connection began with its frame's records, which ended with EOF; and the output took the file of the picture that the
--- frames show, or nothing, where the job is no scan.
-pub record RanDone {C : Type 0} (remaining contents : C → Option (List ℕ)) (job : Job) (first : C) (coming0 : Option (List (List ℕ))) (now : C) (coming : Option (List (List ℕ))) (held holds : Option (List ℕ)) (outcome : Outcome) : Type 0 where
-  pub ran : RanWithTrace remaining contents job first coming0 now coming
-  pub told : ran.trace.protocol.outcome ≡ outcome
-  pub all : ran.failed ≡ false → ran.left ≡ []
+-- The job is done, as the client's rules have it for these replies and frames. All was written, with CLOSE and EXIT, unless a
+-- write failed; each data connection began with its frame's records, which ended with EOF; and the output took the file of the
+-- picture that the frames show, or nothing, where the job is no scan.
+pub record RanDone {L : Type 0} (views : LinkViews L) (job : Job) (was now : SeenStreams L (Option (List ℕ))) (reports : Reports) : Type 0 where
+  pub single : is_batch job.task ≡ false
+  pub ran : RanWithTrace views job was now
+  pub told : ran.trace.protocol.outcome ≡ Done reports
+  pub last_told : ran.last.outcome ≡ Done reports
+  pub all : has_write_failed ran.moves ≡ false → ran.left ≡ []
   pub read_all : ran.unread ≡ []
   pub end_well : EndWell ran.did.events
   pub text : List ℕ
-  pub taken : Appends held holds text
+  pub taken : Appends was.output now.output text
+  pub gave : text ≡ given_by ran.moves
   pub file : job.task ≡ tasks.Scan → (p : Picture) × ShowsFrames ran.trace.protocol.history.ended p × Denotes text p
   pub none : job.task ≢ tasks.Scan → text ≡ []
 
--- a job that has ended otherwise has another status than GOOD
-abbrev pub HasRefusal : Outcome → Type 0
-HasRefusal outcome = IfEnded outcome (λ status why. status ≢ statuses.Good)
+-- What ends a job that is in that trace, apart from its replies and the ends of its frames: a connection that was lost, want of
+-- memory, bytes that begin no reply to what is waited for, or more bytes of a frame than it was to have.
+pub data EndsBy (moves : List JobMove) (protocol : ProtocolState) (rest : List ℕ) (outcome : Outcome) : Type 0 where
+  ByLoss : HasLoss moves → outcome ≡ Ended statuses.IoError whys.Lost → EndsBy moves protocol rest outcome
+  ByMemory : outcome ≡ Ended statuses.NoMem whys.Memory → EndsBy moves protocol rest outcome
+  ByGarble : (procedure : Procedure) → awaited_procedure protocol.progress ≡ Some procedure → IsNoStart message_limit (reply procedure) rest → outcome ≡ Ended statuses.IoError whys.Malformed → EndsBy moves protocol rest outcome
+  ByLength : (frame : Frame) (bytes : List ℕ) → protocol.history.under ≡ Some frame → most_bytes frame.params < length frame.payload + length bytes
+      → outcome ≡ Ended statuses.IoError whys.Long → EndsBy moves protocol rest outcome
 
--- The job has ended otherwise: by a reply or a frame's end, as the client's rules have it, by another cause, or since the
--- output did not take its file. The output took no whole file.
-pub record RanEnded {C : Type 0} (remaining contents : C → Option (List ℕ)) (job : Job) (first : C) (coming0 : Option (List (List ℕ))) (now : C) (coming : Option (List (List ℕ))) (held holds : Option (List ℕ)) (outcome : Outcome) : Type 0 where
-  pub ran : RanWithTrace remaining contents job first coming0 now coming
-  pub cause : (ran.trace.protocol.outcome ≡ outcome) ⊎ (EndsBy ran.trace.protocol ran.rest outcome ⊎ (outcome ≡ Ended statuses.IoError whys.Sink))
-  pub refusal : HasRefusal outcome
+-- by a reply or a frame's end, as the client's rules have it, by another cause, or since an output did not take its file
+abbrev pub HasEndingCause : List JobMove → ProtocolState → List ℕ → Outcome → Type 0
+HasEndingCause moves protocol rest outcome = (protocol.outcome ≡ outcome) ⊎ (EndsBy moves protocol rest outcome ⊎ (outcome ≡ Ended statuses.IoError whys.Sink))
+
+-- The job has ended otherwise, with a cause. All that was to go out was written, unless a write failed, or the output did. The
+-- output took what was given, or where it failed bytes more, and no whole file.
+pub record RanEnded {L : Type 0} (views : LinkViews L) (job : Job) (was now : SeenStreams L (Option (List ℕ))) (status : Status) (why : Why) : Type 0 where
+  pub single : is_batch job.task ≡ false
+  pub ran : RanWithTrace views job was now
+  pub cause : HasEndingCause ran.moves ran.trace.protocol ran.rest (Ended status why)
+  pub all : why ≢ whys.Sink → has_write_failed ran.moves ≡ false → ran.left ≡ []
+  pub refusal : status ≢ statuses.Good
   pub text : List ℕ
-  pub taken : Appends held holds text
+  pub taken : Appends was.output now.output text
+  pub behind : List ℕ
+  pub gave : text ≡ given_by ran.moves ++ behind
+  pub none_behind : why ≢ whys.Sink → behind ≡ []
   pub not_whole : IsWhole text → ⊥
 
 -- how a job over streams is over
-abbrev pub HasRun : {C : Type 0} → (C → Option (List ℕ)) → (C → Option (List ℕ)) → Job → C → Option (List (List ℕ)) → C → Option (List (List ℕ)) → Option (List ℕ) → Option (List ℕ) → Outcome → Type 0
-HasRun remaining contents job first coming0 now coming held holds Running = ⊥
-HasRun remaining contents job first coming0 now coming held holds (Done reports) = RanDone remaining contents job first coming0 now coming held holds (Done reports)
-HasRun remaining contents job first coming0 now coming held holds (Ended status why) = RanEnded remaining contents job first coming0 now coming held holds (Ended status why)
+abbrev pub HasRun : {L : Type 0} → LinkViews L → Job → SeenStreams L (Option (List ℕ)) → SeenStreams L (Option (List ℕ)) → Outcome → Type 0
+HasRun views job was now Running = ⊥
+HasRun views job was now (Done reports) = RanDone views job was now reports
+HasRun views job was now (Ended status why) = RanEnded views job was now status why
 
 abbrev pub refused_as : JobFault → Outcome
 refused_as NoMem = Ended statuses.NoMem whys.Memory
@@ -91,8 +151,6 @@ IsRefused job outcome =
     ⊎ (((fault : JobFault) × HasJobFault job (Some fault) × (outcome ≡ refused_as fault)) ⊎ (outcome ≡ Ended statuses.NoMem whys.Memory))
 
 -- a job that is refused touches no stream
-pub record RefusesJob {C D W : Type 0} (job : Job) (outcome : Outcome) (control control_then : C) (dial dial_then : D) (out out_then : W) : Type 0 where
+pub record RefusesJob {C D W : Type 0} (job : Job) (outcome : Outcome) (was now : JobStreams C D W) : Type 0 where
   pub why : IsRefused job outcome
-  pub control_is : control_then ≡ control
-  pub dial_is : dial_then ≡ dial
-  pub out_is : out_then ≡ out
+  pub same : now ≡ was

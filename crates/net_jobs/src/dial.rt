@@ -9,15 +9,19 @@ pub struct DialFault;
 /// Makes the data connections of a job.
 pub trait Dial {
     ghost use Rattle.std.specs.Prelude.{◌≡◌, ℕ, List, Option, None, IfOk, OnErr};
-    ghost use Rattle.net_jobs.specs.Links.{DialBrings};
+    ghost use Rattle.net_jobs.specs.Links.{DialBrings, with_port};
 
     type Conn: Read + Drop;
 
     // The bytes of each connection to come, in their order, where they are known.
     ghost coming: { Self → Option (List (List ℕ)) } = { λ _. None };
 
+    // The ports that it was asked for so far, the newest first, where it tells them.
+    ghost ports: { Self → Option (List ℕ) } = { λ _. None };
+
     /// A connection to that port of the host of the control connection.
     fn dial(&mut self, port: u16) -> Result<Self::Conn, DialFault>
+        ensures asked { ports self.new ≡ with_port port (ports self.old) }
         ensures brings { IfOk result
             (λ conn. DialBrings (coming self.old) (coming self.new) (Self.Conn.remaining conn)) }
         ensures none { OnErr result (coming self.new ≡ coming self.old) };

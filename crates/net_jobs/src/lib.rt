@@ -2,6 +2,7 @@
 //! its files.
 #![tactic(auto)]
 
+mod calls;
 mod dial;
 mod net_batch;
 mod running;

@@ -1,8 +1,9 @@
-ghost use Rattle.std.specs.Prelude.{◌≡◌, ◌<◌, ◌⊎◌, ◌+◌, ℕ, None, List, Option, true, false, length, option_map, [], Ok, IfOk};
+ghost use Rattle.std.specs.Prelude.{◌≡◌, ◌<◌, ◌⊎◌, ◌+◌, ℕ, None, List, Option, true, false, length, option_map, [], Ok, IfOk, IfErr};
 ghost use Rattle.std.specs.Fn.{FnOnceReturnsAt};
 ghost use Rattle.scan_job.specs.declared.job.Job.{Job as JobValue};
 ghost use Rattle.scan_job.specs.JobSize.{HasCount};
-ghost use Rattle.scan_job.specs.Outcomes.{IsOver, over_as};
+ghost use Rattle.scan_job.specs.declared.outcome.Outcome.TheVariants.{Ended};
+ghost use Rattle.scan_job.specs.Outcomes.{IfDone, IfEnded, IsOver, over_as};
 ghost use Rattle.scan_job.specs.Shelves.{Stock, ReturnedOutput};
 ghost use Rattle.frame_join.specs.FrameHistory.{JoinHistory};
 ghost use Rattle.client_replies.specs.ProtocolStates.{scans};
@@ -10,13 +11,17 @@ ghost use Rattle.net_client.specs.ClientStates.{IsNewClient};
 ghost use Rattle.net_jobs.specs.Outputs.{TakesMore, TakesFront};
 ghost use Rattle.scan_job.specs.FileOutputs.{GivesBack};
 ghost use Rattle.net_jobs.specs.Paging.{IsFiling, HasFiled, HasFiledShort, BatchHasCome};
-ghost use Rattle.net_jobs.specs.Batches.{HasBatchRun, RefusesBatch, closed_as};
+ghost use Rattle.net_jobs.specs.Batches.{BatchDone, BatchEnded, RefusesBatch, closed_as};
+ghost use Rattle.net_jobs.specs.JobJournal.{GivesAll, JobMove, given_by};
+ghost use Rattle.net_jobs.specs.Links.{views_of};
+ghost use Rattle.net_jobs.specs.RunPromises.{seen, streams};
+ghost use Rattle.net_jobs.specs.TurnSteps.{KeepsNotes, no_notes, notes_of};
 
+use crate::calls::CallTally;
 use crate::dial::Dial;
-use crate::running::{MOST_PULLS, MOST_READS, go_on, part, piece, stop_of_fault, told_of};
-use byte_output::put;
+use crate::running::{MOST_PULLS, go_on, part, piece, stop_of_fault, told_of};
 use frame_join::{no_file_is_endless, no_front_is_whole, not_whole_before, whole_shows};
-use net_client::{Client, Link};
+use net_client::Client;
 use netpbm::no_whole_prefix;
 use sane_fixed::NoMem;
 use scan_job::{Job, Outcome, Reports, Shelf, Stop, Task};
@@ -41,9 +46,10 @@ fn shelve<S: Shelf>(
     under: &mut Option<S::Out>,
     number: u32,
     bytes: &[u8],
-    reads: &mut u64,
+    tally: &mut CallTally,
 ) -> bool
     requires { 0 < length bytes.now }
+    ensures calls { KeepsNotes tally.old tally.new }
     ensures whole { result ≡ true
         → TakesMore (S.stock shelf.old) (option_map S.Out.contents under.old)
         (S.stock shelf.new) (option_map S.Out.contents under.new) number bytes.now }
@@ -52,10 +58,10 @@ fn shelve<S: Shelf>(
         (S.stock shelf.new) (option_map S.Out.contents under.new) number bytes.now }
 {
     match under {
-        Some(out) => put(out, bytes, reads),
+        Some(out) => tally.put(out, bytes),
         None => match shelf.open(number) {
             Ok(mut out) => {
-                let took = put(&mut out, bytes, reads);
+                let took = tally.put(&mut out, bytes);
                 match mem::replace(under, Some(out)) {
                     None => took,
                     Some(_) => unreachable!(),
@@ -83,22 +89,25 @@ fn drain<S: Shelf>(
     room: &mut [u8],
     shelf: &mut S,
     under: &mut Option<S::Out>,
-    reads: &mut u64,
+    tally: &mut CallTally,
 ) -> bool
     requires { 0 < length room.old }
     ensures room { length room.new ≡ length room.old }
+    ensures calls { KeepsNotes tally.old tally.new }
     ensures outcome { client.new.outcome ≡ client.old.outcome }
     // `k` is the number of the file under way, and `past` what the client was told and gave.
-    ensures drained { result ≡ true
-        → (before : Option Stock) (outputs : List ReturnedOutput) (k : ℕ) (past : JoinHistory)
+    ensures drained { result ≡ true → (gives : List JobMove) × GivesAll client.old gives client.new
+        × ((before : Option Stock) (outputs : List ReturnedOutput) (k : ℕ) (past : JoinHistory)
         → IsFiling past client.old k before outputs (S.stock shelf.old)
-        (option_map S.Out.contents under.old) → HasFiled past client.old k before outputs client.new
-        (S.stock shelf.new) (option_map S.Out.contents under.new) }
-    ensures short { result ≡ false
-        → (before : Option Stock) (outputs : List ReturnedOutput) (k : ℕ) (past : JoinHistory)
+        (option_map S.Out.contents under.old)
+        → HasFiled past client.old k before outputs (given_by gives) client.new
+        (S.stock shelf.new) (option_map S.Out.contents under.new)) }
+    ensures short { result ≡ false → (gives : List JobMove) × GivesAll client.old gives client.new
+        × ((before : Option Stock) (outputs : List ReturnedOutput) (k : ℕ) (past : JoinHistory)
         → IsFiling past client.old k before outputs
-        (S.stock shelf.old) (option_map S.Out.contents under.old) → HasFiledShort past client.old
-        k before outputs client.new (S.stock shelf.new) (option_map S.Out.contents under.new) }
+        (S.stock shelf.old) (option_map S.Out.contents under.old)
+        → HasFiledShort past client.old k before outputs (given_by gives) client.new
+        (S.stock shelf.new) (option_map S.Out.contents under.new)) }
 {
     no_file_is_endless();
     no_front_is_whole();
@@ -110,7 +119,7 @@ fn drain<S: Shelf>(
         if n == 0 {
             return true;
         }
-        if !shelve(shelf, under, number, &room[..n], reads) {
+        if !shelve(shelf, under, number, &room[..n], tally) {
             return false;
         }
         if is_page && !client.is_turning() {
@@ -127,28 +136,32 @@ fn fill<S: Shelf>(
     room: &mut [u8],
     shelf: &mut S,
     under: &mut Option<S::Out>,
-    reads: &mut u64,
+    tally: &mut CallTally,
 ) -> bool
     requires { 0 < length room.old }
     ensures room { length room.new ≡ length room.old }
+    ensures calls { KeepsNotes tally.old tally.new }
     ensures outcome { client.new.outcome ≡ client.old.outcome }
     ensures none { is_scanning ≡ false → (result ≡ true)
         × (client.new ≡ client.old) × (shelf.new ≡ shelf.old) × (under.new ≡ under.old) }
     ensures drained { is_scanning ≡ true → result ≡ true
-        → (before : Option Stock) (outputs : List ReturnedOutput) (k : ℕ) (past : JoinHistory)
+        → (gives : List JobMove) × GivesAll client.old gives client.new
+        × ((before : Option Stock) (outputs : List ReturnedOutput) (k : ℕ) (past : JoinHistory)
         → IsFiling past client.old k before outputs (S.stock shelf.old)
-        (option_map S.Out.contents under.old) → HasFiled past client.old k before outputs client.new
-        (S.stock shelf.new) (option_map S.Out.contents under.new) }
-    ensures short { result ≡ false
-        → (before : Option Stock) (outputs : List ReturnedOutput) (k : ℕ) (past : JoinHistory)
+        (option_map S.Out.contents under.old)
+        → HasFiled past client.old k before outputs (given_by gives) client.new
+        (S.stock shelf.new) (option_map S.Out.contents under.new)) }
+    ensures short { result ≡ false → (gives : List JobMove) × GivesAll client.old gives client.new
+        × ((before : Option Stock) (outputs : List ReturnedOutput) (k : ℕ) (past : JoinHistory)
         → IsFiling past client.old k before outputs
-        (S.stock shelf.old) (option_map S.Out.contents under.old) → HasFiledShort past client.old
-        k before outputs client.new (S.stock shelf.new) (option_map S.Out.contents under.new) }
+        (S.stock shelf.old) (option_map S.Out.contents under.old)
+        → HasFiledShort past client.old k before outputs (given_by gives) client.new
+        (S.stock shelf.new) (option_map S.Out.contents under.new)) }
 {
     if !is_scanning {
         return true;
     }
-    drain(client, room, shelf, under, reads)
+    drain(client, room, shelf, under, tally)
 }
 
 /// Runs a client to its end, as `run_job_with` does. The output under way stays open.
@@ -161,6 +174,7 @@ fn run_client<C, D, S, T, F>(
     is_scanning: bool,
     piece: &mut [u8],
     room: &mut [u8],
+    tally: &mut CallTally,
     tell: F,
 ) -> Result<(Reports, T), Stop>
 where
@@ -170,41 +184,30 @@ where
     T: Drop,
     F: FnOnce(&Reports) -> Result<T, NoMem> + Drop,
     requires room { 0 < length room.old }
+    requires new { notes_of tally.old ≡ no_notes }
     requires tell { F.IsAlwaysCallable tell }
     ensures came { (job : JobValue) → IsNewClient job client → HasCount job.task
         → is_scanning ≡ scans job.task → option_map S.Out.contents under.old ≡ None
-        → BatchHasCome C.remaining C.contents job control.old (D.coming dial.old)
-        control.new (D.coming dial.new) (S.stock shelf.old) (S.stock shelf.new)
-        (option_map S.Out.contents under.new) (over_as result) }
+        → BatchHasCome (views_of C.remaining C.contents D.ports) job
+        (seen D.coming S.stock (streams control.old dial.old shelf.old))
+        (seen D.coming S.stock (streams control.new dial.new shelf.new))
+        (option_map S.Out.contents under.new) (over_as result) (notes_of tally.new) }
     ensures told { IfOk result (λ done. FnOnceReturnsAt F.FnOnce tell done.0 (Ok done.1)) }
 {
     not_whole_before();
     whole_shows();
-    let mut reads = MOST_READS;
     let mut stream = None;
-    let mut is_up = true;
-    let mut turns = 0;
-    while turns < MOST_READS && is_up && !client.is_over() {
-        turns += 1;
-        is_up = go_on(
-            &mut client,
-            control,
-            dial,
-            &mut stream,
-            piece,
-            room,
-            &mut reads,
-        );
-        if !client.is_over() && !fill(&mut client, is_scanning, room, shelf, under, &mut reads) {
+    while !client.is_over() {
+        go_on(&mut client, control, dial, &mut stream, piece, room, tally);
+        if !client.is_over() && !fill(&mut client, is_scanning, room, shelf, under, tally) {
             return Err(Stop::failed_output());
         }
     }
-    client.link_lost(Link::Control);
     let told = told_of(client.outcome(), tell);
-    if told.is_ok() && !fill(&mut client, is_scanning, room, shelf, under, &mut reads) {
+    if told.is_ok() && !fill(&mut client, is_scanning, room, shelf, under, tally) {
         return Err(Stop::failed_output());
     }
-    let outcome = part(client, control, is_up, room, &mut reads);
+    let outcome = part(client, control, room, tally);
     let told = told?;
     let Outcome::Done(reports) = outcome else {
         unreachable!()
@@ -246,11 +249,15 @@ where
     T: Drop,
     F: FnOnce(&Reports) -> Result<T, NoMem> + Drop,
     requires { F.IsAlwaysCallable tell }
+    ensures done { IfOk result (λ done. BatchDone (views_of C.remaining C.contents D.ports) job
+        (seen D.coming S.stock (streams control.old dial.old shelf.old))
+        (seen D.coming S.stock (streams control.new dial.new shelf.new)) done.0) }
     // A job that is refused, or finds no memory for its buffers, touches no stream and no shelf.
-    ensures ran { RefusesBatch job (over_as result)
-        control.old control.new dial.old dial.new shelf.old shelf.new
-        ⊎ HasBatchRun C.remaining C.contents job control.old (D.coming dial.old)
-        control.new (D.coming dial.new) (S.stock shelf.old) (S.stock shelf.new) (over_as result) }
+    ensures ended { IfErr result (λ stop. RefusesBatch job (Ended stop.status stop.why)
+        (streams control.old dial.old shelf.old) (streams control.new dial.new shelf.new)
+        ⊎ BatchEnded (views_of C.remaining C.contents D.ports) job
+        (seen D.coming S.stock (streams control.old dial.old shelf.old))
+        (seen D.coming S.stock (streams control.new dial.new shelf.new)) stop.status stop.why) }
     ensures told { IfOk result (λ done. FnOnceReturnsAt F.FnOnce tell done.0 (Ok done.1)) }
 {
     if let Some(fault) = job.fault() {
@@ -264,6 +271,7 @@ where
         Err((fault, _job)) => return Err(stop_of_fault(fault)),
     };
     let mut under = None;
+    let mut tally = CallTally::new();
     let done = run_client(
         client,
         control,
@@ -273,6 +281,7 @@ where
         is_scanning,
         read.as_mut_slice(),
         room.as_mut_slice(),
+        &mut tally,
         tell,
     );
     let is_taken = put_back(shelf, under);
@@ -290,10 +299,15 @@ pub fn run_batch<C: Read + Write, D: Dial, S: Shelf>(
     shelf: &mut S,
 ) -> Outcome
     ensures over { IsOver result }
+    ensures done { IfDone result (λ reports. BatchDone (views_of C.remaining C.contents D.ports)
+        job (seen D.coming S.stock (streams control.old dial.old shelf.old))
+        (seen D.coming S.stock (streams control.new dial.new shelf.new)) reports) }
     // A job that is refused, or finds no memory for its buffers, touches no stream and no shelf.
-    ensures ran { RefusesBatch job result control.old control.new dial.old dial.new
-        shelf.old shelf.new ⊎ HasBatchRun C.remaining C.contents job control.old (D.coming dial.old)
-        control.new (D.coming dial.new) (S.stock shelf.old) (S.stock shelf.new) result }
+    ensures ended { IfEnded result (λ status why. RefusesBatch job (Ended status why)
+        (streams control.old dial.old shelf.old) (streams control.new dial.new shelf.new)
+        ⊎ BatchEnded (views_of C.remaining C.contents D.ports) job
+        (seen D.coming S.stock (streams control.old dial.old shelf.old))
+        (seen D.coming S.stock (streams control.new dial.new shelf.new)) status why) }
 {
     match run_batch_with(alloc, job, control, dial, shelf, |_| Ok(())) {
         Ok((reports, ())) => Outcome::Done(reports),

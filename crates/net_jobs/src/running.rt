@@ -5,26 +5,24 @@ ghost use Rattle.scan_job.specs.declared.job.Job.{Job as JobValue};
 ghost use Rattle.scan_job.specs.declared.job.Task.TheVariants as tasks;
 ghost use Rattle.scan_job.specs.declared.outcome.Outcome.TheVariants.{Done, Ended};
 ghost use Rattle.scan_job.specs.declared.report.Reports.{Reports as ReportsValue};
-ghost use Rattle.scan_job.specs.Outcomes.{IsOver, over_as};
+ghost use Rattle.scan_job.specs.Outcomes.{IfDone, IfEnded, IsOver, over_as};
 ghost use Rattle.frame_join.specs.FrameHistory.{JoinHistory};
 ghost use Rattle.client_replies.specs.ProtocolStates.{is_running, is_receiving, is_batch, wanted_port};
-ghost use Rattle.net_client.specs.ClientStates.{ClientRepresents, IsNewClient};
-ghost use Rattle.net_jobs.specs.NetDraining.{HoldsGiven, IsDrainedTo};
-ghost use Rattle.scan_job.specs.FileOutputs.{StopsShort};
-ghost use Rattle.net_jobs.specs.RunInvariants.{RunInvariantIsKept, TurnGoesOn, HeardOrLost};
-ghost use Rattle.net_jobs.specs.RunPromises.{HasRun, RefusesJob, StopsAs, refused_as};
+ghost use Rattle.net_client.specs.ClientStates.{IsNewClient};
+ghost use Rattle.net_jobs.specs.JobJournal.{GivesAll, JobMove, given_by};
+ghost use Rattle.net_jobs.specs.Links.{views_of, with_port};
+ghost use Rattle.net_jobs.specs.NetDraining.{HoldsGiven, IsDrainedTo, StopsBehind};
+ghost use Rattle.net_jobs.specs.RunPromises.{RanDone, RanEnded, RefusesJob, StopsAs, refused_as, seen, streams};
+ghost use Rattle.net_jobs.specs.TurnSteps.{DialsOrLoses, HasRunNoted, HearsOrLoses, IsLost, KeepsNotes, KeepsReads, KeepsWrites, MovesAll, TakesLeave, TakesOrLoses, loop_state, no_notes, notes_of, turns_to_go};
 
+use crate::calls::CallTally;
 use crate::dial::Dial;
-use byte_output::put;
 use frame_join::{no_file_is_endless, no_front_is_whole, not_whole_before, whole_shows};
 use net_client::{Client, Link};
 use sane_fixed::{NoMem, Status};
 use scan_job::{Job, JobFault, Outcome, Reports, Stop, Task, Why};
 use std::alloc::{AllocError, Global};
 use std::io::{ErrorKind, Read, Write};
-
-/// The most reads of a job, with the interrupted calls that are made again.
-pub(crate) const MOST_READS: u64 = 1 << 40;
 
 /// More than a file has bytes.
 pub(crate) const MOST_PULLS: u64 = 1 << 40;
@@ -63,14 +61,42 @@ fn is_scan(task: Task) -> bool
     }
 }
 
+/// Writes the bytes to the control connection, and makes an interrupted write again. Says whether it took them all; a write
+/// that fails, or of which nothing is taken, ends it, and then it took a proper front of them.
+fn write_whole<C: Write>(control: &mut C, bytes: &[u8], tally: &mut CallTally) -> bool
+    requires { tally.old.write_failed ≡ false }
+    ensures whole { IsTrue result
+        → Appends (C.contents control.old) (C.contents control.new) bytes.now }
+    ensures front { result ≡ false → (n : ℕ) × (n < length bytes.now)
+        × Appends (C.contents control.old) (C.contents control.new) (take n bytes.now) }
+    ensures told { tally.new.write_failed ≡ not result }
+    ensures rest { KeepsReads tally.old tally.new }
+{
+    let mut at = 0;
+    while at < bytes.len() {
+        match tally.write(control, &bytes[at..]) {
+            Ok(0) => return false,
+            Ok(n) => at += n,
+            Err(e) if e.kind() == ErrorKind::Interrupted => {
+                if !tally.take_again() {
+                    return false;
+                }
+            }
+            Err(_) => return false,
+        }
+    }
+    true
+}
+
 /// Writes all bytes that a client has for the control connection. Says whether it took them.
 fn write_out<C: Write>(
     client: &mut Client,
     control: &mut C,
     room: &mut [u8],
-    reads: &mut u64,
+    tally: &mut CallTally,
 ) -> bool
-    requires { 0 < length room.old }
+    requires room { 0 < length room.old }
+    requires up { tally.old.write_failed ≡ false }
     ensures room { length room.new ≡ length room.old }
     ensures rest { client.new ≡ record client.old { out = client.new.out } }
     ensures whole { IsTrue result
@@ -78,28 +104,33 @@ fn write_out<C: Write>(
     ensures none { IsTrue result → client.new.out ≡ [] }
     ensures front { result ≡ false → (n : ℕ) × (n < length client.old.out)
         × Appends (C.contents control.old) (C.contents control.new) (take n client.old.out) }
+    ensures told { tally.new.write_failed ≡ not result }
+    ensures reads { KeepsReads tally.old tally.new }
 {
     loop {
         let n = client.take_out(room);
         if n == 0 {
             return true;
         }
-        if !put(control, &room[..n], reads) {
+        if !write_whole(control, &room[..n], tally) {
             return false;
         }
     }
 }
 
 /// Reads once, and makes an interrupted read again; none where the stream fails or ends, or the reads are used up.
-fn read_piece<R: Read>(stream: &mut R, piece: &mut [u8], reads: &mut u64) -> usize
+fn read_piece<R: Read>(stream: &mut R, piece: &mut [u8], tally: &mut CallTally) -> usize
+    requires { tally.old.loss ≡ None }
     ensures count { result ≤ length piece.old }
     ensures room { length piece.new ≡ length piece.old }
     ensures bytes { Consumes (R.remaining stream.old)
         (R.remaining stream.new) (take result piece.new) }
+    ensures some { 0 < result → tally.new.loss ≡ None }
+    ensures none { result ≡ 0 → IsLost tally.new.loss }
+    ensures writes { KeepsWrites tally.old tally.new }
 {
-    while *reads > 0 {
-        *reads -= 1;
-        match stream.read(piece) {
+    while tally.take_read() {
+        match tally.read(stream, piece) {
             Ok(n) => return n,
             Err(e) if e.kind() == ErrorKind::Interrupted => {}
             Err(_) => return 0,
@@ -109,14 +140,16 @@ fn read_piece<R: Read>(stream: &mut R, piece: &mut [u8], reads: &mut u64) -> usi
 }
 
 /// Reads the control connection once.
-fn hear<C: Read>(client: &mut Client, control: &mut C, piece: &mut [u8], reads: &mut u64)
-    requires { is_running client.old.outcome ≡ true }
+fn hear<C: Read>(client: &mut Client, control: &mut C, piece: &mut [u8], tally: &mut CallTally)
+    requires running { is_running client.old.outcome ≡ true }
+    requires quiet { is_receiving client.old.outcome client.old.progress ≡ false }
+    requires held { tally.old.loss ≡ None }
     ensures room { length piece.new ≡ length piece.old }
-    ensures heard { (past : JoinHistory)
-        → ClientRepresents past client.old → HeardOrLost (C.remaining control.old)
-        (C.remaining control.new) client.old past client.new }
+    ensures heard { HearsOrLoses client.old (C.remaining control.old)
+        client.new (C.remaining control.new) tally.new.loss }
+    ensures writes { KeepsWrites tally.old tally.new }
 {
-    let n = read_piece(control, piece, reads);
+    let n = read_piece(control, piece, tally);
     if n == 0 {
         client.link_lost(Link::Control);
     } else {
@@ -127,48 +160,99 @@ fn hear<C: Read>(client: &mut Client, control: &mut C, piece: &mut [u8], reads: 
 /// Reads the data connection once, and lets it go after the end record.
 fn see<R: Read + Drop>(
     client: &mut Client,
-    stream: &mut Option<R>,
+    conn: R,
     piece: &mut [u8],
-    reads: &mut u64,
-)
-    requires { is_receiving client.old.outcome client.old.progress ≡ true }
+    tally: &mut CallTally,
+) -> Option<R>
+    requires receiving { is_receiving client.old.outcome client.old.progress ≡ true }
+    requires held { tally.old.loss ≡ None }
     ensures room { length piece.new ≡ length piece.old }
-    ensures stage { (coming : Option (List (List ℕ)))
-        → RunInvariantIsKept R.remaining coming coming stream.old stream.new client.old client.new }
+    ensures seen { TakesOrLoses R.remaining client.old conn client.new result tally.new.loss }
+    ensures writes { KeepsWrites tally.old tally.new }
 {
-    let Some(mut conn) = stream.take() else {
-        client.link_lost(Link::Image);
-        return;
-    };
-    let n = read_piece(&mut conn, piece, reads);
+    let mut conn = conn;
+    let n = read_piece(&mut conn, piece, tally);
     if n == 0 {
         client.link_lost(Link::Image);
-        return;
+        return None;
     }
     client.feed_data(&piece[..n]);
     if client.is_receiving() {
-        *stream = Some(conn);
+        Some(conn)
+    } else {
+        None
     }
 }
 
 /// Makes the data connection of a frame.
-fn connect<D: Dial>(client: &mut Client, dial: &mut D, stream: &mut Option<D::Conn>, port: u16)
+fn connect<D: Dial>(
+    client: &mut Client,
+    dial: &mut D,
+    port: u16,
+    tally: &mut CallTally,
+) -> Option<D::Conn>
     requires running { is_running client.old.outcome ≡ true }
     requires wanted { wanted_port client.old.progress ≡ Some port }
-    ensures stage { RunInvariantIsKept D.Conn.remaining
-        (D.coming dial.old) (D.coming dial.new) stream.old stream.new client.old client.new }
+    requires held { tally.old.loss ≡ None }
+    ensures asked { D.ports dial.new ≡ with_port port (D.ports dial.old) }
+    ensures dialled { DialsOrLoses D.Conn.remaining client.old (D.coming dial.old) port
+        client.new (D.coming dial.new) result tally.new.loss }
+    ensures writes { KeepsWrites tally.old tally.new }
 {
-    match dial.dial(port) {
+    match tally.dial(dial, port) {
         Ok(conn) => {
-            *stream = Some(conn);
             client.data_opened();
+            Some(conn)
         }
-        Err(_) => client.link_lost(Link::Image),
+        Err(_) => {
+            client.link_lost(Link::Image);
+            None
+        }
     }
 }
 
-/// Reads the data connection of a frame, or writes what is to go out and then makes the data connection that is wanted or
-/// reads the control connection once. Says whether the control connection took all.
+/// Writes what is to go out, and then makes the data connection that is wanted or reads the control connection once.
+fn talk<C: Read + Write, D: Dial>(
+    client: &mut Client,
+    control: &mut C,
+    dial: &mut D,
+    stream: &mut Option<D::Conn>,
+    piece: &mut [u8],
+    room: &mut [u8],
+    tally: &mut CallTally,
+)
+    requires room { 0 < length room.old }
+    requires running { is_running client.old.outcome ≡ true }
+    requires quiet { is_receiving client.old.outcome client.old.progress ≡ false }
+    requires held { tally.old.loss ≡ None }
+    requires up { tally.old.write_failed ≡ false }
+    ensures piece { length piece.new ≡ length piece.old }
+    ensures room { length room.new ≡ length room.old }
+    ensures moved { (moves : List JobMove) × MovesAll
+        (views_of C.remaining C.contents D.ports) D.Conn.remaining
+        (loop_state D.coming client.old control.old dial.old stream.old tally.old)
+        moves (loop_state D.coming client.new control.new dial.new stream.new tally.new) }
+    ensures held { is_running client.new.outcome ≡ true → tally.new.loss ≡ None }
+    ensures up { is_running client.new.outcome ≡ true → tally.new.write_failed ≡ false }
+    ensures turns { tally.new.turns ≡ tally.old.turns }
+{
+    // A reply may have come before it was waited for.
+    client.feed_control(&[]);
+    if !write_out(client, control, room, tally) {
+        client.link_lost(Link::Control);
+        return;
+    }
+    if client.is_over() {
+        return;
+    }
+    if let Some(port) = client.data_wanted() {
+        *stream = connect(client, dial, port, tally);
+    } else if !client.is_receiving() {
+        hear(client, control, piece, tally);
+    }
+}
+
+/// A turn of a job that runs: reads the data connection of its frame, or talks with the daemon.
 pub(crate) fn go_on<C: Read + Write, D: Dial>(
     client: &mut Client,
     control: &mut C,
@@ -176,49 +260,49 @@ pub(crate) fn go_on<C: Read + Write, D: Dial>(
     stream: &mut Option<D::Conn>,
     piece: &mut [u8],
     room: &mut [u8],
-    reads: &mut u64,
-) -> bool
+    tally: &mut CallTally,
+)
     requires room { 0 < length room.old }
     requires running { is_running client.old.outcome ≡ true }
+    requires held { tally.old.loss ≡ None }
+    requires up { tally.old.write_failed ≡ false }
     ensures piece { length piece.new ≡ length piece.old }
     ensures room { length room.new ≡ length room.old }
-    ensures going { TurnGoesOn C.remaining C.contents D.Conn.remaining
-        (not result) control.old control.new
-        (D.coming dial.old) (D.coming dial.new) stream.old stream.new client.old client.new }
+    ensures moved { (moves : List JobMove) × MovesAll
+        (views_of C.remaining C.contents D.ports) D.Conn.remaining
+        (loop_state D.coming client.old control.old dial.old stream.old tally.old)
+        moves (loop_state D.coming client.new control.new dial.new stream.new tally.new) }
+    ensures held { is_running client.new.outcome ≡ true → tally.new.loss ≡ None }
+    ensures up { is_running client.new.outcome ≡ true → tally.new.write_failed ≡ false }
+    ensures turns { turns_to_go client.new.outcome tally.new.turns
+        < turns_to_go client.old.outcome tally.old.turns }
 {
-    if client.is_receiving() {
-        see(client, stream, piece, reads);
-        return true;
+    if !tally.take_turn() {
+        client.link_lost(Link::Control);
+        return;
     }
-    // A reply may have come before it was waited for.
-    client.feed_control(&[]);
-    if !write_out(client, control, room, reads) {
-        return false;
+    if !client.is_receiving() {
+        talk(client, control, dial, stream, piece, room, tally);
+    } else if let Some(conn) = stream.take() {
+        *stream = see(client, conn, piece, tally);
     }
-    if client.is_over() {
-        return true;
-    }
-    if let Some(port) = client.data_wanted() {
-        connect(client, dial, stream, port);
-    } else if !client.is_receiving() {
-        hear(client, control, piece, reads);
-    }
-    true
 }
 
 /// Writes all bytes of a scan's file that may go out. Says whether the output took them; if not, what it took in all is no
 /// whole file.
-fn drain<W: Write>(client: &mut Client, room: &mut [u8], out: &mut W, reads: &mut u64) -> bool
+fn drain<W: Write>(client: &mut Client, room: &mut [u8], out: &mut W, tally: &mut CallTally) -> bool
     requires { 0 < length room.old }
     ensures room { length room.new ≡ length room.old }
+    ensures calls { KeepsNotes tally.old tally.new }
     ensures outcome { client.new.outcome ≡ client.old.outcome }
     // `first` is what the output held before the file, and `past` what the client was told and gave.
-    ensures drained { result ≡ true → (first : Option (List ℕ)) (past : JoinHistory)
-        → HoldsGiven past client.old first (W.contents out.old)
-        → IsDrainedTo past client.old first client.new (W.contents out.new) }
+    ensures drained { result ≡ true → (gives : List JobMove) × GivesAll client.old gives client.new
+        × ((first : Option (List ℕ)) (past : JoinHistory)
+        → HoldsGiven past client.old first (W.contents out.old) → IsDrainedTo past
+        client.old first (given_by gives) client.new (W.contents out.new)) }
     ensures short { result ≡ false → (first : Option (List ℕ)) (past : JoinHistory)
         → HoldsGiven past client.old first (W.contents out.old)
-        → StopsShort first (W.contents out.new) }
+        → StopsBehind past.given first (W.contents out.new) }
 {
     no_file_is_endless();
     no_front_is_whole();
@@ -227,7 +311,7 @@ fn drain<W: Write>(client: &mut Client, room: &mut [u8], out: &mut W, reads: &mu
         if n == 0 {
             return true;
         }
-        if !put(out, &room[..n], reads) {
+        if !tally.put(out, &room[..n]) {
             return false;
         }
     }
@@ -240,44 +324,27 @@ fn give<W: Write>(
     is_scan: bool,
     room: &mut [u8],
     out: &mut W,
-    reads: &mut u64,
+    tally: &mut CallTally,
 ) -> bool
     requires { 0 < length room.old }
     ensures room { length room.new ≡ length room.old }
+    ensures calls { KeepsNotes tally.old tally.new }
     ensures outcome { client.new.outcome ≡ client.old.outcome }
     ensures none { is_scan ≡ false
         → (result ≡ true) × (client.new ≡ client.old) × (W.contents out.new ≡ W.contents out.old) }
     ensures drained { is_scan ≡ true
-        → result ≡ true → (first : Option (List ℕ)) (past : JoinHistory)
-        → HoldsGiven past client.old first (W.contents out.old)
-        → IsDrainedTo past client.old first client.new (W.contents out.new) }
+        → result ≡ true → (gives : List JobMove) × GivesAll client.old gives client.new
+        × ((first : Option (List ℕ)) (past : JoinHistory)
+        → HoldsGiven past client.old first (W.contents out.old) → IsDrainedTo past
+        client.old first (given_by gives) client.new (W.contents out.new)) }
     ensures short { result ≡ false → (first : Option (List ℕ)) (past : JoinHistory)
         → HoldsGiven past client.old first (W.contents out.old)
-        → StopsShort first (W.contents out.new) }
+        → StopsBehind past.given first (W.contents out.new) }
 {
     if !is_scan {
         return true;
     }
-    drain(client, room, out, reads)
-}
-
-/// Writes what a job that is over sends last, whether it is taken or not, and gives its outcome.
-pub(crate) fn leave<C: Write>(
-    client: Client,
-    control: &mut C,
-    room: &mut [u8],
-    reads: &mut u64,
-) -> Outcome
-    requires room { 0 < length room.old }
-    requires over { is_running client.outcome ≡ false }
-    ensures over { IsOver result }
-    ensures outcome { result ≡ client.outcome }
-    ensures wrote { (n : ℕ) × (n ≤ length client.out)
-        × Appends (C.contents control.old) (C.contents control.new) (take n client.out) }
-{
-    let mut client = client;
-    let _ = write_out(&mut client, control, room, reads);
-    client.into_outcome()
+    drain(client, room, out, tally)
 }
 
 /// What is to be told of a job that is over, if it is done.
@@ -303,27 +370,25 @@ pub(crate) fn told_of<T: Drop, F: FnOnce(&Reports) -> Result<T, NoMem> + Drop>(
     }
 }
 
-/// Takes leave of the daemon, where no write to it failed, and gives the outcome.
+/// Takes leave of a daemon: writes what a job that is over sends last, where no write failed before, and gives its outcome.
 pub(crate) fn part<C: Write>(
     client: Client,
     control: &mut C,
-    is_up: bool,
     room: &mut [u8],
-    reads: &mut u64,
+    tally: &mut CallTally,
 ) -> Outcome
     requires room { 0 < length room.old }
     requires over { is_running client.outcome ≡ false }
     ensures over { IsOver result }
     ensures outcome { result ≡ client.outcome }
-    ensures wrote { is_up ≡ true → (n : ℕ) × (n ≤ length client.out)
-        × Appends (C.contents control.old) (C.contents control.new) (take n client.out) }
-    ensures still { is_up ≡ false → control.new ≡ control.old }
+    ensures left { TakesLeave C.contents control.old (notes_of tally.old) client.out
+        control.new (notes_of tally.new) }
 {
-    if is_up {
-        leave(client, control, room, reads)
-    } else {
-        client.into_outcome()
+    let mut client = client;
+    if !tally.has_write_failed() {
+        let _ = write_out(&mut client, control, room, tally);
     }
+    client.into_outcome()
 }
 
 /// Runs a client to its end. The last bytes of the file of a job that is done go out once what is to be told of it is there.
@@ -335,6 +400,7 @@ fn run_client<C, D, W, T, F>(
     is_scan: bool,
     piece: &mut [u8],
     room: &mut [u8],
+    tally: &mut CallTally,
     tell: F,
 ) -> Result<(Reports, T), Stop>
 where
@@ -344,40 +410,30 @@ where
     T: Drop,
     F: FnOnce(&Reports) -> Result<T, NoMem> + Drop,
     requires room { 0 < length room.old }
+    requires new { notes_of tally.old ≡ no_notes }
     requires tell { F.IsAlwaysCallable tell }
     ensures ran { (job : JobValue) → IsNewClient job client → is_batch job.task ≡ false
         → (is_scan ≡ true ↔ job.task ≡ tasks.Scan)
-        → HasRun C.remaining C.contents job control.old (D.coming dial.old)
-        control.new (D.coming dial.new) (W.contents out.old) (W.contents out.new) (over_as result) }
+        → HasRunNoted (views_of C.remaining C.contents D.ports) job
+        (seen D.coming W.contents (streams control.old dial.old out.old))
+        (seen D.coming W.contents (streams control.new dial.new out.new))
+        (over_as result) (notes_of tally.new) }
     ensures told { IfOk result (λ done. FnOnceReturnsAt F.FnOnce tell done.0 (Ok done.1)) }
 {
     not_whole_before();
     whole_shows();
-    let mut reads = MOST_READS;
     let mut stream = None;
-    let mut is_up = true;
-    let mut turns = 0;
-    while turns < MOST_READS && is_up && !client.is_over() {
-        turns += 1;
-        is_up = go_on(
-            &mut client,
-            control,
-            dial,
-            &mut stream,
-            piece,
-            room,
-            &mut reads,
-        );
-        if !client.is_over() && !give(&mut client, is_scan, room, out, &mut reads) {
+    while !client.is_over() {
+        go_on(&mut client, control, dial, &mut stream, piece, room, tally);
+        if !client.is_over() && !give(&mut client, is_scan, room, out, tally) {
             return Err(Stop::failed_output());
         }
     }
-    client.link_lost(Link::Control);
     let told = told_of(client.outcome(), tell);
-    if told.is_ok() && !give(&mut client, is_scan, room, out, &mut reads) {
+    if told.is_ok() && !give(&mut client, is_scan, room, out, tally) {
         return Err(Stop::failed_output());
     }
-    let outcome = part(client, control, is_up, room, &mut reads);
+    let outcome = part(client, control, room, tally);
     let told = told?;
     let Outcome::Done(reports) = outcome else {
         unreachable!()
@@ -402,11 +458,16 @@ where
     T: Drop,
     F: FnOnce(&Reports) -> Result<T, NoMem> + Drop,
     requires tell { F.IsAlwaysCallable tell }
+    ensures done { IfOk result (λ done. RanDone (views_of C.remaining C.contents D.ports) job
+        (seen D.coming W.contents (streams control.old dial.old out.old))
+        (seen D.coming W.contents (streams control.new dial.new out.new)) done.0) }
     // A job that is refused, or finds no memory for its buffers, touches no stream.
-    ensures ran { RefusesJob job (over_as result)
-        control.old control.new dial.old dial.new out.old out.new ⊎ ((is_batch job.task ≡ false)
-        × HasRun C.remaining C.contents job control.old (D.coming dial.old) control.new
-        (D.coming dial.new) (W.contents out.old) (W.contents out.new) (over_as result)) }
+    ensures ended { IfErr result (λ stop.
+        RefusesJob job (Ended stop.status stop.why)
+        (streams control.old dial.old out.old) (streams control.new dial.new out.new)
+        ⊎ RanEnded (views_of C.remaining C.contents D.ports) job
+        (seen D.coming W.contents (streams control.old dial.old out.old))
+        (seen D.coming W.contents (streams control.new dial.new out.new)) stop.status stop.why) }
     ensures told { IfOk result (λ done. FnOnceReturnsAt F.FnOnce tell done.0 (Ok done.1)) }
 {
     if job.task.is_batch() {
@@ -418,6 +479,7 @@ where
     let mut read = piece(alloc)?;
     let mut room = piece(alloc)?;
     let is_scan = is_scan(job.task);
+    let mut tally = CallTally::new();
     match Client::new(alloc, job) {
         Ok(client) => run_client(
             client,
@@ -427,6 +489,7 @@ where
             is_scan,
             read.as_mut_slice(),
             room.as_mut_slice(),
+            &mut tally,
             tell,
         ),
         Err((fault, _job)) => Err(stop_of_fault(fault)),
@@ -444,11 +507,15 @@ pub fn run_job<C: Read + Write, D: Dial, W: Write>(
     out: &mut W,
 ) -> Outcome
     ensures over { IsOver result }
+    ensures done { IfDone result (λ reports. RanDone (views_of C.remaining C.contents D.ports) job
+        (seen D.coming W.contents (streams control.old dial.old out.old))
+        (seen D.coming W.contents (streams control.new dial.new out.new)) reports) }
     // A job that is refused, or finds no memory for its buffers, touches no stream.
-    ensures ran { RefusesJob job result control.old control.new dial.old dial.new out.old out.new
-        ⊎ ((is_batch job.task ≡ false)
-        × HasRun C.remaining C.contents job control.old (D.coming dial.old) control.new
-        (D.coming dial.new) (W.contents out.old) (W.contents out.new) result) }
+    ensures ended { IfEnded result (λ status why. RefusesJob job (Ended status why)
+        (streams control.old dial.old out.old) (streams control.new dial.new out.new)
+        ⊎ RanEnded (views_of C.remaining C.contents D.ports) job
+        (seen D.coming W.contents (streams control.old dial.old out.old))
+        (seen D.coming W.contents (streams control.new dial.new out.new)) status why) }
 {
     match run_job_with(alloc, job, control, dial, out, |_| Ok(())) {
         Ok((reports, ())) => Outcome::Done(reports),

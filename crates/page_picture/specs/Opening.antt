@@ -26,9 +26,7 @@ HasRasterFault Short h raster = length raster < raster_size h
 HasRasterFault Trailing h raster = raster_size h < length raster
 HasRasterFault SampleTooLarge h raster = (length raster ≡ raster_size h) × SomeAbove h.maxval raster (sample_count h)
 HasRasterFault NoMem h raster = IsRaster h raster
-HasRasterFault BadDpi h raster = ⊥
-HasRasterFault BadMagic h raster = ⊥
-HasRasterFault BadHeader h raster = ⊥
+HasRasterFault _ h raster = ⊥
 
 abbrev pub HasOpenFaultAfter : OpenFault → Header → List ℕ → Type 0
 HasOpenFaultAfter (Page fault) h raster = HasRasterFault fault h raster
@@ -38,9 +36,5 @@ HasOpenFaultAfter Device h raster = Unit {0}
 abbrev pub HasHeaderFault : OpenFault → List ℕ → Type 0
 HasHeaderFault (Page BadMagic) text = ¬ IsPageFormat (format_of text)
 HasHeaderFault (Page BadHeader) text = IsPageFormat (format_of text) × ((h : Header) (raster : List ℕ) → BeginsPage text h raster → ⊥)
-HasHeaderFault (Page BadDpi) text = ⊥
-HasHeaderFault (Page Short) text = ⊥
-HasHeaderFault (Page Trailing) text = ⊥
-HasHeaderFault (Page SampleTooLarge) text = ⊥
-HasHeaderFault (Page NoMem) text = ⊥
 HasHeaderFault Device text = Unit {0}
+HasHeaderFault (Page _) text = ⊥

@@ -17,6 +17,6 @@ pub use laws::lines_show_the_page;
 pub use page::Page;
 pub use page_file::{PageFault, read_page};
 pub use rereadable::Rereadable;
-pub use scene::{DeviceKind, HAND_WIDTH, Mode, Scene};
+pub use scene::{DeviceKind, Mode, Scene};
 pub use sources::{FailingPage, MemoryPage, OpenFault, PageSource, PnmPage, Source, SourceFault};
 pub use tones::{greatest, in_channel, sample, toned};

@@ -7,4 +7,5 @@ pub mod ExactDecimal
 pub mod Status
 pub mod Kind
 pub mod Unit
+pub mod Cap
 pub mod FrameFormat

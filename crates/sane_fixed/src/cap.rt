@@ -1,3 +1,6 @@
+ghost use Rattle.std.specs.Prelude.{◌≡◌, ◌≤◌};
+ghost use Rattle.sane_fixed.specs.Cap.{has_cap};
+
 /// What may be done with an option: the sum of these bits, and of any others (SANE Standard 1.06,
 /// "Option Capabilities").
 #[derive(Clone, Copy, Debug, PartialEq, Eq)]
@@ -33,3 +36,11 @@ const _: () = prove!(Cap::AUTOMATIC == 16);
 const _: () = prove!(Cap::INACTIVE == 32);
 
 const _: () = prove!(Cap::ADVANCED == 64);
+
+/// Whether the bit, one of `Cap`'s, is among the capabilities.
+pub fn has_cap(caps: u32, bit: u32) -> bool
+    requires { 1 ≤ bit }
+    ensures { result ≡ has_cap caps bit }
+{
+    caps / bit % 2 == 1
+}

@@ -1,9 +1,10 @@
 //! SANE's elementary types: fixed numbers and the dots of a length, texts, statuses, the kinds, units and
-//! capabilities of options, and the parameters of frames.
+//! capabilities of options, what a scanner is, and the parameters of frames.
 #![tactic(auto)]
 
 mod byte_order;
 mod cap;
+mod device_info;
 mod digits;
 mod fixed;
 mod frame_format;
@@ -17,7 +18,8 @@ mod text;
 mod unit;
 
 pub use byte_order::ByteOrder;
-pub use cap::Cap;
+pub use cap::{Cap, has_cap};
+pub use device_info::DeviceInfo;
 pub use digits::{digit_count, value_of_digits};
 pub use fixed::Fixed;
 pub use frame_format::FrameFormat;

@@ -2,12 +2,11 @@
 #![tactic(auto)]
 
 mod daemon_command_line;
-mod devices;
 
 use crate::daemon_command_line::{command_line, config_lines, seed, users};
-use crate::devices::{feeder, flatbed, hand_scanner, three_pass};
+use config_pages::{DeviceFault, feeder, flatbed, hand_scanner, three_pass};
 use device_api::Device;
-use dispatch::Registry;
+use dispatch::{ConfigLine, Registry};
 use page_picture::DeviceKind;
 use saned_cli::{DaemonEnding, DaemonOptions, LocalNet, ServeEnd, serve};
 use saned_core::Daemon;
@@ -17,6 +16,14 @@ use std::process::ExitCode;
 
 /// A directory can be opened for reading, and neither be read nor written.
 const ROOT: &str = "/";
+
+/// How the program ends where a line of the config has no scanner.
+fn device_ending(line: &ConfigLine, fault: DeviceFault) -> DaemonEnding {
+    match fault {
+        DeviceFault::NoPage(why) => DaemonEnding::Page(line.line, why),
+        DeviceFault::NoMem => DaemonEnding::NoMemory,
+    }
+}
 
 /// Listens, says where, and serves.
 fn serve_at(
@@ -59,19 +66,19 @@ fn run(rt: &HostRuntime) -> Result<(), DaemonEnding> {
     for line in &lines {
         match line.kind {
             DeviceKind::Flatbed => {
-                let device = flatbed(rt, line, order)?;
+                let device = flatbed(rt, line, order).map_err(|e| device_ending(line, e))?;
                 devices.push(device).map_err(|_| DaemonEnding::NoMemory)?;
             }
             DeviceKind::Hand => {
-                let device = hand_scanner(rt, line, order)?;
+                let device = hand_scanner(rt, line, order).map_err(|e| device_ending(line, e))?;
                 devices.push(device).map_err(|_| DaemonEnding::NoMemory)?;
             }
             DeviceKind::ThreePass => {
-                let device = three_pass(rt, line, order)?;
+                let device = three_pass(rt, line, order).map_err(|e| device_ending(line, e))?;
                 devices.push(device).map_err(|_| DaemonEnding::NoMemory)?;
             }
             DeviceKind::Feeder => {
-                let device = feeder(rt, line, order)?;
+                let device = feeder(rt, line, order).map_err(|e| device_ending(line, e))?;
                 devices.push(device).map_err(|_| DaemonEnding::NoMemory)?;
             }
         }

@@ -1,14 +1,9 @@
 -- The words of saned's command line behind the program's name: options, each `--NAME=VALUE` or `--NAME` and its value, which
 -- is the next word, whatever that begins with, and one flag, which has no value. No value is empty.
-use Rattle.std.specs.Prelude.{ℕ, ◌+◌, ◌≡◌, ◌≢◌, ◌≤◌, ◌⊎◌, ◌==◌, ◌&&◌, Bool, true, false, if◌then◌else◌, Option, Some, None, option_map, option_and_then, is_none, List, [], ◌∷◌, ◌++◌, codes, drop, take, length, position, slice_index}
+use Rattle.std.specs.Prelude.{ℕ, ◌+◌, ◌≡◌, ◌≢◌, ◌≤◌, ◌⊎◌, ◌==◌, ◌&&◌, Bool, false, if◌then◌else◌, Option, Some, None, option_map, option_and_then, is_none, List, [], ◌∷◌, ◌++◌, codes, drop, take, length, position, slice_index}
 use Rattle.std.specs.Str.{bytes_eq}
-
-abbrev pub is_equals : ℕ → Bool
-is_equals b = b == 61
-
-abbrev pub is_empty : List ℕ → Bool
-is_empty [] = true
-is_empty (_ ∷ _) = false
+use Rattle.std.specs.Option.{option_or}
+use Rattle.text_lines.specs.Words.{is_equals, is_empty}
 
 -- two dashes and a name
 abbrev pub is_long : List ℕ → Bool
@@ -18,8 +13,8 @@ is_long (_ ∷ _ ∷ []) = false
 is_long (a ∷ b ∷ _ ∷ _) = (a == 45) && (b == 45)
 
 -- the flag
-abbrev pub is_flag : List ℕ → Bool
-is_flag word = bytes_eq word (codes "--pad-strings")
+abbrev pub is_pad_strings : List ℕ → Bool
+is_pad_strings word = bytes_eq word (codes "--pad-strings")
 
 -- a word that is no value, by the place of its first `=`: a name that waits for its value, or an option with its value
 abbrev pub step_at_equals : Option ℕ → List ℕ → Option (List (List ℕ) × Option (List ℕ))
@@ -30,7 +25,7 @@ step_at_equals (Some at) word = if is_empty (drop (at + 1) word) then None else 
 -- name that waits then; none where it is refused
 abbrev pub word_step : Option (List ℕ) → List ℕ → Option (List (List ℕ) × Option (List ℕ))
 word_step (Some name) word = if is_empty word then None else Some ((name ++ 61 ∷ word) ∷ [], None)
-word_step None word = if is_flag word then Some (word ∷ [], None) else if is_long word then step_at_equals (position is_equals word) word else None
+word_step None word = if is_pad_strings word then Some (word ∷ [], None) else if is_long word then step_at_equals (position is_equals word) word else None
 
 -- all of the words as options `--NAME=VALUE` and flags; none where one is refused, or where a value is missing at the end
 abbrev pub joined_from : Option (List ℕ) → List (List ℕ) → Option (List (List ℕ))
@@ -44,14 +39,10 @@ words_joined words = joined_from None words
 unfoldable pub value_behind : List ℕ → List ℕ → Option (List ℕ)
 value_behind start option = if bytes_eq (take (length start) option) start then Some (drop (length start) option) else None
 
-abbrev pub first_some : Option (List ℕ) → Option (List ℕ) → Option (List ℕ)
-first_some (Some value) _ = Some value
-first_some None other = other
-
 -- the value of the first option that begins so
 abbrev pub option_value_of : List ℕ → List (List ℕ) → Option (List ℕ)
 option_value_of start [] = None
-option_value_of start (option ∷ options) = first_some (value_behind start option) (option_value_of start options)
+option_value_of start (option ∷ options) = option_or (value_behind start option) (option_value_of start options)
 
 -- the options with those that a step completes behind them, and the name that waits then
 abbrev pub with_word_step : List (List ℕ) → Option (List (List ℕ) × Option (List ℕ)) → Option (List (List ℕ) × Option (List ℕ))

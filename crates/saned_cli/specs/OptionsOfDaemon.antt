@@ -4,7 +4,7 @@ use Rattle.sane_fixed.specs.declared.byte_order.ByteOrder.{ByteOrder}
 use Rattle.sane_fixed.specs.declared.byte_order.ByteOrder.TheVariants.{Little, Big}
 use Rattle.saned_requests.specs.declared.session.StringSize.{StringSize}
 use Rattle.saned_requests.specs.declared.session.StringSize.TheVariants.{OfText, OfOption}
-use Rattle.saned_cli.specs.OptionWords.{words_joined, option_value_of, is_flag}
+use Rattle.saned_cli.specs.OptionWords.{words_joined, option_value_of, is_pad_strings}
 use Rattle.saned_cli.specs.declared.daemon_options.DaemonOptions.{DaemonOptions}
 
 -- the number of an option between two others: the one that its text writes in decimal digits, without a sign or a leading
@@ -20,9 +20,9 @@ IsOrderOf (Some text) Little = text ≡ codes "little"
 IsOrderOf (Some text) Big = text ≡ codes "big"
 
 -- the flag is among the options
-abbrev pub has_flag : List (List ℕ) → Bool
-has_flag [] = false
-has_flag (option ∷ options) = is_flag option || has_flag options
+abbrev pub has_pad_strings : List (List ℕ) → Bool
+has_pad_strings [] = false
+has_pad_strings (option ∷ options) = is_pad_strings option || has_pad_strings options
 
 -- string values are filled up where it is
 abbrev pub string_size_by : Bool → StringSize
@@ -39,7 +39,7 @@ pub record AreNamed (named : List (List ℕ)) (options : DaemonOptions) : Type 0
   pub byte_order : IsOrderOf (option_value_of (codes "--byte-order=") named) options.byte_order
   pub sessions : IsNumberOf 0 1000000000 0 (option_value_of (codes "--sessions=") named) options.sessions
   pub idle_turns : IsNumberOf 1 1000000000 10000000 (option_value_of (codes "--idle-turns=") named) options.idle_turns
-  pub strings : options.strings ≡ string_size_by (has_flag named)
+  pub strings : options.strings ≡ string_size_by (has_pad_strings named)
   pub seeded : IsSome options.users → IsSome options.seed
 
 -- so the words behind the program's name do

@@ -1,8 +1,8 @@
 ghost use Rattle.std.specs.Prelude.{◌≡◌, ◌≤◌, ◌<◌, ◌^◌, ℕ, IfErr, IfOk, map, option_map, string_bytes};
-ghost use Rattle.saned_cli.specs.OptionsOfDaemon.{AreNamed, IsNumberOf, AreDaemonOptions, IsOrderOf, has_flag, string_size_by};
+ghost use Rattle.saned_cli.specs.OptionsOfDaemon.{AreNamed, IsNumberOf, AreDaemonOptions, IsOrderOf, has_pad_strings, string_size_by};
 ghost use Rattle.saned_cli.specs.OptionWords.{value_behind, option_value_of};
 
-use crate::daemon_words::{is_flag, plain_number, words_joined};
+use crate::daemon_words::{is_pad_strings, plain_number, words_joined};
 use clap::error::ErrorKind;
 use clap::{Arg, ArgAction, ArgMatches, Command};
 use sane_fixed::ByteOrder;
@@ -171,11 +171,11 @@ fn byte_order(found: Option<&str>) -> Result<ByteOrder, DaemonOptionsFault>
 }
 
 /// Whether the flag is among the options.
-fn has_flag(options: &[String]) -> bool
-    ensures { result ≡ has_flag (map string_bytes options.now) }
+fn has_pad_strings(options: &[String]) -> bool
+    ensures { result ≡ has_pad_strings (map string_bytes options.now) }
 {
     for option in options {
-        if is_flag(option.as_bytes()) {
+        if is_pad_strings(option.as_bytes()) {
             return true;
         }
     }
@@ -185,9 +185,9 @@ fn has_flag(options: &[String]) -> bool
 /// How string values are sent, where `clap` reads the same.
 fn strings(found: bool, options: &[String]) -> Result<StringSize, DaemonOptionsFault>
     ensures { IfOk result (λ strings. strings
-        ≡ string_size_by (has_flag (map string_bytes options.now))) }
+        ≡ string_size_by (has_pad_strings (map string_bytes options.now))) }
 {
-    match (found, has_flag(options)) {
+    match (found, has_pad_strings(options)) {
         (true, true) => Ok(StringSize::OfOption),
         (false, false) => Ok(StringSize::OfText),
         _ => Err(DaemonOptionsFault::Bad),

@@ -1,7 +1,8 @@
 //! The words of the command line, each option with its value.
 
 ghost use Rattle.std.specs.Prelude.{◌≡◌, ◌≢◌, ◌<◌, ◌↔◌, ◌++◌, ◌^◌, ◌∷◌, [], ℕ, Err, IfNone, IfOk, IfSome, IsTrue, None, Some, decimal, length, map, option_map, position, string_bytes};
-ghost use Rattle.saned_cli.specs.OptionWords.{BeginsPlainly, is_equals, is_flag, is_long, words_joined, step_at_equals, with_word_step, word_step};
+ghost use Rattle.saned_cli.specs.OptionWords.{BeginsPlainly, is_pad_strings, is_long, words_joined, step_at_equals, with_word_step, word_step};
+ghost use Rattle.text_lines.specs.Words.{is_equals};
 
 use crate::daemon_options::DaemonOptionsFault;
 use std::alloc::Global;
@@ -14,8 +15,8 @@ fn is_long(word: &[u8]) -> bool
 }
 
 /// Whether a word is the flag.
-pub fn is_flag(word: &[u8]) -> bool
-    ensures { result ≡ is_flag word.now }
+pub fn is_pad_strings(word: &[u8]) -> bool
+    ensures { result ≡ is_pad_strings word.now }
 {
     word == b"--pad-strings".as_slice()
 }
@@ -77,7 +78,7 @@ fn take_word<'a>(
         add(alloc, options, option.as_str())?;
         return Ok(None);
     }
-    if is_flag(word.as_bytes()) {
+    if is_pad_strings(word.as_bytes()) {
         add(alloc, options, word)?;
         return Ok(None);
     }

@@ -1,4 +1,4 @@
 pub mod Holding
-pub mod WireValues
+pub mod OptionValues
 pub mod RequestAnswers
 pub mod LeaseLaws

@@ -36,7 +36,7 @@ use Rattle.saned_requests.specs.declared.session.DataPhase.TheVariants.{Quiet, W
 use Rattle.saned_requests.specs.declared.session.AwaitedAuthorization.{AwaitedAuthorization}
 use Rattle.saned_requests.specs.declared.session.Session.{Session}
 use Rattle.saned_requests.specs.declared.session.StringSize.{StringSize}
-use Rattle.saned_requests.specs.WireValues.{sent_as, size_of, value_asked}
+use Rattle.saned_requests.specs.OptionValues.{sent_as, size_of, value_asked}
 use Rattle.saned_requests.specs.Holding.{seen_session, held_by, on_word, with_device, free_word, cancelled_lease}
 
 abbrev pub no_mem : NoMem
@@ -324,16 +324,7 @@ AnswersFree users d requests.Exit said new = IsContextOutcome (session_ended d) 
 -- AUTHORIZE alone is answered while it is awaited
 abbrev pub AnswersAwaiting : List Entry → RequestContext → AwaitedAuthorization → Request → RequestAnswer → RequestContext → Type 0
 AnswersAwaiting users d awaited (requests.Authorize resource user password) said new = Authorizes users d awaited resource user password said new
-AnswersAwaiting users d awaited (requests.Init version user) said new = IsContextOutcome (session_ended d) said new
-AnswersAwaiting users d awaited requests.GetDevices said new = IsContextOutcome (session_ended d) said new
-AnswersAwaiting users d awaited (requests.Open name) said new = IsContextOutcome (session_ended d) said new
-AnswersAwaiting users d awaited (requests.Close word) said new = IsContextOutcome (session_ended d) said new
-AnswersAwaiting users d awaited (requests.GetOptionDescriptors word) said new = IsContextOutcome (session_ended d) said new
-AnswersAwaiting users d awaited (requests.ControlOption word option action kind value) said new = IsContextOutcome (session_ended d) said new
-AnswersAwaiting users d awaited (requests.GetParameters word) said new = IsContextOutcome (session_ended d) said new
-AnswersAwaiting users d awaited (requests.Start word) said new = IsContextOutcome (session_ended d) said new
-AnswersAwaiting users d awaited (requests.Cancel word) said new = IsContextOutcome (session_ended d) said new
-AnswersAwaiting users d awaited requests.Exit said new = IsContextOutcome (session_ended d) said new
+AnswersAwaiting users d awaited _ said new = IsContextOutcome (session_ended d) said new
 
 abbrev pub AnswersGreeted : List Entry → RequestContext → Option AwaitedAuthorization → Request → RequestAnswer → RequestContext → Type 0
 AnswersGreeted users d None request said new = AnswersFree users d request said new
@@ -342,16 +333,7 @@ AnswersGreeted users d (Some awaited) request said new = AnswersAwaiting users d
 -- the first request is INIT
 abbrev pub first_answer : RequestContext → Request → ContextOutcome
 first_answer d (requests.Init version user) = greet d version
-first_answer d requests.GetDevices = session_ended d
-first_answer d (requests.Open name) = session_ended d
-first_answer d (requests.Close word) = session_ended d
-first_answer d (requests.GetOptionDescriptors word) = session_ended d
-first_answer d (requests.ControlOption word option action kind value) = session_ended d
-first_answer d (requests.GetParameters word) = session_ended d
-first_answer d (requests.Start word) = session_ended d
-first_answer d (requests.Cancel word) = session_ended d
-first_answer d (requests.Authorize resource user password) = session_ended d
-first_answer d requests.Exit = session_ended d
+first_answer d _ = session_ended d
 
 abbrev pub AnswersBy : Bool → List Entry → RequestContext → Request → RequestAnswer → RequestContext → Type 0
 AnswersBy false users d request said new = IsContextOutcome (first_answer d request) said new
@@ -368,17 +350,12 @@ request_context f session registry stream = record { session = seen_session f se
 
 -- what a lack of memory leaves of a request, by whether it takes any
 abbrev pub OutOfMemoryFree : RequestContext → Request → RequestContext → Type 0
-OutOfMemoryFree d (requests.Init version user) new = ⊥
 OutOfMemoryFree d requests.GetDevices new = new ≡ d
 OutOfMemoryFree d (requests.Open name) new = Draws d new
-OutOfMemoryFree d (requests.Close word) new = ⊥
 OutOfMemoryFree d (requests.GetOptionDescriptors word) new = new ≡ d
 OutOfMemoryFree d (requests.ControlOption word option action kind value) new = (new ≡ d) ⊎ (new ≡ (control d word option action kind value).1)
-OutOfMemoryFree d (requests.GetParameters word) new = ⊥
 OutOfMemoryFree d (requests.Start word) new = StartsWord d word (Err no_mem) new
-OutOfMemoryFree d (requests.Cancel word) new = ⊥
-OutOfMemoryFree d (requests.Authorize resource user password) new = ⊥
-OutOfMemoryFree d requests.Exit new = ⊥
+OutOfMemoryFree d _ new = ⊥
 
 abbrev pub OutOfMemoryGreeted : RequestContext → Option AwaitedAuthorization → Request → RequestContext → Type 0
 OutOfMemoryGreeted d None request new = OutOfMemoryFree d request new

@@ -2,7 +2,7 @@
 
 pub mod control;
 pub mod open_requests;
+pub mod option_values;
 pub mod request;
 pub mod starting;
-pub mod values;
 pub mod word_replies;

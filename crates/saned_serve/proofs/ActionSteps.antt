@@ -1,6 +1,6 @@
 -- Single actions of a session that stands.
 use Rattle.std.proofs.Common.{◌≡◌, ◌≢◌, ◌≤◌, ◌⊎◌, inl, inr, ℕ, ◌+◌, ◌-◌, Bool, true, false, not, ◌||◌, cond, Option, None, Some, is_some, List, [], ◌∷◌, ◌++◌, length, take, drop, refl, sym, ap, ◌∙◌, subst, append_assoc, append-nil, IsSome, arith}
-use Rattle.std.proofs.lemmas.List.{take-append-drop}
+use Rattle.std.proofs.lemmas.List.{length-take-le, take-append-drop}
 use Rattle.std.proofs.Math.Dec.{eqb}
 use Rattle.std.proofs.lemmas.Bool.{eq-eqb, eqb-true, or_left, or_right, or_from}
 use Rattle.saned_core.specs.DaemonStates.{Core, frame_in, session_of, is_waiting}
@@ -10,7 +10,7 @@ use Rattle.saned_core.specs.declared.session_slot.Fed.{Fed}
 use Rattle.saned_core.specs.declared.session_slot.DataStep.{DataStep}
 use Rattle.saned_serve.specs.declared.sockets.Got.{Got}
 use Rattle.saned_serve.specs.declared.sockets.Got.TheVariants.{Moved, Nothing, Lost}
-use Rattle.saned_serve.specs.ConnectionTraces.{ConnectionTrace, IsTrace, after_read, after_write, bytes_moved, stirs, is_lost, trace_bytes_read, trace_bytes_written, lost_in}
+use Rattle.saned_serve.specs.ConnectionTraces.{ConnectionTrace, IsTrace, MovesWithin, after_read, after_write, bytes_moved, stirs, is_lost, trace_bytes_read, trace_bytes_written, lost_in}
 use Rattle.saned_serve.specs.ConnectionTraces.ConnectionCall.{Read, Write}
 use Rattle.saned_serve.specs.ListenerTraces.{ListenerTrace, with_notice, IsForgotten}
 use Rattle.saned_serve.specs.ListenerTraces.Notice.{Dialed as Dials, Shut, Back}
@@ -72,7 +72,7 @@ counted_none t =
 -- ---- one act
 
 -- what an act does to the count of sessions
-opened_by : (act : SessionAction) (d e : Core) (id : ℕ) → opens_session act ≡ false → ActsOn id d act e → e.opened ≡ d.opened
+pub opened_by : (act : SessionAction) (d e : Core) (id : ℕ) → opens_session act ≡ false → ActsOn id d act e → e.opened ≡ d.opened
 opened_by (Opens port) d e id plain does = cc
 opened_by (Hears got room bytes) d e id plain does = ap (λ (c : Core). c.opened) does
 opened_by (Feed piece fed begins) d e id plain does = ap (λ (c : Core). c.opened) does.0.others
@@ -88,7 +88,7 @@ opened_by Lose d e id plain does = ap (λ (c : Core). c.opened) does
 opened_by (HangsUp trace) d e id plain does = ap (λ (c : Core). c.opened) does
 opened_by (Leaves port trace) d e id plain does = ap (λ (c : Core). c.opened) does
 
-stands_for : (act : SessionAction) (projection : SessionProjection) (stopped : Bool) → opens_session act ≡ false → MayDo act projection stopped → projection.is_open ≡ true
+pub stands_for : (act : SessionAction) (projection : SessionProjection) (stopped : Bool) → opens_session act ≡ false → MayDo act projection stopped → projection.is_open ≡ true
 stands_for (Opens port) projection stopped plain may = cc
 stands_for (Hears got room bytes) projection stopped plain may = may.0
 stands_for (Feed piece fed begins) projection stopped plain may = may.0
@@ -305,19 +305,29 @@ cleared history {d0} {n0} {past} {id} {e} {n} {projection} port k m t standing b
     subst (λ o. HasGoneOn history Heard d0 n0 past id true e o k) (sym told) (went Heard k (trail_on t (Forgets true port) e refl refl (standing, begun, at)) tells)
 
 fed_on : {C : Type 0} (history : C → Option ConnectionTrace) {d0 : Core} {n0 : Option ListenerTrace} {past : List LoopAction} {id : ℕ} {d : Core} {n : Option ListenerTrace} {projection : SessionProjection} (port : ℕ) (k : SessionLink C) (piece : List ℕ) (fed : Fed) (begins : Bool) (e : Core) (m : Option ListenerTrace)
-    → Trail d0 n0 past id 0 true d n projection → projection.is_open ≡ true → projection.heard ++ piece ≡ trace_bytes_read projection.control → port ≡ projection.port → ActsOn id d (Feed piece fed begins) e → (begins ≡ true → IsForgotten port n m) → (begins ≡ false → m ≡ n)
+    → Trail d0 n0 past id 0 true d n projection → projection.is_open ≡ true → projection.heard ++ piece ≡ trace_bytes_read projection.control → port ≡ projection.port → piece ≢ [] → length piece ≤ 4096 → ActsOn id d (Feed piece fed begins) e → (begins ≡ true → IsForgotten port n m) → (begins ≡ false → m ≡ n)
     → LinkMatches history Heard (projection_after (Feed piece fed false) projection) k → HasGoneOn history Heard d0 n0 past id true e m k
-fed_on history {d0} {n0} {past} {id} {d} {n} {projection} port k piece fed false e m t standing all at does forgets keeps tells =
-    let first = trail_on t (Feed piece fed false) e refl does (standing, all) in
+fed_on history {d0} {n0} {past} {id} {d} {n} {projection} port k piece fed false e m t standing all at some few does forgets keeps tells =
+    let first = trail_on t (Feed piece fed false) e refl does (standing, all, some, few) in
     subst (λ o. HasGoneOn history Heard d0 n0 past id true e o k) (sym (keeps refl)) (went Heard k first tells)
-fed_on history {d0} {n0} {past} {id} {d} {n} {projection} port k piece fed true e m t standing all at does forgets keeps tells =
-    let first = trail_on t (Feed piece fed true) e refl does (standing, all) in
+fed_on history {d0} {n0} {past} {id} {d} {n} {projection} port k piece fed true e m t standing all at some few does forgets keeps tells =
+    let first = trail_on t (Feed piece fed true) e refl does (standing, all, some, few) in
     cleared history port k m first standing refl at (forgets refl) tells
 
+-- a read that moved brought something, and no more than its buffer has room for
+long_of : (count : ℕ) (buf : List ℕ) → MovesWithin (Moved count) (length buf) → length (take count buf) ≡ count
+long_of count buf within = length-take-le count buf within.1
+
+some_of : (count : ℕ) (buf : List ℕ) → MovesWithin (Moved count) (length buf) → take count buf ≢ []
+some_of count buf within none = let long = long_of count buf within in let short : length (take count buf) ≡ 0 = ap (λ (l : List ℕ). length l) none in omega (arith, long, short, within.0)
+
+few_of : (count : ℕ) (buf : List ℕ) → length buf ≡ 4096 → MovesWithin (Moved count) (length buf) → length (take count buf) ≤ 4096
+few_of count buf size within = let long = long_of count buf within in omega (arith, long, size, within.1)
+
 pub goes_hears : {C : Type 0} (history : C → Option ConnectionTrace) (d : Core) (n : Option ListenerTrace) (l k : SessionLink C) (e : Core) (m : Option ListenerTrace) (c : C) (count : ℕ) (buf : List ℕ)
-    → length buf ≡ 4096 → l.replies ≡ [] → history c ≡ after_read (Moved count) buf (history l.conn) → k ≡ record l { conn = c; is_over = k.is_over } → Attends l.id.number l.port (take count buf) d n l.is_over k.is_over e m
+    → length buf ≡ 4096 → MovesWithin (Moved count) (length buf) → l.replies ≡ [] → history c ≡ after_read (Moved count) buf (history l.conn) → k ≡ record l { conn = c; is_over = k.is_over } → Attends l.id.number l.port (take count buf) d n l.is_over k.is_over e m
     → JournalGoesOn history Filled Heard d n l true e m k
-goes_hears history d n l k e m c count buf size none told same attends = record {
+goes_hears history d n l k e m c count buf size within none told same attends = record {
   same = ap (λ x. x.id) same;
   goes = λ d0 n0 past leads tells.
       let projection = projection_of l.id.number past in
@@ -325,7 +335,7 @@ goes_hears history d n l k e m c count buf size none told same attends = record 
       let first = trail_on (trail d0 n0 past d n l.id.number leads) (Hears (Moved count) (length buf) piece) d refl refl (may_hear history projection l (Moved count) (length buf) piece (has_stopped past) size none tells) in
       let now = heard_some history projection l c k.is_over count buf attends.fed told attends.is tells in
       let fed = projection_after (Feed piece attends.fed false) (projection_after (Hears (Moved count) (length buf) piece) projection) in
-      fed_on history l.port k piece attends.fed attends.begins e m first tells.is_open (none_on projection.heard piece (trace_bytes_read projection.control) (sym tells.heard)) tells.port attends.does attends.forgets attends.keeps
+      fed_on history l.port k piece attends.fed attends.begins e m first tells.is_open (none_on projection.heard piece (trace_bytes_read projection.control) (sym tells.heard)) tells.port (some_of count buf within) (few_of count buf size within) attends.does attends.forgets attends.keeps
       (subst (λ x. LinkMatches history Heard fed x) (sym same) now);
 }
 

@@ -7,3 +7,4 @@ pub mod SlotGreeting
 pub mod Greeting
 pub mod Summing
 pub mod NoTwoHolders
+pub mod Openings

@@ -546,7 +546,7 @@ ran_turns history d0 n0 left turns idle sessions waits e m slots took few short 
     record { journal = took.journal; stands = took.stands; ends = ((λ some. subst (λ k. k < sessions) (sym (ap (λ t. t.left) took.tally)) (few some)), subst (λ k. k < waits) (sym (ap (λ t. t.idle) took.tally)) short, ap (λ t. t.turns) took.tally ∙ all) }
 
 -- nothing was done
-pub served_none : (d : Core) (n : Option ListenerTrace) (sessions waits : ℕ) → HasServed d n d n NoMem sessions waits
+pub served_none : (d : Core) (n : Option ListenerTrace) (sessions waits : ℕ) → HasServed (record { sessions = sessions; idle_turns = waits }) (record { daemon = d; listeners = n }) (record { daemon = d; listeners = n }) NoMem
 served_none d n sessions waits = record {
   turns = [];
   journal = Stops ∷ [];

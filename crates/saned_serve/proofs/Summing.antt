@@ -45,7 +45,7 @@ sums_act Lose projection stopped may s = record { fed = s.fed; all = s.all; said
 sums_act (HangsUp trace) projection stopped may s = record { fed = s.fed; all = s.all; said = s.said; shown = s.shown }
 sums_act (Leaves port trace) projection stopped may s = record { fed = s.fed; all = λ off. may.4; said = s.said; shown = s.shown }
 
-nobody : (id : ℕ) → projection_of id [] ≡ empty_projection
+pub nobody : (id : ℕ) → projection_of id [] ≡ empty_projection
 unfolding projection_of
 nobody id = refl
 

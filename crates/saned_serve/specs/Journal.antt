@@ -1,6 +1,6 @@
 -- What a server does, as one list: each call of the daemon, of a connection and of the listeners,
 -- in order.
-use Rattle.std.specs.Prelude.{◌≡◌, ◌≢◌, ℕ, ◌+◌, ◌-◌, ◌≤◌, ◌<◌, Bool, true, false, not, ◌||◌, cond, eqb, Option, None, Some, List, [], ◌∷◌, ◌++◌, ◌⊎◌}
+use Rattle.std.specs.Prelude.{◌≡◌, ◌≢◌, ℕ, ◌+◌, ◌-◌, ◌≤◌, ◌<◌, Bool, true, false, not, ◌||◌, cond, eqb, Option, None, Some, List, [], ◌∷◌, ◌++◌, length, ◌⊎◌}
 use Rattle.saned_core.specs.DaemonStates.{Core, is_closed, is_waiting}
 use Rattle.saned_serve.specs.ConnectionTraces.{ConnectionTrace, trace_bytes_read, trace_bytes_written, lost_in, IsTrace}
 use Rattle.saned_serve.specs.ConnectionTraces.ConnectionCall.{Read, Write}
@@ -182,11 +182,11 @@ IsDataDue projection = (projection.visited ≡ true) × (projection.tended ≡ f
 -- each act has its place: in a turn a control connection is read at most once and then written at
 -- most once, and then at most one record is offered to the data connection, or one is awaited; a
 -- control connection is read only where the daemon has no reply for it that is not written, and
--- what it brought is fed at once; only where a frame begins with that are the listeners asked to
--- forget what has ended at the session's data port, before any reply is taken; what is taken of
--- the daemon is written whole before more is taken; and a data connection is awaited at the
--- session's own port. What a connection that is handed back was written is a front of the
--- session's replies, or of its records
+-- what it brought, 1 to 4,096 bytes, is fed at once; only where a frame begins with that are the
+-- listeners asked to forget what has ended at the session's data port, before any reply is taken;
+-- what is taken of the daemon is written whole before more is taken; and a data connection is
+-- awaited at the session's own port. What a connection that is handed back was written is a front
+-- of the session's replies, or of its records
 abbrev pub MayDo : SessionAction → SessionProjection → Bool → Type 0
 MayDo (Opens port) projection stopped = projection ≡ empty_projection
 MayDo (Hears got room bytes) projection stopped =
@@ -199,6 +199,8 @@ MayDo (Hears got room bytes) projection stopped =
 MayDo (Feed piece fed begins) projection stopped =
     (projection.is_open ≡ true)
     × (projection.heard ++ piece ≡ trace_bytes_read projection.control)
+    × (piece ≢ [])
+    × (length piece ≤ most_piece)
 MayDo (Forgets told port) projection stopped =
     (projection.is_open ≡ true)
     × (projection.begun ≡ true)
@@ -421,28 +423,13 @@ Extends past journal = (since : List LoopAction) × (journal ≡ since ++ past)
 
 -- a session is left, or its data connection before
 abbrev pub IsClosingAct : SessionAction → Type 0
-IsClosingAct (Opens port) = ⊥
-IsClosingAct (Hears got room bytes) = ⊥
-IsClosingAct (Feed piece fed begins) = ⊥
-IsClosingAct (Forgets told port) = ⊥
-IsClosingAct (Take room bytes) = ⊥
-IsClosingAct (Says got bytes) = ⊥
-IsClosingAct (Looks frame) = ⊥
-IsClosingAct (Misses port) = ⊥
-IsClosingAct (Connect port) = ⊥
-IsClosingAct (Turn room step bytes) = ⊥
-IsClosingAct (Shows got bytes) = ⊥
-IsClosingAct Lose = ⊥
 IsClosingAct (HangsUp trace) = Unit {0}
 IsClosingAct (Leaves port trace) = Unit {0}
+IsClosingAct _ = ⊥
 
 abbrev pub IsClosingAction : LoopAction → Type 0
 IsClosingAction (Of number act) = IsClosingAct act
-IsClosingAction Full = ⊥
-IsClosingAction Waits = ⊥
-IsClosingAction (Refuses port trace) = ⊥
-IsClosingAction Turned = ⊥
-IsClosingAction Stops = ⊥
+IsClosingAction _ = ⊥
 
 abbrev pub AreEnds : List LoopAction → Type 0
 AreEnds [] = Unit {0}

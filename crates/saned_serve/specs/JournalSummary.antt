@@ -1,8 +1,8 @@
 -- What a journal tells of a session when all is done.
-use Rattle.std.specs.Prelude.{◌≡◌, ℕ, ◌⊎◌, Option, List, [], ◌∷◌}
+use Rattle.std.specs.Prelude.{◌≡◌, ℕ, ◌⊎◌, true, Option, List, [], ◌∷◌, length, Contains}
 use Rattle.saned_serve.specs.ConnectionTraces.{ConnectionTrace, IsTrace}
 use Rattle.saned_serve.specs.SessionActions.SessionAction.{Leaves}
-use Rattle.saned_serve.specs.Journal.{LoopAction, projection_of}
+use Rattle.saned_serve.specs.Journal.{LoopAction, open_sessions, projection_of}
 use Rattle.saned_serve.specs.Journal.LoopAction.{Of}
 
 -- an action is in the journal
@@ -17,3 +17,8 @@ pub record WasLeft (id : ℕ) (journal : List LoopAction) : Type 0 where
   pub trace : Option ConnectionTrace
   pub held : IsInJournal (Of id (Leaves port trace)) journal
   pub told : IsTrace trace (projection_of id journal).control
+
+-- all sessions that stand have their numbers among these, which are as many as the journal counts
+pub record AreOpenSessions (journal : List LoopAction) (numbers : List ℕ) : Type 0 where
+  pub count : length numbers ≡ open_sessions journal
+  pub all : (id : ℕ) → (projection_of id journal).is_open ≡ true → Contains numbers id

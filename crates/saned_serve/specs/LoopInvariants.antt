@@ -174,12 +174,23 @@ pub record ClosesAll (d0 : Core) (n0 : Option ListenerTrace) (past : List LoopAc
   pub leads : JournalLeads d0 n0 journal e m
   pub over : NothingIsOpen journal
 
+-- a daemon, and all that its listeners were asked
+pub record DaemonAndListeners : Type 0 where
+  pub daemon : Core
+  pub listeners : Option ListenerTrace
+
+-- when a server is to end: after so many sessions (0: no such end), or after so many turns in a row in which
+-- nothing moved
+pub record ServeLimits : Type 0 where
+  pub sessions : ℕ
+  pub idle_turns : ℕ
+
 -- what a server's whole run did: its turns, and then nothing but the end of all that still stood;
 -- nothing where there was no memory
-pub record HasServed (d : Core) (before : Option ListenerTrace) (e : Core) (after : Option ListenerTrace) (end : ServeEnd) (sessions waits : ℕ) : Type 0 where
+pub record HasServed (limits : ServeLimits) (was now : DaemonAndListeners) (end : ServeEnd) : Type 0 where
   pub turns : List LoopAction
   pub journal : List LoopAction
   pub closing : Closing (Stops ∷ turns) journal
-  pub leads : JournalLeads d before journal e after
+  pub leads : JournalLeads was.daemon was.listeners journal now.daemon now.listeners
   pub over : NothingIsOpen journal
-  pub ends : LoopEndsBy end sessions waits turns
+  pub ends : LoopEndsBy end limits.sessions limits.idle_turns turns

@@ -1,13 +1,14 @@
 //! Laws of a journal.
 
-ghost use Rattle.std.specs.Prelude.{◌≡◌, ℕ, List, [], ◌∷◌, ◌++◌, None, false};
+ghost use Rattle.std.specs.Prelude.{◌≡◌, ℕ, List, Option, [], ◌∷◌, ◌++◌, ◌<◌, None, false};
 ghost use Rattle.dispatch.specs.Table.{TableInvariant};
 ghost use Rattle.saned_core.specs.DaemonStates.{Core};
-ghost use Rattle.saned_serve.specs.ConnectionTraces.{trace_bytes_read, trace_bytes_written};
-ghost use Rattle.saned_serve.specs.SessionActions.SessionAction.{Opens};
-ghost use Rattle.saned_serve.specs.Journal.{LoopAction, IsJournal, IsFront, DaemonRuns, projection_of};
+ghost use Rattle.saned_serve.specs.ConnectionTraces.{ConnectionTrace, trace_bytes_read, trace_bytes_written};
+ghost use Rattle.saned_serve.specs.SessionActions.{SessionAction};
+ghost use Rattle.saned_serve.specs.SessionActions.SessionAction.{Leaves, Opens};
+ghost use Rattle.saned_serve.specs.Journal.{LoopAction, IsJournal, IsFront, DaemonRuns, most_sessions, open_sessions, projection_of};
 ghost use Rattle.saned_serve.specs.Journal.LoopAction.{Of};
-ghost use Rattle.saned_serve.specs.JournalSummary.{IsInJournal, WasLeft};
+ghost use Rattle.saned_serve.specs.JournalSummary.{AreOpenSessions, IsInJournal, WasLeft};
 ghost use Rattle.saned_serve.specs.HeldLeases.{HoldsApart};
 
 /// What the places of the actions come to, for each session of a journal: it was fed nothing but what
@@ -42,4 +43,22 @@ pub fn no_device_is_held_twice()
         → DaemonRuns d journal e → HoldsApart d → HoldsApart e }
     ensures within { (d e : Core) (since past : List LoopAction) → DaemonRuns d (since ++ past) e
         → HoldsApart d → (mid : Core) × DaemonRuns d past mid × HoldsApart mid }
+{}
+
+/// A number is one session's: behind the act that ends a session nobody does anything for that
+/// number.
+pub fn nobody_acts_for_a_session_that_left()
+    ensures { (since past : List LoopAction) (id port : ℕ) (trace : Option ConnectionTrace)
+        (act : SessionAction) (d e : Core)
+        → IsJournal (since ++ Of id (Leaves port trace) ∷ past)
+        → DaemonRuns d (since ++ Of id (Leaves port trace) ∷ past) e
+        → IsInJournal (Of id act) since → ⊥ }
+{}
+
+/// No more sessions stand than a journal counts, so fewer than eight where another is opened.
+pub fn no_more_stand_than_are_counted()
+    ensures counted { (journal : List LoopAction) → IsJournal journal → (numbers : List ℕ)
+        × AreOpenSessions journal numbers }
+    ensures few { (past : List LoopAction) (id port : ℕ) → IsJournal (Of id (Opens port) ∷ past)
+        → open_sessions past < most_sessions }
 {}

@@ -8,6 +8,9 @@ mod pending;
 mod serving;
 mod sockets;
 
-pub use laws::{connections_tell_their_sessions, no_device_is_held_twice};
+pub use laws::{
+    connections_tell_their_sessions, no_device_is_held_twice, no_more_stand_than_are_counted,
+    nobody_acts_for_a_session_that_left,
+};
 pub use serving::{ServeEnd, serve};
 pub use sockets::{Got, Listeners, Socket};

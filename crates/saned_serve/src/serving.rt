@@ -114,8 +114,9 @@ pub fn serve<D: Device, L: Listeners>(
     sessions: u64,
     idle_turns: u64,
 ) -> ServeEnd
-    ensures served { HasServed (core D.state daemon.old) (L.trace net.old) (core D.state daemon.new)
-        (L.trace net.new) result sessions idle_turns }
+    ensures served { HasServed (record { sessions = sessions; idle_turns = idle_turns })
+        (record { daemon = core D.state daemon.old; listeners = L.trace net.old })
+        (record { daemon = core D.state daemon.new; listeners = L.trace net.new }) result }
     ensures memory { result ≡ ServeEnd.NoMem → (daemon.new ≡ daemon.old)
         × (L.trace net.new ≡ L.trace net.old) }
 {

@@ -4,7 +4,7 @@ use Rattle.sane_fixed.specs.declared.kind.Kind.{Kind}
 use Rattle.sane_fixed.specs.declared.kind.Kind.TheVariants.{Bool as BoolKind, Int, Fixed, String, Button, Group}
 use Rattle.option_desc.specs.declared.descriptor.Descriptor.{Descriptor}
 use Rattle.option_desc.specs.declared.value.Value.{Value}
-use Rattle.device_api.specs.Options.{has_cap}
+use Rattle.sane_fixed.specs.Cap.{has_cap}
 
 -- an option of that kind and size in bytes has one value
 abbrev pub has_one_value : Kind → ℕ → Bool

@@ -1,9 +1,8 @@
 ghost use Rattle.std.specs.Prelude.{◌≡◌};
 ghost use Rattle.scan_job.specs.KnownValues.{has_one_value, tells_value};
 
-use device_api::has_cap;
 use option_desc::Descriptor;
-use sane_fixed::{Cap, Kind};
+use sane_fixed::{Cap, Kind, has_cap};
 
 /// Whether an option of that kind and size in bytes has one value.
 fn has_one_value(kind: Kind, size: u32) -> bool

@@ -3,7 +3,6 @@ pub mod Places
 pub mod Takes
 pub mod Sizes
 pub mod Meant
-pub mod Owns
 pub mod Whole
 pub mod Ruled
 pub mod Goes

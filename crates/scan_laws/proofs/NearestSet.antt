@@ -1,8 +1,7 @@
 -- What is given is the nearest admitted value.
-use Rattle.std.proofs.Common.{◌≡◌, ◌+◌, ◌&&◌, ◌∙◌, ◌≤◌, sym, ap, subst, refl, ℕ, Bool, true, false, not, cond, List, [], ◌∷◌, arith}
-use Rattle.std.specs.Prelude.{if◌then◌else◌, Option, Some, None, option_map, option_and_then, Ok, Err, slice_get}
+use Rattle.std.proofs.Common.{◌≡◌, ◌&&◌, ◌∙◌, sym, ap, subst, refl, ℕ, Bool, true, false, cond, List, [], ◌∷◌}
+use Rattle.std.specs.Prelude.{Option, Some, None, option_map, option_and_then, Ok, Err, slice_get}
 use Rattle.std.proofs.lemmas.Option.{slice_get-map}
-use Rattle.constraint.specs.Admitted.{HasRoom}
 use Rattle.sane_fixed.specs.DecimalReading.{◌>>=◌}
 use Rattle.sane_fixed.specs.declared.info.Info.{Info}
 use Rattle.sane_fixed.specs.declared.status.Status.{Status}
@@ -13,85 +12,20 @@ use Rattle.option_desc.specs.Reads.{read_value}
 use Rattle.option_desc.specs.WellFormed.{IsWellFormed}
 use Rattle.option_desc.proofs.PutLaws.{Puts-resolve, resolve-Puts}
 use Rattle.option_desc.proofs.ReadLaws.{Reads-read}
-use Rattle.page_picture.specs.declared.scene.DeviceKind.{DeviceKind}
-use Rattle.page_picture.specs.declared.scene.DeviceKind.TheVariants.{Flatbed, Hand, ThreePass, Feeder}
-use Rattle.page_picture.specs.declared.scene.DeviceKind.TheVariants.{Feeder, Hand, ThreePass}
 use Rattle.scan_frames.specs.declared.setup.Setup.{Setup}
 use Rattle.device_api.specs.declared.scan_option.ScanOption.{ScanOption}
-use Rattle.device_api.specs.declared.scan_option.ScanOption.TheVariants.{NumOptions, Mode, Depth, Resolution, TlX, TlY, BrX, BrY, GammaTable, RedGammaTable, GreenGammaTable, BlueGammaTable, ThreePassOrder, PplLoss, ReadLimitSize, ReadReturnValue, HandScanner}
 use Rattle.device_api.specs.InForce.{Placement, force, given_for, may_be_set, number_named, placement}
-use Rattle.device_api.specs.Options.{caps_of, descriptor_of, descriptors_of, has_cap, is_active, option_at, option_caps, option_constraint, options_of}
+use Rattle.device_api.specs.Options.{descriptor_of, descriptors_of, is_active, option_at, option_caps, options_of}
+use Rattle.sane_fixed.specs.Cap.{has_cap}
 use Rattle.device_api.specs.Values.{info_of, option_set, option_passing, put_answer, set_to, setup_after}
 use Rattle.scan_laws.specs.NearestSet.{GivesNearest, PutsNearest, PutAllNearest}
+use Rattle.device_api.proofs.OptionForms.{is_well_formed, may_be_set_is}
 use Rattle.scan_laws.proofs.Sets.{set_parts}
 
--- ---- the constraints of the tables are well-formed
-
-room : (n : ℕ) → 1 ≤ n → n ≤ 1023 → HasRoom n
-room n a b = record { some = a; most = b }
-
-sound : (k : DeviceKind) (o : ScanOption) → IsWellFormed (option_constraint k o)
-sound k NumOptions = tt
-sound k Mode = room 2 (omega arith) (omega arith)
-sound Flatbed Depth = room 3 (omega arith) (omega arith)
-sound Feeder Depth = room 3 (omega arith) (omega arith)
-sound Hand Depth = room 2 (omega arith) (omega arith)
-sound ThreePass Depth = room 2 (omega arith) (omega arith)
-sound Flatbed Resolution = record { ordered = omega arith; no_step_back = omega arith }
-sound Feeder Resolution = record { ordered = omega arith; no_step_back = omega arith }
-sound Hand Resolution = room 4 (omega arith) (omega arith)
-sound ThreePass Resolution = record { ordered = omega arith; no_step_back = omega arith }
-sound k TlX = record { ordered = omega arith; no_step_back = omega arith }
-sound k TlY = record { ordered = omega arith; no_step_back = omega arith }
-sound k BrX = record { ordered = omega arith; no_step_back = omega arith }
-sound k BrY = record { ordered = omega arith; no_step_back = omega arith }
-sound k GammaTable = record { ordered = omega arith; no_step_back = omega arith }
-sound k RedGammaTable = record { ordered = omega arith; no_step_back = omega arith }
-sound k GreenGammaTable = record { ordered = omega arith; no_step_back = omega arith }
-sound k BlueGammaTable = record { ordered = omega arith; no_step_back = omega arith }
-sound k ThreePassOrder = room 6 (omega arith) (omega arith)
-sound k PplLoss = record { ordered = omega arith; no_step_back = omega arith }
-sound k ReadLimitSize = record { ordered = omega arith; no_step_back = omega arith }
-sound k ReadReturnValue = room 12 (omega arith) (omega arith)
-sound k HandScanner = tt
-
-sound_of : (s : Setup) (o : ScanOption) → IsWellFormed (descriptor_of s o).constraint
-unfolding descriptor_of
-sound_of s o = sound s.scene.kind o
-
--- ---- what may be set, by the descriptor and by the option
-
-select_is : (o : ScanOption) (a : Bool) → has_cap (option_caps o + (if a then 0 else 32)) 1 ≡ has_cap (option_caps o) 1
-select_is NumOptions true = refl
-select_is NumOptions false = refl
-select_is HandScanner true = refl
-select_is HandScanner false = refl
-select_is _ true = refl
-select_is _ false = refl
-
-inactive_is : (o : ScanOption) (a : Bool) → not (has_cap (option_caps o + (if a then 0 else 32)) 32) ≡ a
-inactive_is NumOptions true = refl
-inactive_is NumOptions false = refl
-inactive_is HandScanner true = refl
-inactive_is HandScanner false = refl
-inactive_is _ true = refl
-inactive_is _ false = refl
-
-and_swap : (a b : Bool) → (a && b) ≡ (b && a)
-and_swap true true = refl
-and_swap true false = refl
-and_swap false true = refl
-and_swap false false = refl
+-- ---- what may be set
 
 abbrev may : Setup → ScanOption → Bool
 may s o = is_active s o && has_cap (option_caps o) 1
-
-may_is : (s : Setup) (o : ScanOption) → may_be_set (descriptor_of s o) ≡ may s o
-unfolding descriptor_of
-may_is s o =
-    ap (λ b. b && not (has_cap (caps_of s o) 32)) (select_is o (is_active s o))
-    ∙ ap (λ b. has_cap (option_caps o) 1 && b) (inactive_is o (is_active s o))
-    ∙ and_swap (has_cap (option_caps o) 1) (is_active s o)
 
 passed : (test : ScanOption → Bool) (oo : Option ScanOption) (o : ScanOption) → option_passing test oo ≡ Some o → (oo ≡ Some o) × (test o ≡ true)
 passed test None o e = absurd (let clash : None ≡ Some o = e in cc)
@@ -114,16 +48,16 @@ set_nearest s n asked given info e =
     record {
       desc = descriptor_of s p.option;
       at = desc_at s n (Some p.option) there.0;
-      may = may_is s p.option ∙ there.1;
-      puts = Puts-resolve (descriptor_of s p.option) asked given (sound_of s p.option) p.put;
+      may = may_be_set_is s p.option ∙ there.1;
+      puts = Puts-resolve (descriptor_of s p.option) asked given (is_well_formed s p.option) p.put;
     }
 
 refuses_none : (s : Setup) (n : ℕ) (asked given : Value) (status : Status) (desc : Descriptor) (oo : Option ScanOption) → option_at s.scene.kind n ≡ oo → option_map (descriptor_of s) oo ≡ Some desc → may_be_set desc ≡ true → Puts desc asked given → set_to s (option_passing (may s) oo) asked ≡ Err status → ⊥
 refuses_none s n asked given status desc None at is m p e = let clash : None ≡ Some desc = is in cc
 refuses_none s n asked given status desc (Some o) at is m p e =
     let same : descriptor_of s o ≡ desc = (let some : Some (descriptor_of s o) ≡ Some desc = is in cc) in
-    let may_o : may s o ≡ true = sym (may_is s o) ∙ (ap may_be_set same ∙ m) in
-    let near : resolve (descriptor_of s o) asked ≡ Some given = resolve-Puts (descriptor_of s o) asked given (sound_of s o) (subst (λ (d : Descriptor). Puts d asked given) (sym same) p) in
+    let may_o : may s o ≡ true = sym (may_be_set_is s o) ∙ (ap may_be_set same ∙ m) in
+    let near : resolve (descriptor_of s o) asked ≡ Some given = resolve-Puts (descriptor_of s o) asked given (is_well_formed s o) (subst (λ (d : Descriptor). Puts d asked given) (sym same) p) in
     let answer : set_to s (option_passing (may s) (Some o)) asked ≡ Ok (given, info_of s o asked given) =
     ap (λ b. set_to s (cond b (Some o) None) asked) may_o ∙ ap (put_answer s o asked) near in
     let clash : Ok (given, info_of s o asked given) ≡ Err status = sym answer ∙ e in cc
@@ -163,7 +97,7 @@ finished s n pair = Some (record { setup = setup_after s n pair.1; asked = pair.
 -- the option of a descriptor in force
 is_of : (s : Setup) (n : ℕ) (desc : Descriptor) (oo : Option ScanOption) → option_map (descriptor_of s) oo ≡ Some desc → IsWellFormed desc.constraint
 is_of s n desc None e = absurd (let clash : None ≡ Some desc = e in cc)
-is_of s n desc (Some o) e = let same : descriptor_of s o ≡ desc = (let some : Some (descriptor_of s o) ≡ Some desc = e in cc) in subst (λ (d : Descriptor). IsWellFormed d.constraint) same (sound_of s o)
+is_of s n desc (Some o) e = let same : descriptor_of s o ≡ desc = (let some : Some (descriptor_of s o) ≡ Some desc = e in cc) in subst (λ (d : Descriptor). IsWellFormed d.constraint) same (is_well_formed s o)
 
 by_pair : (s : Setup) (setting : List ℕ × List ℕ) (p : Placement) (n : ℕ) (desc : Descriptor) (r : Option (Value × Value)) → number_named setting.0 (descriptors_of s) ≡ Some n → slice_get (descriptors_of s) n ≡ Some desc → given_for desc setting.1 ≡ r → (r >>= finished s n) ≡ Some p → PutsNearest s setting p
 unfolding finished

@@ -16,7 +16,7 @@ ghost use Rattle.option_desc.specs.Put.{Puts};
 ghost use Rattle.device_api.specs.InForce.{Placement, in_force, may_be_set};
 ghost use Rattle.device_api.specs.Options.{descriptors_of};
 ghost use Rattle.scan_laws.specs.NearestSet.{GivesNearest, PutAllNearest};
-ghost use Rattle.scan_laws.specs.Own.{IsOwn};
+ghost use Rattle.device_api.specs.OwnOptions.{IsOwn};
 ghost use Rattle.scan_laws.specs.Passes.{IsInScan, BeginsFrame, EndsEmpty, EndsWhole, GivesOn, place_of};
 ghost use Rattle.scan_laws.specs.Stays.{IsSameScan, IsSourceShaped};
 ghost use Rattle.scan_laws.specs.SetInfo.{MayRefuseStart, TellsOfSet};

@@ -3,13 +3,13 @@
 ghost use Rattle.std.specs.Prelude.{◌≡◌, map, IfOk, IfErr, IfSome, IsNone, OnOk};
 ghost use Rattle.device_api.specs.State.{DeviceState};
 ghost use Rattle.dispatch.specs.RegistryFault.{AreRegistrable};
-ghost use Rattle.dispatch.specs.Table.{has_name, is_called, repeats};
-ghost use Rattle.scan_world.specs.Worlds.{IsInitialWorld, HasFaultAmong, MayRun, seen_world};
+ghost use Rattle.dispatch.specs.Table.{fresh_table, table};
+ghost use Rattle.scan_world.specs.Worlds.{AreNew, IsInitialWorld, HasFaultAmong, MayRun, seen_world};
 
-use crate::world::{World, endpoints_of, fault_of};
+use crate::world::{Endpoints, World, endpoints_of, fault_of};
 use crate::world_fault::WorldFault;
 use device_api::Device;
-use dispatch::Registry;
+use dispatch::{Registry, repeats};
 use md5_auth::Users;
 use net_backend::Job;
 use sane_fixed::NoMem;
@@ -18,37 +18,6 @@ use std::alloc::Global;
 
 /// The most devices of a world.
 const MOST_DEVICES: usize = 16;
-
-/// Whether the device has the name.
-fn is_called<D: Device>(device: &D, name: &[u8]) -> bool
-    ensures { result ≡ is_called name.now (D.state device.now) }
-{
-    device.info().name.as_bytes() == name
-}
-
-/// Whether one of the devices has the name.
-fn has_name<D: Device>(devices: &[D], name: &[u8]) -> bool
-    ensures { result ≡ has_name name.now (map D.state devices.now) }
-{
-    for device in devices {
-        if is_called(device, name) {
-            return true;
-        }
-    }
-    false
-}
-
-/// Whether two of the devices have one name.
-fn repeats<D: Device>(devices: &[D]) -> bool
-    ensures { result ≡ repeats (map D.state devices.now) }
-{
-    for (k, device) in devices.iter().enumerate() {
-        if has_name(&devices[k + 1..], device.info().name.as_bytes()) {
-            return true;
-        }
-    }
-    false
-}
 
 /// Why no world is made of these devices and jobs, apart from out of memory.
 fn fault_among<D: Device>(devices: &[D], jobs: &[Job]) -> Option<WorldFault>
@@ -63,6 +32,36 @@ fn fault_among<D: Device>(devices: &[D], jobs: &[Job]) -> Option<WorldFault>
         return Some(WorldFault::TooManyDevices);
     }
     fault_of(jobs)
+}
+
+/// What a world is made of: the table of these devices, each of them reset, and an endpoint for each job, to which nothing has
+/// happened. It refuses what `World::new` refuses, and then the devices come back as they were.
+pub fn parts_of<D: Device>(
+    alloc: Global,
+    devices: Vec<D>,
+    jobs: Vec<Job>,
+) -> Result<(Registry<D>, Endpoints), (WorldFault, Vec<D>)>
+    ensures registry { IfOk result (λ parts.
+        table D.state parts.0 ≡ fresh_table (map D.state devices.items)) }
+    ensures endpoints { IfOk result (λ parts. AreNew jobs.items parts.1) }
+    ensures accepted { OnOk result (AreRegistrable (map D.state devices.items)
+        × MayRun jobs.items) }
+    ensures fault { IfErr result
+        (λ e. HasFaultAmong e.0 (map D.state devices.items) jobs.items) }
+    ensures back { IfErr result (λ e. e.1 ≡ devices) }
+{
+    if let Some(fault) = fault_among(devices.as_slice(), jobs.as_slice()) {
+        return Err((fault, devices));
+    }
+    let endpoints = match endpoints_of(alloc, jobs) {
+        Ok(endpoints) => endpoints,
+        Err(NoMem) => return Err((WorldFault::NoMem, devices)),
+    };
+    match Registry::new(alloc, devices) {
+        Ok(registry) => Ok((registry, Endpoints { endpoints })),
+        // The names and the number were tested above.
+        Err((_, devices)) => Err((WorldFault::NoMem, devices)),
+    }
 }
 
 impl World<Box<dyn Device>> {
@@ -87,21 +86,13 @@ impl World<Box<dyn Device>> {
             HasFaultAmong e.0 (map ⟦<Box<dyn Device> as Device>⟧.state devices.items) jobs.items) }
         ensures back { IfErr result (λ e. e.1 ≡ devices) }
     {
-        if let Some(fault) = fault_among(devices.as_slice(), jobs.as_slice()) {
-            return Err((fault, devices));
-        }
-        let endpoints = match endpoints_of(alloc, jobs) {
-            Ok(endpoints) => endpoints,
-            Err(NoMem) => return Err((WorldFault::NoMem, devices)),
-        };
-        match Registry::new(alloc, devices) {
-            Ok(registry) => Ok(World {
+        match parts_of(alloc, devices, jobs) {
+            Ok((registry, endpoints)) => Ok(World::over(
                 alloc,
-                daemon: Daemon::new(registry, users, seed),
+                Daemon::new(registry, users, seed),
                 endpoints,
-            }),
-            // The names and the number were tested above.
-            Err((_, devices)) => Err((WorldFault::NoMem, devices)),
+            )),
+            Err(refused) => Err(refused),
         }
     }
 }

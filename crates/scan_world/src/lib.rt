@@ -12,7 +12,8 @@ mod moves;
 mod world;
 mod world_fault;
 
+pub use devices::parts_of;
 pub use event::Event;
 pub use laws::{files_are_represented, files_tell, moves_fall, rest_is_quiet};
-pub use world::World;
+pub use world::{Endpoints, World};
 pub use world_fault::WorldFault;

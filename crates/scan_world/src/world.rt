@@ -36,6 +36,21 @@ impl<D> Model for World<D> {
     ghost view = { λ w. record { daemon = w.daemon; endpoints = w.endpoints.items } };
 }
 
+/// An endpoint for each of some jobs.
+#[derive(Drop)]
+pub struct Endpoints {
+    pub(crate) endpoints: Vec<Endpoint>,
+}
+
+impl Model for Endpoints {
+    ghost use Rattle.std.specs.Prelude.{List};
+    ghost use Rattle.scan_world.specs.declared.endpoint.Endpoint.{Endpoint};
+
+    ghost Value = { List Endpoint };
+
+    ghost view = { λ e. e.endpoints.items };
+}
+
 /// Why no world is made for these jobs, apart from out of memory.
 pub(crate) fn fault_of(jobs: &[Job]) -> Option<WorldFault>
     ensures some { IfSome result (λ f. HasWorldFault f jobs.now) }
@@ -83,6 +98,18 @@ pub(crate) fn endpoints_of(alloc: Global, jobs: Vec<Job>) -> Result<Vec<Endpoint
 }
 
 impl<D: Device> World<D> {
+    /// A daemon and these endpoints.
+    pub fn over(alloc: Global, daemon: Daemon<D>, endpoints: Endpoints) -> World<D>
+        ensures daemon { result.daemon ≡ daemon }
+        ensures endpoints { result.endpoints ≡ endpoints }
+    {
+        World {
+            alloc,
+            daemon,
+            endpoints: endpoints.endpoints,
+        }
+    }
+
     /// The clients of these jobs beside a daemon; to none of them anything has happened. Where it is refused the daemon comes
     /// back: `TooManyJobs` above eight, `BadJob` where a client refuses one; `NoMem` comes only where neither stands.
     pub fn beside_daemon(

@@ -5,25 +5,38 @@ ghost use Rattle.std.specs.Prelude.{IfErr};
 ghost use Rattle.scanimage_cli.specs.Programs.{IsFailure};
 
 mod command_line;
-mod devices;
 mod net_task;
 mod printing;
 mod scanimage_job;
 mod task;
 
 use crate::command_line::{command_line, config_lines, password};
-use crate::devices::{feeder, flatbed, hand_scanner, three_pass};
 use crate::net_task::run_net_task;
 use crate::task::run_task;
+use config_pages::{DeviceFault, feeder, flatbed, hand_scanner, three_pass};
 use device_api::Device;
-use dispatch::Registry;
+use dispatch::{ConfigLine, Registry};
 use page_picture::DeviceKind;
+use sane_fixed::ByteOrder;
 use scanimage_cli::{Ending, asked_of_net};
 use std::fs::File;
 use std::process::ExitCode;
 
 /// A directory can be opened for reading, and neither be read nor written.
 const ROOT: &str = "/";
+
+/// The order in which the devices of this program give the two bytes of a sample; no picture depends on it.
+const ORDER: ByteOrder = ByteOrder::Big;
+
+/// How the program ends where a line of the config has no scanner.
+fn device_ending(line: &ConfigLine, fault: DeviceFault) -> Ending
+    ensures { IsFailure result }
+{
+    match fault {
+        DeviceFault::NoPage(why) => Ending::Page(line.line, why),
+        DeviceFault::NoMem => Ending::no_memory(),
+    }
+}
 
 /// Reads the command line and the config, makes the devices, and does what is asked for.
 fn run(rt: &HostRuntime) -> Result<(), Ending>
@@ -38,25 +51,25 @@ fn run(rt: &HostRuntime) -> Result<(), Ending>
     for line in &lines {
         match line.kind {
             DeviceKind::Flatbed => {
-                let device = flatbed(rt, line)?;
+                let device = flatbed(rt, line, ORDER).map_err(|e| device_ending(line, e))?;
                 let Ok(()) = devices.push(device) else {
                     return Err(Ending::no_memory());
                 };
             }
             DeviceKind::Hand => {
-                let device = hand_scanner(rt, line)?;
+                let device = hand_scanner(rt, line, ORDER).map_err(|e| device_ending(line, e))?;
                 let Ok(()) = devices.push(device) else {
                     return Err(Ending::no_memory());
                 };
             }
             DeviceKind::ThreePass => {
-                let device = three_pass(rt, line)?;
+                let device = three_pass(rt, line, ORDER).map_err(|e| device_ending(line, e))?;
                 let Ok(()) = devices.push(device) else {
                     return Err(Ending::no_memory());
                 };
             }
             DeviceKind::Feeder => {
-                let device = feeder(rt, line)?;
+                let device = feeder(rt, line, ORDER).map_err(|e| device_ending(line, e))?;
                 let Ok(()) = devices.push(device) else {
                     return Err(Ending::no_memory());
                 };

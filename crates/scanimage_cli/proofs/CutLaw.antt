@@ -7,12 +7,13 @@ use Rattle.std.specs.Prelude.{codes, nat_eq, ◌==◌, if◌then◌else◌, opti
 use Rattle.std.specs.Str.{bytes_eq}
 use Rattle.std.specs.List.{filter_map}
 use Rattle.scanimage_cli.specs.WordCut.{long_word, program_word, is_option, cut, split_of, window_settings, measures_from, no_measures, repeats_option, named_setting}
-use Rattle.scanimage_cli.specs.ScanimageOptions.{after_equals, value_after, first_some, program_option_value, has_flag}
+use Rattle.scanimage_cli.specs.ScanimageOptions.{after_equals, value_after, program_option_value, has_flag}
 use Rattle.scanimage_cli.specs.CutOptions.{item_value_of, is_flag_in, value_given, is_flag_given, GivesTheSame, IsOfTheCut}
 use Rattle.scanimage_cli.specs.declared.program_option.ProgramOption.{ProgramOption}
 use Rattle.scanimage_cli.specs.declared.program_option.ProgramOption.TheVariants.{ListDevices, AllOptions, DontScan, DeviceName, OutputFile, Config, Net, Port, User, PasswordFile, Batch, BatchCount}
 use Rattle.scanimage_cli.specs.declared.word_cut.Item.{Item}
 use Rattle.scanimage_cli.specs.declared.word_cut.Item.TheVariants.{Flag, Valued, Measured, Setting}
+use Rattle.std.specs.Option.{option_or}
 
 -- no `=` among the bytes
 abbrev pub is_bare : List ℕ → Bool
@@ -98,12 +99,12 @@ no_flag (a ∷ cs) (b ∷ bs) value bare = no_second (eqb b a) (bytes_eq (bs ++ 
 pub values_same : (option : ProgramOption) (items : List Item) → program_option_value option (filter_map program_word items) ≡ value_given option items
 values_same option [] = refl
 values_same option (Flag other ∷ items) =
-    ap (λ (v : Option (List ℕ)). first_some v (program_option_value option (filter_map program_word items))) (value_of_none (long_word option) (long_word other) (long_words_are_bare other))
+    ap (λ (v : Option (List ℕ)). option_or v (program_option_value option (filter_map program_word items))) (value_of_none (long_word option) (long_word other) (long_words_are_bare other))
     ∙ values_same option items
 values_same option (Valued other value ∷ items) =
-    ap (λ (v : Option (List ℕ)). first_some v (program_option_value option (filter_map program_word items)))
+    ap (λ (v : Option (List ℕ)). option_or v (program_option_value option (filter_map program_word items)))
     (value_behind (long_word option) (long_word other) value (long_words_are_bare option) (long_words_are_bare other))
-    ∙ ap (λ (v : Option (List ℕ)). first_some (if is_option other (Some option) then Some value else None) v) (values_same option items)
+    ∙ ap (λ (v : Option (List ℕ)). option_or (if is_option other (Some option) then Some value else None) v) (values_same option items)
 values_same option (Measured geometry value ∷ items) = values_same option items
 values_same option (Setting name value ∷ items) = values_same option items
 

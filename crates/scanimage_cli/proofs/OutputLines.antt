@@ -1,7 +1,7 @@
 -- Lines that are put together piece by piece.
 use Rattle.std.proofs.Common.{◌≡◌, ◌∙◌, ℕ, List, [], ◌∷◌, ◌++◌, sym, ap, refl}
 use Rattle.std.proofs.lemmas.List.{append-nil, append_assoc}
-use Rattle.device_api.specs.declared.device_info.DeviceInfo.{DeviceInfo}
+use Rattle.sane_fixed.specs.declared.device_info.DeviceInfo.{DeviceInfo}
 use Rattle.scanimage_cli.specs.DeviceList.{device_line, device_lines}
 
 pub ten : (l a b c d e f g h i j : List ℕ) → (((((((((l ++ a) ++ b) ++ c) ++ d) ++ e) ++ f) ++ g) ++ h) ++ i) ++ j ≡ l ++ (a ++ (b ++ (c ++ (d ++ (e ++ (f ++ (g ++ (h ++ (i ++ j)))))))))

@@ -1,10 +1,11 @@
 -- The values of the program's options in the pieces that its words are cut into.
 use Rattle.std.specs.Prelude.{ℕ, ◌≡◌, Bool, false, ◌||◌, if◌then◌else◌, Option, Some, None, List, [], ◌∷◌}
 use Rattle.scanimage_cli.specs.WordCut.{is_option, cut, split_of}
-use Rattle.scanimage_cli.specs.ScanimageOptions.{first_some, program_option_value, has_flag}
+use Rattle.scanimage_cli.specs.ScanimageOptions.{program_option_value, has_flag}
 use Rattle.scanimage_cli.specs.declared.program_option.ProgramOption.{ProgramOption}
 use Rattle.scanimage_cli.specs.declared.word_cut.Item.{Item}
 use Rattle.scanimage_cli.specs.declared.word_cut.Item.TheVariants.{Flag, Valued, Measured, Setting}
+use Rattle.std.specs.Option.{option_or}
 
 -- the value that a piece gives the option
 abbrev pub item_value_of : ProgramOption → Item → Option (List ℕ)
@@ -23,7 +24,7 @@ is_flag_in option (Setting name value) = false
 -- the value that the pieces give the option
 abbrev pub value_given : ProgramOption → List Item → Option (List ℕ)
 value_given option [] = None
-value_given option (item ∷ items) = first_some (item_value_of option item) (value_given option items)
+value_given option (item ∷ items) = option_or (item_value_of option item) (value_given option items)
 
 -- the flag is among the pieces
 abbrev pub is_flag_given : ProgramOption → List Item → Bool

@@ -1,6 +1,6 @@
 -- The list of devices that `-L` prints.
 use Rattle.std.specs.Prelude.{ℕ, ◌++◌, List, [], ◌∷◌, codes}
-use Rattle.device_api.specs.declared.device_info.DeviceInfo.{DeviceInfo}
+use Rattle.sane_fixed.specs.declared.device_info.DeviceInfo.{DeviceInfo}
 
 -- what stands before the names of a host's devices
 abbrev pub net_prefix : List ℕ → List ℕ

@@ -7,16 +7,17 @@ use Rattle.scan_job.specs.declared.report.Reports.{Reports}
 use Rattle.scan_job.specs.declared.stop.Stop.{Stop}
 use Rattle.local_job.specs.FrameReading.{IsRefusal}
 use Rattle.local_job.specs.LocalBatch.{IsBatchDone, IsBatchEndedBy}
-use Rattle.local_job.specs.LocalRun.{IsDone, IsEndedBy}
+use Rattle.local_job.specs.LocalPages.{DeviceAndShelf}
+use Rattle.local_job.specs.LocalRun.{DeviceAndOutput, IsDone, IsEndedBy}
 use Rattle.scanimage_cli.specs.Ending.{ended_by}
 use Rattle.scanimage_cli.specs.Printing.{Prints}
 use Rattle.scanimage_cli.specs.declared.ending.Ending.{Ending}
 use Rattle.scanimage_cli.specs.declared.printed.Printout.{Printout}
 
 -- the job is done, and what its reports come to is to be printed
-pub record DoesJob (old : DeviceState) (job : Job) (printed : Printout) (before after : Option (List ℕ)) (new : DeviceState) : Type 0 where
+pub record DoesJob (job : Job) (was now : DeviceAndOutput) (printed : Printout) : Type 0 where
   pub reports : Reports
-  pub done : IsDone old job reports before after new
+  pub done : IsDone job was now reports
   pub prints : Prints job.task [] job.device reports printed
 
 -- the job stopped with a status that is a refusal, for a reason
@@ -27,14 +28,14 @@ pub record EndsJob (old : DeviceState) (job : Job) (new : DeviceState) (ending :
   pub reason : IsEndedBy old job new stop
 
 -- the batch is done, its pages on the shelf, and what its reports come to is to be printed
-pub record DoesBatch (old : DeviceState) (job : Job) (printed : Printout) (before after : Option Stock) (new : DeviceState) : Type 0 where
+pub record DoesBatch (job : Job) (was now : DeviceAndShelf) (printed : Printout) : Type 0 where
   pub reports : Reports
-  pub done : IsBatchDone old job reports before after new
+  pub done : IsBatchDone job was now reports
   pub prints : Prints job.task [] job.device reports printed
 
 -- the batch stopped with a status that is a refusal, for a reason, its whole pages on the shelf
-pub record EndsBatch (old : DeviceState) (job : Job) (before after : Option Stock) (new : DeviceState) (ending : Ending) : Type 0 where
+pub record EndsBatch (job : Job) (was now : DeviceAndShelf) (ending : Ending) : Type 0 where
   pub stop : Stop
   pub told : ending ≡ ended_by stop
   pub refusal : IsRefusal stop
-  pub reason : IsBatchEndedBy old job before after new stop
+  pub reason : IsBatchEndedBy job was now stop

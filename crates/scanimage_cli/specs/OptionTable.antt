@@ -12,7 +12,7 @@ use Rattle.option_desc.specs.declared.descriptor.Constraint.TheVariants.{Free, S
 use Rattle.option_desc.specs.declared.descriptor.Descriptor.{Descriptor}
 use Rattle.option_desc.specs.declared.value.Value.{Value}
 use Rattle.option_desc.specs.ShownText.{word_text, shown_text}
-use Rattle.device_api.specs.Options.{has_cap}
+use Rattle.sane_fixed.specs.Cap.{has_cap}
 
 abbrev pub unit_text : Unit → List ℕ
 unit_text units.None = codes ""

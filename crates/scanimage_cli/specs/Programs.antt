@@ -35,7 +35,7 @@ pub record IsJobAsked (options : Options) (settings : List (List ℕ × List ℕ
 pub record RanHere (job : Job) (printed : Printout) : Type 0 where
   pub old : DeviceState
   pub new : DeviceState
-  pub does : DoesJob old job printed None None new ⊎ DoesBatch old job printed None None new
+  pub does : DoesJob job (record { device = old; output = None }) (record { device = new; output = None }) printed ⊎ DoesBatch job (record { device = old; stock = None }) (record { device = new; stock = None }) printed
 
 -- such a job was done on a scanner of this machine: on the named one, where one is named
 pub record HasDoneHere (options : Options) (settings : List (List ℕ × List ℕ)) (password : List ℕ) : Type 0 where

@@ -5,6 +5,7 @@ use Rattle.scanimage_cli.specs.WordCut.{long_word}
 use Rattle.scanimage_cli.specs.declared.options.Options.{Options}
 use Rattle.scanimage_cli.specs.declared.program_option.ProgramOption.{ProgramOption}
 use Rattle.scanimage_cli.specs.declared.program_option.ProgramOption.TheVariants.{ListDevices, AllOptions, DontScan, DeviceName, OutputFile, Config, Net, Port, User, PasswordFile, Batch, BatchCount}
+use Rattle.std.specs.Option.{option_or}
 
 -- what follows `=`, where the bytes begin with it
 abbrev pub after_equals : List ℕ → Option (List ℕ)
@@ -15,14 +16,10 @@ after_equals (b ∷ value) = if b == 61 then Some value else None
 unfoldable pub value_after : List ℕ → List ℕ → Option (List ℕ)
 value_after name word = if bytes_eq (take (length name) word) name then after_equals (drop (length name) word) else None
 
-abbrev pub first_some : Option (List ℕ) → Option (List ℕ) → Option (List ℕ)
-first_some (Some value) _ = Some value
-first_some None other = other
-
 -- the value of the first word that gives the option one
 abbrev pub program_option_value : ProgramOption → List (List ℕ) → Option (List ℕ)
 program_option_value option [] = None
-program_option_value option (word ∷ words) = first_some (value_after (long_word option) word) (program_option_value option words)
+program_option_value option (word ∷ words) = option_or (value_after (long_word option) word) (program_option_value option words)
 
 -- the flag is among the words
 abbrev pub has_flag : ProgramOption → List (List ℕ) → Bool

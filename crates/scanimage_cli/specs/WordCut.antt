@@ -1,6 +1,6 @@
 -- The words of scanimage's command line, and the one way to cut them from the left: into options of the program with
 -- their values, measures of the window with their values, and settings.
-use Rattle.std.specs.Prelude.{ℕ, ◌+◌, ◌^◌, ℤ, pos, negsuc, ◌+ℤ◌, nat_lt, Bool, true, false, ◌||◌, ◌==◌, if◌then◌else◌, Option, Some, None, is_some, is_none, option_map, option_and_then, List, [], ◌∷◌, ◌++◌, take, drop, find, position, codes, nat_eq}
+use Rattle.std.specs.Prelude.{ℕ, ◌+◌, ◌^◌, ℤ, pos, negsuc, ◌+ℤ◌, nat_lt, Bool, true, false, ◌||◌, if◌then◌else◌, Option, Some, None, is_some, is_none, option_map, option_and_then, List, [], ◌∷◌, ◌++◌, take, drop, find, position, codes, nat_eq}
 use Rattle.std.specs.Option.{option_map_or}
 use Rattle.std.specs.List.{starts_with, filter_map}
 use Rattle.std.specs.Str.{bytes_eq}
@@ -17,6 +17,7 @@ use Rattle.scanimage_cli.specs.declared.word_cut.AwaitedValue.{AwaitedValue}
 use Rattle.scanimage_cli.specs.declared.word_cut.AwaitedValue.TheVariants.{ForOption, ForMeasure, ForSetting}
 use Rattle.scanimage_cli.specs.declared.word_cut.WordPart.{WordPart}
 use Rattle.scanimage_cli.specs.declared.word_cut.WordPart.TheVariants.{Whole, Awaits, Refused}
+use Rattle.text_lines.specs.Words.{is_equals, is_empty}
 
 -- ---- names
 
@@ -82,14 +83,6 @@ geometry_named word =
     else (if bytes_eq word (codes "-y") then Some Height else None)))
 
 -- ---- one word
-
--- `=` and what comes with it
-abbrev pub is_equals : ℕ → Bool
-is_equals b = b == 61
-
-abbrev pub is_empty : List ℕ → Bool
-is_empty [] = true
-is_empty (_ ∷ _) = false
 
 -- `--NAME=VALUE`: an option with its value, which is not empty, or a setting, whose name is not
 abbrev pub pair_part : Option ProgramOption → List ℕ → List ℕ → WordPart

@@ -20,8 +20,9 @@ pub fn do_job<W: Write>(
     job: &Job,
     output: &mut W,
 ) -> Result<Printout, Ending>
-    ensures done { IfOk result (λ printed. DoesJob (state device.old) job.now printed
-        (W.contents output.old) (W.contents output.new) (state device.new)) }
+    ensures done { IfOk result (λ printed.
+        DoesJob job.now (record { device = state device.old; output = W.contents output.old })
+        (record { device = state device.new; output = W.contents output.new }) printed) }
     ensures no_file { OnErr result (LeavesNoFile (W.contents output.old) (W.contents output.new)) }
     ensures ended { IfErr result
         (λ ending. EndsJob (state device.old) job.now (state device.new) ending) }
@@ -48,10 +49,12 @@ pub fn do_batch<S: Shelf>(
     job: &Job,
     shelf: &mut S,
 ) -> Result<Printout, Ending>
-    ensures done { IfOk result (λ printed. DoesBatch (state device.old) job.now printed
-        (S.stock shelf.old) (S.stock shelf.new) (state device.new)) }
-    ensures ended { IfErr result (λ ending. EndsBatch (state device.old) job.now
-        (S.stock shelf.old) (S.stock shelf.new) (state device.new) ending) }
+    ensures done { IfOk result (λ printed.
+        DoesBatch job.now (record { device = state device.old; stock = S.stock shelf.old })
+        (record { device = state device.new; stock = S.stock shelf.new }) printed) }
+    ensures ended { IfErr result (λ ending.
+        EndsBatch job.now (record { device = state device.old; stock = S.stock shelf.old })
+        (record { device = state device.new; stock = S.stock shelf.new }) ending) }
     ensures failed { IfErr result IsFailure }
     ensures rest { is_at_rest (state device.new).phase ≡ true }
 {

@@ -1,5 +1,7 @@
 ghost use Rattle.std.specs.Prelude.{◌≡◌, IfOk, IfErr, OnErr};
 ghost use Rattle.scan_job.specs.FileOutputs.{StopsShort};
+ghost use Rattle.net_jobs.specs.Links.{views_of};
+ghost use Rattle.net_jobs.specs.RunPromises.{seen, streams};
 ghost use Rattle.scanimage_cli.specs.DeviceList.{net_prefix};
 ghost use Rattle.scanimage_cli.specs.NetDoing.{DoesNetJob, EndsNetJob, DoesNetBatch, EndsNetBatch};
 ghost use Rattle.scanimage_cli.specs.Programs.{IsFailure};
@@ -32,11 +34,13 @@ pub fn do_net_job<C: Read + Write, D: Dial, W: Write>(
     dial: &mut D,
     output: &mut W,
 ) -> Result<Printout, Ending>
-    ensures done { IfOk result (DoesNetJob C.remaining C.contents D.coming W.contents job host.now
-        control.old control.new dial.old dial.new output.old output.new) }
+    ensures done { IfOk result (DoesNetJob (views_of C.remaining C.contents D.ports) job host.now
+        (seen D.coming W.contents (streams control.old dial.old output.old))
+        (seen D.coming W.contents (streams control.new dial.new output.new))) }
     ensures no_file { OnErr result (StopsShort (W.contents output.old) (W.contents output.new)) }
-    ensures ended { IfErr result (EndsNetJob C.remaining C.contents D.coming W.contents job
-        control.old control.new dial.old dial.new output.old output.new) }
+    ensures ended { IfErr result (EndsNetJob (views_of C.remaining C.contents D.ports)
+        D.coming W.contents job (streams control.old dial.old output.old)
+        (streams control.new dial.new output.new)) }
     ensures failed { IfErr result IsFailure }
 {
     let Ok((prefix, device)) = names_answered(alloc, host, &job) else {
@@ -62,10 +66,12 @@ pub fn do_net_batch<C: Read + Write, D: Dial, S: Shelf>(
     dial: &mut D,
     shelf: &mut S,
 ) -> Result<Printout, Ending>
-    ensures done { IfOk result (DoesNetBatch C.remaining C.contents D.coming S.stock job host.now
-        control.old control.new dial.old dial.new shelf.old shelf.new) }
-    ensures ended { IfErr result (EndsNetBatch C.remaining C.contents D.coming S.stock job
-        control.old control.new dial.old dial.new shelf.old shelf.new) }
+    ensures done { IfOk result (DoesNetBatch (views_of C.remaining C.contents D.ports) job host.now
+        (seen D.coming S.stock (streams control.old dial.old shelf.old))
+        (seen D.coming S.stock (streams control.new dial.new shelf.new))) }
+    ensures ended { IfErr result (EndsNetBatch (views_of C.remaining C.contents D.ports)
+        D.coming S.stock job (streams control.old dial.old shelf.old)
+        (streams control.new dial.new shelf.new)) }
     ensures failed { IfErr result IsFailure }
 {
     let Ok((prefix, device)) = names_answered(alloc, host, &job) else {

@@ -3,7 +3,7 @@ use Rattle.std.proofs.Common.{◌≡◌, ℕ, List, [], ◌∷◌, Bool, true, f
 use Rattle.page_picture.specs.Shows.{Frame}
 use Rattle.option_desc.specs.declared.value.Value.{Value}
 use Rattle.system_model.specs.AbstractMessages.{same_text, Challenge, AbstractRequest, Open, Authorize, Get, Set, Start, Cancel, Close, Exit}
-use Rattle.system_model.specs.Devices.{Make, Page, AcceptedSet, has_readable_value, picture_frames, accept_value}
+use Rattle.system_model.specs.Devices.{Make, Page, AbstractAcceptedSet, has_readable_value, picture_frames, accept_value}
 use Rattle.system_model.specs.Client.{ClientView, AbstractProgress, Greeting, Listing, Opening, Allowing, Describing, Putting, Getting, Starting, Shaping, Imaging, request_awaited}
 use Rattle.system_model.specs.AbstractDevices.{AbstractDevice, ScanPhase, Resting, Between, Reading, is_held_by, is_resting}
 use Rattle.system_model.specs.Daemon.{TransferState, Quiet, Waiting, Streaming, Ending, Environment, FailureCounts, answer, answer_if, hand_out_device, take_listed, open_listed, allow, get_reply, put_reply, set_reply, begin_page, begin_pass, start_page, start_at, start_or_fail, start_effect, serve, refuse, cancelled_transfer}
@@ -49,7 +49,7 @@ get_calm : (k : Make) (dev : AbstractDevice) (c : TransferState) (n : ℕ) (x : 
 get_calm k dev c n true z = z
 get_calm k dev c n false z = z
 
-put_calm : (dev : AbstractDevice) (c : TransferState) (o : Option AcceptedSet) → IsCalm c → IsCalm (put_reply dev c o).transfer
+put_calm : (dev : AbstractDevice) (c : TransferState) (o : Option AbstractAcceptedSet) → IsCalm c → IsCalm (put_reply dev c o).transfer
 put_calm dev c None z = z
 put_calm dev c (Some o) z = z
 

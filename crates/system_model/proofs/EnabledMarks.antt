@@ -4,7 +4,7 @@ use Rattle.page_picture.specs.Shows.{Frame}
 use Rattle.option_desc.specs.declared.value.Value.{Value}
 use Rattle.system_model.specs.AbstractMessages.{same_text, Challenge, AbstractRequest, Init, GetDevices, Open, Authorize, Describe, Get, Set, Parameters, Start, Cancel, Close, Exit}
 use Rattle.page_picture.specs.declared.scene.DeviceKind.TheVariants.{Flatbed, Hand, ThreePass, Feeder}
-use Rattle.system_model.specs.Devices.{Model, Make, Page, AcceptedSet, has_readable_value, picture_frames, accept_value}
+use Rattle.system_model.specs.Devices.{Model, Make, Page, AbstractAcceptedSet, has_readable_value, picture_frames, accept_value}
 use Rattle.system_model.specs.AbstractDevices.{after_start, without_first, AbstractDevice, ScanPhase, Resting, Between, Reading, is_held_by, is_resting, put_back, device_let_go, phase_after_frame, ended_phase, read_on}
 use Rattle.system_model.specs.Daemon.{TransferState, Quiet, Waiting, Streaming, Ending, Environment, FailureCounts, answer, answer_if, answer_awaited, hand_out_device, take_listed, open_listed, allow, get_reply, put_reply, set_reply, begin_page, begin_pass, start_page, start_at, start_or_fail, start_effect}
 use Rattle.system_model.specs.SystemStates.{JobState, SystemState, with_entry, listed_devices, wanted_place, make_for, device_for}
@@ -63,7 +63,7 @@ get_slot : (k : Make) (dev : AbstractDevice) (c : TransferState) (n : ℕ) (x : 
 get_slot k dev c n true = refl
 get_slot k dev c n false = refl
 
-put_slot : (k : Make) (dev : AbstractDevice) (c : TransferState) (o : Option AcceptedSet) → Leads k dev [] (put_reply dev c o).device
+put_slot : (k : Make) (dev : AbstractDevice) (c : TransferState) (o : Option AbstractAcceptedSet) → Leads k dev [] (put_reply dev c o).device
 put_slot k dev c None = refl
 put_slot k dev c (Some o) = refl
 

@@ -4,7 +4,7 @@ use Rattle.std.proofs.lemmas.Bool.{eqb-false}
 use Rattle.page_picture.specs.Shows.{Frame}
 use Rattle.option_desc.specs.declared.value.Value.{Value}
 use Rattle.system_model.specs.AbstractMessages.{same_text, Challenge, AbstractRequest, Open, Authorize, Get, Set, Start}
-use Rattle.system_model.specs.Devices.{Make, Page, AcceptedSet, has_readable_value, picture_frames, accept_value}
+use Rattle.system_model.specs.Devices.{Make, Page, AbstractAcceptedSet, has_readable_value, picture_frames, accept_value}
 use Rattle.system_model.specs.AbstractDevices.{AbstractDevice, ScanPhase, Resting, Between, Reading, is_held_by, is_resting}
 use Rattle.system_model.specs.Daemon.{TransferState, Quiet, Waiting, Streaming, Ending, Environment, FailureCounts, answer_if, answer_awaited, held_cause, hand_out_device, take_listed, open_listed, allow, get_reply, put_reply, set_reply, begin_page, begin_pass, start_page, start_at, start_or_fail, start_effect, serve, refuse}
 use Rattle.system_model.specs.Grounds.{HaveGrounds}
@@ -37,7 +37,7 @@ get_ground : (i : ℕ) (k : Make) (dev : AbstractDevice) (c : TransferState) (a 
 get_ground i k dev c a x n true = tt
 get_ground i k dev c a x n false = tt
 
-put_ground : (i : ℕ) (k : Make) (dev : AbstractDevice) (c : TransferState) (a : Option Challenge) (x : Environment) (o : Option AcceptedSet) → HaveGrounds i k dev a x (put_reply dev c o).causes
+put_ground : (i : ℕ) (k : Make) (dev : AbstractDevice) (c : TransferState) (a : Option Challenge) (x : Environment) (o : Option AbstractAcceptedSet) → HaveGrounds i k dev a x (put_reply dev c o).causes
 put_ground i k dev c a x None = tt
 put_ground i k dev c a x (Some o) = tt
 

@@ -5,7 +5,7 @@ use Rattle.std.proofs.lemmas.Bool.{ltb-true, ltb-false}
 use Rattle.page_picture.specs.Shows.{Frame}
 use Rattle.sane_fixed.specs.declared.params.Params.{Params}
 use Rattle.system_model.specs.AbstractMessages.{RequestedSetting, Status, Good, Unsupported, GivenUp, Busy, Inval, Eof, Jammed, NoDocs, CoverOpen, IoError, NoMem, AccessDenied, Answer, Short}
-use Rattle.system_model.specs.Devices.{Make, OptionsInForce, overflows, fills}
+use Rattle.system_model.specs.Devices.{Make, OptionsInForce, frame_overflows, frame_fills}
 use Rattle.system_model.specs.Client.{Task, List_, Show, SetOnly, Scan, Batch, further_pages, ClientView, JobStage, Running, Done, Starting, Imaging, with_ending}
 use Rattle.system_model.specs.ClientReplies.{reads_on, end_frame, close_frame, close_page, after_page}
 use Rattle.system_model.specs.AbstractDevices.{AbstractDevice, Begin, phase_after_frame}
@@ -40,10 +40,10 @@ still_carries i k b dev o f more heard rest bytes left e (inr (inr (inr h))) =
 
 pub reads_right : (i : ℕ) (k : Make) (b : SessionView) (m : ClientView) (dev : AbstractDevice) (params : Params) (heard bytes left : List ℕ) → b.flight ≡ bytes ++ left →
     InSync i k b m dev (Imaging params heard) →
-    IsRight i k (with_flight b left) (record m { stage = reads_on (overflows params (heard ++ bytes)) params (heard ++ bytes) }) dev (reads_on (overflows params (heard ++ bytes)) params (heard ++ bytes))
+    IsRight i k (with_flight b left) (record m { stage = reads_on (frame_overflows params (heard ++ bytes)) params (heard ++ bytes) }) dev (reads_on (frame_overflows params (heard ++ bytes)) params (heard ++ bytes))
 reads_right i k b m dev params heard bytes left e h =
     let all : (heard ++ bytes) ++ (left ++ h.rest) ≡ h.frame.payload = simp append_assoc (simp (e, append_assoc) at h.payload) in
-    let fits : overflows params (heard ++ bytes) ≡ false = rw h.params_are (h.continues.proper.1 (heard ++ bytes) (left ++ h.rest) all) in
+    let fits : frame_overflows params (heard ++ bytes) ≡ false = rw h.params_are (h.continues.proper.1 (heard ++ bytes) (left ++ h.rest) all) in
     rw fits (record {
       frame = h.frame;
       more = h.more;
@@ -150,11 +150,11 @@ next_frame i k b m dev f (g ∷ more) false e c h q a p = (
 
 whole_right : (i : ℕ) (k : Make) (b : SessionView) (m : ClientView) (dev : AbstractDevice) (params : Params) (heard : List ℕ) (f : Frame) (more : List Frame) → f ≡ record { params = params; order = m.order; payload = heard } →
     (c : PageUnderWay k b.job b.sent b.started m.reports m.pages m.frames (f ∷ more)) → HoldsDevice i dev c.begin.options (phase_after_frame f more) → b.transfer ≡ Quiet → b.awaited ≡ None → PagesAreOfStarts k b m →
-    IsRightAt i k (with_nothing_in_flight b) dev (close_frame (fills params heard) b.job.task params heard m)
+    IsRightAt i k (with_nothing_in_flight b) dev (close_frame (frame_fills params heard) b.job.task params heard m)
 whole_right i k b m dev params heard f more e c h q a p =
-    let w : fills params heard ≡ true = ap (λ (x : Frame). fills x.params x.payload) (sym e) ∙ c.proper.2 in
+    let w : frame_fills params heard ≡ true = ap (λ (x : Frame). frame_fills x.params x.payload) (sym e) ∙ c.proper.2 in
     let l : params.last_frame ≡ no_frame_left more = ap (λ (x : Frame). x.params.last_frame) (sym e) ∙ c.proper.4 in
-    let n : close_page params.last_frame b.job.task f m ≡ close_frame (fills params heard) b.job.task params heard m =
+    let n : close_page params.last_frame b.job.task f m ≡ close_frame (frame_fills params heard) b.job.task params heard m =
     ap (λ (x : Frame). close_page params.last_frame b.job.task x m) e ∙ ap (λ (x : Bool). close_frame x b.job.task params heard m) (sym w) in
     subst (λ (x : ClientView). IsRightAt i k (with_nothing_in_flight b) dev x) n (next_frame i k b m dev f more params.last_frame l c h q a p)
 
@@ -184,7 +184,7 @@ ends_by i k b m dev params heard status n e p h (inr (inl c)) =
     rw z (whole_right i k b m dev params heard h.frame h.more f h.continues c.held c.transfer h.awaited p)
 ends_by i k b m dev params heard status n e p h (inr (inr (inl c))) =
     let z : status ≡ Eof = cc (e, c.ending) in
-    let short : fills params heard ≡ false = rw (c.heard_none, h.params_are) h.continues.proper.3 in
+    let short : frame_fills params heard ≡ false = rw (c.heard_none, h.params_are) h.continues.proper.3 in
     rw (z, short) (inl c.cause, same_pages k b (with_nothing_in_flight b) m (with_ending IoError Short m) refl refl refl p)
 ends_by i k b m dev params heard status n e p h (inr (inr (inr c))) =
     let z : status ≡ c.status = cc (e, c.ending) in

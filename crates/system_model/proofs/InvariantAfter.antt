@@ -3,7 +3,7 @@ use Rattle.std.proofs.Common.{◌≡◌, ◌∙◌, ◌≢◌, ℕ, List, [], �
 use Rattle.std.proofs.lemmas.Bool.{ltb-true}
 use Rattle.system_model.specs.AbstractMessages.{Challenge, Good, Eof, IoError, GivenUp, NoMem, Lost, Cancelled, Memory, AbstractRequest}
 use Rattle.page_picture.specs.declared.scene.DeviceKind.TheVariants.{Flatbed, Hand, ThreePass, Feeder}
-use Rattle.system_model.specs.Devices.{Make, Model, Page, IsShaped}
+use Rattle.system_model.specs.Devices.{Make, Model, Page, IsPageShaped}
 use Rattle.system_model.specs.Client.{abstract_farewell, with_progress, Greeting}
 use Rattle.system_model.specs.ClientReplies.{hear_in, client_after_bytes, client_after_stop}
 use Rattle.system_model.specs.AbstractDevices.{AbstractDevice, DeviceInvariant, AreShaped, put_down, device_let_go, without_prefix, read_on, ended_phase, IsStocked, laid_in, has_room}
@@ -127,11 +127,11 @@ laid_stocked Flatbed page tray r = refl
 laid_stocked Hand page tray r = refl
 laid_stocked ThreePass page tray r = refl
 
-one_more : (page : Page) (tray : List Page) → IsShaped page → AreShaped tray → AreShaped (tray ++ page ∷ [])
+one_more : (page : Page) (tray : List Page) → IsPageShaped page → AreShaped tray → AreShaped (tray ++ page ∷ [])
 one_more page [] p t = (p, tt)
 one_more page (x ∷ tray) p t = (t.0, one_more page tray p t.1)
 
-laid_shaped : (m : Model) (page : Page) (tray : List Page) → IsShaped page → AreShaped tray → AreShaped (laid_in m page tray)
+laid_shaped : (m : Model) (page : Page) (tray : List Page) → IsPageShaped page → AreShaped tray → AreShaped (laid_in m page tray)
 laid_shaped Feeder page tray p t = one_more page tray p t
 laid_shaped Flatbed page tray p t = (p, tt)
 laid_shaped Hand page tray p t = (p, tt)

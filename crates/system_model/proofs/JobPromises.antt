@@ -3,7 +3,7 @@ use Rattle.std.proofs.Common.{Bool, true, false, cond, inl, inr, ◌≡◌, ◌�
 use Rattle.page_picture.specs.Shows.{Frame}
 use Rattle.option_desc.specs.declared.value.Value.{Value}
 use Rattle.system_model.specs.AbstractMessages.{RequestedSetting, Report}
-use Rattle.system_model.specs.Devices.{Make, OptionsInForce, AcceptedSet, defaults, descriptors_of, resolve_setting, accept_value}
+use Rattle.system_model.specs.Devices.{Make, OptionsInForce, AbstractAcceptedSet, default_options, descriptors_in_force, resolve_setting, accept_value}
 use Rattle.system_model.specs.AbstractInForce.{SettingsResult, abstract_force, with_reports_before, put_then, setting_then, report_of, AreAnswered}
 use Rattle.system_model.specs.Client.{JobStage, ClientView, Done, Ended, Task, List_, Show, SetOnly, Scan, Batch}
 use Rattle.system_model.specs.AbstractDevices.{AbstractDevice, Begin}
@@ -61,8 +61,8 @@ peeled r (Some f) o reports e =
     (f.reports, sym (ap (λ (x : SettingsResult). x.reports) p), ap (λ (x : SettingsResult). Some (record { options = x.options; reports = f.reports })) p)
 
 -- the fold answers each setting with the nearest admitted value
-put_answers : (k : Make) (at : OptionsInForce) (requested : RequestedSetting) (ws : List RequestedSetting) (n : ℕ) (asked : Value) (put : Option AcceptedSet) (o : OptionsInForce) (reports : List Report) →
-    resolve_setting (descriptors_of k at) requested ≡ Some (n, asked) → accept_value k at n asked ≡ put → put_then (abstract_force ws k) requested asked put ≡ Some (record { options = o; reports = reports }) →
+put_answers : (k : Make) (at : OptionsInForce) (requested : RequestedSetting) (ws : List RequestedSetting) (n : ℕ) (asked : Value) (put : Option AbstractAcceptedSet) (o : OptionsInForce) (reports : List Report) →
+    resolve_setting (descriptors_in_force k at) requested ≡ Some (n, asked) → accept_value k at n asked ≡ put → put_then (abstract_force ws k) requested asked put ≡ Some (record { options = o; reports = reports }) →
     ((rs : List Report) (from : OptionsInForce) → abstract_force ws k from ≡ Some (record { options = o; reports = rs }) → AreAnswered k ws rs) → AreAnswered k (requested ∷ ws) reports
 put_answers k at requested ws n asked None o reports r p e rest = cc
 put_answers k at requested ws n asked (Some put) o reports r p e rest =
@@ -72,7 +72,7 @@ put_answers k at requested ws n asked (Some put) o reports r p e rest =
     ((at, record { number = n; is_setting = refl; asked = r; given = x.0; inexact = x.1 }), rest q.0 put.options q.2)
 
 wish_answers : (k : Make) (at : OptionsInForce) (requested : RequestedSetting) (ws : List RequestedSetting) (r : Option (ℕ × Value)) (o : OptionsInForce) (reports : List Report) →
-    resolve_setting (descriptors_of k at) requested ≡ r → setting_then (abstract_force ws k) k at requested r ≡ Some (record { options = o; reports = reports }) →
+    resolve_setting (descriptors_in_force k at) requested ≡ r → setting_then (abstract_force ws k) k at requested r ≡ Some (record { options = o; reports = reports }) →
     ((rs : List Report) (from : OptionsInForce) → abstract_force ws k from ≡ Some (record { options = o; reports = rs }) → AreAnswered k ws rs) → AreAnswered k (requested ∷ ws) reports
 wish_answers k at requested ws None o reports r e rest = cc
 wish_answers k at requested ws (Some (n, asked)) o reports r e rest = put_answers k at requested ws n asked (accept_value k at n asked) o reports r refl e rest
@@ -87,7 +87,7 @@ pub answers_all : (k : Make) (ws : List RequestedSetting) (at : OptionsInForce) 
 answers_all k [] at o [] e = tt
 answers_all k [] at o (r ∷ reports) e =
     absurd (no_report r reports (same_reports (record { options = at; reports = [] }) (record { options = o; reports = r ∷ reports }) e))
-answers_all k (requested ∷ ws) at o reports e = wish_answers k at requested ws (resolve_setting (descriptors_of k at) requested) o reports refl e (λ rs from f. answers_all k ws from o rs f)
+answers_all k (requested ∷ ws) at o reports e = wish_answers k at requested ws (resolve_setting (descriptors_in_force k at) requested) o reports refl e (λ rs from f. answers_all k ws from o rs f)
 
 settled_at : (k : Make) (b : SessionView) (m : ClientView) (task : Task) → task ≢ List_ → IsRightlyDone k b m task → (o : OptionsInForce) × AllInForce k b.job b.sent m.reports o
 settled_at k b m List_ n h = absurd (n refl)
@@ -99,7 +99,7 @@ settled_at k b m (Batch l) n h = h.0
 pub settings_answered : SettingsAreAnswered
 settings_answered s i h e n =
     let a = settled_at (make_for s i) (s.job i).session (s.job i).client (s.job i).session.job.task n (done s i (s.job i).session.job.task h e refl) in
-    answers_all (make_for s i) (s.job i).session.job.settings (defaults (make_for s i)) a.0 (s.job i).client.reports a.1.forced
+    answers_all (make_for s i) (s.job i).session.job.settings (default_options (make_for s i)) a.0 (s.job i).client.reports a.1.forced
 
 pub done_allowed : DoneIsAllowed
 done_allowed s i h e n = (settled_at (make_for s i) (s.job i).session (s.job i).client (s.job i).session.job.task n (done s i (s.job i).session.job.task h e refl)).1.permitted

@@ -3,7 +3,7 @@ use Rattle.std.proofs.Common.{◌≡◌, ◌∙◌, ◌≢◌, ℕ, List, [], �
 use Rattle.page_picture.specs.Shows.{Frame}
 use Rattle.sane_fixed.specs.declared.params.Params.{Params}
 use Rattle.system_model.specs.AbstractMessages.{Challenge, Status, NoDocs, IoError, Why, Lost, AbstractRequest, AbstractReply, Refused}
-use Rattle.system_model.specs.Devices.{Make, overflows}
+use Rattle.system_model.specs.Devices.{Make, frame_overflows}
 use Rattle.system_model.specs.Client.{AbstractJob, ClientView, JobStage, Idle, Running, Done, Ended, AbstractProgress, Greeting, Listing, Opening, Allowing, Describing, Putting, Getting, Starting, Shaping, Imaging, Task, List_, Show, SetOnly, Scan, Batch, request_awaited, requests_sent}
 use Rattle.system_model.specs.ClientReplies.{hear_in, hear_at, client_after_bytes, finish_in, start_refused, reads_on, stage_after_stop}
 use Rattle.system_model.specs.AbstractDevices.{DeviceInvariant, AbstractDevice, Begin, without_first}
@@ -219,7 +219,7 @@ kept_read i k p dev bytes left params heard st e f h =
     let a = images i k p dev params heard (subst (λ (x : JobStage). StageInvariant i k p dev x) e h) in
     subst (λ (x : JobStage). StageInvariant i k (record p { client = client_after_bytes x p.client bytes; session = with_flight p.session left }) dev (client_after_bytes x p.client bytes).stage) (sym e)
     (right_talks i k (record p { client = client_after_bytes (Running (Imaging params heard)) p.client bytes; session = with_flight p.session left }) dev (client_after_bytes (Running (Imaging params heard)) p.client bytes).stage
-    a.linked a.served (a.todo ∙ reads_sends p.session.job.task (overflows params (heard ++ bytes)) params (heard ++ bytes)) a.due
+    a.linked a.served (a.todo ∙ reads_sends p.session.job.task (frame_overflows params (heard ++ bytes)) params (heard ++ bytes)) a.due
     (reads_right i k p.session p.client dev params heard bytes left f a.in_sync))
 
 pub read_pages : (st : JobStage) (m : ClientView) (bytes : List ℕ) → (client_after_bytes st m bytes).pages ≡ m.pages

@@ -22,7 +22,7 @@ use Rattle.scan_laws.proofs.Ruled as ruled
 use Rattle.scan_laws.proofs.Sets.{tells}
 use Rattle.scan_laws.proofs.NearestSet.{set_nearest}
 use Rattle.system_model.specs.AbstractMessages.{Good}
-use Rattle.system_model.specs.Devices.{Make, readable_options, OptionsInForce, Page, AcceptedSet, IsAllowed, IsShaped, IsNearest, abstract_status, abstract_accepted_set, defaults, read_status_of, descriptors_of, accept_value, picture_frames, order_of, accepts, overflows, fills}
+use Rattle.system_model.specs.Devices.{Make, readable_options, OptionsInForce, Page, AbstractAcceptedSet, AreOptionsAllowed, IsPageShaped, IsNearest, abstract_status, abstract_accepted_set, default_options, read_status_of, descriptors_in_force, accept_value, picture_frames, order_of, accepts, frame_overflows, frame_fills}
 use Rattle.system_model.specs.Sync.{AreJoinable}
 use Rattle.system_model.specs.AbstractInForce.{AreReadable}
 use Rattle.system_model.proofs.Readable as readable_laws
@@ -30,37 +30,37 @@ use Rattle.system_model.specs.Variant.{payload_total}
 
 -- OPTIONS
 -- options stay within their limits
-pub defaults_allowed : (k : Make) → IsAllowed k (defaults k)
-unfolding IsAllowed defaults
+pub defaults_allowed : (k : Make) → AreOptionsAllowed k (default_options k)
+unfolding AreOptionsAllowed default_options
 defaults_allowed k = allowed.defaults_allowed k.model k.order
 
 -- the put of an answer
-record PutParts (o : Setup) (n : ℕ) (v : Value) (put : AcceptedSet) : Type 0 where
+record PutParts (o : Setup) (n : ℕ) (v : Value) (put : AbstractAcceptedSet) : Type 0 where
   real : rules.AcceptedSet
   is : rules.accept_set o n v ≡ Some real
   put_is : abstract_accepted_set real ≡ put
 
-parts_of : (o : Setup) (n : ℕ) (v : Value) (put : AcceptedSet) (r : Option rules.AcceptedSet) → rules.accept_set o n v ≡ r → option_map abstract_accepted_set r ≡ Some put → PutParts o n v put
+parts_of : (o : Setup) (n : ℕ) (v : Value) (put : AbstractAcceptedSet) (r : Option rules.AcceptedSet) → rules.accept_set o n v ≡ r → option_map abstract_accepted_set r ≡ Some put → PutParts o n v put
 parts_of o n v put None e h = cc
 parts_of o n v put (Some p) e h = record { real = p; is = e; put_is = cc }
 
-parts : (k : Make) (o : OptionsInForce) (n : ℕ) (v : Value) (put : AcceptedSet) → accept_value k o n v ≡ Some put → PutParts o n v put
+parts : (k : Make) (o : OptionsInForce) (n : ℕ) (v : Value) (put : AbstractAcceptedSet) → accept_value k o n v ≡ Some put → PutParts o n v put
 unfolding accept_value
 parts k o n v put e = parts_of o n v put (rules.accept_set o n v) refl e
 
-pub put_allowed : (k : Make) (o : OptionsInForce) (n : ℕ) (v : Value) (put : AcceptedSet) → IsAllowed k o → accept_value k o n v ≡ Some put → IsAllowed k put.options
-unfolding IsAllowed
+pub put_allowed : (k : Make) (o : OptionsInForce) (n : ℕ) (v : Value) (put : AbstractAcceptedSet) → AreOptionsAllowed k o → accept_value k o n v ≡ Some put → AreOptionsAllowed k put.options
+unfolding AreOptionsAllowed
 put_allowed k o n v put a e =
     let p = parts k o n v put e in
-    subst (λ (t : Setup). limits.IsAllowed t) (ap (λ (x : AcceptedSet). x.options) p.put_is) (ruled.put_allowed o n v p.real a p.is)
+    subst (λ (t : Setup). limits.IsAllowed t) (ap (λ (x : AbstractAcceptedSet). x.options) p.put_is) (ruled.put_allowed o n v p.real a p.is)
 
 -- descriptors change only where the info says so
-pub steady : (k : Make) (o : OptionsInForce) (n : ℕ) (v : Value) (put : AcceptedSet) → accept_value k o n v ≡ Some put → put.info.reload_options ≡ false → descriptors_of k put.options ≡ descriptors_of k o
-unfolding descriptors_of
+pub steady : (k : Make) (o : OptionsInForce) (n : ℕ) (v : Value) (put : AbstractAcceptedSet) → accept_value k o n v ≡ Some put → put.info.reload_options ≡ false → descriptors_in_force k put.options ≡ descriptors_in_force k o
+unfolding descriptors_in_force
 steady k o n v put e r =
     let p = parts k o n v put e in
-    let b : has_bit p.real.info 2 ≡ false = ap (λ (x : AcceptedSet). x.info.reload_options) p.put_is ∙ r in
-    sym (ap (λ (x : AcceptedSet). descriptors_of k x.options) p.put_is) ∙ ruled.steady o n v p.real p.is b
+    let b : has_bit p.real.info 2 ≡ false = ap (λ (x : AbstractAcceptedSet). x.info.reload_options) p.put_is ∙ r in
+    sym (ap (λ (x : AbstractAcceptedSet). descriptors_in_force k x.options) p.put_is) ∙ ruled.steady o n v p.real p.is b
 
 answer_of : (o : Setup) (n : ℕ) (v : Value) (put : rules.AcceptedSet) (r : Result (Value × Bits) Code) → option_set o n v ≡ r → rules.accepted_set_by o n r ≡ Some put → option_set o n v ≡ Ok (put.given, put.info)
 answer_of o n v put (Ok answer) e h =
@@ -73,13 +73,13 @@ unfolding rules.accept_set
 answered o n v put e = answer_of o n v put (option_set o n v) refl e
 
 -- what is given is the nearest admitted value, and INEXACT stands just where it differs
-pub is_nearest : (k : Make) (o : OptionsInForce) (n : ℕ) (v : Value) (put : AcceptedSet) → accept_value k o n v ≡ Some put → IsNearest k o n v put.given × ((put.info.inexact ≡ true) ↔ (put.given ≢ v))
+pub is_nearest : (k : Make) (o : OptionsInForce) (n : ℕ) (v : Value) (put : AbstractAcceptedSet) → accept_value k o n v ≡ Some put → IsNearest k o n v put.given × ((put.info.inexact ≡ true) ↔ (put.given ≢ v))
 unfolding IsNearest
 is_nearest k o n v put e =
     let p = parts k o n v put e in
     let a = answered o n v p.real p.is in
     let t = tells o n v p.real.given p.real.info a in
-    subst (λ (x : AcceptedSet). IsNearest k o n v x.given × ((x.info.inexact ≡ true) ↔ (x.given ≢ v))) p.put_is
+    subst (λ (x : AbstractAcceptedSet). IsNearest k o n v x.given × ((x.info.inexact ≡ true) ↔ (x.given ≢ v))) p.put_is
     (set_nearest o n v p.real.given p.real.info a, t.inexact)
 
 -- no device answers GOOD in place of its data
@@ -88,8 +88,8 @@ never None e = cc
 never (Some code.Good) e = refl
 never (Some s) e = cc
 
-pub never_good : (k : Make) (o : OptionsInForce) → IsAllowed k o → read_status_of k o ≡ Some Good → ⊥
-unfolding read_status_of IsAllowed
+pub never_good : (k : Make) (o : OptionsInForce) → AreOptionsAllowed k o → read_status_of k o ≡ Some Good → ⊥
+unfolding read_status_of AreOptionsAllowed
 never_good k o a e = a.told (never o.told e)
 
 -- FRAMES
@@ -106,12 +106,12 @@ given_in : (o : Setup) (page_view : Page) → AllIn o.order (rules.frames_given 
 unfolding rules.frames_given
 given_in o page_view = given_by o page_view (scan.has_picture o page_view) (scan.takes_colors o.scene.kind o.scene.mode)
 
-fits : (f : Frame) → ((front rest : List ℕ) → front ++ rest ≡ f.payload → length front ≤ most_bytes f.params) → (bytes rest : List ℕ) → bytes ++ rest ≡ f.payload → overflows f.params bytes ≡ false
-unfolding overflows
+fits : (f : Frame) → ((front rest : List ℕ) → front ++ rest ≡ f.payload → length front ≤ most_bytes f.params) → (bytes rest : List ℕ) → bytes ++ rest ≡ f.payload → frame_overflows f.params bytes ≡ false
+unfolding frame_overflows
 fits f h bytes rest e = le-ltb (most_bytes f.params) (length bytes) (h bytes rest e)
 
 properly : (order : Order) (done more : List Frame) → AllIn order more → rules.AreTakenInOrder done more → AreJoinable order done more
-unfolding accepts fills
+unfolding accepts frame_fills
 properly order done [] a p = tt
 properly order done (f ∷ more) a p = (
   subst (λ (x : Order). is_accepted done f.params x ≡ true) a.0 p.0.accepted,
@@ -124,8 +124,8 @@ properly order done (f ∷ more) a p = (
 )
 
 -- the join of frames takes a device's frames
-pub proper : (k : Make) (o : OptionsInForce) (page_view : Page) → IsAllowed k o → IsShaped page_view → AreJoinable (order_of k o) [] (picture_frames k o page_view)
-unfolding picture_frames order_of IsAllowed IsShaped
+pub proper : (k : Make) (o : OptionsInForce) (page_view : Page) → AreOptionsAllowed k o → IsPageShaped page_view → AreJoinable (order_of k o) [] (picture_frames k o page_view)
+unfolding picture_frames order_of AreOptionsAllowed IsPageShaped
 proper k o page_view a s = properly o.order [] (rules.frames_given o page_view) (given_in o page_view) (ruled.proper o page_view a s)
 
 same_total : (fs : List Frame) → payload_total fs ≡ weight fs
@@ -142,14 +142,14 @@ unfolding rules.frames_given
 three o page_view = three_by o page_view (scan.has_picture o page_view) (scan.takes_colors o.scene.kind o.scene.mode)
 
 -- a page has three frames at most, and so many bytes: 9,448 lines of 57,072 bytes
-pub small : (k : Make) (o : OptionsInForce) (page_view : Page) → IsAllowed k o → (payload_total (picture_frames k o page_view) ≤ 539216256) × (length (picture_frames k o page_view) ≤ 3)
-unfolding picture_frames IsAllowed
+pub small : (k : Make) (o : OptionsInForce) (page_view : Page) → AreOptionsAllowed k o → (payload_total (picture_frames k o page_view) ≤ 539216256) × (length (picture_frames k o page_view) ≤ 3)
+unfolding picture_frames AreOptionsAllowed
 small k o page_view a = (let h = ruled.few o page_view a in let e = same_total (rules.frames_given o page_view) in omega arith, three o page_view)
 
 -- VALUES
 -- what a client asks the value of is told, and there are few such options
-pub told : (k : Make) (o : OptionsInForce) → AreReadable k o (readable_options (descriptors_of k o))
+pub told : (k : Make) (o : OptionsInForce) → AreReadable k o (readable_options (descriptors_in_force k o))
 told = readable_laws.told
 
-pub few : (k : Make) (o : OptionsInForce) → length (readable_options (descriptors_of k o)) ≤ 32
+pub few : (k : Make) (o : OptionsInForce) → length (readable_options (descriptors_in_force k o)) ≤ 32
 few = readable_laws.few

@@ -5,7 +5,7 @@ use Rattle.option_desc.specs.declared.value.Value.{Value}
 use Rattle.option_desc.specs.declared.descriptor.Descriptor.{Descriptor}
 use Rattle.sane_fixed.specs.declared.params.Params.{Params}
 use Rattle.system_model.specs.AbstractMessages.{Status, Answer, RequestedSetting, Challenge, AbstractRequest, Init, GetDevices, Open, Authorize, Describe, Get, Set, Parameters, Start, AbstractReply, Greeted, Opened, Challenged, Got, Gave, Listed, Described, Shaped, Begun, NoDocs, Inval, IoError, AccessDenied, Busy, Refused}
-use Rattle.system_model.specs.Devices.{Make, OptionsInForce, Page, IsAllowed, AcceptedSet, descriptors_of, readable_options, has_readable_value, readable_value, resolve_setting, accept_value, picture_frames, accepts}
+use Rattle.system_model.specs.Devices.{Make, OptionsInForce, Page, AreOptionsAllowed, AbstractAcceptedSet, descriptors_in_force, readable_options, has_readable_value, readable_value, resolve_setting, accept_value, picture_frames, accepts}
 use Rattle.system_model.specs.Client.{AbstractJob, Task, List_, Show, SetOnly, Scan, Batch, ClientView, Running, Ended, AbstractProgress, Greeting, Listing, Opening, Allowing, Describing, Putting, Getting, Starting, Shaping, Imaging, request_awaited, progress_after_init, stage_after_settings, asks_setting, stage_of_next_setting, stage_after_put, next_value}
 use Rattle.system_model.specs.ClientReplies.{hear_at, begins_frame, start_refused}
 use Rattle.system_model.specs.AbstractDevices.{AbstractDevice, DeviceInvariant, ScanPhase, Resting, is_resting}
@@ -22,7 +22,7 @@ weigh_is : (fs : List Frame) → frames_cost fs ≡ 6 * payload_total fs + 10485
 weigh_is [] = refl
 weigh_is (f ∷ fs) = let h = weigh_is fs in omega arith
 
-pub weighs : (k : Make) (o : OptionsInForce) (page : Page) → IsAllowed k o → frames_cost (picture_frames k o page) ≤ page_cost
+pub weighs : (k : Make) (o : OptionsInForce) (page : Page) → AreOptionsAllowed k o → frames_cost (picture_frames k o page) ≤ page_cost
 weighs k o page y = let h = small k o page y in let a = h.0 in let b = h.1 in let w = weigh_is (picture_frames k o page) in omega arith
 
 -- where v is told, and a client that waits at g hears it, so much is left
@@ -110,8 +110,8 @@ allow_low i k m dev c challenge job n t e true l r z = take_listed_low i k m dev
 allow_low i k m dev c challenge job n t e false l r z = told m (Allowing challenge) job n t e _ _ (Refused AccessDenied) r _ z (omega arith)
 
 -- A SETTING
-reply_low : (k : Make) (o : OptionsInForce) (m : ClientView) (dev : AbstractDevice) (c : TransferState) (x : ℕ) (value : Value) (requested : RequestedSetting) (left : List RequestedSetting) (job : AbstractJob) (n t : ℕ) (e : Option Status) (put : Option AcceptedSet) →
-    m.known ≡ descriptors_of k o → dev.phase ≡ Resting → Lowers m (Putting x value requested left) job n t e (put_reply dev c put) (progress_variant (Putting x value requested left) n t dev.phase c e)
+reply_low : (k : Make) (o : OptionsInForce) (m : ClientView) (dev : AbstractDevice) (c : TransferState) (x : ℕ) (value : Value) (requested : RequestedSetting) (left : List RequestedSetting) (job : AbstractJob) (n t : ℕ) (e : Option Status) (put : Option AbstractAcceptedSet) →
+    m.known ≡ descriptors_in_force k o → dev.phase ≡ Resting → Lowers m (Putting x value requested left) job n t e (put_reply dev c put) (progress_variant (Putting x value requested left) n t dev.phase c e)
 reply_low k o m dev c x value requested left job n t e None d p r z = told m (Putting x value requested left) job n t e _ _ (Refused Inval) r _ z (omega arith)
 reply_low k o m dev c x value requested left job n t e (Some put) d p r z =
     let f : length (readable_options m.known) ≤ 32 = subst (λ ds. length (readable_options ds) ≤ 32) (sym d) (few k o) in
@@ -123,7 +123,7 @@ page_low : (k : Make) (m : ClientView) (dev : AbstractDevice) (c : TransferState
 page_low k m dev c job n t page [] w r z = let q = refused_low Inval m.frames m.pages m n t dev.phase c None in told m Starting job n t None _ _ (Refused Inval) r _ z (omega arith)
 page_low k m dev c job n t page (f ∷ more) w r z = told m Starting job n t None _ _ (Begun _) r _ z (omega arith)
 
-tray_low : (k : Make) (m : ClientView) (dev : AbstractDevice) (c : TransferState) (again : Bool) (job : AbstractJob) (n t : ℕ) (tray : List Page) → IsAllowed k dev.options → Lowers m Starting job n t None (start_page k dev c again tray) (page_cost * suc t)
+tray_low : (k : Make) (m : ClientView) (dev : AbstractDevice) (c : TransferState) (again : Bool) (job : AbstractJob) (n t : ℕ) (tray : List Page) → AreOptionsAllowed k dev.options → Lowers m Starting job n t None (start_page k dev c again tray) (page_cost * suc t)
 tray_low k m dev c again job n t [] y r z = let q = refused_low NoDocs m.frames m.pages m n t dev.phase c None in told m Starting job n t None _ _ (Refused NoDocs) r _ z (omega arith)
 tray_low k m dev c again job n t (page ∷ tray) y r z = page_low k m dev c job n t page (picture_frames k dev.options page) (weighs k dev.options page y) r z
 
@@ -133,7 +133,7 @@ pass_low k m dev c job n t f more r z = told m Starting job n t None _ _ (Begun 
 fail_low : (m : ClientView) (ph : ScanPhase) (c : TransferState) (job : AbstractJob) (n t : ℕ) → 2 * exchange_cost + stage_variant (hear_at Starting job m (Refused IoError)).stage n t ph c None ≤ 2 * exchange_cost
 fail_low m ph c job n t = let q = refused_low IoError m.frames m.pages m n t ph c None in omega arith
 
-start_low : (i : ℕ) (k : Make) (b : SessionView) (m : ClientView) (dev : AbstractDevice) (again : Bool) (n t : ℕ) (fault : Option FailureCounts) → IsAllowed k dev.options → InSync i k b m dev Starting →
+start_low : (i : ℕ) (k : Make) (b : SessionView) (m : ClientView) (dev : AbstractDevice) (again : Bool) (n t : ℕ) (fault : Option FailureCounts) → AreOptionsAllowed k dev.options → InSync i k b m dev Starting →
     Lowers m Starting b.job n t None (start_or_fail k dev b.transfer again fault) (start_variant dev.phase t)
 start_low i k b m dev again n t (Some f) y (inl h) r z =
     rw h.held.phase_is (told m Starting b.job n t None Resting b.transfer (Refused IoError) r _ z (let q = fail_low m Resting b.transfer b.job n t in omega arith))
@@ -170,8 +170,8 @@ answers_low i k b m dev x (Allowing c) q t y e h =
 answers_low i k b m dev x (Describing left) q t y e h =
     let d : q ≡ Describe = cc in
     rw d (as_lower m (Describing left) b.job _ t b.ending _ _ _ (held_answer i k dev b.transfer b.awaited x Describe h.1.still.awaited h.1.held.mine)
-    (λ r z. told m (Describing left) b.job _ t b.ending dev.phase b.transfer (Described (descriptors_of k dev.options)) r _ z
-    (let a = next_low b.job.task (descriptors_of k dev.options) left (length b.job.settings) t dev.phase b.transfer b.ending (few k dev.options) h.1.held.phase_is in omega arith)))
+    (λ r z. told m (Describing left) b.job _ t b.ending dev.phase b.transfer (Described (descriptors_in_force k dev.options)) r _ z
+    (let a = next_low b.job.task (descriptors_in_force k dev.options) left (length b.job.settings) t dev.phase b.transfer b.ending (few k dev.options) h.1.held.phase_is in omega arith)))
 answers_low i k b m dev x (Putting o value requested left) q t y e h =
     let d : q ≡ Set o value = cc in
     let r : set_reply k dev b.transfer o value (is_resting dev.phase) ≡ put_reply dev b.transfer (accept_value k dev.options o value) = ap (λ (y : ScanPhase). set_reply k dev b.transfer o value (is_resting y)) h.settles.held.phase_is in

@@ -4,7 +4,7 @@ use Rattle.std.proofs.lemmas.Bool.{eqb-false}
 use Rattle.page_picture.specs.Shows.{Frame}
 use Rattle.option_desc.specs.declared.value.Value.{Value}
 use Rattle.system_model.specs.AbstractMessages.{same_text, Challenge, AbstractRequest, Init, GetDevices, Open, Authorize, Describe, Get, Set, Parameters, Start, Cancel, Close, Exit, AbstractReply, Greeted, Listed, Described, Acked, Refused, Inval}
-use Rattle.system_model.specs.Devices.{Make, Page, AcceptedSet, has_readable_value, picture_frames, accept_value}
+use Rattle.system_model.specs.Devices.{Make, Page, AbstractAcceptedSet, has_readable_value, picture_frames, accept_value}
 use Rattle.system_model.specs.AbstractDevices.{AbstractDevice, ScanPhase, Resting, Between, Reading, is_resting, put_back, device_let_go, is_held_by}
 use Rattle.system_model.specs.Daemon.{TransferState, Quiet, Waiting, Streaming, Ending, Environment, FailureCounts, AnswerEffect, session_over_effect, hand_out_device, take_listed, open_listed, allow, get_reply, put_reply, set_reply, begin_page, begin_pass, start_page, start_at, start_or_fail, start_effect, serve, answer_if, answer_awaited}
 use Rattle.system_model.specs.SystemStates.{with_entry}
@@ -105,7 +105,7 @@ get_stays : (k : Make) (dev : AbstractDevice) (c : TransferState) (n : ℕ) (b :
 get_stays k dev c n true = (refl, refl)
 get_stays k dev c n false = (refl, refl)
 
-put_stays : (dev : AbstractDevice) (c : TransferState) (o : Option AcceptedSet) → Stays dev (put_reply dev c o)
+put_stays : (dev : AbstractDevice) (c : TransferState) (o : Option AbstractAcceptedSet) → Stays dev (put_reply dev c o)
 put_stays dev c None = (refl, refl)
 put_stays dev c (Some o) = (refl, refl)
 

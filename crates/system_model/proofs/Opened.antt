@@ -2,7 +2,7 @@
 use Rattle.std.proofs.Common.{◌≡◌, ◌∙◌, ◌≢◌, ℕ, [], ◌∷◌, Bool, true, false, Option, Some, None, refl, sym, subst, ap, inl, inr, eqb}
 use Rattle.std.proofs.lemmas.Bool.{eq-eqb, ne_eqb}
 use Rattle.system_model.specs.AbstractMessages.{same_text, Status, Busy, Inval, Answer, Refused, Challenge, AbstractRequest, Opened, Challenged}
-use Rattle.system_model.specs.Devices.{Make, defaults}
+use Rattle.system_model.specs.Devices.{Make, default_options}
 use Rattle.system_model.specs.AbstractInForce.{abstract_force}
 use Rattle.system_model.specs.Client.{List_, ClientView, Running, with_ending, AbstractProgress, Opening, Allowing, Describing}
 use Rattle.system_model.specs.ClientReplies.{hear_at}
@@ -39,11 +39,11 @@ take_right i k b m dev a g None e n o p t = (
     Opened,
     refl,
     right_at i k _ _ _ _ t.0 (
-      defaults k,
+      default_options k,
       record {
         held = record { mine = refl; options_are = refl; phase_is = refl };
         still = record { transfer = n.transfer; flight = n.flight; ending = n.ending; awaited = refl };
-        so_far = rw n.reports (sym (onto_nil (abstract_force b.job.settings k (defaults k))));
+        so_far = rw n.reports (sym (onto_nil (abstract_force b.job.settings k (default_options k))));
         permitted = p;
         opens = o;
         started = rw n.started refl;

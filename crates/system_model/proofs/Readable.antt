@@ -6,40 +6,25 @@ use Rattle.page_picture.specs.declared.scene.DeviceKind.{DeviceKind}
 use Rattle.page_picture.specs.declared.scene.DeviceKind.TheVariants as device
 use Rattle.scan_frames.specs.declared.setup.Setup.{Setup}
 use Rattle.device_api.specs.declared.scan_option.ScanOption.{ScanOption}
-use Rattle.device_api.specs.declared.scan_option.ScanOption.TheVariants.{NumOptions, Mode, Depth, Resolution, TlX, TlY, BrX, BrY, GammaTable, ThreePassOrder, PplLoss, ReadLimitSize, ReadReturnValue, HandScanner, RedGammaTable, GreenGammaTable, BlueGammaTable}
-use Rattle.device_api.specs.Options.{options_of, option_at, option_caps, has_cap, is_active, descriptor_of}
+use Rattle.device_api.proofs.OptionForms.{active_is, active_is_read}
+use Rattle.device_api.specs.Options.{options_of, option_at, option_caps, is_active, descriptor_of}
+use Rattle.sane_fixed.specs.Cap.{has_cap}
 use Rattle.device_api.specs.Values.{option_got, get_result, option_passing}
-use Rattle.system_model.specs.Devices.{Make, OptionsInForce, descriptors_of, is_readable, readable_from, readable_options, is_answered_value, has_readable_value}
+use Rattle.system_model.specs.Devices.{Make, OptionsInForce, descriptors_in_force, is_readable, is_single, readable_from, readable_options, is_answered_value, has_readable_value}
 use Rattle.system_model.specs.AbstractInForce.{AreReadable}
 
 at_front : (front os : List ScanOption) (o : ScanOption) → slice_get (front ++ o ∷ os) (length front) ≡ Some o
 at_front [] os o = refl
 at_front (x ∷ front) os o = at_front front os o
 
--- an inactive option has the bit INACTIVE
-inactive : (b c : Bool) → (has_cap (5 + (if b then 0 else 32)) 4 && (not (has_cap (5 + (if b then 0 else 32)) 32) && c)) ≡ true → (b && has_cap 5 4) ≡ true
-inactive true c e = refl
-inactive false c e = cc
+and_middle : (a b c : Bool) → (a && (b && c)) ≡ true → b ≡ true
+and_middle true true c e = refl
+and_middle true false c e = absurd (let clash : false ≡ true = e in cc)
+and_middle false b c e = absurd (let clash : false ≡ true = e in cc)
 
 may_be_got : (s : Setup) (o : ScanOption) → is_readable (descriptor_of s o) ≡ true → (is_active s o && has_cap (option_caps o) 4) ≡ true
-unfolding descriptor_of
-may_be_got s NumOptions e = refl
-may_be_got s Mode e = refl
-may_be_got s Depth e = refl
-may_be_got s Resolution e = refl
-may_be_got s TlX e = refl
-may_be_got s TlY e = refl
-may_be_got s BrX e = refl
-may_be_got s BrY e = refl
-may_be_got s GammaTable e = inactive (is_active s GammaTable) false e
-may_be_got s ThreePassOrder e = inactive (is_active s ThreePassOrder) true e
-may_be_got s PplLoss e = refl
-may_be_got s ReadLimitSize e = refl
-may_be_got s ReadReturnValue e = refl
-may_be_got s HandScanner e = refl
-may_be_got s RedGammaTable e = inactive (is_active s RedGammaTable) false e
-may_be_got s GreenGammaTable e = inactive (is_active s GreenGammaTable) false e
-may_be_got s BlueGammaTable e = inactive (is_active s BlueGammaTable) false e
+may_be_got s o e =
+    active_is_read s o (sym (active_is s o) ∙ and_middle (has_cap (descriptor_of s o).caps.0 4) (not (has_cap (descriptor_of s o).caps.0 32)) (is_single (descriptor_of s o).kind (descriptor_of s o).size) e)
 
 passes : (s : Setup) (o : ScanOption) (oo : Option ScanOption) (b : Bool) → oo ≡ Some o → (is_active s o && has_cap (option_caps o) 4) ≡ b → b ≡ true → is_answered_value (get_result s (option_passing (λ x. is_active s x && has_cap (option_caps x) 4) oo)) ≡ true
 passes s o None b e f t = cc
@@ -68,8 +53,8 @@ told_from k s front (o ∷ os) e =
     told_if k s (length front) o (readable_from (length front + 1) (map (descriptor_of s) os)) (is_readable (descriptor_of s o)) refl (at_place s front os o e) rest
 
 -- what a client asks the value of is told
-pub told : (k : Make) (o : OptionsInForce) → AreReadable k o (readable_options (descriptors_of k o))
-unfolding descriptors_of readable_options
+pub told : (k : Make) (o : OptionsInForce) → AreReadable k o (readable_options (descriptors_in_force k o))
+unfolding descriptors_in_force readable_options
 told k o = told_from k o [] (options_of o.scene.kind) refl
 
 few_if : (n : ℕ) (rest : List ℕ) (b : Bool) (most : ℕ) → length rest ≤ most → length (if b then n ∷ rest else rest) ≤ suc most
@@ -87,8 +72,8 @@ few_options s device.ThreePass = omega arith
 few_options s device.Feeder = omega arith
 
 -- and there are few such options
-pub few : (k : Make) (o : OptionsInForce) → length (readable_options (descriptors_of k o)) ≤ 32
-unfolding descriptors_of readable_options
+pub few : (k : Make) (o : OptionsInForce) → length (readable_options (descriptors_in_force k o)) ≤ 32
+unfolding descriptors_in_force readable_options
 few k o =
     let a = few_from 0 (map (descriptor_of o) (options_of o.scene.kind)) in
     let b = few_options o o.scene.kind in

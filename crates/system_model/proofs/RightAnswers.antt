@@ -3,7 +3,7 @@ use Rattle.std.proofs.Common.{◌≡◌, ◌∙◌, ◌≤◌, ℕ, List, [], �
 use Rattle.std.proofs.lemmas.List.{append-nil}
 use Rattle.page_picture.specs.Shows.{Frame}
 use Rattle.system_model.specs.AbstractMessages.{NoDocs, Answer, AbstractRequest, Init, GetDevices, Open, Authorize, Describe, Get, Set, Parameters, Start, Greeted, Listed, Shaped, Got, Described, Begun}
-use Rattle.system_model.specs.Devices.{Make, Page, IsAllowed, IsShaped, descriptors_of, has_readable_value, readable_value, accept_value, order_of, picture_frames, accepts}
+use Rattle.system_model.specs.Devices.{Make, Page, AreOptionsAllowed, IsPageShaped, descriptors_in_force, has_readable_value, readable_value, accept_value, order_of, picture_frames, accepts}
 use Rattle.system_model.specs.Client.{Task, List_, Show, SetOnly, Scan, Batch, further_pages, ClientView, Done, with_ending, AbstractProgress, Greeting, Listing, Opening, Allowing, Describing, Putting, Getting, Starting, Shaping, Imaging, request_awaited, progress_after_init}
 use Rattle.system_model.specs.ClientReplies.{hear_at, begins_frame, start_refused}
 use Rattle.system_model.specs.AbstractDevices.{AbstractDevice, DeviceInvariant, AreShaped, ScanPhase, is_resting, Begin}
@@ -17,7 +17,7 @@ use Rattle.system_model.proofs.Settled.{Answers, done_at, right_at, next_right, 
 use Rattle.system_model.proofs.Opened.{held_answer, free_answer, as_served, open_right, allow_right, same_same}
 
 -- START
-begin_right : (i : ℕ) (k : Make) (b : SessionView) (m : ClientView) (dev : AbstractDevice) (page : Page) (fs : List Frame) (h : Ready i k b m dev) → IsAllowed k dev.options → IsShaped page → picture_frames k dev.options page ≡ fs →
+begin_right : (i : ℕ) (k : Make) (b : SessionView) (m : ClientView) (dev : AbstractDevice) (page : Page) (fs : List Frame) (h : Ready i k b m dev) → AreOptionsAllowed k dev.options → IsPageShaped page → picture_frames k dev.options page ≡ fs →
     Answers i k b m Starting (begin_page k dev b.transfer page fs)
 begin_right i k b m dev page [] h a s e = (refl, (_, refl, inl (inl (refl, refl))))
 begin_right i k b m dev page (f ∷ more) h a s e = (
@@ -80,7 +80,7 @@ empty_right i k b m dev SetOnly (s ∷ starts) (page ∷ pages) h t e p = absurd
 empty_right i k b m dev task [] (page ∷ pages) h t e p = absurd (rw (e, p) at h.pictures)
 empty_right i k b m dev task (s ∷ starts) [] h t e p = absurd (rw (e, p) at h.pictures)
 
-page_right : (i : ℕ) (k : Make) (b : SessionView) (m : ClientView) (dev : AbstractDevice) (tray : List Page) (h : Ready i k b m dev) → IsAllowed k dev.options → AreShaped tray → Answers i k b m Starting (start_page k dev b.transfer (is_some_begun b.started) tray)
+page_right : (i : ℕ) (k : Make) (b : SessionView) (m : ClientView) (dev : AbstractDevice) (tray : List Page) (h : Ready i k b m dev) → AreOptionsAllowed k dev.options → AreShaped tray → Answers i k b m Starting (start_page k dev b.transfer (is_some_begun b.started) tray)
 page_right i k b m dev [] h a s = empty_right i k b m dev b.job.task b.started m.pages h refl refl refl
 page_right i k b m dev (page ∷ tray) h a s = begin_right i k b m dev page (picture_frames k dev.options page) h a s.0 refl
 
@@ -227,9 +227,9 @@ answers_right i k b m dev x (Describing left) q y xg xa xs e h =
     rw d (as_served i k b m (Describing left) _ _ (held_answer i k dev b.transfer b.awaited x Describe h.1.still.awaited h.1.held.mine) (
       refl,
       (
-        Described (descriptors_of k dev.options),
+        Described (descriptors_in_force k dev.options),
         refl,
-        next_right i k (session_after_answer b (serve i k dev b.transfer x Describe)) (hear_at (Describing left) b.job m (Described (descriptors_of k dev.options))) dev left h.0 (rw h.1.held.options_are refl)
+        next_right i k (session_after_answer b (serve i k dev b.transfer x Describe)) (hear_at (Describing left) b.job m (Described (descriptors_in_force k dev.options))) dev left h.0 (rw h.1.held.options_are refl)
             (record {
               held = h.1.held;
               still = record { transfer = h.1.still.transfer; flight = h.1.still.flight; ending = h.1.still.ending; awaited = refl };

@@ -16,7 +16,7 @@ use Rattle.device_api.specs.Values.{option_set, setup_after}
 use Rattle.device_api.proofs.TableLaws.{set_places}
 use Rattle.scan_laws.specs.SetAndJoin as rules
 use Rattle.system_model.specs.AbstractMessages.{RequestedSetting, Report}
-use Rattle.system_model.specs.Devices.{Make, abstract_accepted_set, defaults, descriptors_of, resolve_setting, accept_value}
+use Rattle.system_model.specs.Devices.{Make, abstract_accepted_set, default_options, descriptors_in_force, resolve_setting, accept_value}
 use Rattle.system_model.specs.AbstractInForce.{SettingsResult, abstract_force, with_reports_before, put_then, setting_then, report_of}
 use Rattle.system_model.specs.Settings.{pair_of, SettingsMeanTheSame}
 
@@ -95,8 +95,8 @@ number_same k s requested ws None h e = refl
 number_same k s requested ws (Some n) h e = desc_same k s requested ws n (slice_get (table.descriptors_of s) n) h e refl
 
 resolve_is : (k : Make) (s : Setup) (requested : RequestedSetting) →
-    resolve_setting (descriptors_of k s) requested ≡ (number_named requested.name (table.descriptors_of s) >>= (λ n. slice_get (table.descriptors_of s) n >>= (λ desc. read_value desc requested.text >>= (λ asked. Some (n, asked)))))
-unfolding resolve_setting descriptors_of
+    resolve_setting (descriptors_in_force k s) requested ≡ (number_named requested.name (table.descriptors_of s) >>= (λ n. slice_get (table.descriptors_of s) n >>= (λ desc. read_value desc requested.text >>= (λ asked. Some (n, asked)))))
+unfolding resolve_setting descriptors_in_force
 resolve_is k s requested = refl
 
 all_same : (k : Make) (ws : List RequestedSetting) (s : Setup) → options_in (abstract_force ws k s) ≡ setup_in (devices.force s (map pair_of ws))
@@ -107,5 +107,5 @@ all_same k (requested ∷ ws) s =
     ∙ sym (ap (λ (p : Option Placement). setup_in (goes_on (map pair_of ws) p)) (placed_is s requested))
 
 pub settings_same : SettingsMeanTheSame
-unfolding defaults
-settings_same k settings = all_same k settings (defaults k)
+unfolding default_options
+settings_same k settings = all_same k settings (default_options k)

@@ -3,7 +3,7 @@ use Rattle.std.proofs.Common.{◌≡◌, ◌∙◌, ℕ, List, [], ◌∷◌, �
 use Rattle.std.proofs.lemmas.List.{append-nil}
 use Rattle.option_desc.specs.declared.value.Value.{Value}
 use Rattle.system_model.specs.AbstractMessages.{RequestedSetting, Report, Gave, Got}
-use Rattle.system_model.specs.Devices.{Make, OptionsInForce, AcceptedSet, descriptors_of, readable_options, readable_value, resolve_setting, accept_value}
+use Rattle.system_model.specs.Devices.{Make, OptionsInForce, AbstractAcceptedSet, descriptors_in_force, readable_options, readable_value, resolve_setting, accept_value}
 use Rattle.system_model.specs.AbstractInForce.{SettingsResult, abstract_force, with_reports_before, report_of, values_of}
 use Rattle.system_model.specs.Client.{Task, List_, Show, SetOnly, Scan, Batch, ClientView, AbstractProgress, Putting, Getting, stage_after_settings, asks_setting, stage_of_next_setting, stage_after_put, next_value}
 use Rattle.system_model.specs.ClientReplies.{hear_at}
@@ -36,7 +36,7 @@ right_at i k b dev m n e h = subst (λ (x : ClientView). IsRight i k b x dev x.s
 
 -- WHERE THE SETTINGS ARE IN FORCE
 value_next : (i : ℕ) (k : Make) (b : SessionView) (m : ClientView) (dev : AbstractDevice) (ns : List ℕ) (o : OptionsInForce) (h : SettingsInForce i k b m dev [] o) → b.job.task ≡ Show →
-    m.known ≡ descriptors_of k o → readable_options (descriptors_of k o) ≡ ns → AllInForce k b.job b.sent m.reports o → IsRight i k b m dev (next_value ns)
+    m.known ≡ descriptors_in_force k o → readable_options (descriptors_in_force k o) ≡ ns → AllInForce k b.job b.sent m.reports o → IsRight i k b m dev (next_value ns)
 value_next i k b m dev [] o h t d e s =
     done_at k b m Show t (record { options = o; settled = s; known = d; values = rw (h.values, e) refl })
 value_next i k b m dev (n ∷ ns) o h t d e s =
@@ -52,12 +52,12 @@ value_next i k b m dev (n ∷ ns) o h t d e s =
       few = rw e at (few k o);
     }
 
-settled : (i : ℕ) (k : Make) (b : SessionView) (m : ClientView) (dev : AbstractDevice) (o : OptionsInForce) (task : Task) → b.job.task ≡ task → m.known ≡ descriptors_of k o → SettingsInForce i k b m dev [] o →
+settled : (i : ℕ) (k : Make) (b : SessionView) (m : ClientView) (dev : AbstractDevice) (o : OptionsInForce) (task : Task) → b.job.task ≡ task → m.known ≡ descriptors_in_force k o → SettingsInForce i k b m dev [] o →
     IsRight i k b m dev (stage_after_settings task m.known)
 settled i k b m dev o List_ e d h = absurd (h.opens e)
 settled i k b m dev o Show e d h =
     subst (λ ds. IsRight i k b m dev (next_value (readable_options ds))) (sym d)
-    (value_next i k b m dev (readable_options (descriptors_of k o)) o h e d refl (record { forced = h.so_far ∙ rw (append-nil m.reports) refl; permitted = h.permitted }))
+    (value_next i k b m dev (readable_options (descriptors_in_force k o)) o h e d refl (record { forced = h.so_far ∙ rw (append-nil m.reports) refl; permitted = h.permitted }))
 settled i k b m dev o SetOnly e d h = done_at k b m SetOnly e (o, record { forced = h.so_far ∙ rw (append-nil m.reports) refl; permitted = h.permitted })
 settled i k b m dev o Scan e d h =
     inl (record {
@@ -83,32 +83,32 @@ settled i k b m dev o (Batch n) e d h =
     })
 
 asks_right : (i : ℕ) (k : Make) (b : SessionView) (m : ClientView) (dev : AbstractDevice) (requested : RequestedSetting) (left : List RequestedSetting) (o : OptionsInForce) (r : Option (ℕ × Value)) →
-    m.known ≡ descriptors_of k o → resolve_setting m.known requested ≡ r → SettingsInForce i k b m dev (requested ∷ left) o → IsRight i k b m dev (asks_setting requested left r)
+    m.known ≡ descriptors_in_force k o → resolve_setting m.known requested ≡ r → SettingsInForce i k b m dev (requested ∷ left) o → IsRight i k b m dev (asks_setting requested left r)
 asks_right i k b m dev requested left o None d e h =
-    let f : resolve_setting (descriptors_of k o) requested ≡ None = cc in
+    let f : resolve_setting (descriptors_in_force k o) requested ≡ None = cc in
     inr (h.so_far ∙ rw f refl, (refl, inl refl))
 asks_right i k b m dev requested left o (Some (n, value)) d e h = record { options = o; settles = h; known = d; resolved = e }
 
 -- the client goes on in its settings
 pub next_right : (i : ℕ) (k : Make) (b : SessionView) (m : ClientView) (dev : AbstractDevice) (left : List RequestedSetting) (o : OptionsInForce) →
-    m.known ≡ descriptors_of k o → SettingsInForce i k b m dev left o → IsRight i k b m dev (stage_of_next_setting b.job.task m.known left)
+    m.known ≡ descriptors_in_force k o → SettingsInForce i k b m dev left o → IsRight i k b m dev (stage_of_next_setting b.job.task m.known left)
 next_right i k b m dev [] o d h = settled i k b m dev o b.job.task refl d h
 next_right i k b m dev (requested ∷ left) o d h = asks_right i k b m dev requested left o (resolve_setting m.known requested) d refl h
 
 -- SETTINGS AND VALUES
 put_goes : (i : ℕ) (k : Make) (b : SessionView) (m : ClientView) (dev : AbstractDevice) (left : List RequestedSetting) (o : OptionsInForce) (x : Bool) →
-    (x ≡ false → m.known ≡ descriptors_of k o) → SettingsInForce i k b m dev left o → IsRight i k b m dev (stage_after_put b.job.task m.known left x)
+    (x ≡ false → m.known ≡ descriptors_in_force k o) → SettingsInForce i k b m dev left o → IsRight i k b m dev (stage_after_put b.job.task m.known left x)
 put_goes i k b m dev left o true d h = (o, h)
 put_goes i k b m dev left o false d h = next_right i k b m dev left o (d refl) h
 
-pub put_right : (i : ℕ) (k : Make) (b : SessionView) (m : ClientView) (dev : AbstractDevice) (n : ℕ) (value : Value) (requested : RequestedSetting) (left : List RequestedSetting) (o : OptionsInForce) (put : Option AcceptedSet) →
-    SettingsInForce i k b m dev (requested ∷ left) o → m.known ≡ descriptors_of k o → resolve_setting m.known requested ≡ Some (n, value) → accept_value k o n value ≡ put →
+pub put_right : (i : ℕ) (k : Make) (b : SessionView) (m : ClientView) (dev : AbstractDevice) (n : ℕ) (value : Value) (requested : RequestedSetting) (left : List RequestedSetting) (o : OptionsInForce) (put : Option AbstractAcceptedSet) →
+    SettingsInForce i k b m dev (requested ∷ left) o → m.known ≡ descriptors_in_force k o → resolve_setting m.known requested ≡ Some (n, value) → accept_value k o n value ≡ put →
     Answers i k b m (Putting n value requested left) (put_reply dev b.transfer put)
 put_right i k b m dev n value requested left o None h d r e =
-    let f : resolve_setting (descriptors_of k o) requested ≡ Some (n, value) = cc in
+    let f : resolve_setting (descriptors_in_force k o) requested ≡ Some (n, value) = cc in
     (refl, (_, refl, inr (h.so_far ∙ rw (f, e) refl, (refl, inr refl))))
 put_right i k b m dev n value requested left o (Some put) h d r e =
-    let f : resolve_setting (descriptors_of k o) requested ≡ Some (n, value) = cc in (
+    let f : resolve_setting (descriptors_in_force k o) requested ≡ Some (n, value) = cc in (
       refl,
       (
         Gave put.given put.info,

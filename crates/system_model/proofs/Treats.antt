@@ -4,7 +4,7 @@ use Rattle.page_picture.specs.Shows.{Frame}
 use Rattle.option_desc.specs.declared.value.Value.{Value}
 use Rattle.system_model.specs.AbstractMessages.{same_text, Challenge, AbstractRequest, Init, GetDevices, Open, Authorize, Describe, Get, Set, Parameters, Start, Cancel, Close, Exit}
 use Rattle.page_picture.specs.declared.scene.DeviceKind.TheVariants.{Flatbed, Hand, ThreePass, Feeder}
-use Rattle.system_model.specs.Devices.{Make, Model, OptionsInForce, Page, AcceptedSet, IsAllowed, defaults, accept_value, has_readable_value, picture_frames}
+use Rattle.system_model.specs.Devices.{Make, Model, OptionsInForce, Page, AbstractAcceptedSet, AreOptionsAllowed, default_options, accept_value, has_readable_value, picture_frames}
 use Rattle.system_model.specs.AbstractDevices.{AbstractDevice, ScanPhase, Resting, Between, Reading, DeviceInvariant, AreShaped, IsStocked, is_held_by, is_resting, put_down, put_back, device_let_go, after_start, read_on, ended_phase}
 use Rattle.system_model.specs.Daemon.{TransferState, Quiet, Waiting, Streaming, Ending, Environment, FailureCounts, answer, answer_if, answer_awaited, serve, refuse, hand_out_device, take_listed, open_listed, allow, get_reply, put_reply, set_reply, begin_page, begin_pass, start_page, start_at, start_or_fail, start_effect}
 use Rattle.system_model.specs.SystemStates.{JobState}
@@ -20,13 +20,13 @@ pub record Uses (i : ℕ) (k : Make) (dev new : AbstractDevice) : Type 0 where
   pub tray : List Page
   pub phase : ScanPhase
   pub is : new ≡ record dev { options = options; tray = tray; phase = phase }
-  pub allowed : IsAllowed k dev.options → IsAllowed k options
+  pub allowed : AreOptionsAllowed k dev.options → AreOptionsAllowed k options
   pub stocked : IsStocked k.model dev.tray → IsStocked k.model tray
   pub shaped : AreShaped dev.tray → AreShaped tray
 
 abbrev pub Treats : ℕ → Make → AbstractDevice → AbstractDevice → Type 0
 Treats i k dev new =
-    (new ≡ dev) ⊎ (((dev.holder ≡ None) × (new ≡ record dev { holder = Some i; options = defaults k; phase = Resting })) ⊎ (Uses i k dev new ⊎ ((dev.holder ≡ Some i) × (new ≡ put_back dev))))
+    (new ≡ dev) ⊎ (((dev.holder ≡ None) × (new ≡ record dev { holder = Some i; options = default_options k; phase = Resting })) ⊎ (Uses i k dev new ⊎ ((dev.holder ≡ Some i) × (new ≡ put_back dev))))
 
 alone : (i : ℕ) (k : Make) (dev : AbstractDevice) → Treats i k dev dev
 alone i k dev = inl refl
@@ -74,7 +74,7 @@ get_treats : (i : ℕ) (k : Make) (dev : AbstractDevice) (c : TransferState) (n 
 get_treats i k dev c n true = inl refl
 get_treats i k dev c n false = inl refl
 
-put_treats : (i : ℕ) (k : Make) (dev : AbstractDevice) (c : TransferState) (n : ℕ) (v : Value) (o : Option AcceptedSet) → dev.holder ≡ Some i → accept_value k dev.options n v ≡ o → Treats i k dev (put_reply dev c o).device
+put_treats : (i : ℕ) (k : Make) (dev : AbstractDevice) (c : TransferState) (n : ℕ) (v : Value) (o : Option AbstractAcceptedSet) → dev.holder ≡ Some i → accept_value k dev.options n v ≡ o → Treats i k dev (put_reply dev c o).device
 put_treats i k dev c n v None h e = inl refl
 put_treats i k dev c n v (Some o) h e = inr (inr (inl (record { mine = h; options = o.options; tray = dev.tray; phase = dev.phase; is = refl; allowed = λ a. put_allowed k dev.options n v o a e; stocked = λ s. s; shaped = λ s. s })))
 

@@ -5,7 +5,7 @@ use Rattle.std.proofs.lemmas.List.{append-nil}
 use Rattle.page_picture.specs.Shows.{Frame}
 use Rattle.sane_fixed.specs.declared.params.Params.{Params}
 use Rattle.system_model.specs.AbstractMessages.{Status, Eof, IoError, Lost, NoMem, Memory, GivenUp, Cancelled, Challenge, AbstractRequest, AbstractReply, Why}
-use Rattle.system_model.specs.Devices.{Make, overflows, fills}
+use Rattle.system_model.specs.Devices.{Make, frame_overflows, frame_fills}
 use Rattle.system_model.specs.Client.{AbstractJob, Task, further_pages, ClientView, JobStage, Idle, Running, Done, Ended, AbstractProgress, Greeting, Imaging, request_awaited, requests_sent}
 use Rattle.system_model.specs.ClientReplies.{hear_in, hear_at, client_after_bytes, reads_on, finish_in, end_frame, close_frame, close_page, after_page, stage_after_stop}
 use Rattle.system_model.specs.AbstractDevices.{AbstractDevice, DeviceInvariant, ScanPhase, Resting, Reading, phase_after_frame, read_on, ended_phase, put_down, without_first, without_prefix}
@@ -205,7 +205,7 @@ reads_low i k p dev bytes left params heard st e h =
     let q = reading p bytes left (Running (Imaging params heard)) in
     let after = quiet q.client.stage q dev a.served a.due in
     let before = quiet (Running (Imaging params heard)) p dev a.served a.due in
-    let low = on_low (overflows params (heard ++ bytes)) params (heard ++ bytes) (length p.session.job.settings) (later_pages p.session.job p.client) dev.phase p.session.transfer p.session.ending in
+    let low = on_low (frame_overflows params (heard ++ bytes)) params (heard ++ bytes) (length p.session.job.settings) (later_pages p.session.job p.client) dev.phase p.session.transfer p.session.ending in
     subst (λ (z : JobStage). control_variant_of (reading p bytes left z) dev + 0 ≤ control_variant_at z p dev) (sym e) (omega arith)
 
 -- the number of a stage with these pages, where the end record was taken
@@ -230,14 +230,14 @@ ends_low i k b m dev params heard status n z f e h (inr (inl c)) =
     let s : status ≡ Eof = cc (e, c.ending) in
     let w : heard ≡ h.frame.payload = sym (append-nil heard) ∙ (rw (f, c.nothing) at h.payload) in
     let l : params.last_frame ≡ no_frame_left h.more = ap (λ (x : Params). x.last_frame) h.params_are ∙ h.continues.proper.4 in
-    let y : fills params heard ≡ true = rw (h.params_are, w) h.continues.proper.2 in
+    let y : frame_fills params heard ≡ true = rw (h.params_are, w) h.continues.proper.2 in
     subst (λ (x : Status). after_end b.job.task (end_frame x b.job.task params heard m) n dev.phase z ≤ pages_variant dev.phase (further_pages b.job.task - length m.pages)) (sym s)
     (subst (λ (x : Bool). after_end b.job.task (close_frame x b.job.task params heard m) n dev.phase z ≤ pages_variant dev.phase (further_pages b.job.task - length m.pages)) (sym y)
     (subst (λ (x : ScanPhase). after_end b.job.task (close_frame true b.job.task params heard m) n x z ≤ pages_variant x (further_pages b.job.task - length m.pages)) (sym c.held.phase_is)
     (close_low b.job.task m (record { params = params; order = m.order; payload = heard }) h.frame h.more params.last_frame n z l)))
 ends_low i k b m dev params heard status n z f e h (inr (inr (inl c))) =
     let s : status ≡ Eof = cc (e, c.ending) in
-    let short : fills params heard ≡ false = rw (c.heard_none, h.params_are) h.continues.proper.3 in
+    let short : frame_fills params heard ≡ false = rw (c.heard_none, h.params_are) h.continues.proper.3 in
     rw (s, short) (omega arith)
 ends_low i k b m dev params heard status n z f e h (inr (inr (inr c))) =
     let s : status ≡ c.status = cc (e, c.ending) in

@@ -2,7 +2,7 @@
 use Rattle.std.specs.Prelude.{ℕ, ◌≡◌, ◌≤◌, List, [], ◌∷◌, ◌++◌, Bool, true, false, Option, Some, None, cond, eqb, ltb, length}
 use Rattle.page_picture.specs.Shows.{Frame}
 use Rattle.page_picture.specs.declared.scene.DeviceKind.TheVariants.{Flatbed, Hand, ThreePass, Feeder}
-use Rattle.system_model.specs.Devices.{Model, Make, OptionsInForce, Page, IsAllowed, IsShaped}
+use Rattle.system_model.specs.Devices.{Model, Make, OptionsInForce, Page, AreOptionsAllowed, IsPageShaped}
 
 -- what a device does: the passes still to come are part of it
 pub data ScanPhase : Type 0 where
@@ -66,12 +66,12 @@ IsStocked ThreePass tray = length tray ≡ 1
 
 abbrev pub AreShaped : List Page → Type 0
 AreShaped [] = Unit {0}
-AreShaped (page ∷ tray) = IsShaped page × AreShaped tray
+AreShaped (page ∷ tray) = IsPageShaped page × AreShaped tray
 
 -- a device is fit: it is at rest where nobody holds it, its options and pages are within their limits, and its tray is stocked
 pub record DeviceInvariant (make : Make) (dev : AbstractDevice) : Type 0 where
   pub laid_down : dev.holder ≡ None → dev.phase ≡ Resting
-  pub allowed : IsAllowed make dev.options
+  pub allowed : AreOptionsAllowed make dev.options
   pub stocked : IsStocked make.model dev.tray
   pub shaped : AreShaped dev.tray
 

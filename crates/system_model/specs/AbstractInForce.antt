@@ -1,14 +1,14 @@
--- The settings of a job in force: a fold over them from the defaults, and what it reports.
+-- The settings of a job in force: a fold over them from the default_options, and what it reports.
 use Rattle.std.specs.Prelude.{ℕ, ◌≡◌, ◌≢◌, ◌↔◌, List, [], ◌∷◌, ◌++◌, true, Option, Some, None}
 use Rattle.option_desc.specs.declared.value.Value.{Value}
 use Rattle.system_model.specs.AbstractMessages.{RequestedSetting, Report}
-use Rattle.system_model.specs.Devices.{Make, OptionsInForce, AcceptedSet, defaults, descriptors_of, resolve_setting, accept_value, IsNearest, has_readable_value, readable_value}
+use Rattle.system_model.specs.Devices.{Make, OptionsInForce, AbstractAcceptedSet, default_options, descriptors_in_force, resolve_setting, accept_value, IsNearest, has_readable_value, readable_value}
 
 pub record SettingsResult : Type 0 where
   pub options : OptionsInForce
   pub reports : List Report
 
-abbrev pub report_of : RequestedSetting → Value → AcceptedSet → Report
+abbrev pub report_of : RequestedSetting → Value → AbstractAcceptedSet → Report
 report_of requested asked put = record { setting = requested; asked = asked; given = put.given; info = put.info }
 
 -- with these reports in front
@@ -16,7 +16,7 @@ abbrev pub with_reports_before : List Report → Option SettingsResult → Optio
 with_reports_before reports None = None
 with_reports_before reports (Some f) = Some (record { options = f.options; reports = reports ++ f.reports })
 
-abbrev pub put_then : (OptionsInForce → Option SettingsResult) → RequestedSetting → Value → Option AcceptedSet → Option SettingsResult
+abbrev pub put_then : (OptionsInForce → Option SettingsResult) → RequestedSetting → Value → Option AbstractAcceptedSet → Option SettingsResult
 put_then more requested asked None = None
 put_then more requested asked (Some put) = with_reports_before (report_of requested asked put ∷ []) (more put.options)
 
@@ -27,18 +27,18 @@ setting_then more make options requested (Some (n, value)) = put_then more reque
 -- the settings from left to right, each by the descriptors in force
 abbrev pub abstract_force : List RequestedSetting → Make → OptionsInForce → Option SettingsResult
 abstract_force [] make options = Some (record { options = options; reports = [] })
-abstract_force (requested ∷ left) make options = setting_then (abstract_force left make) make options requested (resolve_setting (descriptors_of make options) requested)
+abstract_force (requested ∷ left) make options = setting_then (abstract_force left make) make options requested (resolve_setting (descriptors_in_force make options) requested)
 
--- the settings of a job, from the defaults
+-- the settings of a job, from the default_options
 abbrev pub abstract_in_force : Make → List RequestedSetting → Option SettingsResult
-abstract_in_force make settings = abstract_force settings make (defaults make)
+abstract_in_force make settings = abstract_force settings make (default_options make)
 
 -- A report answers its setting: it has what the text reads as where these options are in force, the nearest admitted value, and
 -- INEXACT just where the two differ.
 pub record IsAnswered (make : Make) (options : OptionsInForce) (requested : RequestedSetting) (report : Report) : Type 0 where
   pub number : ℕ
   pub is_setting : report.setting ≡ requested
-  pub asked : resolve_setting (descriptors_of make options) requested ≡ Some (number, report.asked)
+  pub asked : resolve_setting (descriptors_in_force make options) requested ≡ Some (number, report.asked)
   pub given : IsNearest make options number report.asked report.given
   pub inexact : (report.info.inexact ≡ true) ↔ (report.given ≢ report.asked)
 

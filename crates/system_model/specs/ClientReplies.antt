@@ -3,7 +3,7 @@ use Rattle.std.specs.Prelude.{ℕ, List, [], ◌∷◌, ◌++◌, Bool, true, fa
 use Rattle.sane_fixed.specs.declared.params.Params.{Params}
 use Rattle.page_picture.specs.Shows.{Frame}
 use Rattle.system_model.specs.AbstractMessages.{Status, Good, Unsupported, GivenUp, Busy, Inval, Eof, Jammed, NoDocs, CoverOpen, IoError, NoMem, AccessDenied, Why, Answer, Malformed, Short, Long, AbstractReply, Greeted, Listed, Opened, Challenged, Described, Got, Gave, Shaped, Begun, Refused}
-use Rattle.system_model.specs.Devices.{accepts, overflows, fills}
+use Rattle.system_model.specs.Devices.{accepts, frame_overflows, frame_fills}
 use Rattle.system_model.specs.Client.{AbstractJob, Task, further_pages, AbstractProgress, Greeting, Listing, Opening, Allowing, Describing, Putting, Getting, Starting, Shaping, Imaging, JobStage, Idle, Running, Done, Ended, ClientView, with_ending, with_progress, with_malformed, progress_after_init, stage_of_next_setting, stage_after_put, next_value}
 
 -- A START that is refused. Where a page of the batch is finished, and no frame of the next one, an empty tray ends the batch well.
@@ -48,7 +48,7 @@ reads_on true params heard = Ended IoError Long
 reads_on false params heard = Running (Imaging params heard)
 
 abbrev pub client_after_bytes : JobStage → ClientView → List ℕ → ClientView
-client_after_bytes (Running (Imaging params heard)) m bytes = record m { stage = reads_on (overflows params (heard ++ bytes)) params (heard ++ bytes) }
+client_after_bytes (Running (Imaging params heard)) m bytes = record m { stage = reads_on (frame_overflows params (heard ++ bytes)) params (heard ++ bytes) }
 client_after_bytes stage m bytes = m
 
 -- a page is whole: the next one, where it is not the last of the job
@@ -66,7 +66,7 @@ close_frame true task params heard m = close_page params.last_frame task (record
 close_frame false task params heard m = with_ending IoError Short m
 
 abbrev pub end_frame : Status → Task → Params → List ℕ → ClientView → ClientView
-end_frame Eof task params heard m = close_frame (fills params heard) task params heard m
+end_frame Eof task params heard m = close_frame (frame_fills params heard) task params heard m
 end_frame Good task params heard m = with_malformed m
 end_frame Unsupported task params heard m = with_ending Unsupported Answer m
 end_frame GivenUp task params heard m = with_ending GivenUp Answer m

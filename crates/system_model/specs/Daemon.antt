@@ -4,7 +4,7 @@ use Rattle.option_desc.specs.declared.value.Value.{Value}
 use Rattle.sane_fixed.specs.declared.params.Params.{Params}
 use Rattle.page_picture.specs.Shows.{Frame}
 use Rattle.system_model.specs.AbstractMessages.{same_text, Busy, Inval, NoDocs, IoError, AccessDenied, Challenge, AbstractRequest, Init, GetDevices, Open, Authorize, Describe, Get, Set, Parameters, Start, Cancel, Close, Exit, AbstractReply, Greeted, Listed, Opened, Challenged, Described, Got, Gave, Shaped, Begun, Acked, Refused}
-use Rattle.system_model.specs.Devices.{Make, Page, AcceptedSet, defaults, descriptors_of, accept_value, has_readable_value, readable_value, order_of, picture_frames, params_at_rest}
+use Rattle.system_model.specs.Devices.{Make, Page, AbstractAcceptedSet, default_options, descriptors_in_force, accept_value, has_readable_value, readable_value, order_of, picture_frames, params_at_rest}
 use Rattle.system_model.specs.Causes.{Cause, Disallowed, WasUnlisted, WasHeld, HadNoPicture, SourceFailed, TrayWasEmpty, TrayRanOut}
 use Rattle.system_model.specs.AbstractDevices.{AbstractDevice, ScanPhase, Resting, Between, Reading, Begin, is_resting, is_held_by, put_down, put_back, device_let_go, after_start}
 
@@ -61,9 +61,9 @@ abbrev pub held_cause : Bool → List Cause
 held_cause true = []
 held_cause false = WasHeld ∷ []
 
--- the device is handed out, all its options at their defaults
+-- the device is handed out, all its options at their default_options
 abbrev pub hand_out_device : ℕ → Make → AbstractDevice → TransferState → Option ℕ → AnswerEffect
-hand_out_device i k dev c None = reply_effect Opened (record dev { holder = Some i; options = defaults k; phase = Resting }) c
+hand_out_device i k dev c None = reply_effect Opened (record dev { holder = Some i; options = default_options k; phase = Resting }) c
 hand_out_device i k dev c (Some j) = record (reply_effect (Refused Busy) dev c) { causes = held_cause (eqb j i) }
 
 abbrev pub take_listed : ℕ → Make → AbstractDevice → TransferState → Bool → AnswerEffect
@@ -87,7 +87,7 @@ abbrev pub get_reply : Make → AbstractDevice → TransferState → ℕ → Boo
 get_reply k dev c n true = reply_effect (Got (readable_value k dev.options n)) dev c
 get_reply k dev c n false = reply_effect (Refused Inval) dev c
 
-abbrev pub put_reply : AbstractDevice → TransferState → Option AcceptedSet → AnswerEffect
+abbrev pub put_reply : AbstractDevice → TransferState → Option AbstractAcceptedSet → AnswerEffect
 put_reply dev c None = reply_effect (Refused Inval) dev c
 put_reply dev c (Some put) = reply_effect (Gave put.given put.info) (record dev { options = put.options }) c
 
@@ -149,7 +149,7 @@ serve i k dev c x Init = reply_effect Greeted dev c
 serve i k dev c x GetDevices = record (reply_effect (Listed x.listed) dev c) { shown = Some x.listed }
 serve i k dev c x Open = open_listed i k dev c x.challenge dev.listed x.guarded
 serve i k dev c x (Authorize challenge) = session_over_effect (put_back dev)
-serve i k dev c x Describe = reply_effect (Described (descriptors_of k dev.options)) dev c
+serve i k dev c x Describe = reply_effect (Described (descriptors_in_force k dev.options)) dev c
 serve i k dev c x (Get n) = get_reply k dev c n (has_readable_value k dev.options n)
 serve i k dev c x (Set n value) = set_reply k dev c n value (is_resting dev.phase)
 serve i k dev c x Parameters = reply_effect (Shaped (abstract_params k dev dev.phase)) dev c

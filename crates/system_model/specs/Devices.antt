@@ -21,7 +21,7 @@ use Rattle.scan_frames.specs.Frames.{params_at, params_without}
 use Rattle.scan_frames.specs.declared.setup.Setup.{Setup}
 use Rattle.device_api.specs.ScannerLimits as limits
 use Rattle.device_api.specs.InForce.{number_named}
-use Rattle.device_api.specs.Options.{has_cap}
+use Rattle.sane_fixed.specs.Cap.{has_cap}
 use Rattle.device_api.specs.Options as table
 use Rattle.device_api.specs.Values.{option_got}
 use Rattle.device_api.specs.Values as values
@@ -58,28 +58,28 @@ abbrev pub OptionsInForce : Type 0
 OptionsInForce = Setup
 
 -- the limits of options
-unfoldable pub IsAllowed : Make → OptionsInForce → Type 0
-IsAllowed make options = limits.IsAllowed options
+unfoldable pub AreOptionsAllowed : Make → OptionsInForce → Type 0
+AreOptionsAllowed make options = limits.IsAllowed options
 
 abbrev pub Page : Type 0
 Page = PageView
 
 -- the limits of a page
-unfoldable pub IsShaped : Page → Type 0
-IsShaped page_view = page.IsShaped page_view
+unfoldable pub IsPageShaped : Page → Type 0
+IsPageShaped page_view = page.IsShaped page_view
 
 -- an accepted setting
-pub record AcceptedSet : Type 0 where
+pub record AbstractAcceptedSet : Type 0 where
   pub given : Value
   pub info : Info
   pub options : OptionsInForce
 
-unfoldable pub defaults : Make → OptionsInForce
-defaults make = values.defaults make.model make.order
+unfoldable pub default_options : Make → OptionsInForce
+default_options make = values.defaults make.model make.order
 
 -- the descriptors in force
-unfoldable pub descriptors_of : Make → OptionsInForce → List Descriptor
-descriptors_of make options = table.descriptors_of options
+unfoldable pub descriptors_in_force : Make → OptionsInForce → List Descriptor
+descriptors_in_force make options = table.descriptors_of options
 
 -- the option of a setting and the value that its text reads as, by the descriptors
 unfoldable pub resolve_setting : List Descriptor → RequestedSetting → Option (ℕ × Value)
@@ -92,11 +92,11 @@ resolve_setting descriptors requested = do
 abbrev pub abstract_info : Bits → Info
 abstract_info bits = record { inexact = has_bit bits 1; reload_options = has_bit bits 2; reload_params = has_bit bits 4 }
 
-abbrev pub abstract_accepted_set : rules.AcceptedSet → AcceptedSet
+abbrev pub abstract_accepted_set : rules.AcceptedSet → AbstractAcceptedSet
 abstract_accepted_set put = record { given = put.given; info = abstract_info put.info; options = put.setup }
 
 -- a value put in: None where the option or the value is refused
-unfoldable pub accept_value : Make → OptionsInForce → ℕ → Value → Option AcceptedSet
+unfoldable pub accept_value : Make → OptionsInForce → ℕ → Value → Option AbstractAcceptedSet
 accept_value make o n asked = option_map abstract_accepted_set (rules.accept_set o n asked)
 
 -- of the values that an option admits, this one is nearest to the one asked for
@@ -165,9 +165,9 @@ unfoldable pub accepts : List Frame → Params → Order → Bool
 accepts frames params order = is_accepted frames params order
 
 -- these bytes are more than the frame has
-unfoldable pub overflows : Params → List ℕ → Bool
-overflows params bytes = rules.overflows params bytes
+unfoldable pub frame_overflows : Params → List ℕ → Bool
+frame_overflows params bytes = rules.overflows params bytes
 
 -- these bytes are a whole frame
-unfoldable pub fills : Params → List ℕ → Bool
-fills params bytes = rules.fills params bytes
+unfoldable pub frame_fills : Params → List ℕ → Bool
+frame_fills params bytes = rules.fills params bytes

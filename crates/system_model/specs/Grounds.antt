@@ -14,13 +14,7 @@ HasGround i k dev awaited x HadNoPicture = (page : Page) × (tray : List Page) �
 HasGround i k dev awaited x TrayWasEmpty = (dev.tray ≡ []) × (x.again ≡ false)
 HasGround i k dev awaited x TrayRanOut = (dev.tray ≡ []) × (x.again ≡ true)
 HasGround i k dev awaited x SourceFailed = (f : FailureCounts) × (x.fault ≡ Some f)
-HasGround i k dev awaited x GaveUp = ⊥
-HasGround i k dev awaited x LinkLost = ⊥
-HasGround i k dev awaited x LinkOutOfMemory = ⊥
-HasGround i k dev awaited x NamesEof = ⊥
-HasGround i k dev awaited x (Names status) = ⊥
-HasGround i k dev awaited x Unforced = ⊥
-HasGround i k dev awaited x ClientOutOfMemory = ⊥
+HasGround i k dev awaited x _ = ⊥
 
 abbrev pub HaveGrounds : ℕ → Make → AbstractDevice → Option Challenge → Environment → List Cause → Type 0
 HaveGrounds i k dev awaited x [] = Unit {0}

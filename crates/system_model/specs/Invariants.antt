@@ -1,7 +1,7 @@
 -- What is always so: of each job, of its finished pages, and of each device.
 use Rattle.std.specs.Prelude.{ℕ, ◌≡◌, ◌≢◌, ◌≤◌, ◌⊎◌, List, [], ◌∷◌, ◌++◌, true, false, length, suc, Some, None}
 use Rattle.system_model.specs.AbstractMessages.{Status, Why, AbstractReply}
-use Rattle.system_model.specs.Devices.{Make, OptionsInForce, descriptors_of, readable_options}
+use Rattle.system_model.specs.Devices.{Make, OptionsInForce, descriptors_in_force, readable_options}
 use Rattle.system_model.specs.AbstractInForce.{abstract_in_force, values_of}
 use Rattle.system_model.specs.Client.{Task, List_, Show, SetOnly, Scan, Batch, ClientView, JobStage, Idle, Running, Done, Ended, AbstractProgress, request_awaited}
 use Rattle.system_model.specs.ClientReplies.{hear_at}
@@ -23,8 +23,8 @@ HasBatchPages n b m = (length m.pages ≡ suc n) ⊎ ((m.pages ≢ []) × (lengt
 pub record ShowIsRight (k : Make) (b : SessionView) (m : ClientView) : Type 0 where
   pub options : OptionsInForce
   pub settled : AllInForce k b.job b.sent m.reports options
-  pub known : m.known ≡ descriptors_of k options
-  pub values : m.values ≡ values_of k options (readable_options (descriptors_of k options))
+  pub known : m.known ≡ descriptors_in_force k options
+  pub values : m.values ≡ values_of k options (readable_options (descriptors_in_force k options))
 
 -- a job that is done kept its promise
 abbrev pub IsRightlyDone : Make → SessionView → ClientView → Task → Type 0

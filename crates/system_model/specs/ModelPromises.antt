@@ -2,7 +2,7 @@
 use Rattle.std.specs.Prelude.{true, false, ℕ, ◌+◌, ◌<◌, ◌^◌, ◌≡◌, ◌≢◌, ◌≤◌, ◌⊎◌, suc, List, [], ◌∷◌, ◌++◌, Option, Some, None, length}
 use Rattle.page_picture.specs.Shows.{Frame}
 use Rattle.system_model.specs.AbstractMessages.{Challenge, AbstractRequest, Status, Why}
-use Rattle.system_model.specs.Devices.{Make, OptionsInForce, descriptors_of, readable_options}
+use Rattle.system_model.specs.Devices.{Make, OptionsInForce, descriptors_in_force, readable_options}
 use Rattle.system_model.specs.AbstractInForce.{AreAnswered, values_of}
 use Rattle.system_model.specs.Client.{AbstractJob, further_pages, List_, Show, Scan, Batch, Done, Ended}
 use Rattle.system_model.specs.Causes.{TrayRanOut, IsCauseAmong}
@@ -82,8 +82,8 @@ abbrev pub ShowsAreRight : Type 0
 ShowsAreRight =
     (s : SystemState) (i : ℕ) → Invariant s → (s.job i).client.stage ≡ Done → (s.job i).session.job.task ≡ Show →
     (options : OptionsInForce) × AllInForce (make_for s i) (s.job i).session.job (s.job i).session.sent (s.job i).client.reports options
-    × ((s.job i).client.known ≡ descriptors_of (make_for s i) options)
-    × ((s.job i).client.values ≡ values_of (make_for s i) options (readable_options (descriptors_of (make_for s i) options)))
+    × ((s.job i).client.known ≡ descriptors_in_force (make_for s i) options)
+    × ((s.job i).client.values ≡ values_of (make_for s i) options (readable_options (descriptors_in_force (make_for s i) options)))
 
 -- JOBS THAT ENDED
 abbrev pub EndsAreCaused : Type 0

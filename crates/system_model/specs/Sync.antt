@@ -5,7 +5,7 @@ use Rattle.sane_fixed.specs.declared.byte_order.ByteOrder.{ByteOrder as Order}
 use Rattle.sane_fixed.specs.declared.params.Params.{Params}
 use Rattle.page_picture.specs.Shows.{Frame}
 use Rattle.system_model.specs.AbstractMessages.{Report, Status, Good, Eof, IoError, Answer, Short, RequestedSetting, Challenge}
-use Rattle.system_model.specs.Devices.{Make, OptionsInForce, read_status_of, resolve_setting, descriptors_of, readable_options, order_of, picture_frames, accepts, overflows, fills}
+use Rattle.system_model.specs.Devices.{Make, OptionsInForce, read_status_of, resolve_setting, descriptors_in_force, readable_options, order_of, picture_frames, accepts, frame_overflows, frame_fills}
 use Rattle.system_model.specs.AbstractInForce.{abstract_in_force, abstract_force, with_reports_before, values_of, AreReadable}
 use Rattle.system_model.specs.Client.{AbstractJob, Task, List_, Show, SetOnly, Scan, Batch, further_pages, ClientView, AbstractProgress, Greeting, Listing, Opening, Allowing, Describing, Putting, Getting, Starting, Shaping, Imaging}
 use Rattle.system_model.specs.AbstractDevices.{AbstractDevice, Begin, ScanPhase, Resting, Between, Reading, phase_after_frame}
@@ -19,9 +19,9 @@ abbrev pub AreJoinable : Order → List Frame → List Frame → Type 0
 AreJoinable order done [] = Unit {0}
 AreJoinable order done (f ∷ more) =
     (accepts done f.params order ≡ true)
-    × ((bytes rest : List ℕ) → bytes ++ rest ≡ f.payload → overflows f.params bytes ≡ false)
-    × (fills f.params f.payload ≡ true)
-    × (fills f.params [] ≡ false)
+    × ((bytes rest : List ℕ) → bytes ++ rest ≡ f.payload → frame_overflows f.params bytes ≡ false)
+    × (frame_fills f.params f.payload ≡ true)
+    × (frame_fills f.params [] ≡ false)
     × (f.params.last_frame ≡ no_frame_left more)
     × (f.order ≡ order)
     × AreJoinable order (done ++ f ∷ []) more
@@ -92,7 +92,7 @@ pub record SettingsInForce (i : ℕ) (k : Make) (b : SessionView) (m : ClientVie
 pub record IsPutting (i : ℕ) (k : Make) (b : SessionView) (m : ClientView) (dev : AbstractDevice) (n : ℕ) (value : Value) (requested : RequestedSetting) (left : List RequestedSetting) : Type 0 where
   pub options : OptionsInForce
   pub settles : SettingsInForce i k b m dev (requested ∷ left) options
-  pub known : m.known ≡ descriptors_of k options
+  pub known : m.known ≡ descriptors_in_force k options
   pub resolved : resolve_setting m.known requested ≡ Some (n, value)
 
 -- all settings are in force, and the device may be opened
@@ -107,7 +107,7 @@ pub record IsGetting (i : ℕ) (k : Make) (b : SessionView) (m : ClientView) (de
   pub still : Still b
   pub settled : AllInForce k b.job b.sent m.reports options
   pub task : b.job.task ≡ Show
-  pub known : m.known ≡ descriptors_of k options
+  pub known : m.known ≡ descriptors_in_force k options
   pub so_far : m.values ++ values_of k options left ≡ values_of k options (readable_options m.known)
   pub told : AreReadable k options left
   pub few : length left ≤ 32

@@ -3,7 +3,7 @@ use Rattle.std.specs.Prelude.{ℕ, ◌≡◌, ◌≢◌, ◌<◌, ◌^◌, ◌-�
 use Rattle.sane_fixed.specs.declared.params.Params.{Params}
 use Rattle.page_picture.specs.Shows.{Frame}
 use Rattle.system_model.specs.AbstractMessages.{Good, Eof, AbstractReply}
-use Rattle.system_model.specs.Devices.{Make, Page, IsShaped, read_status_of}
+use Rattle.system_model.specs.Devices.{Make, Page, IsPageShaped, read_status_of}
 use Rattle.system_model.specs.Client.{JobStage, Idle, Running, Done, Ended, AbstractProgress, Imaging, request_awaited}
 use Rattle.system_model.specs.AbstractDevices.{AbstractDevice, Resting, Reading, laid_in, has_room}
 use Rattle.system_model.specs.Daemon.{Waiting, Streaming, Ending, FailureCounts}
@@ -94,7 +94,7 @@ IsActionEnabled i k p dev Actions.Stops = IsUnderWay p.client.stage
 -- the steps that may come
 abbrev pub IsEnabled : SystemState → Transition → Type 0
 IsEnabled s (By i x) = IsActionEnabled i (make_for s i) (s.job i) (device_for s i) x
-IsEnabled s (Loads d page) = ((s.device d).listed ≡ true) × ((s.device d).phase ≡ Resting) × (has_room (s.make d).model (s.device d).tray ≡ true) × IsShaped page
+IsEnabled s (Loads d page) = ((s.device d).listed ≡ true) × ((s.device d).phase ≡ Resting) × (has_room (s.make d).model (s.device d).tray ≡ true) × IsPageShaped page
 IsEnabled s (Unplugs d) = ((s.device d).listed ≡ true) × ((s.device d).holder ≡ None)
 
 abbrev pub IsHistory : SystemState → List Transition → Type 0

@@ -24,7 +24,7 @@ use Rattle.device_api.specs.ScannerLimits.{HasLimits, IsAllowed, IsHeldPage, IsP
 use Rattle.device_api.specs.State.{Phase, held_from, is_feeder, left_behind, pages_with, tray_room}
 use Rattle.device_api.specs.State.Phase.{AtRest}
 use Rattle.device_api.specs.Values.{defaults, setup_after}
-use Rattle.device_api.specs.declared.device_info.DeviceInfo.{DeviceInfo}
+use Rattle.sane_fixed.specs.declared.device_info.DeviceInfo.{DeviceInfo}
 use Rattle.virtual_scanner.specs.Answers.{AnswersRead}
 use Rattle.virtual_scanner.specs.First.{OfFirst, OnFirst}
 use Rattle.virtual_scanner.specs.Inside.{HasFrameOfFirst, device_on}

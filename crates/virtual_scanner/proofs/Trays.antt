@@ -14,7 +14,7 @@ use Rattle.scan_frames.specs.declared.faults.ReadEnd.TheVariants.{End, SourceFai
 use Rattle.scan_frames.specs.declared.setup.Setup.{Setup}
 use Rattle.device_api.specs.State.{DeviceState, Phase, FrameReads, StartsOn, Starts, after_read_status, goes_to, held_from, next_pass, state_at_rest, after_stop}
 use Rattle.device_api.specs.State.Phase.{AtRest, Between, Reading}
-use Rattle.device_api.specs.declared.device_info.DeviceInfo.{DeviceInfo}
+use Rattle.sane_fixed.specs.declared.device_info.DeviceInfo.{DeviceInfo}
 use Rattle.virtual_scanner.specs.Answers.{AnswersRead}
 use Rattle.virtual_scanner.specs.First.{OnFirst}
 use Rattle.virtual_scanner.specs.Inside.{device_on}

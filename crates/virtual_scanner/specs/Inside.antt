@@ -6,7 +6,7 @@ use Rattle.scan_frames.specs.PassReading.{IsFrame}
 use Rattle.scan_frames.specs.declared.setup.Setup.{Setup}
 use Rattle.device_api.specs.ScannerLimits.{HasLimits}
 use Rattle.device_api.specs.State.{DeviceState, Phase, feeds, held_from, tray_room}
-use Rattle.device_api.specs.declared.device_info.DeviceInfo.{DeviceInfo}
+use Rattle.sane_fixed.specs.declared.device_info.DeviceInfo.{DeviceInfo}
 use Rattle.virtual_scanner.specs.First.{OfFirst}
 use Rattle.virtual_scanner.specs.declared.at.At.{At}
 use Rattle.virtual_scanner.specs.declared.at.At.TheVariants.{Rest, Between as IsBetween, Reading as IsReading}

@@ -7,7 +7,7 @@ use Rattle.page_picture.specs.declared.scene.DeviceKind.TheVariants.{Flatbed, Ha
 use Rattle.device_api.specs.State.{DeviceState, held_from}
 use Rattle.device_api.specs.State.Phase.{AtRest}
 use Rattle.device_api.specs.Values.{defaults}
-use Rattle.device_api.specs.declared.device_info.DeviceInfo.{DeviceInfo}
+use Rattle.sane_fixed.specs.declared.device_info.DeviceInfo.{DeviceInfo}
 
 abbrev pub model_of : DeviceKind → List ℕ
 model_of Flatbed = codes "Flatbed"

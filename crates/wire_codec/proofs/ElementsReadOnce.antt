@@ -19,7 +19,7 @@ use Rattle.wire_codec.specs.Arrays.{rest_of_array, array_end, devices_end, optio
 use Rattle.wire_message.proofs.Messages.{up_to_laws, status_laws}
 use Rattle.wire_format.proofs.Combining.{IsBytes-behind}
 use Rattle.sane_fixed.specs.declared.status.Status.{Status}
-use Rattle.device_api.specs.declared.device_info.DeviceInfo.{DeviceInfo}
+use Rattle.sane_fixed.specs.declared.device_info.DeviceInfo.{DeviceInfo}
 use Rattle.option_desc.specs.declared.descriptor.Descriptor.{Descriptor}
 
 -- ---- parts of bytes

@@ -3,7 +3,7 @@ use Rattle.std.specs.Prelude.{◌≡◌, ℕ, zero, suc, ◌+◌, ◌≤◌, Lis
 use Rattle.wire_format.specs.Format.{Format, pure_format, after, map_format, places}
 use Rattle.sane_fixed.specs.declared.status.Status.{Status}
 use Rattle.option_desc.specs.declared.descriptor.Descriptor.{Descriptor}
-use Rattle.device_api.specs.declared.device_info.DeviceInfo.{DeviceInfo}
+use Rattle.sane_fixed.specs.declared.device_info.DeviceInfo.{DeviceInfo}
 use Rattle.wire_codec.specs.declared.begun.Elements.{Elements}
 use Rattle.wire_codec.specs.declared.begun.Devices.{Devices}
 use Rattle.wire_codec.specs.declared.begun.ArraysSoFar.{ArraysSoFar}

@@ -8,9 +8,8 @@ ghost use Rattle.wire_codec.specs.Arrays.{ReadsElements, array_end, DevicesBegun
 
 use crate::message_reading::{NextDescriptor, NextDevice, last_device, with_last};
 use crate::word_readers::{status, up_to};
-use device_api::DeviceInfo;
 use option_desc::Descriptor;
-use sane_fixed::Status;
+use sane_fixed::{DeviceInfo, Status};
 use std::alloc::Global;
 use wire_format::{ReadError, Reader, used_bytes};
 use wire_message::{Array, Procedure, Reply};

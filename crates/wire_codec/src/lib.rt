@@ -11,7 +11,7 @@ pub use data_records::{
 };
 pub use decoder::Decoder;
 pub use wire_message::{
-    Array, ControlAction, DeviceInfo, MESSAGE_LIMIT, Procedure, Reply, Request, WireFault,
-    WireValue, replies_are_spelled_apart, requests_are_spelled_apart,
+    Array, ControlAction, Procedure, Reply, Request, WireFault, WireValue,
+    replies_are_spelled_apart, requests_are_spelled_apart,
 };
 pub use wire_writing::{encode_reply, encode_request};

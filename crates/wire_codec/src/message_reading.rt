@@ -12,9 +12,8 @@ use crate::word_readers::{
     order, pointer, procedure_at, status, unit_at, up_to, words_size,
 };
 use constraint::{Range, StringList, WordList};
-use device_api::DeviceInfo;
 use option_desc::{Constraint, Descriptor};
-use sane_fixed::{Cap, Info, Kind, Params, Text};
+use sane_fixed::{Cap, DeviceInfo, Info, Kind, Params, Text};
 use std::alloc::Global;
 use wire_format::{Fault, ReadError, Reader, byte_between, places, run, word_between};
 use wire_message::{Array, Procedure, Reply, Request, WireValue};

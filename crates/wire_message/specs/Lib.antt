@@ -1,3 +1,4 @@
 pub mod Kinds
 pub mod Message
 pub mod Faults
+pub mod WireValues

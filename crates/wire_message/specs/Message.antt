@@ -18,7 +18,7 @@ use Rattle.option_desc.specs.declared.descriptor.Constraint.{Constraint}
 use Rattle.option_desc.specs.declared.descriptor.Constraint.TheVariants as constraints
 use Rattle.option_desc.specs.declared.descriptor.Descriptor.{Descriptor}
 use Rattle.wire_message.specs.Kinds.{length_from, words_size, at_least, order}
-use Rattle.device_api.specs.declared.device_info.DeviceInfo.{DeviceInfo}
+use Rattle.sane_fixed.specs.declared.device_info.DeviceInfo.{DeviceInfo}
 use Rattle.wire_message.specs.declared.message.Procedure.{Procedure}
 use Rattle.wire_message.specs.declared.message.Procedure.TheVariants as procedures
 use Rattle.wire_message.specs.declared.message.ControlAction.{ControlAction}

@@ -1,9 +1,8 @@
 //! Requests and replies (SANE Standard 1.06, "Network Protocol").
 
 use crate::array::Array;
-use device_api::DeviceInfo;
 use option_desc::Descriptor;
-use sane_fixed::{ByteOrder, Info, Kind, Params, Status, Text};
+use sane_fixed::{ByteOrder, DeviceInfo, Info, Kind, Params, Status, Text};
 
 /// The longest message, in bytes.
 pub const MESSAGE_LIMIT: usize = 1048576;

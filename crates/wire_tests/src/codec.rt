@@ -2,7 +2,7 @@ mod descriptors;
 mod replies;
 
 use option_desc::{Constraint, Descriptor};
-use sane_fixed::{ByteOrder, FrameFormat, Info, Kind, Params, Status, Text};
+use sane_fixed::{ByteOrder, DeviceInfo, FrameFormat, Info, Kind, Params, Status, Text};
 use std::alloc::Global;
 use std::process::Abort;
 use std::test::*;

@@ -7,7 +7,7 @@ use Rattle.wire_format.specs.declared.fault.Fault.TheVariants.{TooLong}
 use Rattle.wire_format.specs.Format.{after, map_format, places}
 use Rattle.wire_format.specs.WordKinds.{between}
 use Rattle.wire_format.specs.Writer.{WritesFormat, append_text}
-use Rattle.device_api.specs.declared.device_info.DeviceInfo.{DeviceInfo}
+use Rattle.sane_fixed.specs.declared.device_info.DeviceInfo.{DeviceInfo}
 use Rattle.wire_message.specs.Message.{from_to, up_to, string, device, next_device, last_device_of, last_device, devices_of, devices}
 use Rattle.wire_writing.specs.RequestWriting.{write_string, write_resource, code_text}
 use Rattle.wire_writing.specs.ReplyWriting.{device_text, write_device, write_devices}

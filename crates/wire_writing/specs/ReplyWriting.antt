@@ -13,7 +13,7 @@ use Rattle.constraint.specs.Admitted.{Bounds}
 use Rattle.option_desc.specs.declared.descriptor.Constraint.{Constraint}
 use Rattle.option_desc.specs.declared.descriptor.Constraint.TheVariants as constraints
 use Rattle.option_desc.specs.declared.descriptor.Descriptor.{Descriptor}
-use Rattle.device_api.specs.declared.device_info.DeviceInfo.{DeviceInfo}
+use Rattle.sane_fixed.specs.declared.device_info.DeviceInfo.{DeviceInfo}
 use Rattle.wire_message.specs.declared.message.Procedure.{Procedure}
 use Rattle.wire_message.specs.declared.message.Procedure.TheVariants as procedures
 use Rattle.wire_message.specs.declared.message.Reply.{Reply}

@@ -3,7 +3,7 @@ use Rattle.std.specs.Prelude.{ℕ, ◌<◌, ◌≡◌, ◌⊎◌, ◌||◌, nat_
 use Rattle.option_desc.specs.declared.descriptor.Constraint.{Constraint}
 use Rattle.option_desc.specs.declared.descriptor.Constraint.TheVariants as constraints
 use Rattle.option_desc.specs.declared.descriptor.Descriptor.{Descriptor}
-use Rattle.device_api.specs.declared.device_info.DeviceInfo.{DeviceInfo}
+use Rattle.sane_fixed.specs.declared.device_info.DeviceInfo.{DeviceInfo}
 use Rattle.wire_message.specs.declared.message.WireValue.{WireValue}
 use Rattle.wire_message.specs.declared.message.WireValue.TheVariants as values
 use Rattle.wire_message.specs.declared.message.Request.{Request}

@@ -14,9 +14,8 @@ use crate::request_writing::{
     encode, is_long_string, is_long_value, put_any_word, put_resource, put_string, put_value,
 };
 use constraint::{Range, StringList, WordList};
-use device_api::DeviceInfo;
 use option_desc::{Constraint, Descriptor};
-use sane_fixed::{ByteOrder, Params, Status, Text};
+use sane_fixed::{ByteOrder, DeviceInfo, Params, Status, Text};
 use std::alloc::Global;
 use wire_format::{Encoder, Fault, WriteError, is_any_long, put_all, put_word, put_word_between};
 use wire_message::{Array, Reply, WireFault};

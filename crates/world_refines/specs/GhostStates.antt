@@ -4,7 +4,7 @@ use Rattle.std.specs.List.{list_any}
 use Rattle.md5.specs.Md5.{md5}
 use Rattle.md5_auth.specs.declared.users.Entry.{Entry}
 use Rattle.md5_auth.specs.ChallengeReading.{challenge_of}
-use Rattle.device_api.specs.declared.device_info.DeviceInfo.{DeviceInfo}
+use Rattle.sane_fixed.specs.declared.device_info.DeviceInfo.{DeviceInfo}
 use Rattle.frame_join.specs.FrameHistory.{JoinHistory}
 use Rattle.scan_job.specs.declared.job.Job.{Job}
 use Rattle.system_model.specs.AbstractMessages.{same_text}

@@ -5,7 +5,7 @@ use Rattle.page_picture.specs.declared.scene.DeviceKind.TheVariants.{Feeder}
 use Rattle.md5_auth.specs.declared.users.Entry.{Entry}
 use Rattle.frame_join.specs.FrameHistory.{empty_history}
 use Rattle.device_api.specs.ScannerLimits.{HasLimits}
-use Rattle.device_api.specs.declared.device_info.DeviceInfo.{DeviceInfo}
+use Rattle.sane_fixed.specs.declared.device_info.DeviceInfo.{DeviceInfo}
 use Rattle.device_api.specs.State.{DeviceState, HeldPage}
 use Rattle.dispatch.specs.RegistryFault.{HaveOwnNames}
 use Rattle.dispatch.specs.Table.{fresh_table}

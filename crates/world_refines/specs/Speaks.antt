@@ -7,7 +7,7 @@ use Rattle.saned_requests.specs.declared.session.Session.{Session}
 use Rattle.client_replies.specs.declared.progress.Progress.{Progress}
 use Rattle.client_replies.specs.declared.progress.Progress.TheVariants as stages
 use Rattle.system_model.specs.AbstractMessages.{Challenge, AbstractRequest, Init, Set}
-use Rattle.system_model.specs.Devices.{Make, descriptors_of}
+use Rattle.system_model.specs.Devices.{Make, descriptors_in_force}
 use Rattle.system_model.specs.AbstractDevices.{AbstractDevice}
 use Rattle.system_model.specs.SystemStates.{JobState, SystemState, make_for, device_for}
 
@@ -50,7 +50,7 @@ SetsNothing (q ∷ todo) = SetsNothing todo
 -- a SET comes first, and is of an option as client i's device has it
 abbrev pub SetsAsHeld : ℕ → Make → List Descriptor → AbstractDevice → List AbstractRequest → Type 0
 SetsAsHeld i make known dev [] = Unit {0}
-SetsAsHeld i make known dev (Set n value ∷ todo) = (dev.holder ≡ Some i) × (known ≡ descriptors_of make dev.options) × SetsNothing todo
+SetsAsHeld i make known dev (Set n value ∷ todo) = (dev.holder ≡ Some i) × (known ≡ descriptors_in_force make dev.options) × SetsNothing todo
 SetsAsHeld i make known dev (q ∷ todo) = SetsNothing todo
 
 abbrev pub AsksAsHeld : SystemState → ℕ → Type 0

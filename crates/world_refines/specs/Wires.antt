@@ -2,7 +2,7 @@
 use Rattle.std.specs.Prelude.{ℕ, ◌≡◌, ◌++◌, IsSome, Option, Some, None, List, [], ◌∷◌}
 use Rattle.sane_fixed.specs.declared.status.Status.{Status as Code}
 use Rattle.sane_fixed.specs.Status.{status_code}
-use Rattle.device_api.specs.declared.device_info.DeviceInfo.{DeviceInfo}
+use Rattle.sane_fixed.specs.declared.device_info.DeviceInfo.{DeviceInfo}
 use Rattle.wire_message.specs.declared.message.Reply.{Reply as Answer}
 use Rattle.wire_message.specs.declared.message.Reply.TheVariants as replies
 use Rattle.data_records.specs.declared.records.RecordPhase.{RecordPhase}

@@ -8,7 +8,7 @@ use Rattle.page_picture.specs.Meaning.{meaning_of}
 use Rattle.option_desc.specs.declared.descriptor.Descriptor.{Descriptor}
 use Rattle.option_desc.specs.declared.value.Value.{Value}
 use Rattle.device_api.specs.InForce as devices
-use Rattle.device_api.specs.declared.device_info.DeviceInfo.{DeviceInfo}
+use Rattle.sane_fixed.specs.declared.device_info.DeviceInfo.{DeviceInfo}
 use Rattle.scan_job.specs.declared.job.Task.TheVariants as tasks
 use Rattle.scan_job.specs.declared.outcome.Outcome.{Outcome}
 use Rattle.scan_job.specs.declared.outcome.Outcome.TheVariants.{Running, Done, Ended}
@@ -17,7 +17,7 @@ use Rattle.scan_job.specs.declared.report.Report.{Report}
 use Rattle.scan_job.specs.declared.report.Reports.{Reports}
 use Rattle.system_model.specs.AbstractMessages as words
 use Rattle.system_model.specs.Causes.{IsCauseAmong, TrayRanOut}
-use Rattle.system_model.specs.Devices.{Make, OptionsInForce, descriptors_of, readable_options, abstract_status}
+use Rattle.system_model.specs.Devices.{Make, OptionsInForce, descriptors_in_force, readable_options, abstract_status}
 use Rattle.system_model.specs.Client as rules
 use Rattle.system_model.specs.AbstractInForce as ruled
 use Rattle.system_model.specs.AbstractInForce.{AreAnswered, values_of}
@@ -30,9 +30,10 @@ use Rattle.client_refines.specs.Filled.{IsFilled}
 use Rattle.client_refines.specs.DecodedReplies.{why_of}
 use Rattle.client_refines.specs.ClientRefinement.{descs, common_abstract_report, common_report, known_values, requested_setting}
 use Rattle.client_replies.specs.ProtocolStates.{is_running}
-use Rattle.client_replies.specs.WireValues.{given_like, wire_value_in}
+use Rattle.client_replies.specs.GivenValues.{given_like, wire_value_in}
 use Rattle.saned_requests.specs.declared.session.StringSize.{StringSize}
-use Rattle.saned_requests.specs.WireValues.{sent_as, wire_of}
+use Rattle.saned_requests.specs.OptionValues.{sent_as}
+use Rattle.wire_message.specs.WireValues.{wire_of}
 use Rattle.scan_world.specs.declared.event.Event.{Event}
 use Rattle.scan_world.specs.declared.endpoint.Endpoint.{Endpoint}
 use Rattle.scan_world.specs.JobMoves.{IsNextMove}
@@ -61,9 +62,9 @@ pub record AreListed (t : Ghost) (i : ℕ) (infos : List DeviceInfo) : Type 0 wh
 pub record AreShown (t : Ghost) (i : ℕ) (options : List (Descriptor × Option Value)) : Type 0 where
   pub in_force : OptionsInForce
   pub settled : AllInForce (make_for t.system i) (job_state t i).session.job (job_state t i).session.sent (job_state t i).client.reports in_force
-  pub descriptors : descs options ≡ descriptors_of (make_for t.system i) in_force
-  pub values : known_values options ≡ values_of (make_for t.system i) in_force (readable_options (descriptors_of (make_for t.system i) in_force))
-  pub filled : IsFilled (make_for t.system i) in_force (descriptors_of (make_for t.system i) in_force) options
+  pub descriptors : descs options ≡ descriptors_in_force (make_for t.system i) in_force
+  pub values : known_values options ≡ values_of (make_for t.system i) in_force (readable_options (descriptors_in_force (make_for t.system i) in_force))
+  pub filled : IsFilled (make_for t.system i) in_force (descriptors_in_force (make_for t.system i) in_force) options
 
 -- a job that is done kept its promise: on its settings and on permission, on the options that it shows, or on the list
 pub record KeepsPromise (t : Ghost) (i : ℕ) (reports : Reports) : Type 0 where

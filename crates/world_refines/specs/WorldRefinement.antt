@@ -8,7 +8,7 @@ use Rattle.page_picture.specs.Shows.{ShowsFrames}
 use Rattle.md5_auth.specs.declared.users.Entry.{Entry}
 use Rattle.frame_join.specs.FrameHistory.{JoinHistory, IsJoined, is_joined}
 use Rattle.device_api.specs.State.{DeviceState, HeldPage}
-use Rattle.device_api.specs.declared.device_info.DeviceInfo.{DeviceInfo}
+use Rattle.sane_fixed.specs.declared.device_info.DeviceInfo.{DeviceInfo}
 use Rattle.dispatch.specs.declared.table.place.Lease.{Lease}
 use Rattle.dispatch.specs.declared.table.place.Place.{Place}
 use Rattle.dispatch.specs.declared.table.place.Slot.{Slot}

@@ -7,10 +7,10 @@ ghost use Rattle.device_api.specs.State.{get_answer};
 ghost use Rattle.dispatch.specs.Table.{seen_lease, table};
 ghost use Rattle.saned_requests.specs.Holding.{seen_held, held_by};
 ghost use Rattle.saned_requests.specs.RequestAnswers.{request_context, IsContextOutcome, GivesReply, control, control_held, control_lease, control_device, set_at, asked_at, kind_of, got_reply, refused_control};
-ghost use Rattle.saned_requests.specs.WireValues.{size_of};
+ghost use Rattle.saned_requests.specs.OptionValues.{size_of};
 
+use crate::answering::option_values::{sent_as, value_asked};
 use crate::answering::starting::no_text;
-use crate::answering::values::{sent_as, value_asked};
 use crate::request_answer::RequestAnswer;
 use crate::session::{Session, StringSize};
 use device_api::Device;

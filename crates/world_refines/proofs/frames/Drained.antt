@@ -1,6 +1,6 @@
 -- The file of a job is pulled behind what its client was told: how the client stands then.
 use Rattle.std.proofs.Common.{◌≡◌, ◌⊎◌, inl, inr, ◌∙◌, ℕ, ◌≤◌, ◌<◌, List, [], ◌∷◌, ◌++◌, Some, Bool, true, false, refl, sym, ap, subst, map, length, slice_get, append-nil, arith}
-use Rattle.device_api.specs.declared.device_info.DeviceInfo.{DeviceInfo}
+use Rattle.sane_fixed.specs.declared.device_info.DeviceInfo.{DeviceInfo}
 use Rattle.page_picture.specs.Shows.{Frame}
 use Rattle.frame_join.specs.FrameHistory.{JoinHistory, IsJoined, after_pull, is_joined, empty_history}
 use Rattle.scan_job.specs.JobSize.{HasCount}

@@ -1,6 +1,6 @@
 -- A client that waits for no turn gives what it may of its file, and is the same but for that.
 use Rattle.std.proofs.Common.{◌≡◌, ◌∙◌, ℕ, List, [], Bool, true, false, cond, refl, sym, ap, subst, map, append-nil}
-use Rattle.device_api.specs.declared.device_info.DeviceInfo.{DeviceInfo}
+use Rattle.sane_fixed.specs.declared.device_info.DeviceInfo.{DeviceInfo}
 use Rattle.page_picture.specs.Shows.{Frame}
 use Rattle.frame_join.specs.FrameHistory.{JoinHistory, after_pull, is_joined}
 use Rattle.scan_job.specs.declared.job.Job.{Job}

@@ -30,7 +30,7 @@ use Rattle.net_client.specs.ClientStates.{ClientRepresents, ClientState, protoco
 use Rattle.net_client.specs.FramePieces.{Receives}
 use Rattle.system_model.specs.AbstractMessages as words
 use Rattle.system_model.specs.AbstractMessages.{AbstractReply, AbstractRequest, Status}
-use Rattle.system_model.specs.Devices.{Make, fills, overflows, abstract_status}
+use Rattle.system_model.specs.Devices.{Make, frame_fills, frame_overflows, abstract_status}
 use Rattle.system_model.specs.Client as rules
 use Rattle.system_model.specs.Client.{Imaging, ClientView, Running, JobStage, further_pages, requests_sent}
 use Rattle.system_model.specs.Causes.{ClientOutOfMemory, IsCauseAmong, LinkOutOfMemory}
@@ -109,11 +109,11 @@ images i k p dev params heard (inr (inl told)) = absurd (told.waits refl)
 images i k p dev params heard (inr (inr dead)) = absurd (dead.waits refl)
 
 -- there are never more bytes than it may have
-pub within : (i : ℕ) (k : Make) (p : JobState) (dev : AbstractDevice) (params : Params) (heard given bytes_not_delivered : List ℕ) → Images i k p.session p.client dev params heard → p.session.flight ≡ given ++ bytes_not_delivered → overflows params (heard ++ given) ≡ false
+pub within : (i : ℕ) (k : Make) (p : JobState) (dev : AbstractDevice) (params : Params) (heard given bytes_not_delivered : List ℕ) → Images i k p.session p.client dev params heard → p.session.flight ≡ given ++ bytes_not_delivered → frame_overflows params (heard ++ given) ≡ false
 within i k p dev params heard given bytes_not_delivered h f =
     let flows : given ++ (bytes_not_delivered ++ h.rest) ≡ p.session.flight ++ h.rest = sym (append_assoc given bytes_not_delivered h.rest) ∙ ap (λ (l : List ℕ). l ++ h.rest) (sym f) in
     let whole : (heard ++ given) ++ (bytes_not_delivered ++ h.rest) ≡ h.frame.payload = append_assoc heard given (bytes_not_delivered ++ h.rest) ∙ (ap (λ (l : List ℕ). heard ++ l) flows ∙ h.payload) in
-    subst (λ (x : Params). overflows x (heard ++ given) ≡ false) (sym h.params_are) (h.continues.proper.1 (heard ++ given) (bytes_not_delivered ++ h.rest) whole)
+    subst (λ (x : Params). frame_overflows x (heard ++ given) ≡ false) (sym h.params_are) (h.continues.proper.1 (heard ++ given) (bytes_not_delivered ++ h.rest) whole)
 
 -- the pages before it are fewer than those of the job
 pub fewer_pages : (past : JoinHistory) (pages : List JoinHistory) (all : List (List Frame)) (n : ℕ) → all ≡ map (λ (q : JoinHistory). q.ended) pages ++ wholes past.ended → length all ≤ n → n ≤ 15 → length pages < 16
@@ -138,7 +138,7 @@ frame_flows true task params heard m c progress phase = close_flows params.last_
 frame_flows false task params heard m c progress phase = tt
 
 end_flows : (status : Status) (task : rules.Task) (params : Params) (heard : List ℕ) (m : ClientView) (c : TransferState) (progress : Progress) (phase : RecordPhase) → FlightMatches (end_frame status task params heard m).stage c progress phase None [] None
-end_flows words.Eof task params heard m c progress phase = frame_flows (fills params heard) task params heard m c progress phase
+end_flows words.Eof task params heard m c progress phase = frame_flows (frame_fills params heard) task params heard m c progress phase
 end_flows words.Good task params heard m c progress phase = tt
 end_flows words.Unsupported task params heard m c progress phase = tt
 end_flows words.GivenUp task params heard m c progress phase = tt
@@ -173,7 +173,7 @@ frame_end true task params heard m = close_end params.last_frame task _ m
 frame_end false task params heard m = stopped_end words.IoError words.Short m
 
 end_end : (status : Status) (task : rules.Task) (params : Params) (heard : List ℕ) (m : ClientView) → IsEnd (end_frame status task params heard m) m
-end_end words.Eof task params heard m = frame_end (fills params heard) task params heard m
+end_end words.Eof task params heard m = frame_end (frame_fills params heard) task params heard m
 end_end words.Good task params heard m = stopped_end words.IoError words.Malformed m
 end_end words.Unsupported task params heard m = stopped_end words.Unsupported words.Answer m
 end_end words.GivenUp task params heard m = stopped_end words.GivenUp words.Answer m

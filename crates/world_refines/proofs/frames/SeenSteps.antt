@@ -3,7 +3,7 @@ use Rattle.std.proofs.Common.{◌≡◌, ◌≢◌, ◌∙◌, ℕ, List, [], �
 use Rattle.sane_fixed.specs.declared.params.Params.{Params}
 use Rattle.frame_join.specs.FrameHistory.{JoinHistory}
 use Rattle.system_model.specs.AbstractMessages.{NoMem, Memory}
-use Rattle.system_model.specs.Devices.{Make, overflows}
+use Rattle.system_model.specs.Devices.{Make, frame_overflows}
 use Rattle.system_model.specs.Client.{Imaging, ClientView, Running, JobStage}
 use Rattle.system_model.specs.ClientReplies.{client_after_bytes, reads_on, client_after_stop}
 use Rattle.system_model.specs.Causes.{ClientOutOfMemory}
@@ -126,10 +126,10 @@ without_front : (xs ys : List ℕ) → without_prefix xs (xs ++ ys) ≡ ys
 without_front [] ys = refl
 without_front (x ∷ xs) ys = without_front xs ys
 
-pub read_is : (m : ClientView) (params : Params) (heard given : List ℕ) → m.stage ≡ Running (Imaging params heard) → overflows params (heard ++ given) ≡ false → client_after_bytes m.stage m given ≡ record m { stage = Running (Imaging params (heard ++ given)) }
+pub read_is : (m : ClientView) (params : Params) (heard given : List ℕ) → m.stage ≡ Running (Imaging params heard) → frame_overflows params (heard ++ given) ≡ false → client_after_bytes m.stage m given ≡ record m { stage = Running (Imaging params (heard ++ given)) }
 read_is m params heard given e o = ap (λ (st : JobStage). client_after_bytes st m given) e ∙ ap (λ (b : Bool). record m { stage = reads_on b params (heard ++ given) }) o
 
-pub party_reads : (p : JobState) (params : Params) (heard given left : List ℕ) → p.client.stage ≡ Running (Imaging params heard) → p.session.flight ≡ given ++ left → overflows params (heard ++ given) ≡ false →
+pub party_reads : (p : JobState) (params : Params) (heard given left : List ℕ) → p.client.stage ≡ Running (Imaging params heard) → p.session.flight ≡ given ++ left → frame_overflows params (heard ++ given) ≡ false →
     after_each p (read_actions given) ≡ reading p params (heard ++ given) left
 party_reads p params heard [] left e f o =
     ap (λ (st : JobStage). record p { client = record p.client { stage = st } }) (e ∙ ap (λ (l : List ℕ). Running (Imaging params l)) (sym (append-nil heard)))

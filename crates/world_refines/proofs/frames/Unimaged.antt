@@ -4,7 +4,7 @@ use Rattle.std.specs.List.{AllByRecursion}
 use Rattle.std.proofs.Common.{◌≡◌, ◌⊎◌, inl, inr, ◌∙◌, ℕ, ◌<◌, List, [], ◌∷◌, Option, Some, None, Bool, true, false, refl, sym, ap, subst, map, slice_get, slice_set}
 use Rattle.page_picture.specs.Page.{IsPageView}
 use Rattle.page_picture.specs.Shows.{Frame}
-use Rattle.device_api.specs.declared.device_info.DeviceInfo.{DeviceInfo}
+use Rattle.sane_fixed.specs.declared.device_info.DeviceInfo.{DeviceInfo}
 use Rattle.data_records.specs.declared.records.RecordPhase.{RecordPhase}
 use Rattle.frame_join.specs.FrameHistory.{JoinHistory}
 use Rattle.saned_core.specs.declared.session_slot.SessionId.{SessionId}

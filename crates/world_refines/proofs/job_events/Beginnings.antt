@@ -14,7 +14,7 @@ use Rattle.device_api.specs.ScannerLimits.{HasLimits, IsHeldPage, IsPageCount}
 use Rattle.device_api.specs.State.{DeviceState, HeldPage, Phase, after_cancel, cancelled_in, feeds, is_feeder, left_behind}
 use Rattle.device_api.specs.State.Phase.{AtRest, Between, Reading}
 use Rattle.device_api.proofs.AllowedLaws.{defaults_allowed}
-use Rattle.device_api.specs.declared.device_info.DeviceInfo.{DeviceInfo}
+use Rattle.sane_fixed.specs.declared.device_info.DeviceInfo.{DeviceInfo}
 use Rattle.dispatch.specs.RegistryFault.{HaveOwnNames}
 use Rattle.dispatch.specs.Table.{Table, fresh_table}
 use Rattle.saned_core.specs.declared.session_slot.SessionSlot.{SessionSlot}
@@ -22,7 +22,7 @@ use Rattle.saned_core.specs.declared.session_slot.SessionId.{SessionId}
 use Rattle.scan_job.specs.declared.job.Job.{Job}
 use Rattle.client_replies.specs.ProtocolStates.{is_running}
 use Rattle.net_client.specs.ClientStates.{IsNewClient, ClientState}
-use Rattle.system_model.specs.Devices.{IsAllowed, IsShaped}
+use Rattle.system_model.specs.Devices.{AreOptionsAllowed, IsPageShaped}
 use Rattle.system_model.specs.AbstractDevices.{AreShaped, DeviceInvariant, IsStocked}
 use Rattle.system_model.specs.SystemStates.{initial_job}
 use Rattle.system_model.proofs.JobPromises.{beginning_sound}
@@ -97,12 +97,12 @@ stocked ThreePass tray n e h = e ∙ h
 stocked Feeder tray n e h = omega (arith, e, h)
 
 shaped : (pages : List HeldPage) → AreHeld pages → AreShaped (page_views pages)
-unfolding IsShaped
+unfolding IsPageShaped
 shaped [] h = tt
 shaped (p ∷ pages) h = (h.0.shape, shaped pages h.1)
 
 fit_one : (s : DeviceState) → HasLimits s → DeviceInvariant (make_of (Some s)) (fresh_device (Some s))
-unfolding IsAllowed
+unfolding AreOptionsAllowed
 fit_one s h =
     let c = after_cancel s in
     record {
@@ -113,7 +113,7 @@ fit_one s h =
     }
 
 fit_none : DeviceInvariant (make_of None) (fresh_device None)
-unfolding IsAllowed
+unfolding AreOptionsAllowed
 fit_none = record { laid_down = λ _. refl; allowed = defaults_allowed Flatbed Little; stocked = omega arith; shaped = tt }
 
 fit_at : (o : Option DeviceState) → ((s : DeviceState) → o ≡ Some s → HasLimits s) → DeviceInvariant (make_of o) (fresh_device o)

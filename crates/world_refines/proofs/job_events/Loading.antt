@@ -7,7 +7,7 @@ use Rattle.std.proofs.Common.{◌≡◌, ◌≢◌, ◌⊎◌, inl, inr, ◌∙�
 use Rattle.page_picture.specs.Page.{IsPageView}
 use Rattle.page_picture.specs.Source.{SourceState}
 use Rattle.device_api.specs.State.{DeviceState, after_load as page_loaded, takes_page}
-use Rattle.device_api.specs.declared.device_info.DeviceInfo.{DeviceInfo}
+use Rattle.sane_fixed.specs.declared.device_info.DeviceInfo.{DeviceInfo}
 use Rattle.dispatch.specs.declared.table.place.Lease.{Lease}
 use Rattle.dispatch.specs.declared.table.place.Place.{Place}
 use Rattle.dispatch.specs.declared.table.place.Slot.{Slot}
@@ -22,7 +22,7 @@ use Rattle.saned_core.specs.declared.session_slot.SessionId.{SessionId}
 use Rattle.saned_core.specs.Loading.{holds, holds_in, is_lease_named, core_after_load, on_first, slot_with_page}
 use Rattle.saned_core.specs.DaemonStates.{Core, is_slot_number, on_session_slot, on_session, session_slot_of, session_in, session_of}
 use Rattle.system_model.specs.AbstractMessages.{Challenge}
-use Rattle.system_model.specs.Devices.{IsShaped, Make, Page}
+use Rattle.system_model.specs.Devices.{IsPageShaped, Make, Page}
 use Rattle.system_model.specs.AbstractDevices.{AbstractDevice, Resting, has_room, is_held_by}
 use Rattle.system_model.specs.SystemStates.{JobState, with_entry}
 use Rattle.system_model.specs.AbstractSessions.{AbstractSession, one_word_session}
@@ -60,8 +60,8 @@ use Rattle.world_refines.proofs.state.Spoken.{same_on, speaks_still}
 abbrev Loaded : Ghost → WorldCore → List ℕ → SourceState → Type 0
 Loaded t w name source = GhostLeadsTo (CanLoad t name) (LaysIn t name source.page) t (record w { daemon = core_after_load w.daemon name source })
 
-shaped : (source : SourceState) → IsPageView source.page → IsShaped source.page
-unfolding IsShaped
+shaped : (source : SourceState) → IsPageView source.page → IsPageShaped source.page
+unfolding IsPageShaped
 shaped source page_view = page_view.shape
 
 same_posts : {X : Type 0} (xs : List X) (i : ℕ) (x : X) → slice_get xs i ≡ Some x → slice_set xs i x ≡ xs

@@ -3,7 +3,7 @@ use Rattle.std.specs.Prelude.{option_map, is_some, IsSome}
 use Rattle.std.specs.List.{AllByRecursion}
 use Rattle.std.proofs.Common.{◌≡◌, ◌≢◌, ◌⊎◌, inl, inr, ◌∙◌, ℕ, ◌<◌, List, [], ◌∷◌, Option, Some, None, Bool, true, false, refl, sym, ap, subst, map, slice_get, slice_set}
 use Rattle.page_picture.specs.Page.{IsPageView}
-use Rattle.device_api.specs.declared.device_info.DeviceInfo.{DeviceInfo}
+use Rattle.sane_fixed.specs.declared.device_info.DeviceInfo.{DeviceInfo}
 use Rattle.device_api.specs.State.{DeviceState}
 use Rattle.frame_join.specs.FrameHistory.{JoinHistory}
 use Rattle.saned_core.specs.declared.session_slot.SessionSlot.{SessionSlot}

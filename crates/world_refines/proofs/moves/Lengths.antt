@@ -9,7 +9,7 @@ use Rattle.wire_message.specs.declared.message.Reply.{Reply as Answer}
 use Rattle.net_client.specs.Sending.{requests_text}
 use Rattle.net_client.specs.ReplyPieces.{IsReply}
 use Rattle.data_records.specs.Records.{counted_record}
-use Rattle.device_api.specs.declared.device_info.DeviceInfo.{DeviceInfo}
+use Rattle.sane_fixed.specs.declared.device_info.DeviceInfo.{DeviceInfo}
 use Rattle.option_desc.specs.declared.descriptor.Descriptor.{Descriptor}
 use Rattle.client_replies.specs.declared.progress.JobTarget.{JobTarget}
 use Rattle.client_replies.specs.declared.progress.Progress.{Progress}

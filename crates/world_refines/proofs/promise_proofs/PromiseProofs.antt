@@ -6,7 +6,7 @@ use Rattle.netpbm.specs.Pnm.{Denotes}
 use Rattle.page_picture.specs.Page.{IsPageView}
 use Rattle.page_picture.specs.Shows.{Frame}
 use Rattle.device_api.specs.InForce as devices
-use Rattle.device_api.specs.declared.device_info.DeviceInfo.{DeviceInfo}
+use Rattle.sane_fixed.specs.declared.device_info.DeviceInfo.{DeviceInfo}
 use Rattle.frame_join.specs.FrameHistory.{JoinHistory, is_joined}
 use Rattle.scan_job.specs.declared.job.Task.{Task}
 use Rattle.scan_job.specs.declared.job.Task.TheVariants as tasks
@@ -20,7 +20,7 @@ use Rattle.option_desc.specs.declared.value.Value.{Value}
 use Rattle.client_replies.specs.ProtocolStates.{target_of, is_batch, shows}
 use Rattle.net_client.specs.ClientStates.{protocol_of}
 use Rattle.system_model.specs.AbstractMessages as words
-use Rattle.system_model.specs.Devices.{Make, OptionsInForce, descriptors_of, abstract_status}
+use Rattle.system_model.specs.Devices.{Make, OptionsInForce, descriptors_in_force, abstract_status}
 use Rattle.system_model.specs.Client as rules
 use Rattle.system_model.specs.Client.{Idle, ClientView, JobStage}
 use Rattle.system_model.specs.AbstractInForce as ruled
@@ -92,7 +92,7 @@ options_shown t i reports sound stage ruled task same h =
       settled = right.1;
       descriptors = sym told.0 ∙ right.2;
       values = sym told.1 ∙ right.3;
-      filled = is_filled (make_for t.system i) right.0 (descriptors_of (make_for t.system i) right.0) reports.options told.2 (sym told.0 ∙ right.2) (sym told.1 ∙ right.3);
+      filled = is_filled (make_for t.system i) right.0 (descriptors_in_force (make_for t.system i) right.0) reports.options told.2 (sym told.0 ∙ right.2) (sym told.1 ∙ right.3);
     }
 
 -- the settings of a job that is done are those of the model's fold

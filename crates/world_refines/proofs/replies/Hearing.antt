@@ -3,7 +3,7 @@ use Rattle.std.specs.Prelude.{is_some, IsSome, min}
 use Rattle.std.proofs.Common.{arith, zero, suc, ◌≡◌, ◌≢◌, ◌⊎◌, inl, inr, ◌∙◌, ℕ, ◌<◌, List, [], ◌∷◌, ◌++◌, Option, Some, None, Bool, true, false, refl, sym, ap, subst, map, slice_get, slice_set, append-nil}
 use Rattle.std.proofs.lemmas.List.{take-append-drop}
 use Rattle.page_picture.specs.Shows.{Frame}
-use Rattle.device_api.specs.declared.device_info.DeviceInfo.{DeviceInfo}
+use Rattle.sane_fixed.specs.declared.device_info.DeviceInfo.{DeviceInfo}
 use Rattle.data_records.specs.declared.records.RecordPhase.{RecordPhase}
 use Rattle.frame_join.specs.FrameHistory.{JoinHistory, is_joined}
 use Rattle.saned_core.specs.declared.session_slot.SessionId.{SessionId}
@@ -15,7 +15,7 @@ use Rattle.scan_job.specs.declared.outcome.Outcome.TheVariants as outcomes
 use Rattle.client_replies.specs.declared.progress.JobTarget.{JobTarget}
 use Rattle.client_replies.specs.declared.progress.Progress.{Progress}
 use Rattle.client_replies.specs.declared.progress.Progress.TheVariants as stages
-use Rattle.client_replies.specs.ProtocolStates.{ProtocolState, target_of, is_batch, is_imaging, is_running}
+use Rattle.client_replies.specs.ProtocolStates.{ProtocolState, target_of, is_batch, is_imaging, is_running, HistoryFits, FitsAt, IsBetweenFrames, turns}
 use Rattle.client_replies.specs.ProtocolStates as client
 use Rattle.net_client.specs.ClientStates.{ClientState, protocol_of}
 use Rattle.system_model.specs.AbstractMessages.{Memory, NoMem, AbstractReply, AbstractRequest}
@@ -45,7 +45,6 @@ use Rattle.system_model.specs.Actions as actions
 use Rattle.system_model.specs.Actions.{job_after_reply}
 use Rattle.system_model.specs.Transitions.{By}
 use Rattle.client_replies.specs.declared.progress.Notes.{Notes}
-use Rattle.client_replies.specs.ProtocolStates.{HistoryFits, FitsAt, IsBetweenFrames, turns}
 use Rattle.client_refines.specs.ClientRefinement.{task_of}
 use Rattle.client_refines.specs.RequestRefinement.{asks_of}
 use Rattle.client_refines.specs.PieceRefinement.{SpellsSent}

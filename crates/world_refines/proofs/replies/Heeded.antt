@@ -1,7 +1,7 @@
 -- What a client makes of a piece of the reply that is due to it.
 use Rattle.std.proofs.Common.{◌≡◌, ◌≢◌, ◌⊎◌, inl, inr, ◌∙◌, ℕ, List, [], ◌∷◌, ◌++◌, Some, true, false, refl, sym, ap, subst, append_assoc, append-nil}
 use Rattle.std.specs.Prelude.{IsSome}
-use Rattle.device_api.specs.declared.device_info.DeviceInfo.{DeviceInfo}
+use Rattle.sane_fixed.specs.declared.device_info.DeviceInfo.{DeviceInfo}
 use Rattle.page_picture.specs.Shows.{Frame}
 use Rattle.frame_join.specs.FrameHistory.{JoinHistory}
 use Rattle.sane_fixed.specs.declared.status.Status.TheVariants as statuses

@@ -16,18 +16,17 @@ use Rattle.client_replies.specs.declared.progress.Progress.{Progress}
 use Rattle.client_replies.specs.declared.progress.Progress.TheVariants as stages
 use Rattle.client_replies.specs.ReplyTurns.{of_kind}
 use Rattle.client_replies.specs.ProtocolStates.{target_of}
-use Rattle.client_replies.specs.WireValues as client
-use Rattle.client_replies.specs.WireValues.{given_like, wire_value_in}
+use Rattle.client_replies.specs.GivenValues.{given_like, wire_value_in}
 use Rattle.saned_requests.specs.declared.request_answer.RequestAnswer.{RequestAnswer}
 use Rattle.scan_job.specs.KnownValues.{has_one_value}
 use Rattle.saned_requests.specs.Holding.{free_word, held_by}
 use Rattle.saned_requests.specs.RequestAnswers.{RequestContext, kind_of, options_of_lease}
-use Rattle.saned_requests.specs.WireValues.{wire_of}
+use Rattle.wire_message.specs.WireValues.{wire_of}
 use Rattle.saned_core.specs.Feeding as daemon
 use Rattle.system_model.specs.AbstractMessages.{Authorize, Challenge, Describe, Get, GetDevices, Init, Open, Parameters, AbstractReply, AbstractRequest, Set, Start}
 use Rattle.system_model.specs.Client as rules
 use Rattle.system_model.specs.Client.{ClientView, Running, JobStage, request_awaited}
-use Rattle.system_model.specs.Devices.{Make, OptionsInForce, AcceptedSet, accept_value, has_readable_value, readable_value}
+use Rattle.system_model.specs.Devices.{Make, OptionsInForce, AbstractAcceptedSet, accept_value, has_readable_value, readable_value}
 use Rattle.system_model.specs.Devices as rules_devices
 use Rattle.system_model.specs.AbstractDevices.{AbstractDevice, is_held_by, is_resting, without_first}
 use Rattle.system_model.specs.AbstractSessions.{least_free_word as free_of, only_word}
@@ -52,7 +51,6 @@ use Rattle.world_refines.proofs.requests.Kinded.{IsFor}
 use Rattle.world_refines.proofs.requests.Listing.{listed_told}
 use Rattle.world_refines.proofs.requests.OneReply.{HasShape}
 use Rattle.world_refines.proofs.requests.Replied.{IsSaid}
-use Rattle.world_refines.proofs.requests.SentValues.{same_wire}
 use Rattle.world_refines.proofs.replies.ReplyTelling.{authorize_comes, describing_comes, get_comes, greeting_comes, listing_comes, open_comes, set_comes, shaping_comes, start_comes}
 use Rattle.world_refines.proofs.replies.Valued.{known_desc, value_given, value_got, wanted_single}
 
@@ -175,8 +173,8 @@ authorize_free i k b m dev (rules.Imaging params heard) c e h = absurd (let clas
 
 -- ---- what the client knows of its options is what the device has
 
-table_is : (k : Make) (known : List Descriptor) (options dev : OptionsInForce) → known ≡ rules_devices.descriptors_of k options → dev ≡ options → known ≡ table.descriptors_of dev
-unfolding rules_devices.descriptors_of
+table_is : (k : Make) (known : List Descriptor) (options dev : OptionsInForce) → known ≡ rules_devices.descriptors_in_force k options → dev ≡ options → known ≡ table.descriptors_of dev
+unfolding rules_devices.descriptors_in_force
 table_is k known options dev e is = e ∙ ap table.descriptors_of (sym is)
 
 mine_held : (i : ℕ) (h : Option ℕ) → h ≡ Some i → is_held_by i h ≡ true
@@ -191,18 +189,17 @@ word_descriptors i make d device p h mine =
 
 -- a value that is given comes back
 set_back : (k : Make) (options : OptionsInForce) (target : JobTarget) (known : List Descriptor) (notes : Notes) (n : ℕ) (kind : Kind) (name : List ℕ) (asked_ : Value) → known ≡ table.descriptors_of options → known ≡ descs notes.known → IsApt target (stages.Putting n kind name asked_) notes →
-    (w on : ℕ) (sent : Kind) (value : WireValue) → IsSet 0 known n asked_ w on sent value → (put : AcceptedSet) → accept_value k options n asked_ ≡ Some put → of_kind kind sent (given_like asked_ (wire_of put.given)) ≡ Some put.given
+    (w on : ℕ) (sent : Kind) (value : WireValue) → IsSet 0 known n asked_ w on sent value → (put : AbstractAcceptedSet) → accept_value k options n asked_ ≡ Some put → of_kind kind sent (given_like asked_ (wire_of put.given)) ≡ Some put.given
 set_back k options target known notes n kind name asked_ is told apt w on sent value set put e =
     let there : slice_get (descs notes.known) n ≡ Some set.desc = subst (λ (ds : List Descriptor). slice_get ds n ≡ Some set.desc) told set.stands in
     let desc = known_desc notes.known n apt.option set.desc apt.stands there in
     let kind_is : kind ≡ set.desc.kind = apt.kind_is ∙ ap (λ (x : Descriptor). x.kind) desc in
     let back = value_given k options n set.desc set.text asked_ put (subst (λ (ds : List Descriptor). slice_get ds n ≡ Some set.desc) is set.stands) set.reads e in
-    subst (λ (v : WireValue). of_kind kind sent (given_like asked_ v) ≡ Some put.given) (same_wire put.given)
-    (subst (λ (x : Kind). of_kind kind x (given_like asked_ (client.wire_of put.given)) ≡ Some put.given) (sym set.kind_is)
-    (subst (λ (x : Kind). of_kind x set.desc.kind (given_like asked_ (client.wire_of put.given)) ≡ Some put.given) (sym kind_is) back))
+    subst (λ (x : Kind). of_kind kind x (given_like asked_ (wire_of put.given)) ≡ Some put.given) (sym set.kind_is)
+    (subst (λ (x : Kind). of_kind x set.desc.kind (given_like asked_ (wire_of put.given)) ≡ Some put.given) (sym kind_is) back)
 
 -- so does one that is told
-get_back : (k : Make) (options : OptionsInForce) (target : JobTarget) (known descriptors : List Descriptor) (notes : Notes) (n : ℕ) (kind : Kind) (size : ℕ) (left : List ℕ) → known ≡ table.descriptors_of options → descriptors ≡ table.descriptors_of options → rules_devices.IsAllowed k options → known ≡ descs notes.known →
+get_back : (k : Make) (options : OptionsInForce) (target : JobTarget) (known descriptors : List Descriptor) (notes : Notes) (n : ℕ) (kind : Kind) (size : ℕ) (left : List ℕ) → known ≡ table.descriptors_of options → descriptors ≡ table.descriptors_of options → rules_devices.AreOptionsAllowed k options → known ≡ descs notes.known →
     values_wanted_from 0 notes.known ≡ n ∷ left → IsApt target (stages.Getting n kind size) notes → (w on : ℕ) (sent : Kind) (value : WireValue) → IsGet 0 known n w on sent value → has_readable_value k options n ≡ true →
     of_kind kind (kind_of (slice_get descriptors on) sent) (wire_value_in kind (wire_of (readable_value k options n))) ≡ Some (readable_value k options n)
 get_back k options target known descriptors notes n kind size left is own_is allowed told wants apt w on sent value get e =
@@ -213,9 +210,8 @@ get_back k options target known descriptors notes n kind size left is own_is all
     let here : slice_get descriptors on ≡ Some get.desc = ap (λ (ds : List Descriptor). slice_get ds on) own_is ∙ (ap (slice_get (table.descriptors_of options)) get.number ∙ at) in
     let one = wanted_single notes.known n left apt.option wants apt.stands in
     let back = value_got k options n get.desc at allowed (subst (λ (x : Descriptor). has_one_value x.kind x.size ≡ true) desc one) e in
-    subst (λ (v : WireValue). of_kind kind (kind_of (slice_get descriptors on) sent) (wire_value_in kind v) ≡ Some (readable_value k options n)) (same_wire (readable_value k options n))
-    (subst (λ (o : Option Descriptor). of_kind kind (kind_of o sent) (wire_value_in kind (client.wire_of (readable_value k options n))) ≡ Some (readable_value k options n)) (sym here)
-    (subst (λ (x : Kind). of_kind x get.desc.kind (wire_value_in x (client.wire_of (readable_value k options n))) ≡ Some (readable_value k options n)) (sym kind_is) back))
+    subst (λ (o : Option Descriptor). of_kind kind (kind_of o sent) (wire_value_in kind (wire_of (readable_value k options n))) ≡ Some (readable_value k options n)) (sym here)
+    (subst (λ (x : Kind). of_kind x get.desc.kind (wire_value_in x (wire_of (readable_value k options n))) ≡ Some (readable_value k options n)) (sym kind_is) back)
 
 -- ---- by what it waits for
 
@@ -238,7 +234,7 @@ free_at t i s d h n = free_zero i s.make d s.device (s.job i) h.shows n
 infos_at : (t : Ghost) (i : ℕ) (s : SystemState) (d : RequestContext) → Desked t i s d → map (place_of_info t.infos) (manner d 0).infos ≡ listed_devices s
 infos_at t i s d h = listed_told i s.make d s.device (session_by i s.device (s.job i)) t.infos h.infos h.apart h.shows ∙ ap (listed_of s.device) (sym h.places)
 
-allowed_here : (t : Ghost) (i : ℕ) (s : SystemState) (d : RequestContext) → Desked t i s d → rules_devices.IsAllowed (make_for s i) (device_for s i).options
+allowed_here : (t : Ghost) (i : ℕ) (s : SystemState) (d : RequestContext) → Desked t i s d → rules_devices.AreOptionsAllowed (make_for s i) (device_for s i).options
 allowed_here t i s d h = (h.sound.fit (s.job i).session.job.wants).allowed
 
 pub comes_by : (t : Ghost) (i : ℕ) (s : SystemState) (d : RequestContext) (q : Asked) (r : AbstractRequest) (rest : List AbstractRequest) (said : RequestAnswer) (reply : AbstractReply) (text : List ℕ) (progress : Progress) (notes : Notes) (past : JoinHistory) → IsOffered t i s d q r rest said reply text → WaitsAs (s.job i).session.job progress notes past (s.job i).client → IsApt (target_of (t.jobs i)) progress notes →

@@ -6,7 +6,7 @@ use Rattle.sane_fixed.specs.declared.status.Status.{Status as Code}
 use Rattle.sane_fixed.specs.declared.status.Status.TheVariants as code
 use Rattle.option_desc.specs.declared.descriptor.Descriptor.{Descriptor}
 use Rattle.option_desc.specs.declared.value.Value.{Value}
-use Rattle.device_api.specs.declared.device_info.DeviceInfo.{DeviceInfo}
+use Rattle.sane_fixed.specs.declared.device_info.DeviceInfo.{DeviceInfo}
 use Rattle.md5_auth.specs.ChallengeReading.{challenge_of}
 use Rattle.wire_format.specs.Limit.{limited_format}
 use Rattle.wire_message.specs.declared.message.ControlAction.TheVariants as actions
@@ -23,15 +23,16 @@ use Rattle.client_replies.specs.declared.progress.JobTarget.{JobTarget}
 use Rattle.client_replies.specs.declared.progress.Progress.{Progress}
 use Rattle.client_replies.specs.declared.progress.Progress.TheVariants as stages
 use Rattle.client_replies.specs.ReplyTurns.{of_kind}
-use Rattle.client_replies.specs.WireValues.{given_like, wire_value_in}
+use Rattle.client_replies.specs.GivenValues.{given_like, wire_value_in}
 use Rattle.net_client.specs.ReplyPieces.{awaited_procedure}
 use Rattle.saned_requests.specs.declared.request_answer.RequestAnswer.{RequestAnswer}
 use Rattle.saned_requests.specs.declared.request_answer.RequestAnswer.TheVariants.{One, Two}
 use Rattle.saned_requests.specs.RequestAnswers.{kind_of, no_info, no_params, own_version, refused_control, start_reply}
-use Rattle.saned_requests.specs.WireValues.{sent_as, size_of, wire_of}
+use Rattle.saned_requests.specs.OptionValues.{sent_as, size_of}
+use Rattle.wire_message.specs.WireValues.{wire_of}
 use Rattle.saned_core.specs.Feeding as daemon
 use Rattle.system_model.specs.AbstractMessages.{Authorize, Begun, Challenge, Challenged, Describe, Described, Gave, Get, GetDevices, Good, Got, Greeted, Init, Listed, Open, Opened, Parameters, Refused, AbstractReply, Set, Shaped, Start, Status}
-use Rattle.system_model.specs.Devices.{Make, OptionsInForce, AcceptedSet, accept_value, abstract_status, has_readable_value, readable_value}
+use Rattle.system_model.specs.Devices.{Make, OptionsInForce, AbstractAcceptedSet, accept_value, abstract_status, has_readable_value, readable_value}
 use Rattle.client_refines.specs.DecodedReplies.{Says, gave_or_acked, reply_if_good, got_or_acked, opened_reply, decoded_reply_at}
 use Rattle.client_refines.specs.DecodedReplies as senses
 use Rattle.client_refines.specs.RequestRefinement.{IsRequest}
@@ -242,7 +243,7 @@ describing_comes place k options ds target known m q r said text is f shape s sa
 
 -- ---- CONTROL_OPTION
 
-set_told : (place : DeviceInfo → ℕ) (k : Make) (options : OptionsInForce) (ds : List ℕ) (m : Manner) (w on : ℕ) (kind sent : Kind) (value : WireValue) (n : ℕ) (name : List ℕ) (asked : Value) (r : AbstractReply) (text : List ℕ) → ((put : AcceptedSet) → accept_value k options n asked ≡ Some put → of_kind kind sent (given_like asked (wire_of put.given)) ≡ Some put.given) →
+set_told : (place : DeviceInfo → ℕ) (k : Make) (options : OptionsInForce) (ds : List ℕ) (m : Manner) (w on : ℕ) (kind sent : Kind) (value : WireValue) (n : ℕ) (name : List ℕ) (asked : Value) (r : AbstractReply) (text : List ℕ) → ((put : AbstractAcceptedSet) → accept_value k options n asked ≡ Some put → of_kind kind sent (given_like asked (wire_of put.given)) ≡ Some put.given) →
     IsFor k options ds (Set n asked) r → Offer m (requests.ControlOption w on actions.SetValue sent value) r text → SpellsReply place (stages.Putting n kind name asked) r text
 set_told place k options ds m w on kind sent value n name asked (Gave given info) text back f o =
     let q = requests.ControlOption w on actions.SetValue sent value in
@@ -256,7 +257,7 @@ set_told place k options ds m w on kind sent value n name asked (Refused status)
     refused_as place (stages.Putting n kind name asked) procedures.ControlOption m (requests.ControlOption w on actions.SetValue sent value) status text (λ c. refused_control c sent value) (λ c. gave_or_acked (of_kind kind sent (given_like asked value)) no_info) refl (λ c. refl) (λ c. refl) (λ c. refl) (λ c. tt) o
 set_told place k options ds m w on kind sent value n name asked r text back f o = absurd f
 
-pub set_comes : (place : DeviceInfo → ℕ) (k : Make) (options : OptionsInForce) (ds : List ℕ) (target : JobTarget) (known : List Descriptor) (m : Manner) (q : Asked) (n : ℕ) (kind : Kind) (name : List ℕ) (asked : Value) (r : AbstractReply) (said : RequestAnswer) (text : List ℕ) → ((w on : ℕ) (sent : Kind) (value : WireValue) → IsRequest target 0 known (requests.ControlOption w on actions.SetValue sent value) (Set n asked) → (put : AcceptedSet) →
+pub set_comes : (place : DeviceInfo → ℕ) (k : Make) (options : OptionsInForce) (ds : List ℕ) (target : JobTarget) (known : List Descriptor) (m : Manner) (q : Asked) (n : ℕ) (kind : Kind) (name : List ℕ) (asked : Value) (r : AbstractReply) (said : RequestAnswer) (text : List ℕ) → ((w on : ℕ) (sent : Kind) (value : WireValue) → IsRequest target 0 known (requests.ControlOption w on actions.SetValue sent value) (Set n asked) → (put : AbstractAcceptedSet) →
     accept_value k options n asked ≡ Some put → of_kind kind sent (given_like asked (wire_of put.given)) ≡ Some put.given) → IsRequest target 0 known q (Set n asked) → IsFor k options ds (Set n asked) r → HasShape q said → IsSaid m q (r ∷ []) said → daemon.SaysAll (daemon.replies_to said) text → SpellsReply place (stages.Putting n kind name asked) r text
 set_comes place k options ds target known m (requests.ControlOption w on actions.SetValue sent value) n kind name asked r said text back is f shape s says =
     set_told place k options ds m w on kind sent value n name asked r text (back w on sent value is) f (offers m (requests.ControlOption w on actions.SetValue sent value) r said shape.0 text shape.1 s says)

@@ -14,18 +14,21 @@ use Rattle.option_desc.specs.Reads.{pieces_of, read_value, read_as, word_in, wor
 use Rattle.scan_frames.specs.declared.setup.Setup.{Setup}
 use Rattle.device_api.specs.ScannerLimits.{IsAllowed}
 use Rattle.device_api.specs.declared.scan_option.ScanOption.{ScanOption}
-use Rattle.device_api.specs.declared.scan_option.ScanOption.TheVariants.{NumOptions, Mode, Depth, Resolution, TlX, TlY, BrX, BrY, GammaTable, RedGammaTable, GreenGammaTable, BlueGammaTable, ThreePassOrder, PplLoss, ReadLimitSize, ReadReturnValue, HandScanner}
-use Rattle.device_api.specs.Options.{descriptor_of, descriptors_of, has_cap, is_active, option_at, option_caps, option_kind, option_size, options_of}
+use Rattle.device_api.specs.Options.{descriptor_of, descriptors_of, is_active, option_at, option_caps, option_kind, option_size, options_of}
+use Rattle.sane_fixed.specs.Cap.{has_cap}
 use Rattle.device_api.specs.Values.{get_result, option_got, option_value, option_passing}
 use Rattle.scan_job.specs.KnownValues.{has_one_value}
 use Rattle.client_replies.specs.ReplyTurns.{of_kind, wants_value}
-use Rattle.client_replies.specs.WireValues.{given_like, wire_value_in, wire_of}
+use Rattle.client_replies.specs.GivenValues.{given_like, wire_value_in}
+use Rattle.wire_message.specs.WireValues.{wire_of}
 use Rattle.system_model.specs.Devices as rules
-use Rattle.system_model.specs.Devices.{IsNearest, Make, AcceptedSet, is_answered_value, accept_value, has_readable_value, readable_value, value_or_false}
+use Rattle.system_model.specs.Devices.{IsNearest, Make, AbstractAcceptedSet, is_answered_value, accept_value, has_readable_value, readable_value, value_or_false}
 use Rattle.system_model.proofs.Laws.{is_nearest}
 use Rattle.scan_laws.specs.NearestSet.{GivesNearest}
 use Rattle.client_refines.specs.ClientRefinement.{descs, values_wanted_from}
 use Rattle.daemon_refines.proofs.Moved.{unsome}
+use Rattle.device_api.proofs.OptionForms.{OptionForm, form_of}
+use Rattle.device_api.proofs.OptionForms.OptionForm.{OneInt, OneFixed, OneFlag, OneText, Table}
 use Rattle.world_refines.proofs.requests.SentValues.{at_number, is_option, passing_is, word_in_fits}
 use Rattle.world_refines.proofs.replies.Values.{IsSent, given_again, told_again}
 
@@ -61,58 +64,43 @@ sent_text : (text : List ℕ) (asked : Value) (b : Bool) → list_any (λ c. c =
 sent_text text asked true e h = absurd (let clash : None ≡ Some asked = h in cc)
 sent_text text asked false e h = subst IsSent (unsome (Text text) asked h) e
 
-sent_by : (o : ScanOption) (text : List ℕ) (asked : Value) → read_as (option_kind o) (option_size o) text ≡ Some asked → IsSent asked
-sent_by NumOptions text asked h = sent_int text asked (word_in kinds.Int text) refl h
-sent_by Mode text asked h = sent_text text asked (list_any (λ c. c == 0) text) refl h
-sent_by Depth text asked h = sent_int text asked (word_in kinds.Int text) refl h
-sent_by Resolution text asked h = sent_int text asked (word_in kinds.Int text) refl h
-sent_by TlX text asked h = sent_fixed text asked (word_in kinds.Fixed text) refl h
-sent_by TlY text asked h = sent_fixed text asked (word_in kinds.Fixed text) refl h
-sent_by BrX text asked h = sent_fixed text asked (word_in kinds.Fixed text) refl h
-sent_by BrY text asked h = sent_fixed text asked (word_in kinds.Fixed text) refl h
-sent_by GammaTable text asked h = sent_words text asked (words_in kinds.Int (pieces_of text)) refl h
-sent_by RedGammaTable text asked h = sent_words text asked (words_in kinds.Int (pieces_of text)) refl h
-sent_by GreenGammaTable text asked h = sent_words text asked (words_in kinds.Int (pieces_of text)) refl h
-sent_by BlueGammaTable text asked h = sent_words text asked (words_in kinds.Int (pieces_of text)) refl h
-sent_by ThreePassOrder text asked h = sent_text text asked (list_any (λ c. c == 0) text) refl h
-sent_by PplLoss text asked h = sent_int text asked (word_in kinds.Int text) refl h
-sent_by ReadLimitSize text asked h = sent_int text asked (word_in kinds.Int text) refl h
-sent_by ReadReturnValue text asked h = sent_text text asked (list_any (λ c. c == 0) text) refl h
-sent_by HandScanner text asked h = sent_flag asked (bytes_eq text (codes "yes")) (bytes_eq text (codes "no")) h
+abbrev IsSentAs : Kind → ℕ → List ℕ → Value → Type 0
+IsSentAs kind size text asked = read_as kind size text ≡ Some asked → IsSent asked
+
+sent_at : (kind own : Kind) (size n : ℕ) (text : List ℕ) (asked : Value) → kind ≡ own → size ≡ n → IsSentAs own n text asked → IsSentAs kind size text asked
+sent_at kind own size n text asked k s h = subst (λ (x : Kind). IsSentAs x size text asked) (sym k) (subst (λ (x : ℕ). IsSentAs own x text asked) (sym s) h)
+
+sent_by : (kind : Kind) (size : ℕ) (text : List ℕ) (asked : Value) → OptionForm kind size → IsSentAs kind size text asked
+sent_by kind size text asked (OneInt k s) = sent_at kind kinds.Int size 4 text asked k s (λ e. sent_int text asked (word_in kinds.Int text) refl e)
+sent_by kind size text asked (OneFixed k s) = sent_at kind kinds.Fixed size 4 text asked k s (λ e. sent_fixed text asked (word_in kinds.Fixed text) refl e)
+sent_by kind size text asked (OneFlag k s) = sent_at kind kinds.Bool size 4 text asked k s (λ e. sent_flag asked (bytes_eq text (codes "yes")) (bytes_eq text (codes "no")) e)
+sent_by kind size text asked (OneText k) = sent_at kind kinds.String size size text asked k refl (λ e. sent_text text asked (list_any (λ c. c == 0) text) refl e)
+sent_by kind size text asked (Table k s) = sent_at kind kinds.Int size 1024 text asked k s (λ e. sent_words text asked (words_in kinds.Int (pieces_of text)) refl e)
 
 -- ---- by an option's kind
 
-kind_same : (o : ScanOption) (x : Option Value) → of_kind (option_kind o) (option_kind o) x ≡ x
-kind_same NumOptions x = refl
-kind_same Mode x = refl
-kind_same Depth x = refl
-kind_same Resolution x = refl
-kind_same TlX x = refl
-kind_same TlY x = refl
-kind_same BrX x = refl
-kind_same BrY x = refl
-kind_same GammaTable x = refl
-kind_same RedGammaTable x = refl
-kind_same GreenGammaTable x = refl
-kind_same BlueGammaTable x = refl
-kind_same ThreePassOrder x = refl
-kind_same PplLoss x = refl
-kind_same ReadLimitSize x = refl
-kind_same ReadReturnValue x = refl
-kind_same HandScanner x = refl
+kind_at : (kind own : Kind) (x : Option Value) → kind ≡ own → of_kind own own x ≡ x → of_kind kind kind x ≡ x
+kind_at kind own x k h = subst (λ (y : Kind). of_kind y y x ≡ x) (sym k) h
+
+kind_same : (kind : Kind) (size : ℕ) (x : Option Value) → OptionForm kind size → of_kind kind kind x ≡ x
+kind_same kind size x (OneInt k s) = kind_at kind kinds.Int x k refl
+kind_same kind size x (OneFixed k s) = kind_at kind kinds.Fixed x k refl
+kind_same kind size x (OneFlag k s) = kind_at kind kinds.Bool x k refl
+kind_same kind size x (OneText k) = kind_at kind kinds.String x k refl
+kind_same kind size x (Table k s) = kind_at kind kinds.Int x k refl
 
 -- ---- a setting
 
 option_given : (setup : Setup) (o : ScanOption) (text : List ℕ) (asked given : Value) → read_value (descriptor_of setup o) text ≡ Some asked → NearestValue (descriptor_of setup o).constraint asked given →
     of_kind (descriptor_of setup o).kind (descriptor_of setup o).kind (given_like asked (wire_of given)) ≡ Some given
 unfolding read_value descriptor_of
-option_given setup o text asked given reads near = kind_same o (given_like asked (wire_of given)) ∙ given_again setup.scene.kind o asked given (sent_by o text asked reads) near
+option_given setup o text asked given reads near = kind_same (option_kind o) (option_size o) (given_like asked (wire_of given)) (form_of o) ∙ given_again setup.scene.kind o asked given (sent_by (option_kind o) (option_size o) text asked (form_of o) reads) near
 
 near_at : (k : Make) (setup : Setup) (n : ℕ) (asked given : Value) → IsNearest k setup n asked given → GivesNearest setup n asked given
 unfolding IsNearest
 near_at k setup n asked given h = h
 
-pub value_given : (k : Make) (setup : Setup) (n : ℕ) (desc : Descriptor) (text : List ℕ) (asked : Value) (put : AcceptedSet) → slice_get (descriptors_of setup) n ≡ Some desc → read_value desc text ≡ Some asked → accept_value k setup n asked ≡ Some put →
+pub value_given : (k : Make) (setup : Setup) (n : ℕ) (desc : Descriptor) (text : List ℕ) (asked : Value) (put : AbstractAcceptedSet) → slice_get (descriptors_of setup) n ≡ Some desc → read_value desc text ≡ Some asked → accept_value k setup n asked ≡ Some put →
     of_kind desc.kind desc.kind (given_like asked (wire_of put.given)) ≡ Some put.given
 value_given k setup n desc text asked put at reads e =
     let near = near_at k setup n asked put.given (is_nearest k setup n asked put e).0 in
@@ -137,13 +125,13 @@ got_is k setup n o at e =
 option_told : (setup : Setup) (o : ScanOption) → IsAllowed setup → has_one_value (descriptor_of setup o).kind (descriptor_of setup o).size ≡ true →
     of_kind (descriptor_of setup o).kind (descriptor_of setup o).kind (wire_value_in (descriptor_of setup o).kind (wire_of (option_value setup o))) ≡ Some (option_value setup o)
 unfolding descriptor_of
-option_told setup o allowed one = kind_same o (wire_value_in (option_kind o) (wire_of (option_value setup o))) ∙ told_again setup o allowed one
+option_told setup o allowed one = kind_same (option_kind o) (option_size o) (wire_value_in (option_kind o) (wire_of (option_value setup o))) (form_of o) ∙ told_again setup o allowed one
 
-allowed_at : (k : Make) (setup : Setup) → rules.IsAllowed k setup → IsAllowed setup
-unfolding rules.IsAllowed
+allowed_at : (k : Make) (setup : Setup) → rules.AreOptionsAllowed k setup → IsAllowed setup
+unfolding rules.AreOptionsAllowed
 allowed_at k setup h = h
 
-pub value_got : (k : Make) (setup : Setup) (n : ℕ) (desc : Descriptor) → slice_get (descriptors_of setup) n ≡ Some desc → rules.IsAllowed k setup → has_one_value desc.kind desc.size ≡ true → has_readable_value k setup n ≡ true →
+pub value_got : (k : Make) (setup : Setup) (n : ℕ) (desc : Descriptor) → slice_get (descriptors_of setup) n ≡ Some desc → rules.AreOptionsAllowed k setup → has_one_value desc.kind desc.size ≡ true → has_readable_value k setup n ≡ true →
     of_kind desc.kind desc.kind (wire_value_in desc.kind (wire_of (readable_value k setup n))) ≡ Some (readable_value k setup n)
 value_got k setup n desc at allowed one e =
     let is = is_option setup n desc at in

@@ -8,7 +8,7 @@ use Rattle.option_desc.specs.declared.value.Value.{Value}
 use Rattle.md5_auth.specs.declared.users.Entry.{Entry}
 use Rattle.device_api.specs.Options.{descriptors_of as table_options}
 use Rattle.device_api.specs.State.{DeviceState}
-use Rattle.device_api.specs.declared.device_info.DeviceInfo.{DeviceInfo}
+use Rattle.sane_fixed.specs.declared.device_info.DeviceInfo.{DeviceInfo}
 use Rattle.dispatch.specs.declared.table.place.Lease.{Lease}
 use Rattle.dispatch.specs.declared.table.place.Place.{Place}
 use Rattle.dispatch.specs.declared.table.place.Slot.{Slot}
@@ -23,18 +23,18 @@ use Rattle.client_replies.specs.ProtocolStates.{target_of}
 use Rattle.saned_requests.specs.declared.session.AwaitedAuthorization.{AwaitedAuthorization}
 use Rattle.saned_requests.specs.Holding.{held_by}
 use Rattle.saned_requests.specs.RequestAnswers.{RequestContext, MayOpen}
-use Rattle.saned_requests.specs.WireValues.{value_asked}
+use Rattle.saned_requests.specs.OptionValues.{value_asked}
 use Rattle.scan_job.specs.declared.job.Job.{Job}
 use Rattle.system_model.specs.AbstractMessages.{Authorize, Cancel, Challenge, Close, Describe, Exit, Get, GetDevices, Init, Open, Parameters, AbstractRequest, Set, Start, same_text}
 use Rattle.system_model.specs.Client as rules
-use Rattle.system_model.specs.Devices.{Make, OptionsInForce, descriptors_of, accept_value}
+use Rattle.system_model.specs.Devices.{Make, OptionsInForce, descriptors_in_force, accept_value}
 use Rattle.system_model.specs.AbstractDevices.{AbstractDevice, is_held_by}
 use Rattle.system_model.specs.Daemon.{Environment}
 use Rattle.system_model.specs.Actions.{environment_of}
 use Rattle.system_model.specs.SystemStates.{JobState}
 use Rattle.system_model.specs.AbstractSessions.{call_to, only_word}
 use Rattle.client_refines.specs.RequestRefinement.{IsRequest, IsSet}
-use Rattle.client_replies.specs.WireValues.{wire_of}
+use Rattle.wire_message.specs.WireValues.{wire_of}
 use Rattle.md5_auth.specs.ChallengeReading.{answer_of}
 use Rattle.option_desc.specs.Reads.{read_value}
 use Rattle.daemon_refines.specs.DeviceWords.{AsksFor, AsksNone, AsksOf}
@@ -150,12 +150,12 @@ is_word i make d device p l h e =
 abbrev pub SetComes : ℕ → (ℕ → AbstractDevice) → JobState → RequestContext → Make → ℕ → Kind → WireValue → Value → Type 0
 SetComes i device p d k n kind value asked = AsksFor (held_by d.session.held 0) n kind value asked ⊎ (AsksNone (held_by d.session.held 0) n kind value × ((device p.session.job.wants).holder ≡ Some i) × (accept_value k (device p.session.job.wants).options n asked ≡ None))
 
-known_there : (k : Make) (known : List Descriptor) (dev : AbstractDevice) (l : Lease DeviceState) → known ≡ descriptors_of k dev.options → dev.options ≡ l.device.setup → known ≡ table_options l.device.setup
-unfolding descriptors_of
+known_there : (k : Make) (known : List Descriptor) (dev : AbstractDevice) (l : Lease DeviceState) → known ≡ descriptors_in_force k dev.options → dev.options ≡ l.device.setup → known ≡ table_options l.device.setup
+unfolding descriptors_in_force
 known_there k known dev l e options = e ∙ ap table_options options
 
 set_at : (i : ℕ) (make : ℕ → Make) (d : RequestContext) (device : ℕ → AbstractDevice) (p : JobState) (k : Make) (known : List Descriptor) (n : ℕ) (kind : Kind) (value : WireValue) (asked : Value) (desc : Descriptor) (text : List ℕ) (h : Option (Lease DeviceState)) → held_by d.session.held 0 ≡ h → ContextRefines i make d device (session_by i device p) →
-    known ≡ descriptors_of k (device p.session.job.wants).options → slice_get known n ≡ Some desc → kind ≡ desc.kind → read_value desc text ≡ Some asked → value ≡ wire_of asked →
+    known ≡ descriptors_in_force k (device p.session.job.wants).options → slice_get known n ≡ Some desc → kind ≡ desc.kind → read_value desc text ≡ Some asked → value ≡ wire_of asked →
     AsksFor h n kind value asked ⊎ (AsksNone h n kind value × ((device p.session.job.wants).holder ≡ Some i) × (accept_value k (device p.session.job.wants).options n asked ≡ None))
 set_at i make d device p k known n kind value asked desc text None e h as_held stands kind_is reads value_is = inl tt
 set_at i make d device p k known n kind value asked desc text (Some l) e h as_held stands kind_is reads value_is =
@@ -220,7 +220,7 @@ pub open_guarded : (i : ℕ) (make : ℕ → Make) (users : List Entry) (infos :
 open_guarded i make users infos job d device p name h is =
     subst (λ (n : List ℕ). IsGuarded users n p.session.job.guarded) (sym is) (subst (λ (b : Bool). IsGuarded users job.device b) (sym (ap (λ (j : rules.AbstractJob). j.guarded) h.job_is)) (guards users job.device))
 
-set_free : (i : ℕ) (make : ℕ → Make) (users : List Entry) (infos : List DeviceInfo) (job : Job) (d : RequestContext) (device : ℕ → AbstractDevice) (p : JobState) (listed : List ℕ) (known : List Descriptor) (n : ℕ) (kind : Kind) (value : WireValue) (asked : Value) → IsSession i make users infos job d device p → known ≡ descriptors_of (make p.session.job.wants) (device p.session.job.wants).options →
+set_free : (i : ℕ) (make : ℕ → Make) (users : List Entry) (infos : List DeviceInfo) (job : Job) (d : RequestContext) (device : ℕ → AbstractDevice) (p : JobState) (listed : List ℕ) (known : List Descriptor) (n : ℕ) (kind : Kind) (value : WireValue) (asked : Value) → IsSession i make users infos job d device p → known ≡ descriptors_in_force (make p.session.job.wants) (device p.session.job.wants).options →
     IsSet 0 known n asked 0 n kind value → IsFree i make users d device p listed (requests.ControlOption 0 n actions.SetValue kind value) (Set n asked)
 set_free i make users infos job d device p listed known n kind value asked h as_held is =
     by_set (set_at i make d device p (make p.session.job.wants) known n kind value asked is.desc is.text (held_by d.session.held 0) refl h.shows as_held is.stands is.kind_is is.reads is.value_is)
@@ -229,7 +229,7 @@ set_free i make users infos job d device p listed known n kind value asked h as_
     by_set (inl asks) = inl (asked, asks, (refl, refl))
     by_set (inr odd) = inr (record { option = n; kind = kind; value = value; asked = asked; asked_is = refl; is = refl; none = odd.0; holder = odd.1; refused = odd.2 })
 
-set_there : (i : ℕ) (make : ℕ → Make) (users : List Entry) (infos : List DeviceInfo) (job : Job) (d : RequestContext) (device : ℕ → AbstractDevice) (p : JobState) (listed : List ℕ) (known : List Descriptor) (w o n : ℕ) (kind : Kind) (value : WireValue) (asked : Value) → IsSession i make users infos job d device p → known ≡ descriptors_of (make p.session.job.wants) (device p.session.job.wants).options →
+set_there : (i : ℕ) (make : ℕ → Make) (users : List Entry) (infos : List DeviceInfo) (job : Job) (d : RequestContext) (device : ℕ → AbstractDevice) (p : JobState) (listed : List ℕ) (known : List Descriptor) (w o n : ℕ) (kind : Kind) (value : WireValue) (asked : Value) → IsSession i make users infos job d device p → known ≡ descriptors_in_force (make p.session.job.wants) (device p.session.job.wants).options →
     IsSet 0 known n asked w o kind value → IsFree i make users d device p listed (requests.ControlOption w o actions.SetValue kind value) (Set n asked)
 set_there i make users infos job d device p listed known w o n kind value asked h as_held is =
     subst (λ (x : ℕ). IsFree i make users d device p listed (requests.ControlOption x o actions.SetValue kind value) (Set n asked)) (sym is.device_is)

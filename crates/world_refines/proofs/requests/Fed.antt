@@ -4,7 +4,7 @@ use Rattle.std.specs.List.{AllByRecursion}
 use Rattle.std.proofs.Common.{◌≡◌, inl, ◌∙◌, ℕ, ◌<◌, List, ◌++◌, Option, Some, Bool, true, false, refl, sym, ap, subst, slice_get, slice_set}
 use Rattle.page_picture.specs.Page.{IsPageView}
 use Rattle.device_api.specs.State.{DeviceState}
-use Rattle.device_api.specs.declared.device_info.DeviceInfo.{DeviceInfo}
+use Rattle.sane_fixed.specs.declared.device_info.DeviceInfo.{DeviceInfo}
 use Rattle.saned_core.specs.declared.session_slot.SessionSlot.{SessionSlot}
 use Rattle.saned_core.specs.declared.session_slot.SessionId.{SessionId}
 use Rattle.saned_core.specs.DaemonStates.{Core, replies_in, session_slot_of, session_in}

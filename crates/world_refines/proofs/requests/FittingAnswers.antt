@@ -3,13 +3,13 @@ use Rattle.std.proofs.Common.{◌≡◌, ℕ, List, [], ◌∷◌, Bool, true, f
 use Rattle.option_desc.specs.declared.value.Value.{Value}
 use Rattle.page_picture.specs.Shows.{Frame}
 use Rattle.system_model.specs.AbstractMessages.{Acked, Authorize, Begun, Cancel, Challenge, Challenged, Close, Describe, Described, Exit, Gave, Get, GetDevices, Got, Greeted, Init, Listed, Open, Opened, Parameters, Refused, AbstractReply, AbstractRequest, Set, Shaped, Start, same_text}
-use Rattle.system_model.specs.Devices.{Make, Page, AcceptedSet, picture_frames, accept_value, has_readable_value, readable_value}
+use Rattle.system_model.specs.Devices.{Make, Page, AbstractAcceptedSet, picture_frames, accept_value, has_readable_value, readable_value}
 use Rattle.system_model.specs.AbstractDevices.{Between, AbstractDevice, ScanPhase, Reading, Resting, is_held_by, is_resting}
 use Rattle.system_model.specs.Daemon.{Environment, TransferState, Ending, FailureCounts, Quiet, Streaming, Waiting, allow, answer, answer_awaited, answer_if, begin_page, begin_pass, get_reply, open_listed, put_reply, refuse, serve, set_reply, start_at, start_or_fail, start_page, start_effect, hand_out_device, take_listed}
 
 -- a value that was given is that of a put
 pub record IsPut (k : Make) (dev : AbstractDevice) (n : ℕ) (asked given : Value) : Type 0 where
-  pub put : AcceptedSet
+  pub put : AbstractAcceptedSet
   pub is : accept_value k dev.options n asked ≡ Some put
   pub given_is : given ≡ put.given
 
@@ -68,7 +68,7 @@ get_fits : (k : Make) (dev : AbstractDevice) (c : TransferState) (x : Environmen
 get_fits k dev c x n true e = (refl, e)
 get_fits k dev c x n false e = tt
 
-put_fits : (k : Make) (dev : AbstractDevice) (c : TransferState) (x : Environment) (n : ℕ) (v : Value) (o : Option AcceptedSet) → accept_value k dev.options n v ≡ o → AllFit k dev x (Set n v) (put_reply dev c o).told
+put_fits : (k : Make) (dev : AbstractDevice) (c : TransferState) (x : Environment) (n : ℕ) (v : Value) (o : Option AbstractAcceptedSet) → accept_value k dev.options n v ≡ o → AllFit k dev x (Set n v) (put_reply dev c o).told
 put_fits k dev c x n v None e = tt
 put_fits k dev c x n v (Some put) e = record { put = put; is = e; given_is = refl }
 

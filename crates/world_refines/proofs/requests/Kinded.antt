@@ -3,7 +3,7 @@ use Rattle.std.proofs.Common.{◌≡◌, ℕ, List, [], ◌∷◌, Bool, true, f
 use Rattle.option_desc.specs.declared.value.Value.{Value}
 use Rattle.page_picture.specs.Shows.{Frame}
 use Rattle.system_model.specs.AbstractMessages.{Acked, Authorize, Begun, Cancel, Challenge, Challenged, Close, Describe, Described, Exit, Gave, Get, GetDevices, Got, Greeted, Init, Listed, Open, Opened, Parameters, Refused, AbstractReply, AbstractRequest, Set, Shaped, Start, same_text}
-use Rattle.system_model.specs.Devices.{Make, OptionsInForce, Page, AcceptedSet, picture_frames, accept_value, has_readable_value, readable_value}
+use Rattle.system_model.specs.Devices.{Make, OptionsInForce, Page, AbstractAcceptedSet, picture_frames, accept_value, has_readable_value, readable_value}
 use Rattle.system_model.specs.AbstractDevices.{Between, AbstractDevice, ScanPhase, Reading, Resting, is_held_by, is_resting}
 use Rattle.system_model.specs.Daemon.{Environment, TransferState, Ending, FailureCounts, Quiet, Streaming, Waiting, allow, answer, answer_awaited, answer_if, begin_page, begin_pass, get_reply, open_listed, put_reply, set_reply, start_at, start_or_fail, start_page, start_effect, hand_out_device, take_listed}
 
@@ -19,7 +19,7 @@ IsFor k o ds (Authorize challenge) (Refused status) = Unit {0}
 IsFor k o ds Describe (Described descriptors) = Unit {0}
 IsFor k o ds (Get n) (Got value) = (has_readable_value k o n ≡ true) × (value ≡ readable_value k o n)
 IsFor k o ds (Get n) (Refused status) = Unit {0}
-IsFor k o ds (Set n asked) (Gave given info) = (put : AcceptedSet) × (accept_value k o n asked ≡ Some put) × (given ≡ put.given)
+IsFor k o ds (Set n asked) (Gave given info) = (put : AbstractAcceptedSet) × (accept_value k o n asked ≡ Some put) × (given ≡ put.given)
 IsFor k o ds (Set n asked) (Refused status) = Unit {0}
 IsFor k o ds Parameters (Shaped params) = Unit {0}
 IsFor k o ds Parameters (Refused status) = Unit {0}
@@ -60,7 +60,7 @@ get_for : (k : Make) (dev : AbstractDevice) (ds : List ℕ) (c : TransferState) 
 get_for k dev ds c n true e = (e, refl)
 get_for k dev ds c n false e = tt
 
-put_for : (k : Make) (dev : AbstractDevice) (ds : List ℕ) (c : TransferState) (n : ℕ) (asked : Value) (o : Option AcceptedSet) → accept_value k dev.options n asked ≡ o → AreFor k dev.options ds (Set n asked) (put_reply dev c o).told
+put_for : (k : Make) (dev : AbstractDevice) (ds : List ℕ) (c : TransferState) (n : ℕ) (asked : Value) (o : Option AbstractAcceptedSet) → accept_value k dev.options n asked ≡ o → AreFor k dev.options ds (Set n asked) (put_reply dev c o).told
 put_for k dev ds c n asked None e = tt
 put_for k dev ds c n asked (Some put) e = (put, e, refl)
 

@@ -3,7 +3,7 @@ use Rattle.std.proofs.Common.{◌≡◌, ◌≢◌, ◌⊎◌, inl, inr, ◌∙�
 use Rattle.option_desc.specs.declared.value.Value.{Value}
 use Rattle.page_picture.specs.Shows.{Frame}
 use Rattle.system_model.specs.AbstractMessages.{AccessDenied, Authorize, Busy, Cancel, Challenge, Challenged, Close, Describe, Exit, Get, GetDevices, Good, Inval, Init, IoError, NoDocs, Open, Parameters, Refused, AbstractReply, AbstractRequest, Set, Start, same_text}
-use Rattle.system_model.specs.Devices.{Make, Page, AcceptedSet, picture_frames, accept_value, has_readable_value}
+use Rattle.system_model.specs.Devices.{Make, Page, AbstractAcceptedSet, picture_frames, accept_value, has_readable_value}
 use Rattle.system_model.specs.AbstractDevices.{Between, AbstractDevice, ScanPhase, Reading, Resting, is_held_by, is_resting, device_let_go, put_back}
 use Rattle.system_model.specs.Daemon.{Environment, TransferState, Ending, FailureCounts, Quiet, AnswerEffect, Streaming, Waiting, allow, answer, answer_awaited, answer_if, begin_page, begin_pass, get_reply, open_listed, session_over_effect, put_reply, reply_effect, set_reply, start_at, start_or_fail, start_page, start_effect, hand_out_device, take_listed}
 
@@ -54,7 +54,7 @@ get_plain : (k : Make) (dev : AbstractDevice) (c : TransferState) (n : ℕ) (b :
 get_plain k dev c n true = record { told = tt; awaited = refl }
 get_plain k dev c n false = record { told = inval; awaited = refl }
 
-put_plain : (dev : AbstractDevice) (c : TransferState) (o : Option AcceptedSet) → Plain (put_reply dev c o)
+put_plain : (dev : AbstractDevice) (c : TransferState) (o : Option AbstractAcceptedSet) → Plain (put_reply dev c o)
 put_plain dev c None = record { told = inval; awaited = refl }
 put_plain dev c (Some put) = record { told = tt; awaited = refl }
 
@@ -164,7 +164,7 @@ get_ends : (k : Make) (dev : AbstractDevice) (c : TransferState) (n : ℕ) (b : 
 get_ends k dev c n true = refl
 get_ends k dev c n false = refl
 
-put_ends : (dev : AbstractDevice) (c : TransferState) (o : Option AcceptedSet) → (put_reply dev c o).goes_on ≡ true
+put_ends : (dev : AbstractDevice) (c : TransferState) (o : Option AbstractAcceptedSet) → (put_reply dev c o).goes_on ≡ true
 put_ends dev c None = refl
 put_ends dev c (Some put) = refl
 

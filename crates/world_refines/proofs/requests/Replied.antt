@@ -29,7 +29,7 @@ use Rattle.system_model.specs.Actions.{job_after_answer, environment_of}
 use Rattle.system_model.specs.SystemStates.{JobState, with_entry}
 use Rattle.saned_requests.specs.declared.session.Session.{Session as DeskSession}
 use Rattle.device_api.specs.State.{DeviceState}
-use Rattle.device_api.specs.declared.device_info.DeviceInfo.{DeviceInfo}
+use Rattle.sane_fixed.specs.declared.device_info.DeviceInfo.{DeviceInfo}
 use Rattle.system_model.specs.AbstractSessions.{least_free_word as free_of, one_word_session, only_word}
 use Rattle.system_model.specs.Transitions.{MayFail}
 use Rattle.client_refines.specs.RequestRefinement.{IsRequest}

@@ -3,7 +3,7 @@ use Rattle.std.specs.Prelude.{if◌then◌else◌, map, slice_get}
 use Rattle.std.specs.Option.{option_and_then}
 use Rattle.std.proofs.Common.{◌≡◌, ◌≢◌, ◌⊎◌, ◌∙◌, ℕ, zero, suc, List, [], ◌∷◌, Option, Some, None, Bool, true, false, refl, sym, ap, subst, length, eqb-true, arith}
 use Rattle.device_api.specs.State.{DeviceState}
-use Rattle.device_api.specs.declared.device_info.DeviceInfo.{DeviceInfo}
+use Rattle.sane_fixed.specs.declared.device_info.DeviceInfo.{DeviceInfo}
 use Rattle.page_picture.specs.Shows.{Frame}
 use Rattle.frame_join.specs.FrameHistory.{JoinHistory}
 use Rattle.saned_core.specs.declared.session_slot.SessionSlot.{SessionSlot}

@@ -23,14 +23,17 @@ use Rattle.option_desc.specs.declared.value.Value.TheVariants.{Flag, Int, Fixed,
 use Rattle.option_desc.specs.Fits.{fits_as, fits_of}
 use Rattle.option_desc.specs.Reads.{integer_of, pieces_of, read_value, read_as, word_in, words_in}
 use Rattle.wire_message.specs.declared.message.WireValue.{WireValue}
-use Rattle.client_replies.specs.WireValues.{given_like, wire_of, wire_value_in}
-use Rattle.saned_requests.specs.WireValues.{asked_of, text_in, value_asked}
-use Rattle.saned_requests.specs.WireValues as daemon
+use Rattle.client_replies.specs.GivenValues.{given_like, wire_value_in}
+use Rattle.wire_message.specs.WireValues.{text_in, wire_of}
+use Rattle.saned_requests.specs.OptionValues.{asked_of, value_asked}
+use Rattle.saned_requests.specs.OptionValues as daemon
 use Rattle.saned_requests.specs.declared.session.StringSize.{StringSize}
 use Rattle.saned_requests.specs.declared.session.StringSize.TheVariants.{OfText, OfOption}
 use Rattle.device_api.specs.declared.scan_option.ScanOption.{ScanOption}
-use Rattle.device_api.specs.declared.scan_option.ScanOption.TheVariants.{NumOptions, Mode, Depth, Resolution, TlX, TlY, BrX, BrY, GammaTable, RedGammaTable, GreenGammaTable, BlueGammaTable, ThreePassOrder, PplLoss, ReadLimitSize, ReadReturnValue, HandScanner}
-use Rattle.device_api.specs.Options.{descriptor_of, descriptors_of, has_cap, is_active, option_at, option_caps, option_kind, option_size, options_of}
+use Rattle.device_api.proofs.OptionForms.{OptionForm, form_of}
+use Rattle.device_api.proofs.OptionForms.OptionForm.{OneInt, OneFixed, OneFlag, OneText, Table}
+use Rattle.device_api.specs.Options.{descriptor_of, descriptors_of, is_active, option_at, option_caps, option_kind, option_size, options_of}
+use Rattle.sane_fixed.specs.Cap.{has_cap}
 use Rattle.device_api.specs.Values.{option_set, option_to_set, option_passing, put_answer, set_to}
 use Rattle.scan_frames.specs.declared.setup.Setup.{Setup}
 use Rattle.sane_fixed.specs.declared.status.Status.TheVariants as statuses
@@ -185,24 +188,18 @@ texts desc size text asked true e h = absurd (let clash : None ≡ Some asked = 
 texts desc size text asked false e h =
     subst (λ (v : Value). asked_of (described kinds.String size desc) (wire_of v) ≡ Some v) (unsome (Text text) asked h) (ap (option_map (λ text. Text text)) (text_again text e))
 
-by_option : (o : ScanOption) (desc : Descriptor) (text : List ℕ) (asked : Value) → read_as (option_kind o) (option_size o) text ≡ Some asked → Comes (option_kind o) (option_size o) desc.constraint asked (asked_of (described (option_kind o) (option_size o) desc) (wire_of asked))
-by_option NumOptions desc text asked h = inl (one_int desc text asked (word_in kinds.Int text) refl h)
-by_option Mode desc text asked h = inl (texts desc 6 text asked (list_any (λ c. c == 0) text) refl h)
-by_option Depth desc text asked h = inl (one_int desc text asked (word_in kinds.Int text) refl h)
-by_option Resolution desc text asked h = inl (one_int desc text asked (word_in kinds.Int text) refl h)
-by_option TlX desc text asked h = inl (one_fixed desc text asked (word_in kinds.Fixed text) refl h)
-by_option TlY desc text asked h = inl (one_fixed desc text asked (word_in kinds.Fixed text) refl h)
-by_option BrX desc text asked h = inl (one_fixed desc text asked (word_in kinds.Fixed text) refl h)
-by_option BrY desc text asked h = inl (one_fixed desc text asked (word_in kinds.Fixed text) refl h)
-by_option GammaTable desc text asked h = many_ints desc text asked (words_in kinds.Int (pieces_of text)) refl h
-by_option RedGammaTable desc text asked h = many_ints desc text asked (words_in kinds.Int (pieces_of text)) refl h
-by_option GreenGammaTable desc text asked h = many_ints desc text asked (words_in kinds.Int (pieces_of text)) refl h
-by_option BlueGammaTable desc text asked h = many_ints desc text asked (words_in kinds.Int (pieces_of text)) refl h
-by_option ThreePassOrder desc text asked h = inl (texts desc 4 text asked (list_any (λ c. c == 0) text) refl h)
-by_option PplLoss desc text asked h = inl (one_int desc text asked (word_in kinds.Int text) refl h)
-by_option ReadLimitSize desc text asked h = inl (one_int desc text asked (word_in kinds.Int text) refl h)
-by_option ReadReturnValue desc text asked h = inl (texts desc 26 text asked (list_any (λ c. c == 0) text) refl h)
-by_option HandScanner desc text asked h = inl (flags desc asked (bytes_eq text (codes "yes")) (bytes_eq text (codes "no")) h)
+abbrev IsComing : Kind → ℕ → Descriptor → List ℕ → Value → Type 0
+IsComing kind size desc text asked = read_as kind size text ≡ Some asked → Comes kind size desc.constraint asked (asked_of (described kind size desc) (wire_of asked))
+
+coming_at : (kind own : Kind) (size n : ℕ) (desc : Descriptor) (text : List ℕ) (asked : Value) → kind ≡ own → size ≡ n → IsComing own n desc text asked → IsComing kind size desc text asked
+coming_at kind own size n desc text asked k s h = subst (λ (x : Kind). IsComing x size desc text asked) (sym k) (subst (λ (x : ℕ). IsComing own x desc text asked) (sym s) h)
+
+by_form : (kind : Kind) (size : ℕ) (desc : Descriptor) (text : List ℕ) (asked : Value) → OptionForm kind size → IsComing kind size desc text asked
+by_form kind size desc text asked (OneInt k s) = coming_at kind kinds.Int size 4 desc text asked k s (λ e. inl (one_int desc text asked (word_in kinds.Int text) refl e))
+by_form kind size desc text asked (OneFixed k s) = coming_at kind kinds.Fixed size 4 desc text asked k s (λ e. inl (one_fixed desc text asked (word_in kinds.Fixed text) refl e))
+by_form kind size desc text asked (OneFlag k s) = coming_at kind kinds.Bool size 4 desc text asked k s (λ e. inl (flags desc asked (bytes_eq text (codes "yes")) (bytes_eq text (codes "no")) e))
+by_form kind size desc text asked (OneText k) = coming_at kind kinds.String size size desc text asked k refl (λ e. inl (texts desc size text asked (list_any (λ c. c == 0) text) refl e))
+by_form kind size desc text asked (Table k s) = coming_at kind kinds.Int size 1024 desc text asked k s (λ e. many_ints desc text asked (words_in kinds.Int (pieces_of text)) refl e)
 
 -- ---- the descriptors of a device
 
@@ -226,7 +223,7 @@ same_kind kind desc value e = ap (λ (b : Bool). if b then asked_of desc value e
 of_option : (setup : Setup) (o : ScanOption) (text : List ℕ) (asked : Value) → read_value (descriptor_of setup o) text ≡ Some asked → Comes (option_kind o) (option_size o) (descriptor_of setup o).constraint asked (value_asked (descriptor_of setup o) (descriptor_of setup o).kind (wire_of asked))
 unfolding read_value descriptor_of
 of_option setup o text asked e =
-    subst (Comes (option_kind o) (option_size o) (descriptor_of setup o).constraint asked) (sym (same_kind (option_kind o) (descriptor_of setup o) (wire_of asked) refl)) (by_option o (descriptor_of setup o) text asked e)
+    subst (Comes (option_kind o) (option_size o) (descriptor_of setup o).constraint asked) (sym (same_kind (option_kind o) (descriptor_of setup o) (wire_of asked) refl)) (by_form (option_kind o) (option_size o) (descriptor_of setup o) text asked (form_of o) e)
 
 -- what is not of an option's form is refused
 resolves_none : (desc : Descriptor) (asked : Value) → fits_of desc asked ≡ false → resolve desc asked ≡ None
@@ -277,14 +274,6 @@ asked_again make setup n desc text asked at reads =
     let o = is_option setup n desc at in
     subst (λ (d : Descriptor). IsAsked make setup n d asked) (sym o.is) (option_comes make setup n o.option text asked o.at (of_option setup o.option text asked (subst (λ (d : Descriptor). read_value d text ≡ Some asked) o.is reads)))
 
--- both sides write a value alike
-pub same_wire : (value : Value) → wire_of value ≡ daemon.wire_of value
-same_wire (Flag b) = refl
-same_wire (Int n) = refl
-same_wire (Fixed f) = refl
-same_wire (Words words) = refl
-same_wire (Text text) = refl
-
 -- ---- what stands behind a text's NUL is not read
 
 abbrev is_nul : ℕ → Bool
@@ -318,7 +307,7 @@ text_alone text more =
     ∙ sym (ap (option_map (λ k. take k bytes)) (nul_found bytes n refl within))
 
 -- So a value is read alike, however long string values are sent: as what is given in place of another, and as what is told.
-pub given_alike : (strings : StringSize) (size : ℕ) (asked value : Value) → given_like asked (daemon.sent_as strings size value) ≡ given_like asked (daemon.wire_of value)
+pub given_alike : (strings : StringSize) (size : ℕ) (asked value : Value) → given_like asked (daemon.sent_as strings size value) ≡ given_like asked (wire_of value)
 given_alike OfText size asked value = refl
 given_alike OfOption size asked (Flag b) = refl
 given_alike OfOption size asked (Int n) = refl
@@ -330,7 +319,7 @@ given_alike OfOption size (Fixed f) (Text text) = refl
 given_alike OfOption size (Words words) (Text text) = refl
 given_alike OfOption size (Text asked) (Text text) = ap (option_map (λ t. Text t)) (text_alone text (replicate (size - length (text ++ 0 ∷ [])) 0))
 
-pub told_alike : (strings : StringSize) (size : ℕ) (kind : Kind) (value : Value) → wire_value_in kind (daemon.sent_as strings size value) ≡ wire_value_in kind (daemon.wire_of value)
+pub told_alike : (strings : StringSize) (size : ℕ) (kind : Kind) (value : Value) → wire_value_in kind (daemon.sent_as strings size value) ≡ wire_value_in kind (wire_of value)
 told_alike OfText size kind value = refl
 told_alike OfOption size kind (Flag b) = refl
 told_alike OfOption size kind (Int n) = refl

@@ -1,7 +1,7 @@
 -- One request of a job's client: what the daemon answers, and what it leaves, is the model's answer.
 use Rattle.std.specs.Prelude.{◌/◌}
 use Rattle.std.proofs.Common.{◌≡◌, ◌≢◌, ◌⊎◌, inl, inr, ◌∙◌, ℕ, List, [], ◌∷◌, Option, Some, None, Bool, true, false, refl, sym, ap, subst}
-use Rattle.device_api.specs.declared.device_info.DeviceInfo.{DeviceInfo}
+use Rattle.sane_fixed.specs.declared.device_info.DeviceInfo.{DeviceInfo}
 use Rattle.sane_fixed.specs.declared.status.Status.TheVariants as code
 use Rattle.md5_auth.specs.declared.users.Entry.{Entry}
 use Rattle.dispatch.specs.Table.{Table}
@@ -20,7 +20,7 @@ use Rattle.scan_job.specs.declared.job.Job.{Job}
 use Rattle.option_desc.specs.declared.descriptor.Descriptor.{Descriptor}
 use Rattle.system_model.specs.AbstractMessages.{Challenge, Inval, Init, Refused, AbstractReply, AbstractRequest, Set}
 use Rattle.option_desc.specs.declared.value.Value.{Value}
-use Rattle.system_model.specs.Devices.{Make, AcceptedSet, accept_value}
+use Rattle.system_model.specs.Devices.{Make, AbstractAcceptedSet, accept_value}
 use Rattle.system_model.specs.AbstractDevices.{AbstractDevice, is_held_by, is_resting, device_let_go}
 use Rattle.system_model.specs.Daemon.{Environment, TransferState, FailureCounts, AnswerEffect, answer, answer_if, put_reply, set_reply}
 use Rattle.system_model.specs.Actions.{job_after_answer, environment_of, served_by}
@@ -201,7 +201,7 @@ pub record IsRefused (dev : AbstractDevice) (c : TransferState) (v : AnswerEffec
 
 odd_reply : (k : Make) (dev : AbstractDevice) (c : TransferState) (n : ℕ) (value : Value) (b : Bool) → is_resting dev.phase ≡ b → accept_value k dev.options n value ≡ None → IsRefused dev c (set_reply k dev c n value b)
 odd_reply k dev c n value true e none =
-    subst (λ (o : Option AcceptedSet). IsRefused dev c (put_reply dev c o)) (sym none) (record { device = refl; transfer = refl; awaited = refl; goes_on = refl; told = λ _. refl })
+    subst (λ (o : Option AbstractAcceptedSet). IsRefused dev c (put_reply dev c o)) (sym none) (record { device = refl; transfer = refl; awaited = refl; goes_on = refl; told = λ _. refl })
 odd_reply k dev c n value false e none =
     record { device = refl; transfer = refl; awaited = refl; goes_on = refl; told = λ rests. absurd (let clash : false ≡ true = sym e ∙ rests in cc) }
 

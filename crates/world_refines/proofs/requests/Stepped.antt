@@ -1,6 +1,6 @@
 -- A request that is answered is a step of the model, and the session goes on with the next.
 use Rattle.std.proofs.Common.{◌≡◌, ◌≢◌, ◌∙◌, ℕ, List, [], ◌∷◌, Option, true, sym, ap}
-use Rattle.device_api.specs.declared.device_info.DeviceInfo.{DeviceInfo}
+use Rattle.sane_fixed.specs.declared.device_info.DeviceInfo.{DeviceInfo}
 use Rattle.md5_auth.specs.declared.users.Entry.{Entry}
 use Rattle.wire_message.specs.declared.message.Request.{Request as Asked}
 use Rattle.saned_requests.specs.declared.request_answer.RequestAnswer.{RequestAnswer}

@@ -3,7 +3,7 @@ use Rattle.std.proofs.Common.{◌≡◌, ◌≢◌, ◌⊎◌, inl, inr, ◌∙�
 use Rattle.std.proofs.lemmas.Bool.{eqb-false}
 use Rattle.option_desc.specs.declared.descriptor.Descriptor.{Descriptor}
 use Rattle.system_model.specs.AbstractMessages.{Challenge, AbstractReply, AbstractRequest, Set}
-use Rattle.system_model.specs.Devices.{Make, descriptors_of}
+use Rattle.system_model.specs.Devices.{Make, descriptors_in_force}
 use Rattle.system_model.specs.Client.{AbstractJob, Idle, Running, Done, Ended, JobStage, Task, List_, Show, SetOnly, Scan, Batch, AbstractProgress, Greeting, Listing, Opening, Allowing, Describing, Putting, Getting, Starting, Shaping, Imaging, request_awaited, requests_sent, abstract_goodbye, abstract_farewell}
 use Rattle.system_model.specs.AbstractDevices.{AbstractDevice, put_down, is_held_by, without_first}
 use Rattle.system_model.specs.Daemon.{TransferState, Quiet, Waiting, Streaming, Ending, FailureCounts}
@@ -47,19 +47,19 @@ held_none i k known dev todo e = subst (SetsAsHeld i k known dev) (sym e) tt
 -- what another does to the device
 held_same : (i : ℕ) (k : Make) (known : List Descriptor) (dev new : AbstractDevice) (todo : List AbstractRequest) → Same i dev new → SetsAsHeld i k known dev todo → SetsAsHeld i k known new todo
 held_same i k known dev new [] s h = tt
-held_same i k known dev new (Set n value ∷ todo) s h = let e = s.held h.0 in (e.0, h.1 ∙ ap (descriptors_of k) (sym e.1), h.2)
+held_same i k known dev new (Set n value ∷ todo) s h = let e = s.held h.0 in (e.0, h.1 ∙ ap (descriptors_in_force k) (sym e.1), h.2)
 held_same i k known dev new (q ∷ todo) s h = h
 
 -- what does not come to its holder, nor to its options
 held_still : (i : ℕ) (k : Make) (known : List Descriptor) (dev new : AbstractDevice) (todo : List AbstractRequest) → new.holder ≡ dev.holder → new.options ≡ dev.options → SetsAsHeld i k known dev todo → SetsAsHeld i k known new todo
 held_still i k known dev new [] e f h = tt
-held_still i k known dev new (Set n value ∷ todo) e f h = (e ∙ h.0, h.1 ∙ ap (descriptors_of k) (sym f), h.2)
+held_still i k known dev new (Set n value ∷ todo) e f h = (e ∙ h.0, h.1 ∙ ap (descriptors_in_force k) (sym f), h.2)
 held_still i k known dev new (q ∷ todo) e f h = h
 
 -- ---- a job that is under way
 
 asked_held : (i : ℕ) (k : Make) (p : JobState) (dev : AbstractDevice) (g : AbstractProgress) → InSync i k p.session p.client dev g → SetsAsHeld i k p.client.known dev (request_awaited g)
-asked_held i k p dev (Putting n value requested left) h = (h.settles.held.mine, h.known ∙ ap (descriptors_of k) (sym h.settles.held.options_are), tt)
+asked_held i k p dev (Putting n value requested left) h = (h.settles.held.mine, h.known ∙ ap (descriptors_in_force k) (sym h.settles.held.options_are), tt)
 asked_held i k p dev g h = tt
 
 under_held : (i : ℕ) (k : Make) (p : JobState) (dev : AbstractDevice) (st : JobStage) → StageInvariant i k p dev st → IsUnderWay st → SetsAsHeld i k p.client.known dev p.todo

@@ -1,64 +1,88 @@
-use Rattle.std.proofs.Common.{◌≡◌, ◌∙◌, rules, arith, ap, sym, subst, take, length, refl, ℕ, List, true, false, inl, inr, []}
+use Rattle.std.proofs.Common.{◌≡◌, ◌∙◌, ◌∷◌, ◌++◌, rules, arith, ap, sym, subst, take, length, refl, ℕ, List, true, false, inl, inr, []}
 use Rattle.std.specs.Prelude.{Option, option_map}
-use Rattle.std.proofs.lemmas.List.{length-take}
+use Rattle.std.proofs.lemmas.List.{append-nil, length-take}
 use Rattle.client_replies.specs.ProtocolStates.{turns}
 use Rattle.scan_job.specs.FileOutputs.{GivesBack}
-use Rattle.net_jobs.specs.Paging.{TurnsOn}
+use Rattle.net_jobs.specs.JobJournal.{Gives, GivesFileBytes, given_by}
+use Rattle.net_jobs.specs.Paging.{PageGoesOn, TurnsOn}
+use Rattle.net_jobs.proofs.Giving.{gives_by, gives_none, gives_more}
 use Rattle.net_jobs.proofs.Pages.{Pulls, begun, one_more, at_end, turned, stopped, never}
 use Rattle.net_jobs.proofs.net_batch.drain.Goals.{else-is_page-via-then-is_page+else-not-is_turning, else-is_page-via-else-is_page}
 use Rattle.net_jobs.proofs.net_batch.drain.Goals as goal
 
 pub loop-i-init : goal.loop-i-init
-loop-i-init g c = record { room = refl; outcome = refl; pulled = λ before outputs k past filing. begun past _ k before outputs _ _ filing.serves filing.under_way }
+loop-i-init g c = record { room = refl; calls = (refl, refl); outcome = refl; gave = ([], gives_none c.args.client.now, λ before outputs k past filing. begun past _ k before outputs _ _ filing.serves filing.under_way) }
 
 pub returns-then-n-eq0-clause-drained : goal.returns-then-n-eq0-clause-drained
-returns-then-n-eq0-clause-drained g c = λ done before outputs k past filing.
+returns-then-n-eq0-clause-drained g c = λ done.
     let piece : List ℕ = take c.take_file-n.result c.take_file-n.new.buf in
     let none : piece ≡ [] = ap (λ (n : ℕ). take n c.take_file-n.new.buf) c.if-n-eq0.true in
     let size : length piece ≡ c.take_file-n.result = omega (arith, length-take c.take_file-n.result c.take_file-n.new.buf, c.take_file-n.ensures.count, c.take_file-n.auto.buf) in
     let pulls : Pulls c.loop-i.client piece c.take_file-n.result c.take_file-n.new.self
     = record { carried = λ q at. (c.take_file-n.ensures.taken q at).carried; ended = c.take_file-n.ensures.ended; same = c.take_file-n.ensures.same; page = λ on q at. (c.take_file-n.ensures.taken q at).page on; size = size } in
-    inl (at_end past c.args.client.now c.loop-i.client c.take_file-n.new.self k c.loop-i._i c.take_file-n.result before outputs _ _ piece none pulls
-    (λ q at alive joined p shows. (c.take_file-n.ensures.taken q at).denotes alive joined c.if-n-eq0.true (omega (arith, c.loop-i.invariant.room, c.requires)) p shows)
-    (c.loop-i.invariant.pulled before outputs k past filing))
+    let gives : GivesFileBytes c.loop-i.client piece c.take_file-n.new.self =
+    gives_by c.loop-i.client c.take_file-n.new.self piece c.take_file-n.result _ size (omega (arith, c.loop-i.invariant.room, c.requires)) c.take_file-n.ensures.outcome c.take_file-n.ensures.ended c.take_file-n.ensures.same c.take_file-n.ensures.taken in
+    let same : given_by c.loop-i.invariant.gave.0 ≡ given_by (Gives piece ∷ c.loop-i.invariant.gave.0) = sym (append-nil (given_by c.loop-i.invariant.gave.0)) ∙ ap (λ (l : List ℕ). given_by (Gives l ∷ c.loop-i.invariant.gave.0)) (sym none) in (
+      Gives piece ∷ c.loop-i.invariant.gave.0,
+      gives_more c.args.client.now c.loop-i.client c.take_file-n.new.self c.loop-i.invariant.gave.0 piece c.loop-i.invariant.gave.1 gives,
+      λ before outputs k past filing. inl (subst (λ (l : List ℕ). PageGoesOn past c.args.client.now k before outputs l c.take_file-n.new.self (g.S.Shelf.stock c.loop-i.shelf) (option_map g.S.Out.Write.contents c.loop-i.under)) same
+          (at_end past c.args.client.now c.loop-i.client c.take_file-n.new.self k c.loop-i._i c.take_file-n.result before outputs _ _ (given_by c.loop-i.invariant.gave.0) piece none pulls
+          (λ q at alive joined p shows. (c.take_file-n.ensures.taken q at).denotes alive joined c.if-n-eq0.true (omega (arith, c.loop-i.invariant.room, c.requires)) p shows)
+          (c.loop-i.invariant.gave.2 before outputs k past filing))),
+    )
 
 pub returns-then-not-shelve-clause-short : goal.returns-then-not-shelve-clause-short
-returns-then-not-shelve-clause-short g c = λ failed before outputs k past filing.
+returns-then-not-shelve-clause-short g c = λ failed.
     let piece : List ℕ = take c.take_file-n.result c.take_file-n.new.buf in
     let size : length piece ≡ c.take_file-n.result = omega (arith, length-take c.take_file-n.result c.take_file-n.new.buf, c.take_file-n.ensures.count, c.take_file-n.auto.buf) in
     let pulls : Pulls c.loop-i.client piece c.take_file-n.result c.take_file-n.new.self
     = record { carried = λ q at. (c.take_file-n.ensures.taken q at).carried; ended = c.take_file-n.ensures.ended; same = c.take_file-n.ensures.same; page = λ on q at. (c.take_file-n.ensures.taken q at).page on; size = size } in
-    inl (stopped past c.args.client.now c.loop-i.client c.take_file-n.new.self k c.loop-i._i c.take_file-n.result c.file_number-number.result before outputs _ _ _ _ piece c.if-n-eq0.false pulls c.no_front_is_whole.ensures c.no_whole_prefix.ensures filing.scanning c.file_number-number.ensures filing.number
-    (λ had h. c.shelve.ensures.front c.if-not-shelve.true before outputs had h)
-    (c.loop-i.invariant.pulled before outputs k past filing))
+    let gives : GivesFileBytes c.loop-i.client piece c.take_file-n.new.self =
+    gives_by c.loop-i.client c.take_file-n.new.self piece c.take_file-n.result _ size (omega (arith, c.loop-i.invariant.room, c.requires)) c.take_file-n.ensures.outcome c.take_file-n.ensures.ended c.take_file-n.ensures.same c.take_file-n.ensures.taken in (
+      Gives piece ∷ c.loop-i.invariant.gave.0,
+      gives_more c.args.client.now c.loop-i.client c.take_file-n.new.self c.loop-i.invariant.gave.0 piece c.loop-i.invariant.gave.1 gives,
+      λ before outputs k past filing. inl (stopped past c.args.client.now c.loop-i.client c.take_file-n.new.self k c.loop-i._i c.take_file-n.result c.file_number-number.result before outputs _ _ _ _ (given_by c.loop-i.invariant.gave.0) piece c.if-n-eq0.false pulls c.no_front_is_whole.ensures c.no_whole_prefix.ensures filing.scanning c.file_number-number.ensures filing.number
+          (λ had h. c.shelve.ensures.front c.if-not-shelve.true before outputs had h)
+          (c.loop-i.invariant.gave.2 before outputs k past filing)),
+    )
 
 pub returns-then-not-is_turning-clause-drained : goal.returns-then-not-is_turning-clause-drained
-returns-then-not-is_turning-clause-drained g c = λ done before outputs k past filing.
+returns-then-not-is_turning-clause-drained g c = λ done.
     let piece : List ℕ = take c.take_file-n.result c.take_file-n.new.buf in
     let size : length piece ≡ c.take_file-n.result = omega (arith, length-take c.take_file-n.result c.take_file-n.new.buf, c.take_file-n.ensures.count, c.take_file-n.auto.buf) in
     let pulls : Pulls c.loop-i.client piece c.take_file-n.result c.take_file-n.new.self
     = record { carried = λ q at. (c.take_file-n.ensures.taken q at).carried; ended = c.take_file-n.ensures.ended; same = c.take_file-n.ensures.same; page = λ on q at. (c.take_file-n.ensures.taken q at).page on; size = size } in
-    inr (
-    subst (λ (o : Option g.row.S-Out.Denot). TurnsOn past c.args.client.now k before outputs c.take_file-n.new.self (g.S.Shelf.stock c.put_back.new.shelf) (option_map g.S.Out.Write.contents o)) (sym c.take.ensures.after)
-    (turned past c.args.client.now c.loop-i.client c.take_file-n.new.self k c.loop-i._i c.take_file-n.result c.file_number-number.result before outputs _ (g.S.Shelf.stock c.shelve.new.shelf) _ _ (option_map g.S.Out.Write.contents c.shelve.new.under) piece
-    c.if-n-eq0.false pulls (sym c.is_turning-is_page.ensures ∙ c.if-is_page.true) (sym c.is_turning.ensures ∙ c.if-not-is_turning.true) c.file_number-number.ensures filing.number
-    (λ had h. c.shelve.ensures.whole (search rules) before outputs had h)
-    (subst (λ (o : Option g.row.S-Out.Denot). GivesBack (g.S.Shelf.stock c.shelve.new.shelf) (option_map g.S.Out.Write.contents o) (g.S.Shelf.stock c.put_back.new.shelf)) c.take.ensures.value c.put_back.ensures)
-    (c.loop-i.invariant.pulled before outputs k past filing)))
+    let gives : GivesFileBytes c.loop-i.client piece c.take_file-n.new.self =
+    gives_by c.loop-i.client c.take_file-n.new.self piece c.take_file-n.result _ size (omega (arith, c.loop-i.invariant.room, c.requires)) c.take_file-n.ensures.outcome c.take_file-n.ensures.ended c.take_file-n.ensures.same c.take_file-n.ensures.taken in (
+      Gives piece ∷ c.loop-i.invariant.gave.0,
+      gives_more c.args.client.now c.loop-i.client c.take_file-n.new.self c.loop-i.invariant.gave.0 piece c.loop-i.invariant.gave.1 gives,
+      λ before outputs k past filing. inr (
+          subst (λ (o : Option g.row.S-Out.Denot). TurnsOn past c.args.client.now k before outputs (given_by c.loop-i.invariant.gave.0 ++ piece) c.take_file-n.new.self (g.S.Shelf.stock c.put_back.new.shelf) (option_map g.S.Out.Write.contents o)) (sym c.take.ensures.after)
+          (turned past c.args.client.now c.loop-i.client c.take_file-n.new.self k c.loop-i._i c.take_file-n.result c.file_number-number.result before outputs _ (g.S.Shelf.stock c.shelve.new.shelf) _ _ (option_map g.S.Out.Write.contents c.shelve.new.under) (given_by c.loop-i.invariant.gave.0) piece
+          c.if-n-eq0.false pulls (sym c.is_turning-is_page.ensures ∙ c.if-is_page.true) (sym c.is_turning.ensures ∙ c.if-not-is_turning.true) c.file_number-number.ensures filing.number
+          (λ had h. c.shelve.ensures.whole (search rules) before outputs had h)
+          (subst (λ (o : Option g.row.S-Out.Denot). GivesBack (g.S.Shelf.stock c.shelve.new.shelf) (option_map g.S.Out.Write.contents o) (g.S.Shelf.stock c.put_back.new.shelf)) c.take.ensures.value c.put_back.ensures)
+          (c.loop-i.invariant.gave.2 before outputs k past filing))),
+    )
 
 pub returns-then-not-is_turning-clause-short : goal.returns-then-not-is_turning-clause-short
-returns-then-not-is_turning-clause-short g c = λ failed before outputs k past filing.
+returns-then-not-is_turning-clause-short g c = λ failed.
     let piece : List ℕ = take c.take_file-n.result c.take_file-n.new.buf in
     let size : length piece ≡ c.take_file-n.result = omega (arith, length-take c.take_file-n.result c.take_file-n.new.buf, c.take_file-n.ensures.count, c.take_file-n.auto.buf) in
     let pulls : Pulls c.loop-i.client piece c.take_file-n.result c.take_file-n.new.self
     = record { carried = λ q at. (c.take_file-n.ensures.taken q at).carried; ended = c.take_file-n.ensures.ended; same = c.take_file-n.ensures.same; page = λ on q at. (c.take_file-n.ensures.taken q at).page on; size = size } in
-    inr (
-    subst (λ (o : Option g.row.S-Out.Denot). TurnsOn past c.args.client.now k before outputs c.take_file-n.new.self (g.S.Shelf.stock c.put_back.new.shelf) (option_map g.S.Out.Write.contents o)) (sym c.take.ensures.after)
-    (turned past c.args.client.now c.loop-i.client c.take_file-n.new.self k c.loop-i._i c.take_file-n.result c.file_number-number.result before outputs _ (g.S.Shelf.stock c.shelve.new.shelf) _ _ (option_map g.S.Out.Write.contents c.shelve.new.under) piece
-    c.if-n-eq0.false pulls (sym c.is_turning-is_page.ensures ∙ c.if-is_page.true) (sym c.is_turning.ensures ∙ c.if-not-is_turning.true) c.file_number-number.ensures filing.number
-    (λ had h. c.shelve.ensures.whole (search rules) before outputs had h)
-    (subst (λ (o : Option g.row.S-Out.Denot). GivesBack (g.S.Shelf.stock c.shelve.new.shelf) (option_map g.S.Out.Write.contents o) (g.S.Shelf.stock c.put_back.new.shelf)) c.take.ensures.value c.put_back.ensures)
-    (c.loop-i.invariant.pulled before outputs k past filing)))
+    let gives : GivesFileBytes c.loop-i.client piece c.take_file-n.new.self =
+    gives_by c.loop-i.client c.take_file-n.new.self piece c.take_file-n.result _ size (omega (arith, c.loop-i.invariant.room, c.requires)) c.take_file-n.ensures.outcome c.take_file-n.ensures.ended c.take_file-n.ensures.same c.take_file-n.ensures.taken in (
+      Gives piece ∷ c.loop-i.invariant.gave.0,
+      gives_more c.args.client.now c.loop-i.client c.take_file-n.new.self c.loop-i.invariant.gave.0 piece c.loop-i.invariant.gave.1 gives,
+      λ before outputs k past filing. inr (
+          subst (λ (o : Option g.row.S-Out.Denot). TurnsOn past c.args.client.now k before outputs (given_by c.loop-i.invariant.gave.0 ++ piece) c.take_file-n.new.self (g.S.Shelf.stock c.put_back.new.shelf) (option_map g.S.Out.Write.contents o)) (sym c.take.ensures.after)
+          (turned past c.args.client.now c.loop-i.client c.take_file-n.new.self k c.loop-i._i c.take_file-n.result c.file_number-number.result before outputs _ (g.S.Shelf.stock c.shelve.new.shelf) _ _ (option_map g.S.Out.Write.contents c.shelve.new.under) (given_by c.loop-i.invariant.gave.0) piece
+          c.if-n-eq0.false pulls (sym c.is_turning-is_page.ensures ∙ c.if-is_page.true) (sym c.is_turning.ensures ∙ c.if-not-is_turning.true) c.file_number-number.ensures filing.number
+          (λ had h. c.shelve.ensures.whole (search rules) before outputs had h)
+          (subst (λ (o : Option g.row.S-Out.Denot). GivesBack (g.S.Shelf.stock c.shelve.new.shelf) (option_map g.S.Out.Write.contents o) (g.S.Shelf.stock c.put_back.new.shelf)) c.take.ensures.value c.put_back.ensures)
+          (c.loop-i.invariant.gave.2 before outputs k past filing))),
+    )
 
 pub loop-i-preserved : goal.loop-i-preserved
 loop-i-preserved g c =
@@ -66,19 +90,30 @@ loop-i-preserved g c =
     let size : length piece ≡ c.take_file-n.result = omega (arith, length-take c.take_file-n.result c.take_file-n.new.buf, c.take_file-n.ensures.count, c.take_file-n.auto.buf) in
     let pulls : Pulls c.loop-i.client piece c.take_file-n.result c.take_file-n.new.self
     = record { carried = λ q at. (c.take_file-n.ensures.taken q at).carried; ended = c.take_file-n.ensures.ended; same = c.take_file-n.ensures.same; page = λ on q at. (c.take_file-n.ensures.taken q at).page on; size = size } in
+    let gives : GivesFileBytes c.loop-i.client piece c.take_file-n.new.self =
+    gives_by c.loop-i.client c.take_file-n.new.self piece c.take_file-n.result _ size (omega (arith, c.loop-i.invariant.room, c.requires)) c.take_file-n.ensures.outcome c.take_file-n.ensures.ended c.take_file-n.ensures.same c.take_file-n.ensures.taken in
     let still : turns c.loop-i.client.outcome c.loop-i.client.progress ≡ true → turns c.take_file-n.new.self.outcome c.take_file-n.new.self.progress ≡ true = elim c.else-is_page.branch [
       | else-is_page-via-then-is_page+else-not-is_turning w ↦ λ t. sym w.is_turning.ensures ∙ w.if-not-is_turning.false
       | else-is_page-via-else-is_page w ↦ λ t. absurd (let clash : true ≡ false = sym t ∙ sym c.is_turning-is_page.ensures ∙ w.if-is_page.false in cc)
     ] in
     record {
       room = search rules;
+      calls = (c.shelve.ensures.calls.0 ∙ c.loop-i.invariant.calls.0, c.shelve.ensures.calls.1 ∙ c.loop-i.invariant.calls.1);
       outcome = c.take_file-n.ensures.outcome ∙ c.loop-i.invariant.outcome;
-      pulled = λ before outputs k past filing.
-          one_more past c.args.client.now c.loop-i.client c.take_file-n.new.self k c.loop-i._i c.take_file-n.result c.file_number-number.result before outputs _ _ _ _ piece c.if-n-eq0.false pulls still c.file_number-number.ensures filing.number
-          (λ had h. c.shelve.ensures.whole (search rules) before outputs had h)
-          (c.loop-i.invariant.pulled before outputs k past filing);
+      gave = (
+        Gives piece ∷ c.loop-i.invariant.gave.0,
+        gives_more c.args.client.now c.loop-i.client c.take_file-n.new.self c.loop-i.invariant.gave.0 piece c.loop-i.invariant.gave.1 gives,
+        λ before outputs k past filing.
+            one_more past c.args.client.now c.loop-i.client c.take_file-n.new.self k c.loop-i._i c.take_file-n.result c.file_number-number.result before outputs _ _ _ _ (given_by c.loop-i.invariant.gave.0) piece c.if-n-eq0.false pulls still c.file_number-number.ensures filing.number
+            (λ had h. c.shelve.ensures.whole (search rules) before outputs had h)
+            (c.loop-i.invariant.gave.2 before outputs k past filing),
+      );
     }
 
 pub returns-clause-short : goal.returns-clause-short
-returns-clause-short g c = λ failed before outputs k past filing.
-    absurd (never past c.args.client.now c.loop-i.client k c.loop-i._i before outputs _ _ filing.scanning (omega (arith, c.loop-i-test.false)) c.no_file_is_endless.ensures (c.loop-i.invariant.pulled before outputs k past filing))
+returns-clause-short g c = λ failed. (
+  c.loop-i.invariant.gave.0,
+  c.loop-i.invariant.gave.1,
+  λ before outputs k past filing.
+      absurd (never past c.args.client.now c.loop-i.client k c.loop-i._i before outputs _ _ (given_by c.loop-i.invariant.gave.0) filing.scanning (omega (arith, c.loop-i-test.false)) c.no_file_is_endless.ensures (c.loop-i.invariant.gave.2 before outputs k past filing)),
+)

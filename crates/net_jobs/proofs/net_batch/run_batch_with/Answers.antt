@@ -1,16 +1,25 @@
-use Rattle.std.proofs.Common.{sym, subst, inr, refl}
+use Rattle.std.proofs.Common.{sym, subst, refl}
 use Rattle.std.specs.Prelude.{Option}
 use Rattle.scan_job.specs.declared.job.JobFault.{JobFault}
 use Rattle.scan_job.specs.declared.outcome.Outcome.{Outcome}
 use Rattle.scan_job.specs.Outcomes.{over_as}
 use Rattle.scan_job.specs.JobSize.{HasJobFault}
 use Rattle.net_jobs.specs.Batches.{HasBatchRun}
-use Rattle.net_jobs.proofs.Batching.{close}
+use Rattle.net_jobs.specs.Links.{views_of}
+use Rattle.net_jobs.specs.RunPromises.{seen, streams}
+use Rattle.net_jobs.proofs.Batching.{close, batch_ok, batch_err}
 use Rattle.net_jobs.proofs.net_batch.run_batch_with.Goals as goal
 
-pub returns-clause-ran : goal.returns-clause-ran
-returns-clause-ran g c =
+pub returns-clause-done : goal.returns-clause-done
+returns-clause-done g c =
     let taken = subst (λ (o : Option JobFault). HasJobFault c.args.job o) c.in_default.is c.fault.ensures in
-    inr (subst (λ (o : Outcome). HasBatchRun g.C.Read.remaining g.C.Write.contents c.args.job c.args.control.now (g.D.Dial.coming c.args.dial.now) c.run_client-done.new.control (g.D.Dial.coming c.run_client-done.new.dial) (g.S.Shelf.stock c.args.shelf.now) (g.S.Shelf.stock c.put_back-is_taken.new.shelf) o)
-    (sym c.closed.ensures.closed)
-    (close _ _ c.args.job _ _ _ _ _ _ _ _ (over_as c.run_client-done.result) c.put_back-is_taken.result (c.run_client-done.ensures.came c.args.job c.in-Ok.ensures.fresh taken.1 c.is_scanning-is_scanning.ensures refl) c.put_back-is_taken.ensures))
+    batch_ok _ c.args.job _ _ c.closed.result (subst (λ (o : Outcome). HasBatchRun (views_of g.C.Read.remaining g.C.Write.contents g.D.Dial.ports) c.args.job (seen g.D.Dial.coming g.S.Shelf.stock (streams c.args.control.now c.args.dial.now c.args.shelf.now))
+    (seen g.D.Dial.coming g.S.Shelf.stock (streams c.run_client-done.new.control c.run_client-done.new.dial c.put_back-is_taken.new.shelf)) o) (sym c.closed.ensures.closed)
+    (close _ c.args.job _ _ (g.S.Shelf.stock c.put_back-is_taken.new.shelf) _ (over_as c.run_client-done.result) _ c.put_back-is_taken.result (c.run_client-done.ensures.came c.args.job c.in-Ok.ensures.fresh taken.1 c.is_scanning-is_scanning.ensures refl) c.put_back-is_taken.ensures))
+
+pub returns-clause-ended : goal.returns-clause-ended
+returns-clause-ended g c =
+    let taken = subst (λ (o : Option JobFault). HasJobFault c.args.job o) c.in_default.is c.fault.ensures in
+    batch_err _ c.args.job _ _ _ _ c.closed.result (subst (λ (o : Outcome). HasBatchRun (views_of g.C.Read.remaining g.C.Write.contents g.D.Dial.ports) c.args.job (seen g.D.Dial.coming g.S.Shelf.stock (streams c.args.control.now c.args.dial.now c.args.shelf.now))
+    (seen g.D.Dial.coming g.S.Shelf.stock (streams c.run_client-done.new.control c.run_client-done.new.dial c.put_back-is_taken.new.shelf)) o) (sym c.closed.ensures.closed)
+    (close _ c.args.job _ _ (g.S.Shelf.stock c.put_back-is_taken.new.shelf) _ (over_as c.run_client-done.result) _ c.put_back-is_taken.result (c.run_client-done.ensures.came c.args.job c.in-Ok.ensures.fresh taken.1 c.is_scanning-is_scanning.ensures refl) c.put_back-is_taken.ensures))

@@ -8,7 +8,7 @@ use Rattle.net_jobs.proofs.net_batch.shelve.Goals as goal
 pub returns-in-None-replace-clause-whole : goal.returns-in-None-replace-clause-whole
 returns-in-None-replace-clause-whole g c = λ took before outputs had h.
     let none : c.args.under.now ≡ None = sym c.replace.ensures.value ∙ c.in-None-replace.is in
-    let all : Appends (g.S.Out.Write.contents c.in-Ok.out) (g.S.Out.Write.contents c.put-took.new.to) c.args.bytes.now = c.put-took.ensures.whole (search (rules, took)) in
+    let all : Appends (g.S.Out.Write.contents c.in-Ok.out) (g.S.Out.Write.contents c.put-took.new.out) c.args.bytes.now = c.put-took.ensures.whole (search (rules, took)) in
     subst (λ (o : Option g.row.S-Out.Denot). HasTaken before outputs (g.S.Shelf.stock c.open.new.self) (option_map g.S.Out.Write.contents o) c.args.number (had ++ c.args.bytes.now)) (sym c.replace.ensures.after)
     (first_taken before (g.S.Shelf.stock c.args.shelf.now) (g.S.Shelf.stock c.open.new.self) outputs c.args.number had c.args.bytes.now _ _ _ (ap (λ (o : Option g.row.S-Out.Denot). option_map g.S.Out.Write.contents o) none) c.in-Ok.ensures.stock c.in-Ok.ensures.told all h)
 

@@ -1,35 +1,24 @@
-use Rattle.std.proofs.Common.{◌∙◌, sym, rules}
-use Rattle.net_jobs.proofs.RunInvariants.{going_staged, going_fed, going_short, going_wrote, going_read}
+use Rattle.std.proofs.Common.{◌∙◌, ◌∷◌, [], None, refl, sym, ap}
+use Rattle.std.proofs.KnownBytes.{Consumes-nil}
+use Rattle.client_replies.specs.declared.progress.Link.TheVariants as links
+use Rattle.net_jobs.specs.JobJournal.{Loses}
+use Rattle.net_jobs.specs.Links.{views_of}
+use Rattle.net_jobs.specs.declared.calls.CallTally.{CallTally}
+use Rattle.net_jobs.specs.declared.calls.Loss.TheVariants.{UsedUp}
+use Rattle.net_jobs.proofs.Turning.{turn_from, turn_sees, turn_used_up}
 use Rattle.net_jobs.proofs.running.go_on.Goals as goal
 
-pub returns-then-is_receiving-clause-going : goal.returns-then-is_receiving-clause-going
-returns-then-is_receiving-clause-going g c = λ job first coming0 given go.
-    going_staged _ _ _ job first coming0 given _ _ _ _ _ c.args.client.now c.see.new.client (λ read_ wrote s. c.see.ensures.stage (g.D.Dial.coming c.args.dial.now) job read_ wrote coming0 given s) go
+pub returns-then-not-take_turn-clause-moved : goal.returns-then-not-take_turn-clause-moved
+returns-then-not-take_turn-clause-moved g c =
+    let used = c.take_turn.ensures.used_up c.if-not-take_turn.true in (
+      Loses links.Control UsedUp ∷ [],
+      turn_used_up (views_of g.C.Read.remaining g.C.Write.contents g.D.Dial.ports) g.D.Conn.Read.remaining c.args.client.now c.link_lost.new.self (record { control = c.args.control.now; dial = c.args.dial.now }) (g.D.Dial.coming c.args.dial.now) c.args.stream.now c.args.tally.now.loss c.take_turn.new.self.loss
+          c.args.tally.now.write_failed c.take_turn.new.self.write_failed (Consumes-nil _) c.requires.up (ap (λ (t : CallTally). t.write_failed) used) (ap (λ (t : CallTally). t.loss) used) c.requires.running c.link_lost.ensures.lost,
+    )
 
-pub returns-then-not-write_out-clause-going : goal.returns-then-not-write_out-clause-going
-returns-then-not-write_out-clause-going g c = λ job first coming0 given go.
-    let fed = going_fed _ _ _ job first coming0 given _ _ _ c.args.client.now c.feed_control.new.self c.requires.running (sym c.is_receiving.ensures ∙ c.if-is_receiving.false) (λ past serves. c.feed_control.ensures.heeds c.requires.running past serves) go in
-    let front = c.write_out.ensures.front c.if-not-write_out.true in
-    going_short _ _ _ job first coming0 given _ c.write_out.new.control _ _ c.feed_control.new.self c.write_out.new.client front.0 front.2 c.write_out.ensures.rest fed
-
-pub returns-then-is_over-clause-going : goal.returns-then-is_over-clause-going
-returns-then-is_over-clause-going g c = λ job first coming0 given go.
-    let fed = going_fed _ _ _ job first coming0 given _ _ _ c.args.client.now c.feed_control.new.self c.requires.running (sym c.is_receiving.ensures ∙ c.if-is_receiving.false) (λ past serves. c.feed_control.ensures.heeds c.requires.running past serves) go in
-    going_wrote _ _ _ job first coming0 given _ c.write_out.new.control _ _ c.feed_control.new.self c.write_out.new.client (c.write_out.ensures.whole (search rules)) (c.write_out.ensures.none (search rules)) c.write_out.ensures.rest fed
-
-pub returns-in-Some-clause-going : goal.returns-in-Some-clause-going
-returns-in-Some-clause-going g c = λ job first coming0 given go.
-    let fed = going_fed _ _ _ job first coming0 given _ _ _ c.args.client.now c.feed_control.new.self c.requires.running (sym c.is_receiving.ensures ∙ c.if-is_receiving.false) (λ past serves. c.feed_control.ensures.heeds c.requires.running past serves) go in
-    let wrote = going_wrote _ _ _ job first coming0 given _ c.write_out.new.control _ _ c.feed_control.new.self c.write_out.new.client (c.write_out.ensures.whole (search rules)) (c.write_out.ensures.none (search rules)) c.write_out.ensures.rest fed in
-    going_staged _ _ _ job first coming0 given _ _ _ _ _ c.write_out.new.client c.connect.new.client (λ read_ wrote s. c.connect.ensures.stage job read_ wrote coming0 given s) wrote
-
-pub returns-then-not-is_receiving-clause-going : goal.returns-then-not-is_receiving-clause-going
-returns-then-not-is_receiving-clause-going g c = λ job first coming0 given go.
-    let fed = going_fed _ _ _ job first coming0 given _ _ _ c.args.client.now c.feed_control.new.self c.requires.running (sym c.is_receiving.ensures ∙ c.if-is_receiving.false) (λ past serves. c.feed_control.ensures.heeds c.requires.running past serves) go in
-    let wrote = going_wrote _ _ _ job first coming0 given _ c.write_out.new.control _ _ c.feed_control.new.self c.write_out.new.client (c.write_out.ensures.whole (search rules)) (c.write_out.ensures.none (search rules)) c.write_out.ensures.rest fed in
-    going_read _ _ _ job first coming0 given _ c.hear.new.control _ _ c.write_out.new.client c.hear.new.client (search rules) (search rules) c.hear.ensures.heard wrote
-
-pub returns-else-not-is_receiving-clause-going : goal.returns-else-not-is_receiving-clause-going
-returns-else-not-is_receiving-clause-going g c = λ job first coming0 given go.
-    let fed = going_fed _ _ _ job first coming0 given _ _ _ c.args.client.now c.feed_control.new.self c.requires.running (sym c.is_receiving.ensures ∙ c.if-is_receiving.false) (λ past serves. c.feed_control.ensures.heeds c.requires.running past serves) go in
-    going_wrote _ _ _ job first coming0 given _ c.write_out.new.control _ _ c.feed_control.new.self c.write_out.new.client (c.write_out.ensures.whole (search rules)) (c.write_out.ensures.none (search rules)) c.write_out.ensures.rest fed
+pub returns-in-Some-clause-moved : goal.returns-in-Some-clause-moved
+returns-in-Some-clause-moved g c =
+    let taken = c.take_turn.ensures.taken c.if-not-take_turn.false in
+    turn_from (views_of g.C.Read.remaining g.C.Write.contents g.D.Dial.ports) g.D.Conn.Read.remaining c.args.client.now (record { control = c.args.control.now; dial = c.args.dial.now }) (g.D.Dial.coming c.args.dial.now) c.args.stream.now c.args.tally.now.loss None c.args.tally.now.write_failed _ _ (sym c.requires.held) refl
+    (turn_sees (views_of g.C.Read.remaining g.C.Write.contents g.D.Dial.ports) g.D.Conn.Read.remaining c.args.client.now c.see.new.client (record { control = c.args.control.now; dial = c.args.dial.now }) (g.D.Dial.coming c.args.dial.now) c.args.stream.now c.see.result c.in-Some.conn c.see.new.tally.loss
+    c.args.tally.now.write_failed c.see.new.tally.write_failed (Consumes-nil _) (sym c.take.ensures.value ∙ c.in-Some.is) c.requires.up (c.see.ensures.writes.0 ∙ ap (λ (t : CallTally). t.write_failed) taken) c.see.ensures.seen)

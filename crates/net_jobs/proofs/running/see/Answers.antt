@@ -1,25 +1,32 @@
-use Rattle.std.proofs.Common.{◌∙◌, Option, sym, subst}
-use Rattle.net_jobs.specs.RunInvariants.{RunInvariant}
-use Rattle.net_jobs.proofs.DataLoop.{receiving_runs, stage_received, stage_let_go, stage_image_lost}
+use Rattle.std.proofs.Common.{◌∙◌, ◌≢◌, ℕ, Bool, List, [], None, Some, take, ap, sym, arith}
+use Rattle.std.specs.Prelude.{if◌then◌else◌}
+use Rattle.sane_fixed.specs.declared.status.Status.TheVariants as statuses
+use Rattle.scan_job.specs.declared.outcome.Why.TheVariants as whys
+use Rattle.net_client.specs.ClientStates.{ClientState, after_client_end}
+use Rattle.net_jobs.specs.TurnSteps.{Took, Missed}
+use Rattle.net_jobs.proofs.DataLoop.{lost_image}
+use Rattle.net_jobs.proofs.Turning.{some_taken}
 use Rattle.net_jobs.proofs.running.see.Goals as goal
 
-pub returns-in_default-clause-stage : goal.returns-in_default-clause-stage
-returns-in_default-clause-stage g c = λ coming job read_ wrote coming0 given s.
-    stage_image_lost g.R.Read.remaining job read_ wrote coming0 coming given c.args.stream.now c.take.new.self c.args.client.now c.link_lost.new.self c.requires c.link_lost.ensures.lost s
+pub returns-then-n-eq0-clause-seen : goal.returns-then-n-eq0-clause-seen
+returns-then-n-eq0-clause-seen g c =
+    let old : ClientState = c.args.client.now in
+    let reason = c.read_piece-n.ensures.none c.if-n-eq0.true in
+    let lost = lost_image old.outcome old.progress c.requires.receiving in
+    Missed reason.0 (record { lost = lost; new_is = c.link_lost.ensures.lost ∙ ap (λ (b : Bool). if b then after_client_end statuses.IoError whys.Lost old else old) lost }) reason.1
 
-pub returns-then-n-eq0-clause-stage : goal.returns-then-n-eq0-clause-stage
-returns-then-n-eq0-clause-stage g c = λ coming job read_ wrote coming0 given s.
-    stage_image_lost g.R.Read.remaining job read_ wrote coming0 coming given c.args.stream.now c.take.new.self c.args.client.now c.link_lost-then-n-eq0.new.self c.requires c.link_lost-then-n-eq0.ensures.lost s
+pub returns-then-is_receiving-clause-seen : goal.returns-then-is_receiving-clause-seen
+returns-then-is_receiving-clause-seen g c =
+    let piece : List ℕ = take c.read_piece-n.result c.read_piece-n.new.piece in
+    let some : piece ≢ [] = some_taken c.read_piece-n.result c.read_piece-n.new.piece (omega (arith, c.read_piece-n.ensures.count, c.read_piece-n.auto.piece)) c.if-n-eq0.false in
+    let behind : g.row.R.Denot = c.read_piece-n.new.stream in
+    Took piece behind some c.read_piece-n.ensures.bytes (record { receiving = c.requires.receiving; receives = λ past serves. c.feed_data.ensures.receives c.requires.receiving past serves })
+    (ap (λ (b : Bool). if b then Some behind else None) (sym (sym c.is_receiving.ensures ∙ c.if-is_receiving.true))) (c.read_piece-n.ensures.some (omega (arith, c.if-n-eq0.false)))
 
-pub returns-then-is_receiving-clause-stage : goal.returns-then-is_receiving-clause-stage
-returns-then-is_receiving-clause-stage g c = λ coming job read_ wrote coming0 given s.
-    let old = subst (λ (o : Option g.row.R.Denot). RunInvariant g.R.Read.remaining job read_ wrote c.args.client.now.out coming0 coming given o c.args.client.now) (sym c.take.ensures.value ∙ c.in-Some.is) s in
-    stage_received g.R.Read.remaining job read_ wrote coming0 coming given c.in-Some.conn c.read_piece-n.new.stream c.args.client.now c.feed_data.new.self _ (receiving_runs _ _ c.requires) c.read_piece-n.ensures.bytes (sym c.is_receiving.ensures ∙ c.if-is_receiving.true)
-    old (c.feed_data.ensures.receives c.requires old.history old.serves)
-
-pub returns-else-is_receiving-clause-stage : goal.returns-else-is_receiving-clause-stage
-returns-else-is_receiving-clause-stage g c = λ coming job read_ wrote coming0 given s.
-    let old = subst (λ (o : Option g.row.R.Denot). RunInvariant g.R.Read.remaining job read_ wrote c.args.client.now.out coming0 coming given o c.args.client.now) (sym c.take.ensures.value ∙ c.in-Some.is) s in
-    subst (λ (o : Option g.row.R.Denot). RunInvariant g.R.Read.remaining job read_ wrote c.feed_data.new.self.out coming0 coming given o c.feed_data.new.self) (sym c.take.ensures.after)
-    (stage_let_go g.R.Read.remaining job read_ wrote coming0 coming given c.in-Some.conn c.read_piece-n.new.stream c.args.client.now c.feed_data.new.self _ c.requires c.read_piece-n.ensures.bytes (sym c.is_receiving.ensures ∙ c.if-is_receiving.false)
-    old (c.feed_data.ensures.receives c.requires old.history old.serves))
+pub returns-else-is_receiving-clause-seen : goal.returns-else-is_receiving-clause-seen
+returns-else-is_receiving-clause-seen g c =
+    let piece : List ℕ = take c.read_piece-n.result c.read_piece-n.new.piece in
+    let some : piece ≢ [] = some_taken c.read_piece-n.result c.read_piece-n.new.piece (omega (arith, c.read_piece-n.ensures.count, c.read_piece-n.auto.piece)) c.if-n-eq0.false in
+    let behind : g.row.R.Denot = c.read_piece-n.new.stream in
+    Took piece behind some c.read_piece-n.ensures.bytes (record { receiving = c.requires.receiving; receives = λ past serves. c.feed_data.ensures.receives c.requires.receiving past serves })
+    (ap (λ (b : Bool). if b then Some behind else None) (sym (sym c.is_receiving.ensures ∙ c.if-is_receiving.false))) (c.read_piece-n.ensures.some (omega (arith, c.if-n-eq0.false)))

@@ -1,11 +1,14 @@
-use Rattle.std.proofs.Common.{◌≡◌, length}
+use Rattle.std.proofs.Common.{◌≡◌, false, length}
 use Rattle.net_jobs.specs.ControlWriting.{WritesTo}
+use Rattle.net_jobs.specs.TurnSteps.{KeepsReads}
 use Rattle.net_jobs.proofs.running.write_out.Given as goal
 
 abbrev pub invariant-loop-n : goal.invariant-loop-n
 invariant-loop-n g l = record {
   room : length l.room ≡ length l.initial.room;
   rest : l.client ≡ record l.fn.client { out = l.client.out };
+  up : l.tally.write_failed ≡ false;
+  reads : KeepsReads l.initial.tally l.tally;
   to : WritesTo l.fn.client.out (g.C.Write.contents l.initial.control) (g.C.Write.contents l.control) l.client.out;
 }
 

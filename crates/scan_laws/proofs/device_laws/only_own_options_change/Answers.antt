@@ -1,4 +1,4 @@
-use Rattle.scan_laws.proofs.Owns.{defaults_own, set_own}
+use Rattle.device_api.proofs.OwnLaws.{defaults_own, set_own}
 use Rattle.scan_laws.proofs.device_laws.only_own_options_change.Goals as goal
 
 pub returns-clause-defaults : goal.returns-clause-defaults

@@ -3,6 +3,6 @@ use Rattle.scanimage.proofs.net_task.run_job.Goals as goal
 
 pub returns : goal.returns
 returns c = record {
-  ran = job_ran _ _ _ _ c.args.job c.args.host.now _ _ _ _ _ _ c.do_net_job.result c.do_net_job.ensures.done;
+  ran = job_ran _ c.args.job c.args.host.now _ _ c.do_net_job.result c.do_net_job.ensures.done;
   failed = c.do_net_job.ensures.failed;
 }

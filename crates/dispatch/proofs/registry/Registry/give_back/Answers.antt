@@ -1,6 +1,6 @@
 use Rattle.std.proofs.Common.{◌≡◌, ◌∙◌, ap, sym, true, false, List, ℕ}
 use Rattle.device_api.specs.State.{DeviceState}
-use Rattle.device_api.specs.declared.device_info.DeviceInfo.{DeviceInfo}
+use Rattle.sane_fixed.specs.declared.device_info.DeviceInfo.{DeviceInfo}
 use Rattle.dispatch.specs.declared.table.place.Place.{Place}
 use Rattle.dispatch.specs.declared.table.place.Slot.TheVariants.{In}
 use Rattle.dispatch.specs.Table.{awaits, table, with_slot}

@@ -1,0 +1,6 @@
+mod Slots
+mod Alike
+mod Calls
+mod Feeding
+mod Places
+mod Requests

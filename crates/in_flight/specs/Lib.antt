@@ -1,0 +1,3 @@
+pub mod InFlight
+pub mod FreePlaces
+pub mod Requests

@@ -1,0 +1,3 @@
+pub mod Sooner
+pub mod Ahead
+pub mod Fronts

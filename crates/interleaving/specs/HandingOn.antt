@@ -1,0 +1,41 @@
+-- Connections hand on the bytes given to them, in their order, until they are lost: nothing else is said of them.
+use Rattle.std.specs.Prelude.{ℕ, ◌≡◌, ◌<◌, Option, Some, List, [], ◌∷◌, ◌++◌}
+use Rattle.saned_serve.specs.SessionActions.{SessionAction}
+use Rattle.saned_serve.specs.SessionActions.SessionAction.{Opens, Feed, Connect}
+use Rattle.saned_serve.specs.Journal.{IsFront, projection_of}
+use Rattle.saned_serve.specs.Journal.LoopAction.{Of}
+use Rattle.interleaving.specs.Interleavings.{JointAction, Traffic, bytes_heard, bytes_sent, bytes_taken, connections_accepted, connections_made, job_journal, server_journal}
+use Rattle.interleaving.specs.Interleavings.JointAction.{OfJob, OfServer}
+use Rattle.interleaving.specs.Interleavings.Traffic.{Reads, Takes}
+
+-- whose control connection each session has, if it is a job's
+abbrev pub Owner : Type 0
+Owner = ℕ → Option ℕ
+
+-- no job has two
+abbrev pub HaveOneSession : Owner → Type 0
+HaveOneSession owner = (j k i : ℕ) → owner j ≡ Some i → owner k ≡ Some i → j ≡ k
+
+-- what a session is fed its job has written before, and it is given a data connection that its job has made
+abbrev pub MayServe : {M : Type 0} → (M → Traffic) → Owner → ℕ → SessionAction → List (JointAction M) → Type 0
+MayServe seen owner k (Opens port) past = (i : ℕ) × (owner k ≡ Some i)
+MayServe seen owner k (Feed piece fed begins) past = (i : ℕ) × (owner k ≡ Some i) × IsFront ((projection_of k (server_journal past)).heard ++ piece) (bytes_sent seen (job_journal i past))
+MayServe seen owner k (Connect port) past = (i : ℕ) × (owner k ≡ Some i) × (connections_accepted k (server_journal past) < connections_made seen (job_journal i past))
+MayServe seen owner k act past = Unit {0}
+
+-- what a job reads the daemon gave out before, for its session or on the data connection that this accepted last
+abbrev pub MayMove : {M : Type 0} → (M → Traffic) → Owner → ℕ → Traffic → List (JointAction M) → Type 0
+MayMove seen owner i (Reads bytes) past = (k : ℕ) × (owner k ≡ Some i) × IsFront (bytes_heard seen (job_journal i past) ++ bytes) (projection_of k (server_journal past)).said
+MayMove seen owner i (Takes bytes) past =
+    (k : ℕ) × (owner k ≡ Some i) × (connections_accepted k (server_journal past) ≡ connections_made seen (job_journal i past))
+    × IsFront (bytes_taken seen (job_journal i past) ++ bytes) (projection_of k (server_journal past)).shown
+MayMove seen owner i other past = Unit {0}
+
+abbrev pub IsHandedOn : {M : Type 0} → (M → Traffic) → Owner → JointAction M → List (JointAction M) → Type 0
+IsHandedOn seen owner (OfServer (Of k act)) past = MayServe seen owner k act past
+IsHandedOn seen owner (OfServer action) past = Unit {0}
+IsHandedOn seen owner (OfJob i move) past = MayMove seen owner i (seen move) past
+
+unfoldable pub HandsOn : {M : Type 0} → (M → Traffic) → Owner → List (JointAction M) → Type 0
+HandsOn seen owner [] = Unit {0}
+HandsOn seen owner (action ∷ past) = HandsOn seen owner past × IsHandedOn seen owner action past

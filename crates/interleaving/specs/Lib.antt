@@ -1,0 +1,3 @@
+pub mod Interleavings
+pub mod HandingOn
+pub mod Orders

@@ -1,0 +1,187 @@
+-- The moves of a turn, call by call.
+use Rattle.std.proofs.Common.{◌≡◌, ◌≢◌, ◌∙◌, ◌≤◌, ◌<◌, ℕ, Bool, true, false, not, Option, Some, None, List, [], ◌∷◌, length, take, drop, refl, sym, ap, subst, arith}
+use Rattle.std.specs.Prelude.{if◌then◌else◌, IsTrue}
+use Rattle.std.specs.Io.KnownBytes.{Appends, Consumes}
+use Rattle.std.proofs.lemmas.List.{length-take, length-drop, take-append-drop}
+use Rattle.sane_fixed.specs.declared.status.Status.TheVariants as statuses
+use Rattle.scan_job.specs.declared.outcome.Why.TheVariants as whys
+use Rattle.client_replies.specs.declared.progress.Link.TheVariants as links
+use Rattle.client_replies.specs.ProtocolStates.{is_running}
+use Rattle.net_client.specs.ClientStates.{ClientState, after_client_end}
+use Rattle.net_jobs.specs.declared.calls.Loss.{Loss}
+use Rattle.net_jobs.specs.declared.calls.Loss.TheVariants.{UsedUp, DialFailed}
+use Rattle.net_jobs.specs.JobJournal.{JobMove, Writes, Fails, Hears, Resumes, Dials, Takes, Loses, HearsPiece, after_loss}
+use Rattle.net_jobs.specs.Links.{JobLinks, LinkViews, views_of, with_port}
+use Rattle.net_jobs.specs.TurnSteps.{CallNotes, LoopState, MovesAll, HearsOrLoses, Heard, Lost, TakesOrLoses, Took, Missed, DialsOrLoses, Made, Refused, TakesLeave, Whole, Short}
+use Rattle.net_jobs.proofs.RunInvariants.{out_lost}
+
+abbrev pub noted_as : Option Loss → Bool → CallNotes
+noted_as loss failed = record { loss = loss; write_failed = failed }
+
+abbrev pub loop_at : {L R : Type 0} → ClientState → L → Option (List (List ℕ)) → Option R → Option Loss → Bool → LoopState L R
+loop_at c links coming stream loss failed = record { client = c; links = links; coming = coming; stream = stream; notes = noted_as loss failed }
+
+same_notes : (a b : Option Loss) (f g : Bool) → a ≡ b → f ≡ g → noted_as a f ≡ noted_as b g
+same_notes a b f g loss failed = ap (λ (l : Option Loss). noted_as l f) loss ∙ ap (λ (x : Bool). noted_as b x) failed
+
+-- some bytes are not none
+pub some_taken : (n : ℕ) (xs : List ℕ) → n ≤ length xs → (n ≡ 0 → ⊥) → take n xs ≢ []
+some_taken n xs within some e = some (omega (arith, length-take n xs, ap (λ (l : List ℕ). length l) e))
+
+pub some_left : (n : ℕ) (xs : List ℕ) → n < length xs → drop n xs ≢ []
+some_left n xs short e = absurd (omega (arith, length-drop n xs, ap (λ (l : List ℕ). length l) e))
+
+-- ---- one call after another
+
+pub turn_resumes : {L R : Type 0} (views : LinkViews L) (left_of : R → Option (List ℕ)) (old fed : ClientState) (at_links : L) (coming : Option (List (List ℕ))) (stream : Option R) (loss : Option Loss) (failed : Bool) → failed ≡ false → HearsPiece old [] fed
+    → MovesAll views left_of (loop_at old at_links coming stream loss failed) (Resumes ∷ []) (loop_at fed at_links coming stream loss failed)
+turn_resumes views left_of old fed at_links coming stream loss failed up hears = (loop_at old at_links coming stream loss failed, refl, record { of_links = tt; up = up; client = hears; links = refl; data_is = (refl, refl); notes = refl })
+
+pub turn_writes : {C D R : Type 0} (remaining contents : C → Option (List ℕ)) (ports : D → Option (List ℕ)) (left_of : R → Option (List ℕ)) (first : LoopState (JobLinks C D) R) (moves : List JobMove) (old new : ClientState) (control now : C) (dial : D) (coming : Option (List (List ℕ))) (stream : Option R) (loss lost : Option Loss) (failed fails : Bool)
+    → failed ≡ false → lost ≡ loss → fails ≡ false → Appends (contents control) (contents now) old.out → new.out ≡ [] → new ≡ record old { out = new.out }
+    → MovesAll (views_of remaining contents ports) left_of first moves (loop_at old (record { control = control; dial = dial }) coming stream loss failed)
+    → MovesAll (views_of remaining contents ports) left_of first (Writes old.out ∷ moves) (loop_at new (record { control = now; dial = dial }) coming stream lost fails)
+turn_writes remaining contents ports left_of first moves old new control now dial coming stream loss lost failed fails up kept still took none new_is m = (
+  loop_at old (record { control = control; dial = dial }) coming stream loss failed,
+  m,
+  record {
+    of_links = tt;
+    up = up;
+    client = record { all = refl; new_is = new_is ∙ ap (λ (o : List ℕ). record old { out = o }) none };
+    links = (took, refl);
+    data_is = (refl, refl);
+    notes = same_notes lost loss fails failed kept (still ∙ sym up);
+  },
+)
+
+pub turn_fails : {C D R : Type 0} (remaining contents : C → Option (List ℕ)) (ports : D → Option (List ℕ)) (left_of : R → Option (List ℕ)) (first : LoopState (JobLinks C D) R) (moves : List JobMove) (old short new : ClientState) (control now : C) (dial : D) (coming : Option (List (List ℕ))) (stream : Option R) (loss lost : Option Loss) (failed fails : Bool) (n : ℕ)
+    → failed ≡ false → lost ≡ loss → fails ≡ true → n < length old.out → Appends (contents control) (contents now) (take n old.out) → short ≡ record old { out = short.out } → new ≡ after_loss links.Control short
+    → MovesAll (views_of remaining contents ports) left_of first moves (loop_at old (record { control = control; dial = dial }) coming stream loss failed)
+    → MovesAll (views_of remaining contents ports) left_of first (Fails (take n old.out) ∷ moves) (loop_at new (record { control = now; dial = dial }) coming stream lost fails)
+turn_fails remaining contents ports left_of first moves old short new control now dial coming stream loss lost failed fails n up kept fell few took short_is new_is m =
+    let same : short ≡ record old { out = new.out } = short_is ∙ ap (λ (o : List ℕ). record old { out = o }) (sym (out_lost links.Control short new new_is)) in (
+      loop_at old (record { control = control; dial = dial }) coming stream loss failed,
+      m,
+      record {
+        of_links = tt;
+        up = up;
+        client = record { rest = drop n old.out; front = sym (take-append-drop n old.out); short = some_left n old.out few; new_is = new_is ∙ ap (λ (v : ClientState). after_loss links.Control v) same };
+        links = (took, refl);
+        data_is = (refl, refl);
+        notes = same_notes lost loss fails true kept fell;
+      },
+    )
+
+pub turn_dials : {C D R : Type 0} (remaining contents : C → Option (List ℕ)) (ports : D → Option (List ℕ)) (left_of : R → Option (List ℕ)) (first : LoopState (JobLinks C D) R) (moves : List JobMove) (old new : ClientState) (control : C) (dial then_ : D) (was now : Option (List (List ℕ))) (stream made : Option R) (lost : Option Loss) (failed fails : Bool) (port : ℕ)
+    → failed ≡ false → fails ≡ failed → ports then_ ≡ with_port port (ports dial) → DialsOrLoses left_of old was port new now made lost
+    → MovesAll (views_of remaining contents ports) left_of first moves (loop_at old (record { control = control; dial = dial }) was stream None failed)
+    → (more : List JobMove) × MovesAll (views_of remaining contents ports) left_of first more (loop_at new (record { control = control; dial = then_ }) now made lost fails)
+turn_dials remaining contents ports left_of first moves old new control dial then_ was now stream made lost failed fails port up still asked (Made conn made_is brings dials none) m = (
+  Dials port true ∷ moves,
+  (
+    loop_at old (record { control = control; dial = dial }) was stream None failed,
+    m,
+    record { of_links = tt; up = up; client = dials; links = (refl, refl, asked); data_is = (conn, made_is, brings); notes = same_notes lost None fails failed none still },
+  ),
+)
+turn_dials remaining contents ports left_of first moves old new control dial then_ was now stream made lost failed fails port up still asked (Refused same misses is) m = (
+  Dials port false ∷ moves,
+  (
+    loop_at old (record { control = control; dial = dial }) was stream None failed,
+    m,
+    record { of_links = tt; up = up; client = misses; links = (refl, refl, asked); data_is = same; notes = same_notes lost (Some DialFailed) fails failed is still },
+  ),
+)
+
+pub turn_hears : {C D R : Type 0} (remaining contents : C → Option (List ℕ)) (ports : D → Option (List ℕ)) (left_of : R → Option (List ℕ)) (first : LoopState (JobLinks C D) R) (moves : List JobMove) (old new : ClientState) (control now : C) (dial : D) (coming : Option (List (List ℕ))) (stream : Option R) (lost : Option Loss) (failed fails : Bool)
+    → failed ≡ false → fails ≡ failed → HearsOrLoses old (remaining control) new (remaining now) lost
+    → MovesAll (views_of remaining contents ports) left_of first moves (loop_at old (record { control = control; dial = dial }) coming stream None failed)
+    → (more : List JobMove) × MovesAll (views_of remaining contents ports) left_of first more (loop_at new (record { control = now; dial = dial }) coming stream lost fails)
+turn_hears remaining contents ports left_of first moves old new control now dial coming stream lost failed fails up still (Heard piece some consumed hears none) m = (
+  Hears piece ∷ moves,
+  (
+    loop_at old (record { control = control; dial = dial }) coming stream None failed,
+    m,
+    record { of_links = tt; up = up; client = (hears, some); links = (consumed, refl); data_is = (refl, refl); notes = same_notes lost None fails failed none still },
+  ),
+)
+turn_hears remaining contents ports left_of first moves old new control now dial coming stream lost failed fails up still (Lost reason consumed loses is) m = (
+  Loses links.Control reason ∷ moves,
+  (
+    loop_at old (record { control = control; dial = dial }) coming stream None failed,
+    m,
+    record { of_links = tt; up = up; client = loses; links = (consumed, refl); data_is = refl; notes = same_notes lost (Some reason) fails failed is still },
+  ),
+)
+
+pub turn_sees : {L R : Type 0} (views : LinkViews L) (left_of : R → Option (List ℕ)) (old new : ClientState) (at_links : L) (coming : Option (List (List ℕ))) (stream kept : Option R) (conn : R) (lost : Option Loss) (failed fails : Bool) → Consumes (views.remaining at_links) (views.remaining at_links) [] → stream ≡ Some conn
+    → failed ≡ false → fails ≡ failed → TakesOrLoses left_of old conn new kept lost
+    → (more : List JobMove) × MovesAll views left_of (loop_at old at_links coming stream None failed) more (loop_at new at_links coming kept lost fails)
+turn_sees views left_of old new at_links coming stream kept conn lost failed fails none_read is_open up still (Took piece behind some consumed takes kept_is none) = (
+  Takes piece ∷ [],
+  (
+    loop_at old at_links coming stream None failed,
+    refl,
+    record { of_links = tt; up = up; client = (takes, some); links = refl; data_is = (conn, behind, is_open, consumed, refl, kept_is); notes = same_notes lost None fails failed none still },
+  ),
+)
+turn_sees views left_of old new at_links coming stream kept conn lost failed fails none_read is_open up still (Missed reason loses is) = (
+  Loses links.Image reason ∷ [],
+  (
+    loop_at old at_links coming stream None failed,
+    refl,
+    record { of_links = tt; up = up; client = loses; links = (none_read, refl); data_is = refl; notes = same_notes lost (Some reason) fails failed is still },
+  ),
+)
+
+pub turn_used_up : {L R : Type 0} (views : LinkViews L) (left_of : R → Option (List ℕ)) (old new : ClientState) (at_links : L) (coming : Option (List (List ℕ))) (stream : Option R) (loss lost : Option Loss) (failed fails : Bool) → Consumes (views.remaining at_links) (views.remaining at_links) []
+    → failed ≡ false → fails ≡ failed → lost ≡ Some UsedUp → is_running old.outcome ≡ true → new ≡ after_loss links.Control old
+    → MovesAll views left_of (loop_at old at_links coming stream loss failed) (Loses links.Control UsedUp ∷ []) (loop_at new at_links coming stream lost fails)
+turn_used_up views left_of old new at_links coming stream loss lost failed fails none_read up still is running lost_is = (
+  loop_at old at_links coming stream loss failed,
+  refl,
+  record {
+    of_links = tt;
+    up = up;
+    client = record { lost = running; new_is = lost_is ∙ ap (λ (b : Bool). if b then after_client_end statuses.IoError whys.Lost old else old) running };
+    links = (none_read, refl);
+    data_is = refl;
+    notes = same_notes lost (Some UsedUp) fails failed is still;
+  },
+)
+
+-- ---- while the job runs nothing is lost
+
+over_by : (old new : ClientState) → new ≡ after_client_end statuses.IoError whys.Lost old → is_running new.outcome ≡ true → ⊥
+over_by old new e running = let clash : false ≡ true = sym (ap (λ (v : ClientState). is_running v.outcome) e) ∙ running in cc
+
+pub hears_held : (old new : ClientState) (was now : Option (List ℕ)) (lost : Option Loss) → HearsOrLoses old was new now lost → is_running new.outcome ≡ true → lost ≡ None
+hears_held old new was now lost (Heard piece some consumed hears none) running = none
+hears_held old new was now lost (Lost reason consumed loses is) running = absurd (over_by old new loses.new_is running)
+
+pub takes_held : {R : Type 0} (left_of : R → Option (List ℕ)) (old new : ClientState) (conn : R) (kept : Option R) (lost : Option Loss) → TakesOrLoses left_of old conn new kept lost → is_running new.outcome ≡ true → lost ≡ None
+takes_held left_of old new conn kept lost (Took piece behind some consumed takes kept_is none) running = none
+takes_held left_of old new conn kept lost (Missed reason loses is) running = absurd (over_by old new loses.new_is running)
+
+pub over_if : (runs : Bool) (old new : ClientState) → is_running old.outcome ≡ runs → new ≡ (if runs then after_client_end statuses.IoError whys.Lost old else old) → is_running new.outcome ≡ true → ⊥
+over_if true old new is e running = over_by old new e running
+over_if false old new is e running = let clash : false ≡ true = sym (ap (λ (v : ClientState). is_running v.outcome) e ∙ is) ∙ running in cc
+
+-- a job whose control connection is lost is over
+pub cut_over : (old new : ClientState) → new ≡ after_loss links.Control old → is_running new.outcome ≡ true → ⊥
+cut_over old new e running = over_if (is_running old.outcome) old new refl e running
+
+-- the same notes to begin with
+pub turn_from : {L R : Type 0} (views : LinkViews L) (left_of : R → Option (List ℕ)) (old : ClientState) (at_links : L) (coming : Option (List (List ℕ))) (stream : Option R) (was loss : Option Loss) (before failed : Bool) (now : LoopState L R) → loss ≡ was → failed ≡ before
+    → (moves : List JobMove) × MovesAll views left_of (loop_at old at_links coming stream loss failed) moves now → (moves : List JobMove) × MovesAll views left_of (loop_at old at_links coming stream was before) moves now
+turn_from views left_of old at_links coming stream was loss before failed now same still m =
+    subst (λ (n : CallNotes). (moves : List JobMove) × MovesAll views left_of (record { client = old; links = at_links; coming = coming; stream = stream; notes = n }) moves now) (same_notes loss was failed before same still) m
+
+-- ---- leave is taken
+
+pub leaves_written : {C : Type 0} (contents : C → Option (List ℕ)) (was now : C) (out : List ℕ) (loss lost : Option Loss) (failed fails result : Bool) → failed ≡ false → lost ≡ loss → fails ≡ not result → (IsTrue result → Appends (contents was) (contents now) out)
+    → (result ≡ false → (n : ℕ) × (n < length out) × Appends (contents was) (contents now) (take n out)) → TakesLeave contents was (noted_as loss failed) out now (noted_as lost fails)
+leaves_written contents was now out loss lost failed fails true up same told whole front = Whole up (whole refl) (same_notes lost loss fails failed same (told ∙ sym up))
+leaves_written contents was now out loss lost failed fails false up same told whole front =
+    let some = front refl in
+    Short up some.0 some.1 some.2 (same_notes lost loss fails true same told)

@@ -1,0 +1,282 @@
+-- All that is promised of a job, call by call.
+use Rattle.std.specs.Prelude.{option_map, slice_get, slice_index_or, ◌<◌, ◌≤◌, ◌-◌, ◌==◌, ◌||◌, nat_lt, if◌then◌else◌, cond, Contains, map}
+use Rattle.std.specs.Prelude.{min}
+use Rattle.std.proofs.Math.Nat.{le-min, min-eq_left, min-le_left, min-le_right}
+use Rattle.std.proofs.lemmas.Option.{get_or_from_slice_get, slice_get_within}
+use Rattle.scan_world.specs.declared.event.Event.{Event}
+use Rattle.scan_world.specs.JobMoves.{IsNextMove}
+use Rattle.std.proofs.Common.{◌≡◌, ◌∙◌, ◌⊎◌, ◌≢◌, ℕ, zero, suc, List, [], ◌∷◌, Bool, true, false, Option, Some, None, inl, inr, refl, sym, ap, subst, arith}
+use Rattle.netpbm.specs.Pnm.{IsWhole}
+use Rattle.scan_job.specs.declared.job.Job.{Job}
+use Rattle.scan_job.specs.declared.job.Task.TheVariants as tasks
+use Rattle.scan_job.specs.JobSize.{HasCount}
+use Rattle.scan_job.specs.declared.outcome.Outcome.{Outcome}
+use Rattle.scan_job.specs.declared.outcome.Outcome.TheVariants.{Running, Done, Ended}
+use Rattle.scan_job.specs.declared.report.Reports.{Reports}
+use Rattle.client_replies.specs.ProtocolStates.{is_running, HistoryFits, FitsDone}
+use Rattle.scan_world.specs.JobEvents.{is_done}
+use Rattle.scan_world.specs.JobMoves.{moves_left_of}
+use Rattle.scan_world.specs.Endpoints.{finished_page}
+use Rattle.scan_world.specs.declared.endpoint.Endpoint.{Endpoint}
+use Rattle.scan_world.specs.Worlds.{IsFitJob, WorldCore}
+use Rattle.world_contract.specs.Histories.{History}
+use Rattle.world_contract.specs.Endings.{JobIsPermitted}
+use Rattle.world_contract.specs.Promise.{CountIsKept, FileIsKept, MoveIsKept, MovesAreKept, OutcomeIsKept, PageIsKept}
+use Rattle.world_contract.specs.Laws.{Below}
+use Rattle.world_contract.proofs.Jobs.{IsJob, are_steady}
+use Rattle.world_contract.proofs.Scanned.{at_first, infos_of, job_there, kept_by, make_there, page_right, scan_right}
+use Rattle.std.specs.Prelude.{Ok, Err}
+use Rattle.md5_auth.specs.declared.users.Entry.{Entry}
+use Rattle.sane_fixed.specs.declared.device_info.DeviceInfo.{DeviceInfo}
+use Rattle.page_picture.specs.Shows.{Frame}
+use Rattle.frame_join.specs.declared.join_stage.JoinFault.{JoinFault}
+use Rattle.frame_join.specs.FrameHistory.{IsJoined, JoinHistory, answer_by, is_joined}
+use Rattle.frame_join.specs.JoinStates.{JoinState, Represents as JoinStands}
+use Rattle.frame_join.proofs.EndSteps.{whole_not}
+use Rattle.frame_join.proofs.StreamLaws.{nothing_is_not_whole}
+use Rattle.scan_job.specs.declared.job.Task.{Task}
+use Rattle.client_replies.specs.declared.progress.JobTarget.{JobTarget}
+use Rattle.scan_world.specs.FileDraining.{HasFiles, KeepsFile}
+use Rattle.system_model.specs.Client.{AbstractJob as RuledJob}
+use Rattle.system_model.specs.Sync.{IsPermitted as Permitted}
+use Rattle.world_refines.specs.WorldRefinement.{KeepsFiles, is_laid}
+use Rattle.world_contract.proofs.Traced.{Fixed, all_fixed}
+use Rattle.world_contract.proofs.Ended.{at_end}
+use Rattle.device_api.specs.State.{DeviceState}
+use Rattle.client_refines.specs.ClientRefinement.{requested_setting}
+use Rattle.system_model.specs.Devices.{Make}
+use Rattle.system_model.specs.AbstractInForce as ruled
+use Rattle.system_model.specs.SystemStates.{make_for}
+use Rattle.world_refines.specs.NewWorlds.{make_of}
+use Rattle.world_refines.specs.GhostStates.{Ghost, job_state, abstract_job}
+use Rattle.world_refines.specs.WorldPromises.{IsOutcome, KeepsPromise}
+use Rattle.world_contract.specs.Reports.{AreSettingsAnswered}
+use Rattle.world_contract.proofs.Along.{device_named, get_at}
+use Rattle.world_contract.proofs.Lists.{contains_at}
+use Rattle.world_refines.specs.NewWorlds.{info_of_state}
+use Rattle.world_contract.proofs.Reported.{answered}
+
+-- ---- a finished page, by its number from 1
+
+there_by : (xs : List (Option (List ℕ))) (k : ℕ) (file : List ℕ) → slice_index_or xs k None ≡ Some file → slice_get xs k ≡ Some (Some file)
+there_by [] k file e = absurd (let clash : None ≡ Some file = e in cc)
+there_by (x ∷ xs) zero file e = ap (λ (y : Option (List ℕ)). Some y) e
+there_by (x ∷ xs) (suc k) file e = there_by xs k file e
+
+page_if : (p : Endpoint) (k : ℕ) (file : List ℕ) (a b c : Bool) → (k == 0) ≡ a → nat_lt p.finished k ≡ b → nat_lt 16 k ≡ c → (if (a || b) || c then None else slice_index_or p.pages (k - 1) None) ≡ Some file → (slice_index_or p.pages (k - 1) None ≡ Some file) × (a ≡ false) × (b ≡ false) × (c ≡ false)
+page_if p k file true b c x y z e = absurd (let clash : None ≡ Some file = e in cc)
+page_if p k file false true c x y z e = absurd (let clash : None ≡ Some file = e in cc)
+page_if p k file false false true x y z e = absurd (let clash : None ≡ Some file = e in cc)
+page_if p k file false false false x y z e = (e, refl, refl, refl)
+
+low : (k n : ℕ) → (k == 0) ≡ false → nat_lt n k ≡ false → k - 1 < n
+low zero n a b = absurd (let clash : true ≡ false = a in cc)
+low (suc k) n a b = grind arith
+
+some_of : (k : ℕ) → (k == 0) ≡ false → 0 < k
+some_of zero a = absurd (let clash : true ≡ false = a in cc)
+some_of (suc k) a = omega arith
+
+most_of : (k n : ℕ) → nat_lt n k ≡ false → k ≤ n
+most_of k n b = grind arith
+
+pub record IsPageOf (p : Endpoint) (k : ℕ) (file : List ℕ) : Type 0 where
+  pub some : 0 < k
+  pub low : k - 1 < p.finished
+  pub finished : k ≤ min p.finished 16
+  pub at : slice_get p.pages (k - 1) ≡ Some (Some file)
+
+pub page_there : (p : Endpoint) (k : ℕ) (file : List ℕ) → finished_page p k ≡ Some file → IsPageOf p k file
+page_there p k file e =
+    let is = page_if p k file (k == 0) (nat_lt p.finished k) (nat_lt 16 k) refl refl refl e in
+    record { some = some_of k is.1; low = low k p.finished is.1 is.2; finished = le-min (most_of k p.finished is.2) (most_of k 16 is.3); at = there_by p.pages (k - 1) file is.0 }
+
+-- ---- by its outcome
+
+not_done : (o p : Outcome) → o ≡ p → is_done p ≡ false → is_done o ≡ false
+not_done o p e d = ap is_done e ∙ d
+
+runs_not : (o : Outcome) → (o ≡ Running → ⊥) → is_running o ≡ false
+runs_not Running n = absurd (n refl)
+runs_not (Done reports) n = refl
+runs_not (Ended status why) n = refl
+
+none_left : (p : Endpoint) (b : Bool) → is_running p.client.outcome ≡ b → b ≡ false → moves_left_of p ≡ 0
+none_left p b e n = ap (λ (x : Bool). cond x p.budget 0) (e ∙ n)
+
+positive : (n : ℕ) → (n ≡ 0 → ⊥) → 0 < n
+positive zero h = absurd (h refl)
+positive (suc n) h = omega arith
+
+counted : {X : Type 0} (n count : ℕ) → count ≤ 16 → (n ≡ count) ⊎ ((0 < n) × (n < count) × X) → (min n 16 ≡ count) ⊎ ((0 < min n 16) × (min n 16 < count))
+counted n count most (inl e) = inl (min-eq_left (subst (λ (x : ℕ). x ≤ 16) (sym e) most) ∙ e)
+counted n count most (inr e) = let same : min n 16 ≡ n = min-eq_left (omega (arith, e.1, most)) in inr (subst (λ (x : ℕ). 0 < x) (sym same) e.0, subst (λ (x : ℕ). x < count) (sym same) e.1)
+
+most_pages : (task : Task) (count : ℕ) → task ≡ tasks.Batch count → HasCount task → count ≤ 16
+most_pages task count e fit = (subst HasCount e fit).1
+
+kept_by_outcome : (u : Ghost) (i : ℕ) (o : Outcome) (reports : Reports) → o ≡ Done reports → IsOutcome u i o → KeepsPromise u i reports
+kept_by_outcome u i o reports e h = subst (IsOutcome u i) e h
+
+settings_kept : Below → (h : History) (w : WorldCore) (i : ℕ) (job : Job) (endpoint : Endpoint) (reports : Reports) (device : DeviceState) → IsJob h w i job endpoint → endpoint.client.outcome ≡ Done reports → job.task ≢ tasks.List → Contains h.devices device → device.info.name ≡ job.device → AreSettingsAnswered device job reports.settings
+settings_kept below h w i job endpoint reports device j done list there named =
+    let k = kept_by below.kept h w job j.led j.premises in
+    let u = k.run.ghost_then in
+    let new = below.new h.jobs job h.devices j.led.first j.led.endpoints j.led.daemon j.led.names (are_steady h w j.led j.premises) j.led.fit in
+    let mine = job_there h w job j.led k i j.job_at in
+    let p = kept_by_outcome u i endpoint.client.outcome reports done (k.promises.outcomes i endpoint j.endpoint_at) in
+    let s = p.settings (λ e. list (sym (ap (λ (x : Job). x.task) mine) ∙ e)) in
+    let make : make_for u.system i ≡ make_of (Some device) = make_there h w job j.led k i j.job_at ∙ ap make_of (device_named h job.device device new.is_of.apart there named) in
+    let forced : ruled.abstract_in_force (make_of (Some device)) (map requested_setting job.settings.items) ≡ Some (record { options = s.options; reports = s.reports }) =
+    subst (λ (x : Job). ruled.abstract_in_force (make_of (Some device)) (map requested_setting x.settings.items) ≡ Some (record { options = s.options; reports = s.reports })) mine
+    (subst (λ (m : Make). ruled.abstract_in_force m (map requested_setting (u.jobs i).settings.items) ≡ Some (record { options = s.options; reports = s.reports })) make s.forced) in
+    let each : ruled.AreAnswered (make_of (Some device)) (map requested_setting job.settings.items) s.reports =
+    subst (λ (x : Job). ruled.AreAnswered (make_of (Some device)) (map requested_setting x.settings.items) s.reports) mine
+    (subst (λ (m : Make). ruled.AreAnswered m (map requested_setting (u.jobs i).settings.items) s.reports) make s.answered) in
+    answered device job s.options s.reports reports.settings forced s.are each
+
+permitted_by : (h : History) (job : Job) (ruled : RuledJob) (sent : Option (List ℕ)) → ruled ≡ abstract_job h.users (infos_of h) job → Permitted ruled sent → JobIsPermitted h job
+permitted_by h job ruled sent e (inl free) = inl (ap (λ (x : RuledJob). x.guarded) (sym e) ∙ free)
+permitted_by h job ruled sent e (inr (c, was, allows)) = inr (c, ap (λ (x : RuledJob). x.allows c) (sym e) ∙ allows)
+
+allowed : Below → (h : History) (w : WorldCore) (i : ℕ) (job : Job) (endpoint : Endpoint) (reports : Reports) → IsJob h w i job endpoint → endpoint.client.outcome ≡ Done reports → job.task ≢ tasks.List → JobIsPermitted h job
+allowed below h w i job endpoint reports j done list =
+    let k = kept_by below.kept h w job j.led j.premises in
+    let u = k.run.ghost_then in
+    let mine = job_there h w job j.led k i j.job_at in
+    let p = kept_by_outcome u i endpoint.client.outcome reports done (k.promises.outcomes i endpoint j.endpoint_at) in
+    let fixed = all_fixed h.events (at_first h w job j.led) k.run.steps u k.run.comes in
+    let users : u.users ≡ h.users = ap (λ (f : Fixed). f.0) fixed ∙ j.led.users_are in
+    let infos : u.infos ≡ infos_of h = ap (λ (f : Fixed). f.1) fixed in
+    let is : (job_state u i).session.job ≡ abstract_job h.users (infos_of h) job =
+    (k.run.stands.endpoints i endpoint j.endpoint_at).job_is
+    ∙ (ap (λ (x : List Entry). abstract_job x u.infos (u.jobs i)) users
+    ∙ (ap (λ (x : List DeviceInfo). abstract_job h.users x (u.jobs i)) infos
+    ∙ ap (λ (x : Job). abstract_job h.users (infos_of h) x) mine)) in
+    permitted_by h job (job_state u i).session.job (job_state u i).session.sent is (p.permitted (λ e. list (sym (ap (λ (x : Job). x.task) mine) ∙ e)))
+
+-- ---- a list
+
+mapped : {X Y : Type 0} (f : X → Y) (xs : List X) (k : ℕ) → slice_get (map f xs) k ≡ option_map f (slice_get xs k)
+mapped f [] k = refl
+mapped f (x ∷ xs) zero = refl
+mapped f (x ∷ xs) (suc k) = mapped f xs k
+
+one_place : (infos : List DeviceInfo) (o : Option ℕ) (info : DeviceInfo) → option_map (slice_get infos) o ≡ Some (Some info) → (place : ℕ) × (slice_get infos place ≡ Some info)
+one_place infos None info e = absurd (let clash : None ≡ Some (Some info) = e in cc)
+one_place infos (Some place) info e = (place, (let both : Some (slice_get infos place) ≡ Some (Some info) = e in cc))
+
+one_device : (o : Option DeviceState) (info : DeviceInfo) → option_map info_of_state o ≡ Some info → (device : DeviceState) × (o ≡ Some device) × (device.info ≡ info)
+one_device None info e = absurd (let clash : None ≡ Some info = e in cc)
+one_device (Some device) info e = (device, refl, (let both : Some device.info ≡ Some info = e in cc))
+
+device_by : (h : History) (places : List ℕ) (told : List DeviceInfo) (info : DeviceInfo) → map (slice_get (infos_of h)) places ≡ map (λ (x : DeviceInfo). Some x) told → Contains told info → (device : DeviceState) × Contains h.devices device × (device.info ≡ info)
+device_by h places told info e there =
+    let k = there.0 in
+    let at : slice_get told k ≡ Some info = get_at told k info there.1 ∙ ap (λ (x : DeviceInfo). Some x) there.2 in
+    let shown_at : slice_get (map (λ (x : DeviceInfo). Some x) told) k ≡ Some (Some info) = mapped (λ (x : DeviceInfo). Some x) told k ∙ ap (option_map (λ (x : DeviceInfo). Some x)) at in
+    let place = one_place (infos_of h) (slice_get places k) info (sym (mapped (slice_get (infos_of h)) places k) ∙ (ap (λ (xs : List (Option DeviceInfo)). slice_get xs k) e ∙ shown_at)) in
+    let d = one_device (slice_get h.devices place.0) info (sym (mapped info_of_state h.devices place.0) ∙ place.1) in
+    (d.0, contains_at h.devices place.0 d.0 d.1, d.2)
+
+is_listed : Below → (h : History) (w : WorldCore) (i : ℕ) (job : Job) (endpoint : Endpoint) (reports : Reports) (info : DeviceInfo) → IsJob h w i job endpoint → endpoint.client.outcome ≡ Done reports → job.task ≡ tasks.List → Contains reports.devices info → (device : DeviceState) × Contains h.devices device × (device.info ≡ info)
+is_listed below h w i job endpoint reports info j done list there =
+    let k = kept_by below.kept h w job j.led j.premises in
+    let u = k.run.ghost_then in
+    let mine = job_there h w job j.led k i j.job_at in
+    let p = kept_by_outcome u i endpoint.client.outcome reports done (k.promises.outcomes i endpoint j.endpoint_at) in
+    let infos : u.infos ≡ infos_of h = ap (λ (f : Fixed). f.1) (all_fixed h.events (at_first h w job j.led) k.run.steps u k.run.comes) in
+    let l = p.devices (ap (λ (x : Job). x.task) mine ∙ list) in
+    device_by h l.places reports.devices info (subst (λ (x : List DeviceInfo). map (slice_get x) l.places ≡ map (λ (y : DeviceInfo). Some y) reports.devices) infos l.told) there
+
+-- ---- the file of a job that is no scan
+
+joined_is : (fault : Option JoinFault) (under : Option Frame) (ended : List Frame) → answer_by fault under ended ≡ Ok true → is_joined ended ≡ true
+joined_is (Some fault) under ended e = absurd (let clash : Err fault ≡ Ok true = e in cc)
+joined_is None (Some f) ended e = absurd (let same : false ≡ true = (let both : Ok false ≡ Ok true = e in cc) in cc)
+joined_is None None ended e = let both : Ok (is_joined ended) ≡ Ok true = e in cc
+
+given_not : (past : JoinHistory) (v : JoinState) (pages : List JoinHistory) (endpoint : Endpoint) (file : List ℕ) → JoinStands past v → (IsJoined past → ⊥) → HasFiles past.given pages endpoint → endpoint.file ≡ Some file → IsWhole file → ⊥
+given_not past v pages endpoint file stands un files is whole =
+    let same : file ≡ past.given = subst (λ (x : Option (List ℕ)). KeepsFile endpoint.out_of_memory past.given x) is files.file in
+    whole_not past v stands un (subst IsWhole same whole)
+
+laid_not : (past : JoinHistory) (v : JoinState) (pages : List JoinHistory) (endpoint : Endpoint) (file : List ℕ) (b : Bool) → is_joined past.ended ≡ b → JoinStands past v → KeepsFiles b past pages endpoint → endpoint.file ≡ Some file → IsWhole file → ⊥
+laid_not past v pages endpoint file true e stands files is whole =
+    let same : file ≡ [] = subst (λ (x : Option (List ℕ)). KeepsFile endpoint.out_of_memory [] x) is files.file in
+    nothing_is_not_whole (subst IsWhole same whole)
+laid_not past v pages endpoint file false e stands files is whole =
+    given_not past v pages endpoint file stands (λ joined. let clash : false ≡ true = sym e ∙ joined_is past.fault past.under past.ended joined in absurd (cc)) files is whole
+
+by_task : (task : Task) (past : JoinHistory) (v : JoinState) (pages : List JoinHistory) (endpoint : Endpoint) (reports : Reports) (file : List ℕ) → task ≢ tasks.Scan → JoinStands past v → FitsDone task past → KeepsFiles (is_laid task (Done reports) past) past pages endpoint → endpoint.file ≡ Some file → IsWhole file → ⊥
+by_task tasks.List past v pages endpoint reports file unlike stands fits files is whole = given_not past v pages endpoint file stands fits files is whole
+by_task tasks.Show past v pages endpoint reports file unlike stands fits files is whole = given_not past v pages endpoint file stands fits files is whole
+by_task tasks.SetOnly past v pages endpoint reports file unlike stands fits files is whole = given_not past v pages endpoint file stands fits files is whole
+by_task tasks.Scan past v pages endpoint reports file unlike stands fits files is whole = unlike refl
+by_task (tasks.Batch count) past v pages endpoint reports file unlike stands fits files is whole = laid_not past v pages endpoint file (is_joined past.ended) refl stands files is whole
+
+no_scan : Below → (h : History) (w : WorldCore) (i : ℕ) (job : Job) (endpoint : Endpoint) (reports : Reports) (file : List ℕ) → IsJob h w i job endpoint → endpoint.client.outcome ≡ Done reports → job.task ≢ tasks.Scan → endpoint.file ≡ Some file → IsWhole file → ⊥
+no_scan below h w i job endpoint reports file j done scan is whole =
+    let k = kept_by below.kept h w job j.led j.premises in
+    let u = k.run.ghost_then in
+    let mine = job_there h w job j.led k i j.job_at in
+    let talks = (k.run.stands.endpoints i endpoint j.endpoint_at).talks in
+    let past = u.history i in
+    let fits : HistoryFits (u.jobs i).task (Done reports) endpoint.client.progress past =
+    subst (λ (o : Outcome). HistoryFits (u.jobs i).task o endpoint.client.progress past) done (subst (λ (e : JobTarget). HistoryFits e.task endpoint.client.outcome endpoint.client.progress past) talks.target talks.serves.fits) in
+    let files : KeepsFiles (is_laid (u.jobs i).task (Done reports) past) past (u.pages i) endpoint = subst (λ (o : Outcome). KeepsFiles (is_laid (u.jobs i).task o past) past (u.pages i) endpoint) done talks.files in
+    by_task (u.jobs i).task past endpoint.client.join (u.pages i) endpoint reports file (λ e. scan (sym (ap (λ (x : Job). x.task) mine) ∙ e)) talks.serves.stands fits files is whole
+
+-- ---- call by call
+
+pub outcome_kept : Below → (h : History) (w : WorldCore) (i : ℕ) (job : Job) (p : Endpoint) → IsJob h w i job p → OutcomeIsKept h i job p.out_of_memory p.client.outcome
+outcome_kept below h w i job p j = record {
+  done = λ reports e. record {
+    answered = λ device list there named. settings_kept below h w i job p reports device j e list there named;
+    permitted = λ list. allowed below h w i job p reports j e list;
+    listed = λ info list there. is_listed below h w i job p reports info j e list there;
+  };
+  ended = λ status why e.
+      let s = (kept_by below.kept h w job j.led j.premises).promises.statuses i p status why j.endpoint_at e in
+      record { not_good = s.0; not_eof = s.1; caused = at_end below h w i job p status why j e };
+}
+
+pub file_kept : Below → (h : History) (w : WorldCore) (i : ℕ) (job : Job) (p : Endpoint) → IsJob h w i job p → FileIsKept h job p.out_of_memory p.client.outcome p.file
+file_kept below h w i job p j =
+    let k = kept_by below.kept h w job j.led j.premises in
+    record {
+      scanned = λ reports bytes scan done f. scan_right below.kept below.notes h w i job p reports bytes j scan done f;
+      running = λ bytes e f. k.promises.short i p bytes j.endpoint_at (not_done p.client.outcome Running e refl) f;
+      ended = λ status why bytes e f. k.promises.short i p bytes j.endpoint_at (not_done p.client.outcome (Ended status why) e refl) f;
+      other = λ reports bytes done scan f. no_scan below h w i job p reports bytes j done scan f;
+      missing = λ f. k.promises.starved i p j.endpoint_at f;
+    }
+
+pub page_kept : Below → (h : History) (w : WorldCore) (i k : ℕ) (job : Job) (p : Endpoint) → IsJob h w i job p → PageIsKept h job p.out_of_memory (min p.finished 16) k (finished_page p k)
+page_kept below h w i k job p j = record {
+  scanned = λ bytes f. let page = page_there p k bytes f in (page.some, page.finished, page_right below.kept below.notes h w i (k - 1) job p bytes j page.low page.at);
+  missing = λ some within f. (kept_by below.kept h w job j.led j.premises).promises.pages_lost i k p j.endpoint_at some (omega (arith, within, min-le_left p.finished 16)) (omega (arith, within, min-le_right p.finished 16)) f;
+}
+
+pub count_kept : Below → (h : History) (w : WorldCore) (i : ℕ) (job : Job) (p : Endpoint) → IsJob h w i job p → CountIsKept job p.client.outcome (min p.finished 16)
+count_kept below h w i job p j count reports batch done =
+    let k = kept_by below.kept h w job j.led j.premises in
+    let mine = job_there h w job j.led k i j.job_at in
+    let fit : IsFitJob job = subst IsFitJob (get_or_from_slice_get h.jobs i job job j.job_at) (j.led.fit i job (slice_get_within h.jobs i job j.job_at)) in
+    counted p.finished count (most_pages job.task count batch fit.1) (k.promises.batches i count p reports j.endpoint_at (ap (λ (x : Job). x.task) mine ∙ batch) done)
+
+pub move_kept : Below → (h : History) (w : WorldCore) (i : ℕ) (job : Job) (p : Endpoint) (event : Option Event) → IsJob h w i job p → IsNextMove w.daemon i p event → MoveIsKept p.client.outcome event
+move_kept below h w i job p event j is =
+    let k = kept_by below.kept h w job j.led j.premises in
+    record {
+      running = λ e. (k.promises.moves i p event j.endpoint_at is).0 (ap is_running e);
+      over = λ n. (k.promises.moves i p event j.endpoint_at is).1 (runs_not p.client.outcome n);
+    }
+
+pub moves_kept : Below → (h : History) (w : WorldCore) (i : ℕ) (job : Job) (p : Endpoint) → IsJob h w i job p → MovesAreKept p.client.outcome (moves_left_of p)
+moves_kept below h w i job p j =
+    let k = kept_by below.kept h w job j.led j.premises in
+    record {
+      running = λ e. positive (moves_left_of p) (λ none. let off = k.promises.left i p j.endpoint_at none in absurd (let clash : true ≡ false = sym (ap is_running e) ∙ off in cc));
+      over = λ n. none_left p (is_running p.client.outcome) refl (runs_not p.client.outcome n);
+    }

@@ -1,0 +1,104 @@
+-- The starts of a job are those of its marks.
+use Rattle.std.specs.Prelude.{cond, eqb}
+use Rattle.std.specs.List.{AllByRecursion}
+use Rattle.std.proofs.Common.{◌≡◌, ◌∙◌, ℕ, List, [], ◌∷◌, Bool, true, false, Option, refl, sym, ap, subst, eqb-true}
+use Rattle.system_model.specs.AbstractMessages.{Challenge, AbstractRequest}
+use Rattle.system_model.specs.Client.{AbstractJob}
+use Rattle.system_model.specs.Devices.{Make}
+use Rattle.system_model.specs.AbstractDevices.{Begin, AbstractDevice}
+use Rattle.system_model.specs.Daemon.{FailureCounts}
+use Rattle.system_model.specs.SystemStates.{JobState, SystemState, listed_devices, make_for, device_for, wanted_place}
+use Rattle.system_model.specs.Actions
+use Rattle.system_model.specs.Actions.{Action, answer_next, job_after_action}
+use Rattle.system_model.specs.Transitions.{By, Loads, Transition, Unplugs, after_transition, after_all}
+use Rattle.system_model.specs.Marks.{marks, starts_in}
+use Rattle.system_model.specs.MoveRuns.{all_marks, marks_at}
+use Rattle.system_model.specs.ModelPromises.{NotesAreTrue}
+use Rattle.daemon_refines.proofs.Moved.{own}
+use Rattle.world_contract.proofs.Lists.{all_back, all_front, all_then}
+use Rattle.world_contract.proofs.Marked.{StartsIt, starts_all}
+
+-- ---- a job stays what it is
+
+next_job : (i : ℕ) (k : Make) (ds : List ℕ) (p : JobState) (dev : AbstractDevice) (challenge : Challenge) (fault : Option FailureCounts) (qs : List AbstractRequest) → (answer_next i k ds p dev challenge fault qs).session.job ≡ p.session.job
+next_job i k ds p dev challenge fault [] = refl
+next_job i k ds p dev challenge fault (q ∷ rest) = refl
+
+pub job_stays : (i : ℕ) (k : Make) (ds : List ℕ) (p : JobState) (dev : AbstractDevice) (x : Action) → (job_after_action i k ds p dev x).session.job ≡ p.session.job
+job_stays i k ds p dev Actions.Connects = refl
+job_stays i k ds p dev (Actions.Answers challenge fault) = next_job i k ds p dev challenge fault p.todo
+job_stays i k ds p dev (Actions.Hears reply) = refl
+job_stays i k ds p dev Actions.Dials = refl
+job_stays i k ds p dev (Actions.Turns bytes) = refl
+job_stays i k ds p dev Actions.TurnsLast = refl
+job_stays i k ds p dev (Actions.TurnsNamed status) = refl
+job_stays i k ds p dev Actions.TurnsShort = refl
+job_stays i k ds p dev (Actions.TurnsFault fault) = refl
+job_stays i k ds p dev Actions.TurnsOff = refl
+job_stays i k ds p dev (Actions.Reads bytes) = refl
+job_stays i k ds p dev (Actions.Finishes status) = refl
+job_stays i k ds p dev (Actions.Loses memory) = refl
+job_stays i k ds p dev (Actions.LosesImage memory) = refl
+job_stays i k ds p dev (Actions.Breaks memory) = refl
+job_stays i k ds p dev Actions.RunsOutOfMemory = refl
+job_stays i k ds p dev Actions.Stops = refl
+
+-- a step leaves the other parties
+pub party_stays : (s : SystemState) (j : ℕ) (x : Action) (i : ℕ) → eqb i j ≡ false → (after_transition s (By j x)).job i ≡ s.job i
+party_stays s j x i e = rw e refl
+
+pub party_now : (s : SystemState) (j : ℕ) (x : Action) (i : ℕ) → eqb i j ≡ true → (after_transition s (By j x)).job i ≡ (after_transition s (By j x)).job j
+party_now s j x i e = ap (λ (n : ℕ). (after_transition s (By j x)).job n) (eqb-true i j e)
+
+job_kept : (s : SystemState) (j : ℕ) (x : Action) (i : ℕ) (b : Bool) → eqb i j ≡ b → ((after_transition s (By j x)).job i).session.job ≡ (s.job i).session.job
+job_kept s j x i false e = ap (λ (p : JobState). p.session.job) (party_stays s j x i e)
+job_kept s j x i true e =
+    let same : i ≡ j = eqb-true i j e in
+    subst (λ (n : ℕ). ((after_transition s (By j x)).job n).session.job ≡ (s.job n).session.job) (sym same)
+    (ap (λ (b : Bool). (cond b (job_after_action j (make_for s j) (listed_devices s) (s.job j) (device_for s j) x) (s.job j)).session.job) (own j) ∙ job_stays j (make_for s j) (listed_devices s) (s.job j) (device_for s j) x)
+
+pub job_same : (s : SystemState) (x : Transition) (i : ℕ) → ((after_transition s x).job i).session.job ≡ (s.job i).session.job
+job_same s (By j x) i = job_kept s j x i (eqb i j) refl
+job_same s (Loads d page) i = refl
+job_same s (Unplugs d) i = refl
+
+pub wants_same : (s : SystemState) (x : Transition) (i : ℕ) → wanted_place (after_transition s x) i ≡ wanted_place s i
+wants_same s x i = ap (λ (job : AbstractJob). job.wants) (job_same s x i)
+
+-- ---- the starts
+
+abbrev pub Begun : (ℕ → Begin → Type 0) → SystemState → ℕ → Type 0
+Begun Q s i = AllByRecursion (Q (wanted_place s i)) (s.job i).session.started
+
+own_marks : (s : SystemState) (j : ℕ) (x : Action) → marks_at (wanted_place s j) s (By j x) ≡ marks s (By j x)
+own_marks s j x = ap (λ (b : Bool). cond b (marks s (By j x)) []) (own (wanted_place s j))
+
+one_begun : NotesAreTrue → (Q : ℕ → Begin → Type 0) (s : SystemState) (j : ℕ) (x : Action) → AllByRecursion (StartsIt (Q (wanted_place s j))) (marks s (By j x)) → ((i : ℕ) → Begun Q s i) → (i : ℕ) (b : Bool) → eqb i j ≡ b → AllByRecursion (Q (wanted_place s i)) ((after_transition s (By j x)).job i).session.started
+one_begun notes Q s j x a h i false e = subst (λ (p : JobState). AllByRecursion (Q (wanted_place s i)) p.session.started) (sym (party_stays s j x i e)) (h i)
+one_begun notes Q s j x a h i true e =
+    let same : i ≡ j = eqb-true i j e in
+    subst (λ (n : ℕ). AllByRecursion (Q (wanted_place s n)) ((after_transition s (By j x)).job n).session.started) (sym same)
+    (subst (AllByRecursion (Q (wanted_place s j))) (sym (notes s j x).0) (all_then (Q (wanted_place s j)) (s.job j).session.started (starts_in (marks s (By j x))) (h j) (starts_all (Q (wanted_place s j)) (marks s (By j x)) a)))
+
+step_begun : NotesAreTrue → (Q : ℕ → Begin → Type 0) (s : SystemState) (x : Transition) → ((d : ℕ) → AllByRecursion (StartsIt (Q d)) (marks_at d s x)) → ((i : ℕ) → Begun Q s i) → (i : ℕ) → Begun Q (after_transition s x) i
+step_begun notes Q s (By j x) a h i =
+    subst (λ (d : ℕ). AllByRecursion (Q d) ((after_transition s (By j x)).job i).session.started) (sym (wants_same s (By j x) i))
+    (one_begun notes Q s j x (subst (AllByRecursion (StartsIt (Q (wanted_place s j)))) (own_marks s j x) (a (wanted_place s j))) h i (eqb i j) refl)
+step_begun notes Q s (Loads d page) a h i = h i
+step_begun notes Q s (Unplugs d) a h i = h i
+
+pub all_begun : NotesAreTrue → (Q : ℕ → Begin → Type 0) (xs : List Transition) (s : SystemState) → ((d : ℕ) → AllByRecursion (StartsIt (Q d)) (all_marks d s xs)) → ((i : ℕ) → Begun Q s i) → (i : ℕ) → Begun Q (after_all s xs) i
+all_begun notes Q [] s a h i = h i
+all_begun notes Q (x ∷ xs) s a h i =
+    all_begun notes Q xs (after_transition s x) (λ d. all_back (StartsIt (Q d)) (marks_at d s x) (all_marks d (after_transition s x) xs) (a d))
+    (step_begun notes Q s x (λ d. all_front (StartsIt (Q d)) (marks_at d s x) (all_marks d (after_transition s x) xs) (a d)) h) i
+
+pub wants_all : (xs : List Transition) (s : SystemState) (i : ℕ) → wanted_place (after_all s xs) i ≡ wanted_place s i
+wants_all [] s i = refl
+wants_all (x ∷ xs) s i = wants_all xs (after_transition s x) i ∙ wants_same s x i
+
+pub makes_stay : (s : SystemState) (xs : List Transition) → (after_all s xs).make ≡ s.make
+makes_stay s [] = refl
+makes_stay s (By i x ∷ xs) = makes_stay (after_transition s (By i x)) xs
+makes_stay s (Loads d page ∷ xs) = makes_stay (after_transition s (Loads d page)) xs
+makes_stay s (Unplugs d ∷ xs) = makes_stay (after_transition s (Unplugs d)) xs

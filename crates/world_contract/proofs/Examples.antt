@@ -1,0 +1,153 @@
+-- What the worked examples come to.
+use Rattle.std.specs.Prelude.{All, map, Contains, ◌<◌, length, slice_get, slice_index_or}
+use Rattle.std.specs.List.{AllByRecursion}
+use Rattle.std.proofs.Common.{◌≡◌, ◌∙◌, ℕ, zero, suc, arith, List, [], ◌∷◌, Option, Some, true, false, refl, sym, ap, subst}
+use Rattle.sane_fixed.specs.declared.byte_order.ByteOrder.TheVariants.{Little}
+use Rattle.page_picture.specs.Page.{PageView}
+use Rattle.page_picture.specs.Meaning.{meaning_of}
+use Rattle.page_picture.specs.Source.{SourceState}
+use Rattle.page_picture.specs.declared.sources.kinds.Source.{Source}
+use Rattle.page_picture.specs.declared.scene.DeviceKind.TheVariants.{Flatbed}
+use Rattle.md5_auth.specs.declared.users.Entry.{Entry}
+use Rattle.device_api.specs.State.{DeviceState, HeldPage, held_from}
+use Rattle.scan_frames.specs.declared.setup.Setup.{Setup}
+use Rattle.device_api.specs.InForce.{Placement}
+use Rattle.device_api.specs.Values.{defaults}
+use Rattle.scan_laws.specs.NearestSet.{PutAllNearest}
+use Rattle.virtual_scanner.specs.New.{new_scanner}
+use Rattle.scan_job.specs.declared.job.Job.{Job}
+use Rattle.scan_job.specs.declared.job.Task.TheVariants as tasks
+use Rattle.scan_job.specs.declared.outcome.Outcome.{Outcome}
+use Rattle.scan_job.specs.declared.outcome.Outcome.TheVariants.{Running, Done, Ended}
+use Rattle.scan_job.specs.declared.report.Reports.{Reports}
+use Rattle.scan_job.specs.declared.outcome.Why.TheVariants.{Answer}
+use Rattle.sane_fixed.specs.declared.status.Status.TheVariants.{DeviceBusy}
+use Rattle.page_picture.specs.SourceView.{source_state}
+use Rattle.world_refines.specs.MainTheorem.{AreTrueLoads}
+use Rattle.scan_world.specs.declared.event.Event.{Event}
+use Rattle.scan_world.specs.declared.event.Event.TheVariants.{Load}
+use Rattle.scan_world.specs.JobEvents.{is_done}
+use Rattle.scan_world.specs.Worlds.{WorldCore}
+use Rattle.world_contract.specs.Histories.{HasSteadyPages, History, LedTo, MeetsPremises, and_then, begun}
+use Rattle.world_contract.specs.Page.{AreInForce, IsScan, WasIn}
+use Rattle.world_contract.specs.Page.WasIn.{AtFirst, LaidIn}
+use Rattle.world_contract.specs.Promise.{FileIsKept}
+use Rattle.world_contract.specs.Calls.{IsJobAt, KeepsScanFile, KeepsOutcome, KeepsRunning, LoadsNothing, outcome_at, starved_at}
+use Rattle.world_contract.specs.Examples.{HasExplanation, IsScanOf, until_busy}
+use Rattle.world_contract.proofs.Along.{get_at}
+use Rattle.world_contract.proofs.Lists.{all_then, at_all}
+
+only_one : {X : Type 0} → (x : X) (k : ℕ) (d : X) → k < length (x ∷ []) → slice_index_or (x ∷ []) k d ≡ x
+only_one x zero d within = refl
+only_one x (suc k) d within = absurd (omega (arith, within))
+
+all_one : {X : Type 0} → (P : X → Type 0) (x : X) → P x → All P (x ∷ [])
+all_one P x h = λ k d within. subst P (sym (only_one x k d within)) h
+
+contains_one : {X : Type 0} (x y : X) → Contains (x ∷ []) y → x ≡ y
+contains_one x y (zero, within, is) = is
+contains_one x y (suc k, within, is) = absurd (omega (arith, within))
+
+no_load : (events : List Event) (name : List ℕ) (source : Source) → AllByRecursion LoadsNothing events → Contains events (Load name source) → ⊥
+no_load events name source quiet there = at_all LoadsNothing events there.0 (Load name source) quiet (get_at events there.0 (Load name source) there.1 ∙ ap (λ (e : Event). Some e) there.2)
+
+page_is : (h : History) (name : List ℕ) (source : SourceState) (device : DeviceState) (page : PageView) → new_scanner Flatbed name source Little ≡ device → AllByRecursion LoadsNothing h.events → WasIn h device page → source.page ≡ page
+page_is h name source device page same quiet (AtFirst held there is) =
+    let one : held_from source ≡ held = contains_one (held_from source) held (subst (λ (d : DeviceState). Contains d.pages held) (sym same) there) in
+    ap (λ (x : HeldPage). x.page) one ∙ is
+page_is h name source device page same quiet (LaidIn other there is) = absurd (no_load h.events device.info.name other quiet there)
+
+on_flatbed : (name : List ℕ) (source : SourceState) (placed : List Placement) (setup : Setup) (job : Job) → AreInForce (new_scanner Flatbed name source Little) job placed setup → PutAllNearest (defaults Flatbed Little) job.settings.items placed setup
+unfolding defaults
+on_flatbed name source placed setup job h = h
+
+scan_of_one : (h : History) (job : Job) (bytes : List ℕ) (name : List ℕ) (source : SourceState) → h.devices ≡ new_scanner Flatbed name source Little ∷ [] → AllByRecursion LoadsNothing h.events → IsScan h job bytes → IsScanOf source.page job bytes
+scan_of_one h job bytes name source devices quiet scan =
+    let s = scan.settled in
+    let same : new_scanner Flatbed name source Little ≡ s.device = contains_one (new_scanner Flatbed name source Little) s.device (subst (λ (ds : List DeviceState). Contains ds s.device) devices s.is_there) in
+    let page : source.page ≡ scan.page = page_is h name source s.device scan.page same quiet scan.was_in in
+    record {
+      setup = s.setup;
+      placed = s.placed;
+      in_force = on_flatbed name source s.placed s.setup job (subst (λ (d : DeviceState). AreInForce d job s.placed s.setup) (sym same) s.in_force);
+      picture = scan.picture;
+      meant = subst (λ (p : PageView). meaning_of p s.setup.scene ≡ Some scan.picture) (sym page) scan.meant;
+      denotes = scan.denotes;
+    }
+
+done_reports : (o : Outcome) → is_done o ≡ true → (reports : Reports) × (o ≡ Done reports)
+done_reports Running e = absurd (let clash : false ≡ true = e in cc)
+done_reports (Done reports) e = (reports, refl)
+done_reports (Ended status why) e = absurd (let clash : false ≡ true = e in cc)
+
+one_true : (name : List ℕ) (source : SourceState) (states : List DeviceState) (users : List Entry) (jobs : List Job) → states ≡ new_scanner Flatbed name source Little ∷ [] → source.steady ≡ true → MeetsPremises (begun states users jobs)
+one_true name source states users jobs devices steady = record { steady = subst (All HasSteadyPages) (sym devices) (all_one HasSteadyPages (new_scanner Flatbed name source Little) (all_one (λ (held : HeldPage). held.steady ≡ true) (held_from source) steady)); loads = tt }
+
+both_true : (name : List ℕ) (source : SourceState) (states : List DeviceState) (users : List Entry) (jobs : List Job) (events : List Event) → states ≡ new_scanner Flatbed name source Little ∷ [] → source.steady ≡ true → events ≡ until_busy → MeetsPremises (and_then (begun states users jobs) events)
+both_true name source states users jobs events devices steady are = record { steady = (one_true name source states users jobs devices steady).steady; loads = subst (AreTrueLoads source_state) (sym are) (tt, (tt, (tt, (tt, (tt, (tt, (tt, (tt, (tt, tt))))))))) }
+
+both_quiet : (events : List Event) → events ≡ until_busy → AllByRecursion LoadsNothing events
+both_quiet events are = subst (AllByRecursion LoadsNothing) (sym are) (tt, (tt, (tt, (tt, (tt, (tt, (tt, (tt, (tt, tt)))))))))
+
+pub once : (old new : WorldCore) (name : List ℕ) (source : SourceState) (states : List DeviceState) (users : List Entry) (job : Job) (jobs : List Job) (outcome : Outcome) (bytes : List ℕ) →
+    states ≡ new_scanner Flatbed name source Little ∷ [] → jobs ≡ job ∷ [] → source.steady ≡ true → LedTo (begun states users jobs) old → KeepsRunning old new →
+    outcome_at new 0 ≡ Some outcome → is_done outcome ≡ true → KeepsScanFile new 0 (Some bytes) → job.task ≡ tasks.Scan → IsScanOf source.page job bytes
+once old new name source states users job jobs outcome bytes devices own steady led ran there done file scan =
+    let out = ran (begun states users jobs) led in
+    let is : MeetsPremises (begun states users jobs) = one_true name source states users jobs devices steady in
+    let h = and_then (begun states users jobs) out.moves in
+    let at : IsJobAt h new 0 job = record { led = out.led; premises = out.premises is; job_at = ap (λ (js : List Job). slice_get js 0) own } in
+    let reports = done_reports outcome done in
+    let kept : FileIsKept h job (starved_at new 0) outcome (Some bytes) = file h job at outcome there in
+    scan_of_one h job bytes name source devices out.quiet (kept.scanned reports.0 bytes scan reports.1 refl)
+
+pub beside : (old mid new : WorldCore) (name : List ℕ) (source : SourceState) (states : List DeviceState) (users : List Entry) (first second : Job) (jobs : List Job) (outcome : Outcome) (bytes : List ℕ) (events : List Event) →
+    states ≡ new_scanner Flatbed name source Little ∷ [] → jobs ≡ first ∷ second ∷ [] → source.steady ≡ true → LedTo (begun states users jobs) old → events ≡ until_busy → ((h : History) → LedTo h old → LedTo (and_then h events) mid) → KeepsRunning mid new →
+    outcome_at new 0 ≡ Some outcome → is_done outcome ≡ true → KeepsScanFile new 0 (Some bytes) → first.task ≡ tasks.Scan → IsScanOf source.page first bytes
+beside old mid new name source states users first second jobs outcome bytes events devices own steady led are run ran there done file scan =
+    let asked = and_then (begun states users jobs) events in
+    let out = ran asked (run (begun states users jobs) led) in
+    let h = and_then asked out.moves in
+    let at : IsJobAt h new 0 first = record { led = out.led; premises = out.premises (both_true name source states users jobs events devices steady are); job_at = ap (λ (js : List Job). slice_get js 0) own } in
+    let reports = done_reports outcome done in
+    let kept : FileIsKept h first (starved_at new 0) outcome (Some bytes) = file h first at outcome there in
+    scan_of_one h first bytes name source devices (all_then LoadsNothing events out.moves (both_quiet events are) out.quiet) (kept.scanned reports.0 bytes scan reports.1 refl)
+
+pub busy : (old mid new : WorldCore) (name : List ℕ) (source : SourceState) (states : List DeviceState) (users : List Entry) (first second : Job) (jobs : List Job) (outcome : Outcome) (given : Option Outcome) (events : List Event) →
+    states ≡ new_scanner Flatbed name source Little ∷ [] → jobs ≡ first ∷ second ∷ [] → source.steady ≡ true → LedTo (begun states users jobs) old → events ≡ until_busy → ((h : History) → LedTo h old → LedTo (and_then h events) mid) → KeepsRunning mid new →
+    given ≡ Some outcome → KeepsOutcome new 1 given → outcome ≡ Ended DeviceBusy Answer → HasExplanation first second
+busy old mid new name source states users first second jobs outcome given events devices own steady led are run ran is kept told =
+    let asked = and_then (begun states users jobs) events in
+    let out = ran asked (run (begun states users jobs) led) in
+    let h = and_then asked out.moves in
+    let at : IsJobAt h new 1 second = record { led = out.led; premises = out.premises (both_true name source states users jobs events devices steady are); job_at = ap (λ (js : List Job). slice_get js 1) own } in
+    let o = kept h second at in
+    let same : o.0 ≡ outcome = (let both : Some o.0 ≡ Some outcome = sym o.1 ∙ is in cc) in
+    record { history = h; jobs = own; starved = starved_at new 1; caused = (o.2.ended DeviceBusy Answer (same ∙ told)).caused }
+
+-- ---- the same of boxes
+
+one_state : {D : Type 0} (state : D → DeviceState) (items : List D) (x : D) (s : DeviceState) → items ≡ x ∷ [] → state x ≡ s → map state items ≡ s ∷ []
+one_state state items x s own is = ap (map state) own ∙ ap (λ (y : DeviceState). y ∷ []) is
+
+pub once_boxed : {D : Type 0} (state : D → DeviceState) (items : List D) (box : D) (users : List Entry) (jobs : List Job) (job : Job) (old new : WorldCore) (name : List ℕ) (source : SourceState) (page : PageView) (outcome : Outcome) (file bytes : List ℕ) →
+    LedTo (begun (map state items) users jobs) old → KeepsRunning old new → KeepsScanFile new 0 (Some file) → items ≡ box ∷ [] → state box ≡ new_scanner Flatbed name source Little → jobs ≡ job ∷ [] → source.steady ≡ true → source.page ≡ page →
+    outcome_at new 0 ≡ Some outcome → is_done outcome ≡ true → file ≡ bytes → job.task ≡ tasks.Scan → IsScanOf page job bytes
+once_boxed state items box users jobs job old new name source page outcome file bytes led ran kept alone is own steady on there done same scan =
+    subst (λ (p : PageView). IsScanOf p job bytes) on
+    (subst (IsScanOf source.page job) same
+    (once old new name source (map state items) users job jobs outcome file (one_state state items box (new_scanner Flatbed name source Little) alone is) own steady led ran there done kept scan))
+
+pub beside_boxed : {D : Type 0} (state : D → DeviceState) (items : List D) (box : D) (users : List Entry) (jobs : List Job) (first second : Job) (events : List Event) (old mid new : WorldCore) (name : List ℕ) (source : SourceState) (page : PageView) (outcome : Outcome) (file bytes : List ℕ) →
+    LedTo (begun (map state items) users jobs) old → ((h : History) → LedTo h old → LedTo (and_then h events) mid) → KeepsRunning mid new → KeepsScanFile new 0 (Some file) → items ≡ box ∷ [] → state box ≡ new_scanner Flatbed name source Little → jobs ≡ first ∷ second ∷ [] → source.steady ≡ true → source.page ≡ page → events ≡ until_busy →
+    outcome_at new 0 ≡ Some outcome → is_done outcome ≡ true → file ≡ bytes → first.task ≡ tasks.Scan → IsScanOf page first bytes
+beside_boxed state items box users jobs first second events old mid new name source page outcome file bytes led run ran kept alone is own steady on are there done same scan =
+    subst (λ (p : PageView). IsScanOf p first bytes) on
+    (subst (IsScanOf source.page first) same
+    (beside old mid new name source (map state items) users first second jobs outcome file events (one_state state items box (new_scanner Flatbed name source Little) alone is) own steady led are run ran there done kept scan))
+
+pub busy_boxed : {D : Type 0} (state : D → DeviceState) (items : List D) (box : D) (users : List Entry) (jobs : List Job) (first second : Job) (events : List Event) (old mid new : WorldCore) (name : List ℕ) (source : SourceState) (outcome : Outcome) →
+    LedTo (begun (map state items) users jobs) old → ((h : History) → LedTo h old → LedTo (and_then h events) mid) → KeepsRunning mid new → KeepsOutcome new 1 (Some outcome) → items ≡ box ∷ [] → state box ≡ new_scanner Flatbed name source Little → jobs ≡ first ∷ second ∷ [] → source.steady ≡ true → events ≡ until_busy →
+    outcome ≡ Ended DeviceBusy Answer → HasExplanation first second
+busy_boxed state items box users jobs first second events old mid new name source outcome led run ran kept alone is own steady are told =
+    busy old mid new name source (map state items) users first second jobs outcome (Some outcome) events (one_state state items box (new_scanner Flatbed name source Little) alone is) own steady led are run ran refl kept told

@@ -1,0 +1,144 @@
+-- The file of a scan, and each finished page of a batch.
+use Rattle.std.specs.Prelude.{length, option_map, map, slice_get, ◌<◌}
+use Rattle.std.specs.List.{AllByRecursion}
+use Rattle.std.proofs.Common.{◌≡◌, ◌∙◌, ℕ, zero, suc, List, [], ◌∷◌, Option, Some, None, refl, sym, ap, subst}
+use Rattle.std.specs.List.{position}
+use Rattle.std.proofs.lemmas.Option.{get_or_from_slice_get}
+use Rattle.page_picture.specs.SourceView.{source_state}
+use Rattle.device_api.specs.State.{DeviceState}
+use Rattle.sane_fixed.specs.declared.device_info.DeviceInfo.{DeviceInfo}
+use Rattle.scan_job.specs.declared.job.Job.{Job}
+use Rattle.scan_job.specs.declared.job.Task.TheVariants as tasks
+use Rattle.scan_job.specs.declared.outcome.Outcome.TheVariants.{Done}
+use Rattle.scan_job.specs.declared.report.Reports.{Reports}
+use Rattle.system_model.specs.Devices.{Make}
+use Rattle.system_model.specs.AbstractDevices.{Begin}
+use Rattle.system_model.specs.SystemStates.{SystemState, make_for, wanted_place}
+use Rattle.system_model.specs.Transitions.{after_all}
+use Rattle.system_model.specs.Marks.{device_view}
+use Rattle.system_model.specs.MoveRuns.{all_marks}
+use Rattle.system_model.specs.ModelPromises.{NotesAreTrue}
+use Rattle.scan_world.specs.declared.endpoint.Endpoint.{Endpoint}
+use Rattle.scan_world.specs.Worlds.{WorldCore}
+use Rattle.world_refines.specs.GhostStates.{Ghost, place_or_length, job_state, place_named}
+use Rattle.world_refines.specs.NewWorlds.{info_of_state, make_of, initial_ghost}
+use Rattle.world_refines.specs.WorldPromises.{IsMeant}
+use Rattle.world_refines.specs.MainTheorem.{AllIsKept, PromisesAreKept}
+use Rattle.world_refines.proofs.state.Infos.{is_name, name_here}
+use Rattle.world_contract.proofs.Nearest.{nearest_for}
+use Rattle.world_contract.specs.Histories.{History, LedTo, MeetsPremises}
+use Rattle.world_contract.specs.Page.{IsScan}
+use Rattle.world_contract.proofs.Jobs.{IsJob, are_steady}
+use Rattle.world_contract.proofs.Lists.{at_all, contains_at}
+use Rattle.world_contract.proofs.Marked.{starts_there}
+use Rattle.world_contract.proofs.Begun.{all_begun, makes_stay, wants_all}
+use Rattle.world_contract.proofs.Pages.{HasDevice, IsBegun, IsOfDevice, all_loads, all_of_one, first_slot, name_there}
+use Rattle.world_contract.proofs.OfJobs.{AreUntouched, all_of_jobs, no_image_at_first}
+use Rattle.world_contract.proofs.Traced.{Fixed, all_fixed, each_of, traced}
+
+-- ---- what all that happened stands for
+
+abbrev pub at_first : (h : History) (w : WorldCore) (job : Job) → LedTo h w → Ghost
+at_first h w job l = initial_ghost h.jobs job h.devices l.first.daemon.users l.first.endpoints
+
+abbrev pub kept_by : AllIsKept → (h : History) (w : WorldCore) (job : Job) (l : LedTo h w) → MeetsPremises h → PromisesAreKept source_state h.events (at_first h w job l) l.first w
+kept_by all h w job l is = all source_state h.events h.jobs job h.devices l.first w l.endpoints l.daemon l.names (are_steady h w l is) l.fit is.loads l.runs
+
+pub untouched_at_first : (h : History) (w : WorldCore) (job : Job) (l : LedTo h w) → AreUntouched (at_first h w job l)
+untouched_at_first h w job l = λ j n. record { linked = refl; quiet = refl; no_image = no_image_at_first (slice_get l.first.endpoints j) }
+
+-- ---- each start is of a page that was in the device
+
+pub begun_there : NotesAreTrue → (h : History) (w : WorldCore) (job : Job) (l : LedTo h w) (k : PromisesAreKept source_state h.events (at_first h w job l) l.first w) (i : ℕ) → AllByRecursion (IsBegun h (wanted_place (at_first h w job l).system i)) (job_state k.run.ghost_then i).session.started
+begun_there notes h w job l k i =
+    let t = at_first h w job l in
+    let steps = k.run.steps in
+    let of = all_of_one h steps (each_of t.infos h.events steps (traced h.events t steps k.run.ghost_then k.run.comes)) (all_of_jobs h.events t steps k.run.ghost_then (untouched_at_first h w job l) k.run.comes) in
+    let starts = λ (d : ℕ). starts_there (HasDevice h d) (IsOfDevice h d) (all_marks d t.system steps) (device_view (t.system.make d) (t.system.device d)) (device_view (t.system.make d) ((after_all t.system steps).device d)) (k.run.marks d) (all_loads h steps t.system of d) (first_slot h (t.system.make d) d) in
+    let begun = all_begun notes (IsBegun h) steps t.system starts (λ j. tt) i in
+    subst (λ (s : SystemState). AllByRecursion (IsBegun h (wanted_place t.system i)) (s.job i).session.started) (sym k.run.rules_are)
+    (subst (λ (d : ℕ). AllByRecursion (IsBegun h d) ((after_all t.system steps).job i).session.started) (wants_all steps t.system i) begun)
+
+-- ---- the job of a place, and its device
+
+pub job_there : (h : History) (w : WorldCore) (job : Job) (l : LedTo h w) (k : PromisesAreKept source_state h.events (at_first h w job l) l.first w) (i : ℕ) → slice_get h.jobs i ≡ Some job → k.run.ghost_then.jobs i ≡ job
+job_there h w job l k i at =
+    ap (λ (f : Fixed). f.3 i) (all_fixed h.events (at_first h w job l) k.run.steps k.run.ghost_then k.run.comes) ∙ get_or_from_slice_get h.jobs i job job at
+
+abbrev pub infos_of : History → List DeviceInfo
+infos_of h = map info_of_state h.devices
+
+pub wants_there : (h : History) (w : WorldCore) (job : Job) (l : LedTo h w) (i : ℕ) → slice_get h.jobs i ≡ Some job → wanted_place (at_first h w job l).system i ≡ place_named (infos_of h) job.device
+wants_there h w job l i at = ap (λ (j : Job). place_named (infos_of h) j.device) (get_or_from_slice_get h.jobs i job job at)
+
+pub make_there : (h : History) (w : WorldCore) (job : Job) (l : LedTo h w) (k : PromisesAreKept source_state h.events (at_first h w job l) l.first w) (i : ℕ) → slice_get h.jobs i ≡ Some job → make_for k.run.ghost_then.system i ≡ make_of (slice_get h.devices (place_named (infos_of h) job.device))
+make_there h w job l k i at =
+    let t = at_first h w job l in
+    let steps = k.run.steps in
+    ap (λ (s : SystemState). make_for s i) k.run.rules_are
+    ∙ (ap (λ (m : ℕ → Make). m (wanted_place (after_all t.system steps) i)) (makes_stay t.system steps)
+    ∙ ap (λ (d : ℕ). make_of (slice_get h.devices d)) (wants_all steps t.system i ∙ wants_there h w job l i at))
+
+end_none : {X : Type 0} (xs : List X) → slice_get xs (length xs) ≡ None
+end_none [] = refl
+end_none (x ∷ xs) = end_none xs
+
+mapped : {X Y : Type 0} (f : X → Y) (xs : List X) (k : ℕ) → slice_get (map f xs) k ≡ option_map f (slice_get xs k)
+mapped f [] k = refl
+mapped f (x ∷ xs) zero = refl
+mapped f (x ∷ xs) (suc k) = mapped f xs k
+
+name_by : (h : History) (name : List ℕ) (o : Option ℕ) (device : DeviceState) → position (is_name name) (infos_of h) ≡ o → slice_get h.devices (place_or_length (length (infos_of h)) o) ≡ Some device → device.info.name ≡ name
+name_by h name None device e at =
+    let there : slice_get (infos_of h) (length (infos_of h)) ≡ Some device.info = mapped info_of_state h.devices (length (infos_of h)) ∙ ap (option_map info_of_state) at in
+    absurd (let clash : None ≡ Some device.info = sym (end_none (infos_of h)) ∙ there in cc)
+name_by h name (Some j) device e at =
+    let both : Some device.info.name ≡ Some name = sym (name_there h.devices j device at) ∙ name_here (infos_of h) name j e in cc
+
+pub name_of : (h : History) (name : List ℕ) (device : DeviceState) → slice_get h.devices (place_named (infos_of h) name) ≡ Some device → device.info.name ≡ name
+name_of h name device at = name_by h name (position (is_name name) (infos_of h)) device refl at
+
+-- ---- a file that is meant
+
+pub is_scan : (h : History) (job : Job) (begin : Begin) (file : List ℕ) → IsBegun h (place_named (infos_of h) job.device) begin → IsMeant (make_of (slice_get h.devices (place_named (infos_of h) job.device))) job.settings.items begin file → IsScan h job file
+is_scan h job begin file there meant =
+    let device = there.0.0 in
+    let at = there.0.1 in
+    let m : IsMeant (make_of (Some device)) job.settings.items begin file = subst (λ (o : Option DeviceState). IsMeant (make_of o) job.settings.items begin file) at meant in
+    let put = nearest_for device.setup.scene.kind device.setup.order job.settings.items begin.options m.in_force in
+    record {
+      settled = record {
+        device = device;
+        is_there = contains_at h.devices (place_named (infos_of h) job.device) device at;
+        named = name_of h job.device device at;
+        setup = begin.options;
+        placed = put.0;
+        in_force = put.1;
+      };
+      page = begin.page;
+      was_in = there.1 device at;
+      picture = m.picture;
+      meant = m.meant;
+      denotes = m.denotes;
+    }
+
+pub meant_there : (h : History) (w : WorldCore) (i : ℕ) (job : Job) (l : LedTo h w) (k : PromisesAreKept source_state h.events (at_first h w job l) l.first w) (begin : Begin) (file : List ℕ) → slice_get h.jobs i ≡ Some job →
+    IsMeant (make_for k.run.ghost_then.system i) (k.run.ghost_then.jobs i).settings.items begin file → IsMeant (make_of (slice_get h.devices (place_named (infos_of h) job.device))) job.settings.items begin file
+meant_there h w i job l k begin file at m =
+    subst (λ (make : Make). IsMeant make job.settings.items begin file) (make_there h w job l k i at)
+    (subst (λ (j : Job). IsMeant (make_for k.run.ghost_then.system i) j.settings.items begin file) (job_there h w job l k i at) m)
+
+pub scan_right : AllIsKept → NotesAreTrue → (h : History) (w : WorldCore) (i : ℕ) (job : Job) (endpoint : Endpoint) (reports : Reports) (file : List ℕ) → IsJob h w i job endpoint → job.task ≡ tasks.Scan → endpoint.client.outcome ≡ Done reports → endpoint.file ≡ Some file → IsScan h job file
+scan_right all notes h w i job endpoint reports file j scan done is =
+    let k = kept_by all h w job j.led j.premises in
+    let s = k.promises.scans i endpoint reports file j.endpoint_at (ap (λ (x : Job). x.task) (job_there h w job j.led k i j.job_at) ∙ scan) done is in
+    let begun = subst (λ (d : ℕ). AllByRecursion (IsBegun h d) (job_state k.run.ghost_then i).session.started) (wants_there h w job j.led i j.job_at) (begun_there notes h w job j.led k i) in
+    let first = subst (AllByRecursion (IsBegun h (place_named (infos_of h) job.device))) s.started begun in
+    is_scan h job s.begin file first.0 (meant_there h w i job j.led k s.begin file j.job_at s.meant)
+
+pub page_right : AllIsKept → NotesAreTrue → (h : History) (w : WorldCore) (i n : ℕ) (job : Job) (endpoint : Endpoint) (file : List ℕ) → IsJob h w i job endpoint → n < endpoint.finished → slice_get endpoint.pages n ≡ Some (Some file) → IsScan h job file
+page_right all notes h w i n job endpoint file j low is =
+    let k = kept_by all h w job j.led j.premises in
+    let s = k.promises.pages i n endpoint file j.endpoint_at low is in
+    let begun = subst (λ (d : ℕ). AllByRecursion (IsBegun h d) (job_state k.run.ghost_then i).session.started) (wants_there h w job j.led i j.job_at) (begun_there notes h w job j.led k i) in
+    is_scan h job s.begin file (at_all (IsBegun h (place_named (infos_of h) job.device)) _ n s.begin begun s.started) (meant_there h w i job j.led k s.begin file j.job_at s.meant)

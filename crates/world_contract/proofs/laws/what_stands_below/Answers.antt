@@ -1,0 +1,13 @@
+use Rattle.world_contract.proofs.laws.what_stands_below.Goals as goal
+
+pub returns : goal.returns
+returns c = record {
+  kept = c.all_is_kept.ensures;
+  new = c.a_new_world_refines.ensures.stands;
+  notes = c.notes_are_true.ensures;
+  histories = c.every_history_keeps_the_invariant.ensures;
+  marks = c.marks_are_enabled.ensures;
+  last = c.outcomes_last.ensures;
+  grounds = c.causes_are_grounded.ensures;
+  same = c.settings_mean_the_same.ensures;
+}

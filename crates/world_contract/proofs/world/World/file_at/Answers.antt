@@ -1,0 +1,5 @@
+use Rattle.world_contract.proofs.Calls.{page_call}
+use Rattle.world_contract.proofs.world.World.file_at.Goals as goal
+
+pub returns : goal.returns
+returns g c = record { is = c.file_at.ensures; kept = page_call c.what_stands_below.ensures _ c.args.i c.args.k _ c.file_at.ensures }

@@ -1,0 +1,7 @@
+use Rattle.std.proofs.Common.{rules}
+use Rattle.world_contract.proofs.Calls.{new_led}
+use Rattle.world_contract.proofs.world.World.new.Goals as goal
+
+pub returns-in-Ok-clause-led : goal.returns-in-Ok-clause-led
+returns-in-Ok-clause-led g c =
+    new_led _ c.args.devices.items _ c.args.users c.args.seed c.args.jobs.items _ (search rules) c.in-Ok.ensures.accepted.0 c.in-Ok.ensures.accepted.1 c.as_slice.ensures.value c.ask_limits.ensures

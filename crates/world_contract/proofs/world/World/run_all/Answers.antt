@@ -1,0 +1,10 @@
+use Rattle.scan_world.specs.Rounds.{all_made}
+use Rattle.world_contract.proofs.Calls.{ran_out}
+use Rattle.world_contract.proofs.Over.{over_stays}
+use Rattle.world_contract.proofs.world.World.run_all.Goals as goal
+
+pub returns : goal.returns
+returns g c = record {
+  kept = λ h l. ran_out c.what_stands_below.ensures _ _ c.run_all.ensures h l;
+  over = over_stays (all_made c.run_all.ensures.rounds) _ _ c.run_all.ensures.events;
+}

@@ -1,0 +1,157 @@
+-- What the calls of a world answer, and what each promises, for whatever history led to the world.
+use Rattle.std.specs.Prelude.{ℕ, ◌≡◌, ◌≢◌, ◌⊎◌, ◌<◌, ◌≤◌, Bool, false, min, Option, Some, None, option_map, option_and_then, List, [], ◌∷◌, length, slice_get}
+use Rattle.std.specs.List.{AllByRecursion}
+use Rattle.scan_job.specs.declared.job.Job.{Job}
+use Rattle.scan_job.specs.declared.outcome.Outcome.{Outcome}
+use Rattle.scan_job.specs.declared.outcome.Outcome.TheVariants.{Running, Ended}
+use Rattle.scan_job.specs.declared.outcome.Why.TheVariants as whys
+use Rattle.sane_fixed.specs.declared.status.Status.TheVariants as statuses
+use Rattle.saned_core.specs.DaemonStates.{Core}
+use Rattle.scan_world.specs.declared.event.Event.{Event}
+use Rattle.scan_world.specs.declared.event.Event.TheVariants.{Cancel, Load, LoseControl, Unplug}
+use Rattle.scan_world.specs.declared.endpoint.Endpoint.{Endpoint}
+use Rattle.scan_world.specs.Endpoints.{finished_page}
+use Rattle.scan_world.specs.JobMoves.{IsNextMove, moves_left_of}
+use Rattle.scan_world.specs.Rounds.{total_left}
+use Rattle.scan_world.specs.Worlds.{WorldCore}
+use Rattle.world_contract.specs.Histories.{History, LedTo, MeetsPremises, and_then}
+use Rattle.world_contract.specs.Promise.{JobAnswers, CountIsKept, FileIsKept, MoveIsKept, MovesAreKept, OutcomeIsKept, PageIsKept}
+
+-- ---- what they answer of job i
+
+abbrev pub outcome_at : WorldCore → ℕ → Option Outcome
+outcome_at w i = option_map (λ (p : Endpoint). p.client.outcome) (slice_get w.endpoints i)
+
+abbrev pub file_answered : WorldCore → ℕ → Option (List ℕ)
+file_answered w i = option_and_then (λ (p : Endpoint). p.file) (slice_get w.endpoints i)
+
+abbrev pub page_answered : WorldCore → ℕ → ℕ → Option (List ℕ)
+page_answered w i k = option_and_then (λ (p : Endpoint). finished_page p k) (slice_get w.endpoints i)
+
+abbrev pub is_starved : Option Endpoint → Bool
+is_starved None = false
+is_starved (Some p) = p.out_of_memory
+
+abbrev pub starved_at : WorldCore → ℕ → Bool
+starved_at w i = is_starved (slice_get w.endpoints i)
+
+abbrev pub finished_by : Option Endpoint → ℕ
+finished_by None = 0
+finished_by (Some p) = min p.finished 16
+
+abbrev pub finished_at : WorldCore → ℕ → ℕ
+finished_at w i = finished_by (slice_get w.endpoints i)
+
+abbrev pub moves_answered : Option Endpoint → ℕ
+moves_answered None = 0
+moves_answered (Some p) = moves_left_of p
+
+abbrev pub left_at : WorldCore → ℕ → ℕ
+left_at w i = moves_answered (slice_get w.endpoints i)
+
+-- the event is the next move of the job, if there is one
+abbrev pub MovesNext : Core → ℕ → Option Endpoint → Option Event → Type 0
+MovesNext d i None event = event ≡ None
+MovesNext d i (Some p) event = IsNextMove d i p event
+
+abbrev pub IsMoveAt : WorldCore → ℕ → Option Event → Type 0
+IsMoveAt w i event = MovesNext w.daemon i (slice_get w.endpoints i) event
+
+-- these are the answers of all calls
+pub record AnswersAre (w : WorldCore) (i : ℕ) (a : JobAnswers) : Type 0 where
+  pub outcome : outcome_at w i ≡ Some a.outcome
+  pub file : file_answered w i ≡ a.file
+  pub pages : (k : ℕ) → page_answered w i k ≡ a.file_at k
+  pub finished : finished_at w i ≡ a.finished
+  pub starved : starved_at w i ≡ a.starved
+  pub next_move : IsMoveAt w i a.next_move
+  pub moves_left : left_at w i ≡ a.moves_left
+
+-- ---- what they promise of it
+
+-- the history led to the world and meets the premises, and the job is the one of that place
+pub record IsJobAt (h : History) (w : WorldCore) (i : ℕ) (job : Job) : Type 0 where
+  pub led : LedTo h w
+  pub premises : MeetsPremises h
+  pub job_at : slice_get h.jobs i ≡ Some job
+
+-- for each history that led to the world
+abbrev pub ForEach : WorldCore → ℕ → (History → Job → Type 0) → Type 0
+ForEach w i Promise = (h : History) (job : Job) → IsJobAt h w i job → Promise h job
+
+-- `outcome`: there is one
+abbrev pub KeepsOutcome : WorldCore → ℕ → Option Outcome → Type 0
+KeepsOutcome w i given = ForEach w i (λ h job. (outcome : Outcome) × (given ≡ Some outcome) × OutcomeIsKept h i job (starved_at w i) outcome)
+
+abbrev pub KeepsScanFile : WorldCore → ℕ → Option (List ℕ) → Type 0
+KeepsScanFile w i given = ForEach w i (λ h job. (outcome : Outcome) → outcome_at w i ≡ Some outcome → FileIsKept h job (starved_at w i) outcome given)
+
+abbrev pub KeepsPage : WorldCore → ℕ → ℕ → Option (List ℕ) → Type 0
+KeepsPage w i k given = ForEach w i (λ h job. PageIsKept h job (starved_at w i) (finished_at w i) k given)
+
+abbrev pub KeepsPageCount : WorldCore → ℕ → ℕ → Type 0
+KeepsPageCount w i given = ForEach w i (λ h job. (outcome : Outcome) → outcome_at w i ≡ Some outcome → CountIsKept job outcome given)
+
+-- `starved`: where it says no, no file is missing
+abbrev pub KeepsMemory : WorldCore → ℕ → Bool → Type 0
+KeepsMemory w i given = ForEach w i (λ h job. given ≡ false → (file_answered w i ≢ None) × ((k : ℕ) → 0 < k → k ≤ finished_at w i → page_answered w i k ≢ None))
+
+-- `next_move`: and the history with it meets the premises too
+pub record IsGoodMove (h : History) (w : WorldCore) (i : ℕ) (given : Option Event) : Type 0 where
+  pub move : (outcome : Outcome) → outcome_at w i ≡ Some outcome → MoveIsKept outcome given
+  pub premises : (event : Event) → given ≡ Some event → MeetsPremises (and_then h (event ∷ []))
+
+abbrev pub KeepsMove : WorldCore → ℕ → Option Event → Type 0
+KeepsMove w i given = ForEach w i (λ h job. IsGoodMove h w i given)
+
+abbrev pub KeepsMoves : WorldCore → ℕ → ℕ → Type 0
+KeepsMoves w i given = ForEach w i (λ h job. (outcome : Outcome) → outcome_at w i ≡ Some outcome → MovesAreKept outcome given)
+
+-- ---- what events leave of a job
+
+-- a job shows what it showed
+pub record JobStays (w v : WorldCore) (i : ℕ) : Type 0 where
+  pub outcome : outcome_at v i ≡ outcome_at w i
+  pub file : file_answered v i ≡ file_answered w i
+  pub finished : finished_at v i ≡ finished_at w i
+  pub pages : (k : ℕ) → page_answered v i k ≡ page_answered w i k
+
+-- so does each that is over
+abbrev pub OverStays : WorldCore → WorldCore → Type 0
+OverStays w v = (i : ℕ) (outcome : Outcome) → outcome_at w i ≡ Some outcome → outcome ≢ Running → JobStays w v i
+
+-- no event brings moves back
+abbrev pub MovesFall : WorldCore → WorldCore → Type 0
+MovesFall w v = (i : ℕ) → left_at v i ≤ left_at w i
+
+-- a job that runs ends by a cancel
+abbrev pub CancelEnds : List Event → WorldCore → WorldCore → Type 0
+CancelEnds events w v = (i : ℕ) → events ≡ Cancel i ∷ [] → outcome_at w i ≡ Some Running → outcome_at v i ≡ Some (Ended statuses.Cancelled whys.Cancelled)
+
+-- and by the loss of its control connection, unless there is none to be lost
+abbrev pub LossEnds : List Event → WorldCore → WorldCore → Type 0
+LossEnds events w v = (i : ℕ) → events ≡ LoseControl i ∷ [] → outcome_at w i ≡ Some Running → (outcome_at v i ≡ Some (Ended statuses.IoError whys.Lost)) ⊎ (v ≡ w)
+
+-- ---- moves until no job runs
+
+-- none of these jobs runs
+abbrev pub NoneRuns : List Job → WorldCore → Type 0
+NoneRuns jobs w = (i : ℕ) (job : Job) (outcome : Outcome) → slice_get jobs i ≡ Some job → outcome_at w i ≡ Some outcome → outcome ≢ Running
+
+-- no page was laid in, and no device taken out
+abbrev pub LoadsNothing : Event → Type 0
+LoadsNothing (Load name source) = ⊥
+LoadsNothing (Unplug name) = ⊥
+LoadsNothing event = Unit {0}
+
+-- `run_all`: moves came, at most as many as all jobs had left, which led to the new world; and then no job runs
+pub record RunsOut (h : History) (old new : WorldCore) : Type 0 where
+  pub moves : List Event
+  pub few : length moves ≤ total_left old.endpoints
+  pub quiet : AllByRecursion LoadsNothing moves
+  pub led : LedTo (and_then h moves) new
+  pub premises : MeetsPremises h → MeetsPremises (and_then h moves)
+  pub over : MeetsPremises h → NoneRuns h.jobs new
+
+abbrev pub KeepsRunning : WorldCore → WorldCore → Type 0
+KeepsRunning old new = (h : History) → LedTo h old → RunsOut h old new

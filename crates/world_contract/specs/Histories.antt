@@ -1,0 +1,47 @@
+-- What was handed to a world over all its calls, that it led to it, and what is assumed of it.
+use Rattle.std.specs.Prelude.{◌≡◌, ◌++◌, true, List, [], All}
+use Rattle.page_picture.specs.SourceView.{source_state}
+use Rattle.md5_auth.specs.declared.users.Entry.{Entry}
+use Rattle.device_api.specs.ScannerLimits.{HasLimits}
+use Rattle.device_api.specs.State.{DeviceState, HeldPage}
+use Rattle.dispatch.specs.RegistryFault.{HaveOwnNames}
+use Rattle.scan_job.specs.declared.job.Job.{Job}
+use Rattle.scan_world.specs.declared.event.Event.{Event}
+use Rattle.scan_world.specs.Worlds.{AreNew, IsFitJob, Runs, WorldCore}
+use Rattle.world_refines.specs.NewWorlds.{IsNewDaemon}
+use Rattle.world_refines.specs.MainTheorem.{AreTrueLoads}
+
+-- the devices, users and jobs that a world was made of, and all events since
+pub record History : Type 0 where
+  pub devices : List DeviceState
+  pub users : List Entry
+  pub jobs : List Job
+  pub events : List Event
+
+-- these devices, users and jobs, and nothing has happened
+abbrev pub begun : List DeviceState → List Entry → List Job → History
+begun devices users jobs = record { devices = devices; users = users; jobs = jobs; events = [] }
+
+-- and then these events
+abbrev pub and_then : History → List Event → History
+and_then h events = record h { events = h.events ++ events }
+
+-- a new world of these devices, users and jobs, and then these events, led to this one
+pub record LedTo (h : History) (w : WorldCore) : Type 0 where
+  pub first : WorldCore
+  pub endpoints : AreNew h.jobs first.endpoints
+  pub daemon : IsNewDaemon h.devices first.daemon
+  pub users_are : first.daemon.users ≡ h.users
+  pub names : HaveOwnNames h.devices
+  pub limits : All HasLimits h.devices
+  pub fit : All IsFitJob h.jobs
+  pub runs : Runs source_state h.events first w
+
+-- each page in the device is of a source that gives its rows at each pass
+abbrev pub HasSteadyPages : DeviceState → Type 0
+HasSteadyPages device = All (λ (held : HeldPage). held.steady ≡ true) device.pages
+
+-- THE PREMISES: the sources of the devices' pages, and of those that were laid in, are steady
+pub record MeetsPremises (h : History) : Type 0 where
+  pub steady : All HasSteadyPages h.devices
+  pub loads : AreTrueLoads source_state h.events

@@ -1,0 +1,9 @@
+pub mod Histories
+pub mod Page
+pub mod Reports
+pub mod Endings
+pub mod Promise
+pub mod Calls
+pub mod Marks
+pub mod Laws
+pub mod Examples

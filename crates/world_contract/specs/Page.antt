@@ -1,0 +1,43 @@
+-- WHAT IS PROMISED of a job that was handed to a world.
+use Rattle.std.specs.Prelude.{ℕ, ◌≡◌, Some, List, Contains}
+use Rattle.netpbm.specs.Picture.{Picture}
+use Rattle.netpbm.specs.Pnm.{Denotes}
+use Rattle.page_picture.specs.Page.{PageView}
+use Rattle.page_picture.specs.Meaning.{meaning_of}
+use Rattle.page_picture.specs.SourceView.{source_state}
+use Rattle.page_picture.specs.declared.sources.kinds.Source.{Source}
+use Rattle.scan_frames.specs.declared.setup.Setup.{Setup}
+use Rattle.device_api.specs.State.{DeviceState, HeldPage}
+use Rattle.device_api.specs.InForce.{Placement}
+use Rattle.device_api.specs.Values.{defaults}
+use Rattle.scan_laws.specs.NearestSet.{PutAllNearest}
+use Rattle.scan_job.specs.declared.job.Job.{Job}
+use Rattle.scan_world.specs.declared.event.Event.TheVariants.{Load}
+use Rattle.world_contract.specs.Histories.{History}
+
+-- a page that was in a device as the world was made, or that an event laid into it
+pub data WasIn (h : History) (device : DeviceState) (page : PageView) : Type 0 where
+  AtFirst : (held : HeldPage) → Contains device.pages held → held.page ≡ page → WasIn h device page
+  LaidIn : (source : Source) → Contains h.events (Load device.info.name source) → (source_state source).page ≡ page → WasIn h device page
+
+-- the job's settings are in force on a device: from its defaults on, each in turn was given the nearest admitted value
+abbrev pub AreInForce : DeviceState → Job → List Placement → Setup → Type 0
+AreInForce device job placed setup = PutAllNearest (defaults device.setup.scene.kind device.setup.order) job.settings.items placed setup
+
+-- the device that the job names, and the options that its settings put in force there
+pub record Settled (h : History) (job : Job) : Type 0 where
+  pub device : DeviceState
+  pub is_there : Contains h.devices device
+  pub named : device.info.name ≡ job.device
+  pub setup : Setup
+  pub placed : List Placement
+  pub in_force : AreInForce device job placed setup
+
+-- a file that denotes exactly the picture that the job's settings mean on a page of its device
+pub record IsScan (h : History) (job : Job) (file : List ℕ) : Type 0 where
+  pub settled : Settled h job
+  pub page : PageView
+  pub was_in : WasIn h settled.device page
+  pub picture : Picture
+  pub meant : meaning_of page settled.setup.scene ≡ Some picture
+  pub denotes : Denotes file picture

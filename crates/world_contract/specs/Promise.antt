@@ -1,0 +1,87 @@
+-- THE PROMISE, of one job: what each call of a world answers of it is right.
+use Rattle.std.specs.Prelude.{ℕ, ◌≡◌, ◌≢◌, ◌⊎◌, ◌<◌, ◌≤◌, Bool, true, Option, Some, None, IsSome, List, Contains}
+use Rattle.sane_fixed.specs.declared.status.Status.{Status}
+use Rattle.sane_fixed.specs.declared.status.Status.TheVariants.{Good, Eof}
+use Rattle.netpbm.specs.Pnm.{IsWhole}
+use Rattle.device_api.specs.State.{DeviceState}
+use Rattle.sane_fixed.specs.declared.device_info.DeviceInfo.{DeviceInfo}
+use Rattle.scan_job.specs.declared.job.Job.{Job}
+use Rattle.scan_job.specs.declared.job.Task.TheVariants as tasks
+use Rattle.scan_job.specs.declared.outcome.Outcome.{Outcome}
+use Rattle.scan_job.specs.declared.outcome.Outcome.TheVariants.{Running, Done, Ended}
+use Rattle.scan_job.specs.declared.outcome.Why.{Why}
+use Rattle.scan_job.specs.declared.report.Reports.{Reports}
+use Rattle.scan_world.specs.declared.event.Event.{Event}
+use Rattle.world_contract.specs.Histories.{History}
+use Rattle.world_contract.specs.Page.{IsScan}
+use Rattle.world_contract.specs.Reports.{AreSettingsAnswered}
+use Rattle.world_contract.specs.Endings.{IsEndingExplained, JobIsPermitted}
+
+-- a job that is done
+pub record JobIsDone (h : History) (job : Job) (reports : Reports) : Type 0 where
+  -- but for a list, each setting was given the nearest admitted value, on the device that the job names
+  pub answered : (device : DeviceState) → job.task ≢ tasks.List → Contains h.devices device → device.info.name ≡ job.device → AreSettingsAnswered device job reports.settings
+  -- and it was permitted
+  pub permitted : job.task ≢ tasks.List → JobIsPermitted h job
+  -- what a list names are devices of the world
+  pub listed : (info : DeviceInfo) → job.task ≡ tasks.List → Contains reports.devices info → (device : DeviceState) × Contains h.devices device × (device.info ≡ info)
+
+-- a job that ended otherwise names a status, and has its cause
+pub record JobHasEnded (h : History) (i : ℕ) (job : Job) (starved : Bool) (status : Status) (why : Why) : Type 0 where
+  pub not_good : status ≢ Good
+  pub not_eof : status ≢ Eof
+  pub caused : IsEndingExplained h i job starved status why
+
+-- `outcome`
+pub record OutcomeIsKept (h : History) (i : ℕ) (job : Job) (starved : Bool) (outcome : Outcome) : Type 0 where
+  pub done : (reports : Reports) → outcome ≡ Done reports → JobIsDone h job reports
+  pub ended : (status : Status) (why : Why) → outcome ≡ Ended status why → JobHasEnded h i job starved status why
+
+-- `file`
+pub record FileIsKept (h : History) (job : Job) (starved : Bool) (outcome : Outcome) (file : Option (List ℕ)) : Type 0 where
+  -- of a scan that is done: exactly the picture that its settings mean on a page of its device
+  pub scanned : (reports : Reports) (bytes : List ℕ) → job.task ≡ tasks.Scan → outcome ≡ Done reports → file ≡ Some bytes → IsScan h job bytes
+  -- of a job that runs, that ended otherwise, or that is no scan: it is not whole
+  pub running : (bytes : List ℕ) → outcome ≡ Running → file ≡ Some bytes → IsWhole bytes → ⊥
+  pub ended : (status : Status) (why : Why) (bytes : List ℕ) → outcome ≡ Ended status why → file ≡ Some bytes → IsWhole bytes → ⊥
+  pub other : (reports : Reports) (bytes : List ℕ) → outcome ≡ Done reports → job.task ≢ tasks.Scan → file ≡ Some bytes → IsWhole bytes → ⊥
+  -- it is missing only where there was no memory for it
+  pub missing : file ≡ None → starved ≡ true
+
+-- `file_at` of page k, from 1, of so many that are finished, whatever became of the job
+pub record PageIsKept (h : History) (job : Job) (starved : Bool) (finished k : ℕ) (file : Option (List ℕ)) : Type 0 where
+  pub scanned : (bytes : List ℕ) → file ≡ Some bytes → (0 < k) × (k ≤ finished) × IsScan h job bytes
+  pub missing : 0 < k → k ≤ finished → file ≡ None → starved ≡ true
+
+-- `finished`: a batch that is done has all its pages, or fewer and at least one
+abbrev pub CountIsKept : Job → Outcome → ℕ → Type 0
+CountIsKept job outcome finished = (count : ℕ) (reports : Reports) → job.task ≡ tasks.Batch count → outcome ≡ Done reports → (finished ≡ count) ⊎ ((0 < finished) × (finished < count))
+
+-- `next_move`: a job has one just where it runs
+pub record MoveIsKept (outcome : Outcome) (next : Option Event) : Type 0 where
+  pub running : outcome ≡ Running → IsSome next
+  pub over : outcome ≢ Running → next ≡ None
+
+-- `moves_left`: so many moves are enough
+pub record MovesAreKept (outcome : Outcome) (moves_left : ℕ) : Type 0 where
+  pub running : outcome ≡ Running → 0 < moves_left
+  pub over : outcome ≢ Running → moves_left ≡ 0
+
+-- what the calls of a world answer of one job
+pub record JobAnswers : Type 0 where
+  pub outcome : Outcome
+  pub file : Option (List ℕ)
+  pub file_at : ℕ → Option (List ℕ)
+  pub finished : ℕ
+  pub starved : Bool
+  pub next_move : Option Event
+  pub moves_left : ℕ
+
+-- ALL IS KEPT, of job i
+pub record JobIsKept (h : History) (i : ℕ) (job : Job) (a : JobAnswers) : Type 0 where
+  pub outcome : OutcomeIsKept h i job a.starved a.outcome
+  pub file : FileIsKept h job a.starved a.outcome a.file
+  pub pages : (k : ℕ) → PageIsKept h job a.starved a.finished k (a.file_at k)
+  pub count : CountIsKept job a.outcome a.finished
+  pub move : MoveIsKept a.outcome a.next_move
+  pub moves : MovesAreKept a.outcome a.moves_left

@@ -1,0 +1,70 @@
+//! The laws.
+
+ghost use Rattle.std.specs.Prelude.{List};
+ghost use Rattle.page_picture.specs.SourceView.{source_state};
+ghost use Rattle.scan_world.specs.declared.event.Event.{Event};
+ghost use Rattle.scan_world.specs.Worlds.{Runs, WorldCore};
+ghost use Rattle.world_contract.specs.Calls.{CancelEnds, LossEnds, MovesFall, OverStays};
+ghost use Rattle.world_contract.specs.Laws.{AllFollow, AllIsRight, Below, MarksAreTrue, MarksFollow};
+
+use system_model::{
+    causes_are_grounded, every_history_keeps_the_invariant, marks_are_enabled, notes_are_true,
+    outcomes_last, settings_mean_the_same,
+};
+use world_refines::{a_new_world_refines, all_is_kept};
+
+/// What the laws below come to.
+#[tactic(none)]
+pub fn all_follow()
+    ensures { AllFollow }
+{}
+
+/// What those on marks come to.
+#[tactic(none)]
+pub fn marks_follow()
+    ensures { MarksFollow }
+{}
+
+/// The laws of the crates below.
+#[tactic(none)]
+pub(crate) fn what_stands_below()
+    ensures { Below }
+{
+    all_is_kept();
+    a_new_world_refines();
+    notes_are_true();
+    every_history_keeps_the_invariant();
+    marks_are_enabled();
+    outcomes_last();
+    causes_are_grounded();
+    settings_mean_the_same();
+}
+
+/// ALL IS KEPT: what the calls of a world answer of each job is right, whatever was handed to it, in whatever order and pieces.
+#[tactic(none)]
+pub fn all_is_right()
+    ensures { AllIsRight }
+{
+    what_stands_below();
+}
+
+/// The marks of each device are enabled, each in its event, and each file is that of its start.
+#[tactic(none)]
+pub fn marks_are_true()
+    ensures { MarksAreTrue }
+{
+    what_stands_below();
+}
+
+/// A job that is over keeps what it shows, moves never come back, and a cancel or a loss ends a job that runs.
+#[tactic(none)]
+pub fn jobs_end_once()
+    ensures over { (events : List Event) (w v : WorldCore)
+        → Runs source_state events w v → OverStays w v }
+    ensures moves { (events : List Event) (w v : WorldCore)
+        → Runs source_state events w v → MovesFall w v }
+    ensures cancel { (events : List Event) (w v : WorldCore)
+        → Runs source_state events w v → CancelEnds events w v }
+    ensures loss { (events : List Event) (w v : WorldCore)
+        → Runs source_state events w v → LossEnds events w v }
+{}
