@@ -7,7 +7,7 @@ use Rattle.page_picture.specs.Shows.{Frame}
 use Rattle.scan_frames.specs.Frames.{frame_of, frames_of}
 use Rattle.scan_frames.specs.declared.setup.Setup.{Setup}
 use Rattle.device_api.specs.ScannerLimits.{IsAllowed}
-use Rattle.device_api.specs.State.{DeviceState, FrameReads, HasStopped, Phase as AnyPhase, Reads, ReadsIn, ReadsOn, after_pass, after_read_status, failures_of, feeds, goes_to, left_behind, page_of, steady_of, read_status_at}
+use Rattle.device_api.specs.State.{DeviceState, FrameReads, HasStopped, Phase as AnyPhase, Reads, ReadsIn, ReadsOn, after_pass, after_read_status, failures_of, feeds, goes_to, is_at_rest, left_behind, page_of, steady_of, read_status_at}
 use Rattle.device_api.specs.State.Phase.{AtRest as Rest, Between as Amid, Reading as Read}
 use Rattle.device_api.proofs.SameLaws.{read_same}
 use Rattle.scan_laws.specs.Passes as scan
@@ -21,6 +21,7 @@ use Rattle.system_model.specs.Transitions.{ReadsFrameOf}
 use Rattle.system_model.specs.Actions.{Turns, TurnsFault, TurnsLast, TurnsNamed, TurnsShort}
 use Rattle.daemon_refines.specs.ContextRefinement.{IsMade, pages_to_come, phase_at, abstract_device, abstract_device_as, page_views, tray_of}
 use Rattle.daemon_refines.specs.DataRefinement.{TurnServed, TurnsAgree}
+use Rattle.daemon_refines.proofs.Sources.{failing_is_fallible, read_infallible}
 use Rattle.daemon_refines.proofs.Scanning.{reads_at}
 use Rattle.daemon_refines.proofs.ScannerStarts.{failed_is, failed_setup, is_fault, setup_of}
 
@@ -59,6 +60,7 @@ pub made_read : (k : Make) (s t : DeviceState) (r : Result ℕ Code) (buf : List
 made_read k s t r buf made h =
     let same = read_same s t r buf h in
     record {
+      infallible = λ e. read_infallible s t r buf h (made.infallible e);
       kind = made.kind ∙ sym same.setup.kind;
       order = made.order ∙ sym same.setup.order;
       allowed = subst (λ (o : Setup). IsAllowed o) (sym (in_setup s.phase s t r buf h)) made.allowed;
@@ -152,7 +154,7 @@ failed_turn i k listed p s after window pass given f rest more is h made =
     record {
       action = TurnsFault (record { before = failures_of s; after = h.failures });
       is = refl;
-      may = (f, rest, more, streaming i k p s pass given f rest more is, is_fault (failures_of s) h.failures h.counted);
+      may = (f, rest, more, streaming i k p s pass given f rest more is, (failing_is_fallible k s is.made (is.made.in_scan.page (ap is_at_rest is.at)) h.can_fail, is_fault (failures_of s) h.failures h.counted));
       device = failed_is (Some i) s after h;
       made = made;
     }

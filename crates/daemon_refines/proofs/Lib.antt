@@ -1,5 +1,6 @@
 pub mod WordsAndPlaces
 pub mod Changes
+pub mod Sources
 pub mod Scanning
 pub mod Moved
 pub mod FramesAreRead

@@ -23,6 +23,7 @@ use Rattle.system_model.specs.AbstractDevices.{Resting, Reading, after_start, pu
 use Rattle.system_model.specs.Transitions.{IsFault, MayFail}
 use Rattle.system_model.specs.Daemon.{TransferState, Quiet, Waiting, FailureCounts, AnswerEffect, begin_page, begin_pass, start_at, start_or_fail, start_page}
 use Rattle.daemon_refines.specs.ContextRefinement.{IsMade, pages_to_come, phase_at, abstract_device, abstract_device_as, page_views, tray_of}
+use Rattle.daemon_refines.proofs.Sources.{failing_is_fallible, start_infallible}
 use Rattle.daemon_refines.proofs.Scanning.{reads_at, waits_at}
 
 -- the frame behind a start
@@ -44,7 +45,7 @@ pub record Served_as (s : DeviceState) (answer : Result Unit Code) (after : Devi
 -- with some fault of the page's source, or none
 pub record StartServed (k : Make) (s : DeviceState) (answer : Result Unit Code) (after : DeviceState) (holder : Option ℕ) : Type 0 where
   pub fault : Option FailureCounts
-  pub may : MayFail fault
+  pub may : MayFail k fault
   pub serves : (again : Bool) → Served_as s answer after holder (start_or_fail k (abstract_device holder s) Quiet again fault)
 
 -- ---- pages
@@ -94,11 +95,11 @@ pub is_fault : (old new : ℕ) → CountsFailure old new → IsFault (record { b
 is_fault old new (inl e) = inl (omega arith)
 is_fault old new (inr e) = inr e.0
 
-failed : (k : Make) (s after : DeviceState) (holder : Option ℕ) → HasStopped s after → StartServed k s (Err code.IoError) after holder
-failed k s after holder h =
+failed : (k : Make) (s after : DeviceState) (holder : Option ℕ) → IsMade k s → s.pages ≢ [] → HasStopped s after → StartServed k s (Err code.IoError) after holder
+failed k s after holder made some h =
     record {
       fault = Some (record { before = failures_of s; after = h.failures });
-      may = is_fault (failures_of s) h.failures h.counted;
+      may = (failing_is_fallible k s made some h.can_fail, is_fault (failures_of s) h.failures h.counted);
       serves = λ again. record { told = refl; on = refl; device = failed_is holder s after h; transfer = refl };
     }
 
@@ -188,7 +189,7 @@ page_starts k s after holder c (Ok u) held pages made at e h n =
     }
 page_starts k s after holder c (Err code.Inval) held pages made at e h n =
     record { fault = None; may = tt; serves = λ again. at_rest k s after holder c (Err code.Inval) again (page_of s ∷ page_views pages) at (first_sheet s held pages e) (page_refused k s after holder c at h.0 h.1) }
-page_starts k s after holder c (Err code.IoError) held pages made at e h n = failed k s after holder h.1
+page_starts k s after holder c (Err code.IoError) held pages made at e h n = failed k s after holder made (λ none. let clash : held ∷ pages ≡ [] = sym e ∙ none in cc) h.1
 page_starts k s after holder c (Err code.NoMem) held pages made at e h n = absurd (n refl)
 page_starts k s after holder c (Err code.Good) held pages made at e h n = absurd h
 page_starts k s after holder c (Err code.Unsupported) held pages made at e h n = absurd h
@@ -211,8 +212,8 @@ of_page : (pages : List HeldPage) (s after : DeviceState) (answer : Result Unit 
 of_page [] s after answer some h = absurd (some refl)
 of_page (held ∷ pages) s after answer some h = h
 
-amid_starts : (k : Make) (s after : DeviceState) (holder : Option ℕ) (ended : ℕ) (answer : Result Unit Code) → s.phase ≡ Amid ended → scan.IsPhaseOf (Amid ended) s.setup (page_of s) → StartsFrame s answer after → answer ≢ Err code.NoMem → StartServed k s answer after holder
-amid_starts k s after holder ended (Ok u) at in_scan h n =
+amid_starts : (k : Make) (s after : DeviceState) (holder : Option ℕ) (ended : ℕ) (answer : Result Unit Code) → IsMade k s → s.pages ≢ [] → s.phase ≡ Amid ended → scan.IsPhaseOf (Amid ended) s.setup (page_of s) → StartsFrame s answer after → answer ≢ Err code.NoMem → StartServed k s answer after holder
+amid_starts k s after holder ended (Ok u) made some at in_scan h n =
     record {
       fault = None;
       may = tt;
@@ -220,18 +221,18 @@ amid_starts k s after holder ended (Ok u) at in_scan h n =
           by_phase k s after holder (Ok tt) again (Amid ended) _ at (waits_at s.setup (page_of s) ended in_scan.1 in_scan.2)
           (pass_begun k s after holder ended at in_scan.2 (h.1 ∙ ap (λ (p : AnyPhase). with_phase s (Read (next_pass p) 0)) at));
     }
-amid_starts k s after holder ended (Err code.Inval) at in_scan h n = absurd (let clash : true ≡ false = sym in_scan.0 ∙ h.0 in cc)
-amid_starts k s after holder ended (Err code.IoError) at in_scan h n = failed k s after holder h.1
-amid_starts k s after holder ended (Err code.NoMem) at in_scan h n = absurd (n refl)
-amid_starts k s after holder ended (Err code.Good) at in_scan h n = absurd h
-amid_starts k s after holder ended (Err code.Unsupported) at in_scan h n = absurd h
-amid_starts k s after holder ended (Err code.Cancelled) at in_scan h n = absurd h
-amid_starts k s after holder ended (Err code.DeviceBusy) at in_scan h n = absurd h
-amid_starts k s after holder ended (Err code.Eof) at in_scan h n = absurd h
-amid_starts k s after holder ended (Err code.Jammed) at in_scan h n = absurd h
-amid_starts k s after holder ended (Err code.NoDocs) at in_scan h n = absurd h
-amid_starts k s after holder ended (Err code.CoverOpen) at in_scan h n = absurd h
-amid_starts k s after holder ended (Err code.AccessDenied) at in_scan h n = absurd h
+amid_starts k s after holder ended (Err code.Inval) made some at in_scan h n = absurd (let clash : true ≡ false = sym in_scan.0 ∙ h.0 in cc)
+amid_starts k s after holder ended (Err code.IoError) made some at in_scan h n = failed k s after holder made some h.1
+amid_starts k s after holder ended (Err code.NoMem) made some at in_scan h n = absurd (n refl)
+amid_starts k s after holder ended (Err code.Good) made some at in_scan h n = absurd h
+amid_starts k s after holder ended (Err code.Unsupported) made some at in_scan h n = absurd h
+amid_starts k s after holder ended (Err code.Cancelled) made some at in_scan h n = absurd h
+amid_starts k s after holder ended (Err code.DeviceBusy) made some at in_scan h n = absurd h
+amid_starts k s after holder ended (Err code.Eof) made some at in_scan h n = absurd h
+amid_starts k s after holder ended (Err code.Jammed) made some at in_scan h n = absurd h
+amid_starts k s after holder ended (Err code.NoDocs) made some at in_scan h n = absurd h
+amid_starts k s after holder ended (Err code.CoverOpen) made some at in_scan h n = absurd h
+amid_starts k s after holder ended (Err code.AccessDenied) made some at in_scan h n = absurd h
 
 busy_start : (k : Make) (s after : DeviceState) (holder : Option ℕ) (pass given : ℕ) (answer : Result Unit Code) → s.phase ≡ Read pass given → pass ≤ last_pass s.setup → answer ≡ Err code.DeviceBusy → after ≡ s → StartServed k s answer after holder
 busy_start k s after holder pass given answer at few busy same =
@@ -246,7 +247,7 @@ busy_start k s after holder pass given answer at few busy same =
 
 starts_in : (k : Make) (s after : DeviceState) (holder : Option ℕ) (phase : AnyPhase) (answer : Result Unit Code) → IsMade k s → s.phase ≡ phase → scan.IsPhaseOf phase s.setup (page_of s) → (is_at_rest phase ≡ false → s.pages ≢ []) → StartsIn phase s answer after → answer ≢ Err code.NoMem → StartServed k s answer after holder
 starts_in k s after holder (Rest c) answer made at in_scan some h n = rest_starts k s after holder c answer s.pages made at refl h n
-starts_in k s after holder (Amid ended) answer made at in_scan some h n = amid_starts k s after holder ended answer at in_scan (of_page s.pages s after answer (some refl) h) n
+starts_in k s after holder (Amid ended) answer made at in_scan some h n = amid_starts k s after holder ended answer made (some refl) at in_scan (of_page s.pages s after answer (some refl) h) n
 starts_in k s after holder (Read pass given) answer made at in_scan some h n = busy_start k s after holder pass given answer at in_scan.1 h.0 h.1
 
 pub start_served : (k : Make) (s after : DeviceState) (holder : Option ℕ) (answer : Result Unit Code) → IsMade k s → Starts s answer after → answer ≢ Err code.NoMem → StartServed k s answer after holder
@@ -307,6 +308,7 @@ pub made_started : (k : Make) (s t : DeviceState) (r : Result Unit Code) → IsM
 made_started k s t r made h =
     let same = start_same s t r h in
     record {
+      infallible = λ e. start_infallible s t r h (made.infallible e);
       kind = made.kind ∙ sym same.setup.kind;
       order = made.order ∙ sym same.setup.order;
       allowed = subst (λ (o : Setup). IsAllowed o) (sym (in_setup s.phase s t r h)) made.allowed;

@@ -21,6 +21,7 @@ use Rattle.daemon_refines.specs.ModelRequests.{IsCall, IsCallBy, RequestServed, 
 use Rattle.daemon_refines.specs.OtherSessions.{LeavesOthers}
 use Rattle.daemon_refines.specs.Feeds.{IsSessionBegun, ServesRequest, effect_by_model}
 use Rattle.daemon_refines.specs.Feeds.ServesRequest.{ByTheRules, OfAnotherType}
+use Rattle.daemon_refines.proofs.Sources.{no_failure}
 use Rattle.daemon_refines.proofs.Calls.{Another, CallFor, around, call_for, greets}
 use Rattle.daemon_refines.proofs.SessionEndings.{init_agrees}
 use Rattle.daemon_refines.proofs.Greeted.{stays_greeted}
@@ -110,7 +111,7 @@ init_first i make users d table s version user said new old none g on gives =
     let agrees = subst (λ (o : Option (Challenge × ℕ)). Agrees i make (manner d 0) q (answer_call i make table s (with_chance x 0 [] None) o call) said new) (sym sent)
     (given i make (manner d 0) q (answer_call i make table s (with_chance x 0 [] None) None call) (greet d version) said new gives (init_agrees i make d table s (with_chance x 0 [] None) version 0 0 user old none major)) in
     let is : IsCall users d table s q call x = subst (λ (a : Option AwaitedAuthorization). IsCallBy users d table a s.awaited q call x) (sym none) (refl, major) in
-    by_rules i make users d table s q said new call x old g on is (record { challenge = []; fault = None; may = tt; agrees = agrees }) (inl (ap (λ (t : RequestContext). t.session.greeted) gives.1))
+    by_rules i make users d table s q said new call x old g on is (record { challenge = []; fault = None; may = no_failure make (s.words call.word); agrees = agrees }) (inl (ap (λ (t : RequestContext). t.session.greeted) gives.1))
 
 served_first : (i : ℕ) (make : ℕ → Make) (users : List Entry) (d : RequestContext) (table : ℕ → AbstractDevice) (s : AbstractSession) (q : Asked) (said : RequestAnswer) (new : RequestContext) → ContextRefines i make d table s → d.session.awaited ≡ None → Answers users d q said new → session_goes_on said ≡ true → IsContextOutcome (first_answer d q) said new → Served i make users d table s q said new
 served_first i make users d table s (requests.Init version user) said new old none g on gives = init_first i make users d table s version user said new old none g on gives

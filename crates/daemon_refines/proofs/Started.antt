@@ -20,13 +20,12 @@ use Rattle.saned_requests.specs.RequestAnswers.{RequestContext, StartsLease, sta
 use Rattle.system_model.specs.AbstractMessages.{Busy, Inval, Refused, Start}
 use Rattle.system_model.specs.Devices.{Make}
 use Rattle.system_model.specs.AbstractDevices.{AbstractDevice}
-use Rattle.system_model.specs.Transitions.{MayFail}
 use Rattle.system_model.specs.Daemon.{Environment, TransferState, Quiet, Waiting, Streaming, Ending, FailureCounts, reply_effect, start_or_fail, start_effect}
 use Rattle.system_model.specs.AbstractSessions.{AbstractSession, framed_by, serve_word, word_call}
 use Rattle.daemon_refines.specs.ContextRefinement.{TransferRefines, ContextRefines, abstract_device, FrameIsRead}
 use Rattle.daemon_refines.specs.Spelling.{Spells, order_by}
 use Rattle.daemon_refines.specs.Agreeing.{Agrees, manner}
-use Rattle.daemon_refines.specs.DeviceWords.{StartAgrees}
+use Rattle.daemon_refines.specs.DeviceWords.{MayFailAt, StartAgrees}
 use Rattle.daemon_refines.proofs.FramesAreRead.{frame_still, all_same, frame_begun}
 use Rattle.daemon_refines.proofs.Changes.{Held}
 use Rattle.daemon_refines.proofs.WordsAndPlaces.{on_length, on_nothing, on_other, on_same}
@@ -52,7 +51,7 @@ refield i make d table s held c old e f =
 -- what is to be shown of a start
 abbrev pub StartBound : ℕ → (ℕ → Make) → RequestContext → (ℕ → AbstractDevice) → AbstractSession → ℕ → Option ℕ → Wire → RequestContext → Type 0
 StartBound i make d table s w p reply new =
-    (fault : Option FailureCounts) × MayFail fault × ((x : Environment) → x.fault ≡ fault → Agrees i make (manner d w) (requests.Start w) (word_call i make table s x Start w p) (One reply) new)
+    (fault : Option FailureCounts) × MayFailAt make p fault × ((x : Environment) → x.fault ≡ fault → Agrees i make (manner d w) (requests.Start w) (word_call i make table s x Start w p) (One reply) new)
 
 starts : (b : Bool) (i : ℕ) (k : Make) (dev : AbstractDevice) (c : TransferState) (x : Environment) → serve_word b i k dev c x Start ≡ start_effect k dev x c
 starts true i k dev c x = refl
@@ -145,7 +144,7 @@ start_at_word i make d table s w None wc told lease old none e is transfer h =
     let r = reply_of_start code.Inval 0 Little in
     let same = told_is told (r, wc) h.0 in (
       None,
-      tt,
+      refl,
       λ x f.
           subst (λ (t : Told). Agrees i make (manner d w) (requests.Start w) (word_call i make table s x Start w None) (One t.0) (desk_with d lease w t.1)) (sym same)
           (subst (λ (n : Option (Lease DeviceState)). Agrees i make (manner d w) (requests.Start w) (word_call i make table s x Start w None) (One r) (desk_with d n w wc)) (sym h.1)
@@ -179,7 +178,7 @@ start_agrees i make d table s w place said new shows none begins =
     let found = start_at_word i make d table s w (held_by d.session.held w) d.session.transfer (begins.reply, begins.transfer) begins.starts.lease shows none refl refl shows.transfer begins.starts.starts in
     let new_is : new ≡ desk_with d begins.starts.lease w begins.transfer = begins.gives.1 ∙ ap (λ (t : RequestContext). with_data_phase t begins.transfer) begins.starts.new_is in (
       found.0,
-      found.1,
+      subst (λ (p : Option ℕ). MayFailAt make p found.0) (sym (shows.words w)) found.1,
       λ x f.
           subst (λ (p : Option ℕ). Agrees i make (manner d w) (requests.Start w) (word_call i make table s (x place) Start w p) said new) (sym (shows.words w))
           (subst (λ (t : RequestAnswer). Agrees i make (manner d w) (requests.Start w) (word_call i make table s (x place) Start w (place_in (held_by d.session.held w))) t new) (sym begins.gives.0)

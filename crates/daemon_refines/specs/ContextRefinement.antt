@@ -1,5 +1,6 @@
 -- A request context of the daemon, as the model sees it.
 use Rattle.std.specs.Prelude.{ℕ, ◌≡◌, ◌≢◌, ◌⊎◌, true, false, Option, Some, None, option_map, List, map, length, slice_get}
+use Rattle.std.specs.List.{AllByRecursion}
 use Rattle.page_picture.specs.Page.{PageView}
 use Rattle.scan_frames.specs.declared.setup.Setup.{Setup}
 use Rattle.device_api.specs.ScannerLimits.{IsAllowed}
@@ -47,8 +48,13 @@ abstract_device_as holder options tray phase = record { listed = true; holder = 
 abbrev pub abstract_device : Option ℕ → DeviceState → AbstractDevice
 abstract_device holder s = abstract_device_as holder s.setup (tray_of s) (phase_at (scan.place_of s))
 
+-- none of the sources of these pages can fail
+abbrev pub AreInfallible : List HeldPage → Type 0
+AreInfallible pages = AllByRecursion (λ (held : HeldPage). held.infallible ≡ true) pages
+
 -- what never changes of it; its options are within their limits, and its phase is one that a scan comes to
 pub record IsMade (make : Make) (s : DeviceState) : Type 0 where
+  pub infallible : make.fallible ≡ false → AreInfallible s.pages
   pub kind : make.model ≡ s.setup.scene.kind
   pub order : make.order ≡ s.setup.order
   pub allowed : IsAllowed s.setup

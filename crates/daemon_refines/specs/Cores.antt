@@ -19,7 +19,7 @@ use Rattle.system_model.specs.Devices.{Make}
 use Rattle.system_model.specs.AbstractDevices.{AbstractDevice, Resting, device_let_go}
 use Rattle.system_model.specs.Daemon.{Quiet}
 use Rattle.system_model.specs.AbstractSessions.{AbstractSession}
-use Rattle.daemon_refines.specs.ContextRefinement.{ContextRefines, TableRefines, abstract_device, abstract_device_as}
+use Rattle.daemon_refines.specs.ContextRefinement.{AreInfallible, ContextRefines, TableRefines, abstract_device, abstract_device_as}
 use Rattle.daemon_refines.specs.Feeds.{IsSessionBegun, IsFed}
 
 -- ---- what stands at the beginning
@@ -32,8 +32,9 @@ fresh_device (Some s) = abstract_device None (after_reset s)
 abbrev pub fresh_devices : List DeviceState → ℕ → AbstractDevice
 fresh_devices ss k = fresh_device (slice_get ss k)
 
--- each is of the kind and the byte order that never change
+-- each is of the kind and the byte order that never change, and a source of it fails only where it may
 pub record IsOfMake (make : Make) (s : DeviceState) : Type 0 where
+  pub infallible : make.fallible ≡ false → AreInfallible s.pages
   pub kind : make.model ≡ s.setup.scene.kind
   pub order : make.order ≡ s.setup.order
 

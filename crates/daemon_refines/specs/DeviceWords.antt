@@ -74,10 +74,15 @@ SetRefuses =
     (d : RequestContext) (word n : ℕ) (kind : Kind) (value : WireValue) → AsksNone (held_by d.session.held word) n kind value →
     control d word n SetValue kind value ≡ (One (refused_control code.Inval kind value), d)
 
+-- a source fails only of a device that the session holds, and there only where one can
+abbrev pub MayFailAt : (ℕ → Make) → Option ℕ → Option FailureCounts → Type 0
+MayFailAt make None fault = fault ≡ None
+MayFailAt make (Some k) fault = MayFail (make k) fault
+
 -- START: whatever the device answers, the model answers with some fault of the page's source, or none
 abbrev pub StartAgrees : Type 0
 StartAgrees =
     (i : ℕ) (make : ℕ → Make) (d : RequestContext) (table : ℕ → AbstractDevice) (s : AbstractSession) (word place : ℕ) (said : RequestAnswer) (new : RequestContext) →
     ContextRefines i make d table s → d.session.awaited ≡ None → AnswersStart d word said new →
-    (fault : Option FailureCounts) × MayFail fault × ((x : ℕ → Environment) → (x place).fault ≡ fault →
+    (fault : Option FailureCounts) × MayFailAt make (s.words word) fault × ((x : ℕ → Environment) → (x place).fault ≡ fault →
     Agrees i make (manner d word) (requests.Start word) (answer_call i make table s x None (record { request = Start; word = word; place = place })) said new)

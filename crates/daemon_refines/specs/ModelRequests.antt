@@ -14,11 +14,10 @@ use Rattle.system_model.specs.Devices.{Make}
 use Rattle.system_model.specs.AbstractDevices.{AbstractDevice}
 use Rattle.system_model.specs.Daemon.{Environment, FailureCounts}
 use Rattle.system_model.specs.SystemStates.{with_entry}
-use Rattle.system_model.specs.Transitions.{MayFail}
 use Rattle.system_model.specs.AbstractSessions.{AddressedRequest, AbstractSession, answer_call}
 use Rattle.daemon_refines.specs.ContextRefinement.{Names, ContextRefines}
 use Rattle.daemon_refines.specs.Agreeing.{Agrees, manner}
-use Rattle.daemon_refines.specs.DeviceWords.{AsksFor}
+use Rattle.daemon_refines.specs.DeviceWords.{AsksFor, MayFailAt}
 use Rattle.daemon_refines.specs.WholeSessions.{IsGuardedAt, IsJudged, IsOtherRequest}
 
 -- the device word that a request has
@@ -72,7 +71,7 @@ with_chance x place challenge fault = with_entry x place (record (x place) { cha
 pub record RequestServed (i : ℕ) (make : ℕ → Make) (d : RequestContext) (table : ℕ → AbstractDevice) (s : AbstractSession) (q : Asked) (call : AddressedRequest) (x : ℕ → Environment) (said : RequestAnswer) (new : RequestContext) : Type 0 where
   pub challenge : Challenge
   pub fault : Option FailureCounts
-  pub may : MayFail fault
+  pub may : MayFailAt make (s.words call.word) fault
   pub agrees : Agrees i make (manner d (device_word_of q)) q (answer_call i make table s (with_chance x call.place challenge fault) s.awaited call) said new
 
 -- any request that is a call is answered as the model says

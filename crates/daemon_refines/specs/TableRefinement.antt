@@ -18,7 +18,7 @@ pub record PageIsLaidIn (k : Make) (s : DeviceState) (source : SourceState) (hol
   pub made : IsMade k (page_loaded s source)
 
 abbrev pub PagesAgree : Type 0
-PagesAgree = (k : Make) (s : DeviceState) (source : SourceState) (holder : Option ℕ) → IsMade k s → takes_page s ≡ true → PageIsLaidIn k s source holder
+PagesAgree = (k : Make) (s : DeviceState) (source : SourceState) (holder : Option ℕ) → IsMade k s → (k.fallible ≡ false → source.infallible ≡ true) → takes_page s ≡ true → PageIsLaidIn k s source holder
 
 abbrev pub RefusalsAgree : Type 0
 RefusalsAgree = (k : Make) (s : DeviceState) (holder : Option ℕ) → IsMade k s → takes_page s ≡ false → (abstract_device holder s).phase ≡ Resting → has_room k.model (abstract_device holder s).tray ≡ true → ⊥
@@ -34,7 +34,7 @@ pub record TableLoaded (i : ℕ) (make : ℕ → Make) (held : List (Option (Lea
 
 abbrev pub LoadsAgree : Type 0
 LoadsAgree =
-    (i : ℕ) (make : ℕ → Make) (held : List (Option (Lease DeviceState))) (registry : Table) (table : ℕ → AbstractDevice) (name : List ℕ) (source : SourceState) → TableRefines i make held registry table → load_answer registry name ≡ Ok tt →
+    (i : ℕ) (make : ℕ → Make) (held : List (Option (Lease DeviceState))) (registry : Table) (table : ℕ → AbstractDevice) (name : List ℕ) (source : SourceState) → TableRefines i make held registry table → ((k : ℕ) → find_name name registry ≡ Some k → (make k).fallible ≡ false → source.infallible ≡ true) → load_answer registry name ≡ Ok tt →
     TableLoaded i make held registry table name source
 
 -- a device that is unplugged: nobody holds it, and it is listed no more

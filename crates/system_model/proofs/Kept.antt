@@ -8,7 +8,7 @@ use Rattle.system_model.specs.Client.{AbstractJob, ClientView, JobStage, Idle, R
 use Rattle.system_model.specs.ClientReplies.{hear_in, hear_at, client_after_bytes, finish_in, start_refused, reads_on, stage_after_stop}
 use Rattle.system_model.specs.AbstractDevices.{DeviceInvariant, AbstractDevice, Begin, without_first}
 use Rattle.system_model.specs.Daemon.{TransferState, Quiet, Waiting, Streaming, FailureCounts, AnswerEffect}
-use Rattle.system_model.specs.Causes.{Cause, TrayRanOut, Explains, LinkOutOfMemory}
+use Rattle.system_model.specs.Causes.{Cause, TrayRanOut, Explains}
 use Rattle.system_model.specs.SystemStates.{SessionView, JobState}
 use Rattle.system_model.specs.Actions.{first_noted, after_connection, environment_of, served_by, session_after_answer, job_after_answer, loss_cause, with_nothing_in_flight, with_flight, with_transfer, break_causes, without_session}
 use Rattle.system_model.specs.Transitions.{IsRunning, MayBreak}

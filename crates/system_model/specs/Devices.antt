@@ -38,6 +38,8 @@ Model = DeviceKind
 pub record Make : Type 0 where
   pub model : Model
   pub order : Order
+  -- whether a page source that is ever in it can fail
+  pub fallible : Bool
 
 abbrev pub abstract_status : Code → Status
 abstract_status code.Good = Good

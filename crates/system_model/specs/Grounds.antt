@@ -2,7 +2,7 @@
 use Rattle.std.specs.Prelude.{ℕ, ◌≡◌, ◌≢◌, List, [], ◌∷◌, true, false, Option, Some}
 use Rattle.system_model.specs.AbstractMessages.{Challenge}
 use Rattle.system_model.specs.Devices.{Make, Page, picture_frames}
-use Rattle.system_model.specs.Causes.{Cause, GaveUp, LinkLost, LinkOutOfMemory, SourceFailed, NamesEof, Names, Unforced, WasUnlisted, HadNoPicture, WasHeld, Disallowed, TrayWasEmpty, TrayRanOut, ClientOutOfMemory}
+use Rattle.system_model.specs.Causes.{Cause, SourceFailed, WasUnlisted, HadNoPicture, WasHeld, Disallowed, TrayWasEmpty, TrayRanOut}
 use Rattle.system_model.specs.AbstractDevices.{AbstractDevice, Resting}
 use Rattle.system_model.specs.Daemon.{Environment, FailureCounts}
 

@@ -62,9 +62,10 @@ MayBreak stage = (g : AbstractProgress) → stage ≡ Running g → request_awai
 abbrev pub IsFault : FailureCounts → Type 0
 IsFault f = (f.before < f.after) ⊎ (f.before ≡ 2 ^ 64 - 1)
 
-abbrev pub MayFail : Option FailureCounts → Type 0
-MayFail None = Unit {0}
-MayFail (Some f) = IsFault f
+-- and a source of the device can fail
+abbrev pub MayFail : Make → Option FailureCounts → Type 0
+MayFail k None = Unit {0}
+MayFail k (Some f) = (k.fallible ≡ true) × IsFault f
 
 -- the session of client i reads a frame of its device
 abbrev pub ReadsFrameOf : ℕ → JobState → AbstractDevice → Frame → List ℕ → List Frame → Type 0
@@ -73,7 +74,7 @@ ReadsFrameOf i p dev f rest more = (p.session.transfer ≡ Streaming) × (dev.ho
 -- the actions that may come to the job of client i
 abbrev pub IsActionEnabled : ℕ → Make → JobState → AbstractDevice → Actions.Action → Type 0
 IsActionEnabled i k p dev Actions.Connects = p.client.stage ≡ Idle
-IsActionEnabled i k p dev (Actions.Answers challenge fault) = (p.served ≡ true) × (p.todo ≢ []) × MayFail fault
+IsActionEnabled i k p dev (Actions.Answers challenge fault) = (p.served ≡ true) × (p.todo ≢ []) × MayFail k fault
 IsActionEnabled i k p dev (Actions.Hears r) = IsRunning p.client.stage × ((rest : List AbstractReply) × (p.due ≡ r ∷ rest))
 IsActionEnabled i k p dev Actions.Dials = IsImaging p.client.stage × (p.session.transfer ≡ Waiting)
 IsActionEnabled i k p dev (Actions.Turns bytes) = (f : Frame) × (rest : List ℕ) × (more : List Frame) × ReadsFrameOf i p dev f (bytes ++ rest) more × (read_status_of k dev.options ≡ None) × (bytes ≢ [])
@@ -81,7 +82,7 @@ IsActionEnabled i k p dev Actions.TurnsLast = (f : Frame) × (more : List Frame)
 IsActionEnabled i k p dev (Actions.TurnsNamed status) =
     (f : Frame) × (rest : List ℕ) × (more : List Frame) × ReadsFrameOf i p dev f rest more × (read_status_of k dev.options ≡ Some status) × (status ≢ Eof) × (status ≢ Good)
 IsActionEnabled i k p dev Actions.TurnsShort = (f : Frame) × (rest : List ℕ) × (more : List Frame) × ReadsFrameOf i p dev f rest more × (read_status_of k dev.options ≡ Some Eof)
-IsActionEnabled i k p dev (Actions.TurnsFault fault) = (f : Frame) × (rest : List ℕ) × (more : List Frame) × ReadsFrameOf i p dev f rest more × IsFault fault
+IsActionEnabled i k p dev (Actions.TurnsFault fault) = (f : Frame) × (rest : List ℕ) × (more : List Frame) × ReadsFrameOf i p dev f rest more × MayFail k (Some fault)
 IsActionEnabled i k p dev Actions.TurnsOff = p.session.transfer ≡ Ending
 IsActionEnabled i k p dev (Actions.Reads bytes) = IsImaging p.client.stage × ((left : List ℕ) × (p.session.flight ≡ bytes ++ left)) × (bytes ≢ [])
 IsActionEnabled i k p dev (Actions.Finishes status) = IsImaging p.client.stage × (p.session.flight ≡ []) × (p.session.ending ≡ Some status)

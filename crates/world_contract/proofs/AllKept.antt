@@ -1,4 +1,5 @@
 -- All that is promised of a job, call by call.
+use Rattle.page_picture.specs.SourceView.{source_state}
 use Rattle.std.specs.Prelude.{option_map, slice_get, slice_index_or, ◌<◌, ◌≤◌, ◌-◌, ◌==◌, ◌||◌, nat_lt, if◌then◌else◌, cond, Contains, map}
 use Rattle.std.specs.Prelude.{min}
 use Rattle.std.proofs.Math.Nat.{le-min, min-eq_left, min-le_left, min-le_right}
@@ -23,6 +24,7 @@ use Rattle.world_contract.specs.Histories.{History}
 use Rattle.world_contract.specs.Endings.{JobIsPermitted}
 use Rattle.world_contract.specs.Promise.{CountIsKept, FileIsKept, MoveIsKept, MovesAreKept, OutcomeIsKept, PageIsKept}
 use Rattle.world_contract.specs.Laws.{Below}
+use Rattle.world_contract.proofs.Fallible.{is_fallible, only_there}
 use Rattle.world_contract.proofs.Jobs.{IsJob, are_steady}
 use Rattle.world_contract.proofs.Scanned.{at_first, infos_of, job_there, kept_by, make_there, page_right, scan_right}
 use Rattle.std.specs.Prelude.{Ok, Err}
@@ -40,7 +42,7 @@ use Rattle.scan_world.specs.FileDraining.{HasFiles, KeepsFile}
 use Rattle.system_model.specs.Client.{AbstractJob as RuledJob}
 use Rattle.system_model.specs.Sync.{IsPermitted as Permitted}
 use Rattle.world_refines.specs.WorldRefinement.{KeepsFiles, is_laid}
-use Rattle.world_contract.proofs.Traced.{Fixed, all_fixed}
+use Rattle.world_refines.proofs.job_events.Constant.{Fixed, all_fixed}
 use Rattle.world_contract.proofs.Ended.{at_end}
 use Rattle.device_api.specs.State.{DeviceState}
 use Rattle.client_refines.specs.ClientRefinement.{requested_setting}
@@ -48,7 +50,7 @@ use Rattle.system_model.specs.Devices.{Make}
 use Rattle.system_model.specs.AbstractInForce as ruled
 use Rattle.system_model.specs.SystemStates.{make_for}
 use Rattle.world_refines.specs.NewWorlds.{make_of}
-use Rattle.world_refines.specs.GhostStates.{Ghost, job_state, abstract_job}
+use Rattle.world_refines.specs.GhostStates.{Ghost, job_state, place_named, abstract_job}
 use Rattle.world_refines.specs.WorldPromises.{IsOutcome, KeepsPromise}
 use Rattle.world_contract.specs.Reports.{AreSettingsAnswered}
 use Rattle.world_contract.proofs.Along.{device_named, get_at}
@@ -93,9 +95,6 @@ page_there p k file e =
 
 -- ---- by its outcome
 
-not_done : (o p : Outcome) → o ≡ p → is_done p ≡ false → is_done o ≡ false
-not_done o p e d = ap is_done e ∙ d
-
 runs_not : (o : Outcome) → (o ≡ Running → ⊥) → is_running o ≡ false
 runs_not Running n = absurd (n refl)
 runs_not (Done reports) n = refl
@@ -122,18 +121,19 @@ settings_kept : Below → (h : History) (w : WorldCore) (i : ℕ) (job : Job) (e
 settings_kept below h w i job endpoint reports device j done list there named =
     let k = kept_by below.kept h w job j.led j.premises in
     let u = k.run.ghost_then in
-    let new = below.new h.jobs job h.devices j.led.first j.led.endpoints j.led.daemon j.led.names (are_steady h w j.led j.premises) j.led.fit in
+    let new = below.new (is_fallible h) h.jobs job h.devices j.led.first j.led.endpoints j.led.daemon j.led.names (are_steady h w j.led j.premises) (only_there h) j.led.fit in
     let mine = job_there h w job j.led k i j.job_at in
     let p = kept_by_outcome u i endpoint.client.outcome reports done (k.promises.outcomes i endpoint j.endpoint_at) in
     let s = p.settings (λ e. list (sym (ap (λ (x : Job). x.task) mine) ∙ e)) in
-    let make : make_for u.system i ≡ make_of (Some device) = make_there h w job j.led k i j.job_at ∙ ap make_of (device_named h job.device device new.is_of.apart there named) in
-    let forced : ruled.abstract_in_force (make_of (Some device)) (map requested_setting job.settings.items) ≡ Some (record { options = s.options; reports = s.reports }) =
-    subst (λ (x : Job). ruled.abstract_in_force (make_of (Some device)) (map requested_setting x.settings.items) ≡ Some (record { options = s.options; reports = s.reports })) mine
+    let b = is_fallible h (place_named (infos_of h) job.device) in
+    let make : make_for u.system i ≡ make_of b (Some device) = make_there h w job j.led k i j.job_at ∙ ap (make_of b) (device_named h job.device device new.is_of.apart there named) in
+    let forced : ruled.abstract_in_force (make_of b (Some device)) (map requested_setting job.settings.items) ≡ Some (record { options = s.options; reports = s.reports }) =
+    subst (λ (x : Job). ruled.abstract_in_force (make_of b (Some device)) (map requested_setting x.settings.items) ≡ Some (record { options = s.options; reports = s.reports })) mine
     (subst (λ (m : Make). ruled.abstract_in_force m (map requested_setting (u.jobs i).settings.items) ≡ Some (record { options = s.options; reports = s.reports })) make s.forced) in
-    let each : ruled.AreAnswered (make_of (Some device)) (map requested_setting job.settings.items) s.reports =
-    subst (λ (x : Job). ruled.AreAnswered (make_of (Some device)) (map requested_setting x.settings.items) s.reports) mine
+    let each : ruled.AreAnswered (make_of b (Some device)) (map requested_setting job.settings.items) s.reports =
+    subst (λ (x : Job). ruled.AreAnswered (make_of b (Some device)) (map requested_setting x.settings.items) s.reports) mine
     (subst (λ (m : Make). ruled.AreAnswered m (map requested_setting (u.jobs i).settings.items) s.reports) make s.answered) in
-    answered device job s.options s.reports reports.settings forced s.are each
+    answered b device job s.options s.reports reports.settings forced s.are each
 
 permitted_by : (h : History) (job : Job) (ruled : RuledJob) (sent : Option (List ℕ)) → ruled ≡ abstract_job h.users (infos_of h) job → Permitted ruled sent → JobIsPermitted h job
 permitted_by h job ruled sent e (inl free) = inl (ap (λ (x : RuledJob). x.guarded) (sym e) ∙ free)
@@ -145,7 +145,7 @@ allowed below h w i job endpoint reports j done list =
     let u = k.run.ghost_then in
     let mine = job_there h w job j.led k i j.job_at in
     let p = kept_by_outcome u i endpoint.client.outcome reports done (k.promises.outcomes i endpoint j.endpoint_at) in
-    let fixed = all_fixed h.events (at_first h w job j.led) k.run.steps u k.run.comes in
+    let fixed = all_fixed source_state h.events (at_first h w job j.led) k.run.steps u k.run.comes in
     let users : u.users ≡ h.users = ap (λ (f : Fixed). f.0) fixed ∙ j.led.users_are in
     let infos : u.infos ≡ infos_of h = ap (λ (f : Fixed). f.1) fixed in
     let is : (job_state u i).session.job ≡ abstract_job h.users (infos_of h) job =
@@ -185,7 +185,7 @@ is_listed below h w i job endpoint reports info j done list there =
     let u = k.run.ghost_then in
     let mine = job_there h w job j.led k i j.job_at in
     let p = kept_by_outcome u i endpoint.client.outcome reports done (k.promises.outcomes i endpoint j.endpoint_at) in
-    let infos : u.infos ≡ infos_of h = ap (λ (f : Fixed). f.1) (all_fixed h.events (at_first h w job j.led) k.run.steps u k.run.comes) in
+    let infos : u.infos ≡ infos_of h = ap (λ (f : Fixed). f.1) (all_fixed source_state h.events (at_first h w job j.led) k.run.steps u k.run.comes) in
     let l = p.devices (ap (λ (x : Job). x.task) mine ∙ list) in
     device_by h l.places reports.devices info (subst (λ (x : List DeviceInfo). map (slice_get x) l.places ≡ map (λ (y : DeviceInfo). Some y) reports.devices) infos l.told) there
 
@@ -241,14 +241,22 @@ outcome_kept below h w i job p j = record {
       record { not_good = s.0; not_eof = s.1; caused = at_end below h w i job p status why j e };
 }
 
+-- what no other job's file is
+whole_as : (o : Outcome) (task : Task) → (is_done o ≡ false → ⊥) → ((reports : Reports) → o ≡ Done reports → task ≢ tasks.Scan → ⊥) → (reports : Reports) × (task ≡ tasks.Scan) × (o ≡ Done reports)
+whole_as Running task undone other = absurd (undone refl)
+whole_as (Ended status why) task undone other = absurd (undone refl)
+whole_as (Done reports) tasks.Scan undone other = (reports, refl, refl)
+whole_as (Done reports) tasks.List undone other = absurd (other reports refl (λ e. let clash : tasks.List ≡ tasks.Scan = e in cc))
+whole_as (Done reports) tasks.Show undone other = absurd (other reports refl (λ e. let clash : tasks.Show ≡ tasks.Scan = e in cc))
+whole_as (Done reports) tasks.SetOnly undone other = absurd (other reports refl (λ e. let clash : tasks.SetOnly ≡ tasks.Scan = e in cc))
+whole_as (Done reports) (tasks.Batch count) undone other = absurd (other reports refl (λ e. let clash : tasks.Batch count ≡ tasks.Scan = e in cc))
+
 pub file_kept : Below → (h : History) (w : WorldCore) (i : ℕ) (job : Job) (p : Endpoint) → IsJob h w i job p → FileIsKept h job p.out_of_memory p.client.outcome p.file
 file_kept below h w i job p j =
     let k = kept_by below.kept h w job j.led j.premises in
     record {
       scanned = λ reports bytes scan done f. scan_right below.kept below.notes h w i job p reports bytes j scan done f;
-      running = λ bytes e f. k.promises.short i p bytes j.endpoint_at (not_done p.client.outcome Running e refl) f;
-      ended = λ status why bytes e f. k.promises.short i p bytes j.endpoint_at (not_done p.client.outcome (Ended status why) e refl) f;
-      other = λ reports bytes done scan f. no_scan below h w i job p reports bytes j done scan f;
+      whole = λ bytes f is. whole_as p.client.outcome job.task (λ undone. k.promises.short i p bytes j.endpoint_at undone f is) (λ reports done other. no_scan below h w i job p reports bytes j done other f is);
       missing = λ f. k.promises.starved i p j.endpoint_at f;
     }
 

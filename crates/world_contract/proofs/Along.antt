@@ -5,12 +5,13 @@ use Rattle.std.proofs.Common.{◌≡◌, ◌∙◌, ◌⊎◌, ◌≢◌, ℕ, z
 use Rattle.std.proofs.lemmas.Option.{get_or_from_slice_get}
 use Rattle.device_api.specs.InForce as devices
 use Rattle.device_api.specs.State.{DeviceState}
+use Rattle.page_picture.specs.Meaning.{meaning_of}
 use Rattle.scan_frames.specs.declared.setup.Setup.{Setup}
 use Rattle.scan_job.specs.declared.job.Job.{Job}
 use Rattle.client_refines.specs.ClientRefinement.{requested_setting}
 use Rattle.system_model.specs.AbstractMessages.{Status, Why, Eof}
 use Rattle.system_model.specs.Client.{AbstractJob as RuledJob, JobStage, Idle, Running, Done, Ended, ClientView}
-use Rattle.system_model.specs.Devices.{Make, Page, read_status_of, abstract_status}
+use Rattle.system_model.specs.Devices.{Make, Page, picture_frames, read_status_of, abstract_status}
 use Rattle.system_model.specs.AbstractInForce.{SettingsResult, abstract_in_force}
 use Rattle.system_model.specs.Settings.{SettingsMeanTheSame, pair_of}
 use Rattle.page_picture.specs.declared.scene.DeviceKind.{DeviceKind}
@@ -33,7 +34,8 @@ use Rattle.world_refines.proofs.state.Infos.{place_is}
 use Rattle.daemon_refines.proofs.Moved.{own}
 use Rattle.world_contract.specs.Histories.{History}
 use Rattle.world_contract.specs.Page.{Settled}
-use Rattle.world_contract.specs.Endings.{AreFeeders, IsShared, IsUnlisted, WasServed}
+use Rattle.world_contract.specs.Endings.{AreFeeders, CanFail, IsShared, IsUnlisted, MeansNoPicture, WasServed}
+use Rattle.world_contract.proofs.Fallible.{can_fail_there, fallible_at, is_fallible, make_at}
 use Rattle.world_contract.proofs.Lists.{In, all_each, all_then, contains_at, contains_in}
 use Rattle.world_contract.proofs.Mine.{IsMine, deed_mine}
 use Rattle.world_contract.proofs.Marked.{Slotted}
@@ -42,6 +44,7 @@ use Rattle.world_contract.proofs.Asked.{AsksGuarded, asks_then}
 use Rattle.world_contract.proofs.Begun.{job_same, party_stays, wants_same}
 use Rattle.world_contract.proofs.Pages.{HasDevice, IsOfDevice, IsOfOne, loads_if, name_there}
 use Rattle.world_contract.proofs.Options.{IsForced, streaming}
+use Rattle.world_contract.proofs.NoPictures.{IsSet, no_meaning, starting}
 use Rattle.world_contract.proofs.Evident.{Comes, IsAnswer, all_come, causes_by, met_by}
 use Rattle.world_contract.proofs.Events.{answers_event, chokes_event, fault_event, image_event, loses_event, named_event, short_event, stops_event}
 use Rattle.world_contract.proofs.Nearest.{nearest_for}
@@ -62,7 +65,7 @@ IsHeldBy h job d j = (place_of h job j ≡ d) × (j < length h.jobs)
 
 -- each device is so
 pub record Fine (h : History) (job : Job) (s : SystemState) : Type 0 where
-  pub makes : s.make ≡ (λ k. make_of (slice_get h.devices k))
+  pub makes : s.make ≡ make_at h
   pub places : (j : ℕ) → wanted_place s j ≡ place_of h job j
   pub slots : (d : ℕ) → Slotted (HasDevice h d) (IsOfDevice h d) (device_view (s.make d) (s.device d))
   pub owned : (d : ℕ) → Owned (IsGone h d) (IsHeldBy h job d) (device_view (s.make d) (s.device d))
@@ -139,12 +142,12 @@ abbrev pub Evid : History → ℕ → Job → Cause → Type 0
 Evid h i job GaveUp = Contains h.events (Cancel i)
 Evid h i job LinkLost = Contains h.events (LoseControl i) ⊎ Contains h.events (LoseImage i)
 Evid h i job LinkOutOfMemory = Unit {0}
-Evid h i job SourceFailed = WasServed h i ⊎ Contains h.events (DataTurn i)
+Evid h i job SourceFailed = (WasServed h i ⊎ Contains h.events (DataTurn i)) × CanFail h job.device
 Evid h i job NamesEof = Contains h.events (DataTurn i) × IsTold h job Eof
 Evid h i job (Names status) = Contains h.events (DataTurn i) × IsTold h job status
 Evid h i job Unforced = ⊥
 Evid h i job WasUnlisted = WasServed h i × IsUnlisted h job.device
-Evid h i job HadNoPicture = WasServed h i
+Evid h i job HadNoPicture = WasServed h i × MeansNoPicture h job
 Evid h i job WasHeld = WasServed h i × IsShared h i job
 Evid h i job Disallowed = WasServed h i × (is_guarded h.users (backend_of job.device) ≡ true)
 Evid h i job TrayWasEmpty = WasServed h i × AreFeeders h job.device
@@ -179,17 +182,18 @@ same_pairs (s ∷ items) = ap (λ (x : List (List ℕ × List ℕ)). s ∷ x) (s
 pub forced_there : (own_job : SettingsMeanTheSame) (k : Make) (job : Job) → option_map (λ (f : SettingsResult). f.options) (abstract_in_force k (map requested_setting job.settings.items)) ≡ option_map (λ (r : Setup × List devices.Placement). r.0) (devices.in_force k.model k.order job.settings.items)
 forced_there same k job = same k (map requested_setting job.settings.items) ∙ ap (λ (x : List (List ℕ × List ℕ)). option_map (λ (r : Setup × List devices.Placement). r.0) (devices.in_force k.model k.order x)) (same_pairs job.settings.items)
 
-settled_by : (h : History) (i : ℕ) (job : Job) (s : SystemState) → Own h i job → Fine h job s → (s.job i).session.job ≡ abstract_job h.users (infos_of h) job → (device_for s i).holder ≡ Some i → IsForced (make_for s i) (s.job i).session (device_for s i) → (r : Settled h job) × (r.setup ≡ (device_for s i).options)
+settled_by : (h : History) (i : ℕ) (job : Job) (s : SystemState) → Own h i job → Fine h job s → (s.job i).session.job ≡ abstract_job h.users (infos_of h) job → (device_for s i).holder ≡ Some i → IsForced (make_for s i) (s.job i).session (device_for s i) → (r : Settled h job) × (r.setup ≡ (device_for s i).options) × (slice_get h.devices (wanted_place s i) ≡ Some r.device)
 settled_by h i job s o f is mine forced =
     let d = place_named (infos_of h) job.device in
     let place : wanted_place s i ≡ d = f.places i ∙ own_place h i job o.at in
     let there : HasDevice h d = subst (HasDevice h) place ((f.slots (wanted_place s i)).held i mine) in
     let device = there.0 in
-    let make : make_for s i ≡ make_of (Some device) = ap (λ (m : ℕ → Make). m (wanted_place s i)) f.makes ∙ (ap (λ (n : ℕ). make_of (slice_get h.devices n)) place ∙ ap make_of there.1) in
-    let ruled : abstract_in_force (make_of (Some device)) (map requested_setting job.settings.items) ≡ Some (record { options = (device_for s i).options; reports = forced.0 }) =
+    let b = is_fallible h d in
+    let make : make_for s i ≡ make_of b (Some device) = ap (λ (m : ℕ → Make). m (wanted_place s i)) f.makes ∙ (ap (make_at h) place ∙ ap (make_of b) there.1) in
+    let ruled : abstract_in_force (make_of b (Some device)) (map requested_setting job.settings.items) ≡ Some (record { options = (device_for s i).options; reports = forced.0 }) =
     subst (λ (k : Make). abstract_in_force k (map requested_setting job.settings.items) ≡ Some (record { options = (device_for s i).options; reports = forced.0 })) make
     (ap (λ (j : RuledJob). abstract_in_force (make_for s i) j.settings) (sym is) ∙ forced.1) in
-    let options : option_map (λ (r : Setup × List devices.Placement). r.0) (devices.in_force device.setup.scene.kind device.setup.order job.settings.items) ≡ Some (device_for s i).options = sym (forced_there o.same (make_of (Some device)) job) ∙ ap (option_map (λ (x : SettingsResult). x.options)) ruled in
+    let options : option_map (λ (r : Setup × List devices.Placement). r.0) (devices.in_force device.setup.scene.kind device.setup.order job.settings.items) ≡ Some (device_for s i).options = sym (forced_there o.same (make_of b (Some device)) job) ∙ ap (option_map (λ (x : SettingsResult). x.options)) ruled in
     let put = nearest_for device.setup.scene.kind device.setup.order job.settings.items (device_for s i).options options in (
       record {
         device = device;
@@ -200,6 +204,7 @@ settled_by h i job s o f is mine forced =
         in_force = put.1;
       },
       refl,
+      ap (slice_get h.devices) place ∙ there.1,
     )
 
 told_by : (h : History) (i : ℕ) (job : Job) (s : SystemState) (status : Status) → Own h i job → Fine h job s → (s.job i).session.job ≡ abstract_job h.users (infos_of h) job → (device_for s i).holder ≡ Some i → IsForced (make_for s i) (s.job i).session (device_for s i) → read_status_of (make_for s i) (device_for s i).options ≡ Some status → IsTold h job status
@@ -207,6 +212,19 @@ unfolding read_status_of
 told_by h i job s status o f is mine forced r =
     let x = settled_by h i job s o f is mine forced in
     (x.0, ap (λ (y : Setup). option_map abstract_status y.told) x.1 ∙ r)
+
+meant_by : (h : History) (i : ℕ) (job : Job) (s : SystemState) → Own h i job → Fine h job s → (s.job i).session.job ≡ abstract_job h.users (infos_of h) job → IsSet i (make_for s i) (s.job i).session (device_for s i) → (page : Page) (later : List Page) → (device_for s i).tray ≡ page ∷ later → picture_frames (make_for s i) (device_for s i).options page ≡ [] → MeansNoPicture h job
+meant_by h i job s o f is set page later tray none =
+    let x = settled_by h i job s o f is set.0 set.1 in
+    let first : IsOfDevice h (wanted_place s i) page = (subst (AllByRecursion (IsOfDevice h (wanted_place s i))) tray (f.slots (wanted_place s i)).pages).0 in
+    (x.0, page, first x.0.device x.2, ap (λ (y : Setup). meaning_of page y.scene) x.1 ∙ no_meaning (make_for s i) (device_for s i).options page none)
+
+fallible_by : (h : History) (i : ℕ) (job : Job) (s : SystemState) → Own h i job → Fine h job s → (make_for s i).fallible ≡ true → CanFail h job.device
+fallible_by h i job s o f can =
+    let d = (place_named (infos_of h) job.device) in
+    let place : wanted_place s i ≡ d = f.places i ∙ own_place h i job o.at in
+    let make : make_for s i ≡ make_at h d = ap (λ (m : ℕ → Make). m (wanted_place s i)) f.makes ∙ ap (make_at h) place in
+    can_fail_there h d job.device (λ device at. name_of h job.device device at) (sym (fallible_at h d) ∙ (ap (λ (k : Make). k.fallible) (sym make) ∙ can))
 
 shared_by : (h : History) (i : ℕ) (job : Job) (s : SystemState) (j : ℕ) → Own h i job → Fine h job s → (device_for s i).holder ≡ Some j → j ≢ i → IsShared h i job
 shared_by h i job s j o f held other =
@@ -239,7 +257,7 @@ feeders_by : (h : History) (i : ℕ) (job : Job) (s : SystemState) → Own h i j
 feeders_by h i job s o f sound none device there named =
     let at = device_named h job.device device o.apart there named in
     let place : wanted_place s i ≡ place_named (infos_of h) job.device = f.places i ∙ own_place h i job o.at in
-    let make : make_for s i ≡ make_of (Some device) = ap (λ (m : ℕ → Make). m (wanted_place s i)) f.makes ∙ (ap (λ (n : ℕ). make_of (slice_get h.devices n)) place ∙ ap make_of at) in
+    let make : make_for s i ≡ make_of (is_fallible h (place_named (infos_of h) job.device)) (Some device) = ap (λ (m : ℕ → Make). m (wanted_place s i)) f.makes ∙ (ap (make_at h) place ∙ ap (make_of (is_fallible h (place_named (infos_of h) job.device))) at) in
     let stocked : IsStocked (make_for s i).model (device_for s i).tray = (sound.fit (wanted_place s i)).stocked in
     stocked_feeder device.setup.scene.kind (subst (λ (m : Make). IsStocked m.model []) make (subst (λ (tray : List Page). IsStocked (make_for s i).model tray) none stocked))
 
@@ -274,7 +292,7 @@ evid : (h : History) (i : ℕ) (job : Job) (s : SystemState) (x : Action) → He
 evid h i job s x e on of GaveUp c = let o = of_deed h i x Actions.Stops c of in stops_event h.events (map info_of_state h.devices) i o.event o.among o.is
 evid h i job s x e on of LinkLost c = lost_by h i x c of
 evid h i job s x e on of LinkOutOfMemory c = tt
-evid h i job s x e on of SourceFailed c = failed_by h i x c of
+evid h i job s x e on of SourceFailed c = (failed_by h i x c.0 of, fallible_by h i job s e.own_job e.fine c.1)
 evid h i job s x e on of NamesEof c =
     let o = of_deed h i x Actions.TurnsShort c.0 of in
     (short_event h.events (map info_of_state h.devices) i o.event o.among o.is, told_by h i job s Eof e.own_job e.fine e.is c.2 (streaming i (make_for s i) (s.job i) (device_for s i) (s.job i).client.stage on (e.sound.talks i) c.1) c.3)
@@ -283,7 +301,10 @@ evid h i job s x e on of (Names status) c =
     (named_event h.events (map info_of_state h.devices) i status o.event o.among o.is, told_by h i job s status e.own_job e.fine e.is c.2 (streaming i (make_for s i) (s.job i) (device_for s i) (s.job i).client.stage on (e.sound.talks i) c.1) c.3)
 evid h i job s x e on of Unforced c = absurd c
 evid h i job s x e on of WasUnlisted c = (served_by_answer h i x c.0 of, unlisted_by h i job s e.own_job e.fine c.1)
-evid h i job s x e on of HadNoPicture c = served_by_answer h i x c of
+evid h i job s x e on of HadNoPicture c = (
+  served_by_answer h i x c.0 of,
+  meant_by h i job s e.own_job e.fine e.is (starting i (make_for s i) (s.job i) (device_for s i) (s.job i).client.stage c.1.0 on (e.sound.talks i) c.1.1) c.1.2.0 c.1.2.1 c.1.2.2 c.1.2.3,
+)
 evid h i job s x e on of WasHeld c = (served_by_answer h i x c.0 of, shared_by h i job s c.1.0 e.own_job e.fine c.1.1 c.1.2)
 evid h i job s x e on of Disallowed c =
     (served_by_answer h i x c.0 of, ap (λ (j : RuledJob). j.guarded) (sym e.is) ∙ e.asks c.1.0 c.1.1)
@@ -294,7 +315,7 @@ evid h i job s x e on of ClientOutOfMemory c = let o = of_deed h i x Actions.Run
 -- ---- what the job met
 
 abbrev pub NotForced : History → Job → Type 0
-NotForced h job = abstract_in_force (make_of (slice_get h.devices (place_named (infos_of h) job.device))) (map requested_setting job.settings.items) ≡ None
+NotForced h job = abstract_in_force (make_at h (place_named (infos_of h) job.device)) (map requested_setting job.settings.items) ≡ None
 
 abbrev pub EndedBy : History → ℕ → Job → List Cause → Status → Why → Type 0
 EndedBy h i job met status why = ((c : Cause) × Evid h i job c × IsCauseAmong c met × Explains c status why) ⊎ (NotForced h job × Explains Unforced status why)
@@ -317,7 +338,7 @@ pick h i job status why (c ∷ met) a (inr e) = let r = pick h i job status why 
 forced_same : (h : History) (i : ℕ) (job : Job) (s : SystemState) → Here h i job s → abstract_in_force (make_for s i) (s.job i).session.job.settings ≡ None → NotForced h job
 forced_same h i job s e none =
     let place : wanted_place s i ≡ place_named (infos_of h) job.device = e.fine.places i ∙ own_place h i job e.own_job.at in
-    let make : make_for s i ≡ make_of (slice_get h.devices (place_named (infos_of h) job.device)) = ap (λ (m : ℕ → Make). m (wanted_place s i)) e.fine.makes ∙ ap (λ (n : ℕ). make_of (slice_get h.devices n)) place in
+    let make : make_for s i ≡ make_at h (place_named (infos_of h) job.device) = ap (λ (m : ℕ → Make). m (wanted_place s i)) e.fine.makes ∙ ap (make_at h) place in
     subst (λ (k : Make). abstract_in_force k (map requested_setting job.settings.items) ≡ None) make (ap (λ (j : RuledJob). abstract_in_force (make_for s i) j.settings) (sym e.is) ∙ none)
 
 caused : (h : History) (i : ℕ) (job : Job) (s : SystemState) (status : Status) (why : Why) → Here h i job s → AllByRecursion (Evid h i job) (s.job i).session.met → IsCaused (make_for s i) (s.job i).session status why → EndedBy h i job (s.job i).session.met status why

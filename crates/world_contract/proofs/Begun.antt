@@ -96,9 +96,3 @@ all_begun notes Q (x ∷ xs) s a h i =
 pub wants_all : (xs : List Transition) (s : SystemState) (i : ℕ) → wanted_place (after_all s xs) i ≡ wanted_place s i
 wants_all [] s i = refl
 wants_all (x ∷ xs) s i = wants_all xs (after_transition s x) i ∙ wants_same s x i
-
-pub makes_stay : (s : SystemState) (xs : List Transition) → (after_all s xs).make ≡ s.make
-makes_stay s [] = refl
-makes_stay s (By i x ∷ xs) = makes_stay (after_transition s (By i x)) xs
-makes_stay s (Loads d page ∷ xs) = makes_stay (after_transition s (Loads d page)) xs
-makes_stay s (Unplugs d ∷ xs) = makes_stay (after_transition s (Unplugs d)) xs

@@ -32,7 +32,7 @@ use Rattle.world_contract.specs.Laws.{AllFollow, Below}
 use Rattle.world_contract.proofs.Jobs.{IsJob, item_there}
 use Rattle.world_contract.proofs.Lists.{all_then}
 use Rattle.world_contract.proofs.Scanned.{at_first, kept_by}
-use Rattle.world_contract.proofs.Traced.{Fixed, all_fixed}
+use Rattle.world_refines.proofs.job_events.Constant.{Fixed, all_fixed}
 use Rattle.world_contract.proofs.AllKept.{count_kept, file_kept, move_kept, moves_kept, outcome_kept, page_kept}
 
 -- ---- events behind events
@@ -61,7 +61,7 @@ new_led {D = D} state devices asked users seed jobs w is named fit same limits =
 pub endpoint_there : Below → (h : History) (w : WorldCore) (i : ℕ) (job : Job) → IsJobAt h w i job → (p : Endpoint) × IsJob h w i job p
 endpoint_there below h w i job at =
     let k = kept_by below.kept h w job at.led at.premises in
-    let count : k.run.ghost_then.count ≡ length h.jobs = ap (λ (f : Fixed). f.2) (all_fixed h.events (at_first h w job at.led) k.run.steps k.run.ghost_then k.run.comes) in
+    let count : k.run.ghost_then.count ≡ length h.jobs = ap (λ (f : Fixed). f.2) (all_fixed source_state h.events (at_first h w job at.led) k.run.steps k.run.ghost_then k.run.comes) in
     let as_many : length h.jobs ≡ length w.endpoints = sym count ∙ k.run.stands.is_of.count in
     let p = item_there w.endpoints i (subst (λ (n : ℕ). i < n) as_many (slice_get_within h.jobs i job at.job_at)) in
     (p.0, record { led = at.led; premises = at.premises; job_at = at.job_at; endpoint_at = p.1 })

@@ -26,8 +26,9 @@ use Rattle.world_refines.specs.NewWorlds.{make_of}
 use Rattle.world_refines.specs.WorldRefinement.{client_at_greeting}
 use Rattle.world_contract.specs.Histories.{History}
 use Rattle.world_contract.specs.Endings.{IsEndingExplained, IsUnforced}
-use Rattle.world_contract.specs.Endings.IsEndingExplained.{GaveUp as GaveUpRow, LostControl, LostImage, Starved, SourceFailed as SourceFailedRow, NamesEof as NamesEofRow, NamesStatus, Unforced as UnforcedRow, Unlisted, HadNoPicture as HadNoPictureRow, WasHeld as WasHeldRow, Disallowed as DisallowedRow, TrayWasEmpty as TrayWasEmptyRow, ClientStarved as ClientStarvedRow}
+use Rattle.world_contract.specs.Endings.IsEndingExplained.{GaveUp as GaveUpRow, LostLink, Starved, SourceFailed as SourceFailedRow, NamesEof as NamesEofRow, NamesStatus, Unforced as UnforcedRow, Unlisted, HadNoPicture as HadNoPictureRow, WasHeld as WasHeldRow, Disallowed as DisallowedRow, TrayWasEmpty as TrayWasEmptyRow, ClientStarved as ClientStarvedRow}
 use Rattle.world_contract.specs.Laws.{Below}
+use Rattle.world_contract.proofs.Fallible.{is_fallible, only_there}
 use Rattle.world_contract.proofs.Nearest.{none_nearest}
 use Rattle.world_contract.proofs.Jobs.{IsJob, are_steady}
 use Rattle.client_replies.specs.ProtocolStates.{target_of}
@@ -39,7 +40,7 @@ use Rattle.page_picture.specs.Shows.{Frame}
 use Rattle.sane_fixed.specs.declared.device_info.DeviceInfo.{DeviceInfo}
 use Rattle.system_model.specs.Client as rules
 use Rattle.std.proofs.lemmas.Option.{get_or_from_slice_get}
-use Rattle.world_refines.specs.GhostStates.{job_state, place_of_info, abstract_job}
+use Rattle.world_refines.specs.GhostStates.{job_state, place_named, place_of_info, abstract_job}
 use Rattle.world_contract.proofs.Pages.{all_of_one, first_slot}
 use Rattle.world_contract.proofs.Scanned.{at_first, infos_of, kept_by, untouched_at_first}
 use Rattle.world_contract.proofs.OfJobs.{all_of_jobs}
@@ -130,14 +131,11 @@ none_by (Some r) e = absurd (let clash : Some r.0 ≡ None = e in cc)
 unforced : (h : History) (i : ℕ) (job : Job) → Own h i job → NotForced h job → IsUnforced h job
 unforced h i job o none device there named =
     let at = device_named h job.device device o.apart there named in
-    let ruled : abstract_in_force (make_of (Some device)) (map requested_setting job.settings.items) ≡ None = subst (λ (x : Option DeviceState). abstract_in_force (make_of x) (map requested_setting job.settings.items) ≡ None) at none in
-    none_nearest device.setup.scene.kind device.setup.order job.settings.items (none_by (devices.in_force device.setup.scene.kind device.setup.order job.settings.items) (sym (forced_there o.same (make_of (Some device)) job) ∙ ap (option_map (λ (f : SettingsResult). f.options)) ruled))
+    let b = is_fallible h (place_named (infos_of h) job.device) in
+    let ruled : abstract_in_force (make_of b (Some device)) (map requested_setting job.settings.items) ≡ None = subst (λ (x : Option DeviceState). abstract_in_force (make_of b x) (map requested_setting job.settings.items) ≡ None) at none in
+    none_nearest device.setup.scene.kind device.setup.order job.settings.items (none_by (devices.in_force device.setup.scene.kind device.setup.order job.settings.items) (sym (forced_there o.same (make_of b (Some device)) job) ∙ ap (option_map (λ (f : SettingsResult). f.options)) ruled))
 
 -- ---- the table
-
-lost_row : (h : History) (i : ℕ) (job : Job) (starved : Bool) (status : Code) (why : Reason) → (status ≡ codes.IoError) × (why ≡ whys.Lost) → Contains h.events (LoseControl i) ⊎ Contains h.events (LoseImage i) → IsEndingExplained h i job starved status why
-lost_row h i job starved status why e (inl x) = LostControl e x
-lost_row h i job starved status why e (inr x) = LostImage e x
 
 setting_row : (status : Code) (why : Reason) (w : Why) → why_of why ≡ Some w → (w ≡ words.Setting) ⊎ (w ≡ words.Answer) → (why ≡ whys.Setting) ⊎ (why ≡ whys.Answer)
 setting_row status why w is (inl e) = inl (why_is why words.Setting (is ∙ ap (λ (x : Why). Some x) e))
@@ -145,16 +143,16 @@ setting_row status why w is (inr e) = inr (why_is why words.Answer (is ∙ ap (�
 
 row : (h : History) (i : ℕ) (job : Job) (starved : Bool) (status : Code) (why : Reason) (w : Why) (c : Cause) → why_of why ≡ Some w → (c ≡ LinkOutOfMemory → starved ≡ true) → Evid h i job c → Explains c (abstract_status status) w → IsEndingExplained h i job starved status why
 row h i job starved status why w GaveUp is z e x = GaveUpRow (both_are status why words.GivenUp words.Cancelled w is x) e
-row h i job starved status why w LinkLost is z e x = lost_row h i job starved status why (both_are status why words.IoError words.Lost w is x) e
+row h i job starved status why w LinkLost is z e x = LostLink (both_are status why words.IoError words.Lost w is x) e
 row h i job starved status why w LinkOutOfMemory is z e x = Starved (both_are status why words.IoError words.Lost w is x) (z refl)
-row h i job starved status why w SourceFailed is z e x = SourceFailedRow (both_are status why words.IoError words.Answer w is x) e
+row h i job starved status why w SourceFailed is z e x = SourceFailedRow (both_are status why words.IoError words.Answer w is x) e.0 e.1
 row h i job starved status why w NamesEof is z e x = NamesEofRow (both_are status why words.IoError words.Short w is x) e.0 e.1.0 (code_in e.1.0.setup.told words.Eof e.1.1)
 row h i job starved status why w (Names s) is z e x =
     NamesStatus (λ eof. x.1 (sym x.0 ∙ ap abstract_status eof), why_is why words.Answer (is ∙ ap (λ (y : Why). Some y) x.2)) e.0 e.1.0
     (code_in e.1.0.setup.told s e.1.1 ∙ ap (λ (y : Code). Some y) (sym (code_is status s x.0)))
 row h i job starved status why w Unforced is z e x = absurd e
 row h i job starved status why w WasUnlisted is z e x = Unlisted (both_are status why words.Inval words.Answer w is x) e.0 e.1
-row h i job starved status why w HadNoPicture is z e x = HadNoPictureRow (both_are status why words.Inval words.Answer w is x) e
+row h i job starved status why w HadNoPicture is z e x = HadNoPictureRow (both_are status why words.Inval words.Answer w is x) e.0 e.1
 row h i job starved status why w WasHeld is z e x = WasHeldRow (both_are status why words.Busy words.Answer w is x) e.0 e.1
 row h i job starved status why w Disallowed is z e x = DisallowedRow (both_are status why words.AccessDenied words.Answer w is x) e.0 e.1
 row h i job starved status why w TrayWasEmpty is z e x = TrayWasEmptyRow (both_are status why words.NoDocs words.Answer w is x) e.0 e.1
@@ -193,7 +191,7 @@ at_end below h w i job endpoint status why j e =
     let t = at_first h w job l in
     let u = k.run.ghost_then in
     let steps = k.run.steps in
-    let new = below.new h.jobs job h.devices l.first l.endpoints l.daemon l.names (are_steady h w j.led j.premises) l.fit in
+    let new = below.new (is_fallible h) h.jobs job h.devices l.first l.endpoints l.daemon l.names (are_steady h w j.led j.premises) (only_there h) l.fit in
     let o : Own h i job = record { at = j.job_at; apart = new.is_of.apart; same = below.same } in
     let fine : Fine h job t.system = record { makes = refl; places = λ n. refl; slots = λ d. first_slot h (t.system.make d) d; owned = λ d. first_owned h job (t.system.make d) d (slice_get h.devices d) refl } in
     let here : Here h i job t.system = record { own_job = o; fine = fine; is = ap (λ (users : List Entry). abstract_job users (infos_of h) (slice_index_or h.jobs i job)) l.users_are ∙ ap (λ (x : Job). abstract_job h.users (infos_of h) x) (get_or_from_slice_get h.jobs i job job j.job_at); asks = λ c is. absurd (let clash : None ≡ Some c = is in cc); sound = new.sound } in

@@ -1,8 +1,8 @@
 -- What each cause that a deed notes comes from.
 use Rattle.std.specs.List.{AllByRecursion}
-use Rattle.std.proofs.Common.{◌≡◌, ◌⊎◌, ◌≢◌, ℕ, List, [], ◌∷◌, ◌++◌, true, false, Option, Some, inl, inr, refl}
-use Rattle.system_model.specs.AbstractMessages.{Eof, Challenge, AbstractRequest}
-use Rattle.system_model.specs.Devices.{Make, read_status_of}
+use Rattle.std.proofs.Common.{◌≡◌, ◌⊎◌, ◌≢◌, ℕ, List, [], ◌∷◌, ◌++◌, true, false, Option, Some, inl, inr, refl, ap, subst, ◌∙◌}
+use Rattle.system_model.specs.AbstractMessages.{Eof, Challenge, AbstractRequest, Start}
+use Rattle.system_model.specs.Devices.{Make, Page, picture_frames, read_status_of}
 use Rattle.system_model.specs.AbstractDevices.{AbstractDevice}
 use Rattle.system_model.specs.Daemon.{FailureCounts, Streaming}
 use Rattle.system_model.specs.Causes.{Cause, GaveUp, LinkLost, LinkOutOfMemory, SourceFailed, NamesEof, Names, Unforced, WasUnlisted, HadNoPicture, WasHeld, Disallowed, TrayWasEmpty, TrayRanOut, ClientOutOfMemory}
@@ -10,8 +10,9 @@ use Rattle.system_model.specs.Grounds.{HasGround, HaveGrounds}
 use Rattle.system_model.specs.SystemStates.{JobState}
 use Rattle.system_model.specs.Actions
 use Rattle.system_model.specs.Actions.{Action, answer_next, environment_of, break_causes, loss_cause, job_after_action, served_by}
-use Rattle.system_model.specs.Transitions.{IsActionEnabled}
+use Rattle.system_model.specs.Transitions.{IsActionEnabled, MayFail}
 use Rattle.system_model.specs.ModelPromises.{CausesAreGrounded}
+use Rattle.world_contract.proofs.NoPictures.{StartIf, answers_start}
 
 -- the causes that a deed notes
 abbrev pub causes_next : ℕ → Make → List ℕ → JobState → AbstractDevice → Challenge → Option FailureCounts → List AbstractRequest → List Cause
@@ -58,56 +59,62 @@ met_by i k ds p dev Actions.Stops = refl
 abbrev pub IsAnswer : Action → Type 0
 IsAnswer x = (challenge : Challenge) × (fault : Option FailureCounts) × (x ≡ Actions.Answers challenge fault)
 
+-- a START comes next, and the page that it would take has no frames by the options
+abbrev pub StartsNothing : Make → JobState → AbstractDevice → Type 0
+StartsNothing k p dev = (rest : List AbstractRequest) × (p.todo ≡ Start ∷ rest) × ((page : Page) × (later : List Page) × (dev.tray ≡ page ∷ later) × (picture_frames k dev.options page ≡ []))
+
 abbrev pub Comes : ℕ → Make → JobState → AbstractDevice → Action → Cause → Type 0
 Comes i k p dev x GaveUp = x ≡ Actions.Stops
 Comes i k p dev x LinkLost = (x ≡ Actions.Loses false) ⊎ (x ≡ Actions.LosesImage false)
 Comes i k p dev x LinkOutOfMemory = Unit {0}
-Comes i k p dev x SourceFailed = IsAnswer x ⊎ ((fault : FailureCounts) × (x ≡ Actions.TurnsFault fault))
+Comes i k p dev x SourceFailed = (IsAnswer x ⊎ ((fault : FailureCounts) × (x ≡ Actions.TurnsFault fault))) × (k.fallible ≡ true)
 Comes i k p dev x NamesEof = (x ≡ Actions.TurnsShort) × (p.session.transfer ≡ Streaming) × (dev.holder ≡ Some i) × (read_status_of k dev.options ≡ Some Eof)
 Comes i k p dev x (Names status) = (x ≡ Actions.TurnsNamed status) × (p.session.transfer ≡ Streaming) × (dev.holder ≡ Some i) × (read_status_of k dev.options ≡ Some status)
 Comes i k p dev x Unforced = ⊥
 Comes i k p dev x WasUnlisted = IsAnswer x × (dev.listed ≡ false)
-Comes i k p dev x HadNoPicture = IsAnswer x
+Comes i k p dev x HadNoPicture = IsAnswer x × StartsNothing k p dev
 Comes i k p dev x WasHeld = IsAnswer x × ((j : ℕ) × (dev.holder ≡ Some j) × (j ≢ i))
 Comes i k p dev x Disallowed = IsAnswer x × ((c : Challenge) × (p.session.awaited ≡ Some c) × (p.session.job.allows c ≡ false))
 Comes i k p dev x TrayWasEmpty = IsAnswer x × (dev.tray ≡ [])
 Comes i k p dev x TrayRanOut = Unit {0}
 Comes i k p dev x ClientOutOfMemory = x ≡ Actions.RunsOutOfMemory
 
-grounds : (i : ℕ) (k : Make) (ds : List ℕ) (p : JobState) (dev : AbstractDevice) (challenge : Challenge) (fault : Option FailureCounts) (c : Cause) → HasGround i k dev p.session.awaited (environment_of p.session ds challenge fault) c → Comes i k p dev (Actions.Answers challenge fault) c
-grounds i k ds p dev challenge fault GaveUp g = absurd g
-grounds i k ds p dev challenge fault LinkLost g = absurd g
-grounds i k ds p dev challenge fault LinkOutOfMemory g = tt
-grounds i k ds p dev challenge fault SourceFailed g = inl (challenge, fault, refl)
-grounds i k ds p dev challenge fault NamesEof g = absurd g
-grounds i k ds p dev challenge fault (Names status) g = absurd g
-grounds i k ds p dev challenge fault Unforced g = absurd g
-grounds i k ds p dev challenge fault WasUnlisted g = ((challenge, fault, refl), g)
-grounds i k ds p dev challenge fault HadNoPicture g = (challenge, fault, refl)
-grounds i k ds p dev challenge fault WasHeld g = ((challenge, fault, refl), g)
-grounds i k ds p dev challenge fault Disallowed g = ((challenge, fault, refl), g)
-grounds i k ds p dev challenge fault TrayWasEmpty g = ((challenge, fault, refl), g.0)
-grounds i k ds p dev challenge fault TrayRanOut g = tt
-grounds i k ds p dev challenge fault ClientOutOfMemory g = absurd g
+grounds : (i : ℕ) (k : Make) (ds : List ℕ) (p : JobState) (dev : AbstractDevice) (challenge : Challenge) (fault : Option FailureCounts) (q : AbstractRequest) (rest : List AbstractRequest) → MayFail k fault → p.todo ≡ q ∷ rest → (c : Cause) → StartIf q c → HasGround i k dev p.session.awaited (environment_of p.session ds challenge fault) c → Comes i k p dev (Actions.Answers challenge fault) c
+grounds i k ds p dev challenge fault q rest may todo GaveUp start g = absurd g
+grounds i k ds p dev challenge fault q rest may todo LinkLost start g = absurd g
+grounds i k ds p dev challenge fault q rest may todo LinkOutOfMemory start g = tt
+grounds i k ds p dev challenge fault q rest may todo SourceFailed start g = (inl (challenge, fault, refl), (subst (λ (o : Option FailureCounts). MayFail k o) g.1 may).0)
+grounds i k ds p dev challenge fault q rest may todo NamesEof start g = absurd g
+grounds i k ds p dev challenge fault q rest may todo (Names status) start g = absurd g
+grounds i k ds p dev challenge fault q rest may todo Unforced start g = absurd g
+grounds i k ds p dev challenge fault q rest may todo WasUnlisted start g = ((challenge, fault, refl), g)
+grounds i k ds p dev challenge fault q rest may todo HadNoPicture start g = ((challenge, fault, refl), (rest, todo ∙ ap (λ (x : AbstractRequest). x ∷ rest) (start refl), (g.0, g.1, g.3, g.4)))
+grounds i k ds p dev challenge fault q rest may todo WasHeld start g = ((challenge, fault, refl), g)
+grounds i k ds p dev challenge fault q rest may todo Disallowed start g = ((challenge, fault, refl), g)
+grounds i k ds p dev challenge fault q rest may todo TrayWasEmpty start g = ((challenge, fault, refl), g.0)
+grounds i k ds p dev challenge fault q rest may todo TrayRanOut start g = tt
+grounds i k ds p dev challenge fault q rest may todo ClientOutOfMemory start g = absurd g
 
-all_grounds : (i : ℕ) (k : Make) (ds : List ℕ) (p : JobState) (dev : AbstractDevice) (challenge : Challenge) (fault : Option FailureCounts) (cs : List Cause) → HaveGrounds i k dev p.session.awaited (environment_of p.session ds challenge fault) cs → AllByRecursion (Comes i k p dev (Actions.Answers challenge fault)) cs
-all_grounds i k ds p dev challenge fault [] g = tt
-all_grounds i k ds p dev challenge fault (c ∷ cs) g = (grounds i k ds p dev challenge fault c g.0, all_grounds i k ds p dev challenge fault cs g.1)
+all_grounds : (i : ℕ) (k : Make) (ds : List ℕ) (p : JobState) (dev : AbstractDevice) (challenge : Challenge) (fault : Option FailureCounts) (q : AbstractRequest) (rest : List AbstractRequest) → MayFail k fault → p.todo ≡ q ∷ rest → (cs : List Cause) → AllByRecursion (StartIf q) cs → HaveGrounds i k dev p.session.awaited (environment_of p.session ds challenge fault) cs → AllByRecursion (Comes i k p dev (Actions.Answers challenge fault)) cs
+all_grounds i k ds p dev challenge fault q rest may todo [] start g = tt
+all_grounds i k ds p dev challenge fault q rest may todo (c ∷ cs) start g = (grounds i k ds p dev challenge fault q rest may todo c start.0 g.0, all_grounds i k ds p dev challenge fault q rest may todo cs start.1 g.1)
 
-next_comes : CausesAreGrounded → (i : ℕ) (k : Make) (ds : List ℕ) (p : JobState) (dev : AbstractDevice) (challenge : Challenge) (fault : Option FailureCounts) (qs : List AbstractRequest) → AllByRecursion (Comes i k p dev (Actions.Answers challenge fault)) (causes_next i k ds p dev challenge fault qs)
-next_comes so i k ds p dev challenge fault [] = tt
-next_comes so i k ds p dev challenge fault (q ∷ rest) = all_grounds i k ds p dev challenge fault (served_by i k ds p dev challenge fault q).causes (so i k dev p.session.transfer p.session.awaited (environment_of p.session ds challenge fault) q)
+next_comes : CausesAreGrounded → (i : ℕ) (k : Make) (ds : List ℕ) (p : JobState) (dev : AbstractDevice) (challenge : Challenge) (fault : Option FailureCounts) (qs : List AbstractRequest) → MayFail k fault → p.todo ≡ qs → AllByRecursion (Comes i k p dev (Actions.Answers challenge fault)) (causes_next i k ds p dev challenge fault qs)
+next_comes so i k ds p dev challenge fault [] may todo = tt
+next_comes so i k ds p dev challenge fault (q ∷ rest) may todo =
+    let x = environment_of p.session ds challenge fault in
+    all_grounds i k ds p dev challenge fault q rest may todo (served_by i k ds p dev challenge fault q).causes (answers_start i k dev p.session.transfer p.session.awaited x q) (so i k dev p.session.transfer p.session.awaited x q)
 
 pub all_come : CausesAreGrounded → (i : ℕ) (k : Make) (ds : List ℕ) (p : JobState) (dev : AbstractDevice) (x : Action) → IsActionEnabled i k p dev x → AllByRecursion (Comes i k p dev x) (causes_by i k ds p dev x)
 all_come so i k ds p dev Actions.Connects may = tt
-all_come so i k ds p dev (Actions.Answers challenge fault) may = next_comes so i k ds p dev challenge fault p.todo
+all_come so i k ds p dev (Actions.Answers challenge fault) may = next_comes so i k ds p dev challenge fault p.todo may.2 refl
 all_come so i k ds p dev (Actions.Hears reply) may = tt
 all_come so i k ds p dev Actions.Dials may = tt
 all_come so i k ds p dev (Actions.Turns bytes) may = tt
 all_come so i k ds p dev Actions.TurnsLast may = tt
 all_come so i k ds p dev (Actions.TurnsNamed status) (f, rest, more, streams, is, a, b) = ((refl, streams.0, streams.1, is), tt)
 all_come so i k ds p dev Actions.TurnsShort (f, rest, more, streams, is) = ((refl, streams.0, streams.1, is), tt)
-all_come so i k ds p dev (Actions.TurnsFault fault) may = (inr (fault, refl), tt)
+all_come so i k ds p dev (Actions.TurnsFault fault) (f, rest, more, streams, (can, counts)) = ((inr (fault, refl), can), tt)
 all_come so i k ds p dev Actions.TurnsOff may = tt
 all_come so i k ds p dev (Actions.Reads bytes) may = tt
 all_come so i k ds p dev (Actions.Finishes status) may = tt

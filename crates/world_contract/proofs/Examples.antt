@@ -13,7 +13,6 @@ use Rattle.device_api.specs.State.{DeviceState, HeldPage, held_from}
 use Rattle.scan_frames.specs.declared.setup.Setup.{Setup}
 use Rattle.device_api.specs.InForce.{Placement}
 use Rattle.device_api.specs.Values.{defaults}
-use Rattle.scan_laws.specs.NearestSet.{PutAllNearest}
 use Rattle.virtual_scanner.specs.New.{new_scanner}
 use Rattle.scan_job.specs.declared.job.Job.{Job}
 use Rattle.scan_job.specs.declared.job.Task.TheVariants as tasks
@@ -29,6 +28,7 @@ use Rattle.scan_world.specs.declared.event.Event.TheVariants.{Load}
 use Rattle.scan_world.specs.JobEvents.{is_done}
 use Rattle.scan_world.specs.Worlds.{WorldCore}
 use Rattle.world_contract.specs.Histories.{HasSteadyPages, History, LedTo, MeetsPremises, and_then, begun}
+use Rattle.world_contract.specs.Settings.{AreSettingsPut}
 use Rattle.world_contract.specs.Page.{AreInForce, IsScan, WasIn}
 use Rattle.world_contract.specs.Page.WasIn.{AtFirst, LaidIn}
 use Rattle.world_contract.specs.Promise.{FileIsKept}
@@ -57,7 +57,7 @@ page_is h name source device page same quiet (AtFirst held there is) =
     ap (λ (x : HeldPage). x.page) one ∙ is
 page_is h name source device page same quiet (LaidIn other there is) = absurd (no_load h.events device.info.name other quiet there)
 
-on_flatbed : (name : List ℕ) (source : SourceState) (placed : List Placement) (setup : Setup) (job : Job) → AreInForce (new_scanner Flatbed name source Little) job placed setup → PutAllNearest (defaults Flatbed Little) job.settings.items placed setup
+on_flatbed : (name : List ℕ) (source : SourceState) (placed : List Placement) (setup : Setup) (job : Job) → AreInForce (new_scanner Flatbed name source Little) job placed setup → AreSettingsPut (defaults Flatbed Little) job.settings.items placed setup
 unfolding defaults
 on_flatbed name source placed setup job h = h
 

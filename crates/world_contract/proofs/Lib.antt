@@ -7,10 +7,13 @@ pub mod Asked
 pub mod Traced
 pub mod OfJobs
 pub mod Pages
+pub mod Fallible
+pub mod Settings
 pub mod Nearest
 pub mod Scanned
 pub mod Slots
 pub mod Options
+pub mod NoPictures
 pub mod Evident
 pub mod Events
 pub mod Along

@@ -17,6 +17,8 @@ use Rattle.device_api.specs.Values.{defaults, option_set, setup_after}
 use Rattle.device_api.proofs.TableLaws.{set_places}
 use Rattle.scan_laws.specs.NearestSet.{PutAllNearest, PutsNearest}
 use Rattle.scan_laws.proofs.NearestSet.{force_nearest, set_nearest, set_refuses_none}
+use Rattle.world_contract.specs.Settings.{AreSettingsPut}
+use Rattle.world_contract.proofs.Settings.{all_nearest, all_put}
 
 -- ---- what is computed is the nearest
 
@@ -24,8 +26,8 @@ forced_by : (r : Option (Setup × List Placement)) (setup : Setup) → option_ma
 forced_by None setup e = absurd (let clash : None ≡ Some setup = e in cc)
 forced_by (Some r) setup e = let same : r.0 ≡ setup = (let both : Some r.0 ≡ Some setup = e in cc) in (r.1, ap (λ (x : Setup). Some (x, r.1)) same)
 
-pub nearest_for : (k : DeviceKind) (order : ByteOrder) (settings : List (List ℕ × List ℕ)) (setup : Setup) → option_map (λ (x : Setup × List Placement). x.0) (in_force k order settings) ≡ Some setup → (placed : List Placement) × PutAllNearest (defaults k order) settings placed setup
-nearest_for k order settings setup e = let f = forced_by (in_force k order settings) setup e in (f.0, force_nearest settings (defaults k order) (setup, f.0) f.1)
+pub nearest_for : (k : DeviceKind) (order : ByteOrder) (settings : List (List ℕ × List ℕ)) (setup : Setup) → option_map (λ (x : Setup × List Placement). x.0) (in_force k order settings) ≡ Some setup → (placed : List Placement) × AreSettingsPut (defaults k order) settings placed setup
+nearest_for k order settings setup e = let f = forced_by (in_force k order settings) setup e in (f.0, all_put settings (defaults k order) f.0 setup (force_nearest settings (defaults k order) (setup, f.0) f.1))
 
 -- ---- and no other
 
@@ -56,5 +58,5 @@ forced_is (setting ∷ settings) s (p ∷ ps) t h =
     ∙ ap (λ (o : Option (Setup × List Placement)). option_map (λ more. (more.0, p ∷ more.1)) o) (forced_is settings p.setup ps t h.1)
 
 -- none is, where the fold gives none
-pub none_nearest : (k : DeviceKind) (order : ByteOrder) (settings : List (List ℕ × List ℕ)) → in_force k order settings ≡ None → (placed : List Placement) (setup : Setup) → PutAllNearest (defaults k order) settings placed setup → ⊥
-none_nearest k order settings none placed setup h = no_some (setup, placed) (sym none ∙ forced_is settings (defaults k order) placed setup h)
+pub none_nearest : (k : DeviceKind) (order : ByteOrder) (settings : List (List ℕ × List ℕ)) → in_force k order settings ≡ None → (placed : List Placement) (setup : Setup) → AreSettingsPut (defaults k order) settings placed setup → ⊥
+none_nearest k order settings none placed setup h = no_some (setup, placed) (sym none ∙ forced_is settings (defaults k order) placed setup (all_nearest settings (defaults k order) placed setup h))

@@ -20,9 +20,10 @@ use Rattle.world_refines.specs.Answering.AnswersSome.{GoesOn, IsOver, BreaksOff,
 use Rattle.world_refines.specs.ClientDeliveries.{Delivers, GhostHears}
 use Rattle.world_refines.specs.GhostEvents.{GhostCan, CanLoad, CanUnplug, GhostConnects, GhostHappens, GhostSends, GhostTakes, HasSomeBytes}
 use Rattle.world_refines.specs.MainTheorem.{GhostComes, GhostComesAll}
+use Rattle.world_refines.proofs.job_events.Constant.{Fixed, stays_fixed}
 use Rattle.world_contract.proofs.Lists.{all_each, all_then}
 use Rattle.world_contract.proofs.Begun.{party_stays}
-use Rattle.world_contract.proofs.Traced.{ByOf, Fixed, StepOf, comes_of, stays_fixed}
+use Rattle.world_contract.proofs.Traced.{ByOf, StepOf, comes_of}
 
 abbrev pub IsOfJob : ℕ → Transition → Type 0
 IsOfJob count (By j x) = j < count
@@ -218,7 +219,7 @@ still_untouched (Unplug name) t steps u a h = keep_by (CanUnplug t name) _ t ste
 pub all_of_jobs : (es : List Event) (t : Ghost) (steps : List Transition) (u : Ghost) → AreUntouched t → GhostComesAll source_state es t steps u → AllByRecursion (IsOfJob t.count) steps
 all_of_jobs [] t steps u a h = none_of t.count steps h.0
 all_of_jobs (e ∷ es) t steps v a (first, more, u, is, one, rest) =
-    let same : u.count ≡ t.count = ap (λ (f : Fixed). f.2) (stays_fixed e t first u one) in
+    let same : u.count ≡ t.count = ap (λ (f : Fixed). f.2) (stays_fixed source_state e t first u one) in
     subst (λ (xs : List Transition). AllByRecursion (IsOfJob t.count) xs) (sym is)
     (all_then (IsOfJob t.count) first more (jobs_of e t first u a one)
     (subst (λ (n : ℕ). AllByRecursion (IsOfJob n) more) same (all_of_jobs es u more v (still_untouched e t first u a one) rest)))

@@ -1,5 +1,5 @@
 -- What events leave of a job that is over, and how they end one that runs.
-use Rattle.std.specs.Prelude.{◌≢◌, ◌==◌, ◌||◌, ◌&&◌, if◌then◌else◌, nat_lt, min, cond, option_map, option_and_then, slice_index_or}
+use Rattle.std.specs.Prelude.{◌≢◌, ◌==◌, ◌||◌, ◌&&◌, if◌then◌else◌, Contains, nat_lt, min, cond, option_map, option_and_then, slice_index_or}
 use Rattle.std.proofs.Common.{◌≡◌, ◌∙◌, ℕ, zero, suc, ◌-◌, ◌≤◌, ◌⊎◌, Bool, true, false, Option, Some, None, List, [], ◌∷◌, slice_get, slice_set, refl, sym, ap, subst, arith, inl, inr}
 use Rattle.page_picture.specs.SourceView.{source_state}
 use Rattle.sane_fixed.specs.declared.status.Status.TheVariants as statuses
@@ -22,13 +22,13 @@ use Rattle.scan_world.specs.declared.event.JobEvent.{JobEvent}
 use Rattle.scan_world.specs.declared.event.JobEvent.TheVariants.{Connect, ToDaemon, ToClient, DataConnect, DataTurn, DataToClient, LoseControl, LoseImage, Cancel}
 use Rattle.scan_world.specs.declared.endpoint.Endpoint.{Endpoint}
 use Rattle.scan_world.specs.Endpoints.{after_link_loss, after_move, finished_page, image_out_of_memory, without_image_link, without_link}
-use Rattle.scan_world.specs.JobEvents.{Can, Does, Happens, SendsRecord, SendsStep, TakesPieceOfData, after_fed, without_ended_image, without_sent}
+use Rattle.scan_world.specs.JobEvents.{job_event_of, Can, Does, Happens, SendsRecord, SendsStep, TakesPieceOfData, after_fed, without_ended_image, without_sent}
 use Rattle.scan_world.specs.JobMoves.{moves_left_of}
 use Rattle.scan_world.specs.Worlds.{AtEndpoint, Leads, Runs, WorldCore}
 use Rattle.scan_world.proofs.Deciding.{can_or_not}
 use Rattle.scan_world.proofs.Events.{linked_by, post_or_none}
 use Rattle.scan_world.proofs.Falling.{never_more}
-use Rattle.world_contract.specs.Calls.{CancelEnds, LossEnds, MovesFall, OverStays, finished_by, moves_answered, outcome_at}
+use Rattle.world_contract.specs.Calls.{CancelEnds, LossEnds, MovesFall, OthersStay, OverStays, finished_by, moves_answered, outcome_at}
 
 abbrev IsOver : Endpoint → Type 0
 IsOver p = is_running p.client.outcome ≡ false
@@ -202,6 +202,54 @@ pub over_stays : (es : List Event) (w v : WorldCore) → Runs source_state es w 
 over_stays es w v run i o e n =
     let s = shown_same (slice_get w.endpoints i) (slice_get v.endpoints i) o (alike_run es w v i run) e n in
     record { outcome = s.outcome; file = s.file; finished = s.finished; pages = s.pages }
+
+-- ---- jobs that no event comes to
+
+set_other : (endpoints : List Endpoint) (i k : ℕ) (q : Endpoint) → k ≢ i → slice_get (slice_set endpoints i q) k ≡ slice_get endpoints k
+set_other [] i k q other = refl
+set_other (x ∷ endpoints) zero zero q other = absurd (other refl)
+set_other (x ∷ endpoints) zero (suc k) q other = refl
+set_other (x ∷ endpoints) (suc i) zero q other = refl
+set_other (x ∷ endpoints) (suc i) (suc k) q other = set_other endpoints i k q (λ same. other (ap (λ (n : ℕ). suc n) same))
+
+other_at : (w : WorldCore) (i : ℕ) (x : JobEvent) (v : WorldCore) (k : ℕ) → k ≢ i → AtEndpoint w i x v → slice_get v.endpoints k ≡ slice_get w.endpoints k
+other_at w i x v k other a = elim (post_or_none w.endpoints i) [
+  | inl there ↦
+      let h = a.happens there.0 there.1 in
+      ap (λ (endpoints : List Endpoint). slice_get endpoints k) h.2 ∙ set_other w.endpoints i k h.0 other
+  | inr beyond ↦ ap (λ (y : WorldCore). slice_get y.endpoints k) (a.beyond beyond)
+]
+
+-- the first of some events, and one of the others
+first_of : (e y : Event) (es : List Event) → e ≡ y → Contains (e ∷ es) y
+first_of e y es same = (0, omega arith, same)
+
+later_of : (e y : Event) (es : List Event) → Contains es y → Contains (e ∷ es) y
+later_of e y es there = (suc there.0, omega (arith, there.1), there.2)
+
+abbrev NoneOf : List Event → ℕ → Type 0
+NoneOf es k = (own : JobEvent) → Contains es (job_event_of k own) → ⊥
+
+not_here : (e : Event) (es : List Event) (x : JobEvent) (i k : ℕ) → e ≡ job_event_of i x → NoneOf (e ∷ es) k → k ≢ i
+not_here e es x i k is none = λ same. none x (first_of e (job_event_of k x) es (is ∙ ap (λ (n : ℕ). job_event_of n x) (sym same)))
+
+other_led : (event : Event) (es : List Event) (w v : WorldCore) (k : ℕ) → NoneOf (event ∷ es) k → Leads source_state event w v → slice_get v.endpoints k ≡ slice_get w.endpoints k
+other_led (events.Connect i) es w v k none l = other_at w i Connect v k (not_here (events.Connect i) es Connect i k refl none) l
+other_led (events.ToDaemon i n) es w v k none l = other_at w i (ToDaemon n) v k (not_here (events.ToDaemon i n) es (ToDaemon n) i k refl none) l
+other_led (events.ToClient i n) es w v k none l = other_at w i (ToClient n) v k (not_here (events.ToClient i n) es (ToClient n) i k refl none) l
+other_led (events.DataConnect i) es w v k none l = other_at w i DataConnect v k (not_here (events.DataConnect i) es DataConnect i k refl none) l
+other_led (events.DataTurn i) es w v k none l = other_at w i DataTurn v k (not_here (events.DataTurn i) es DataTurn i k refl none) l
+other_led (events.DataToClient i n) es w v k none l = other_at w i (DataToClient n) v k (not_here (events.DataToClient i n) es (DataToClient n) i k refl none) l
+other_led (events.LoseControl i) es w v k none l = other_at w i LoseControl v k (not_here (events.LoseControl i) es LoseControl i k refl none) l
+other_led (events.LoseImage i) es w v k none l = other_at w i LoseImage v k (not_here (events.LoseImage i) es LoseImage i k refl none) l
+other_led (events.Cancel i) es w v k none l = other_at w i Cancel v k (not_here (events.Cancel i) es Cancel i k refl none) l
+other_led (events.Load name page) es w v k none l = ap (λ (y : WorldCore). slice_get y.endpoints k) l
+other_led (events.Unplug name) es w v k none l = ap (λ (y : WorldCore). slice_get y.endpoints k) l
+
+pub other_jobs_stay : (es : List Event) (w v : WorldCore) → Runs source_state es w v → OthersStay es w v
+other_jobs_stay [] w v e k none = ap (λ (y : WorldCore). slice_get y.endpoints k) e
+other_jobs_stay (e ∷ es) w v (u, one, rest) k none =
+    other_jobs_stay es u v rest k (λ own there. none own (later_of e (job_event_of k own) es there)) ∙ other_led e es w u k none one
 
 -- ---- moves never come back
 

@@ -16,6 +16,7 @@ use Rattle.system_model.specs.Devices.{Make, OptionsInForce}
 use Rattle.system_model.specs.AbstractInForce as ruled
 use Rattle.world_refines.specs.NewWorlds.{make_of}
 use Rattle.world_contract.specs.Reports.{AreSettingsAnswered, AreSettingsReported, IsSettingReported}
+use Rattle.world_contract.proofs.Settings.{all_put}
 use Rattle.world_contract.proofs.Placed.{View, given_at, given_by, same_given, view_in, view_of}
 use Rattle.world_contract.proofs.Along.{same_pairs}
 
@@ -53,10 +54,10 @@ viewed : (r : Option (Setup × List Placement)) (o : Setup) (given : List (Value
 viewed None o given e = absurd (let clash : Some (o, given) ≡ None = e in cc)
 viewed (Some x) o given e = let both : Some (o, given) ≡ Some (x.0, map given_at x.1) = e in let same : (o, given) ≡ (x.0, map given_at x.1) = cc in (x, refl, sym (ap (λ (v : View). v.1) same))
 
-pub answered : (device : DeviceState) (job : Job) (options : OptionsInForce) (rs : List words.Report) (qs : List Report) → ruled.abstract_in_force (make_of (Some device)) (map requested_setting job.settings.items) ≡ Some (record { options = options; reports = rs }) → map common_abstract_report rs ≡ map common_report qs →
-    ruled.AreAnswered (make_of (Some device)) (map requested_setting job.settings.items) rs → AreSettingsAnswered device job qs
-answered device job options rs qs forced are a =
-    let k = make_of (Some device) in
+pub answered : (b : Bool) (device : DeviceState) (job : Job) (options : OptionsInForce) (rs : List words.Report) (qs : List Report) → ruled.abstract_in_force (make_of b (Some device)) (map requested_setting job.settings.items) ≡ Some (record { options = options; reports = rs }) → map common_abstract_report rs ≡ map common_report qs →
+    ruled.AreAnswered (make_of b (Some device)) (map requested_setting job.settings.items) rs → AreSettingsAnswered device job qs
+answered b device job options rs qs forced are a =
+    let k = make_of b (Some device) in
     let settings = job.settings.items in
     let same : Some (options, map given_by rs) ≡ view_of (devices.in_force k.model k.order settings) =
     ap view_in (sym forced) ∙ same_given k (map requested_setting settings) ∙ ap (λ (x : List (List ℕ × List ℕ)). view_of (devices.in_force k.model k.order x)) (same_pairs settings) in
@@ -64,6 +65,6 @@ answered device job options rs qs forced are a =
     record {
       setup = v.0.0;
       placed = v.0.1;
-      in_force = force_nearest settings (defaults k.model k.order) v.0 v.1;
+      in_force = all_put settings (defaults k.model k.order) v.0.1 v.0.0 (force_nearest settings (defaults k.model k.order) v.0 v.1);
       reported = all_reported k settings v.0.1 rs qs v.2 are a;
     }

@@ -24,6 +24,7 @@ use Rattle.world_refines.specs.GhostStates.{Ghost, place_or_length, job_state, p
 use Rattle.world_refines.specs.NewWorlds.{info_of_state, make_of, initial_ghost}
 use Rattle.world_refines.specs.WorldPromises.{IsMeant}
 use Rattle.world_refines.specs.MainTheorem.{AllIsKept, PromisesAreKept}
+use Rattle.world_refines.proofs.job_events.Constant.{Fixed, all_fixed, makes_stay}
 use Rattle.world_refines.proofs.state.Infos.{is_name, name_here}
 use Rattle.world_contract.proofs.Nearest.{nearest_for}
 use Rattle.world_contract.specs.Histories.{History, LedTo, MeetsPremises}
@@ -31,18 +32,19 @@ use Rattle.world_contract.specs.Page.{IsScan}
 use Rattle.world_contract.proofs.Jobs.{IsJob, are_steady}
 use Rattle.world_contract.proofs.Lists.{at_all, contains_at}
 use Rattle.world_contract.proofs.Marked.{starts_there}
-use Rattle.world_contract.proofs.Begun.{all_begun, makes_stay, wants_all}
+use Rattle.world_contract.proofs.Begun.{all_begun, wants_all}
+use Rattle.world_contract.proofs.Fallible.{is_fallible, loads_fit, make_at, only_there}
 use Rattle.world_contract.proofs.Pages.{HasDevice, IsBegun, IsOfDevice, all_loads, all_of_one, first_slot, name_there}
 use Rattle.world_contract.proofs.OfJobs.{AreUntouched, all_of_jobs, no_image_at_first}
-use Rattle.world_contract.proofs.Traced.{Fixed, all_fixed, each_of, traced}
+use Rattle.world_contract.proofs.Traced.{each_of, traced}
 
 -- ---- what all that happened stands for
 
 abbrev pub at_first : (h : History) (w : WorldCore) (job : Job) → LedTo h w → Ghost
-at_first h w job l = initial_ghost h.jobs job h.devices l.first.daemon.users l.first.endpoints
+at_first h w job l = initial_ghost (is_fallible h) h.jobs job h.devices l.first.daemon.users l.first.endpoints
 
 abbrev pub kept_by : AllIsKept → (h : History) (w : WorldCore) (job : Job) (l : LedTo h w) → MeetsPremises h → PromisesAreKept source_state h.events (at_first h w job l) l.first w
-kept_by all h w job l is = all source_state h.events h.jobs job h.devices l.first w l.endpoints l.daemon l.names (are_steady h w l is) l.fit is.loads l.runs
+kept_by all h w job l is = all source_state h.events (is_fallible h) h.jobs job h.devices l.first w l.endpoints l.daemon l.names (are_steady h w l is) l.fit is.loads (only_there h) (loads_fit h) l.runs
 
 pub untouched_at_first : (h : History) (w : WorldCore) (job : Job) (l : LedTo h w) → AreUntouched (at_first h w job l)
 untouched_at_first h w job l = λ j n. record { linked = refl; quiet = refl; no_image = no_image_at_first (slice_get l.first.endpoints j) }
@@ -63,7 +65,7 @@ begun_there notes h w job l k i =
 
 pub job_there : (h : History) (w : WorldCore) (job : Job) (l : LedTo h w) (k : PromisesAreKept source_state h.events (at_first h w job l) l.first w) (i : ℕ) → slice_get h.jobs i ≡ Some job → k.run.ghost_then.jobs i ≡ job
 job_there h w job l k i at =
-    ap (λ (f : Fixed). f.3 i) (all_fixed h.events (at_first h w job l) k.run.steps k.run.ghost_then k.run.comes) ∙ get_or_from_slice_get h.jobs i job job at
+    ap (λ (f : Fixed). f.3 i) (all_fixed source_state h.events (at_first h w job l) k.run.steps k.run.ghost_then k.run.comes) ∙ get_or_from_slice_get h.jobs i job job at
 
 abbrev pub infos_of : History → List DeviceInfo
 infos_of h = map info_of_state h.devices
@@ -71,13 +73,13 @@ infos_of h = map info_of_state h.devices
 pub wants_there : (h : History) (w : WorldCore) (job : Job) (l : LedTo h w) (i : ℕ) → slice_get h.jobs i ≡ Some job → wanted_place (at_first h w job l).system i ≡ place_named (infos_of h) job.device
 wants_there h w job l i at = ap (λ (j : Job). place_named (infos_of h) j.device) (get_or_from_slice_get h.jobs i job job at)
 
-pub make_there : (h : History) (w : WorldCore) (job : Job) (l : LedTo h w) (k : PromisesAreKept source_state h.events (at_first h w job l) l.first w) (i : ℕ) → slice_get h.jobs i ≡ Some job → make_for k.run.ghost_then.system i ≡ make_of (slice_get h.devices (place_named (infos_of h) job.device))
+pub make_there : (h : History) (w : WorldCore) (job : Job) (l : LedTo h w) (k : PromisesAreKept source_state h.events (at_first h w job l) l.first w) (i : ℕ) → slice_get h.jobs i ≡ Some job → make_for k.run.ghost_then.system i ≡ make_at h (place_named (infos_of h) job.device)
 make_there h w job l k i at =
     let t = at_first h w job l in
     let steps = k.run.steps in
     ap (λ (s : SystemState). make_for s i) k.run.rules_are
     ∙ (ap (λ (m : ℕ → Make). m (wanted_place (after_all t.system steps) i)) (makes_stay t.system steps)
-    ∙ ap (λ (d : ℕ). make_of (slice_get h.devices d)) (wants_all steps t.system i ∙ wants_there h w job l i at))
+    ∙ ap (λ (d : ℕ). make_at h d) (wants_all steps t.system i ∙ wants_there h w job l i at))
 
 end_none : {X : Type 0} (xs : List X) → slice_get xs (length xs) ≡ None
 end_none [] = refl
@@ -100,11 +102,12 @@ name_of h name device at = name_by h name (position (is_name name) (infos_of h))
 
 -- ---- a file that is meant
 
-pub is_scan : (h : History) (job : Job) (begin : Begin) (file : List ℕ) → IsBegun h (place_named (infos_of h) job.device) begin → IsMeant (make_of (slice_get h.devices (place_named (infos_of h) job.device))) job.settings.items begin file → IsScan h job file
+pub is_scan : (h : History) (job : Job) (begin : Begin) (file : List ℕ) → IsBegun h (place_named (infos_of h) job.device) begin → IsMeant (make_at h (place_named (infos_of h) job.device)) job.settings.items begin file → IsScan h job file
 is_scan h job begin file there meant =
     let device = there.0.0 in
     let at = there.0.1 in
-    let m : IsMeant (make_of (Some device)) job.settings.items begin file = subst (λ (o : Option DeviceState). IsMeant (make_of o) job.settings.items begin file) at meant in
+    let b = is_fallible h (place_named (infos_of h) job.device) in
+    let m : IsMeant (make_of b (Some device)) job.settings.items begin file = subst (λ (o : Option DeviceState). IsMeant (make_of b o) job.settings.items begin file) at meant in
     let put = nearest_for device.setup.scene.kind device.setup.order job.settings.items begin.options m.in_force in
     record {
       settled = record {
@@ -123,7 +126,7 @@ is_scan h job begin file there meant =
     }
 
 pub meant_there : (h : History) (w : WorldCore) (i : ℕ) (job : Job) (l : LedTo h w) (k : PromisesAreKept source_state h.events (at_first h w job l) l.first w) (begin : Begin) (file : List ℕ) → slice_get h.jobs i ≡ Some job →
-    IsMeant (make_for k.run.ghost_then.system i) (k.run.ghost_then.jobs i).settings.items begin file → IsMeant (make_of (slice_get h.devices (place_named (infos_of h) job.device))) job.settings.items begin file
+    IsMeant (make_for k.run.ghost_then.system i) (k.run.ghost_then.jobs i).settings.items begin file → IsMeant (make_at h (place_named (infos_of h) job.device)) job.settings.items begin file
 meant_there h w i job l k begin file at m =
     subst (λ (make : Make). IsMeant make job.settings.items begin file) (make_there h w job l k i at)
     (subst (λ (j : Job). IsMeant (make_for k.run.ghost_then.system i) j.settings.items begin file) (job_there h w job l k i at) m)

@@ -19,6 +19,7 @@ use Rattle.page_picture.specs.SourceView.{source_state}
 use Rattle.world_contract.specs.Histories.{History, LedTo}
 use Rattle.world_contract.specs.Marks.{HasMarks, IsOfStart, starts_by}
 use Rattle.world_contract.specs.Laws.{Below, MarksFollow}
+use Rattle.world_contract.proofs.Fallible.{is_fallible, make_at}
 use Rattle.world_contract.proofs.Jobs.{IsJob}
 use Rattle.world_contract.proofs.Along.{get_at}
 use Rattle.world_contract.proofs.Lists.{contains_at}
@@ -47,13 +48,13 @@ marks_at_place h w job l k d device at =
         marks = all_marks d t.system steps;
         shows = all_shows t.infos device.info.name d (name_there h.devices d device at) h.events steps t.system (traced h.events t steps k.run.ghost_then k.run.comes);
         last = last;
-        legal = subst (λ (o : Option DeviceState). MarksLead (device_view (make_of o) (fresh_device o)) (all_marks d t.system steps) last) at (k.run.marks d);
+        legal = subst (λ (o : Option DeviceState). MarksLead (device_view (make_of (is_fallible h d) o) (fresh_device o)) (all_marks d t.system steps) last) at (k.run.marks d);
       },
       refl,
     )
 
 of_start : Below → (h : History) (w : WorldCore) (i n : ℕ) (job : Job) (l : LedTo h w) (k : PromisesAreKept source_state h.events (at_first h w job l) l.first w) (begin : Begin) (file : List ℕ) → slice_get h.jobs i ≡ Some job → slice_get (job_state k.run.ghost_then i).session.started n ≡ Some begin →
-    IsMeant (make_of (slice_get h.devices (place_named (infos_of h) job.device))) job.settings.items begin file → IsOfStart h i n job file
+    IsMeant (make_at h (place_named (infos_of h) job.device)) job.settings.items begin file → IsOfStart h i n job file
 of_start below h w i n job l k begin file at started meant =
     let t = at_first h w job l in
     let steps = k.run.steps in
@@ -63,7 +64,8 @@ of_start below h w i n job l k begin file at started meant =
     let there : HasDevice h d = (at_all (IsBegun h d) (job_state k.run.ghost_then i).session.started n begin begun started).0 in
     let device = there.0 in
     let has = marks_at_place h w job l k d device there.1 in
-    let m : IsMeant (make_of (Some device)) job.settings.items begin file = subst (λ (o : Option DeviceState). IsMeant (make_of o) job.settings.items begin file) there.1 meant in
+    let b = is_fallible h d in
+    let m : IsMeant (make_of b (Some device)) job.settings.items begin file = subst (λ (o : Option DeviceState). IsMeant (make_of b o) job.settings.items begin file) there.1 meant in
     let put = nearest_for device.setup.scene.kind device.setup.order job.settings.items begin.options m.in_force in
     let starts : (job_state k.run.ghost_then i).session.started ≡ starts_by i has.0.marks =
     ap (λ (s : SystemState). (s.job i).session.started) k.run.rules_are ∙ (all_started below.notes steps t.system i ∙ (ap (λ (x : ℕ). starts_by i (all_marks x t.system steps)) place ∙ ap (starts_by i) (sym has.1))) in

@@ -20,6 +20,7 @@ use Rattle.world_refines.specs.ClientDeliveries.{Delivers, GhostHears}
 use Rattle.world_refines.specs.GhostEvents.{GhostCan, CanLoad, CanUnplug, GhostConnects, GhostHappens, IsRecordOf, GhostSends, GhostTakes}
 use Rattle.world_refines.specs.DataDeliveries.{ReadsBytes, GhostReadsEnd, ReadsShort, GhostSees, by_all, read_actions}
 use Rattle.world_refines.specs.MainTheorem.{GhostComes, GhostComesAll}
+use Rattle.world_refines.proofs.job_events.Constant.{Fixed, stays_fixed}
 use Rattle.world_contract.proofs.Lists.{In, all_each, all_then}
 
 -- what an event of a job may do by the rules
@@ -175,65 +176,6 @@ comes_of (Cancel i) t steps u h = either_way _ (GhostCan t i events.Cancel) _ t 
 comes_of (Load name source) t steps u h = either_way _ (CanLoad t name) _ t steps u (λ d. steps_by (StepOf t.infos (Load name source)) steps (Loads d.place (source_state source).page ∷ []) d.steps_are ((d.named, refl), tt)) h
 comes_of (Unplug name) t steps u h = either_way _ (CanUnplug t name) _ t steps u (λ d. steps_by (StepOf t.infos (Unplug name)) steps (Unplugs d.place ∷ []) d.steps_are (d.named, tt)) h
 
--- ---- what never changes
-
-abbrev pub Fixed : Type 0
-Fixed = List Entry × List DeviceInfo × ℕ × (ℕ → Job)
-
-abbrev pub fixed_of : Ghost → Fixed
-fixed_of t = (t.users, t.infos, t.count, t.jobs)
-
-fixed_way : (May What : Type 0) (t : Ghost) (steps : List Transition) (u : Ghost) → (What → fixed_of u ≡ fixed_of t) → GhostHappens May What t steps u → fixed_of u ≡ fixed_of t
-fixed_way May What t steps u done h = by_case h.either
-  where
-    by_case : May ⊎ (May → ⊥) → fixed_of u ≡ fixed_of t
-    by_case (inl m) = done (h.does m)
-    by_case (inr n) = ap fixed_of (h.cannot n).1
-
-takes : (t : Ghost) (i : ℕ) (steps : List Transition) (x : Wires) (u : Ghost) → GhostTakes t i steps x u → fixed_of u ≡ fixed_of t
-takes t i steps x u h = ap fixed_of h.then_is
-
-delivers : (t : Ghost) (i n : ℕ) (telling text : List ℕ) (steps : List Transition) (u : Ghost) → Delivers t i n telling text steps u → fixed_of u ≡ fixed_of t
-delivers t i n telling text steps u h = ap fixed_of h.then_is
-
-fixed_connects : (t : Ghost) (i : ℕ) (steps : List Transition) (u : Ghost) → GhostConnects t i steps u → fixed_of u ≡ fixed_of t
-fixed_connects t i steps u (inl h) = takes t i steps _ u h.1
-fixed_connects t i steps u (inr h) = takes t i steps _ u h.1
-
-fixed_sends : (t : Ghost) (i : ℕ) (deed : deeds.Action) (text : List ℕ) (steps : List Transition) (u : Ghost) → GhostSends t i deed text steps u → fixed_of u ≡ fixed_of t
-fixed_sends t i deed text steps u (inl h) = takes t i steps _ u h.1
-fixed_sends t i deed text steps u (inr h) = takes t i steps _ u h.1
-
-fixed_answers : (n : ℕ) (t : Ghost) (i : ℕ) (steps : List Transition) (u : Ghost) → AnswersSome n t i steps u → fixed_of u ≡ fixed_of t
-fixed_answers n t i steps u (GoesOn asked rest said a b c h on) = takes t i steps _ u h
-fixed_answers n t i steps u (IsOver asked rest said a b h was over) = takes t i steps _ u h
-fixed_answers n t i steps u (BreaksOff memory asked rest said before a b c h) = takes t i steps _ u h
-fixed_answers n t i steps u (WasOver a b h) = takes t i [] _ u h
-
-fixed_hears : (n : ℕ) (t : Ghost) (i : ℕ) (steps : List Transition) (u : Ghost) → GhostHears n t i steps u → fixed_of u ≡ fixed_of t
-fixed_hears n t i steps u (inl h) = takes t i steps _ u h.takes
-fixed_hears n t i steps u (inr (under, inl h)) = delivers t i n h.telling [] steps u h.delivers
-fixed_hears n t i steps u (inr (under, inr (inl h))) = delivers t i n [] h.text steps u h.delivers
-fixed_hears n t i steps u (inr (under, inr (inr (inl h)))) = delivers t i n h.telling [] steps u h.delivers
-fixed_hears n t i steps u (inr (under, inr (inr (inr h)))) = delivers t i n h.telling h.text steps u h.delivers
-
-pub stays_fixed : (e : Event) (t : Ghost) (steps : List Transition) (u : Ghost) → GhostComes source_state e t steps u → fixed_of u ≡ fixed_of t
-stays_fixed (Connect i) t steps u h = fixed_way (GhostCan t i events.Connect) _ t steps u (fixed_connects t i steps u) h
-stays_fixed (ToDaemon i n) t steps u h = fixed_way (GhostCan t i (events.ToDaemon n)) _ t steps u (fixed_answers n t i steps u) h
-stays_fixed (ToClient i n) t steps u h = fixed_way (GhostCan t i (events.ToClient n)) _ t steps u (fixed_hears n t i steps u) h
-stays_fixed (DataConnect i) t steps u h = fixed_way (GhostCan t i events.DataConnect) _ t steps u (λ d. takes t i steps _ u d.1) h
-stays_fixed (DataTurn i) t steps u h = fixed_way (GhostCan t i events.DataTurn) _ t steps u (λ d. fixed_sends t i d.action d.text steps u d.sends) h
-stays_fixed (DataToClient i n) t steps u h = fixed_way (GhostCan t i (events.DataToClient n)) _ t steps u (λ d. ap fixed_of d.then_is) h
-stays_fixed (LoseControl i) t steps u h = fixed_way (GhostCan t i events.LoseControl) _ t steps u (λ d. takes t i steps _ u d.1) h
-stays_fixed (LoseImage i) t steps u h = fixed_way (GhostCan t i events.LoseImage) _ t steps u (λ d. takes t i steps _ u d.1) h
-stays_fixed (Cancel i) t steps u h = fixed_way (GhostCan t i events.Cancel) _ t steps u (λ d. takes t i steps _ u d.takes) h
-stays_fixed (Load name page) t steps u h = fixed_way (CanLoad t name) _ t steps u (λ d. ap fixed_of d.then_is) h
-stays_fixed (Unplug name) t steps u h = fixed_way (CanUnplug t name) _ t steps u (λ d. ap fixed_of d.then_is) h
-
-pub all_fixed : (es : List Event) (t : Ghost) (steps : List Transition) (u : Ghost) → GhostComesAll source_state es t steps u → fixed_of u ≡ fixed_of t
-all_fixed [] t steps u h = ap fixed_of h.1
-all_fixed (e ∷ es) t steps v (first, more, u, is, one, rest) = all_fixed es u more v rest ∙ stays_fixed e t first u one
-
 -- ---- the steps of all events, one behind the other
 
 abbrev pub Traced : List DeviceInfo → List Event → List Transition → Type 0
@@ -243,7 +185,7 @@ Traced infos (e ∷ es) steps = (first more : List Transition) × (steps ≡ fir
 pub traced : (es : List Event) (t : Ghost) (steps : List Transition) (u : Ghost) → GhostComesAll source_state es t steps u → Traced t.infos es steps
 traced [] t steps u h = h.0
 traced (e ∷ es) t steps v (first, more, u, is, one, rest) =
-    (first, more, is, comes_of e t first u one, subst (λ (infos : List DeviceInfo). Traced infos es more) (ap (λ (f : Fixed). f.1) (stays_fixed e t first u one)) (traced es u more v rest))
+    (first, more, is, comes_of e t first u one, subst (λ (infos : List DeviceInfo). Traced infos es more) (ap (λ (f : Fixed). f.1) (stays_fixed source_state e t first u one)) (traced es u more v rest))
 
 -- each of them is of one of the events
 pub record IsOfSome (infos : List DeviceInfo) (es : List Event) (x : Transition) : Type 0 where

@@ -1,5 +1,5 @@
 -- What the calls of a world answer, and what each promises, for whatever history led to the world.
-use Rattle.std.specs.Prelude.{ℕ, ◌≡◌, ◌≢◌, ◌⊎◌, ◌<◌, ◌≤◌, Bool, false, min, Option, Some, None, option_map, option_and_then, List, [], ◌∷◌, length, slice_get}
+use Rattle.std.specs.Prelude.{ℕ, ◌≡◌, ◌≢◌, ◌⊎◌, ◌<◌, ◌≤◌, Bool, false, min, Option, Some, None, option_map, option_and_then, List, [], ◌∷◌, Contains, length, slice_get}
 use Rattle.std.specs.List.{AllByRecursion}
 use Rattle.scan_job.specs.declared.job.Job.{Job}
 use Rattle.scan_job.specs.declared.outcome.Outcome.{Outcome}
@@ -9,8 +9,10 @@ use Rattle.sane_fixed.specs.declared.status.Status.TheVariants as statuses
 use Rattle.saned_core.specs.DaemonStates.{Core}
 use Rattle.scan_world.specs.declared.event.Event.{Event}
 use Rattle.scan_world.specs.declared.event.Event.TheVariants.{Cancel, Load, LoseControl, Unplug}
+use Rattle.scan_world.specs.declared.event.JobEvent.{JobEvent}
 use Rattle.scan_world.specs.declared.endpoint.Endpoint.{Endpoint}
 use Rattle.scan_world.specs.Endpoints.{finished_page}
+use Rattle.scan_world.specs.JobEvents.{job_event_of}
 use Rattle.scan_world.specs.JobMoves.{IsNextMove, moves_left_of}
 use Rattle.scan_world.specs.Rounds.{total_left}
 use Rattle.scan_world.specs.Worlds.{WorldCore}
@@ -119,6 +121,10 @@ pub record JobStays (w v : WorldCore) (i : ℕ) : Type 0 where
 -- so does each that is over
 abbrev pub OverStays : WorldCore → WorldCore → Type 0
 OverStays w v = (i : ℕ) (outcome : Outcome) → outcome_at w i ≡ Some outcome → outcome ≢ Running → JobStays w v i
+
+-- a job that no event came to is as it was: so out of memory, too, it is told only behind an event of its own
+abbrev pub OthersStay : List Event → WorldCore → WorldCore → Type 0
+OthersStay events w v = (i : ℕ) → ((own : JobEvent) → Contains events (job_event_of i own) → ⊥) → slice_get v.endpoints i ≡ slice_get w.endpoints i
 
 -- no event brings moves back
 abbrev pub MovesFall : WorldCore → WorldCore → Type 0

@@ -9,20 +9,20 @@ use Rattle.page_picture.specs.declared.scene.DeviceKind.TheVariants.{Flatbed}
 use Rattle.scan_frames.specs.declared.setup.Setup.{Setup}
 use Rattle.device_api.specs.InForce.{Placement}
 use Rattle.device_api.specs.Values.{defaults}
-use Rattle.scan_laws.specs.NearestSet.{PutAllNearest}
 use Rattle.sane_fixed.specs.declared.status.Status.TheVariants.{DeviceBusy}
 use Rattle.scan_job.specs.declared.job.Job.{Job}
 use Rattle.scan_job.specs.declared.outcome.Why.TheVariants.{Answer}
 use Rattle.scan_world.specs.declared.event.Event.{Event}
 use Rattle.scan_world.specs.declared.event.Event.TheVariants.{Connect, ToDaemon, ToClient}
 use Rattle.world_contract.specs.Histories.{History}
+use Rattle.world_contract.specs.Settings.{AreSettingsPut}
 use Rattle.world_contract.specs.Endings.{IsEndingExplained}
 
 -- the bytes are a file of exactly the picture that the job's settings mean on this page, put on a flatbed at its defaults
 pub record IsScanOf (page : PageView) (job : Job) (bytes : List ℕ) : Type 0 where
   pub setup : Setup
   pub placed : List Placement
-  pub in_force : PutAllNearest (defaults Flatbed Little) job.settings.items placed setup
+  pub in_force : AreSettingsPut (defaults Flatbed Little) job.settings.items placed setup
   pub picture : Picture
   pub meant : meaning_of page setup.scene ≡ Some picture
   pub denotes : Denotes bytes picture

@@ -1,4 +1,5 @@
 pub mod Histories
+pub mod Settings
 pub mod Page
 pub mod Reports
 pub mod Endings

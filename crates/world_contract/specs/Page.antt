@@ -10,10 +10,10 @@ use Rattle.scan_frames.specs.declared.setup.Setup.{Setup}
 use Rattle.device_api.specs.State.{DeviceState, HeldPage}
 use Rattle.device_api.specs.InForce.{Placement}
 use Rattle.device_api.specs.Values.{defaults}
-use Rattle.scan_laws.specs.NearestSet.{PutAllNearest}
 use Rattle.scan_job.specs.declared.job.Job.{Job}
 use Rattle.scan_world.specs.declared.event.Event.TheVariants.{Load}
 use Rattle.world_contract.specs.Histories.{History}
+use Rattle.world_contract.specs.Settings.{AreSettingsPut}
 
 -- a page that was in a device as the world was made, or that an event laid into it
 pub data WasIn (h : History) (device : DeviceState) (page : PageView) : Type 0 where
@@ -22,7 +22,7 @@ pub data WasIn (h : History) (device : DeviceState) (page : PageView) : Type 0 w
 
 -- the job's settings are in force on a device: from its defaults on, each in turn was given the nearest admitted value
 abbrev pub AreInForce : DeviceState → Job → List Placement → Setup → Type 0
-AreInForce device job placed setup = PutAllNearest (defaults device.setup.scene.kind device.setup.order) job.settings.items placed setup
+AreInForce device job placed setup = AreSettingsPut (defaults device.setup.scene.kind device.setup.order) job.settings.items placed setup
 
 -- the device that the job names, and the options that its settings put in force there
 pub record Settled (h : History) (job : Job) : Type 0 where

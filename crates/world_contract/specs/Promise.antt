@@ -41,10 +41,8 @@ pub record OutcomeIsKept (h : History) (i : ℕ) (job : Job) (starved : Bool) (o
 pub record FileIsKept (h : History) (job : Job) (starved : Bool) (outcome : Outcome) (file : Option (List ℕ)) : Type 0 where
   -- of a scan that is done: exactly the picture that its settings mean on a page of its device
   pub scanned : (reports : Reports) (bytes : List ℕ) → job.task ≡ tasks.Scan → outcome ≡ Done reports → file ≡ Some bytes → IsScan h job bytes
-  -- of a job that runs, that ended otherwise, or that is no scan: it is not whole
-  pub running : (bytes : List ℕ) → outcome ≡ Running → file ≡ Some bytes → IsWhole bytes → ⊥
-  pub ended : (status : Status) (why : Why) (bytes : List ℕ) → outcome ≡ Ended status why → file ≡ Some bytes → IsWhole bytes → ⊥
-  pub other : (reports : Reports) (bytes : List ℕ) → outcome ≡ Done reports → job.task ≢ tasks.Scan → file ≡ Some bytes → IsWhole bytes → ⊥
+  -- it is whole only of such a scan: of a job that runs, that ended otherwise, or that is no scan it is not
+  pub whole : (bytes : List ℕ) → file ≡ Some bytes → IsWhole bytes → (reports : Reports) × (job.task ≡ tasks.Scan) × (outcome ≡ Done reports)
   -- it is missing only where there was no memory for it
   pub missing : file ≡ None → starved ≡ true
 

@@ -4,7 +4,7 @@ ghost use Rattle.std.specs.Prelude.{List};
 ghost use Rattle.page_picture.specs.SourceView.{source_state};
 ghost use Rattle.scan_world.specs.declared.event.Event.{Event};
 ghost use Rattle.scan_world.specs.Worlds.{Runs, WorldCore};
-ghost use Rattle.world_contract.specs.Calls.{CancelEnds, LossEnds, MovesFall, OverStays};
+ghost use Rattle.world_contract.specs.Calls.{CancelEnds, LossEnds, MovesFall, OthersStay, OverStays};
 ghost use Rattle.world_contract.specs.Laws.{AllFollow, AllIsRight, Below, MarksAreTrue, MarksFollow};
 
 use system_model::{
@@ -56,11 +56,14 @@ pub fn marks_are_true()
     what_stands_below();
 }
 
-/// A job that is over keeps what it shows, moves never come back, and a cancel or a loss ends a job that runs.
+/// A job that is over keeps what it shows, one that no event came to is as it was, moves never come back, and a cancel or a loss
+/// ends a job that runs.
 #[tactic(none)]
 pub fn jobs_end_once()
     ensures over { (events : List Event) (w v : WorldCore)
         → Runs source_state events w v → OverStays w v }
+    ensures others { (events : List Event) (w v : WorldCore)
+        → Runs source_state events w v → OthersStay events w v }
     ensures moves { (events : List Event) (w v : WorldCore)
         → Runs source_state events w v → MovesFall w v }
     ensures cancel { (events : List Event) (w v : WorldCore)

@@ -6,7 +6,7 @@ ghost use Rattle.dispatch.specs.RegistryFault.{AreRegistrable};
 ghost use Rattle.page_picture.specs.SourceView.{source_state};
 ghost use Rattle.scan_world.specs.Worlds.{HasFaultAmong, IsInitialWorld, MayRun, Runs, seen_world};
 ghost use Rattle.world_contract.specs.Histories.{History, LedTo, and_then, begun};
-ghost use Rattle.world_contract.specs.Calls.{CancelEnds, IsMoveAt, KeepsPageCount, KeepsScanFile, KeepsMemory, KeepsMove, KeepsMoves, KeepsOutcome, KeepsPage, KeepsRunning, LossEnds, MovesFall, OverStays, file_answered, finished_at, left_at, outcome_at, page_answered, starved_at};
+ghost use Rattle.world_contract.specs.Calls.{CancelEnds, IsMoveAt, KeepsPageCount, KeepsScanFile, KeepsMemory, KeepsMove, KeepsMoves, KeepsOutcome, KeepsPage, KeepsRunning, LossEnds, MovesFall, OthersStay, OverStays, file_answered, finished_at, left_at, outcome_at, page_answered, starved_at};
 
 use crate::laws::what_stands_below;
 use device_api::Device;
@@ -71,7 +71,8 @@ impl World {
 
 impl World {
     /// Events in this order; one that cannot happen changes nothing. Whatever led to the world, they came behind it. A job that
-    /// is over keeps what it shows, moves never come back, and a cancel or a loss ends a job that runs.
+    /// is over keeps what it shows, one that no event came to is as it was, moves never come back, and a cancel or a loss ends a
+    /// job that runs.
     pub fn run(&mut self, events: Vec<Event>)
         ensures runs { let w = seen_world ⟦<Box<dyn Device> as Device>⟧.state self.old.inner in
             let v = seen_world ⟦<Box<dyn Device> as Device>⟧.state self.new.inner in
@@ -82,6 +83,9 @@ impl World {
         ensures over { let w = seen_world ⟦<Box<dyn Device> as Device>⟧.state self.old.inner in
             let v = seen_world ⟦<Box<dyn Device> as Device>⟧.state self.new.inner in
             OverStays w v }
+        ensures others { let w = seen_world ⟦<Box<dyn Device> as Device>⟧.state self.old.inner in
+            let v = seen_world ⟦<Box<dyn Device> as Device>⟧.state self.new.inner in
+            OthersStay events.items w v }
         ensures moves { let w = seen_world ⟦<Box<dyn Device> as Device>⟧.state self.old.inner in
             let v = seen_world ⟦<Box<dyn Device> as Device>⟧.state self.new.inner in
             MovesFall w v }

@@ -1,5 +1,6 @@
 -- The other events of jobs and devices: connections, losses, cancels, pages laid in, devices taken out.
 pub mod Beginnings
+pub mod Constant
 pub mod Fresh
 pub mod ControlConnections
 pub mod Lost

@@ -4,7 +4,8 @@ use Rattle.sane_fixed.specs.declared.status.Status.{Status as Code}
 use Rattle.sane_fixed.specs.declared.status.Status.TheVariants as codes
 use Rattle.sane_fixed.specs.Status.{status_code}
 use Rattle.data_records.specs.Records.{counted_record, end_record}
-use Rattle.system_model.specs.Devices.{abstract_status}
+use Rattle.sane_fixed.specs.declared.device_info.DeviceInfo.{DeviceInfo}
+use Rattle.system_model.specs.Devices.{abstract_status, Make}
 use Rattle.system_model.specs.Client.{Idle, abstract_farewell}
 use Rattle.system_model.specs.Daemon.{Waiting, Streaming, Ending}
 use Rattle.system_model.specs.Actions as actions
@@ -158,8 +159,12 @@ pub record LaysIn (t : Ghost) (name : List ℕ) (page : Page) (steps : List Tran
   pub legal : IsHistory t.system steps
   pub then_is : u ≡ record t { system = after_all t.system steps }
 
+-- a source that can fail comes to that name only where a source in its place may fail
+abbrev pub MayHaveSource : List DeviceInfo → (ℕ → Make) → List ℕ → SourceState → Type 0
+MayHaveSource infos make name source = (k : ℕ) → name_at infos k ≡ Some name → (make k).fallible ≡ false → source.infallible ≡ true
+
 -- of a page whose source gives its rows at each pass
 abbrev pub LoadsFollow : Type 0
 LoadsFollow =
-    (t : Ghost) (w : WorldCore) (name : List ℕ) (source : SourceState) → source.steady ≡ true → IsPageView source.page → WorldRefines t w →
+    (t : Ghost) (w : WorldCore) (name : List ℕ) (source : SourceState) → source.steady ≡ true → MayHaveSource t.infos t.system.make name source → IsPageView source.page → WorldRefines t w →
     GhostLeadsTo (CanLoad t name) (LaysIn t name source.page) t (record w { daemon = core_after_load w.daemon name source })

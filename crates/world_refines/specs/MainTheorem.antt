@@ -1,5 +1,5 @@
 -- What a list of events does to what stands, in whatever order they come, and what is promised behind it.
-use Rattle.std.specs.Prelude.{ℕ, ◌≡◌, ◌≢◌, ◌≤◌, ◌<◌, ◌++◌, true, false, Option, Some, None, IsSome, List, [], ◌∷◌, All, slice_get}
+use Rattle.std.specs.Prelude.{ℕ, ◌≡◌, ◌≢◌, ◌≤◌, ◌<◌, ◌++◌, true, false, Option, Some, None, IsSome, Bool, List, [], ◌∷◌, All, map, slice_get}
 use Rattle.sane_fixed.specs.declared.status.Status.{Status}
 use Rattle.sane_fixed.specs.declared.status.Status.TheVariants.{Good, Eof}
 use Rattle.netpbm.specs.Pnm.{IsWhole}
@@ -13,6 +13,8 @@ use Rattle.scan_job.specs.declared.job.Task.TheVariants as tasks
 use Rattle.scan_job.specs.declared.outcome.Outcome.TheVariants.{Done, Ended}
 use Rattle.scan_job.specs.declared.outcome.Why.{Why}
 use Rattle.scan_job.specs.declared.report.Reports.{Reports}
+use Rattle.sane_fixed.specs.declared.device_info.DeviceInfo.{DeviceInfo}
+use Rattle.system_model.specs.Devices.{Make}
 use Rattle.system_model.specs.Marks.{MarksLead, device_view}
 use Rattle.system_model.specs.MoveRuns.{all_marks}
 use Rattle.system_model.specs.Transitions.{IsHistory, Transition, after_all}
@@ -29,11 +31,11 @@ use Rattle.scan_world.specs.Worlds.{AreNew, IsFitJob, Runs, WorldCore}
 use Rattle.world_refines.specs.GhostStates.{Ghost}
 use Rattle.world_refines.specs.WorldRefinement.{WorldRefines}
 use Rattle.world_refines.specs.Costs.{Pays}
-use Rattle.world_refines.specs.GhostEvents.{GhostCan, CanLoad, CanUnplug, GhostConnects, Dials, GivesUp, GhostHappens, LaysIn, LosesControl, LosesImage, TakesOut, GhostTurns}
+use Rattle.world_refines.specs.GhostEvents.{GhostCan, MayHaveSource, CanLoad, CanUnplug, GhostConnects, Dials, GivesUp, GhostHappens, LaysIn, LosesControl, LosesImage, TakesOut, GhostTurns}
 use Rattle.world_refines.specs.Answering.{AnswersSome}
 use Rattle.world_refines.specs.ClientDeliveries.{GhostHears}
 use Rattle.world_refines.specs.DataDeliveries.{GhostSees}
-use Rattle.world_refines.specs.NewWorlds.{IsNewDaemon, IsSteady, initial_ghost}
+use Rattle.world_refines.specs.NewWorlds.{FailOnlyAt, IsNewDaemon, IsSteady, info_of_state, initial_ghost, make_of}
 use Rattle.world_refines.specs.WorldPromises.{FileIsOfFirstStart, HasScannedPage, PagesAreCounted, IsOutcome}
 
 -- an event takes its steps of the model where it can happen, and changes nothing where it cannot
@@ -64,6 +66,15 @@ abbrev pub AreTrueLoads : (Source → SourceState) → List Event → Type 0
 AreTrueLoads source [] = Unit {0}
 AreTrueLoads source (e ∷ es) = IsTrueLoad source e × AreTrueLoads source es
 
+-- a page whose source can fail comes only into a device of which that is said
+abbrev pub IsFittingLoad : (Source → SourceState) → List DeviceInfo → (ℕ → Make) → Event → Type 0
+IsFittingLoad source infos make (Load name page) = MayHaveSource infos make name (source page)
+IsFittingLoad source infos make e = Unit {0}
+
+abbrev pub AreFittingLoads : (Source → SourceState) → List DeviceInfo → (ℕ → Make) → List Event → Type 0
+AreFittingLoads source infos make [] = Unit {0}
+AreFittingLoads source infos make (e ∷ es) = IsFittingLoad source infos make e × AreFittingLoads source infos make es
+
 -- Whatever a world stands for, what events make of it stands for what they do to that. Their steps are enabled, and so are their marks
 -- at each device: two clients never hold one, a start takes the page that is next, and no page is laid in within a scan.
 pub record RunRefines (source : Source → SourceState) (events : List Event) (t : Ghost) (w v : WorldCore) : Type 0 where
@@ -78,7 +89,7 @@ pub record RunRefines (source : Source → SourceState) (events : List Event) (t
   pub pays : Pays t w → Pays ghost_then v
 
 abbrev pub EventsFollow : Type 0
-EventsFollow = (source : Source → SourceState) (events : List Event) (t : Ghost) (w v : WorldCore) → WorldRefines t w → AreTrueLoads source events → Runs source events w v → RunRefines source events t w v
+EventsFollow = (source : Source → SourceState) (events : List Event) (t : Ghost) (w v : WorldCore) → WorldRefines t w → AreTrueLoads source events → AreFittingLoads source t.infos t.system.make events → Runs source events w v → RunRefines source events t w v
 
 -- ---- the headline
 
@@ -108,5 +119,6 @@ pub record PromisesAreKept (source : Source → SourceState) (events : List Even
 
 abbrev pub AllIsKept : Type 0
 AllIsKept =
-    (source : Source → SourceState) (events : List Event) (jobs : List Job) (other : Job) (devices : List DeviceState) (w v : WorldCore) → AreNew jobs w.endpoints → IsNewDaemon devices w.daemon → HaveOwnNames devices → All IsSteady devices → All IsFitJob jobs → AreTrueLoads source events →
-    Runs source events w v → PromisesAreKept source events (initial_ghost jobs other devices w.daemon.users w.endpoints) w v
+    (source : Source → SourceState) (events : List Event) (fallible : ℕ → Bool) (jobs : List Job) (other : Job) (devices : List DeviceState) (w v : WorldCore) → AreNew jobs w.endpoints → IsNewDaemon devices w.daemon → HaveOwnNames devices → All IsSteady devices → All IsFitJob jobs → AreTrueLoads source events →
+    FailOnlyAt fallible devices → AreFittingLoads source (map info_of_state devices) (λ k. make_of (fallible k) (slice_get devices k)) events →
+    Runs source events w v → PromisesAreKept source events (initial_ghost fallible jobs other devices w.daemon.users w.endpoints) w v

@@ -4,7 +4,8 @@ use Rattle.std.proofs.Common.{◌≡◌, ◌≢◌, ◌⊎◌, inl, inr, ◌∙�
 use Rattle.sane_fixed.specs.declared.status.Status.{Status}
 use Rattle.sane_fixed.specs.declared.status.Status.TheVariants.{Good, Eof}
 use Rattle.page_picture.specs.Source.{SourceState}
-use Rattle.system_model.specs.Devices.{Page}
+use Rattle.sane_fixed.specs.declared.device_info.DeviceInfo.{DeviceInfo}
+use Rattle.system_model.specs.Devices.{Make, Page}
 use Rattle.page_picture.specs.declared.sources.kinds.Source.{Source}
 use Rattle.system_model.specs.Actions.{Action as Ruled}
 use Rattle.scan_job.specs.declared.outcome.Outcome.TheVariants.{Ended}
@@ -28,8 +29,9 @@ use Rattle.world_refines.specs.Answering.{AnswersSome, BreaksOff, GoesOn, IsOver
 use Rattle.world_refines.specs.ClientDeliveries.{Delivers, GhostHears}
 use Rattle.world_refines.specs.DataDeliveries.{GhostSees}
 use Rattle.world_refines.specs.WorldPromises.{HasCause, IsOutcome}
-use Rattle.world_refines.specs.MainTheorem.{AllIsKept, AreTrueLoads, GhostComes, GhostComesAll, EventsFollow, IsTrueLoad}
+use Rattle.world_refines.specs.MainTheorem.{AllIsKept, AreFittingLoads, AreTrueLoads, GhostComes, GhostComesAll, EventsFollow, IsFittingLoad, IsTrueLoad}
 use Rattle.world_refines.proofs.job_events.Beginnings.{new_worlds_stand}
+use Rattle.world_refines.proofs.job_events.Constant.{Fixed, makes_stay, stays_fixed}
 use Rattle.world_refines.proofs.moves.Budgets.{Owns, new_worlds_pay, none_left, pays_at, pays_loads, pays_unplugs, rests_over, same_pays}
 use Rattle.world_refines.proofs.job_events.Cancelling.{cancel_decides}
 use Rattle.world_refines.proofs.requests.Closing.{history_then, steps_then}
@@ -148,31 +150,31 @@ unplugged_pays : (t : Ghost) (w v : WorldCore) (name : List ℕ) → WorldRefine
 unplugged_pays t w v name h endpoints steps u d pays =
     pays_unplugs t u w v d.place h (subst (IsHistory t.system) d.steps_are d.legal).0 (d.then_is ∙ ap (λ (xs : List Transition). record t { system = after_all t.system xs }) d.steps_are) endpoints pays
 
-one_event : (source : Source → SourceState) (e : Event) (t : Ghost) (w v : WorldCore) → WorldRefines t w → IsTrueLoad source e → Leads source e w v → Behind source e t w v
-one_event source (Connect i) t w v h page_view at =
+one_event : (source : Source → SourceState) (e : Event) (t : Ghost) (w v : WorldCore) → WorldRefines t w → IsTrueLoad source e → IsFittingLoad source t.infos t.system.make e → Leads source e w v → Behind source e t w v
+one_event source (Connect i) t w v h page_view fits at =
     to_job source (Connect i) i actions.Connect GhostConnects (record { decides = connect_decides; owns = λ t u w v i p q steps h k at there can d. connects_own t w i p steps u h at can d; legal = λ t. of_connects t i; comes = λ t steps u x. x }) t w v h at
-one_event source (ToDaemon i n) t w v h page_view at =
+one_event source (ToDaemon i n) t w v h page_view fits at =
     to_job source (ToDaemon i n) i (actions.ToDaemon n) (AnswersSome n) (record { decides = delivery_decides (λ t w i h low. all_requests t i) n; owns = λ t u w v i p q steps h k at there can d. answers_own t u w v i n p q steps h k at there can d; legal = λ t. of_answers n t i; comes = λ t steps u x. x }) t w v h at
-one_event source (ToClient i n) t w v h page_view at =
+one_event source (ToClient i n) t w v h page_view fits at =
     to_job source (ToClient i n) i (actions.ToClient n) (GhostHears n) (record { decides = deliver_decides n; owns = λ t u w v i p q steps h k at there can d. hears_own t w i n p steps u h at can d; legal = λ t. of_hears n t i; comes = λ t steps u x. x }) t w v h at
-one_event source (DataConnect i) t w v h page_view at =
+one_event source (DataConnect i) t w v h page_view fits at =
     to_job source (DataConnect i) i actions.DataConnect Dials (record { decides = dial_decides; owns = λ t u w v i p q steps h k at there can d. dials_own t i steps u can d; legal = λ t steps u d. of_takes t i steps _ u d.1; comes = λ t steps u x. x }) t w v h at
-one_event source (DataTurn i) t w v h page_view at =
+one_event source (DataTurn i) t w v h page_view fits at =
     to_job source (DataTurn i) i actions.DataTurn GhostTurns (record { decides = turn_decides; owns = λ t u w v i p q steps h k at there can d. turns_own t w i p steps u h at can d; legal = λ t steps u d. of_sends t i d.action d.text steps u d.sends; comes = λ t steps u x. x }) t w v h at
-one_event source (DataToClient i n) t w v h page_view at =
+one_event source (DataToClient i n) t w v h page_view fits at =
     to_job source (DataToClient i n) i (actions.DataToClient n) (GhostSees n) (record { decides = data_decides n; owns = λ t u w v i p q steps h k at there can d. sees_own t w i n p steps u h at can d; legal = λ t. of_sees n t i; comes = λ t steps u x. x }) t w v h at
-one_event source (LoseControl i) t w v h page_view at =
+one_event source (LoseControl i) t w v h page_view fits at =
     to_job source (LoseControl i) i actions.LoseControl LosesControl (record { decides = control_decides; owns = λ t u w v i p q steps h k at there can d. loses_own t i steps u d; legal = λ t steps u d. of_takes t i steps _ u d.1; comes = λ t steps u x. x }) t w v h at
-one_event source (LoseImage i) t w v h page_view at =
+one_event source (LoseImage i) t w v h page_view fits at =
     to_job source (LoseImage i) i actions.LoseImage LosesImage (record { decides = image_decides; owns = λ t u w v i p q steps h k at there can d. image_own t i steps u d; legal = λ t steps u d. of_takes t i steps _ u d.1; comes = λ t steps u x. x }) t w v h at
-one_event source (Cancel i) t w v h page_view at =
+one_event source (Cancel i) t w v h page_view fits at =
     to_job source (Cancel i) i actions.Cancel GivesUp (record { decides = cancel_decides; owns = λ t u w v i p q steps h k at there can d. stops_own t i steps u d; legal = λ t steps u d. of_takes t i steps _ u d.takes; comes = λ t steps u x. x }) t w v h at
-one_event source (Load name page) t w v h page_view at =
-    let l = subst (λ (x : WorldCore). GhostLeadsTo (CanLoad t name) (LaysIn t name (source page).page) t x) (sym at) (loads_follow t w name (source page) page_view.0 page_view.1 h) in
+one_event source (Load name page) t w v h page_view fits at =
+    let l = subst (λ (x : WorldCore). GhostLeadsTo (CanLoad t name) (LaysIn t name (source page).page) t x) (sym at) (loads_follow t w name (source page) page_view.0 fits page_view.1 h) in
     let endpoints : v.endpoints ≡ w.endpoints = ap (λ (x : WorldCore). x.endpoints) at in
     behind source (Load name page) t w v (CanLoad t name) (LaysIn t name (source page).page) (λ steps u x. x) (λ steps u d. record { legal = d.legal; rules_are = ap (λ (v : Ghost). v.system) d.then_is }) l
     (beside t w v (CanLoad t name) (LaysIn t name (source page).page) endpoints (laid_pays t w v name (source page).page h endpoints) l)
-one_event source (Unplug name) t w v h page_view at =
+one_event source (Unplug name) t w v h page_view fits at =
     let l = subst (λ (x : WorldCore). GhostLeadsTo (CanUnplug t name) (TakesOut t name) t x) (sym at) (unplugs_follow t w name h) in
     let endpoints : v.endpoints ≡ w.endpoints = ap (λ (x : WorldCore). x.endpoints) at in
     behind source (Unplug name) t w v (CanUnplug t name) (TakesOut t name) (λ steps u x. x) (λ steps u d. record { legal = d.legal; rules_are = ap (λ (v : Ghost). v.system) d.then_is }) l
@@ -188,11 +190,15 @@ record AllBehind (source : Source → SourceState) (events : List Event) (t : Gh
   stands : WorldRefines ghost_then v
   pays : Pays t w → Pays ghost_then v
 
-all_events : (source : Source → SourceState) (events : List Event) (t : Ghost) (w v : WorldCore) → WorldRefines t w → AreTrueLoads source events → Runs source events w v → AllBehind source events t w v
-all_events source [] t w v h page_views run = record { ghost_then = t; steps = []; comes = (refl, refl); leads = record { legal = tt; rules_are = refl }; stands = subst (WorldRefines t) (sym run) h; pays = λ pays. subst (Pays t) (sym run) pays }
-all_events source (e ∷ es) t w v h page_views (u, first, rest) =
-    let one = one_event source e t w u h page_views.0 first in
-    let more = all_events source es one.ghost_then u v one.stands page_views.1 rest in
+all_events : (source : Source → SourceState) (events : List Event) (t : Ghost) (w v : WorldCore) → WorldRefines t w → AreTrueLoads source events → AreFittingLoads source t.infos t.system.make events → Runs source events w v → AllBehind source events t w v
+all_events source [] t w v h page_views fits run = record { ghost_then = t; steps = []; comes = (refl, refl); leads = record { legal = tt; rules_are = refl }; stands = subst (WorldRefines t) (sym run) h; pays = λ pays. subst (Pays t) (sym run) pays }
+all_events source (e ∷ es) t w v h page_views fits (u, first, rest) =
+    let one = one_event source e t w u h page_views.0 fits.0 first in
+    let infos : one.ghost_then.infos ≡ t.infos = ap (λ (f : Fixed). f.1) (stays_fixed source e t one.steps one.ghost_then one.comes) in
+    let makes : one.ghost_then.system.make ≡ t.system.make = ap (λ (s : SystemState). s.make) one.leads.rules_are ∙ makes_stay t.system one.steps in
+    let later : AreFittingLoads source one.ghost_then.infos one.ghost_then.system.make es =
+    subst (λ (i : List DeviceInfo). AreFittingLoads source i one.ghost_then.system.make es) (sym infos) (subst (λ (m : ℕ → Make). AreFittingLoads source t.infos m es) (sym makes) fits.1) in
+    let more = all_events source es one.ghost_then u v one.stands page_views.1 later rest in
     let behind : IsHistory (after_all t.system one.steps) more.steps = subst (λ (s : SystemState). IsHistory s more.steps) one.leads.rules_are more.leads.legal in
     record {
       ghost_then = more.ghost_then;
@@ -207,8 +213,8 @@ all_events source (e ∷ es) t w v h page_views (u, first, rest) =
     }
 
 pub events_follow : EventsFollow
-events_follow source events t w v h page_views run =
-    let all = all_events source events t w v h page_views run in
+events_follow source events t w v h page_views fits run =
+    let all = all_events source events t w v h page_views fits run in
     record {
       ghost_then = all.ghost_then;
       steps = all.steps;
@@ -226,10 +232,10 @@ ended_named u v i endpoint status why h at spared e =
     refuses (make_for u.system i) (u.system.job i) status cause.0 (spared i) cause.2
 
 pub all_kept : AllIsKept
-all_kept source events jobs other devices w v new daemon names steady fit page_views run =
-    let stood = events_follow source events _ w v (new_worlds_stand jobs other devices w new daemon names steady fit) page_views run in
+all_kept source events fallible jobs other devices w v new daemon names steady fit page_views only fits run =
+    let stood = events_follow source events _ w v (new_worlds_stand fallible jobs other devices w new daemon names steady only fit) page_views fits run in
     let u = stood.ghost_then in
-    let pays = stood.pays (new_worlds_pay jobs other devices w new fit) in
+    let pays = stood.pays (new_worlds_pay fallible jobs other devices w new fit) in
     let files = stands_run source events w v run (new_files jobs w.endpoints fit new) in
     let spared : AllSpared u.system = subst AllSpared (sym stood.rules_are) (all_spared _ stood.steps stood.legal (λ i none. none)) in
     record {

@@ -73,9 +73,9 @@ frame_still source word.Ending held w l e takes h = tt
 abbrev pub laid_desk : SourceState → ℕ → RequestContext → RequestContext
 laid_desk source w d = record d { session = laid source w d.session }
 
-pub laid_shows : (i : ℕ) (make : ℕ → Make) (d : RequestContext) (table : ℕ → AbstractDevice) (s : AbstractSession) (w : ℕ) (l : Lease DeviceState) (source : SourceState) → ContextRefines i make d table s → held_by d.session.held w ≡ Some l → takes_page l.device ≡ true →
+pub laid_shows : (i : ℕ) (make : ℕ → Make) (d : RequestContext) (table : ℕ → AbstractDevice) (s : AbstractSession) (w : ℕ) (l : Lease DeviceState) (source : SourceState) → ContextRefines i make d table s → held_by d.session.held w ≡ Some l → ((make l.place).fallible ≡ false → source.infallible ≡ true) → takes_page l.device ≡ true →
     ContextRefines i make (laid_desk source w d) (with_entry table l.place (abstract_device (Some i) (page_loaded l.device source))) s
-laid_shows i make d table s w l source old e takes =
+laid_shows i make d table s w l source old e firm takes =
     let shown = old.devices.leases w l e in
     let f = lease_with source in
     let new = laid_desk source w d in
@@ -90,7 +90,7 @@ laid_shows i make d table s w l source old e takes =
       place = refl;
       info = refl;
       device = refl;
-      made = (pages_agree (make l.place) l.device source (Some i) shown.made takes).made;
+      made = (pages_agree (make l.place) l.device source (Some i) shown.made firm takes).made;
     } in
     let four : length new.session.held ≡ 4 = on_length f d.session.held w ∙ old.four in
     let words = moved_words i make d table s w l old e new dev stays in

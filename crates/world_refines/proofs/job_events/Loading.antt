@@ -43,7 +43,7 @@ use Rattle.scan_world.specs.Worlds.{WorldCore}
 use Rattle.world_refines.specs.GhostStates.{Ghost, Wires, name_at}
 use Rattle.world_refines.specs.Speaks.{Speaks}
 use Rattle.world_refines.specs.WorldRefinement.{HaveDifferentNames, WiresMatch, IsFaithful, IsFaithfulLease, IsFaithfulPlace, IsFaithfulSlot, IsServed, WorldRefines, slot_of_link, session_by}
-use Rattle.world_refines.specs.GhostEvents.{CanLoad, LaysIn, GhostLeadsTo, LoadsFollow}
+use Rattle.world_refines.specs.GhostEvents.{CanLoad, LaysIn, GhostLeadsTo, LoadsFollow, MayHaveSource}
 use Rattle.world_refines.proofs.state.CoreCallsKeep.{found_on, input_on, leaves_on, replies_on, slot_infos}
 use Rattle.world_refines.proofs.state.Sees.{Leaves}
 use Rattle.world_refines.proofs.state.Changing.{stands_change}
@@ -124,15 +124,16 @@ named_there t w name h d =
 
 -- ---- leased, and it takes the page
 
-lays_leased : (t : Ghost) (w : WorldCore) (name : List ℕ) (source : SourceState) → source.steady ≡ true → IsPageView source.page → WorldRefines t w → (d : IsLeased t w name) → takes_page d.lease.device ≡ true → Loaded t w name source
-lays_leased t w name source steady page_view h d takes =
+lays_leased : (t : Ghost) (w : WorldCore) (name : List ℕ) (source : SourceState) → source.steady ≡ true → MayHaveSource t.infos t.system.make name source → IsPageView source.page → WorldRefines t w → (d : IsLeased t w name) → takes_page d.lease.device ≡ true → Loaded t w name source
+lays_leased t w name source steady keep page_view h d takes =
     let l = d.lease in
     let k = l.place in
     let i = d.i in
     let p = d.endpoint in
     let s = h.endpoints i p d.at in
     let shown = d.shows.shows.devices.leases d.word l d.stands in
-    let page = pages_agree (t.system.make k) l.device source (Some i) shown.made takes in
+    let firm : (t.system.make k).fallible ≡ false → source.infallible ≡ true = keep k (named_there t w name h d) in
+    let page = pages_agree (t.system.make k) l.device source (Some i) shown.made firm takes in
     let dev = abstract_device (Some i) (page_loaded l.device source) in
     let value : steps.with_page_laid_in (t.system.make k) source.page (t.system.device k) ≡ dev = ap (λ (x : AbstractDevice). steps.with_page_laid_in (t.system.make k) source.page x) shown.device ∙ page.device in
     let xs = Loads k source.page ∷ [] in
@@ -146,7 +147,7 @@ lays_leased t w name source steady page_view h d takes =
     let g = laid source d.word in
     let e : Core = record w.daemon { slots = on_session_slot (on_session g) d.id.number w.daemon.slots } in
     let context = core_context w.daemon d.shows.session in
-    let shows = laid_shows i t.system.make context t.system.device (session_by i t.system.device (t.system.job i)) d.word l source d.shows.shows d.stands takes in
+    let shows = laid_shows i t.system.make context t.system.device (session_by i t.system.device (t.system.job i)) d.word l source d.shows.shows d.stands firm takes in
     let holder : (k2 : ℕ) → is_held_by i (device k2).holder ≡ is_held_by i (t.system.device k2).holder = λ k2. held_at t.system.device k dev k2 i (is_same k2 k) (ap (λ (x : AbstractDevice). x.holder) (sym shown.device)) in
     let ruled : session_by i device (t.system.job i) ≡ session_by i t.system.device (t.system.job i) =
     ap (λ (b : Bool). one_word_session b (t.system.job i).session.job.wants (t.system.job i).session.transfer (t.system.job i).session.awaited) (holder (t.system.job i).session.job.wants) in
@@ -338,10 +339,10 @@ answer_in registry name h takes =
 abbrev new_table : (ℕ → Make) → (ℕ → AbstractDevice) → ℕ → Page → ℕ → AbstractDevice
 new_table make table k page = with_entry table k (steps.with_page_laid_in (make k) page (table k))
 
-table_in : (i : ℕ) (make : ℕ → Make) (held : Held) (registry : Table) (table : ℕ → AbstractDevice) (name : List ℕ) (source : SourceState) → (h : IsIn registry name) → takes_page h.state ≡ true → TableRefines i make held registry table →
+table_in : (i : ℕ) (make : ℕ → Make) (held : Held) (registry : Table) (table : ℕ → AbstractDevice) (name : List ℕ) (source : SourceState) → (h : IsIn registry name) → takes_page h.state ≡ true → ((make h.place).fallible ≡ false → source.infallible ≡ true) → TableRefines i make held registry table →
     TableRefines i make held (with_slot registry h.place (In (page_loaded h.state source))) (new_table make table h.place source.page)
-table_in i make held registry table name source h takes shows =
-    let l = loads_agree i make held registry table name source shows (answer_in registry name h takes) in
+table_in i make held registry table name source h takes firm shows =
+    let l = loads_agree i make held registry table name source shows (λ k found e. firm (subst (λ (n : ℕ). (make n).fallible ≡ false) (unsome k h.place (sym found ∙ h.found)) e)) (answer_in registry name h takes) in
     subst (λ (t : Table). TableRefines i make held t (new_table make table h.place source.page)) (after_in registry name source h takes)
     (subst (λ (k : ℕ). TableRefines i make held (table_after_load registry name source) (new_table make table k source.page)) (unsome l.place h.place (sym l.named ∙ h.found)) l.shows)
 
@@ -372,39 +373,40 @@ holder_in make table d k page (inr n) = ap (λ (x : AbstractDevice). x.holder) (
 ruled_in : (j : ℕ) (make : ℕ → Make) (table : ℕ → AbstractDevice) (d : ℕ) (page : Page) (p : JobState) → session_by j (new_table make table d page) p ≡ session_by j table p
 ruled_in j make table d page p = ap (λ (x : Option ℕ). one_word_session (is_held_by j x) p.session.job.wants p.session.transfer p.session.awaited) (holder_in make table d p.session.job.wants page (is_same p.session.job.wants d))
 
-shows_in : (j : ℕ) (make : ℕ → Make) (d : RequestContext) (table : ℕ → AbstractDevice) (s : AbstractSession) (name : List ℕ) (source : SourceState) → (h : IsIn d.registry name) → takes_page h.state ≡ true → ContextRefines j make d table s →
+shows_in : (j : ℕ) (make : ℕ → Make) (d : RequestContext) (table : ℕ → AbstractDevice) (s : AbstractSession) (name : List ℕ) (source : SourceState) → (h : IsIn d.registry name) → takes_page h.state ≡ true → ((make h.place).fallible ≡ false → source.infallible ≡ true) → ContextRefines j make d table s →
     ContextRefines j make (record d { registry = with_slot d.registry h.place (In (page_loaded h.state source)) }) (new_table make table h.place source.page) s
-shows_in j make d table s name source h takes shows =
+shows_in j make d table s name source h takes firm shows =
     record {
       words = shows.words;
       four = shows.four;
       transfer = shows.transfer;
       frame = shows.frame;
       awaited = awaited_in make d.registry name source d.session.held table d.session.awaited s.awaited h shows.awaited;
-      devices = table_in j make d.session.held d.registry table name source h takes shows.devices;
+      devices = table_in j make d.session.held d.registry table name source h takes firm shows.devices;
     }
 
 abbrev core_in : Core → ℕ → DeviceState → Core
 core_in d k s = record d { registry = with_slot d.registry k (In s) }
 
-served_in : (j : ℕ) (make : ℕ → Make) (d : Core) (link : Option SessionId) (served : Bool) (table : ℕ → AbstractDevice) (p : JobState) (name : List ℕ) (source : SourceState) → (h : IsIn d.registry name) → takes_page h.state ≡ true → IsServed j make d link served table (session_by j table p) →
+served_in : (j : ℕ) (make : ℕ → Make) (d : Core) (link : Option SessionId) (served : Bool) (table : ℕ → AbstractDevice) (p : JobState) (name : List ℕ) (source : SourceState) → (h : IsIn d.registry name) → takes_page h.state ≡ true → ((make h.place).fallible ≡ false → source.infallible ≡ true) → IsServed j make d link served table (session_by j table p) →
     IsServed j make (core_in d h.place (page_loaded h.state source)) link served (new_table make table h.place source.page) (session_by j (new_table make table h.place source.page) p)
-served_in j make d None true table p name source h takes is = absurd is
-served_in j make d (Some id) true table p name source h takes is =
+served_in j make d None true table p name source h takes firm is = absurd is
+served_in j make d (Some id) true table p name source h takes firm is =
     subst (λ (s : AbstractSession). SessionRefines j make (core_in d h.place (page_loaded h.state source)) id.number (new_table make table h.place source.page) s) (sym (ruled_in j make table h.place source.page p))
-    (record { session = is.session; stands = is.stands; shows = shows_in j make _ table _ name source h takes is.shows; begun = is.begun })
-served_in j make d None false table p name source h takes is = (refl, table_in j make [] d.registry table name source h takes is.1)
-served_in j make d (Some id) false table p name source h takes is = (is.0, table_in j make [] d.registry table name source h takes is.1)
+    (record { session = is.session; stands = is.stands; shows = shows_in j make _ table _ name source h takes firm is.shows; begun = is.begun })
+served_in j make d None false table p name source h takes firm is = (refl, table_in j make [] d.registry table name source h takes firm is.1)
+served_in j make d (Some id) false table p name source h takes firm is = (is.0, table_in j make [] d.registry table name source h takes firm is.1)
 
 named_in : (t : Ghost) (w : WorldCore) (name : List ℕ) → WorldRefines t w → (d : IsIn w.daemon.registry name) → name_at t.infos d.place ≡ Some name
 named_in t w name h d =
     let f = found_place w.daemon.registry name d.place d.found in
     ap (λ (infos : List DeviceInfo). name_at infos d.place) h.is_of.infos ∙ (names_at w.daemon.registry d.place f.place f.at ∙ ap (λ (x : List ℕ). Some x) f.name_is)
 
-lays_in : (t : Ghost) (w : WorldCore) (name : List ℕ) (source : SourceState) → source.steady ≡ true → IsPageView source.page → WorldRefines t w → list_any (holds name) w.daemon.slots ≡ false → (d : IsIn w.daemon.registry name) → takes_page d.state ≡ true → Loaded t w name source
-lays_in t w name source steady page_view h free d takes =
+lays_in : (t : Ghost) (w : WorldCore) (name : List ℕ) (source : SourceState) → source.steady ≡ true → MayHaveSource t.infos t.system.make name source → IsPageView source.page → WorldRefines t w → list_any (holds name) w.daemon.slots ≡ false → (d : IsIn w.daemon.registry name) → takes_page d.state ≡ true → Loaded t w name source
+lays_in t w name source steady keep page_view h free d takes =
     let n = length w.endpoints in
-    let l = loads_agree n t.system.make [] w.daemon.registry t.system.device name source (h.beyond n (omega arith)).table (answer_in w.daemon.registry name d takes) in
+    let firm : (t.system.make d.place).fallible ≡ false → source.infallible ≡ true = keep d.place (named_in t w name h d) in
+    let l = loads_agree n t.system.make [] w.daemon.registry t.system.device name source (h.beyond n (omega arith)).table (λ k found e. firm (subst (λ (m : ℕ). (t.system.make m).fallible ≡ false) (unsome k d.place (sym found ∙ d.found)) e)) (answer_in w.daemon.registry name d takes) in
     let k = d.place in
     let same : l.place ≡ k = unsome l.place k (sym l.named ∙ d.found) in
     let listed : (t.system.device k).listed ≡ true = subst (λ (x : ℕ). (t.system.device x).listed ≡ true) same l.listed in
@@ -443,12 +445,12 @@ lays_in t w name source steady page_view h free d takes =
               talks = s.talks;
               carries = s.carries;
               means = s.means;
-              served = served_in j t.system.make w.daemon endpoint.link (t.system.job j).served t.system.device (t.system.job j) name source d takes s.served;
+              served = served_in j t.system.make w.daemon endpoint.link (t.system.job j).served t.system.device (t.system.job j) name source d takes firm s.served;
               speaks = s.speaks;
               waits = s.waits;
               pends = s.pends;
             };
-        beyond = λ j high. let b = h.beyond j high in record { stage = b.stage; linked = b.linked; transfer = b.transfer; image = b.image; table = table_in j t.system.make [] w.daemon.registry t.system.device name source d takes b.table };
+        beyond = λ j high. let b = h.beyond j high in record { stage = b.stage; linked = b.linked; transfer = b.transfer; image = b.image; table = table_in j t.system.make [] w.daemon.registry t.system.device name source d takes firm b.table };
         own = h.own;
         links = h.links;
         slots = h.slots;
@@ -516,29 +518,29 @@ unknown registry name source e = ap (λ (o : Option ℕ). loaded_at registry o s
 
 -- ---- the event
 
-by_takes : (t : Ghost) (w : WorldCore) (name : List ℕ) (source : SourceState) (b : Bool) → source.steady ≡ true → IsPageView source.page → WorldRefines t w → list_any (holds name) w.daemon.slots ≡ false → (d : IsIn w.daemon.registry name) → takes_page d.state ≡ b → Loaded t w name source
-by_takes t w name source true steady page_view h free d e = lays_in t w name source steady page_view h free d e
-by_takes t w name source false steady page_view h free d e = keeps_in t w name source h free d e
+by_takes : (t : Ghost) (w : WorldCore) (name : List ℕ) (source : SourceState) (b : Bool) → source.steady ≡ true → MayHaveSource t.infos t.system.make name source → IsPageView source.page → WorldRefines t w → list_any (holds name) w.daemon.slots ≡ false → (d : IsIn w.daemon.registry name) → takes_page d.state ≡ b → Loaded t w name source
+by_takes t w name source true steady keep page_view h free d e = lays_in t w name source steady keep page_view h free d e
+by_takes t w name source false steady keep page_view h free d e = keeps_in t w name source h free d e
 
-by_slot : (t : Ghost) (w : WorldCore) (name : List ℕ) (source : SourceState) (k : ℕ) (p : Place DeviceState) → source.steady ≡ true → IsPageView source.page → WorldRefines t w → list_any (holds name) w.daemon.slots ≡ false → find_name name w.daemon.registry ≡ Some k → slice_get w.daemon.registry k ≡ Some p → ((s : DeviceState) × (p.slot ≡ In s)) ⊎ (p.slot ≡ Out) → Loaded t w name source
-by_slot t w name source k p steady page_view h free found at (inl s) = by_takes t w name source (takes_page s.0) steady page_view h free (record { place = k; at = p; state = s.0; found = found; is_at = at; is_in = s.1 }) refl
-by_slot t w name source k p steady page_view h free found at (inr out) =
+by_slot : (t : Ghost) (w : WorldCore) (name : List ℕ) (source : SourceState) (k : ℕ) (p : Place DeviceState) → source.steady ≡ true → MayHaveSource t.infos t.system.make name source → IsPageView source.page → WorldRefines t w → list_any (holds name) w.daemon.slots ≡ false → find_name name w.daemon.registry ≡ Some k → slice_get w.daemon.registry k ≡ Some p → ((s : DeviceState) × (p.slot ≡ In s)) ⊎ (p.slot ≡ Out) → Loaded t w name source
+by_slot t w name source k p steady keep page_view h free found at (inl s) = by_takes t w name source (takes_page s.0) steady keep page_view h free (record { place = k; at = p; state = s.0; found = found; is_at = at; is_in = s.1 }) refl
+by_slot t w name source k p steady keep page_view h free found at (inr out) =
     let f = found_place w.daemon.registry name k found in
     let same : f.place ≡ p = unsome f.place p (sym f.at ∙ at) in
     let leased = is_out t w name k p h at out (ap (λ (x : Place DeviceState). x.info.name) (sym same) ∙ f.name_is) in
     absurd (let clash : false ≡ true = sym free ∙ leased in cc)
 
-by_name : (t : Ghost) (w : WorldCore) (name : List ℕ) (source : SourceState) (o : Option ℕ) → source.steady ≡ true → IsPageView source.page → WorldRefines t w → list_any (holds name) w.daemon.slots ≡ false → find_name name w.daemon.registry ≡ o → Loaded t w name source
-by_name t w name source None steady page_view h free e = refused t w name source h (not_leased w.daemon name source free ∙ ap (λ (r : Table). record w.daemon { registry = r }) (unknown w.daemon.registry name source e)) (unlisted t w name h e)
-by_name t w name source (Some k) steady page_view h free e = let f = found_slot name w.daemon.registry k e in by_slot t w name source k f.place steady page_view h free e f.at f.slot
+by_name : (t : Ghost) (w : WorldCore) (name : List ℕ) (source : SourceState) (o : Option ℕ) → source.steady ≡ true → MayHaveSource t.infos t.system.make name source → IsPageView source.page → WorldRefines t w → list_any (holds name) w.daemon.slots ≡ false → find_name name w.daemon.registry ≡ o → Loaded t w name source
+by_name t w name source None steady keep page_view h free e = refused t w name source h (not_leased w.daemon name source free ∙ ap (λ (r : Table). record w.daemon { registry = r }) (unknown w.daemon.registry name source e)) (unlisted t w name h e)
+by_name t w name source (Some k) steady keep page_view h free e = let f = found_slot name w.daemon.registry k e in by_slot t w name source k f.place steady keep page_view h free e f.at f.slot
 
-by_lease : (t : Ghost) (w : WorldCore) (name : List ℕ) (source : SourceState) → source.steady ≡ true → IsPageView source.page → WorldRefines t w → (d : IsLeased t w name) → (b : Bool) → takes_page d.lease.device ≡ b → Loaded t w name source
-by_lease t w name source steady page_view h d true e = lays_leased t w name source steady page_view h d e
-by_lease t w name source steady page_view h d false e = stays_leased t w name source h d e
+by_lease : (t : Ghost) (w : WorldCore) (name : List ℕ) (source : SourceState) → source.steady ≡ true → MayHaveSource t.infos t.system.make name source → IsPageView source.page → WorldRefines t w → (d : IsLeased t w name) → (b : Bool) → takes_page d.lease.device ≡ b → Loaded t w name source
+by_lease t w name source steady keep page_view h d true e = lays_leased t w name source steady keep page_view h d e
+by_lease t w name source steady keep page_view h d false e = stays_leased t w name source h d e
 
-by_held : (t : Ghost) (w : WorldCore) (name : List ℕ) (source : SourceState) (b : Bool) → source.steady ≡ true → IsPageView source.page → WorldRefines t w → list_any (holds name) w.daemon.slots ≡ b → Loaded t w name source
-by_held t w name source true steady page_view h e = let d = whose t w name h e in by_lease t w name source steady page_view h d (takes_page d.lease.device) refl
-by_held t w name source false steady page_view h e = by_name t w name source (find_name name w.daemon.registry) steady page_view h e refl
+by_held : (t : Ghost) (w : WorldCore) (name : List ℕ) (source : SourceState) (b : Bool) → source.steady ≡ true → MayHaveSource t.infos t.system.make name source → IsPageView source.page → WorldRefines t w → list_any (holds name) w.daemon.slots ≡ b → Loaded t w name source
+by_held t w name source true steady keep page_view h e = let d = whose t w name h e in by_lease t w name source steady keep page_view h d (takes_page d.lease.device) refl
+by_held t w name source false steady keep page_view h e = by_name t w name source (find_name name w.daemon.registry) steady keep page_view h e refl
 
 pub loads_follow : LoadsFollow
-loads_follow t w name source steady page_view h = by_held t w name source (list_any (holds name) w.daemon.slots) steady page_view h refl
+loads_follow t w name source steady keep page_view h = by_held t w name source (list_any (holds name) w.daemon.slots) steady keep page_view h refl

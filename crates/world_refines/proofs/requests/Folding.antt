@@ -71,7 +71,7 @@ IsReadAs t i s pages protocol = ClientRefines (place_of_info t.infos) (target_of
 pub record AnswersOne (t : Ghost) (i : ℕ) (s : SystemState) (d : RequestContext) (said : RequestAnswer) (new : RequestContext) : Type 0 where
   pub challenge : Challenge
   pub fault : Option FailureCounts
-  pub may : MayFail fault
+  pub may : MayFail (make_for s i) fault
   pub on : session_goes_on said ≡ true → Desked t i (after_transition s (answers_to i challenge fault)) new
   pub others : session_goes_on said ≡ true → LeavesOthers i d.registry new.registry s.device (after_transition s (answers_to i challenge fault)).device
   pub replied : session_goes_on said ≡ true → IsUnderWay (s.job i).client.stage → (pages : List (List Frame)) (protocol : ProtocolState) → IsReadAs t i s pages protocol → WaitsQuietly protocol.progress (s.job i).todo → Replied t i s (after_transition s (answers_to i challenge fault)) protocol.progress said
@@ -127,7 +127,7 @@ pub todo_after : (i : ℕ) (s : SystemState) (challenge : Challenge) (fault : Op
 todo_after i s challenge fault r rest e =
     ap (λ (p : JobState). p.todo) (party_answered i s challenge fault) ∙ ap (λ (x : List AbstractRequest). (answer_next i (make_for s i) (listed_devices s) (s.job i) (device_for s i) challenge fault x).todo) e ∙ ap without_first e
 
-pub legal_answer : (t : Ghost) (i : ℕ) (s : SystemState) (d : RequestContext) (challenge : Challenge) (fault : Option FailureCounts) (r : AbstractRequest) (rest : List AbstractRequest) → Desked t i s d → (s.job i).todo ≡ r ∷ rest → MayFail fault → IsEnabled s (answers_to i challenge fault)
+pub legal_answer : (t : Ghost) (i : ℕ) (s : SystemState) (d : RequestContext) (challenge : Challenge) (fault : Option FailureCounts) (r : AbstractRequest) (rest : List AbstractRequest) → Desked t i s d → (s.job i).todo ≡ r ∷ rest → MayFail (make_for s i) fault → IsEnabled s (answers_to i challenge fault)
 legal_answer t i s d challenge fault r rest h e may = (h.served, λ none. absurd (let clash : [] ≡ r ∷ rest = sym none ∙ e in cc), may)
 
 -- ---- all of them

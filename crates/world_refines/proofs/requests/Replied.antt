@@ -59,7 +59,7 @@ abbrev pub IsSaid : Manner → Asked → List AbstractReply → RequestAnswer �
 IsSaid m q told said = (SpellsSaid m q told said × IsPlain told) ⊎ Demands told said
 
 pub record IsAnswered (i : ℕ) (make : ℕ → Make) (listed : List ℕ) (name : List ℕ) (device : ℕ → AbstractDevice) (p : JobState) (d : RequestContext) (q : Asked) (r : AbstractRequest) (said : RequestAnswer) (new : RequestContext) (challenge : Challenge) (fault : Option FailureCounts) : Type 0 where
-  pub may : MayFail fault
+  pub may : MayFail (make p.session.job.wants) fault
   pub behind : Behind i make device p d said new (serving i make listed device p r challenge fault)
   pub begun : IsSessionBegun new
   pub speaks : session_goes_on said ≡ true → SpeaksAs name (job_after_answer p (serving i make listed device p r challenge fault)) new.session

@@ -1,5 +1,5 @@
 -- One request of a job's client: what the daemon answers, and what it leaves, is the model's answer.
-use Rattle.std.specs.Prelude.{◌/◌}
+use Rattle.std.specs.Prelude.{◌/◌, cond}
 use Rattle.std.proofs.Common.{◌≡◌, ◌≢◌, ◌⊎◌, inl, inr, ◌∙◌, ℕ, List, [], ◌∷◌, Option, Some, None, Bool, true, false, refl, sym, ap, subst}
 use Rattle.sane_fixed.specs.declared.device_info.DeviceInfo.{DeviceInfo}
 use Rattle.sane_fixed.specs.declared.status.Status.TheVariants as code
@@ -27,6 +27,7 @@ use Rattle.system_model.specs.Actions.{job_after_answer, environment_of, served_
 use Rattle.system_model.specs.SystemStates.{JobState, with_entry}
 use Rattle.system_model.specs.AbstractSessions.{FullEffect, FollowsOneWord, IsLike, AbstractSession, answer_call, call_to, one_word_session}
 use Rattle.system_model.specs.Transitions.{MayFail}
+use Rattle.daemon_refines.specs.DeviceWords.{MayFailAt}
 use Rattle.system_model.proofs.OneWord.{one_word_enough}
 use Rattle.client_refines.specs.RequestRefinement.{IsRequest}
 use Rattle.daemon_refines.specs.Agreeing.{Agrees, manner}
@@ -128,7 +129,7 @@ behind_by i make users device p d q m comes said new v h g a f others ended =
 
 -- what is served, what stands behind it, and its reply as the laws of the daemon spell it
 pub record Raw (i : ℕ) (make : ℕ → Make) (listed : List ℕ) (device : ℕ → AbstractDevice) (p : JobState) (d : RequestContext) (q : Asked) (r : AbstractRequest) (said : RequestAnswer) (new : RequestContext) (challenge : Challenge) (fault : Option FailureCounts) : Type 0 where
-  pub may : MayFail fault
+  pub may : MayFail (make p.session.job.wants) fault
   pub behind : Behind i make device p d said new (serving i make listed device p r challenge fault)
   pub greeted : new.session.greeted ≡ true
   pub says : ((n : ℕ) (value : Value) → r ≡ Set n value → is_resting (device p.session.job.wants).phase ≡ true) → SpellsSaid (manner d 0) q (serving i make listed device p r challenge fault).told said
@@ -139,6 +140,10 @@ IsRaw i make listed device p d q r said new = (challenge : Challenge) × (fault 
 -- a call of a session that was greeted
 chance_is : (p : JobState) (listed : List ℕ) (challenge : Challenge) (fault : Option FailureCounts) → with_chance (all_around p listed) p.session.job.wants challenge fault p.session.job.wants ≡ environment_of p.session listed challenge fault
 chance_is p listed challenge fault = put_there (all_around p listed) p.session.job.wants (record (all_around p listed p.session.job.wants) { challenge = challenge; fault = fault })
+
+fails_by : (held : Bool) (make : ℕ → Make) (d : ℕ) (fault : Option FailureCounts) → MayFailAt make (cond held (Some d) None) fault → MayFail (make d) fault
+fails_by true make d fault h = h
+fails_by false make d fault h = subst (λ (f : Option FailureCounts). MayFail (make d) f) (sym h) tt
 
 raw_call : (i : ℕ) (make : ℕ → Make) (users : List Entry) (infos : List DeviceInfo) (job : Job) (d : RequestContext) (device : ℕ → AbstractDevice) (p : JobState) (listed : List ℕ) (q : Asked) (r : AbstractRequest) (said : RequestAnswer) (new : RequestContext) → IsSession i make users infos job d device p → d.session.greeted ≡ true → device_word_of q ≡ 0 →
     IsCall users d device (session_by i device p) q (call_to p.session.job.wants r) (all_around p listed) → Answers users d q said new → IsRaw i make listed device p d q r said new
@@ -155,7 +160,7 @@ raw_call i make users infos job d device p listed q r said new h greeted word ca
       served.challenge,
       served.fault,
       record {
-        may = served.may;
+        may = fails_by (is_held_by i (device wants).holder) make wants served.fault served.may;
         behind = behind;
         greeted = stays_greeted users d d.session.awaited q said new (subst (λ (b : Bool). AnswersBy b users d q said new) greeted g) greeted;
         says = λ _. subst (λ (told : List AbstractReply). SpellsSaid (manner d 0) q told said) f.told (subst (λ (w : ℕ). SpellsSaid (manner d w) q comes.told said) word served.agrees.says);

@@ -30,7 +30,7 @@ some_request : (todo : List AbstractRequest) (r : AbstractRequest) (rest : List 
 some_request todo r rest e = λ none. let clash : [] ≡ r ∷ rest = sym none ∙ e in absurd (cc)
 
 -- it may come
-pub step_may : (s : SystemState) (i : ℕ) (r : AbstractRequest) (rest : List AbstractRequest) (challenge : Challenge) (fault : Option FailureCounts) → (s.job i).served ≡ true → (s.job i).todo ≡ r ∷ rest → MayFail fault → IsEnabled s (By i (actions.Answers challenge fault))
+pub step_may : (s : SystemState) (i : ℕ) (r : AbstractRequest) (rest : List AbstractRequest) (challenge : Challenge) (fault : Option FailureCounts) → (s.job i).served ≡ true → (s.job i).todo ≡ r ∷ rest → MayFail (make_for s i) fault → IsEnabled s (By i (actions.Answers challenge fault))
 step_may s i r rest challenge fault served e may = (served, some_request (s.job i).todo r rest e, may)
 
 -- the session goes on

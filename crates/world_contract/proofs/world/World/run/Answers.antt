@@ -1,5 +1,5 @@
 use Rattle.world_contract.proofs.Calls.{led_then}
-use Rattle.world_contract.proofs.Over.{cancel_ends, loss_ends, moves_fall, over_stays}
+use Rattle.world_contract.proofs.Over.{cancel_ends, loss_ends, moves_fall, other_jobs_stay, over_stays}
 use Rattle.world_contract.proofs.world.World.run.Goals as goal
 
 pub returns : goal.returns
@@ -7,6 +7,7 @@ returns g c = record {
   runs = c.run.ensures;
   led = λ h l. led_then h c.args.events.items _ _ l c.run.ensures;
   over = over_stays c.args.events.items _ _ c.run.ensures;
+  others = other_jobs_stay c.args.events.items _ _ c.run.ensures;
   moves = moves_fall c.args.events.items _ _ c.run.ensures;
   cancel = cancel_ends c.args.events.items _ _ c.run.ensures;
   loss = loss_ends c.args.events.items _ _ c.run.ensures;

@@ -1,0 +1,31 @@
+-- WHAT THE SETTINGS OF A JOB PUT IN FORCE.
+use Rattle.std.specs.Prelude.{ℕ, ◌≡◌, ◌&&◌, true, List, [], ◌∷◌, Contains}
+use Rattle.option_desc.specs.declared.descriptor.Descriptor.{Descriptor}
+use Rattle.option_desc.specs.Put.{Puts}
+use Rattle.option_desc.specs.Reads.{ReadsAsValue}
+use Rattle.scan_frames.specs.declared.setup.Setup.{Setup}
+use Rattle.device_api.specs.declared.scan_option.ScanOption.{ScanOption}
+use Rattle.device_api.specs.Options.{is_active, option_caps, option_constraint, option_kind, option_name, option_size, options_of}
+use Rattle.device_api.specs.InForce.{Placement}
+use Rattle.device_api.specs.Values.{with_value}
+use Rattle.sane_fixed.specs.Cap.{has_cap}
+
+-- a setting was put in: the option of its name, active and with SOFT_SELECT, was given the admitted value nearest to what the text
+-- reads as
+pub record IsSettingPut (s : Setup) (setting : List ℕ × List ℕ) (p : Placement) : Type 0 where
+  pub option : ScanOption
+  pub has : Contains (options_of s.scene.kind) option
+  pub named : option_name option ≡ setting.0
+  pub may_be_set : (is_active s option && has_cap (option_caps option) 1) ≡ true
+  -- by a descriptor of its kind, size in bytes and constraint, whatever else it says
+  pub desc : Descriptor
+  pub form : (desc.kind ≡ option_kind option) × (desc.size ≡ option_size option) × (desc.constraint ≡ option_constraint s.scene.kind option)
+  pub reads : ReadsAsValue desc setting.1 p.asked
+  pub nearest : Puts desc p.asked p.given
+  pub after : p.setup ≡ with_value s option p.given
+
+-- each of the settings, from the options that those before it left
+abbrev pub AreSettingsPut : Setup → List (List ℕ × List ℕ) → List Placement → Setup → Type 0
+AreSettingsPut s [] [] t = t ≡ s
+AreSettingsPut s (setting ∷ settings) (p ∷ ps) t = IsSettingPut s setting p × AreSettingsPut p.setup settings ps t
+AreSettingsPut s settings ps t = ⊥
