@@ -1,7 +1,9 @@
 ghost use Rattle.scan_frames.specs.Frames.{IsSetup};
 
 use crate::calls::answers_of;
-use page_picture::{DeviceKind, FailingPage, MemoryPage, Mode, PageSource, Scene, read_page};
+use page_picture::{
+    ByteRows, DeviceKind, FailingPage, MemoryPage, Mode, PageSource, PnmPage, Scene, read_page,
+};
 use sane_fixed::{ByteOrder, Fixed, FrameFormat, Status};
 use scan_frames::{
     BeginFault, FrameRows, Packing, PassOrder, ReadEnd, Setup, a_frame_for_each_pass,
@@ -9,9 +11,10 @@ use scan_frames::{
     packing_of, params,
 };
 use std::alloc::Global;
+use std::io::Cursor;
 use std::process::Abort;
 
-fn mm(n: i32) -> Fixed {
+pub fn mm(n: i32) -> Fixed {
     Fixed(n.saturating_mul(65536))
 }
 
@@ -49,7 +52,7 @@ fn setup(kind: DeviceKind, mode: Mode, packing: Packing, br_x: i32, br_y: i32) -
     }
 }
 
-fn flatbed(mode: Mode, packing: Packing, br_x: i32, br_y: i32) -> Setup
+pub fn flatbed(mode: Mode, packing: Packing, br_x: i32, br_y: i32) -> Setup
     ensures { IsSetup result }
 {
     setup(DeviceKind::Flatbed, mode, packing, br_x, br_y)
@@ -59,9 +62,14 @@ fn memory(alloc: Global, file: &[u8], dpi: u32) -> Option<MemoryPage> {
     Some(MemoryPage::new(read_page(alloc, file, dpi).ok()?))
 }
 
+/// A page file, whose rows may be had as bytes.
+fn opened<'a>(alloc: Global, file: &'a [u8], dpi: u32) -> Option<PnmPage<Cursor<&'a [u8]>>> {
+    PnmPage::open(alloc, Cursor::new(file), dpi).ok()
+}
+
 /// All bytes of the frame of a pass, by reads of at most seven bytes, how many reads gave some, and why the next gave
 /// none. None if the frame does not say which it is, and whether it was read, or never ends, or for lack of memory.
-fn frame_bytes<S: PageSource>(
+fn frame_bytes<S: ByteRows>(
     alloc: Global,
     source: &mut S,
     setup: &Setup,
@@ -86,7 +94,7 @@ fn frame_bytes<S: PageSource>(
 }
 
 /// Whether the frame of a pass is these bytes, by so many reads if that is told, and ends so or is refused so.
-fn is_frame<S: PageSource>(
+fn is_frame<S: ByteRows>(
     alloc: Global,
     source: &mut S,
     setup: &Setup,
@@ -106,8 +114,8 @@ fn is_frame<S: PageSource>(
     }
 }
 
-/// The frame of pass 0 on a page in memory is these bytes, by so many reads if that is told.
-fn shows(
+/// The frame of pass 0 on a page, in memory and in a file, is these bytes, by so many reads if that is told.
+pub fn shows(
     rt: &impl Abort,
     alloc: Global,
     setup: &Setup,
@@ -118,8 +126,10 @@ fn shows(
     requires { IsSetup setup.now }
 {
     let (file, dpi) = page;
-    let mut source = memory(alloc, file, dpi).expect(rt, "a page");
     let want = (bytes, count, Ok(ReadEnd::End));
+    let mut source = memory(alloc, file, dpi).expect(rt, "a page");
+    assert!(rt; is_frame(alloc, &mut source, setup, 0, want));
+    let mut source = opened(alloc, file, dpi).expect(rt, "a page file");
     assert!(rt; is_frame(alloc, &mut source, setup, 0, want));
 }
 

@@ -15,10 +15,13 @@ use Rattle.netpbm.proofs.WritingLaws.{length-joined, joined_at}
 use Rattle.page_picture.specs.declared.page_file.PageFault.TheVariants.{BadMagic, BadHeader, SampleTooLarge, Short, Trailing, BadDpi, NoMem}
 use Rattle.page_picture.specs.declared.sources.open_fault.OpenFault.{OpenFault}
 use Rattle.page_picture.specs.declared.sources.open_fault.OpenFault.TheVariants.{Page, Device}
-use Rattle.page_picture.specs.Page.{IsShaped, IsPageView, IsRow}
+use Rattle.page_picture.specs.Page.{IsShaped, IsPageView, IsRow, page_sample_at}
+use Rattle.page_picture.specs.Source.{byte_place}
+use Rattle.page_picture.specs.declared.scene.Mode.{Mode}
+use Rattle.page_picture.specs.declared.scene.Mode.TheVariants.{Gray, Color}
 use Rattle.page_picture.specs.PageFile.{BeginsPage, IsDpi, IsPageFormat, TellsPage}
 use Rattle.page_picture.specs.PageReading.{ArePageSamples, page_number, source}
-use Rattle.page_picture.specs.PageRows.{IsPageHeader, IsRaster, ShowsRow, page_shown, samples_shown, row_count, file_row_size}
+use Rattle.page_picture.specs.PageRows.{HasByteSamples, IsPageHeader, IsRaster, ShowsRow, page_shown, samples_shown, row_count, file_row_size}
 use Rattle.page_picture.specs.Opening.{HasHeaderFault, HasOpenFault, HasOpenFaultAfter}
 use Rattle.page_picture.proofs.PageLemmas.{tells_page}
 use Rattle.page_picture.proofs.RowLemmas.{drop-row, number_in_row, row_size-count}
@@ -84,6 +87,40 @@ shown_row h dpi y raster bytes more row page less e size shows = record {
       ∙ number_in_row h.maxval y (row_count h) (y * file_row_size h) (source h.format j) raster bytes more e (ap (λ n. y * n) count) (size ∙ count) (source_inside h.format h.width x k page.format column channel) in
       shows.each j (omega arith) ∙ ap (λ n. n * 65535 / h.maxval) (sym number) ∙ sym (numbers_at (page_number h raster) (h.width * h.height * 3) far inside);
 }
+
+-- the byte of a place's sample, where a sample is a byte
+byte_number : (mode : Mode) (h : Header) (bytes : List ℕ) (first x k : ℕ) → HasByteSamples mode h → k < 3 → page_number h bytes (3 * (first + x) + k) ≡ 257 * slice_index bytes (byte_place mode first 0 + byte_place mode x k)
+byte_number Gray h bytes first x k has less =
+    let place : 3 * (first + x) + k ≡ (first + x) * 3 + k = omega arith in
+    let at : (3 * (first + x) + k) / 3 ≡ first + x = ap (λ n. n / 3) place ∙ div-mul-add (first + x) 3 k less in
+    ap (λ (f : PnmFormat). number_in h.maxval bytes (source f (3 * (first + x) + k)) * 65535 / h.maxval) has.0
+    ∙ ap (λ m. number_in m bytes ((3 * (first + x) + k) / 3) * 65535 / m) has.1
+    ∙ ap (λ i. slice_index bytes i * 65535 / 255) at
+    ∙ (let v = slice_index bytes (first + x) in let e : v * 65535 / 255 ≡ 257 * v = omega arith in e)
+byte_number Color h bytes first x k has less =
+    let place : 3 * (first + x) + k ≡ 3 * first + 0 + (3 * x + k) = omega arith in
+    ap (λ (f : PnmFormat). number_in h.maxval bytes (source f (3 * (first + x) + k)) * 65535 / h.maxval) has.0
+    ∙ ap (λ m. number_in m bytes (3 * (first + x) + k) * 65535 / m) has.1
+    ∙ ap (λ i. slice_index bytes i * 65535 / 255) place
+    ∙ (let v = slice_index bytes (3 * first + 0 + (3 * x + k)) in let e : v * 65535 / 255 ≡ 257 * v = omega arith in e)
+
+-- a place whose byte is among those that end within the row is one of the page
+byte_column : (mode : Mode) (width first count x k : ℕ) → byte_place mode first 0 + count ≤ byte_place mode width 0 → byte_place mode x k < count → first + x < width
+byte_column Gray width first count x k room less = omega arith
+byte_column Color width first count x k room less = omega arith
+
+pub shown_bytes : (h : Header) (dpi y : ℕ) (mode : Mode) (first : ℕ) (raster bytes more part : List ℕ) → IsPageHeader h → y < h.height → drop (y * file_row_size h) raster ≡ bytes ++ more → length bytes ≡ file_row_size h → HasByteSamples mode h → byte_place mode first 0 + length part ≤ byte_place mode h.width 0
+    → ((i : ℕ) → i < length part → slice_index part i ≡ slice_index bytes (byte_place mode first 0 + i))
+    → (x k : ℕ) → k < 3 → byte_place mode x k < length part → page_sample_at (page_shown h dpi raster) (first + x) y k ≡ 257 * slice_index part (byte_place mode x k)
+shown_bytes h dpi y mode first raster bytes more part page less e size has room same x k channel inside =
+    let row = concat_up_to (λ j. page_number h bytes j ∷ []) (3 * h.width) in
+    let shows : ShowsRow h bytes row = record { each = numbers_at (page_number h bytes) (3 * h.width) } in
+    let column = byte_column mode h.width first (length part) x k room inside in
+    let is = shown_row h dpi y raster bytes more row page less e size shows in
+    sym (is.each (first + x) k column channel)
+    ∙ numbers_at (page_number h bytes) (3 * h.width) (3 * (first + x) + k) (omega arith)
+    ∙ byte_number mode h bytes first x k has channel
+    ∙ ap (λ v. 257 * v) (sym (same (byte_place mode x k) inside))
 
 -- the next row begins where the one before ended
 pub rest_after_row : (given size : ℕ) (raster bytes more : List ℕ) → drop (given * size) raster ≡ bytes ++ more → length bytes ≡ size → more ≡ drop ((given + 1) * size) raster

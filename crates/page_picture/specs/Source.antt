@@ -1,6 +1,8 @@
 -- A source of a page's rows, as contracts see it, and what each of its calls does.
-use Rattle.std.specs.Prelude.{ℕ, ◌+◌, ◌-◌, ◌^◌, ◌<◌, ◌≡◌, ◌⊎◌, Bool, true, false, List, Result, Ok, Err}
-use Rattle.page_picture.specs.Page.{PageView, IsRow}
+use Rattle.std.specs.Prelude.{ℕ, ◌+◌, ◌-◌, ◌*◌, ◌^◌, ◌<◌, ◌≡◌, ◌⊎◌, Bool, true, false, List, length, slice_index, Result, Ok, Err}
+use Rattle.page_picture.specs.Page.{PageView, IsRow, page_sample_at}
+use Rattle.page_picture.specs.declared.scene.Mode.{Mode}
+use Rattle.page_picture.specs.declared.scene.Mode.TheVariants.{Gray, Color}
 use Rattle.page_picture.specs.declared.sources.SourceFault.{SourceFault}
 
 -- the page, how many of its rows were given since the last rewind, whether the source gives the page's rows at each
@@ -33,6 +35,24 @@ abbrev pub GivesRow : SourceState → Result Bool SourceFault → SourceState �
 GivesRow old (Ok true) new row = GivesNext old new row
 GivesRow old (Ok false) new row = (old.given ≡ old.page.height) × (new ≡ old)
 GivesRow old (Err _) new row = Fails old new
+
+-- where the byte of a place's sample k stands in a row of bytes, which has one for each place in gray and three in color
+abbrev pub byte_place : Mode → ℕ → ℕ → ℕ
+byte_place Gray x k = x
+byte_place Color x k = 3 * x + k
+
+-- the next row was given as bytes, from place `first` on: each of the page's samples is 257 times its byte
+pub record GivesNextBytes (mode : Mode) (first : ℕ) (old new : SourceState) (bytes : List ℕ) : Type 0 where
+  pub more : old.given < old.page.height
+  pub after : new ≡ record old { given = old.given + 1 }
+  pub shows : old.steady ≡ true → (x k : ℕ) → k < 3 → byte_place mode x k < length bytes
+      → page_sample_at old.page (first + x) old.given k ≡ 257 * slice_index bytes (byte_place mode x k)
+
+-- the next row as bytes, or nothing where the page has no such bytes or no row is left, or a failure
+abbrev pub GivesRowBytes : Mode → ℕ → SourceState → List ℕ → Result Bool SourceFault → SourceState → List ℕ → Type 0
+GivesRowBytes mode first old before (Ok true) new bytes = GivesNextBytes mode first old new bytes
+GivesRowBytes mode first old before (Ok false) new bytes = (new ≡ old) × (bytes ≡ before)
+GivesRowBytes mode first old before (Err _) new bytes = Fails old new
 
 -- from the top again, or a failure
 abbrev pub Rewinds : {Done : Type 0} → SourceState → Result Done SourceFault → SourceState → Type 0

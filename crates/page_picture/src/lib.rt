@@ -18,5 +18,7 @@ pub use page::Page;
 pub use page_file::{PageFault, read_page};
 pub use rereadable::Rereadable;
 pub use scene::{DeviceKind, Mode, Scene};
-pub use sources::{FailingPage, MemoryPage, OpenFault, PageSource, PnmPage, Source, SourceFault};
+pub use sources::{
+    ByteRows, FailingPage, MemoryPage, OpenFault, PageSource, PnmPage, Source, SourceFault,
+};
 pub use tones::{greatest, in_channel, sample, toned};

@@ -1,8 +1,8 @@
 //! Where a virtual scanner reads the rows of its page from.
 
-ghost use Rattle.std.specs.Prelude.{◌≡◌, ◌*◌, true, length};
+ghost use Rattle.std.specs.Prelude.{◌≡◌, ◌≤◌, ◌+◌, ◌*◌, true, length};
 ghost use Rattle.page_picture.specs.Page.{IsShaped, IsPageView};
-ghost use Rattle.page_picture.specs.Source.{SourceState, GivesRow, Rewinds};
+ghost use Rattle.page_picture.specs.Source.{SourceState, GivesRow, GivesRowBytes, Rewinds, byte_place};
 
 mod eights;
 mod failing_page;
@@ -17,6 +17,7 @@ mod read_fault;
 mod read_room;
 mod scaling;
 
+use crate::scene::Mode;
 pub use failing_page::FailingPage;
 pub use kinds::Source;
 pub use memory_page::MemoryPage;
@@ -59,4 +60,15 @@ pub trait PageSource: Drop {
     /// Starts the rows anew from the top, also after a fault.
     fn rewind(&mut self) -> Result<(), SourceFault>
         ensures { Rewinds (source self.old) result (source self.new) };
+}
+
+/// A page whose rows may be had as bytes too: where a sample of its file is a byte, and 255 the greatest.
+pub trait ByteRows: PageSource {
+    /// Writes the next row as bytes, from place `first` on: one for each place in gray, three in color. False where the page
+    /// has none of that kind, and after the last row; nothing was done then.
+    fn next_bytes(&mut self, mode: Mode, first: u32, bytes: &mut [u8]) -> Result<bool, SourceFault>
+        requires { byte_place mode first 0 + length bytes.old
+            ≤ byte_place mode (Self.source self.old).page.width 0 }
+        ensures { GivesRowBytes mode first (Self.source self.old) bytes.old result
+            (Self.source self.new) bytes.new };
 }

@@ -1,6 +1,6 @@
 //! Rows of each width up to two eights and one, whose samples are worked on eight at once and one by one.
 
-use page_picture::{OpenFault, PageFault, PageSource, PnmPage};
+use page_picture::{ByteRows, Mode, OpenFault, PageFault, PageSource, PnmPage};
 use std::alloc::Global;
 use std::io::Cursor;
 use std::process::Abort;
@@ -111,5 +111,102 @@ fn a_last_sample_above_the_greatest(rt: HostRuntime) {
                 drop(text);
             }
         }
+    }
+}
+
+/// Whether the next row is given as bytes, from a place to the page's last one.
+fn gives_rest<S: ByteRows>(
+    rt: &impl Abort,
+    page: &mut S,
+    mode: Mode,
+    first: u32,
+    bytes: &mut [u8],
+) -> bool {
+    let (width, _) = page.size();
+    match mode {
+        Mode::Gray => {
+            assert!(rt; (first as usize).checked_add(bytes.len()) == Some(width as usize));
+            page.next_bytes(Mode::Gray, first, bytes) == Ok(true)
+        }
+        Mode::Color => {
+            assert!(rt; (3 * first as usize).checked_add(bytes.len()) == Some(3 * width as usize));
+            page.next_bytes(Mode::Color, first, bytes) == Ok(true)
+        }
+    }
+}
+
+/// Whether it gives no row as bytes.
+fn gives_none<S: ByteRows>(page: &mut S, mode: Mode) -> bool {
+    match mode {
+        Mode::Gray => page.next_bytes(Mode::Gray, 0, &mut []) == Ok(false),
+        Mode::Color => page.next_bytes(Mode::Color, 0, &mut []) == Ok(false),
+    }
+}
+
+/// The bytes of a page's only row from each place on; then no row is left.
+fn expect_bytes(
+    rt: &impl Abort,
+    alloc: Global,
+    text: &[u8],
+    mode: Mode,
+    channels: usize,
+    width: usize,
+) {
+    let size = channels.saturating_mul(width);
+    for first in 0..width {
+        let mut page = match PnmPage::open(alloc, Cursor::new(text), 50) {
+            Ok(page) => page,
+            Err((fault, _)) => panic!(rt; "{fault:?} at {width}"),
+        };
+        let from = channels.saturating_mul(first);
+        let count = size.saturating_sub(from);
+        let mut bytes = vec![in alloc; 0u8; count].expect(rt, "memory");
+        let place = u32::try_from(first).unwrap_or(0);
+        assert!(rt; gives_rest(rt, &mut page, mode, place, &mut bytes));
+        for (i, byte) in bytes.iter().enumerate() {
+            let i = from.saturating_add(i);
+            assert!(rt; u32::from(*byte) == number(255, i, size), "{i} of {size}");
+        }
+        assert!(rt; gives_none(&mut page, mode));
+        drop(bytes);
+        drop(page);
+    }
+}
+
+#[test]
+fn bytes_of_every_width(rt: HostRuntime) {
+    for &(kind, channels) in KINDS {
+        let mode = if channels == 1 {
+            Mode::Gray
+        } else {
+            Mode::Color
+        };
+        for width in 1..18usize {
+            let count = width.saturating_mul(channels);
+            let text = file(&rt, rt.alloc(), kind, width, 255, count, 0);
+            expect_bytes(&rt, rt.alloc(), &text, mode, channels, width);
+            drop(text);
+        }
+    }
+}
+
+/// A page of another kind or of another greatest value has no such bytes, and its row is still there.
+#[test]
+fn no_bytes_of_another_kind(rt: HostRuntime) {
+    for (text, mode) in [
+        (b"P5\n1 1\n255\n\x07".as_slice(), Mode::Color),
+        (b"P6\n1 1\n255\n\x07\x07\x07", Mode::Gray),
+        (b"P5\n1 1\n254\n\x07", Mode::Gray),
+        (b"P5\n1 1\n65535\n\x07\x07", Mode::Gray),
+    ] {
+        let mut page = match PnmPage::open(rt.alloc(), Cursor::new(text), 50) {
+            Ok(page) => page,
+            Err((fault, _)) => panic!(&rt; "{fault:?} at {text:?}"),
+        };
+        assert!(rt; gives_none(&mut page, mode));
+        let mut row = [0u16; 3];
+        assert!(rt; page.size() == (1, 1));
+        assert!(rt; page.next_row(&mut row) == Ok(true));
+        drop(page);
     }
 }

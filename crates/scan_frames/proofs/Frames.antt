@@ -116,8 +116,8 @@ first_frame s t setup pass height f after picture tall fresh =
       row = fresh.row;
       taken = fresh.taken;
       within = let e = fresh.taken in omega arith;
-      behind = let e = fresh.taken in omega arith;
-      known = λ steady on some. absurd (omega arith);
+      untaken = λ none. fresh.taken;
+      behind = λ some. absurd (let e = fresh.made in omega arith);
       line = fresh.line ∙ ap (bytes_per_line setup) (sym fresh.pass_is);
       zeros = all_zeros (packing_of setup.scene.depth) (channels_within (format_at setup f.pass) * width_of setup) f.line fresh.zeros;
       made = let e = fresh.made in omega arith;
@@ -187,7 +187,7 @@ same_count f g counted same = record {
   none = λ e. same.left ∙ counted.none (sym same.made ∙ e);
   begun = λ some.
       let less : f.left < length f.line = counted.begun (let e = same.made in omega arith) in
-      let line : length g.line ≡ length f.line = ap length same.line in
+      let line : length g.line ≡ length f.line = same.line in
       let left = same.left in
       omega arith;
 }

@@ -1,5 +1,6 @@
 pub mod Lines
 pub mod Seen
+pub mod ByteRows
 pub mod Scans
 pub mod Frames
 pub mod Giving

@@ -140,7 +140,7 @@ samples_line_by order g format scene row places columns line n p same is not siz
     (λ z. samples_line order g scene row places columns line n p is not size count each here z) zeros
 
 -- the tone at depth 8
-tone_bytes : (depth : ℕ) (table : List ℕ) (v : ℕ) → packing_of depth ≡ Bytes → tone depth table v ≡ slice_index table (v / 256)
+pub tone_bytes : (depth : ℕ) (table : List ℕ) (v : ℕ) → packing_of depth ≡ Bytes → tone depth table v ≡ slice_index table (v / 256)
 tone_bytes depth table v =
     let P : Bool → Bool → Type 0 = λ a b. (if a then Words else (if b then Bytes else Bits)) ≡ Bytes → (if a then v else (if b then slice_index table (v / 256) else (if nat_lt (slice_index table (v / 256)) 128 then 1 else 0))) ≡ slice_index table (v / 256) in
     elim (depth == 16) as (λ a. P a (depth == 8)) [

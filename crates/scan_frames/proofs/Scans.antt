@@ -12,7 +12,7 @@ use Rattle.netpbm.proofs.WritingLaws.{joined_at, length-joined}
 use Rattle.sane_fixed.specs.declared.byte_order.ByteOrder.{ByteOrder}
 use Rattle.sane_fixed.specs.declared.frame_format.FrameFormat.{FrameFormat}
 use Rattle.sane_fixed.specs.declared.frame_format.FrameFormat.TheVariants.{Gray as GrayFrame, Rgb as RgbFrame, Red as RedFrame, Green as GreenFrame, Blue as BlueFrame}
-use Rattle.page_picture.specs.Page.{PageView, IsRow}
+use Rattle.page_picture.specs.Page.{PageView}
 use Rattle.page_picture.specs.Extent.{top_of}
 use Rattle.page_picture.specs.Seen.{dot_at, seen_at, row_seen, column_seen}
 use Rattle.page_picture.specs.Tone.{tone, brightness, in_channel}
@@ -29,7 +29,7 @@ use Rattle.scan_frames.specs.declared.setup.Setup.{Setup}
 use Rattle.scan_frames.specs.Line.{packing_of, line_byte, numbers, line_of, half}
 use Rattle.scan_frames.specs.Frames.{width_of, channel_in, format_at, bytes_per_line, line_bytes}
 use Rattle.scan_frames.specs.Samples.{HasZeros, value_at}
-use Rattle.scan_frames.specs.Rows.{IsSeen, SeesRow, HasRow, IsWhiteBehind, TakesRows}
+use Rattle.scan_frames.specs.Rows.{IsSeen, IsWhiteBehind, TakesRows}
 use Rattle.scan_frames.specs.Tables.{AreComposed}
 use Rattle.scan_frames.specs.PassReading.{FrameProgress, IsFrame, IsLineCounted, given_in, row_of}
 use Rattle.scan_frames.specs.Buffers.{MakesLine, left_of_line}
@@ -96,7 +96,7 @@ line-same p order m w f g n same = numbers-same (line_byte p order (channels_wit
 
 -- ---- what a row shows
 
-brightness-same : (m : Mode) (f g : ℕ → ℕ) (k : ℕ) → k < 3 → ((i : ℕ) → i < 3 → f i ≡ g i) → brightness m f k ≡ brightness m g k
+pub brightness-same : (m : Mode) (f g : ℕ → ℕ) (k : ℕ) → k < 3 → ((i : ℕ) → i < 3 → f i ≡ g i) → brightness m f k ≡ brightness m g k
 brightness-same Gray f g k h same = let a = same 0 (omega arith) in let b = same 1 (omega arith) in let c = same 2 (omega arith) in cc
 brightness-same Color f g k h same = same k h
 
@@ -134,13 +134,10 @@ rows_grow setup page y some =
     let below : n / setup.scene.resolution * setup.scene.resolution ≤ (top_of setup.scene + (y + 1)) * page.dpi = omega (arith, div-mul-le_self n setup.scene.resolution) in
     le-div (n / setup.scene.resolution) ((top_of setup.scene + (y + 1)) * page.dpi) setup.scene.resolution (omega arith) below
 
-pub next_frame : (s t : SourceState) (setup : Setup) (f g : FrameProgress) (n : ℕ) → 1 ≤ setup.scene.resolution → IsFrame s setup f → f.made < f.height → t ≡ record s { given = n } → f.taken ≤ n → n ≤ s.page.height → IsWhiteBehind s.page.width g.row → SeesRow s (row_of setup s.page f.made) g.row → HasRow s (row_of setup s.page f.made) n g.row → n ≤ row_of setup s.page f.made + 1 → HasZeros (packing_of setup.scene.depth) (channels_within (format_at setup f.pass) * f.columns.count) g.line → g.line ≡ line_of (packing_of setup.scene.depth) setup.order (channels_within (format_at setup f.pass)) f.columns.count (value_at setup.scene (format_at setup f.pass) g.row f.columns) (length f.line) → g.pass ≡ f.pass → g.columns ≡ f.columns → g.tables ≡ f.tables → g.height ≡ f.height → g.taken ≡ n → g.made ≡ f.made + 1 → g.left ≡ length g.line → MakesLine s setup f t g
-next_frame s t setup f g n some is more after further within white sees has behind zeros bytes gp gc gs gh gt gm gf =
-    let grows = rows_grow setup s.page f.made some in
-    let next : row_of setup s.page g.made ≡ row_of setup s.page (f.made + 1) = ap (row_of setup s.page) gm in
+pub next_frame : (s t : SourceState) (setup : Setup) (f g : FrameProgress) (n : ℕ) → IsFrame s setup f → f.made < f.height → t ≡ record s { given = n } → f.taken ≤ n → n ≤ s.page.height → IsWhiteBehind s.page.width g.row → n ≤ row_of setup s.page f.made + 1 → HasZeros (packing_of setup.scene.depth) (channels_within (format_at setup f.pass) * f.columns.count) g.line → length g.line ≡ length f.line → (s.steady ≡ true → g.line ≡ line_bytes setup s.page f.pass f.made) → g.pass ≡ f.pass → g.columns ≡ f.columns → g.tables ≡ f.tables → g.height ≡ f.height → g.taken ≡ n → g.made ≡ f.made + 1 → g.left ≡ length g.line → MakesLine s setup f t g
+next_frame s t setup f g n is more after further within white behind zeros same_line bytes gp gc gs gh gt gm gf =
     let format = format_at setup f.pass in
-    let same_line : length g.line ≡ length f.line = ap length bytes ∙ length-line_of (packing_of setup.scene.depth) setup.order (channels_within format) f.columns.count (value_at setup.scene format g.row f.columns) (length f.line) in
-    let begun : f.taken ≤ n = further in
+    let last : g.made - 1 ≡ f.made = omega arith in
     let made : IsFrame (record s { given = n }) setup g = record {
       picture = is.picture;
       columns = gc ∙ is.columns;
@@ -149,24 +146,17 @@ next_frame s t setup f g n some is more after further within white sees has behi
       row = white;
       taken = gt;
       within = omega arith;
-      behind = omega arith;
-      known = λ steady on first.
-          let inside : row_of setup s.page f.made < s.page.height = omega arith in
-          let has_row = has inside in
-          let last : n - 1 ≡ row_of setup s.page f.made = omega arith in
-          subst (λ (r : ℕ). IsRow s.page r g.row) (sym last) (has_row.1 steady);
+      untaken = λ none. absurd (omega arith);
+      behind = λ some. subst (λ (m : ℕ). g.taken ≤ row_of setup s.page m + 1) (sym last) (omega arith);
       line = same_line ∙ (is.line ∙ ap (bytes_per_line setup) (sym gp));
       zeros = subst (λ (p : ℕ). HasZeros (packing_of setup.scene.depth) (channels_within (format_at setup p) * width_of setup) g.line) (sym gp)
           (subst (λ (c : Columns). HasZeros (packing_of setup.scene.depth) (channels_within format * c.count) g.line) is.columns zeros);
       made = omega arith;
       left = omega arith;
       bytes = λ steady first.
-          let last : g.made - 1 ≡ f.made = omega arith in
-          bytes
-          ∙ (ap (λ (c : Columns). line_of (packing_of setup.scene.depth) setup.order (channels_within format) c.count (value_at setup.scene format g.row c) (length f.line)) is.columns
-          ∙ (made_line s.page setup f.pass g.row f.made (length f.line) (sees steady) is.line
+          bytes steady
           ∙ (ap (line_bytes setup s.page f.pass) (sym last)
-          ∙ ap (λ (p : ℕ). line_bytes setup s.page p (g.made - 1)) (sym gp))));
+          ∙ ap (λ (p : ℕ). line_bytes setup s.page p (g.made - 1)) (sym gp));
     } in
     record {
       source = subst (λ (u : SourceState). TakesRows s u) (sym after) (record { further = omega (arith, is.taken); after = refl });
@@ -177,6 +167,29 @@ next_frame s t setup f g n some is more after further within white sees has behi
       left = gf;
     }
 
+-- a line that shows the row that is seen
+pub seen_line : (s : SourceState) (setup : Setup) (f : FrameProgress) (row line : List ℕ) → IsFrame s setup f → IsSeen s.page (row_of setup s.page f.made) row → line ≡ line_of (packing_of setup.scene.depth) setup.order (channels_within (format_at setup f.pass)) f.columns.count (value_at setup.scene (format_at setup f.pass) row f.columns) (length f.line) → line ≡ line_bytes setup s.page f.pass f.made
+seen_line s setup f row line is seen bytes =
+    let format = format_at setup f.pass in
+    bytes
+    ∙ (ap (λ (c : Columns). line_of (packing_of setup.scene.depth) setup.order (channels_within format) c.count (value_at setup.scene format row c) (length f.line)) is.columns
+    ∙ made_line s.page setup f.pass row f.made (length f.line) seen is.line)
+
+-- a line of another row than the last one shows a row that was not taken
+pub row_untaken : (s : SourceState) (setup : Setup) (f : FrameProgress) → 1 ≤ setup.scene.resolution → IsFrame s setup f → (0 < f.made → row_of setup s.page (f.made - 1) ≡ row_of setup s.page f.made → ⊥) → f.taken ≤ row_of setup s.page f.made
+row_untaken s setup f some is other =
+    elim (cases_lt 0 f.made) as (λ _. f.taken ≤ row_of setup s.page f.made) [
+      | inl begun ↦
+          let next : f.made - 1 + 1 ≡ f.made = omega arith in
+          let grows : row_of setup s.page (f.made - 1) ≤ row_of setup s.page f.made = subst (λ (m : ℕ). row_of setup s.page (f.made - 1) ≤ row_of setup s.page m) next (rows_grow setup s.page (f.made - 1) some) in
+          let behind = is.behind begun in
+          elim (cases_lt (row_of setup s.page (f.made - 1)) (row_of setup s.page f.made)) as (λ _. f.taken ≤ row_of setup s.page f.made) [
+            | inl less ↦ omega arith
+            | inr more ↦ absurd (other begun (omega arith))
+          ]
+      | inr none ↦ let first = is.untaken (omega arith) in omega arith
+    ]
+
 -- a line that shows the same row of the page is the same
 line_again : (setup : Setup) (page : PageView) (pass y z : ℕ) → row_of setup page y ≡ row_of setup page z → line_bytes setup page pass y ≡ line_bytes setup page pass z
 unfolding sample_of
@@ -185,9 +198,8 @@ line_again setup page pass y z same =
     let scene = setup.scene in
     ap (λ (r : ℕ). line_of (packing_of scene.depth) setup.order (channels_within format) (width_of setup) (λ x k. in_channel scene.mode scene.depth scene.channel_gamma (channel_in format k) (tone scene.depth scene.gamma (brightness scene.mode (dot_at page (column_seen scene page.dpi x) r) (channel_in format k)))) (bytes_per_line setup pass)) same
 
-pub frame_again : (s : SourceState) (setup : Setup) (f : FrameProgress) → 1 ≤ setup.scene.resolution → IsFrame s setup f → f.made < f.height → 0 < f.made → row_of setup s.page (f.made - 1) ≡ row_of setup s.page f.made → MakesLine s setup f s (record f { made = f.made + 1; left = length f.line })
-frame_again s setup f some is more begun same =
-    let grows = rows_grow setup s.page f.made some in
+pub frame_again : (s : SourceState) (setup : Setup) (f : FrameProgress) → IsFrame s setup f → f.made < f.height → 0 < f.made → row_of setup s.page (f.made - 1) ≡ row_of setup s.page f.made → MakesLine s setup f s (record f { made = f.made + 1; left = length f.line })
+frame_again s setup f is more begun same =
     let last : f.made ≡ f.made + 1 - 1 = omega arith in
     record {
       source = record { further = omega arith; after = refl };
@@ -199,8 +211,8 @@ frame_again s setup f some is more begun same =
         row = is.row;
         taken = is.taken;
         within = is.within;
-        behind = (let behind : f.taken ≤ row_of setup s.page f.made + 1 = is.behind in omega arith);
-        known = λ steady on first. is.known steady (omega arith) first;
+        untaken = λ none. absurd (omega arith);
+        behind = λ some. subst (λ (m : ℕ). f.taken ≤ row_of setup s.page m + 1) last (let behind = is.behind begun in omega arith);
         line = is.line;
         zeros = is.zeros;
         made = omega arith;

@@ -1,21 +1,14 @@
 -- The row that is seen at a height.
-use Rattle.std.proofs.Common.{◌≡◌, ℕ, ◌<◌, ◌≤◌, ◌+◌, ◌-◌, ◌*◌, inl, inr, Bool, true, false, List, arith, refl, sym, ap, ◌∙◌, subst}
+use Rattle.std.proofs.Common.{◌≡◌, ℕ, ◌<◌, ◌≤◌, ◌+◌, ◌*◌, inl, inr, Bool, true, false, List, arith, refl, sym, ap, ◌∙◌, subst}
 use Rattle.std.specs.Prelude.{nat_lt, ◌&&◌, slice_index, if◌then◌else◌}
 use Rattle.std.proofs.lemmas.Bool.{cases_lt}
 use Rattle.std.proofs.lemmas.Bool.Decides.{nat_tests}
 use Rattle.page_picture.specs.Page.{PageView, IsRow, page_sample_at}
 use Rattle.page_picture.specs.Seen.{dot_at}
-use Rattle.page_picture.specs.Source.{SourceState}
-use Rattle.scan_frames.specs.Rows.{KnowsRow, KeepsRow, IsWhiteBehind, IsSeen}
-
-pub has_row : (s : SourceState) (given target : ℕ) (before after : List ℕ) → given ≡ s.given → KnowsRow s target before → target < s.page.height → KeepsRow s before target after → s.steady ≡ true → IsRow s.page target after
-has_row s given target before after e known inside keeps steady =
-    keeps steady (λ all.
-    let last : s.given - 1 ≡ target = omega arith in
-    subst (λ (t : ℕ). IsRow s.page t before) last (known steady inside (omega arith)))
+use Rattle.scan_frames.specs.Rows.{IsWhiteBehind, IsSeen}
 
 -- a dot of the page, or white
-on_page : (p : PageView) (c height k : ℕ) → c < p.width → height < p.height → dot_at p c height k ≡ page_sample_at p c height k
+pub on_page : (p : PageView) (c height k : ℕ) → c < p.width → height < p.height → dot_at p c height k ≡ page_sample_at p c height k
 on_page p c height k a b =
     let P : Bool → Bool → Type 0 = λ s t. (if s && t then page_sample_at p c height k else 65535) ≡ page_sample_at p c height k in
     let left : nat_lt c p.width ≡ true = grind (arith, nat_tests) in

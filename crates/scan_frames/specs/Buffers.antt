@@ -48,7 +48,7 @@ pub record MakesLine (s : SourceState) (setup : Setup) (old : FrameProgress) (t 
 
 -- no line was made
 pub record KeepsCount (old new : FrameProgress) : Type 0 where
-  pub line : new.line ≡ old.line
+  pub line : length new.line ≡ length old.line
   pub made : new.made ≡ old.made
   pub left : new.left ≡ old.left
 

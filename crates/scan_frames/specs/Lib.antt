@@ -4,6 +4,7 @@ pub mod Filler
 pub mod Samples
 pub mod Tables
 pub mod Rows
+pub mod ByteLines
 pub mod PassReading
 pub mod Buffers
 pub mod StatusOf

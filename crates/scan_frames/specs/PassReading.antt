@@ -1,6 +1,6 @@
 -- A frame that is read, line by line, from a source that gives its page row by row.
 use Rattle.std.specs.Prelude.{ℕ, ◌+◌, ◌-◌, ◌*◌, ◌<◌, ◌≤◌, ◌≡◌, true, false, List, length, take, drop, min, Result, Ok, Err}
-use Rattle.page_picture.specs.Page.{PageView, IsRow}
+use Rattle.page_picture.specs.Page.{PageView}
 use Rattle.page_picture.specs.Seen.{row_seen}
 use Rattle.page_picture.specs.Columns.{Columns, columns_of}
 use Rattle.page_picture.specs.Shows.{channels_within}
@@ -24,7 +24,7 @@ pub record FrameProgress : Type 0 where
   -- what becomes of a sample in red, green and blue at depth 8, by its upper byte
   pub tables : List (List ℕ)
   pub height : ℕ
-  -- the last row that was taken, with a white place behind it, and how many were taken
+  -- room for a row, with a white place behind it, and how many rows were taken
   pub row : List ℕ
   pub taken : ℕ
   -- the last line that was made, how many were made, and how many bytes of the last were not given
@@ -45,11 +45,8 @@ pub record IsLineCounted (f : FrameProgress) : Type 0 where
 abbrev pub row_of : Setup → PageView → ℕ → ℕ
 row_of setup page y = row_seen setup.scene page.dpi y
 
--- where the next line's row is on the page and rows were taken, the last of them is at hand
-abbrev pub KeepsLastRow : SourceState → Setup → FrameProgress → Type 0
-KeepsLastRow s setup f = s.steady ≡ true → row_of setup s.page f.made < s.page.height → 0 < s.given → IsRow s.page (s.given - 1) f.row
-
--- the frame of a setup, read from a source in this state; where the source is steady, its last line is that of the page
+-- the frame of a setup, read from a source in this state: no row was taken behind the one that its last line shows, and
+-- where the source is steady, that line is the page's
 pub record IsFrame (s : SourceState) (setup : Setup) (f : FrameProgress) : Type 0 where
   pub picture : has_picture setup s.page ≡ true
   pub columns : f.columns ≡ columns_of setup.scene s.page.width s.page.dpi
@@ -58,8 +55,8 @@ pub record IsFrame (s : SourceState) (setup : Setup) (f : FrameProgress) : Type 
   pub row : IsWhiteBehind s.page.width f.row
   pub taken : f.taken ≡ s.given
   pub within : f.taken ≤ s.page.height
-  pub behind : f.taken ≤ row_of setup s.page f.made + 1
-  pub known : KeepsLastRow s setup f
+  pub untaken : f.made ≡ 0 → f.taken ≡ 0
+  pub behind : 0 < f.made → f.taken ≤ row_of setup s.page (f.made - 1) + 1
   pub line : length f.line ≡ bytes_per_line setup f.pass
   pub zeros : HasZeros (packing_of setup.scene.depth) (channels_within (format_at setup f.pass) * width_of setup) f.line
   pub made : f.made ≤ f.height

@@ -1,6 +1,6 @@
 -- The row of a page that a line shows.
-use Rattle.std.specs.Prelude.{ℕ, ◌+◌, ◌-◌, ◌*◌, ◌<◌, ◌≤◌, ◌≡◌, true, false, List, length, slice_index}
-use Rattle.page_picture.specs.Page.{PageView, IsRow}
+use Rattle.std.specs.Prelude.{ℕ, ◌+◌, ◌*◌, ◌<◌, ◌≤◌, ◌≡◌, true, false, List, length, slice_index}
+use Rattle.page_picture.specs.Page.{PageView}
 use Rattle.page_picture.specs.Seen.{dot_at}
 use Rattle.page_picture.specs.Source.{SourceState, CountsFailure}
 
@@ -16,11 +16,6 @@ pub record StopsFailing (old new : SourceState) : Type 0 where
   pub counted : CountsFailure old.failures new.failures
   pub after : new ≡ record old { given = new.given; failures = new.failures }
 
--- where `before` held the row taken last, `after` holds row `target`
-abbrev pub KeepsRow : SourceState → List ℕ → ℕ → List ℕ → Type 0
-KeepsRow s before target after =
-    s.steady ≡ true → (s.given ≡ target + 1 → IsRow s.page target before) → IsRow s.page target after
-
 -- a row of places with a white one behind its last
 pub record IsWhiteBehind (width : ℕ) (row : List ℕ) : Type 0 where
   pub size : length row ≡ 3 * width + 3
@@ -32,11 +27,3 @@ pub record IsSeen (page : PageView) (height : ℕ) (row : List ℕ) : Type 0 whe
 
 abbrev pub SeesRow : SourceState → ℕ → List ℕ → Type 0
 SeesRow s target row = s.steady ≡ true → IsSeen s.page target row
-
--- where row `target` is on the page and rows were taken, this is the last of them
-abbrev pub KnowsRow : SourceState → ℕ → List ℕ → Type 0
-KnowsRow s target row = s.steady ≡ true → target < s.page.height → 0 < s.given → IsRow s.page (s.given - 1) row
-
--- where row `target` is on the page, it is this one, and the last of n that were taken
-abbrev pub HasRow : SourceState → ℕ → ℕ → List ℕ → Type 0
-HasRow s target n row = target < s.page.height → (n ≡ target + 1) × (s.steady ≡ true → IsRow s.page target row)

@@ -1,19 +1,20 @@
 //! The buffers of a frame, and how lines are made and given.
 
-ghost use Rattle.std.specs.Prelude.{◌≡◌, ◌==◌, ◌≤◌, ◌<◌, ◌-◌, false, length, OnOk, OnErr, IfOk};
+ghost use Rattle.std.specs.Prelude.{◌≡◌, ◌==◌, ◌≤◌, ◌<◌, ◌-◌, Ok, true, false, length, OnOk, OnErr, IfOk};
 ghost use Rattle.scan_frames.specs.Rows.{IsWhiteBehind, StopsFailing};
 ghost use Rattle.scan_frames.specs.Samples.{IsZeroFrom};
 ghost use Rattle.scan_frames.specs.Frames.{IsSetup};
 ghost use Rattle.scan_frames.specs.PassReading.{IsFrame, IsLineCounted, ReadsFrame, row_of};
 ghost use Rattle.scan_frames.specs.Buffers.{IsNewFrame, MakesLine, KeepsCount, HasLineBytes, GivesLine, GivesOfLine, is_frame_over, state_of};
 
+use crate::byte_lines::byte_line;
 use crate::faults::ReadEnd;
 use crate::gamma_tables::color_tables;
 use crate::line::make_line;
 use crate::pass::bytes_per_line;
 use crate::rows::see;
 use crate::setup::Setup;
-use page_picture::{ColumnMap, PageSource, SourceFault};
+use page_picture::{ByteRows, ColumnMap, PageSource, SourceFault};
 use sane_fixed::NoMem;
 use std::alloc::{AllocError, Global};
 
@@ -25,7 +26,7 @@ pub struct Buffers {
     /// What becomes of a sample in red, green and blue at depth 8, by its upper byte.
     tables: [[u8; 256]; 3],
     height: u32,
-    /// The last row that was taken, with a white place behind it, which all pixels off the page show.
+    /// Room for a row, with a white place behind it, which all pixels off the page show.
     row: Vec<u16>,
     /// The rows that were taken.
     taken: u32,
@@ -92,8 +93,8 @@ fn row_of<S: PageSource>(source: &S, setup: &Setup, y: u32) -> u64
     dots * u64::from(source.dpi()) / u64::from(setup.scene.resolution)
 }
 
-/// Makes the next line of the row that it shows.
-fn line_of_row<S: PageSource>(
+/// Makes the next line of the samples of the row that it shows.
+fn line_of_samples<S: PageSource>(
     buffers: &mut Buffers,
     source: &mut S,
     setup: &Setup,
@@ -101,6 +102,8 @@ fn line_of_row<S: PageSource>(
     requires setup { IsSetup setup.now }
     requires frame { IsFrame (S.source source.old) setup.now (state_of buffers.old) }
     requires more { buffers.old.made < buffers.old.height }
+    requires untaken { buffers.old.taken
+        ≤ row_of setup.now (S.source source.old).page buffers.old.made }
     ensures ok { OnOk result (MakesLine (S.source source.old) setup.now
         (state_of buffers.old) (S.source source.new) (state_of buffers.new)) }
     ensures err { OnErr result (StopsFailing (S.source source.old) (S.source source.new)) }
@@ -121,6 +124,67 @@ fn line_of_row<S: PageSource>(
     Ok(())
 }
 
+/// Makes the next line of the bytes of the row that it shows, where that is the next; false where it cannot, and then
+/// nothing was done.
+fn line_of_bytes<S: ByteRows>(
+    buffers: &mut Buffers,
+    source: &mut S,
+    setup: &Setup,
+) -> Result<bool, SourceFault>
+    requires setup { IsSetup setup.now }
+    requires frame { IsFrame (S.source source.old) setup.now (state_of buffers.old) }
+    requires more { buffers.old.made < buffers.old.height }
+    ensures made { result ≡ Ok true → MakesLine (S.source source.old) setup.now
+        (state_of buffers.old) (S.source source.new) (state_of buffers.new) }
+    ensures none { result ≡ Ok false → (S.source source.new ≡ S.source source.old)
+        × (state_of buffers.new ≡ state_of buffers.old) }
+    ensures err { OnErr result (StopsFailing (S.source source.old) (S.source source.new)) }
+    ensures count { OnErr result (KeepsCount (state_of buffers.old) (state_of buffers.new)) }
+{
+    // The limits of a page.
+    let _size = source.size();
+    if row_of(source, setup, buffers.made) != u64::from(buffers.taken) {
+        return Ok(false);
+    }
+    let is_made = byte_line(
+        source,
+        setup,
+        buffers.pass,
+        &buffers.tables,
+        &buffers.columns,
+        &mut buffers.line,
+    )?;
+    if !is_made {
+        return Ok(false);
+    }
+    buffers.taken += 1;
+    buffers.made += 1;
+    buffers.left = buffers.line.len();
+    Ok(true)
+}
+
+/// Makes the next line of the row that it shows.
+fn line_of_row<S: ByteRows>(
+    buffers: &mut Buffers,
+    source: &mut S,
+    setup: &Setup,
+) -> Result<(), SourceFault>
+    requires setup { IsSetup setup.now }
+    requires frame { IsFrame (S.source source.old) setup.now (state_of buffers.old) }
+    requires more { buffers.old.made < buffers.old.height }
+    requires untaken { buffers.old.taken
+        ≤ row_of setup.now (S.source source.old).page buffers.old.made }
+    ensures ok { OnOk result (MakesLine (S.source source.old) setup.now
+        (state_of buffers.old) (S.source source.new) (state_of buffers.new)) }
+    ensures err { OnErr result (StopsFailing (S.source source.old) (S.source source.new)) }
+    ensures count { OnErr result (KeepsCount (state_of buffers.old) (state_of buffers.new)) }
+{
+    if line_of_bytes(buffers, source, setup)? {
+        return Ok(());
+    }
+    line_of_samples(buffers, source, setup)
+}
+
 /// Takes the last line for the next one, which shows the same row.
 fn line_again<S: PageSource>(buffers: &mut Buffers, source: &S, setup: &Setup)
     requires setup { IsSetup setup.now }
@@ -137,7 +201,7 @@ fn line_again<S: PageSource>(buffers: &mut Buffers, source: &S, setup: &Setup)
 }
 
 /// Makes the next line. Where the page has fewer dots per inch than the picture, a row shows in several lines.
-fn next_line<S: PageSource>(
+fn next_line<S: ByteRows>(
     buffers: &mut Buffers,
     source: &mut S,
     setup: &Setup,
@@ -159,7 +223,7 @@ fn next_line<S: PageSource>(
 }
 
 /// Makes the next line where no byte of the last is left.
-fn make_ready<S: PageSource>(
+fn make_ready<S: ByteRows>(
     buffers: &mut Buffers,
     source: &mut S,
     setup: &Setup,
@@ -192,7 +256,7 @@ fn give(buffers: &mut Buffers, buf: &mut [u8]) -> usize
 }
 
 /// Gives what is left of a line, or the next one where nothing is, but no more bytes than the buffer holds.
-fn give_of_line<S: PageSource>(
+fn give_of_line<S: ByteRows>(
     buffers: &mut Buffers,
     source: &mut S,
     setup: &Setup,
@@ -220,7 +284,7 @@ fn is_frame_over(buffers: &Buffers) -> bool
 }
 
 /// Gives the next bytes of a frame, line after line until the buffer is full.
-pub fn read_on<S: PageSource>(
+pub fn read_on<S: ByteRows>(
     buffers: &mut Buffers,
     source: &mut S,
     setup: &Setup,

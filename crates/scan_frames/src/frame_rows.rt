@@ -6,7 +6,7 @@ use crate::buffers::{Buffers, read_on, reserve};
 use crate::faults::{BeginFault, ReadEnd};
 use crate::pass::sides;
 use crate::setup::Setup;
-use page_picture::PageSource;
+use page_picture::{ByteRows, PageSource};
 use std::alloc::Global;
 use std::marker::Model;
 
@@ -65,7 +65,7 @@ impl FrameRows {
     ///
     /// `End` where all bytes were given. `SourceFailed` where the source does not give a row that these bytes show; the
     /// frame can be read no more then, and nothing in the buffer counts.
-    pub fn read<S: PageSource>(
+    pub fn read<S: ByteRows>(
         &mut self,
         source: &mut S,
         setup: &Setup,

@@ -112,7 +112,7 @@ fn put_colors(tables: &[[u8; 256]; 3], row: &[u16], places: &[u32], line: &mut [
 }
 
 /// Whether a table leaves each byte as it is.
-fn is_same(table: &[u8; 256]) -> bool
+pub fn is_same(table: &[u8; 256]) -> bool
     ensures same { result ≡ true → IsSame table.now }
     ensures other { result ≡ false → IsSame table.now → ⊥ }
 {
@@ -125,7 +125,7 @@ fn is_same(table: &[u8; 256]) -> bool
 }
 
 /// Whether the tables leave each sample's upper byte as it is.
-fn is_plain(tables: &[[u8; 256]; 3]) -> bool
+pub fn is_plain(tables: &[[u8; 256]; 3]) -> bool
     ensures plain { result ≡ true → IsPlain tables.now }
     ensures other { result ≡ false → IsPlain tables.now → ⊥ }
 {

@@ -1,11 +1,12 @@
 //! The row of a page that a line shows.
 
-ghost use Rattle.std.specs.Prelude.{◌≡◌, ◌≤◌, ◌<◌, ◌+◌, ◌*◌, ℕ, length, slice_index, OnOk, OnErr, IfOk};
-ghost use Rattle.scan_frames.specs.Rows.{StopsFailing, KeepsRow, KnowsRow, IsWhiteBehind, SeesRow, HasRow};
+ghost use Rattle.std.specs.Prelude.{◌≡◌, ◌≤◌, ◌<◌, ◌+◌, ◌*◌, ℕ, true, length, slice_index, OnOk, OnErr, IfOk};
+ghost use Rattle.page_picture.specs.Page.{IsRow};
+ghost use Rattle.scan_frames.specs.Rows.{StopsFailing, IsWhiteBehind, SeesRow};
 
 use page_picture::{PageSource, SourceFault};
 
-/// Takes rows until row `target` was taken. The last row taken stands at the front of `row`.
+/// Takes rows until row `target` was taken, which then stands at the front of `row`.
 fn advance<S: PageSource>(
     source: &mut S,
     row: &mut [u16],
@@ -16,11 +17,12 @@ fn advance<S: PageSource>(
     requires size { size ≡ 3 * (S.source source.old).page.width }
     requires room { size ≤ length row.old }
     requires taken { taken ≡ (S.source source.old).given }
-    requires behind { taken ≤ target + 1 }
+    requires behind { taken ≤ target }
     requires inside { target < (S.source source.old).page.height }
     ensures ok { OnOk result (S.source source.new
         ≡ record (S.source source.old) { given = target + 1 }) }
-    ensures row { OnOk result (KeepsRow (S.source source.old) row.old target row.new) }
+    ensures row { OnOk result ((S.source source.old).steady ≡ true
+        → IsRow (S.source source.old).page target row.new) }
     ensures rest { (j : ℕ) → size ≤ j → slice_index row.new j ≡ slice_index row.old j }
     ensures err { OnErr result (StopsFailing (S.source source.old) (S.source source.new)) }
 {
@@ -44,11 +46,9 @@ pub fn see<S: PageSource>(
     requires row { IsWhiteBehind (S.source source.old).page.width row.old }
     requires taken { taken ≡ (S.source source.old).given }
     requires within { taken ≤ (S.source source.old).page.height }
-    requires behind { taken ≤ target + 1 }
-    requires known { KnowsRow (S.source source.old) target row.old }
+    requires behind { taken ≤ target }
     ensures row { OnOk result (IsWhiteBehind (S.source source.old).page.width row.new) }
     ensures seen { OnOk result (SeesRow (S.source source.old) target row.new) }
-    ensures known { IfOk result (λ n. HasRow (S.source source.old) target n row.new) }
     ensures after { IfOk result (λ n. S.source source.new
         ≡ record (S.source source.old) { given = n }) }
     ensures further { IfOk result (λ n. taken ≤ n) }

@@ -3,7 +3,8 @@ ghost use Rattle.page_picture.specs.Source.{GivesRow, Rewinds};
 ghost use Rattle.page_picture.specs.Failing.{CountsCall};
 
 use crate::page::Page;
-use crate::sources::{PageSource, SourceFault};
+use crate::scene::Mode;
+use crate::sources::{ByteRows, PageSource, SourceFault};
 use std::marker::Model;
 
 /// A page in memory of which one call of `next_row` and `rewind` fails.
@@ -113,5 +114,17 @@ impl PageSource for FailingPage {
         self.count_call()?;
         self.given = 0;
         Ok(())
+    }
+}
+
+/// A page in memory has samples of two bytes alone; so these calls never count.
+impl ByteRows for FailingPage {
+    fn next_bytes(
+        &mut self,
+        _mode: Mode,
+        _first: u32,
+        _bytes: &mut [u8],
+    ) -> Result<bool, SourceFault> {
+        Ok(false)
     }
 }

@@ -1,4 +1,5 @@
-use crate::sources::{FailingPage, MemoryPage, PageSource, PnmPage, SourceFault};
+use crate::scene::Mode;
+use crate::sources::{ByteRows, FailingPage, MemoryPage, PageSource, PnmPage, SourceFault};
 use std::fs::File;
 
 /// The page sources that devices hold.
@@ -52,6 +53,21 @@ impl PageSource for Source {
             Source::Memory(page) => page.rewind(),
             Source::Failing(page) => page.rewind(),
             Source::Pnm(page) => page.rewind(),
+        }
+    }
+}
+
+impl ByteRows for Source {
+    fn next_bytes(
+        &mut self,
+        mode: Mode,
+        first: u32,
+        bytes: &mut [u8],
+    ) -> Result<bool, SourceFault> {
+        match self {
+            Source::Memory(page) => page.next_bytes(mode, first, bytes),
+            Source::Failing(page) => page.next_bytes(mode, first, bytes),
+            Source::Pnm(page) => page.next_bytes(mode, first, bytes),
         }
     }
 }

@@ -1,7 +1,8 @@
 ghost use Rattle.std.specs.Prelude.{◌≡◌};
 
 use crate::page::Page;
-use crate::sources::{PageSource, SourceFault};
+use crate::scene::Mode;
+use crate::sources::{ByteRows, PageSource, SourceFault};
 use std::marker::Model;
 
 /// A page in memory: it never fails.
@@ -63,5 +64,17 @@ impl PageSource for MemoryPage {
     fn rewind(&mut self) -> Result<(), SourceFault> {
         self.given = 0;
         Ok(())
+    }
+}
+
+/// A page in memory has samples of two bytes alone.
+impl ByteRows for MemoryPage {
+    fn next_bytes(
+        &mut self,
+        _mode: Mode,
+        _first: u32,
+        _bytes: &mut [u8],
+    ) -> Result<bool, SourceFault> {
+        Ok(false)
     }
 }

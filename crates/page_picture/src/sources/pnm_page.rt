@@ -5,6 +5,8 @@ ghost use Rattle.page_picture.specs.PnmState.{LosesRows};
 ghost use Rattle.page_picture.specs.PageRows.{IsPageHeader, IsRaster, file_row_size};
 ghost use Rattle.page_picture.specs.Opening.{HasOpenFaultAfter, IsOfFile};
 
+mod byte_samples;
+
 use crate::page_file::PageFault;
 use crate::rereadable::Rereadable;
 use crate::sources::header_scan::HeaderScan;

@@ -1,7 +1,7 @@
-ghost use Rattle.std.specs.Prelude.{ℕ, ◌≡◌, ◌≤◌, ◌<◌, ◌+◌, ◌-◌, ◌*◌, ◌/◌, ◌^◌, ◌++◌, length, slice_index, true, false, Ok, min, max, IfOk, IfErr, MatchBool, OnOk, OnErr};
+ghost use Rattle.std.specs.Prelude.{ℕ, ◌≡◌, ◌≤◌, ◌<◌, ◌+◌, ◌-◌, ◌*◌, ◌/◌, ◌^◌, ◌++◌, length, slice_index, slice_range, true, false, Ok, min, max, IfOk, IfErr, MatchBool, OnOk, OnErr};
 ghost use Rattle.netpbm.specs.Raster.{NoneAbove, SomeAbove, sample_count};
 ghost use Rattle.page_picture.specs.KnownBytes.{FailsWithin};
-ghost use Rattle.page_picture.specs.PageRows.{IsPageHeader, IsRaster, ReadsRaster, ShowsRow, GivesRowOf, HasRows, unused_bytes, row_count, row_header, file_row_size};
+ghost use Rattle.page_picture.specs.PageRows.{IsPageHeader, IsRaster, ReadsRaster, ShowsRow, GivesPartOf, GivesRowOf, HasRows, unused_bytes, row_count, row_header, file_row_size};
 ghost use Rattle.page_picture.specs.Opening.{HasOpenFaultAfter, IsOfFile};
 
 use crate::page_file::PageFault;
@@ -302,6 +302,51 @@ fn write_row(header: &Header, bytes: &[u8], row: &mut [u16])
     }
 }
 
+/// Takes the next of the `rows` that are not used yet, of which the last `held` of `bytes` are held, and gives the place of
+/// its first byte there. It fails where the file has no such row or a sample in it is above the greatest value.
+fn take_row<R: Rereadable>(
+    reader: &mut R,
+    header: &Header,
+    rows: u32,
+    held: &mut u32,
+    bytes: &mut [u8],
+) -> Result<usize, ReadFault>
+    requires page { IsPageHeader header.now }
+    requires room { file_row_size header.now ≤ length bytes.old }
+    requires rows { 1 ≤ rows }
+    requires held { held.old ≤ rows }
+    requires within { held.old * file_row_size header.now ≤ length bytes.old }
+    ensures kept { R.is_kept reader.new ≡ R.is_kept reader.old }
+    ensures text { R.text reader.new ≡ R.text reader.old }
+    ensures held { held.new ≤ rows }
+    ensures next { OnOk result (held.new + 1 ≤ rows) }
+    ensures within { held.new * file_row_size header.now ≤ length bytes.new }
+    ensures place { IfOk result (λ from. from + file_row_size header.now ≤ length bytes.new) }
+    ensures fits { IfOk result (λ from. NoneAbove header.now.maxval
+        (slice_range bytes.new from (from + file_row_size header.now)) (row_count header.now)) }
+    ensures read { IfOk result (λ from. R.is_kept reader.old ≡ true
+        → unused_bytes (file_row_size header.now) held.old bytes.old (R.left reader.old)
+        ≡ slice_range bytes.new from (from + file_row_size header.now)
+        ++ unused_bytes (file_row_size header.now) held.new bytes.new (R.left reader.new)) }
+    ensures failed { OnErr result (R.is_kept reader.old ≡ true
+        → HasRows header.now rows
+        (unused_bytes (file_row_size header.now) held.old bytes.old (R.left reader.old))
+        → R.faults reader.old < R.faults reader.new) }
+{
+    let size = raster_size(&row_header(header));
+    let mut reads = 0;
+    if !hold_rows(reader, size, rows, held, bytes, &mut reads)? {
+        return Err(ReadFault);
+    }
+    let from = bytes.len() - *held as usize * size;
+    *held -= 1;
+    let count = sample_count(&row_header(header));
+    if !all_fit(header.maxval, &bytes[from..from + size], count) {
+        return Err(ReadFault);
+    }
+    Ok(from)
+}
+
 /// Writes the samples of the next of the `rows` that are not used yet, of which the last `held` of `bytes` are held. It
 /// fails where the file has no such row or a sample in it is above the greatest value.
 pub fn read_row<R: Rereadable>(
@@ -332,17 +377,43 @@ pub fn read_row<R: Rereadable>(
         → R.faults reader.old < R.faults reader.new) }
 {
     let size = raster_size(&row_header(header));
-    let mut reads = 0;
-    if !hold_rows(reader, size, rows, held, bytes, &mut reads)? {
-        return Err(ReadFault);
-    }
-    let from = bytes.len() - *held as usize * size;
-    *held -= 1;
-    let shown = &bytes[from..from + size];
-    if !all_fit(header.maxval, shown, sample_count(&row_header(header))) {
-        return Err(ReadFault);
-    }
-    write_row(header, shown, row);
+    let from = take_row(reader, header, rows, held, bytes)?;
+    write_row(header, &bytes[from..from + size], row);
+    Ok(())
+}
+
+/// Writes the next row's bytes from the `at`-th on, as `read_row` writes its samples.
+pub fn read_row_bytes<R: Rereadable>(
+    reader: &mut R,
+    header: &Header,
+    rows: u32,
+    held: &mut u32,
+    bytes: &mut [u8],
+    at: usize,
+    part: &mut [u8],
+) -> Result<(), ReadFault>
+    requires page { IsPageHeader header.now }
+    requires room { file_row_size header.now ≤ length bytes.old }
+    requires rows { 1 ≤ rows }
+    requires held { held.old ≤ rows }
+    requires within { held.old * file_row_size header.now ≤ length bytes.old }
+    requires inside { at + length part.old ≤ file_row_size header.now }
+    ensures kept { R.is_kept reader.new ≡ R.is_kept reader.old }
+    ensures text { R.text reader.new ≡ R.text reader.old }
+    ensures held { held.new ≤ rows }
+    ensures next { OnOk result (held.new + 1 ≤ rows) }
+    ensures within { held.new * file_row_size header.now ≤ length bytes.new }
+    ensures read { OnOk result (R.is_kept reader.old ≡ true → GivesPartOf header.now at
+        (unused_bytes (file_row_size header.now) held.old bytes.old (R.left reader.old))
+        (unused_bytes (file_row_size header.now) held.new bytes.new (R.left reader.new)) part.new) }
+    ensures failed { OnErr result (R.is_kept reader.old ≡ true
+        → HasRows header.now rows
+        (unused_bytes (file_row_size header.now) held.old bytes.old (R.left reader.old))
+        → R.faults reader.old < R.faults reader.new) }
+{
+    let from = take_row(reader, header, rows, held, bytes)?;
+    let start = from + at;
+    part.copy_from_slice(&bytes[start..start + part.len()]);
     Ok(())
 }
 

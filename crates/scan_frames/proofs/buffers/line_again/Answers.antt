@@ -9,4 +9,4 @@ returns g c =
     let setup = c.args.setup.now in
     let old = c.args.buffers.now in
     subst (λ (n : ℕ). MakesLine s setup (state_of old) s (record (state_of old) { made = old.made + 1; left = n })) (sym (c.len-buffers.ensures ∙ old.line.ok.0))
-    (frame_again s setup (state_of old) c.requires.setup.resolution_some c.requires.frame c.requires.more c.requires.begun c.requires.same)
+    (frame_again s setup (state_of old) c.requires.frame c.requires.more c.requires.begun c.requires.same)

@@ -8,6 +8,6 @@ invariant-loop-y g l =
     let source = g.S.PageSource.source in
     record {
       at : source l.source ≡ record (source l.fn.source) { given = l._y };
-      row : (source l.fn.source).steady ≡ true → (l._y ≡ l.taken → IsRow (source l.fn.source).page l.target l.fn.row) → l._y ≡ l.target + 1 → IsRow (source l.fn.source).page l.target l.row;
+      row : (source l.fn.source).steady ≡ true → l._y ≡ l.target + 1 → IsRow (source l.fn.source).page l.target l.row;
       rest : (j : ℕ) → l.size ≤ j → slice_index l.row j ≡ slice_index l.fn.row j;
     }

@@ -3,12 +3,12 @@ use Rattle.page_picture.specs.Shows.{channels_within}
 use Rattle.scan_frames.specs.Line.{packing_of, line_of}
 use Rattle.scan_frames.specs.Frames.{format_at}
 use Rattle.scan_frames.specs.Samples.{value_at}
-use Rattle.scan_frames.specs.Rows.{SeesRow, HasRow}
+use Rattle.scan_frames.specs.Rows.{SeesRow}
 use Rattle.scan_frames.specs.PassReading.{FrameProgress}
 use Rattle.scan_frames.specs.Buffers.{MakesLine, state_of}
-use Rattle.scan_frames.proofs.Scans.{next_frame, put_back}
+use Rattle.scan_frames.proofs.Scans.{next_frame, put_back, seen_line}
 use Rattle.scan_frames.proofs.Frames.{short_line}
-use Rattle.scan_frames.proofs.buffers.line_of_row.Goals as goal
+use Rattle.scan_frames.proofs.buffers.line_of_samples.Goals as goal
 
 pub make_line-requires-clause-short : goal.make_line-requires-clause-short
 make_line-requires-clause-short g c =
@@ -33,7 +33,6 @@ returns-clause-ok g c =
     let behind = c.in_ok-buffers.ensures.behind in
     let white = c.in_ok-buffers.ensures.row in
     let sees = subst (λ (r : ℕ). SeesRow s r c.see.new.row) target c.in_ok-buffers.ensures.seen in
-    let has = subst (λ (r : ℕ). HasRow s r n c.see.new.row) target c.in_ok-buffers.ensures.known in
     let row_is : c.deref.result.now ≡ c.see.new.row = c.deref.ensures.value ∙ row_back in
     let line : List ℕ → List ℕ → List ℕ = λ row line. line_of (packing_of setup.scene.depth) setup.order (channels_within format) columns.count (value_at setup.scene format row columns) (length line) in
     let bytes : c.make_line.new.line ≡ line c.see.new.row old.line.items =
@@ -51,6 +50,7 @@ returns-clause-ok g c =
     } in
     let left : c.len-buffers.result ≡ length c.make_line.new.line = c.len-buffers.ensures ∙ (old.line.ok.0 ∙ sym line_lent) in
     let made : MakesLine s setup (state_of old) t (at c.see.new.row c.make_line.new.line) =
-    next_frame s t setup (state_of old) (at c.see.new.row c.make_line.new.line) n c.requires.setup.resolution_some c.requires.frame c.requires.more c.in_ok-buffers.ensures.after c.in_ok-buffers.ensures.further c.in_ok-buffers.ensures.within white sees has (omega arith) c.make_line.ensures.zeros bytes refl refl refl refl refl refl left in
+    next_frame s t setup (state_of old) (at c.see.new.row c.make_line.new.line) n c.requires.frame c.requires.more c.in_ok-buffers.ensures.after c.in_ok-buffers.ensures.further c.in_ok-buffers.ensures.within white (omega arith) c.make_line.ensures.zeros line_lent
+    (λ steady. seen_line s setup (state_of old) c.see.new.row c.make_line.new.line c.requires.frame (sees steady) bytes) refl refl refl refl refl refl left in
     subst (λ (r : List ℕ). MakesLine s setup (state_of old) t (at r (take old.line.len (c.make_line.new.line ++ drop (length c.make_line.new.line) old.line.items)))) (sym row_back)
     (subst (λ (l : List ℕ). MakesLine s setup (state_of old) t (at c.see.new.row l)) (sym line_back) made)

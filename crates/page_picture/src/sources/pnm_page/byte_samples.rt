@@ -1,0 +1,72 @@
+//! A page file whose samples are bytes gives its rows as such.
+
+ghost use Rattle.std.specs.Prelude.{◌≡◌, ◌≤◌, ◌<◌, ◌+◌, true, false, length, OnErr};
+ghost use Rattle.page_picture.specs.Source.{GivesRowBytes, byte_place};
+ghost use Rattle.page_picture.specs.PnmState.{LosesRows};
+ghost use Rattle.page_picture.specs.PageRows.{HasByteSamples};
+
+use crate::rereadable::Rereadable;
+use crate::scene::Mode;
+use crate::sources::pnm_page::PnmPage;
+use crate::sources::raster_rows::read_row_bytes;
+use crate::sources::{ByteRows, SourceFault};
+use netpbm::{Header, PnmFormat};
+
+/// Whether a sample of the file is a byte, of which 255 is the greatest, and the file of that kind.
+fn has_byte_samples(header: &Header, mode: Mode) -> bool
+    ensures bytes { result ≡ true → HasByteSamples mode header.now }
+    ensures other { result ≡ false → HasByteSamples mode header.now → ⊥ }
+{
+    match (mode, header.format) {
+        (Mode::Gray, PnmFormat::Pgm) | (Mode::Color, PnmFormat::Ppm) => header.maxval == 255,
+        _ => false,
+    }
+}
+
+/// The place of a row's byte of the first sample of a place.
+fn first_byte(mode: Mode, place: u32) -> usize
+    ensures { result ≡ byte_place mode place 0 }
+{
+    match mode {
+        Mode::Gray => place as usize,
+        Mode::Color => 3 * place as usize,
+    }
+}
+
+impl<R: Rereadable + Drop> ByteRows for PnmPage<R> {
+    fn next_bytes(&mut self, mode: Mode, first: u32, bytes: &mut [u8]) -> Result<bool, SourceFault>
+        requires { byte_place mode first 0 + length bytes.old
+            ≤ byte_place mode self.old.shown.page.width 0 }
+        ensures bytes { GivesRowBytes mode first self.old.shown bytes.old result
+            self.new.shown bytes.new }
+        ensures lost { LosesRows result self.new }
+        // As `next_row`: over a reader that keeps its bytes only where a call of the reader fails, or the rows are lost.
+        ensures failed { OnErr result (self.old.shown.steady ≡ true
+            → self.old.is_lost ≡ false → self.old.faults < self.new.faults) }
+    {
+        if self.is_lost {
+            return Err(self.fail());
+        }
+        if self.given >= self.header.height || !has_byte_samples(&self.header, mode) {
+            return Ok(false);
+        }
+        self.is_lost = true;
+        let rows = self.header.height - self.given;
+        match read_row_bytes(
+            &mut self.reader,
+            &self.header,
+            rows,
+            &mut self.held,
+            &mut self.bytes,
+            first_byte(mode, first),
+            bytes,
+        ) {
+            Ok(()) => {
+                self.is_lost = false;
+                self.given += 1;
+                Ok(true)
+            }
+            Err(_) => Err(self.fail()),
+        }
+    }
+}

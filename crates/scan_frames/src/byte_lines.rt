@@ -1,0 +1,114 @@
+//! Lines of depth 8 that are made of rows of bytes, so that no sample of two bytes stands between a page's file and them.
+
+ghost use Rattle.std.specs.Prelude.{◌≡◌, ◌≤◌, ◌<◌, ◌+◌, ◌*◌, ℕ, Ok, true, false, length, slice_index, OnOk, OnErr};
+ghost use Rattle.page_picture.specs.Columns.{columns_of};
+ghost use Rattle.page_picture.specs.Shows.{channels_within};
+ghost use Rattle.page_picture.specs.Source.{Fails};
+ghost use Rattle.scan_frames.specs.ByteLines.{PutsGrays, PutsColors, MakesOfRow};
+ghost use Rattle.scan_frames.specs.Line.{packing_of};
+ghost use Rattle.scan_frames.specs.Frames.{bytes_per_line, format_at};
+ghost use Rattle.scan_frames.specs.Samples.{HasZeros, sample_end};
+ghost use Rattle.scan_frames.specs.Tables.{AreComposed};
+
+use crate::line::{is_plain, is_same};
+use crate::pass::format_at;
+use crate::setup::{Packing, Setup, packing_of};
+use page_picture::{ByteRows, ColumnMap, Mode, SourceFault};
+use sane_fixed::FrameFormat;
+
+/// Makes of each byte what a table has for it.
+fn apply_table(table: &[u8; 256], line: &mut [u8])
+    ensures { (x : ℕ) → x < length line.old
+        → slice_index line.new x ≡ slice_index table.now (slice_index line.old x) }
+{
+    if is_same(table) {
+        return;
+    }
+    for x in 0..line.len() {
+        line[x] = table[usize::from(line[x])];
+    }
+}
+
+/// Puts the places of the next row from `first` on in gray, a byte each, by a table. False where the source has no bytes
+/// of them; nothing was done then.
+fn put_gray_bytes<S: ByteRows>(
+    source: &mut S,
+    table: &[u8; 256],
+    first: u32,
+    line: &mut [u8],
+) -> Result<bool, SourceFault>
+    requires { first + length line.old ≤ (S.source source.old).page.width }
+    ensures put { result ≡ Ok true
+        → PutsGrays (S.source source.old) table.now first (S.source source.new) line.new }
+    ensures none { result ≡ Ok false → (S.source source.new ≡ S.source source.old)
+        × (line.new ≡ line.old) }
+    ensures failed { OnErr result (Fails (S.source source.old) (S.source source.new)) }
+{
+    if !source.next_bytes(Mode::Gray, first, line)? {
+        return Ok(false);
+    }
+    apply_table(table, line);
+    Ok(true)
+}
+
+/// Puts the places of the next row from `first` on in color, three bytes each.
+fn put_color_bytes<S: ByteRows>(
+    source: &mut S,
+    first: u32,
+    line: &mut [u8],
+) -> Result<bool, SourceFault>
+    requires { 3 * first + length line.old ≤ 3 * (S.source source.old).page.width }
+    ensures put { result ≡ Ok true
+        → PutsColors (S.source source.old) first (S.source source.new) line.new }
+    ensures none { result ≡ Ok false → (S.source source.new ≡ S.source source.old)
+        × (line.new ≡ line.old) }
+    ensures failed { OnErr result (Fails (S.source source.old) (S.source source.new)) }
+{
+    source.next_bytes(Mode::Color, first, line)
+}
+
+/// Makes a line of the bytes of the next row, where it shows just these: its places lie one beside the other on the page,
+/// and in color no table changes them. False where it does not, or the source has none; nothing was done then.
+pub fn byte_line<S: ByteRows>(
+    source: &mut S,
+    setup: &Setup,
+    pass: u32,
+    tables: &[[u8; 256]; 3],
+    columns: &ColumnMap,
+    line: &mut [u8],
+) -> Result<bool, SourceFault>
+    requires tables { AreComposed setup.now.scene tables.now }
+    requires columns { columns.now ≡ columns_of setup.now.scene
+        (S.source source.old).page.width (S.source source.old).page.dpi }
+    requires few { columns.now.count ≤ 65536 }
+    requires size { length line.old ≡ bytes_per_line setup.now pass }
+    requires room { sample_end (packing_of setup.now.scene.depth)
+        (channels_within (format_at setup.now pass) * columns.now.count) ≤ length line.old }
+    requires zeros { HasZeros (packing_of setup.now.scene.depth)
+        (channels_within (format_at setup.now pass) * columns.now.count) line.old }
+    ensures zeros { OnOk result (HasZeros (packing_of setup.now.scene.depth)
+        (channels_within (format_at setup.now pass) * columns.now.count) line.new) }
+    ensures made { result ≡ Ok true
+        → MakesOfRow (S.source source.old) setup.now pass (S.source source.new) line.new }
+    ensures none { result ≡ Ok false → (S.source source.new ≡ S.source source.old)
+        × (line.new ≡ line.old) }
+    ensures failed { OnErr result (Fails (S.source source.old) (S.source source.new)) }
+{
+    let Some(first) = columns.run() else {
+        return Ok(false);
+    };
+    let count = columns.places().len();
+    match (
+        packing_of(setup.scene.depth),
+        setup.scene.mode,
+        format_at(setup, pass),
+    ) {
+        (Packing::Bytes, Mode::Gray, _) => {
+            put_gray_bytes(source, &setup.scene.gamma, first, &mut line[..count])
+        }
+        (Packing::Bytes, Mode::Color, FrameFormat::Rgb) if is_plain(tables) => {
+            put_color_bytes(source, first, &mut line[..3 * count])
+        }
+        _ => Ok(false),
+    }
+}
