@@ -6,7 +6,7 @@ use Rattle.device_api.specs.InForce.{Placement, in_force}
 use Rattle.device_api.specs.State.{DeviceState, after_cancel, after_reset, is_at_rest, with_setup}
 use Rattle.device_api.specs.Values.{defaults}
 use Rattle.scan_job.specs.JobSize.{HasJobFault}
-use Rattle.scan_job.specs.Shelves.{Stock, ReturnedOutput}
+use Rattle.scan_job.specs.Shelves.{Stock}
 use Rattle.scan_job.specs.declared.job.Job.{Job}
 use Rattle.scan_job.specs.declared.report.Report.{Report}
 use Rattle.scan_job.specs.declared.report.Reports.{Reports}
@@ -15,7 +15,7 @@ use Rattle.local_job.specs.FrameReading.{KeepsDevice}
 use Rattle.local_job.specs.SettingReports.{SettingsAreReported, FailsAt}
 use Rattle.local_job.specs.LocalBatch.{IsBatchDone, IsBatchEndedBy, IsBatchPut, ScansNothing, pages_of_task}
 use Rattle.local_job.specs.LocalRun.{devices_reported, options_reported, settings_put}
-use Rattle.local_job.specs.LocalPages.{AreScanned, EndsPage, RefusesLast, StopsAt, after_pages}
+use Rattle.local_job.specs.LocalPages.{AreScanned, EndsPage, RefusesLast, EndsBehind, StopsAt, after_pages}
 use Rattle.scan_job.specs.FileOutputs.{TakesBack}
 use Rattle.local_job.specs.Putting.{put_all}
 use Rattle.local_job.specs.LocalStops.{bad_setting}
@@ -164,12 +164,15 @@ page_cancelled t n new stop is = record {
 }
 
 -- a last output that was refused came from a scanner at rest
-last_cancelled : (t : DeviceState) (n : ℕ) (left : List ReturnedOutput) (new : DeviceState) (stop : Stop) → is_at_rest t.phase ≡ true → RefusesLast t n left new stop → RefusesLast t n left (after_cancel new) stop
-last_cancelled t n left new stop rest is = record {
-  some = is.some;
-  none_left = is.none_left;
+last_cancelled : (t : DeviceState) (files : List (List ℕ)) (before after : Option Stock) (new : DeviceState) (stop : Stop) → is_at_rest t.phase ≡ true → RefusesLast files (record { device = t; stock = before }) (record { device = new; stock = after }) stop
+    → RefusesLast files (record { device = t; stock = before }) (record { device = after_cancel new; stock = after }) stop
+last_cancelled t files before after new stop rest is = record {
+  shelved = is.shelved;
+  last = is.last;
+  files_are = is.files_are;
+  outputs = is.outputs;
   refused = is.refused;
-  after = cancel_rests new (ap (λ (x : DeviceState). is_at_rest x.phase) is.after ∙ at_rest_behind n t rest) ∙ is.after;
+  after = cancel_rests new (ap (λ (x : DeviceState). is_at_rest x.phase) is.after ∙ at_rest_behind (length files) t rest) ∙ is.after;
 }
 
 stops_cancelled : (t : DeviceState) (count : ℕ) (before after : Option Stock) (new : DeviceState) (stop : Stop) → is_at_rest t.phase ≡ true → StopsAt count (record { device = t; stock = before }) (record { device = new; stock = after }) stop → StopsAt count (record { device = t; stock = before }) (record { device = after_cancel new; stock = after }) stop
@@ -177,12 +180,9 @@ stops_cancelled t count before after new stop rest is = record {
   files = is.files;
   pages = is.pages;
   few = is.few;
-  left = is.left;
-  is_left = is.is_left;
-  outputs = is.outputs;
   ended = elim is.ended [
-    | inl last ↦ inl (last_cancelled t _ is.left new stop rest last)
-    | inr page ↦ inr (page_cancelled _ _ new stop page)
+    | inl last ↦ inl (last_cancelled t is.files before after new stop rest last)
+    | inr behind ↦ inr (record { text = behind.text; not_whole = behind.not_whole; left = behind.left; is_left = behind.is_left; outputs = behind.outputs; cause = page_cancelled _ _ new stop behind.cause })
   ];
 }
 

@@ -1,8 +1,9 @@
 -- Pages one after another, and how they end.
 use Rattle.std.proofs.Common.{◌≡◌, ◌∙◌, ◌⊎◌, inl, inr, refl, sym, ap, subst, ℕ, zero, suc, ◌+◌, ◌<◌, ◌≤◌, arith, Bool, true, false, List, [], ◌∷◌, ◌++◌, Option, Some, None, length, length-append}
-use Rattle.std.specs.Prelude.{◌≢◌, Result, Ok, Err, OnOk}
+use Rattle.std.specs.Prelude.{◌≢◌, Result, Ok, Err, IfOk, OnOk}
 use Rattle.std.proofs.lemmas.List.{append-nil, append_assoc}
 use Rattle.sane_fixed.specs.declared.status.Status.TheVariants.{Inval, IoError, NoDocs}
+use Rattle.frame_join.proofs.StreamLaws.{nothing_is_not_whole}
 use Rattle.scan_frames.specs.Frames.{has_picture}
 use Rattle.scan_frames.specs.declared.setup.Setup.{Setup}
 use Rattle.device_api.specs.State.{DeviceState, HeldPage, Phase, AtRest, is_at_rest, page_of, state_at_rest, steady_of, with_phase}
@@ -11,8 +12,8 @@ use Rattle.scan_job.specs.declared.outcome.Why.TheVariants.{Answer, Memory, Sink
 use Rattle.scan_job.specs.declared.stop.Stop.{Stop}
 use Rattle.local_job.specs.ScanCauses.{ScanHasCause}
 use Rattle.local_job.specs.FrameReading.{KeepsDevice}
-use Rattle.local_job.specs.LocalPages.{AreScanned, ArePageFiles, EndsPage, FilesPage, IsFileOfFirstPage, LeavesPage, RefusesLast, StopsAt, after_pages, outputs_from}
-use Rattle.scan_job.specs.FileOutputs.{AreLeft, TakesBack, output_of}
+use Rattle.local_job.specs.LocalPages.{AreScanned, ArePageFiles, EndsPage, FilesPage, IsFileOfFirstPage, LeavesPage, RefusesLast, EndsBehind, StopsAt, after_pages, outputs_from}
+use Rattle.scan_job.specs.FileOutputs.{AreLeft, TakesBack, output_of, refused_output}
 use Rattle.local_job.specs.LocalStops.{stop_by_status}
 use Rattle.scan_job.specs.Stops.{no_memory, failed_output}
 use Rattle.local_job.proofs.Lets.{of_nothing}
@@ -21,6 +22,9 @@ use Rattle.local_job.proofs.Lets.{of_nothing}
 pub ok_has : {A E : Type 0} (r : Result A E) (x : A) (P : Type 0) → r ≡ Ok x → OnOk r P → P
 ok_has (Ok a) x P is p = p
 ok_has (Err e) x P is p = absurd (cc)
+
+pub if_ok_has : {A E : Type 0} (r : Result A E) (x : A) (P : A → Type 0) → r ≡ Ok x → IfOk r P → P x
+if_ok_has {A} {E} r x P is p = subst (λ (q : Result A E). IfOk q P) is p
 
 -- ---- one more
 
@@ -86,7 +90,7 @@ none_run s before = record { files = []; count = refl; pages = tt; outputs = tak
 pub rests_run : (s now : DeviceState) (n : ℕ) (before stock : Option Stock) → is_at_rest s.phase ≡ true → HasRun s now n before stock → is_at_rest now.phase ≡ true
 rests_run s now n before stock rest run = ap (λ (t : DeviceState). is_at_rest t.phase) run.left ∙ at_rest_behind n s rest
 
-pub one_run : (s now new : DeviceState) (n : ℕ) (before stock next : Option Stock) → HasRun s now n before stock → FilesPage now (n + 1) stock next → new ≡ state_at_rest now false → now.setup.told ≢ Some NoDocs → HasRun s new (n + 1) before next
+pub one_run : (s now new : DeviceState) (n : ℕ) (before stock next : Option Stock) → HasRun s now n before stock → FilesPage now (n + 1) true stock next → new ≡ state_at_rest now false → now.setup.told ≢ Some NoDocs → HasRun s new (n + 1) before next
 one_run s now new n before stock next run filed is untold = record {
   files = run.files ++ filed.text ∷ [];
   count = omega (arith, length-append run.files (filed.text ∷ []), run.count);
@@ -146,17 +150,25 @@ out_of_pages s now new n count before stock next stop run some few is stays sile
       left = same ∙ run.left ∙ ap (λ (m : ℕ). after_pages m s) (sym run.count);
     }
 
--- the shelf did not take the last output back
-pub last_refused : (s now : DeviceState) (n count : ℕ) (before stock : Option Stock) (stop : Stop) → HasRun s now n before stock → 0 < n → n ≤ count → stop ≡ failed_output → StopsAt count (record { device = s; stock = before }) (record { device = now; stock = stock }) stop
-last_refused s now n count before stock stop run some few is = record {
-  files = run.files;
-  pages = run.pages;
-  few = omega (arith, run.count, few);
-  left = [];
-  is_left = tt;
-  outputs = subst (λ (ts : List ReturnedOutput). TakesBack before ts stock) (sym (append-nil (outputs_from 1 run.files))) run.outputs;
-  ended = inl (record { some = omega (arith, run.count, some); none_left = refl; refused = is; after = run.left ∙ ap (λ (m : ℕ). after_pages m s) (sym run.count) });
-}
+-- the shelf refused the last output
+pub last_refused : (s now new : DeviceState) (n count : ℕ) (before stock next : Option Stock) (stop : Stop) → HasRun s now n before stock → FilesPage now (n + 1) false stock next → new ≡ state_at_rest now false → n < count
+    → stop ≡ failed_output → StopsAt count (record { device = s; stock = before }) (record { device = new; stock = next }) stop
+last_refused s now new n count before stock next stop run filed rests few is =
+    let size : length (run.files ++ filed.text ∷ []) ≡ n + 1 = omega (arith, length-append run.files (filed.text ∷ []), run.count) in
+    record {
+      files = run.files ++ filed.text ∷ [];
+      pages = pages_more run.files s filed.text run.pages (subst (λ (t : DeviceState). IsFileOfFirstPage t filed.text) (run.left ∙ ap (λ (m : ℕ). after_pages m s) (sym run.count)) filed.file);
+      few = omega (arith, size, few);
+      ended = inl (record {
+        shelved = run.files;
+        last = filed.text;
+        files_are = refl;
+        outputs = subst (λ (m : ℕ). TakesBack before (outputs_from 1 run.files ++ refused_output (m + 1) filed.text ∷ []) next) (sym run.count)
+            (takes_then before stock next (outputs_from 1 run.files) (refused_output (n + 1) filed.text ∷ []) run.outputs filed.outputs);
+        refused = is;
+        after = rests ∙ ap (λ (t : DeviceState). state_at_rest t false) run.left ∙ sym (after_one n s) ∙ ap (λ (m : ℕ). after_pages m s) (sym size);
+      });
+    }
 
 -- a page was not scanned
 pub page_ended : (s now new : DeviceState) (n count : ℕ) (before stock next : Option Stock) (stop : Stop) → HasRun s now n before stock → n ≤ count → LeavesPage (n + 1) stock next
@@ -167,13 +179,17 @@ page_ended s now new n count before stock next stop run few left ends =
       files = run.files;
       pages = run.pages;
       few = omega (arith, run.count, few);
-      left = left.left;
-      is_left = subst (λ (m : ℕ). AreLeft (m + 1) left.left) number left.is_left;
-      outputs = takes_then before stock next (outputs_from 1 run.files) left.left run.outputs left.outputs;
-      ended = inr (subst (λ (m : ℕ). EndsPage (after_pages m s) m new stop) number (subst (λ (t : DeviceState). EndsPage t n new stop) run.left ends));
+      ended = inr (record {
+        text = left.text;
+        not_whole = left.not_whole;
+        left = left.left;
+        is_left = subst (λ (m : ℕ). AreLeft (m + 1) left.text left.left) number left.is_left;
+        outputs = takes_then before stock next (outputs_from 1 run.files) left.left run.outputs left.outputs;
+        cause = subst (λ (m : ℕ). EndsPage (after_pages m s) m new stop) number (subst (λ (t : DeviceState). EndsPage t n new stop) run.left ends);
+      });
     }
 
 -- there is no memory for the first
 pub no_memory_first : (s : DeviceState) (count : ℕ) (before : Option Stock) (stop : Stop) → stop ≡ no_memory → StopsAt count (record { device = s; stock = before }) (record { device = s; stock = before }) stop
-no_memory_first s count before stop is = page_ended s s s 0 count before before before stop (none_run s before) (omega arith) (record { left = []; is_left = tt; outputs = takes_none before })
+no_memory_first s count before stop is = page_ended s s s 0 count before before before stop (none_run s before) (omega arith) (record { text = []; not_whole = nothing_is_not_whole; left = []; is_left = refl; outputs = takes_none before })
     (record { no_page = λ _. (refl, inl is); no_picture = λ _ _. inl is; cause = λ _ _. subst (λ (t : Stop). ScanHasCause t s s) (sym is) refl; same = of_nothing s s refl })

@@ -1,5 +1,5 @@
 -- Pages scanned one after another, each to an output of its own that a shelf gives.
-use Rattle.std.specs.Prelude.{ℕ, zero, suc, ◌+◌, ◌<◌, ◌≤◌, ◌≡◌, ◌≢◌, ◌⊎◌, Option, Some, List, [], ◌∷◌, ◌++◌, true, false, length, IsSomeAnd}
+use Rattle.std.specs.Prelude.{ℕ, zero, suc, ◌+◌, ◌<◌, ◌≤◌, ◌≡◌, ◌≢◌, ◌⊎◌, Bool, Option, Some, List, [], ◌∷◌, ◌++◌, true, false, length, IsSomeAnd}
 use Rattle.netpbm.specs.Pnm.{Denotes, IsWhole}
 use Rattle.page_picture.specs.Meaning.{meaning_of}
 use Rattle.sane_fixed.specs.declared.status.Status.TheVariants.{Inval, NoDocs}
@@ -11,7 +11,7 @@ use Rattle.local_job.specs.LocalStops.{stop_by_status}
 use Rattle.scan_job.specs.Stops.{no_memory, failed_output}
 use Rattle.local_job.specs.FrameReading.{KeepsDevice}
 use Rattle.local_job.specs.ScanCauses.{ScanHasCause}
-use Rattle.scan_job.specs.FileOutputs.{AreLeft, TakesBack, output_of}
+use Rattle.scan_job.specs.FileOutputs.{AreLeft, TakesBack, output_of, refused_output, returned_output}
 
 -- ---- files and the scanner
 
@@ -37,16 +37,18 @@ abbrev pub outputs_from : ℕ → List (List ℕ) → List ReturnedOutput
 outputs_from k [] = []
 outputs_from k (text ∷ more) = output_of k text ∷ outputs_from (suc k) more
 
--- the page of that number was scanned, and the shelf took its output back
-pub record FilesPage (s : DeviceState) (k : ℕ) (before after : Option Stock) : Type 0 where
+-- the page of that number was scanned and its output given back, and the shelf kept or refused it
+pub record FilesPage (s : DeviceState) (k : ℕ) (kept : Bool) (before after : Option Stock) : Type 0 where
   pub text : List ℕ
   pub file : IsFileOfFirstPage s text
-  pub outputs : TakesBack before (output_of k text ∷ []) after
+  pub outputs : TakesBack before (returned_output k text kept ∷ []) after
 
 -- it was not, and no whole file is left of it
 pub record LeavesPage (k : ℕ) (before after : Option Stock) : Type 0 where
+  pub text : List ℕ
+  pub not_whole : IsWhole text → ⊥
   pub left : List ReturnedOutput
-  pub is_left : AreLeft k left
+  pub is_left : AreLeft k text left
   pub outputs : TakesBack before left after
 
 -- ---- how pages end
@@ -57,7 +59,7 @@ pub record DeviceAndShelf : Type 0 where
   pub stock : Option Stock
 
 -- So many pages were scanned, or fewer, at least one, where no page was left. Each has its file, and they went out under
--- the numbers from 1 on.
+-- the numbers from 1 on; the shelf kept every one.
 pub record AreScanned (count : ℕ) (was now : DeviceAndShelf) : Type 0 where
   pub files : List (List ℕ)
   pub pages : ArePageFiles was.device files
@@ -73,20 +75,28 @@ pub record EndsPage (s : DeviceState) (behind : ℕ) (new : DeviceState) (stop :
   pub cause : s.pages ≢ [] → has_picture s.setup (page_of s) ≡ true → ScanHasCause stop s new
   pub same : KeepsDevice s new
 
--- where the shelf refused to take back the output of a page that was scanned, which was the last then
-pub record RefusesLast (s : DeviceState) (scanned : ℕ) (left : List ReturnedOutput) (new : DeviceState) (stop : Stop) : Type 0 where
-  pub some : 0 < scanned
-  pub none_left : left ≡ []
+-- the shelf kept the outputs of these files but the last one's, which it refused
+pub record RefusesLast (files : List (List ℕ)) (was now : DeviceAndShelf) (stop : Stop) : Type 0 where
+  pub shelved : List (List ℕ)
+  pub last : List ℕ
+  pub files_are : files ≡ shelved ++ last ∷ []
+  pub outputs : TakesBack was.stock (outputs_from 1 shelved ++ refused_output (length shelved + 1) last ∷ []) now.stock
   pub refused : stop ≡ failed_output
-  pub after : new ≡ after_pages scanned s
+  pub after : now.device ≡ after_pages (length files) was.device
 
--- Some pages were scanned, each has its file, and one output at most is left of the page that was not. What ended them is
--- what ended the scan of that page, or a refusal of the shelf to take back the output before.
+-- it kept them all, and the next page was not scanned, of which at most one output is left, with no whole file
+pub record EndsBehind (files : List (List ℕ)) (was now : DeviceAndShelf) (stop : Stop) : Type 0 where
+  pub text : List ℕ
+  pub not_whole : IsWhole text → ⊥
+  pub left : List ReturnedOutput
+  pub is_left : AreLeft (length files + 1) text left
+  pub outputs : TakesBack was.stock (outputs_from 1 files ++ left) now.stock
+  pub cause : EndsPage (after_pages (length files) was.device) (length files) now.device stop
+
+-- Some pages were scanned, and each has its file. What ended them is a refusal of the shelf to take back the last one's output,
+-- or what ended the scan of the page behind them.
 pub record StopsAt (count : ℕ) (was now : DeviceAndShelf) (stop : Stop) : Type 0 where
   pub files : List (List ℕ)
   pub pages : ArePageFiles was.device files
   pub few : length files ≤ count
-  pub left : List ReturnedOutput
-  pub is_left : AreLeft (length files + 1) left
-  pub outputs : TakesBack was.stock (outputs_from 1 files ++ left) now.stock
-  pub ended : RefusesLast was.device (length files) left now.device stop ⊎ EndsPage (after_pages (length files) was.device) (length files) now.device stop
+  pub ended : RefusesLast files was now stop ⊎ EndsBehind files was now stop

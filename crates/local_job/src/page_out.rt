@@ -44,7 +44,7 @@ impl<S: Shelf> Outlet for PageOut<'_, S> {
 pub fn give_back<S: Shelf>(shelf: &mut S, out: Option<S::Out>) -> bool
     ensures none { out ≡ None → result ≡ true }
     ensures back { GivesBack (S.stock shelf.old)
-        (option_map S.Out.contents out) (S.stock shelf.new) }
+        (option_map S.Out.contents out) result (S.stock shelf.new) }
 {
     match out {
         Some(out) => shelf.close(out).is_ok(),

@@ -1,4 +1,4 @@
-ghost use Rattle.std.specs.Prelude.{◌≡◌, ◌≢◌, ◌<◌, ◌↔◌, true, false, Some, length, [], IfErr, IsTrue, OnOk, OnErr};
+ghost use Rattle.std.specs.Prelude.{◌≡◌, ◌≢◌, ◌<◌, ◌↔◌, true, false, Some, length, [], IfOk, IfErr, IsTrue, OnOk, OnErr};
 ghost use Rattle.sane_fixed.specs.declared.status.Status.TheVariants.{Inval, NoDocs};
 ghost use Rattle.scan_frames.specs.Frames.{has_picture};
 ghost use Rattle.device_api.specs.State.{is_at_rest, page_of, state_at_rest, with_phase, AtRest};
@@ -16,8 +16,8 @@ use sane_fixed::Status;
 use scan_job::{Shelf, Stop, Why};
 use std::alloc::Global;
 
-/// Scans the page that a scanner at rest has first, to the shelf's output of that number. Says whether the shelf took
-/// the output back; the page is scanned all the same. A scan that ends otherwise leaves no whole file, and what the
+/// Scans the page that a scanner at rest has first, to the shelf's output of that number. Says whether the shelf kept
+/// the output; the page is scanned all the same. A scan that ends otherwise leaves no whole file, and what the
 /// shelf says then is not asked.
 fn scan_page<S: Shelf>(
     alloc: Global,
@@ -33,8 +33,8 @@ fn scan_page<S: Shelf>(
     requires room { 0 < length room.old }
     ensures piece { length piece.new ≡ length piece.old }
     ensures room { length room.new ≡ length room.old }
-    ensures done { OnOk result
-        (FilesPage (state device.old) number (S.stock shelf.old) (S.stock shelf.new)) }
+    ensures done { IfOk result (λ is_shelved.
+        FilesPage (state device.old) number is_shelved (S.stock shelf.old) (S.stock shelf.new)) }
     ensures short { OnErr result (LeavesPage number (S.stock shelf.old) (S.stock shelf.new)) }
     ensures refusal { IfErr result (λ stop. IsRefusal stop) }
     ensures empty { IfErr result (λ stop. (state device.old).pages ≡ []

@@ -9,7 +9,7 @@ use Rattle.netpbm.specs.Picture.{Picture}
 use Rattle.netpbm.specs.Pnm.{Denotes, IsWhole}
 use Rattle.page_picture.specs.Shows.{Frame, ShowsFrames}
 use Rattle.frame_join.specs.declared.join_stage.JoinFault.{JoinFault}
-use Rattle.frame_join.specs.FrameHistory.{JoinHistory, IsJoined, is_joined, answer_of_end, answer_by}
+use Rattle.frame_join.specs.FrameHistory.{JoinHistory, IsJoined, is_joined, after_pull, answer_of_end, answer_by}
 use Rattle.frame_join.specs.JoinStates.{JoinState, Represents}
 use Rattle.frame_join.proofs.JoinedLaws.{rests_silent}
 use Rattle.frame_join.proofs.StreamLaws.{nothing_is_not_whole}
@@ -24,23 +24,25 @@ use Rattle.scan_job.specs.declared.outcome.Outcome.TheVariants.{Running, Done, E
 use Rattle.scan_job.specs.declared.outcome.Why.{Why}
 use Rattle.scan_job.specs.declared.outcome.Why.TheVariants as whys
 use Rattle.scan_job.specs.declared.report.Reports.{Reports}
+use Rattle.scan_job.specs.Stops.{failed_output}
 use Rattle.scan_job.specs.declared.stop.Stop.{Stop}
 use Rattle.client_replies.specs.ProtocolStates.{ProtocolState, target_of, is_running, is_ended, scans, HistoryFits, FitsDone, FitsEnded, IsBetweenFrames}
 use Rattle.net_client.specs.ClientStates.{ClientState}
 use Rattle.net_jobs.specs.JobJournal.{JobMove, GivesAll, dialled_by, given_by}
+use Rattle.net_jobs.specs.JobTraces.{JobTrace}
 use Rattle.net_jobs.specs.RunPromises.{JobStreams, SeenStreams, RanWithTrace, StopsAs, ByMemory}
 use Rattle.net_jobs.specs.TurnSteps.{CallNotes, NotesMatch}
 use Rattle.net_jobs.specs.Links.{LinkViews, HasBrought}
 use Rattle.net_jobs.proofs.InvariantRecords.{GivenFiles, FullRunInvariant}
 use Rattle.net_jobs.proofs.Asking.{asked_for}
 use Rattle.net_jobs.specs.Outputs.{files_text, HasTaken, page_outputs_from}
-use Rattle.scan_job.specs.FileOutputs.{TakesBack, GivesBack}
+use Rattle.scan_job.specs.FileOutputs.{TakesBack, GivesBack, refused_output}
 use Rattle.net_jobs.specs.Paging.{IsFiling, TurnsOn, FallsShort, HasFiledShort, BatchCameDone, BatchCameEnded, BatchHasCome}
-use Rattle.net_jobs.specs.Batches.{IsPageFile, MayScan, last_whole_page, pages_of, closed_as, BatchDone, BatchEnded, HasBatchRun, RefusesBatch}
+use Rattle.net_jobs.specs.Batches.{IsPageFile, MayScan, last_whole_page, pages_of, closed_as, BatchDone, BatchEnded, HasBatchRun, KeepsAllPages, RefusesBatch, RefusesLastPage}
 use Rattle.net_jobs.proofs.FileNumbers.{IsFew, HasSome, counts}
 use Rattle.net_jobs.proofs.JobEnds.{NoneBefore, stops_over, HasRefusal, Leaves, all_written, ran_refuses, cause_of, followed, unopened, task_is, ran_by, ends_well}
-use Rattle.net_jobs.proofs.Shelves.{given_back, none_back, left_behind, outputs_more}
-use Rattle.net_jobs.proofs.Shelving.{Laid, Shut, OnShelf, Lying, shut_parted, ended_part, one_file, laid_next, from_here}
+use Rattle.net_jobs.proofs.Shelves.{given_back, none_back, none_kept, none_same, left_behind, outputs_more}
+use Rattle.net_jobs.proofs.Shelving.{Shut, OnShelf, Lying, PageIsTurned, shut_parted, ended_part, one_file, page_turned, turned_given, from_here}
 
 -- ---- a join between frames has given nothing, if its picture is not whole
 
@@ -173,6 +175,9 @@ came_done views left_of job first coming0 before notes links coming stream c now
 
 -- ---- a job that has ended otherwise
 
+gave_all : (pages given : List JoinHistory) (bytes : List ℕ) (was now : List JobMove) → pages ≡ given → files_text given ++ bytes ≡ given_by was → now ≡ was → files_text pages ++ bytes ≡ given_by now ++ []
+gave_all pages given bytes was now same gave is = ap (λ (l : List JoinHistory). files_text l ++ bytes) same ∙ gave ∙ ap (λ (m : List JobMove). given_by m) (sym is) ∙ sym (append-nil (given_by now))
+
 ended_fits : (outcome : Outcome) (status : Status) (why : Why) (task : Task) (v : ClientState) (past : JoinHistory) → outcome ≡ Ended status why → HistoryFits task outcome v.progress past → FitsEnded task past
 ended_fits outcome status why task v past e f = subst (λ (o : Outcome). HistoryFits task o v.progress past) e f
 
@@ -188,18 +193,22 @@ came_ended views left_of job first coming0 before notes links coming stream c no
         cause = cause_of r.ran.moves r.ran.trace.protocol r.ran.rest c.outcome (Ended status why) over r.cause;
         all = λ other. all_written d.moves r.ran.moves d.left r.ran.left r.moves_is r.left_is d.all;
         refusal = subst HasRefusal over (ran_refuses job r.ran.moves r.ran.trace _ _ r.ran.rest r.ran.left c.outcome r.ran.did r.cause);
+        last_told = inl (ap (λ (v : ClientState). v.outcome) r.last_is ∙ d.ends ∙ over);
         files = All-same IsPageFile r.ran.trace.pages d.given.pages r.pages_is d.shelf.files;
         text = d.given.bytes;
-        taken = subst (λ (q : List JoinHistory). HasTaken before (page_outputs_from 1 q) now out (length q + 1) d.given.bytes) (sym r.pages_is) d.shelf.under_way.taken;
+        behind = [];
+        gave = gave_all r.ran.trace.pages d.given.pages d.given.bytes d.moves r.ran.moves r.pages_is d.gave r.moves_is;
+        none_behind = λ other. refl;
+        shelf = inl (subst (λ (q : List JoinHistory). HasTaken before (page_outputs_from 1 q) now out (length q + 1) d.given.bytes) (sym r.pages_is) d.shelf.under_way.taken);
         not_whole = subst (λ (t : List ℕ). IsWhole t → ⊥) s.given_is (λ w. law s.history c.join s.serves.stands (λ joined. ended_part c.target.task s.history fits joined w) w);
       },
       subst (λ (m : List JobMove). NotesMatch m notes) (sym r.moves_is) d.notes_are,
     )
 
 -- there was no memory for what was to be told
-came_untold : {L R : Type 0} {whole : Bool} (views : LinkViews L) (left_of : R → Option (List ℕ)) (job : Job) (first : L) (coming0 : Option (List (List ℕ))) (before : Option Stock) (notes : CallNotes) (links : L) (coming : Option (List (List ℕ))) (stream : Option R) (c : ClientState) (now : Option Stock) (out : Option (Option (List ℕ)))
-    → (d : Shut views left_of job first coming0 before notes whole links coming stream c now out) → (IsWhole d.given.bytes → ⊥) → BatchHasCome views job (record { links = first; coming = coming0; output = before }) (record { links = links; coming = coming; output = now }) out (Ended statuses.NoMem whys.Memory) notes
-came_untold views left_of job first coming0 before notes links coming stream c now out d not_whole =
+came_untold : {L R : Type 0} {whole : Bool} (views : LinkViews L) (left_of : R → Option (List ℕ)) (job : Job) (first : L) (coming0 : Option (List (List ℕ))) (before : Option Stock) (notes : CallNotes) (links : L) (coming : Option (List (List ℕ))) (stream : Option R) (c : ClientState) (now : Option Stock) (out : Option (Option (List ℕ))) (reports : Reports)
+    → c.outcome ≡ Done reports → (d : Shut views left_of job first coming0 before notes whole links coming stream c now out) → (IsWhole d.given.bytes → ⊥) → BatchHasCome views job (record { links = first; coming = coming0; output = before }) (record { links = links; coming = coming; output = now }) out (Ended statuses.NoMem whys.Memory) notes
+came_untold views left_of job first coming0 before notes links coming stream c now out reports done d not_whole =
     let s = d.stage in
     let r = ran_by views left_of job (record { links = first; coming = coming0; output = before }) (record { links = links; coming = coming; output = now }) stream c d.given d.moves d.left d.fresh d.last d.is_fresh d.leads d.calls s s.stands in (
       record {
@@ -207,9 +216,13 @@ came_untold views left_of job first coming0 before notes links coming stream c n
         cause = inr (inl (ByMemory refl));
         all = λ other. all_written d.moves r.ran.moves d.left r.ran.left r.moves_is r.left_is d.all;
         refusal = λ e. cc;
+        last_told = inr (inl (reports, ap (λ (v : ClientState). v.outcome) r.last_is ∙ d.ends ∙ done, refl));
         files = All-same IsPageFile r.ran.trace.pages d.given.pages r.pages_is d.shelf.files;
         text = d.given.bytes;
-        taken = subst (λ (q : List JoinHistory). HasTaken before (page_outputs_from 1 q) now out (length q + 1) d.given.bytes) (sym r.pages_is) d.shelf.under_way.taken;
+        behind = [];
+        gave = gave_all r.ran.trace.pages d.given.pages d.given.bytes d.moves r.ran.moves r.pages_is d.gave r.moves_is;
+        none_behind = λ other. refl;
+        shelf = inl (subst (λ (q : List JoinHistory). HasTaken before (page_outputs_from 1 q) now out (length q + 1) d.given.bytes) (sym r.pages_is) d.shelf.under_way.taken);
         not_whole = not_whole;
       },
       subst (λ (m : List JobMove). NotesMatch m notes) (sym r.moves_is) d.notes_are,
@@ -220,7 +233,7 @@ stopped_by : {L R : Type 0} {whole : Bool} (views : LinkViews L) (left_of : R �
     → BatchHasCome views job (record { links = first; coming = coming0; output = before }) (record { links = links; coming = coming; output = now }) out (Ended stop.status stop.why) notes
 stopped_by views left_of job first coming0 before notes links coming stream c now out Running stop law over ends d not_whole = absurd ends
 stopped_by views left_of job first coming0 before notes links coming stream c now out (Done reports) stop law over ends d not_whole =
-    subst (λ (x : Stop). BatchHasCome views job (record { links = first; coming = coming0; output = before }) (record { links = links; coming = coming; output = now }) out (Ended x.status x.why) notes) (sym ends) (came_untold views left_of job first coming0 before notes links coming stream c now out d not_whole)
+    subst (λ (x : Stop). BatchHasCome views job (record { links = first; coming = coming0; output = before }) (record { links = links; coming = coming; output = now }) out (Ended x.status x.why) notes) (sym ends) (came_untold views left_of job first coming0 before notes links coming stream c now out reports over d not_whole)
 stopped_by views left_of job first coming0 before notes links coming stream c now out (Ended status why) stop law over ends d not_whole =
     subst (λ (x : Stop). BatchHasCome views job (record { links = first; coming = coming0; output = before }) (record { links = links; coming = coming; output = now }) out (Ended x.status x.why) notes) (sym ends) (came_ended views left_of job first coming0 before notes links coming stream c now out status why law over d)
 
@@ -234,28 +247,35 @@ came_stopped views left_of job first coming0 before was notes then_ links coming
 
 -- ---- the shelf or an output did not take what it was to
 
-sunk_next : {L R : Type 0} (views : LinkViews L) (left_of : R → Option (List ℕ)) (job : Job) (first : L) (coming0 : Option (List (List ℕ))) (before : Option Stock) (notes : CallNotes) (links : L) (coming : Option (List (List ℕ))) (stream : Option R) (c : ClientState) (now : Option Stock) (out : Option (Option (List ℕ)))
-    → (d : Laid views left_of job first coming0 before notes true links coming stream c now out) → d.given.bytes ≡ [] → BatchHasCome views job (record { links = first; coming = coming0; output = before }) (record { links = links; coming = coming; output = now }) out (Ended statuses.IoError whys.Sink) notes
-sunk_next views left_of job first coming0 before notes links coming stream c now out d silent =
-    let s = d.going.stage in
-    let r = ran_by views left_of job (record { links = first; coming = coming0; output = before }) (record { links = links; coming = coming; output = now }) stream c d.given d.going.moves d.going.left d.going.fresh c d.going.is_fresh d.going.leads d.going.calls s s.stands in (
+refused_next : {L R : Type 0} (views : LinkViews L) (left_of : R → Option (List ℕ)) (job : Job) (first : L) (coming0 : Option (List (List ℕ))) (before : Option Stock) (notes : CallNotes) (links : L) (coming : Option (List (List ℕ))) (stream : Option R) (new : ClientState) (now : Option Stock) (out : Option (Option (List ℕ))) (given : GivenFiles) (page : JoinHistory)
+    → PageIsTurned views left_of job first coming0 given page notes links coming stream new → All IsPageFile given.pages → out ≡ None
+    → TakesBack before (page_outputs_from 1 given.pages ++ refused_output (length given.pages + 1) page.given ∷ []) now
+    → BatchHasCome views job (record { links = first; coming = coming0; output = before }) (record { links = links; coming = coming; output = now }) out (Ended statuses.IoError whys.Sink) notes
+refused_next views left_of job first coming0 before notes links coming stream new now out given page t files none refused =
+    let g = t.going in
+    let s = g.stage in
+    let r = ran_by views left_of job (record { links = first; coming = coming0; output = before }) (record { links = links; coming = coming; output = now }) stream new (turned_given given page) g.moves g.left g.fresh new g.is_fresh g.leads g.calls s s.stands in (
       record {
         ran = r.ran;
         cause = inr (inr refl);
         all = λ other. absurd (other refl);
         refusal = λ e. cc;
-        files = All-same IsPageFile r.ran.trace.pages d.given.pages r.pages_is d.shelf.files;
-        text = d.given.bytes;
-        taken = subst (λ (q : List JoinHistory). HasTaken before (page_outputs_from 1 q) now out (length q + 1) d.given.bytes) (sym r.pages_is) d.shelf.under_way.taken;
-        not_whole = λ w. nothing_is_not_whole (subst (λ (t : List ℕ). IsWhole t) silent w);
+        last_told = inr (inr refl);
+        files = All-same IsPageFile r.ran.trace.pages (given.pages ++ page ∷ []) r.pages_is (All-append IsPageFile given.pages (page ∷ []) files (one_file page t.file));
+        text = [];
+        not_whole = nothing_is_not_whole;
+        behind = [];
+        gave = gave_all r.ran.trace.pages (given.pages ++ page ∷ []) [] g.moves r.ran.moves r.pages_is g.gave r.moves_is;
+        none_behind = λ other. refl;
+        shelf = inr (none, refl, refl, record { shelved = given.pages; last = page; pages_are = r.pages_is; outputs = refused });
       },
-      subst (λ (m : List JobMove). NotesMatch m notes) (sym r.moves_is) d.going.notes_are,
+      subst (λ (m : List JobMove). NotesMatch m notes) (sym r.moves_is) g.notes_are,
     )
 
 sunk_by : {L R : Type 0} (views : LinkViews L) (left_of : R → Option (List ℕ)) (job : Job) (first : L) (coming0 : Option (List (List ℕ))) (before : Option Stock) (notes : CallNotes) (links : L) (coming : Option (List (List ℕ))) (stream : Option R) (c new : ClientState) (now : Option Stock) (out : Option (Option (List ℕ))) (given : GivenFiles) (gives : List JobMove)
     → ((past : JoinHistory) (join : JoinState) → Represents past join → IsJoined past → (p : Picture) × ShowsFrames past.ended p) → scans job.task ≡ true → All IsPageFile given.pages
     → (g : FullRunInvariant views left_of job first coming0 given notes links coming stream c) → GivesAll c gives new
-    → FallsShort (length given.pages + 1) before (page_outputs_from 1 given.pages) now out ⊎ TurnsOn g.stage.history c (length given.pages + 1) before (page_outputs_from 1 given.pages) (given_by gives) new now out
+    → FallsShort g.stage.history.given (length given.pages + 1) before (page_outputs_from 1 given.pages) now out ⊎ TurnsOn g.stage.history c (length given.pages + 1) before (page_outputs_from 1 given.pages) (given_by gives) false new now out
     → BatchHasCome views job (record { links = first; coming = coming0; output = before }) (record { links = links; coming = coming; output = now }) out (Ended statuses.IoError whys.Sink) notes
 sunk_by views left_of job first coming0 before notes links coming stream c new now out given gives shows scanning files g all (inl short) =
     let s = g.stage in
@@ -265,16 +285,21 @@ sunk_by views left_of job first coming0 before notes links coming stream c new n
         cause = inr (inr refl);
         all = λ other. absurd (other refl);
         refusal = λ e. cc;
+        last_told = inr (inr refl);
         files = All-same IsPageFile r.ran.trace.pages given.pages r.pages_is files;
-        text = short.text;
-        taken = subst (λ (q : List JoinHistory). HasTaken before (page_outputs_from 1 q) now out (length q + 1) short.text) (sym r.pages_is) short.taken;
+        text = s.history.given ++ short.behind;
         not_whole = short.not_whole;
+        behind = short.behind;
+        gave = ap (λ (q : List JoinHistory). files_text q ++ (s.history.given ++ short.behind)) r.pages_is ∙ ap (λ (l : List ℕ). files_text given.pages ++ (l ++ short.behind)) s.given_is
+            ∙ sym (append_assoc (files_text given.pages) given.bytes short.behind) ∙ ap (λ (l : List ℕ). l ++ short.behind) g.gave ∙ ap (λ (m : List JobMove). given_by m ++ short.behind) (sym r.moves_is);
+        none_behind = λ other. absurd (other refl);
+        shelf = inl (subst (λ (q : List JoinHistory). HasTaken before (page_outputs_from 1 q) now out (length q + 1) (s.history.given ++ short.behind)) (sym r.pages_is) short.taken);
       },
       subst (λ (m : List JobMove). NotesMatch m notes) (sym r.moves_is) g.notes_are,
     )
 sunk_by views left_of job first coming0 before notes links coming stream c new now out given gives shows scanning files g all (inr e) =
-    let d = laid_next views left_of job first coming0 before notes links coming stream c new now out given gives shows scanning files g all e in
-    sunk_next views left_of job first coming0 before notes links coming stream new now out d.0 d.1
+    refused_next views left_of job first coming0 before notes links coming stream new now out given (after_pull (given_by gives) g.stage.history)
+    (page_turned views left_of job first coming0 before notes links coming stream c new now out given gives false shows g all e) files e.none e.taken
 
 sunk_at : {L R : Type 0} {was_whole : Bool} (views : LinkViews L) (left_of : R → Option (List ℕ)) (job : Job) (first : L) (coming0 : Option (List (List ℕ))) (before was : Option Stock) (notes : CallNotes) (links : L) (coming : Option (List (List ℕ))) (stream : Option R) (c old new : ClientState) (now : Option Stock) (under out : Option (Option (List ℕ))) (given : GivenFiles) (past : JoinHistory) (is_scanning b : Bool) (result : Bool)
     → is_scanning ≡ b → is_scanning ≡ scans job.task → HasCount job.task → ((past : JoinHistory) (join : JoinState) → Represents past join → IsJoined past → (p : Picture) × ShowsFrames past.ended p)
@@ -302,13 +327,23 @@ came_sunk views left_of job first coming0 before was notes links coming stream c
 -- ---- the last output is given back
 
 last_back : (a : Result Bool JoinFault) (page : JoinHistory) (pages : List JoinHistory) (before was new : Option Stock) (out : Option (Option (List ℕ))) → HasTaken before (page_outputs_from 1 pages) was out (length pages + 1) page.given → ((a ≡ Ok true → ⊥) → out ≡ None)
-    → (a ≡ Ok true → page.given ≢ []) → GivesBack was out new → TakesBack before (page_outputs_from 1 (pages ++ last_whole_page a page)) new
+    → (a ≡ Ok true → page.given ≢ []) → GivesBack was out true new → TakesBack before (page_outputs_from 1 (pages ++ last_whole_page a page)) new
 last_back (Ok true) page pages before was new out taken none some back =
-    subst (λ (l : List ReturnedOutput). TakesBack before l new) (sym (outputs_more 1 pages page)) (given_back before was new (page_outputs_from 1 pages) (length pages + 1) page.given out (some refl) taken back)
+    subst (λ (l : List ReturnedOutput). TakesBack before l new) (sym (outputs_more 1 pages page)) (given_back before was new (page_outputs_from 1 pages) (length pages + 1) page.given out true (some refl) taken back)
 last_back (Ok false) page pages before was new out taken none some back =
-    subst (λ (l : List JoinHistory). TakesBack before (page_outputs_from 1 l) new) (sym (append-nil pages)) (none_back before was new (page_outputs_from 1 pages) (length pages + 1) page.given out (none (λ e. (let clash : Ok false ≡ Ok true = e in cc))) taken back)
+    subst (λ (l : List JoinHistory). TakesBack before (page_outputs_from 1 l) new) (sym (append-nil pages)) (none_back before was new (page_outputs_from 1 pages) (length pages + 1) page.given out true (none (λ e. (let clash : Ok false ≡ Ok true = e in cc))) taken back)
 last_back (Err fault) page pages before was new out taken none some back =
-    subst (λ (l : List JoinHistory). TakesBack before (page_outputs_from 1 l) new) (sym (append-nil pages)) (none_back before was new (page_outputs_from 1 pages) (length pages + 1) page.given out (none (λ e. (let clash : Err fault ≡ Ok true = e in cc))) taken back)
+    subst (λ (l : List JoinHistory). TakesBack before (page_outputs_from 1 l) new) (sym (append-nil pages)) (none_back before was new (page_outputs_from 1 pages) (length pages + 1) page.given out true (none (λ e. (let clash : Err fault ≡ Ok true = e in cc))) taken back)
+
+-- or refused
+last_refused : (a : Result Bool JoinFault) (page : JoinHistory) (pages : List JoinHistory) (before was new : Option Stock) (out : Option (Option (List ℕ))) → HasTaken before (page_outputs_from 1 pages) was out (length pages + 1) page.given → ((a ≡ Ok true → ⊥) → out ≡ None)
+    → (a ≡ Ok true → page.given ≢ []) → GivesBack was out false new → RefusesLastPage (pages ++ last_whole_page a page) before new
+last_refused (Ok true) page pages before was new out taken none some back =
+    record { shelved = pages; last = page; pages_are = refl; outputs = given_back before was new (page_outputs_from 1 pages) (length pages + 1) page.given out false (some refl) taken back }
+last_refused (Ok false) page pages before was new out taken none some back =
+    absurd (let clash : false ≡ true = none_kept was new out false (none (λ e. (let clash : Ok false ≡ Ok true = e in cc))) back in cc)
+last_refused (Err fault) page pages before was new out taken none some back =
+    absurd (let clash : false ≡ true = none_kept was new out false (none (λ e. (let clash : Err fault ≡ Ok true = e in cc))) back in cc)
 
 file_is_some : (page : JoinHistory) → IsPageFile page → page.given ≢ []
 file_is_some page f e = nothing_is_not_whole (subst (λ (t : List ℕ). IsWhole t) e (f.picture, f.file))
@@ -335,7 +370,7 @@ with_output views job was now new r = record {
 }
 
 pub close_done : {L : Type 0} (views : LinkViews L) (job : Job) (was now : SeenStreams L (Option Stock)) (new : Option Stock) (out : Option (Option (List ℕ))) (reports : Reports) (is_taken : Bool)
-    → BatchCameDone views job was now out reports → GivesBack now.output out new → HasBatchRun views job was (record now { output = new }) (closed_as (Done reports) is_taken)
+    → BatchCameDone views job was now out reports → GivesBack now.output out is_taken new → HasBatchRun views job was (record now { output = new }) (closed_as (Done reports) is_taken)
 close_done views job was now new out reports true d back = record {
   ran = with_output views job was now new d.ran;
   told = d.told;
@@ -353,37 +388,52 @@ close_done views job was now new out reports false d back = record {
   cause = inr (inr refl);
   all = λ other. absurd (other refl);
   refusal = λ e. cc;
+  last_told = inr (inr refl);
   pages = pages_of d.ran.trace;
-  left = [];
-  finished = inr (refl, refl, refl, (reports, d.told));
+  finished = inr (refl, (reports, d.told));
   files = d.files;
-  is_left = tt;
-  outputs = subst (λ (l : List ReturnedOutput). TakesBack was.output l new) (sym (append-nil (page_outputs_from 1 (pages_of d.ran.trace))))
-      (last_back (answer_of_end d.ran.trace.protocol.history) d.ran.trace.protocol.history d.ran.trace.pages was.output now.output new out d.taken d.none (λ joined. file_is_some d.ran.trace.protocol.history (d.last joined)) back);
+  text = [];
+  not_whole = nothing_is_not_whole;
+  behind = [];
+  gave = ap (λ (l : List ℕ). l ++ []) d.gave;
+  none_behind = λ other. refl;
+  shelf = inr (refl, refl, last_refused (answer_of_end d.ran.trace.protocol.history) d.ran.trace.protocol.history d.ran.trace.pages was.output now.output new out d.taken d.none (λ joined. file_is_some d.ran.trace.protocol.history (d.last joined)) back);
 }
 
-pub close_ended : {L : Type 0} (views : LinkViews L) (job : Job) (was now : SeenStreams L (Option Stock)) (new : Option Stock) (out : Option (Option (List ℕ))) (status : Status) (why : Why)
-    → BatchCameEnded views job was now out status why → GivesBack now.output out new → BatchEnded views job was (record now { output = new }) status why
-close_ended views job was now new out status why d back =
-    let left = left_behind was.output now.output new (page_outputs_from 1 d.ran.trace.pages) (length d.ran.trace.pages + 1) d.text out d.taken back d.not_whole in
-    record {
-      ran = with_output views job was now new d.ran;
-      cause = d.cause;
-      all = d.all;
-      refusal = d.refusal;
-      pages = d.ran.trace.pages;
-      left = left.0;
-      finished = inl refl;
-      files = d.files;
-      is_left = left.1;
-      outputs = left.2;
-    }
+-- what the shelf has once the output under way was given back
+kept_or_refused : (trace : JobTrace) (text : List ℕ) (before was new : Option Stock) (out : Option (Option (List ℕ))) (stop : Stop) (is_taken : Bool) → GivesBack was out is_taken new
+    → HasTaken before (page_outputs_from 1 trace.pages) was out (length trace.pages + 1) text ⊎ ((out ≡ None) × (text ≡ []) × (stop ≡ failed_output) × RefusesLastPage trace.pages before was)
+    → ((trace.pages ≡ trace.pages) × KeepsAllPages trace.pages text before new) ⊎ ((stop ≡ failed_output) × (text ≡ []) × RefusesLastPage trace.pages before new)
+kept_or_refused trace text before was new out stop is_taken back (inl taken) =
+    let left = left_behind before was new (page_outputs_from 1 trace.pages) (length trace.pages + 1) text out is_taken taken back in
+    inl (refl, record { left = left.0; is_left = left.1; outputs = left.2 })
+kept_or_refused trace text before was new out stop is_taken back (inr refused) =
+    inr (refused.2, refused.1, subst (λ (o : Option Stock). RefusesLastPage trace.pages before o) (sym (none_same was new out is_taken refused.0 back)) refused.3)
+
+pub close_ended : {L : Type 0} (views : LinkViews L) (job : Job) (was now : SeenStreams L (Option Stock)) (new : Option Stock) (out : Option (Option (List ℕ))) (stop : Stop) (is_taken : Bool)
+    → BatchCameEnded views job was now out stop → GivesBack now.output out is_taken new → BatchEnded views job was (record now { output = new }) stop
+close_ended views job was now new out stop is_taken d back = record {
+  ran = with_output views job was now new d.ran;
+  cause = d.cause;
+  all = d.all;
+  refusal = d.refusal;
+  last_told = d.last_told;
+  pages = d.ran.trace.pages;
+  finished = inl refl;
+  files = d.files;
+  text = d.text;
+  not_whole = d.not_whole;
+  behind = d.behind;
+  gave = d.gave;
+  none_behind = d.none_behind;
+  shelf = kept_or_refused d.ran.trace d.text was.output now.output new out stop is_taken back d.shelf;
+}
 
 pub close : {L : Type 0} (views : LinkViews L) (job : Job) (was now : SeenStreams L (Option Stock)) (new : Option Stock) (out : Option (Option (List ℕ))) (outcome : Outcome) (notes : CallNotes) (is_taken : Bool)
-    → BatchHasCome views job was now out outcome notes → GivesBack now.output out new → HasBatchRun views job was (record now { output = new }) (closed_as outcome is_taken)
+    → BatchHasCome views job was now out outcome notes → GivesBack now.output out is_taken new → HasBatchRun views job was (record now { output = new }) (closed_as outcome is_taken)
 close views job was now new out Running notes is_taken d back = absurd d
 close views job was now new out (Done reports) notes is_taken d back = close_done views job was now new out reports is_taken d.0 back
-close views job was now new out (Ended status why) notes is_taken d back = close_ended views job was now new out status why d.0 back
+close views job was now new out (Ended status why) notes is_taken d back = close_ended views job was now new out (record { status = status; why = why }) is_taken d.0 back
 
 -- by the case of what a batch gave
 pub batch_ok : {L T : Type 0} (views : LinkViews L) (job : Job) (was now : SeenStreams L (Option Stock)) (result : Result (Reports × T) Stop) → HasBatchRun views job was now (over_as result) → IfOk result (λ done. BatchDone views job was now done.0)
@@ -391,6 +441,6 @@ batch_ok views job was now (Ok done) run = run
 batch_ok views job was now (Err stop) run = tt
 
 pub batch_err : {L T C D S : Type 0} (views : LinkViews L) (job : Job) (was now : SeenStreams L (Option Stock)) (before behind : JobStreams C D S) (result : Result (Reports × T) Stop) → HasBatchRun views job was now (over_as result)
-    → IfErr result (λ stop. RefusesBatch job (Ended stop.status stop.why) before behind ⊎ BatchEnded views job was now stop.status stop.why)
+    → IfErr result (λ stop. RefusesBatch job (Ended stop.status stop.why) before behind ⊎ BatchEnded views job was now stop)
 batch_err views job was now before behind (Ok done) run = tt
 batch_err views job was now before behind (Err stop) run = inr run

@@ -86,7 +86,7 @@ pub record RunInvariant {R : Type 0} (left_of : R → Option (List ℕ)) (job : 
   pub trace : JobTrace
   pub pages_is : trace.pages ≡ given.pages
   pub rest : List ℕ
-  pub did : BytesMatchTrace job trace read_ wrote rest left
+  pub did : BytesMatchTrace job trace (record { read_ = read_; wrote = wrote; rest = rest; left = left })
   pub asked : AsksPorts (dialled_by moves) did.events trace.protocol c.outcome
   pub stands : ClientFollowsTrace left_of coming0 coming trace rest stream c history ⊎ Falls moves coming0 coming trace rest c
 

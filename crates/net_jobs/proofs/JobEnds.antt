@@ -102,7 +102,7 @@ abbrev pub more_given : GivenFiles → List ℕ → GivenFiles
 more_given given bytes = record { pages = given.pages; bytes = given.bytes ++ bytes }
 
 pub stage_gave_by : {R : Type 0} (left_of : R → Option (List ℕ)) (job : Job) (moves : List JobMove) (read_ wrote left : List ℕ) (coming0 coming : Option (List (List ℕ))) (given : GivenFiles) (bytes : List ℕ) (stream : Option R) (c : ClientState) (join : JoinState)
-    → c.target ≡ target_of job → (past : JoinHistory) → past.given ≡ given.bytes → ClientRepresents (after_pull bytes past) (record c { join = join }) → (trace : JobTrace) (rest : List ℕ) → trace.pages ≡ given.pages → (did : BytesMatchTrace job trace read_ wrote rest left) → AsksPorts (dialled_by moves) did.events trace.protocol c.outcome
+    → c.target ≡ target_of job → (past : JoinHistory) → past.given ≡ given.bytes → ClientRepresents (after_pull bytes past) (record c { join = join }) → (trace : JobTrace) (rest : List ℕ) → trace.pages ≡ given.pages → (did : BytesMatchTrace job trace (record { read_ = read_; wrote = wrote; rest = rest; left = left })) → AsksPorts (dialled_by moves) did.events trace.protocol c.outcome
     → ClientFollowsTrace left_of coming0 coming trace rest stream c past ⊎ Falls moves coming0 coming trace rest c
     → (s : RunInvariant left_of job moves read_ wrote left coming0 coming (more_given given bytes) stream (record c { join = join })) × (s.history ≡ after_pull bytes past)
 stage_gave_by left_of job moves read_ wrote left coming0 coming given bytes stream c join target past given_is serves trace rest pages_is did asked (inl f) = (
@@ -375,7 +375,7 @@ no_pages [] e = refl
 no_pages (page ∷ pages) e = absurd (omega (arith, e))
 
 -- a job that is no batch turns no page: all that was given is of one file
-pub one_file_given : (job : Job) (trace : JobTrace) (read_ wrote rest left : List ℕ) (given : GivenFiles) (gave : List ℕ) → is_batch job.task ≡ false → BytesMatchTrace job trace read_ wrote rest left → trace.pages ≡ given.pages → files_text given.pages ++ given.bytes ≡ gave → given.bytes ≡ gave
+pub one_file_given : (job : Job) (trace : JobTrace) (read_ wrote rest left : List ℕ) (given : GivenFiles) (gave : List ℕ) → is_batch job.task ≡ false → BytesMatchTrace job trace (record { read_ = read_; wrote = wrote; rest = rest; left = left }) → trace.pages ≡ given.pages → files_text given.pages ++ given.bytes ≡ gave → given.bytes ≡ gave
 one_file_given job trace read_ wrote rest left given gave single did pages e =
     let few = few_pages job.task single in
     let none = few.1 (length trace.pages) (counts job did.events trace few.0 did.runs).few in
@@ -432,17 +432,18 @@ ended_unjoined (tasks.Batch count) past single f = absurd (let clash : true ≡ 
 ended_unjoined task past single f = f
 
 -- what a job did, whether it follows its trace or not
-pub record RanBy {L O : Type 0} (views : LinkViews L) (job : Job) (was now : SeenStreams L O) (outcome : Outcome) (given : GivenFiles) (moves : List JobMove) (left : List ℕ) : Type 0 where
+pub record RanBy {L O : Type 0} (views : LinkViews L) (job : Job) (was now : SeenStreams L O) (outcome : Outcome) (given : GivenFiles) (moves : List JobMove) (left : List ℕ) (last : ClientState) : Type 0 where
   pub ran : RanWithTrace views job was now
   pub cause : (ran.trace.protocol.outcome ≡ outcome) ⊎ EndsBy ran.moves ran.trace.protocol ran.rest outcome
   pub pages_is : ran.trace.pages ≡ given.pages
   pub moves_is : ran.moves ≡ moves
   pub left_is : ran.left ≡ left
+  pub last_is : ran.last ≡ last
 
 pub ran_by : {L O R : Type 0} (views : LinkViews L) (left_of : R → Option (List ℕ)) (job : Job) (was now : SeenStreams L O) (stream : Option R) (c : ClientState) (given : GivenFiles) (moves : List JobMove) (left : List ℕ) (fresh last : ClientState)
     → IsNewClient job fresh → MovesLead fresh moves last → Calls views was.links moves now.links → (s : RunInvariant left_of job moves (heard_by moves) (bytes_written_by moves) left was.coming now.coming given stream c)
     → (stands : ClientFollowsTrace left_of was.coming now.coming s.trace s.rest stream c s.history ⊎ Falls moves was.coming now.coming s.trace s.rest c)
-    → RanBy views job was now c.outcome given moves left
+    → RanBy views job was now c.outcome given moves left last
 ran_by views left_of job was now stream c given moves left fresh last is_fresh leads calls s (inl f) =
     let l = lets_go left_of was.coming now.coming s.trace.streams stream c s.history f.linked in
     record {
@@ -468,6 +469,7 @@ ran_by views left_of job was now stream c given moves left fresh last is_fresh l
       pages_is = s.pages_is;
       moves_is = refl;
       left_is = refl;
+      last_is = refl;
     }
 ran_by views left_of job was now stream c given moves left fresh last is_fresh leads calls s (inr f) = record {
   ran = record {
@@ -492,6 +494,7 @@ ran_by views left_of job was now stream c given moves left fresh last is_fresh l
   pages_is = s.pages_is;
   moves_is = refl;
   left_is = refl;
+  last_is = refl;
 }
 
 pub cause_of : (moves : List JobMove) (protocol : ProtocolState) (rest : List ℕ) (outcome told : Outcome) → outcome ≡ told → (protocol.outcome ≡ outcome) ⊎ EndsBy moves protocol rest outcome → HasEndingCause moves protocol rest told
@@ -509,7 +512,7 @@ cut_refuses moves protocol rest outcome (ByGarble procedure awaits no_start x) =
 cut_refuses moves protocol rest outcome (ByLength frame bytes under long x) = subst HasRefusal (sym x) (λ e. cc)
 
 -- however a job has ended otherwise, it has another status than GOOD
-pub ran_refuses : (job : Job) (moves : List JobMove) (trace : JobTrace) (read_ wrote rest left : List ℕ) (outcome : Outcome) → BytesMatchTrace job trace read_ wrote rest left → (trace.protocol.outcome ≡ outcome) ⊎ EndsBy moves trace.protocol rest outcome → HasRefusal outcome
+pub ran_refuses : (job : Job) (moves : List JobMove) (trace : JobTrace) (read_ wrote rest left : List ℕ) (outcome : Outcome) → BytesMatchTrace job trace (record { read_ = read_; wrote = wrote; rest = rest; left = left }) → (trace.protocol.outcome ≡ outcome) ⊎ EndsBy moves trace.protocol rest outcome → HasRefusal outcome
 ran_refuses job moves trace read_ wrote rest left outcome did (inl e) = subst HasRefusal e (course_refuses job did.events trace did.runs)
 ran_refuses job moves trace read_ wrote rest left outcome did (inr by) = cut_refuses moves trace.protocol rest outcome by
 
@@ -538,6 +541,7 @@ run_ended views left_of job first coming0 held notes links coming stream c holds
         single = single;
         ran = r.ran;
         cause = cause_of r.ran.moves r.ran.trace.protocol r.ran.rest c.outcome (Ended status why) over r.cause;
+        last_told = inl (ap (λ (v : ClientState). v.outcome) r.last_is ∙ d.ends ∙ over);
         all = λ other. all_written d.moves r.ran.moves d.left r.ran.left r.moves_is r.left_is d.all;
         refusal = subst HasRefusal over (ran_refuses job r.ran.moves r.ran.trace _ _ r.ran.rest r.ran.left c.outcome r.ran.did r.cause);
         text = d.given.bytes;
@@ -559,7 +563,7 @@ run_sunk views left_of job first coming0 held was notes links coming stream c ho
     let s = g.stage in
     let r = ran_by views left_of job (record { links = first; coming = coming0; output = held }) (record { links = links; coming = coming; output = holds }) stream c given g.moves g.left g.fresh c g.is_fresh g.leads g.calls s s.stands in
     let short = stops s.history (record { scan = task_is c job s.target ∙ scan; serves = s.serves; taken = subst (λ (l : List ℕ). Appends held was l) (sym s.given_is) taken }) in (
-      record { single = single; ran = r.ran; cause = inr (inr refl); all = λ other. absurd (other refl); refusal = λ e. cc; text = s.history.given ++ short.behind; taken = short.taken; behind = short.behind; gave = ap (λ (l : List ℕ). l ++ short.behind) (s.given_is ∙ one_file_given job s.trace _ _ s.rest g.left given (given_by g.moves) single s.did s.pages_is g.gave ∙ ap (λ (m : List JobMove). given_by m) (sym r.moves_is)); none_behind = λ other. absurd (other refl); not_whole = short.not_whole },
+      record { single = single; ran = r.ran; cause = inr (inr refl); last_told = inr (inr refl); all = λ other. absurd (other refl); refusal = λ e. cc; text = s.history.given ++ short.behind; taken = short.taken; behind = short.behind; gave = ap (λ (l : List ℕ). l ++ short.behind) (s.given_is ∙ one_file_given job s.trace _ _ s.rest g.left given (given_by g.moves) single s.did s.pages_is g.gave ∙ ap (λ (m : List JobMove). given_by m) (sym r.moves_is)); none_behind = λ other. absurd (other refl); not_whole = short.not_whole },
       subst (λ (m : List JobMove). NotesMatch m notes) (sym r.moves_is) g.notes_are,
     )
 
@@ -615,16 +619,17 @@ pending_went views left_of job first coming0 held notes then_ control now coming
 }
 
 -- there was no memory for what was to be told
-run_untold : {L R : Type 0} {whole : Bool} (views : LinkViews L) (left_of : R → Option (List ℕ)) (job : Job) (first : L) (coming0 : Option (List (List ℕ))) (held : Option (List ℕ)) (notes : CallNotes) (links : L) (coming : Option (List (List ℕ))) (stream : Option R) (c : ClientState) (holds : Option (List ℕ))
-    → is_batch job.task ≡ false → (d : Closed views left_of job first coming0 held notes whole links coming stream c holds) → (IsWhole d.given.bytes → ⊥)
+run_untold : {L R : Type 0} {whole : Bool} (views : LinkViews L) (left_of : R → Option (List ℕ)) (job : Job) (first : L) (coming0 : Option (List (List ℕ))) (held : Option (List ℕ)) (notes : CallNotes) (links : L) (coming : Option (List (List ℕ))) (stream : Option R) (c : ClientState) (holds : Option (List ℕ)) (reports : Reports)
+    → is_batch job.task ≡ false → c.outcome ≡ Done reports → (d : Closed views left_of job first coming0 held notes whole links coming stream c holds) → (IsWhole d.given.bytes → ⊥)
     → HasRunNoted views job (record { links = first; coming = coming0; output = held }) (record { links = links; coming = coming; output = holds }) (Ended statuses.NoMem whys.Memory) notes
-run_untold views left_of job first coming0 held notes links coming stream c holds single d not_whole =
+run_untold views left_of job first coming0 held notes links coming stream c holds reports single done d not_whole =
     let s = d.stage in
     let r = ran_by views left_of job (record { links = first; coming = coming0; output = held }) (record { links = links; coming = coming; output = holds }) stream c d.given d.moves d.left d.fresh d.last d.is_fresh d.leads d.calls s s.stands in (
       record {
         single = single;
         ran = r.ran;
         cause = inr (inl (ByMemory refl));
+        last_told = inr (inl (reports, ap (λ (v : ClientState). v.outcome) r.last_is ∙ d.ends ∙ done, refl));
         all = λ other. all_written d.moves r.ran.moves d.left r.ran.left r.moves_is r.left_is d.all;
         refusal = λ e. cc;
         text = d.given.bytes;
@@ -643,7 +648,7 @@ stopped_by : {L R : Type 0} {whole : Bool} (views : LinkViews L) (left_of : R �
 stopped_by views left_of job first coming0 held notes links coming stream c holds Running stop single law over ends d not_whole = absurd ends
 stopped_by views left_of job first coming0 held notes links coming stream c holds (Done reports) stop single law over ends d not_whole =
     subst (λ (x : Stop). HasRunNoted views job (record { links = first; coming = coming0; output = held }) (record { links = links; coming = coming; output = holds }) (Ended x.status x.why) notes) (sym ends)
-    (run_untold views left_of job first coming0 held notes links coming stream c holds single d not_whole)
+    (run_untold views left_of job first coming0 held notes links coming stream c holds reports single over d not_whole)
 stopped_by views left_of job first coming0 held notes links coming stream c holds (Ended status why) stop single law over ends d not_whole =
     subst (λ (x : Stop). HasRunNoted views job (record { links = first; coming = coming0; output = held }) (record { links = links; coming = coming; output = holds }) (Ended x.status x.why) notes) (sym ends)
     (run_ended views left_of job first coming0 held notes links coming stream c holds status why single law over d)
@@ -670,7 +675,7 @@ ran_ok views job was now notes (Ok done) run = run.0
 ran_ok views job was now notes (Err stop) run = tt
 
 pub ran_err : {L T C D W : Type 0} (views : LinkViews L) (job : Job) (was now : SeenStreams L (Option (List ℕ))) (before behind : JobStreams C D W) (notes : CallNotes) (result : Result (Reports × T) Stop) → HasRunNoted views job was now (over_as result) notes
-    → IfErr result (λ stop. RefusesJob job (Ended stop.status stop.why) before behind ⊎ RanEnded views job was now stop.status stop.why)
+    → IfErr result (λ stop. RefusesJob job (Ended stop.status stop.why) before behind ⊎ RanEnded views job was now stop)
 ran_err views job was now before behind notes (Ok done) run = tt
 ran_err views job was now before behind notes (Err stop) run = inr run.0
 

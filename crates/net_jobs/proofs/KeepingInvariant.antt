@@ -144,7 +144,7 @@ given_heard old new past piece given clean given_is h = (hears_keep old.target (
 
 -- bytes that begin no reply
 stage_garbled : {R : Type 0} (left_of : R → Option (List ℕ)) (job : Job) (moves : List JobMove) (read_ wrote : List ℕ) (coming0 coming : Option (List (List ℕ))) (given : GivenFiles) (was new : ClientState) (past : JoinHistory) (trace : JobTrace)
-    → is_running was.outcome ≡ true → was.target ≡ target_of job → ClientRepresents past was → past.given ≡ given.bytes → trace.pages ≡ given.pages → (did : BytesMatchTrace job trace read_ wrote was.input.rest was.out) → dialled_by moves ≡ ports_opened did.events → ClientFollowsTrace left_of coming0 coming trace was.input.rest None was past
+    → is_running was.outcome ≡ true → was.target ≡ target_of job → ClientRepresents past was → past.given ≡ given.bytes → trace.pages ≡ given.pages → (did : BytesMatchTrace job trace (record { read_ = read_; wrote = wrote; rest = was.input.rest; left = was.out })) → dialled_by moves ≡ ports_opened did.events → ClientFollowsTrace left_of coming0 coming trace was.input.rest None was past
     → IsGarbled was new → RunInvariant left_of job moves read_ wrote new.out coming0 coming given None new
 stage_garbled left_of job moves read_ wrote coming0 coming given was new past trace running target serves given_is pages_is did asked f g =
     let at = fits_at past was running serves in
@@ -164,7 +164,7 @@ stage_garbled left_of job moves read_ wrote coming0 coming given was new past tr
 
 -- memory ran out
 pub stage_starved : {R : Type 0} (left_of : R → Option (List ℕ)) (job : Job) (moves : List JobMove) (read_ wrote : List ℕ) (coming0 coming : Option (List (List ℕ))) (given : GivenFiles) (rest next : List ℕ) (stream after_ : Option R) (was new : ClientState) (past : JoinHistory) (trace : JobTrace)
-    → is_running was.outcome ≡ true → was.target ≡ target_of job → past.given ≡ given.bytes → trace.pages ≡ given.pages → (did : BytesMatchTrace job trace read_ wrote next was.out) → dialled_by moves ≡ ports_opened did.events → ClientFollowsTrace left_of coming0 coming trace rest stream was past
+    → is_running was.outcome ≡ true → was.target ≡ target_of job → past.given ≡ given.bytes → trace.pages ≡ given.pages → (did : BytesMatchTrace job trace (record { read_ = read_; wrote = wrote; rest = next; left = was.out })) → dialled_by moves ≡ ports_opened did.events → ClientFollowsTrace left_of coming0 coming trace rest stream was past
     → EndsOutOfMemory was past new → RunInvariant left_of job moves read_ wrote new.out coming0 coming given after_ new
 stage_starved left_of job moves read_ wrote coming0 coming given rest next stream after_ was new past trace running target given_is pages_is did asked f s = record {
   target = s.target ∙ target;

@@ -18,7 +18,7 @@ use Rattle.client_replies.specs.ProtocolStates.{HistoryFits, FitsDone, IsBetween
 use Rattle.net_client.specs.ClientStates.{ClientState, ClientRepresents, TakesPage, Stays, Turns, TurnsPage}
 use Rattle.net_client.proofs.Hearings.{calm_at}
 use Rattle.net_jobs.specs.Outputs.{HasTaken, OutputIsUnderWay}
-use Rattle.scan_job.specs.FileOutputs.{TakesBack, GivesBack, output_of}
+use Rattle.scan_job.specs.FileOutputs.{TakesBack, GivesBack, returned_output}
 use Rattle.net_jobs.specs.Paging.{PageGoesOn, TurnsOn, FallsShort}
 use Rattle.net_jobs.proofs.NetDrains.{joined_calm, pulled_none, pulled_twice, join_only, not_ended, unmoved}
 use Rattle.net_jobs.proofs.Shelves.{given_back}
@@ -153,12 +153,12 @@ at_end past old was now k i n before outputs stock out bytes piece none p denote
 
 -- ---- the last bytes of a page
 
-turned_by : (past : JoinHistory) (old was now : ClientState) (k n : ℕ) (before : Option Stock) (outputs : List ReturnedOutput) (stock then_ : Option Stock) (out : Option (Option (List ℕ))) (bytes piece : List ℕ) → was ≡ record old { join = was.join }
-    → turns was.outcome was.progress ≡ true → turns now.outcome now.progress ≡ false → HasTaken before outputs stock out k ((past.given ++ bytes) ++ piece) → (past.given ++ bytes) ++ piece ≢ [] → GivesBack stock out then_
-    → TakesPage was (after_pull bytes past) piece now → TurnsOn past old k before outputs (bytes ++ piece) now then_ None
-turned_by past old was now k n before outputs stock then_ out bytes piece rest turning turned taken some back (Stays not_whole same serves) =
+turned_by : (past : JoinHistory) (old was now : ClientState) (k n : ℕ) (before : Option Stock) (outputs : List ReturnedOutput) (stock then_ : Option Stock) (out : Option (Option (List ℕ))) (kept : Bool) (bytes piece : List ℕ) → was ≡ record old { join = was.join }
+    → turns was.outcome was.progress ≡ true → turns now.outcome now.progress ≡ false → HasTaken before outputs stock out k ((past.given ++ bytes) ++ piece) → (past.given ++ bytes) ++ piece ≢ [] → GivesBack stock out kept then_
+    → TakesPage was (after_pull bytes past) piece now → TurnsOn past old k before outputs (bytes ++ piece) kept now then_ None
+turned_by past old was now k n before outputs stock then_ out kept bytes piece rest turning turned taken some back (Stays not_whole same serves) =
     absurd (let clash : true ≡ false = sym (ap (λ (v : ClientState). turns v.outcome v.progress) same ∙ turning) ∙ turned in cc)
-turned_by past old was now k n before outputs stock then_ out bytes piece rest turning turned taken some back (Turns whole denotes client serves) =
+turned_by past old was now k n before outputs stock then_ out kept bytes piece rest turning turned taken some back (Turns whole denotes client serves) =
     let text : (past.given ++ bytes) ++ piece ≡ past.given ++ (bytes ++ piece) = append_assoc past.given bytes piece in
     record {
       turning = sym (ap (λ (v : ClientState). turns v.outcome v.progress) rest) ∙ turning;
@@ -167,18 +167,18 @@ turned_by past old was now k n before outputs stock then_ out bytes piece rest t
       join = was.join;
       client = subst (λ (v : ClientState). TurnsPage v now) rest client;
       serves = serves;
-      taken = subst (λ (l : List ℕ). TakesBack before (outputs ++ output_of k l ∷ []) then_) text (given_back before stock then_ outputs k ((past.given ++ bytes) ++ piece) out some taken back);
+      taken = subst (λ (l : List ℕ). TakesBack before (outputs ++ returned_output k l kept ∷ []) then_) text (given_back before stock then_ outputs k ((past.given ++ bytes) ++ piece) out kept some taken back);
       none = refl;
     }
 
-pub turned : (past : JoinHistory) (old was now : ClientState) (k i n file : ℕ) (before : Option Stock) (outputs : List ReturnedOutput) (first stock then_ : Option Stock) (under out : Option (Option (List ℕ))) (bytes piece : List ℕ) → n ≢ 0 → Pulls was piece n now
+pub turned : (past : JoinHistory) (old was now : ClientState) (k i n file : ℕ) (before : Option Stock) (outputs : List ReturnedOutput) (first stock then_ : Option Stock) (under out : Option (Option (List ℕ))) (kept : Bool) (bytes piece : List ℕ) → n ≢ 0 → Pulls was piece n now
     → turns was.outcome was.progress ≡ true → turns now.outcome now.progress ≡ false → file ≡ was.notes.file → (is_ended old.outcome ≡ false → old.notes.file ≡ k)
-    → ((had : List ℕ) → HasTaken before outputs first under file had → HasTaken before outputs stock out file (had ++ piece)) → GivesBack stock out then_
-    → IsPulled past old k before outputs bytes i was first under → TurnsOn past old k before outputs (bytes ++ piece) now then_ None
-turned past old was now k i n file before outputs first stock then_ under out bytes piece some p turning has file_is number took back u =
+    → ((had : List ℕ) → HasTaken before outputs first under file had → HasTaken before outputs stock out file (had ++ piece)) → GivesBack stock out kept then_
+    → IsPulled past old k before outputs bytes i was first under → TurnsOn past old k before outputs (bytes ++ piece) kept now then_ None
+turned past old was now k i n file before outputs first stock then_ under out kept bytes piece some p turning has file_is number took back u =
     let alive = pulls_alive was now piece n p some in
     let taken = took_as k file before outputs first stock under out (past.given ++ bytes) piece (was_file old was k file file_is u.rest number alive) (took (past.given ++ bytes)) u.under_way.taken in
-    turned_by past old was now k n before outputs stock then_ out bytes piece u.rest turning has taken (some_piece (past.given ++ bytes) piece n some p.size) back (p.page turning (after_pull bytes past) u.serves)
+    turned_by past old was now k n before outputs stock then_ out kept bytes piece u.rest turning has taken (some_piece (past.given ++ bytes) piece n some p.size) back (p.page turning (after_pull bytes past) u.serves)
 
 -- ---- an output that did not take all bytes
 
@@ -211,17 +211,18 @@ pub stopped : (past : JoinHistory) (old was now : ClientState) (k i n file : ℕ
     → ((front more : List ℕ) → IsWhole front → IsWhole (front ++ more) → more ≡ [])
     → scans old.target.task ≡ true → file ≡ was.notes.file → (is_ended old.outcome ≡ false → old.notes.file ≡ k)
     → ((had : List ℕ) → HasTaken before outputs stock out file had → (m : ℕ) × (m < length piece) × HasTaken before outputs then_ new file (had ++ take m piece))
-    → IsPulled past old k before outputs bytes i was stock out → FallsShort k before outputs then_ new
+    → IsPulled past old k before outputs bytes i was stock out → FallsShort past.given k before outputs then_ new
 stopped past old was now k i n file before outputs stock then_ out new bytes piece some p law prefix scanning file_is number took u =
     let alive = pulls_alive was now piece n p some in
     let number_is = was_file old was k file file_is u.rest number alive in
     let q = after_pull bytes past in
     let short = took (past.given ++ bytes) (subst (λ (j : ℕ). HasTaken before outputs stock out j (past.given ++ bytes)) (sym number_is) u.under_way.taken) in
     let calm = calm was q (ap (λ (v : ClientState). scans v.target.task) u.rest ∙ scanning) alive u.serves in
+    let text : (past.given ++ bytes) ++ take short.0 piece ≡ past.given ++ (bytes ++ take short.0 piece) = append_assoc past.given bytes (take short.0 piece) in
     record {
-      text = (past.given ++ bytes) ++ take short.0 piece;
-      taken = subst (λ (j : ℕ). HasTaken before outputs then_ new j ((past.given ++ bytes) ++ take short.0 piece)) number_is short.2;
-      not_whole = short_at (turns was.outcome was.progress) was now q piece n short.0 refl law prefix calm short.1 p u.serves;
+      behind = bytes ++ take short.0 piece;
+      taken = subst (λ (l : List ℕ). HasTaken before outputs then_ new k l) text (subst (λ (j : ℕ). HasTaken before outputs then_ new j ((past.given ++ bytes) ++ take short.0 piece)) number_is short.2);
+      not_whole = subst (λ (l : List ℕ). IsWhole l → ⊥) text (short_at (turns was.outcome was.progress) was now q piece n short.0 refl law prefix calm short.1 p u.serves);
     }
 
 pub never : (past : JoinHistory) (old now : ClientState) (k i : ℕ) (before : Option Stock) (outputs : List ReturnedOutput) (stock : Option Stock) (out : Option (Option (List ℕ))) (bytes : List ℕ) → scans old.target.task ≡ true → 2 ^ 40 ≤ i

@@ -1,12 +1,11 @@
 -- Bytes that go to an output of a shelf.
-use Rattle.std.proofs.Common.{◌≡◌, ◌≢◌, ◌∙◌, ℕ, suc, ◌+◌, ◌<◌, Option, Some, None, List, [], ◌∷◌, ◌++◌, take, length, refl, sym, ap, subst, arith, append_assoc}
+use Rattle.std.proofs.Common.{◌≡◌, ◌≢◌, ◌∙◌, ℕ, suc, ◌+◌, ◌<◌, Bool, true, Option, Some, None, List, [], ◌∷◌, ◌++◌, take, length, refl, sym, ap, subst, arith, append_assoc}
 use Rattle.std.specs.Io.KnownBytes.{Appends}
 use Rattle.std.proofs.lemmas.List.{append-nil}
 use Rattle.scan_job.specs.Shelves.{Stock, ReturnedOutput, OpensOutput, IsNewOutput, Shelves}
-use Rattle.netpbm.specs.Pnm.{IsWhole}
 use Rattle.frame_join.specs.FrameHistory.{JoinHistory}
 use Rattle.net_jobs.specs.Outputs.{HasTaken, page_outputs_from}
-use Rattle.scan_job.specs.FileOutputs.{TakesBack, AreLeft, GivesBack, output_of}
+use Rattle.scan_job.specs.FileOutputs.{TakesBack, AreLeft, GivesBack, output_of, returned_output}
 
 -- an output that was had now
 told : (contents after : Option (List ℕ)) (bytes : List ℕ) → contents ≡ Some [] → Appends contents after bytes → after ≡ Some bytes
@@ -44,21 +43,21 @@ nothing_taken before old new outputs k had bytes out none some opens h =
     (0, some, subst (λ (o : Option (Option (List ℕ))). HasTaken before outputs new o k (had ++ [])) (sym none) (none_taken before old new outputs k had opens (subst (λ (o : Option (Option (List ℕ))). HasTaken before outputs old o k had) none h)))
 
 -- an output is taken back
-back_on : (b m : Stock) (new : Option Stock) (outputs : List ReturnedOutput) (k : ℕ) (text : List ℕ) (contents : Option (List ℕ)) → (m.taken ≡ b.taken ++ outputs) × ((m.number ≡ k) × (contents ≡ Some text)) → Shelves (Some m) contents new
-    → TakesBack (Some b) (outputs ++ output_of k text ∷ []) new
-back_on b m new outputs k text contents h e =
-    subst (λ (o : Option Stock). TakesBack (Some b) (outputs ++ output_of k text ∷ []) o) (sym e)
-    (ap (λ (l : List ReturnedOutput). l ++ record { number = m.number; text = contents } ∷ []) h.0
-    ∙ append_assoc b.taken outputs (record { number = m.number; text = contents } ∷ [])
-    ∙ ap (λ (n : ℕ). b.taken ++ (outputs ++ record { number = n; text = contents } ∷ [])) h.1.0
-    ∙ ap (λ (t : Option (List ℕ)). b.taken ++ (outputs ++ record { number = k; text = t } ∷ [])) h.1.1)
+back_on : (b m : Stock) (new : Option Stock) (outputs : List ReturnedOutput) (k : ℕ) (text : List ℕ) (contents : Option (List ℕ)) (kept : Bool) → (m.taken ≡ b.taken ++ outputs) × ((m.number ≡ k) × (contents ≡ Some text)) → Shelves (Some m) contents kept new
+    → TakesBack (Some b) (outputs ++ returned_output k text kept ∷ []) new
+back_on b m new outputs k text contents kept h e =
+    subst (λ (o : Option Stock). TakesBack (Some b) (outputs ++ returned_output k text kept ∷ []) o) (sym e)
+    (ap (λ (l : List ReturnedOutput). l ++ record { number = m.number; text = contents; kept = kept } ∷ []) h.0
+    ∙ append_assoc b.taken outputs (record { number = m.number; text = contents; kept = kept } ∷ [])
+    ∙ ap (λ (n : ℕ). b.taken ++ (outputs ++ record { number = n; text = contents; kept = kept } ∷ [])) h.1.0
+    ∙ ap (λ (t : Option (List ℕ)). b.taken ++ (outputs ++ record { number = k; text = t; kept = kept } ∷ [])) h.1.1)
 
-pub given_back : (before was new : Option Stock) (outputs : List ReturnedOutput) (k : ℕ) (text : List ℕ) (out : Option (Option (List ℕ))) → text ≢ [] → HasTaken before outputs was out k text → GivesBack was out new
-    → TakesBack before (outputs ++ output_of k text ∷ []) new
-given_back None was new outputs k text out some h e = tt
-given_back (Some b) None new outputs k text out some h e = absurd h
-given_back (Some b) (Some m) new outputs k text None some h e = absurd (some h.1)
-given_back (Some b) (Some m) new outputs k text (Some contents) some h e = back_on b m new outputs k text contents h e
+pub given_back : (before was new : Option Stock) (outputs : List ReturnedOutput) (k : ℕ) (text : List ℕ) (out : Option (Option (List ℕ))) (kept : Bool) → text ≢ [] → HasTaken before outputs was out k text → GivesBack was out kept new
+    → TakesBack before (outputs ++ returned_output k text kept ∷ []) new
+given_back None was new outputs k text out kept some h e = tt
+given_back (Some b) None new outputs k text out kept some h e = absurd h
+given_back (Some b) (Some m) new outputs k text None kept some h e = absurd (some h.1)
+given_back (Some b) (Some m) new outputs k text (Some contents) kept some h e = back_on b m new outputs k text contents kept h e
 
 -- ---- what was taken back in all
 
@@ -78,18 +77,25 @@ begins_with_none before k = none_under_way before before [] k (nothing_back befo
 none_on_back : (b m : Stock) (new : Option Stock) (outputs : List ReturnedOutput) → m.taken ≡ b.taken ++ outputs → new ≡ Some m → TakesBack (Some b) outputs new
 none_on_back b m new outputs h e = subst (λ (o : Option Stock). TakesBack (Some b) outputs o) (sym e) h
 
-pub none_back : (before was new : Option Stock) (outputs : List ReturnedOutput) (k : ℕ) (bytes : List ℕ) (out : Option (Option (List ℕ))) → out ≡ None → HasTaken before outputs was out k bytes → GivesBack was out new → TakesBack before outputs new
-none_back None was new outputs k bytes out none h e = tt
-none_back (Some b) None new outputs k bytes out none h e = absurd h
-none_back (Some b) (Some m) new outputs k bytes out none h e = none_on_back b m new outputs h.0 (let P : Option (Option (List ℕ)) → Type 0 = λ o. GivesBack (Some m) o new in subst P none e)
+pub none_back : (before was new : Option Stock) (outputs : List ReturnedOutput) (k : ℕ) (bytes : List ℕ) (out : Option (Option (List ℕ))) (kept : Bool) → out ≡ None → HasTaken before outputs was out k bytes → GivesBack was out kept new → TakesBack before outputs new
+none_back None was new outputs k bytes out kept none h e = tt
+none_back (Some b) None new outputs k bytes out kept none h e = absurd h
+none_back (Some b) (Some m) new outputs k bytes out kept none h e = none_on_back b m new outputs h.0 (let P : Option (Option (List ℕ)) → Type 0 = λ o. GivesBack (Some m) o kept new in (subst P none e).0)
+
+-- where there is no output none is refused
+pub none_kept : (was new : Option Stock) (out : Option (Option (List ℕ))) (kept : Bool) → out ≡ None → GivesBack was out kept new → kept ≡ true
+none_kept was new out kept none e = let P : Option (Option (List ℕ)) → Type 0 = λ o. GivesBack was o kept new in (subst P none e).1
+
+pub none_same : (was new : Option Stock) (out : Option (Option (List ℕ))) (kept : Bool) → out ≡ None → GivesBack was out kept new → new ≡ was
+none_same was new out kept none e = let P : Option (Option (List ℕ)) → Type 0 = λ o. GivesBack was o kept new in (subst P none e).0
 
 -- what was under way is given back as the job ends otherwise
-pub left_behind : (before was new : Option Stock) (outputs : List ReturnedOutput) (k : ℕ) (text : List ℕ) (out : Option (Option (List ℕ))) → HasTaken before outputs was out k text → GivesBack was out new → (IsWhole text → ⊥)
-    → (left : List ReturnedOutput) × AreLeft k left × TakesBack before (outputs ++ left) new
-left_behind None was new outputs k text out h e short = ([], tt, tt)
-left_behind (Some b) None new outputs k text out h e short = absurd h
-left_behind (Some b) (Some m) new outputs k text None h e short = ([], tt, subst (λ (l : List ReturnedOutput). TakesBack (Some b) l new) (sym (append-nil outputs)) (none_on_back b m new outputs h.0 e))
-left_behind (Some b) (Some m) new outputs k text (Some contents) h e short = (output_of k text ∷ [], (text, refl, short), back_on b m new outputs k text contents h e)
+pub left_behind : (before was new : Option Stock) (outputs : List ReturnedOutput) (k : ℕ) (text : List ℕ) (out : Option (Option (List ℕ))) (kept : Bool) → HasTaken before outputs was out k text → GivesBack was out kept new
+    → (left : List ReturnedOutput) × AreLeft k text left × TakesBack before (outputs ++ left) new
+left_behind None was new outputs k text out kept h e = (returned_output k text true ∷ [], (true, refl), tt)
+left_behind (Some b) None new outputs k text out kept h e = absurd h
+left_behind (Some b) (Some m) new outputs k text None kept h e = ([], h.1, subst (λ (l : List ReturnedOutput). TakesBack (Some b) l new) (sym (append-nil outputs)) (none_on_back b m new outputs h.0 e.0))
+left_behind (Some b) (Some m) new outputs k text (Some contents) kept h e = (returned_output k text kept ∷ [], (kept, refl), back_on b m new outputs k text contents kept h e)
 
 -- one page more
 pub outputs_more : (k : ℕ) (pages : List JoinHistory) (page : JoinHistory) → page_outputs_from k (pages ++ page ∷ []) ≡ page_outputs_from k pages ++ output_of (length pages + k) page.given ∷ []

@@ -156,39 +156,52 @@ files_more : (pages : List JoinHistory) (page : JoinHistory) → files_text (pag
 files_more [] page = append-nil page.given
 files_more (other ∷ pages) page = ap (λ (l : List ℕ). other.given ++ l) (files_more pages page) ∙ sym (append_assoc other.given (files_text pages) page.given)
 
-pub laid_next : {C R : Type 0} (views : LinkViews C) (left_of : R → Option (List ℕ)) (job : Job) (first : C) (coming0 : Option (List (List ℕ))) (before : Option Stock) (notes : CallNotes) (control : C) (coming : Option (List (List ℕ))) (stream : Option R) (c now : ClientState) (then_ : Option Stock) (out : Option (Option (List ℕ))) (given : GivenFiles) (gives : List JobMove)
+-- a job that turned a page, whether the shelf kept its output or refused it
+pub record PageIsTurned {C R : Type 0} (views : LinkViews C) (left_of : R → Option (List ℕ)) (job : Job) (first : C) (coming0 : Option (List (List ℕ))) (given : GivenFiles) (page : JoinHistory) (notes : CallNotes) (control : C) (coming : Option (List (List ℕ))) (stream : Option R) (now : ClientState) : Type 0 where
+  pub going : FullRunInvariant views left_of job first coming0 (turned_given given page) notes control coming stream now
+  pub anew : going.stage.history ≡ empty_history
+  pub file : IsPageFile page
+
+pub page_turned : {C R : Type 0} (views : LinkViews C) (left_of : R → Option (List ℕ)) (job : Job) (first : C) (coming0 : Option (List (List ℕ))) (before : Option Stock) (notes : CallNotes) (control : C) (coming : Option (List (List ℕ))) (stream : Option R) (c now : ClientState) (then_ : Option Stock) (out : Option (Option (List ℕ))) (given : GivenFiles) (gives : List JobMove) (kept : Bool)
     → ((past : JoinHistory) (join : JoinState) → Represents past join → IsJoined past → (p : Picture) × ShowsFrames past.ended p)
-    → scans job.task ≡ true → All IsPageFile given.pages → (g : FullRunInvariant views left_of job first coming0 given notes control coming stream c) → GivesAll c gives now
-    → (e : TurnsOn g.stage.history c (length given.pages + 1) before (page_outputs_from 1 given.pages) (given_by gives) now then_ out)
-    → (d : Laid views left_of job first coming0 before notes true control coming stream now then_ out) × (d.given.bytes ≡ [])
-laid_next views left_of job first coming0 before notes control coming stream c now then_ out given gives shows scanning files g all e =
+    → (g : FullRunInvariant views left_of job first coming0 given notes control coming stream c) → GivesAll c gives now
+    → (e : TurnsOn g.stage.history c (length given.pages + 1) before (page_outputs_from 1 given.pages) (given_by gives) kept now then_ out)
+    → PageIsTurned views left_of job first coming0 given (after_pull (given_by gives) g.stage.history) notes control coming stream now
+page_turned views left_of job first coming0 before notes control coming stream c now then_ out given gives kept shows g all e =
     let s = g.stage in
     let bytes : List ℕ = given_by gives in
     let says = behind_some c.out now.out (optional_request_text (request_for c.target c.notes.word (stages.Starting true))) e.client.text in
     let t = stage_turned left_of job g.moves (heard_by g.moves) (bytes_written_by g.moves) g.left coming0 coming given stream c now e.join bytes says.0 e.turning s e.whole e.client e.serves says.1 in
     let page : JoinHistory = after_pull bytes s.history in
     let fits = turning_fits c.target.task c.outcome c.progress s.history e.turning s.serves.fits in
-    let file : IsPageFile page = turned_file s.history c.join bytes shows s.serves.stands fits.0 e.denotes in
     let text : files_text (given.pages ++ page ∷ []) ++ [] ≡ (files_text given.pages ++ given.bytes) ++ bytes = append-nil (files_text (given.pages ++ page ∷ [])) ∙ files_more given.pages page
     ∙ ap (λ (l : List ℕ). files_text given.pages ++ (l ++ bytes)) s.given_is ∙ sym (append_assoc (files_text given.pages) given.bytes bytes) in
-    let h = gave_on views left_of job first coming0 given (turned_given given page) notes control coming stream c now gives (g.left ++ says.0) all g t.0 (λ x. ap (λ (l : List ℕ). l ++ says.0) (g.left_is x) ∙ sym says.2) text in (
-      record {
-        given = turned_given given page;
-        going = h.0;
-        shelf = record {
-          under_way = record {
-            taken = subst (λ (o : Option (Option (List ℕ))). HasTaken before (page_outputs_from 1 (given.pages ++ page ∷ [])) then_ o (length (given.pages ++ page ∷ []) + 1) []) (sym e.none)
-                (none_under_way before then_ (page_outputs_from 1 (given.pages ++ page ∷ [])) (length (given.pages ++ page ∷ []) + 1)
-                (subst (λ (l : List ReturnedOutput). TakesBack before l then_) (sym (outputs_more 1 given.pages page)) e.taken));
-            asked = λ x. e.none;
-          };
-          files = All-append IsPageFile given.pages (page ∷ []) files (one_file page file);
-          none = λ other. refl;
-          shown = λ w scan alive joined. absurd (let clash : Ok false ≡ Ok true = subst (λ (q : JoinHistory). IsJoined q) (h.1 ∙ t.1) joined in cc);
+    let h = gave_on views left_of job first coming0 given (turned_given given page) notes control coming stream c now gives (g.left ++ says.0) all g t.0 (λ x. ap (λ (l : List ℕ). l ++ says.0) (g.left_is x) ∙ sym says.2) text in
+    record { going = h.0; anew = h.1 ∙ t.1; file = turned_file s.history c.join bytes shows s.serves.stands fits.0 e.denotes }
+
+pub laid_next : {C R : Type 0} (views : LinkViews C) (left_of : R → Option (List ℕ)) (job : Job) (first : C) (coming0 : Option (List (List ℕ))) (before : Option Stock) (notes : CallNotes) (control : C) (coming : Option (List (List ℕ))) (stream : Option R) (c now : ClientState) (then_ : Option Stock) (out : Option (Option (List ℕ))) (given : GivenFiles) (gives : List JobMove)
+    → ((past : JoinHistory) (join : JoinState) → Represents past join → IsJoined past → (p : Picture) × ShowsFrames past.ended p)
+    → scans job.task ≡ true → All IsPageFile given.pages → (g : FullRunInvariant views left_of job first coming0 given notes control coming stream c) → GivesAll c gives now
+    → (e : TurnsOn g.stage.history c (length given.pages + 1) before (page_outputs_from 1 given.pages) (given_by gives) true now then_ out)
+    → Laid views left_of job first coming0 before notes true control coming stream now then_ out
+laid_next views left_of job first coming0 before notes control coming stream c now then_ out given gives shows scanning files g all e =
+    let page : JoinHistory = after_pull (given_by gives) g.stage.history in
+    let t = page_turned views left_of job first coming0 before notes control coming stream c now then_ out given gives true shows g all e in
+    record {
+      given = turned_given given page;
+      going = t.going;
+      shelf = record {
+        under_way = record {
+          taken = subst (λ (o : Option (Option (List ℕ))). HasTaken before (page_outputs_from 1 (given.pages ++ page ∷ [])) then_ o (length (given.pages ++ page ∷ []) + 1) []) (sym e.none)
+              (none_under_way before then_ (page_outputs_from 1 (given.pages ++ page ∷ [])) (length (given.pages ++ page ∷ []) + 1)
+              (subst (λ (l : List ReturnedOutput). TakesBack before l then_) (sym (outputs_more 1 given.pages page)) e.taken));
+          asked = λ x. e.none;
         };
-      },
-      refl,
-    )
+        files = All-append IsPageFile given.pages (page ∷ []) files (one_file page t.file);
+        none = λ other. refl;
+        shown = λ w scan alive joined. absurd (let clash : Ok false ≡ Ok true = subst (λ (q : JoinHistory). IsJoined q) t.anew joined in cc);
+      };
+    }
 
 pub laid_more : {C R : Type 0} (views : LinkViews C) (left_of : R → Option (List ℕ)) (job : Job) (first : C) (coming0 : Option (List (List ℕ))) (before : Option Stock) (notes : CallNotes) (control : C) (coming : Option (List (List ℕ))) (stream : Option R) (c now : ClientState) (then_ : Option Stock) (out : Option (Option (List ℕ))) (given : GivenFiles) (gives : List JobMove)
     → ((past : JoinHistory) (join : JoinState) → Represents past join → IsJoined past → (p : Picture) × ShowsFrames past.ended p)
@@ -216,7 +229,7 @@ laid_more views left_of job first coming0 before notes control coming stream c n
       };
     }
 laid_more views left_of job first coming0 before notes control coming stream c now then_ out given gives shows scanning files g all (inr e) =
-    (laid_next views left_of job first coming0 before notes control coming stream c now then_ out given gives shows scanning files g all e).0
+    laid_next views left_of job first coming0 before notes control coming stream c now then_ out given gives shows scanning files g all e
 
 -- one that writes nothing
 pub laid_none : {C R : Type 0} {was_whole : Bool} (views : LinkViews C) (left_of : R → Option (List ℕ)) (job : Job) (first : C) (coming0 : Option (List (List ℕ))) (before : Option Stock) (notes : CallNotes) (control : C) (coming : Option (List (List ℕ))) (stream : Option R) (c old : ClientState) (now : Option Stock) (out : Option (Option (List ℕ))) (given : GivenFiles) (past : JoinHistory)

@@ -120,7 +120,7 @@ runs_hear target first was events (r ∷ rs) text sent u live runs h =
 
 -- ---- what a job did
 
-abbrev pub did_nothing : (job : Job) (c : ClientState) → IsNewClient job c → BytesMatchTrace job (initial_trace job) [] [] [] c.out
+abbrev pub did_nothing : (job : Job) (c : ClientState) → IsNewClient job c → BytesMatchTrace job (initial_trace job) (record { read_ = []; wrote = []; rest = []; left = c.out })
 did_nothing job c f = record { events = []; hello = c.out; runs = refl; read_is = refl; hello_is = f.text; wrote_is = append-nil c.out }
 
 pub fresh_is : (job : Job) (c : ClientState) → IsNewClient job c → protocol_of c empty_history ≡ (initial_trace job).protocol
@@ -128,8 +128,8 @@ fresh_is job c f = ap (λ (v : ClientState). protocol_of v empty_history) f.valu
 
 -- replies of a piece
 pub did_hear : (job : Job) (trace : JobTrace) (read_ wrote rest : List ℕ) (old new : ClientState) (past : JoinHistory) (piece : List ℕ) → old.target ≡ target_of job → protocol_of old past ≡ trace.protocol → old.input.rest ≡ rest
-    → is_running old.outcome ≡ true → (d : BytesMatchTrace job trace read_ wrote rest old.out) → (h : HasHeard old past piece new)
-    → (e : BytesMatchTrace job (heard_on trace h.text h.sent (protocol_of new h.history_then)) (read_ ++ piece) wrote new.input.rest new.out) × (ports_opened e.events ≡ ports_opened d.events)
+    → is_running old.outcome ≡ true → (d : BytesMatchTrace job trace (record { read_ = read_; wrote = wrote; rest = rest; left = old.out })) → (h : HasHeard old past piece new)
+    → (e : BytesMatchTrace job (heard_on trace h.text h.sent (protocol_of new h.history_then)) (record { read_ = read_ ++ piece; wrote = wrote; rest = new.input.rest; left = new.out })) × (ports_opened e.events ≡ ports_opened d.events)
 did_hear job trace read_ wrote rest old new past piece target talk_is rest_is running d h =
     let hears : HearsReplies (target_of job) trace.protocol h.told h.text h.sent (protocol_of new h.history_then)
     = subst (λ (t : ProtocolState). HearsReplies (target_of job) t h.told h.text h.sent (protocol_of new h.history_then)) talk_is (subst (λ (e : JobTarget). HearsReplies e (protocol_of old past) h.told h.text h.sent (protocol_of new h.history_then)) target h.hears) in
@@ -146,7 +146,7 @@ did_hear job trace read_ wrote rest old new past piece target talk_is rest_is ru
     )
 
 -- bytes that go out
-abbrev pub did_write : (job : Job) (trace : JobTrace) (read_ wrote rest left piece after_ : List ℕ) → left ≡ piece ++ after_ → BytesMatchTrace job trace read_ wrote rest left → BytesMatchTrace job trace read_ (wrote ++ piece) rest after_
+abbrev pub did_write : (job : Job) (trace : JobTrace) (read_ wrote rest left piece after_ : List ℕ) → left ≡ piece ++ after_ → BytesMatchTrace job trace (record { read_ = read_; wrote = wrote; rest = rest; left = left }) → BytesMatchTrace job trace (record { read_ = read_; wrote = wrote ++ piece; rest = rest; left = after_ })
 did_write job trace read_ wrote rest left piece after_ e d = record {
   events = d.events;
   hello = d.hello;
@@ -157,7 +157,7 @@ did_write job trace read_ wrote rest left piece after_ e d = record {
 }
 
 -- the same bytes are left
-abbrev pub did_leave : (job : Job) (trace : JobTrace) (read_ wrote rest left after_ : List ℕ) → left ≡ after_ → BytesMatchTrace job trace read_ wrote rest left → BytesMatchTrace job trace read_ wrote rest after_
+abbrev pub did_leave : (job : Job) (trace : JobTrace) (read_ wrote rest left after_ : List ℕ) → left ≡ after_ → BytesMatchTrace job trace (record { read_ = read_; wrote = wrote; rest = rest; left = left }) → BytesMatchTrace job trace (record { read_ = read_; wrote = wrote; rest = rest; left = after_ })
 did_leave job trace read_ wrote rest left after_ e d = record {
   events = d.events;
   hello = d.hello;
@@ -168,7 +168,7 @@ did_leave job trace read_ wrote rest left after_ e d = record {
 }
 
 -- bytes that were read and no more
-abbrev pub did_read : (job : Job) (trace : JobTrace) (read_ wrote rest left piece : List ℕ) → BytesMatchTrace job trace read_ wrote rest left → BytesMatchTrace job trace (read_ ++ piece) wrote (rest ++ piece) left
+abbrev pub did_read : (job : Job) (trace : JobTrace) (read_ wrote rest left piece : List ℕ) → BytesMatchTrace job trace (record { read_ = read_; wrote = wrote; rest = rest; left = left }) → BytesMatchTrace job trace (record { read_ = read_ ++ piece; wrote = wrote; rest = rest ++ piece; left = left })
 did_read job trace read_ wrote rest left piece d = record {
   events = d.events;
   hello = d.hello;
@@ -180,7 +180,7 @@ did_read job trace read_ wrote rest left piece d = record {
 
 -- an event for which nothing is sent
 abbrev pub did_quiet : (job : Job) (trace now : JobTrace) (event : TraceEvent) (read_ wrote rest left : List ℕ) → EventLeads (target_of job) trace event now → now.text ≡ trace.text → now.sent ≡ trace.sent
-    → BytesMatchTrace job trace read_ wrote rest left → BytesMatchTrace job now read_ wrote rest left
+    → BytesMatchTrace job trace (record { read_ = read_; wrote = wrote; rest = rest; left = left }) → BytesMatchTrace job now (record { read_ = read_; wrote = wrote; rest = rest; left = left })
 did_quiet job trace now event read_ wrote rest left lives text sent d = record {
   events = event ∷ d.events;
   hello = d.hello;
@@ -192,7 +192,7 @@ did_quiet job trace now event read_ wrote rest left lives text sent d = record {
 
 -- one for which this is sent
 abbrev pub did_say : (job : Job) (trace now : JobTrace) (event : TraceEvent) (read_ wrote rest left said : List ℕ) → EventLeads (target_of job) trace event now → now.text ≡ trace.text → now.sent ≡ trace.sent ++ said
-    → BytesMatchTrace job trace read_ wrote rest left → BytesMatchTrace job now read_ wrote rest (left ++ said)
+    → BytesMatchTrace job trace (record { read_ = read_; wrote = wrote; rest = rest; left = left }) → BytesMatchTrace job now (record { read_ = read_; wrote = wrote; rest = rest; left = left ++ said })
 did_say job trace now event read_ wrote rest left said lives text sent d = record {
   events = event ∷ d.events;
   hello = d.hello;

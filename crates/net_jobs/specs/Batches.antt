@@ -17,13 +17,16 @@ use Rattle.scan_job.specs.declared.outcome.Why.{Why}
 use Rattle.scan_job.specs.declared.outcome.Why.TheVariants as whys
 use Rattle.scan_job.specs.declared.report.Reports.{Reports}
 use Rattle.scan_job.specs.JobSize.{HasJobFault}
+use Rattle.scan_job.specs.Stops.{failed_output}
+use Rattle.scan_job.specs.declared.stop.Stop.{Stop}
+use Rattle.netpbm.specs.Pnm.{IsWhole}
 use Rattle.scan_job.specs.Shelves.{Stock, ReturnedOutput}
 use Rattle.net_jobs.specs.JobTraces.{JobTrace, EndWell}
 use Rattle.net_jobs.specs.JobJournal.{given_by, has_write_failed}
 use Rattle.net_jobs.specs.Links.{LinkViews}
 use Rattle.net_jobs.specs.Outputs.{files_text, page_outputs_from}
-use Rattle.scan_job.specs.FileOutputs.{TakesBack, AreLeft}
-use Rattle.net_jobs.specs.RunPromises.{JobStreams, SeenStreams, RanWithTrace, HasEndingCause, refused_as}
+use Rattle.scan_job.specs.FileOutputs.{TakesBack, AreLeft, refused_output}
+use Rattle.net_jobs.specs.RunPromises.{JobStreams, SeenStreams, RanWithTrace, HasEndingCause, IsToldAs, refused_as}
 
 -- what was given of a page is a whole file, that of the picture that its frames show
 pub record IsPageFile (page : JoinHistory) : Type 0 where
@@ -54,9 +57,9 @@ closed_as (Done reports) false = Ended statuses.IoError whys.Sink
 closed_as outcome is_taken = outcome
 
 -- The job is done, as the client's rules have it for these replies and frames. All was written, with CLOSE and EXIT, unless a
--- write failed; each data connection began with its frame's records, which ended with EOF; and the shelf took back one output
--- for each page, in their order, numbered from 1, each with the whole file of the picture that the page's frames show, and no
--- other.
+-- write failed; each data connection began with its frame's records, which ended with EOF; and the shelf kept one output for
+-- each page, in their order, numbered from 1, each with the whole file of the picture that the page's frames show, and was given
+-- back no other.
 pub record BatchDone {L : Type 0} (views : LinkViews L) (job : Job) (was now : SeenStreams L (Option Stock)) (reports : Reports) : Type 0 where
   pub ran : RanWithTrace views job was now
   pub told : ran.trace.protocol.outcome ≡ Done reports
@@ -69,33 +72,50 @@ pub record BatchDone {L : Type 0} (views : LinkViews L) (job : Job) (was now : S
   pub gave : files_text (pages_of ran.trace) ≡ given_by ran.moves
   pub outputs : TakesBack was.output (page_outputs_from 1 (pages_of ran.trace)) now.output
 
--- The pages whose files came to their end: those behind which another was asked for; and the last one of a job that was done
--- but for the shelf, which refused to take its output back.
-abbrev pub AreFinished : JobTrace → List JoinHistory → List ReturnedOutput → Outcome → Type 0
-AreFinished trace pages left outcome =
-    (pages ≡ trace.pages)
-    ⊎ ((pages ≡ pages_of trace) × (left ≡ []) × (outcome ≡ Ended statuses.IoError whys.Sink) × ((reports : Reports) × (trace.protocol.outcome ≡ Done reports)))
-
--- The job has ended otherwise, with a cause: an output could not be had, did not take its file, or was not taken back, or
--- another. All that was to go out was written, unless a write failed, or an output did. The pages before have whole files, and
--- at most one more output stands, which took no whole file.
-pub record BatchEnded {L : Type 0} (views : LinkViews L) (job : Job) (was now : SeenStreams L (Option Stock)) (status : Status) (why : Why) : Type 0 where
-  pub ran : RanWithTrace views job was now
-  pub cause : HasEndingCause ran.moves ran.trace.protocol ran.rest (Ended status why)
-  pub all : why ≢ whys.Sink → has_write_failed ran.moves ≡ false → ran.left ≡ []
-  pub refusal : status ≢ statuses.Good
-  pub pages : List JoinHistory
+-- the shelf kept the outputs of these pages, and at most one more was given back, which took these bytes
+pub record KeepsAllPages (pages : List JoinHistory) (text : List ℕ) (before after : Option Stock) : Type 0 where
   pub left : List ReturnedOutput
-  pub finished : AreFinished ran.trace pages left (Ended status why)
+  pub is_left : AreLeft (length pages + 1) text left
+  pub outputs : TakesBack before (page_outputs_from 1 pages ++ left) after
+
+-- it kept them but the last one's, which it refused, and no other was given back
+pub record RefusesLastPage (pages : List JoinHistory) (before after : Option Stock) : Type 0 where
+  pub shelved : List JoinHistory
+  pub last : JoinHistory
+  pub pages_are : pages ≡ shelved ++ last ∷ []
+  pub outputs : TakesBack before (page_outputs_from 1 shelved ++ refused_output (length shelved + 1) last.given ∷ []) after
+
+-- The pages whose files came to their end: those behind which another was asked for; and the last one of a job that was done
+-- but for the shelf.
+abbrev pub AreFinished : JobTrace → List JoinHistory → Type 0
+AreFinished trace pages = (pages ≡ trace.pages) ⊎ ((pages ≡ pages_of trace) × ((reports : Reports) × (trace.protocol.outcome ≡ Done reports)))
+
+-- The job has ended otherwise, with a cause: an output could not be had, did not take its file, or was refused as it was given
+-- back, or another. All that was to go out was written, unless a write failed, or an output did. The pages before have whole
+-- files, and at most one more output stands, which took no whole file. The shelf kept the output of each page, but for one that
+-- it refused, which was the last and ended the job. What went out to the outputs is what was given, and where one failed bytes more.
+pub record BatchEnded {L : Type 0} (views : LinkViews L) (job : Job) (was now : SeenStreams L (Option Stock)) (stop : Stop) : Type 0 where
+  pub ran : RanWithTrace views job was now
+  pub cause : HasEndingCause ran.moves ran.trace.protocol ran.rest (Ended stop.status stop.why)
+  pub all : stop.why ≢ whys.Sink → has_write_failed ran.moves ≡ false → ran.left ≡ []
+  pub refusal : stop.status ≢ statuses.Good
+  pub last_told : IsToldAs ran.last.outcome (Ended stop.status stop.why)
+  pub pages : List JoinHistory
+  pub finished : AreFinished ran.trace pages
   pub files : All IsPageFile pages
-  pub is_left : AreLeft (length pages + 1) left
-  pub outputs : TakesBack was.output (page_outputs_from 1 pages ++ left) now.output
+  pub text : List ℕ
+  pub not_whole : IsWhole text → ⊥
+  pub behind : List ℕ
+  pub gave : files_text pages ++ text ≡ given_by ran.moves ++ behind
+  pub none_behind : stop.why ≢ whys.Sink → behind ≡ []
+  pub shelf : ((pages ≡ ran.trace.pages) × KeepsAllPages pages text was.output now.output)
+      ⊎ ((stop ≡ failed_output) × (text ≡ []) × RefusesLastPage pages was.output now.output)
 
 -- how such a job is over
 abbrev pub HasBatchRun : {L : Type 0} → LinkViews L → Job → SeenStreams L (Option Stock) → SeenStreams L (Option Stock) → Outcome → Type 0
 HasBatchRun views job was now Running = ⊥
 HasBatchRun views job was now (Done reports) = BatchDone views job was now reports
-HasBatchRun views job was now (Ended status why) = BatchEnded views job was now status why
+HasBatchRun views job was now (Ended status why) = BatchEnded views job was now (record { status = status; why = why })
 
 -- a job that is refused, for a fault or since there is no memory for its buffers, touches no stream and no shelf
 pub record RefusesBatch {C D S : Type 0} (job : Job) (outcome : Outcome) (was now : JobStreams C D S) : Type 0 where

@@ -106,12 +106,19 @@ initial_trace job = record {
   protocol = record { outcome = Running; progress = stages.Greeting; notes = record { word = 0; left = job.settings.items; reports = []; known = []; file = 1 }; history = empty_history };
 }
 
+-- the bytes that a job read on the control connection and wrote there, what it read of no reply yet, and what is to go out
+pub record ControlBytes : Type 0 where
+  pub read_ : List ℕ
+  pub wrote : List ℕ
+  pub rest : List ℕ
+  pub left : List ℕ
+
 -- What a job did so far: of what it read on the control connection a front spells the replies of its trace, and the rest
 -- waits; what it wrote there is a front of its greeting and what it sent for the replies, and the others are to go out.
-pub record BytesMatchTrace (job : Job) (trace : JobTrace) (read_ wrote rest left : List ℕ) : Type 0 where
+pub record BytesMatchTrace (job : Job) (trace : JobTrace) (bytes : ControlBytes) : Type 0 where
   pub events : List TraceEvent
   pub hello : List ℕ
   pub runs : EventsLead (target_of job) (initial_trace job) events trace
-  pub read_is : read_ ≡ trace.text ++ rest
+  pub read_is : bytes.read_ ≡ trace.text ++ bytes.rest
   pub hello_is : optional_request_text (request_for (target_of job) 0 stages.Greeting) ≡ Some hello
-  pub wrote_is : hello ++ trace.sent ≡ wrote ++ left
+  pub wrote_is : hello ++ trace.sent ≡ bytes.wrote ++ bytes.left

@@ -73,7 +73,7 @@ pub record RanWithTrace {L O : Type 0} (views : LinkViews L) (job : Job) (was no
   pub left : List ℕ
   pub trace : JobTrace
   pub calls : Calls views was.links moves now.links
-  pub did : BytesMatchTrace job trace (heard_by moves) (bytes_written_by moves) rest left
+  pub did : BytesMatchTrace job trace (record { read_ = heard_by moves; wrote = bytes_written_by moves; rest = rest; left = left })
   pub asked : AreAskedFor (dialled_by moves) (ports_named did.events)
   pub wholes : List (List ℕ)
   pub unread : List (List ℕ)
@@ -111,26 +111,32 @@ pub data EndsBy (moves : List JobMove) (protocol : ProtocolState) (rest : List �
 abbrev pub HasEndingCause : List JobMove → ProtocolState → List ℕ → Outcome → Type 0
 HasEndingCause moves protocol rest outcome = (protocol.outcome ≡ outcome) ⊎ (EndsBy moves protocol rest outcome ⊎ (outcome ≡ Ended statuses.IoError whys.Sink))
 
+-- the client's last outcome is told; or it was done, and there was no memory for what is told; or an output failed
+abbrev pub IsToldAs : Outcome → Outcome → Type 0
+IsToldAs last told =
+    (last ≡ told) ⊎ (((reports : Reports) × (last ≡ Done reports) × (told ≡ Ended statuses.NoMem whys.Memory)) ⊎ (told ≡ Ended statuses.IoError whys.Sink))
+
 -- The job has ended otherwise, with a cause. All that was to go out was written, unless a write failed, or the output did. The
 -- output took what was given, or where it failed bytes more, and no whole file.
-pub record RanEnded {L : Type 0} (views : LinkViews L) (job : Job) (was now : SeenStreams L (Option (List ℕ))) (status : Status) (why : Why) : Type 0 where
+pub record RanEnded {L : Type 0} (views : LinkViews L) (job : Job) (was now : SeenStreams L (Option (List ℕ))) (stop : Stop) : Type 0 where
   pub single : is_batch job.task ≡ false
   pub ran : RanWithTrace views job was now
-  pub cause : HasEndingCause ran.moves ran.trace.protocol ran.rest (Ended status why)
-  pub all : why ≢ whys.Sink → has_write_failed ran.moves ≡ false → ran.left ≡ []
-  pub refusal : status ≢ statuses.Good
+  pub cause : HasEndingCause ran.moves ran.trace.protocol ran.rest (Ended stop.status stop.why)
+  pub last_told : IsToldAs ran.last.outcome (Ended stop.status stop.why)
+  pub all : stop.why ≢ whys.Sink → has_write_failed ran.moves ≡ false → ran.left ≡ []
+  pub refusal : stop.status ≢ statuses.Good
   pub text : List ℕ
   pub taken : Appends was.output now.output text
   pub behind : List ℕ
   pub gave : text ≡ given_by ran.moves ++ behind
-  pub none_behind : why ≢ whys.Sink → behind ≡ []
+  pub none_behind : stop.why ≢ whys.Sink → behind ≡ []
   pub not_whole : IsWhole text → ⊥
 
 -- how a job over streams is over
 abbrev pub HasRun : {L : Type 0} → LinkViews L → Job → SeenStreams L (Option (List ℕ)) → SeenStreams L (Option (List ℕ)) → Outcome → Type 0
 HasRun views job was now Running = ⊥
 HasRun views job was now (Done reports) = RanDone views job was now reports
-HasRun views job was now (Ended status why) = RanEnded views job was now status why
+HasRun views job was now (Ended status why) = RanEnded views job was now (record { status = status; why = why })
 
 abbrev pub refused_as : JobFault → Outcome
 refused_as NoMem = Ended statuses.NoMem whys.Memory

@@ -131,4 +131,4 @@ pub record NotesMatch (moves : List JobMove) (notes : CallNotes) : Type 0 where
 abbrev pub HasRunNoted : {L : Type 0} → LinkViews L → Job → SeenStreams L (Option (List ℕ)) → SeenStreams L (Option (List ℕ)) → Outcome → CallNotes → Type 0
 HasRunNoted views job was now Running notes = ⊥
 HasRunNoted views job was now (Done reports) notes = (run : RanDone views job was now reports) × NotesMatch run.ran.moves notes
-HasRunNoted views job was now (Ended status why) notes = (run : RanEnded views job was now status why) × NotesMatch run.ran.moves notes
+HasRunNoted views job was now (Ended status why) notes = (run : RanEnded views job was now (record { status = status; why = why })) × NotesMatch run.ran.moves notes

@@ -177,6 +177,7 @@ impl CallTally {
         ensures front { result ≡ false → (n : ℕ) × (n < length bytes.now)
             × Appends (W.contents out.old) (W.contents out.new) (take n bytes.now) }
         ensures rest { self.new ≡ record self.old { reads = self.new.reads } }
+        ensures reads { self.new.reads ≤ self.old.reads }
     {
         put(out, bytes, &mut self.reads)
     }

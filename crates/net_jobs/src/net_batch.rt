@@ -72,9 +72,10 @@ fn shelve<S: Shelf>(
     }
 }
 
-/// Gives an output back, if there is one. Says whether it was taken.
+/// Gives an output back, if there is one. Says whether the shelf kept it.
 fn put_back<S: Shelf>(shelf: &mut S, under: Option<S::Out>) -> bool
-    ensures { GivesBack (S.stock shelf.old) (option_map S.Out.contents under) (S.stock shelf.new) }
+    ensures { GivesBack (S.stock shelf.old) (option_map S.Out.contents under) result
+        (S.stock shelf.new) }
 {
     match under {
         Some(out) => shelf.close(out).is_ok(),
@@ -257,7 +258,7 @@ where
         (streams control.old dial.old shelf.old) (streams control.new dial.new shelf.new)
         ⊎ BatchEnded (views_of C.remaining C.contents D.ports) job
         (seen D.coming S.stock (streams control.old dial.old shelf.old))
-        (seen D.coming S.stock (streams control.new dial.new shelf.new)) stop.status stop.why) }
+        (seen D.coming S.stock (streams control.new dial.new shelf.new)) stop) }
     ensures told { IfOk result (λ done. FnOnceReturnsAt F.FnOnce tell done.0 (Ok done.1)) }
 {
     if let Some(fault) = job.fault() {
@@ -307,7 +308,8 @@ pub fn run_batch<C: Read + Write, D: Dial, S: Shelf>(
         (streams control.old dial.old shelf.old) (streams control.new dial.new shelf.new)
         ⊎ BatchEnded (views_of C.remaining C.contents D.ports) job
         (seen D.coming S.stock (streams control.old dial.old shelf.old))
-        (seen D.coming S.stock (streams control.new dial.new shelf.new)) status why) }
+        (seen D.coming S.stock (streams control.new dial.new shelf.new))
+        (record { status = status; why = why })) }
 {
     match run_batch_with(alloc, job, control, dial, shelf, |_| Ok(())) {
         Ok((reports, ())) => Outcome::Done(reports),

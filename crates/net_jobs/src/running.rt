@@ -149,11 +149,9 @@ fn hear<C: Read>(client: &mut Client, control: &mut C, piece: &mut [u8], tally: 
         client.new (C.remaining control.new) tally.new.loss }
     ensures writes { KeepsWrites tally.old tally.new }
 {
-    let n = read_piece(control, piece, tally);
-    if n == 0 {
-        client.link_lost(Link::Control);
-    } else {
-        client.feed_control(&piece[..n]);
+    match read_piece(control, piece, tally) {
+        0 => client.link_lost(Link::Control),
+        n => client.feed_control(&piece[..n]),
     }
 }
 
@@ -278,8 +276,7 @@ pub(crate) fn go_on<C: Read + Write, D: Dial>(
         < turns_to_go client.old.outcome tally.old.turns }
 {
     if !tally.take_turn() {
-        client.link_lost(Link::Control);
-        return;
+        return client.link_lost(Link::Control);
     }
     if !client.is_receiving() {
         talk(client, control, dial, stream, piece, room, tally);
@@ -467,7 +464,7 @@ where
         (streams control.old dial.old out.old) (streams control.new dial.new out.new)
         ⊎ RanEnded (views_of C.remaining C.contents D.ports) job
         (seen D.coming W.contents (streams control.old dial.old out.old))
-        (seen D.coming W.contents (streams control.new dial.new out.new)) stop.status stop.why) }
+        (seen D.coming W.contents (streams control.new dial.new out.new)) stop) }
     ensures told { IfOk result (λ done. FnOnceReturnsAt F.FnOnce tell done.0 (Ok done.1)) }
 {
     if job.task.is_batch() {
@@ -515,7 +512,8 @@ pub fn run_job<C: Read + Write, D: Dial, W: Write>(
         (streams control.old dial.old out.old) (streams control.new dial.new out.new)
         ⊎ RanEnded (views_of C.remaining C.contents D.ports) job
         (seen D.coming W.contents (streams control.old dial.old out.old))
-        (seen D.coming W.contents (streams control.new dial.new out.new)) status why) }
+        (seen D.coming W.contents (streams control.new dial.new out.new))
+        (record { status = status; why = why })) }
 {
     match run_job_with(alloc, job, control, dial, out, |_| Ok(())) {
         Ok((reports, ())) => Outcome::Done(reports),

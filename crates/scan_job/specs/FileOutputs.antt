@@ -1,5 +1,5 @@
 -- What a job leaves on its output, or on a shelf of outputs.
-use Rattle.std.specs.Prelude.{ℕ, ◌≡◌, ⊤, Option, Some, None, List, [], ◌∷◌, ◌++◌}
+use Rattle.std.specs.Prelude.{ℕ, ◌≡◌, ⊤, Bool, true, false, Option, Some, None, List, [], ◌∷◌, ◌++◌}
 use Rattle.std.specs.Io.KnownBytes.{Appends}
 use Rattle.netpbm.specs.Pnm.{IsWhole}
 use Rattle.scan_job.specs.Shelves.{Stock, ReturnedOutput, Shelves}
@@ -10,23 +10,30 @@ pub record StopsShort (first contents : Option (List ℕ)) : Type 0 where
   pub taken : Appends first contents text
   pub not_whole : IsWhole text → ⊥
 
--- an output, if there is one, was taken back with what it holds
-abbrev pub GivesBack : Option Stock → Option (Option (List ℕ)) → Option Stock → Type 0
-GivesBack old None new = new ≡ old
-GivesBack old (Some contents) new = Shelves old contents new
+-- an output, if there is one, was given back with what it holds, and kept or refused; where there is none, none is refused
+abbrev pub GivesBack : Option Stock → Option (Option (List ℕ)) → Bool → Option Stock → Type 0
+GivesBack old None kept new = (new ≡ old) × (kept ≡ true)
+GivesBack old (Some contents) kept new = Shelves old contents kept new
 
--- the outputs that a shelf took back since, where it is known
+-- the outputs that a shelf was given back since, where it is known
 abbrev pub TakesBack : Option Stock → List ReturnedOutput → Option Stock → Type 0
 TakesBack None outputs new = ⊤
 TakesBack (Some old) outputs None = ⊥
 TakesBack (Some old) outputs (Some new) = new.taken ≡ old.taken ++ outputs
 
--- the output of the file of that number, with these bytes
-abbrev pub output_of : ℕ → List ℕ → ReturnedOutput
-output_of k text = record { number = k; text = Some text }
+-- the output of the file of that number, with these bytes, which was kept or refused
+abbrev pub returned_output : ℕ → List ℕ → Bool → ReturnedOutput
+returned_output k text kept = record { number = k; text = Some text; kept = kept }
 
--- what is left of the file of that number which did not come to its end: no output, or one that took no whole file
-abbrev pub AreLeft : ℕ → List ReturnedOutput → Type 0
-AreLeft k [] = Unit {0}
-AreLeft k (output ∷ []) = (text : List ℕ) × (output ≡ output_of k text) × (IsWhole text → ⊥)
-AreLeft k (_ ∷ _ ∷ _) = ⊥
+abbrev pub output_of : ℕ → List ℕ → ReturnedOutput
+output_of k text = returned_output k text true
+
+abbrev pub refused_output : ℕ → List ℕ → ReturnedOutput
+refused_output k text = returned_output k text false
+
+-- what is left of the file of that number, of which these bytes went out: no output where there are none, or that one, which
+-- was kept or refused
+abbrev pub AreLeft : ℕ → List ℕ → List ReturnedOutput → Type 0
+AreLeft k text [] = text ≡ []
+AreLeft k text (output ∷ []) = (kept : Bool) × (output ≡ returned_output k text kept)
+AreLeft k text (_ ∷ _ ∷ _) = ⊥

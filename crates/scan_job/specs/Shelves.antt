@@ -1,12 +1,14 @@
 -- The outputs of a batch's files, where what they take is known.
-use Rattle.std.specs.Prelude.{ℕ, ◌≡◌, ⊤, Option, Some, None, List, [], ◌∷◌, ◌++◌}
+use Rattle.std.specs.Prelude.{ℕ, ◌≡◌, ⊤, Bool, Option, Some, None, List, [], ◌∷◌, ◌++◌}
 
--- an output that was taken back: the number of its file, and the bytes that it took, where they are known
+-- an output that was given back: the number of its file, the bytes that it took, where they are known, and whether the shelf
+-- kept it or refused it
 pub record ReturnedOutput : Type 0 where
   pub number : ℕ
   pub text : Option (List ℕ)
+  pub kept : Bool
 
--- the outputs that were taken back, in their order, and the number that the last one was asked for
+-- the outputs that were given back, in their order, and the number that the last one was asked for
 pub record Stock : Type 0 where
   pub taken : List ReturnedOutput
   pub number : ℕ
@@ -26,7 +28,7 @@ abbrev pub OpensOutput : Option Stock → ℕ → Option Stock → Type 0
 OpensOutput None k new = ⊤
 OpensOutput (Some old) k new = new ≡ Some (record old { number = k })
 
--- an output that took these bytes was taken back
-abbrev pub Shelves : Option Stock → Option (List ℕ) → Option Stock → Type 0
-Shelves None text new = ⊤
-Shelves (Some old) text new = new ≡ Some (record old { taken = old.taken ++ record { number = old.number; text = text } ∷ [] })
+-- an output that took these bytes was given back, and the shelf kept or refused it
+abbrev pub Shelves : Option Stock → Option (List ℕ) → Bool → Option Stock → Type 0
+Shelves None text kept new = ⊤
+Shelves (Some old) text kept new = new ≡ Some (record old { taken = old.taken ++ record { number = old.number; text = text; kept = kept } ∷ [] })

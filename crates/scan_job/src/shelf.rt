@@ -14,6 +14,7 @@ pub trait Shelf {
     ghost stock: { Self → Option Stock } = { λ _. None };
 
     ghost use Rattle.std.specs.Prelude.{Option, None, IfOk};
+    ghost use Rattle.std.specs.Result.{is_ok};
     ghost use Rattle.scan_job.specs.Shelves.{Stock, OpensOutput, Shelves, IsEmpty, IsNewOutput};
 
     /// The output of the batch's file of that number, from 1. It is asked for at the file's first byte.
@@ -22,7 +23,8 @@ pub trait Shelf {
         ensures empty { IfOk result (λ out. IsEmpty (Self.Out.contents out)) }
         ensures told { IfOk result (λ out. IsNewOutput (stock self.new) (Self.Out.contents out)) };
 
-    /// Takes an output back, after its file's last byte or as the job ends. Its buffers are flushed here.
+    /// Takes an output back, after its file's last byte or as the job ends, or refuses it. Its buffers are flushed here.
     fn close(&mut self, out: Self::Out) -> Result<(), ShelfFault>
-        ensures stock { Shelves (stock self.old) (Self.Out.contents out) (stock self.new) };
+        ensures stock { Shelves
+            (stock self.old) (Self.Out.contents out) (is_ok result) (stock self.new) };
 }

@@ -11,7 +11,7 @@ use Rattle.scanimage_cli.specs.declared.ending.Ending.{Ending}
 use Rattle.scanimage_cli.specs.declared.printed.Printout.{Printout}
 
 pub job_ran : {L : Type 0} (views : LinkViews L) (job : Job) (host : List ℕ) (was now : SeenStreams L (Option (List ℕ))) (result : Result Printout Ending)
-    → IfOk result (DoesNetJob views job host was now) → IfOk result (RanThere job host)
+    → IfOk result (DoesNetJob views (record { host = host; job = job }) was now) → IfOk result (RanThere job host)
 job_ran views job host was now (Ok printed) x = record { reports = x.reports; trace = x.ran.ran.trace; events = x.ran.ran.did.events; runs = x.ran.ran.did.runs; told = x.ran.told; prints = x.prints }
 job_ran views job host was now (Err ending) x = x
 

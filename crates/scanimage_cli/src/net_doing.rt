@@ -3,7 +3,7 @@ ghost use Rattle.scan_job.specs.FileOutputs.{StopsShort};
 ghost use Rattle.net_jobs.specs.Links.{views_of};
 ghost use Rattle.net_jobs.specs.RunPromises.{seen, streams};
 ghost use Rattle.scanimage_cli.specs.DeviceList.{net_prefix};
-ghost use Rattle.scanimage_cli.specs.NetDoing.{DoesNetJob, EndsNetJob, DoesNetBatch, EndsNetBatch};
+ghost use Rattle.scanimage_cli.specs.NetDoing.{DoesNetJob, EndsNetJob, DoesNetBatch, EndsNetBatch, stream_views};
 ghost use Rattle.scanimage_cli.specs.Programs.{IsFailure};
 
 use crate::device_listing::net_prefix;
@@ -34,13 +34,14 @@ pub fn do_net_job<C: Read + Write, D: Dial, W: Write>(
     dial: &mut D,
     output: &mut W,
 ) -> Result<Printout, Ending>
-    ensures done { IfOk result (DoesNetJob (views_of C.remaining C.contents D.ports) job host.now
+    ensures done { IfOk result (DoesNetJob (views_of C.remaining C.contents D.ports)
+        (record { host = host.now; job = job })
         (seen D.coming W.contents (streams control.old dial.old output.old))
         (seen D.coming W.contents (streams control.new dial.new output.new))) }
     ensures no_file { OnErr result (StopsShort (W.contents output.old) (W.contents output.new)) }
-    ensures ended { IfErr result (EndsNetJob (views_of C.remaining C.contents D.ports)
-        D.coming W.contents job (streams control.old dial.old output.old)
-        (streams control.new dial.new output.new)) }
+    ensures ended { IfErr result (EndsNetJob
+        (stream_views (views_of C.remaining C.contents D.ports) D.coming W.contents) job
+        (streams control.old dial.old output.old) (streams control.new dial.new output.new)) }
     ensures failed { IfErr result IsFailure }
 {
     let Ok((prefix, device)) = names_answered(alloc, host, &job) else {
@@ -66,12 +67,13 @@ pub fn do_net_batch<C: Read + Write, D: Dial, S: Shelf>(
     dial: &mut D,
     shelf: &mut S,
 ) -> Result<Printout, Ending>
-    ensures done { IfOk result (DoesNetBatch (views_of C.remaining C.contents D.ports) job host.now
+    ensures done { IfOk result (DoesNetBatch (views_of C.remaining C.contents D.ports)
+        (record { host = host.now; job = job })
         (seen D.coming S.stock (streams control.old dial.old shelf.old))
         (seen D.coming S.stock (streams control.new dial.new shelf.new))) }
-    ensures ended { IfErr result (EndsNetBatch (views_of C.remaining C.contents D.ports)
-        D.coming S.stock job (streams control.old dial.old shelf.old)
-        (streams control.new dial.new shelf.new)) }
+    ensures ended { IfErr result (EndsNetBatch
+        (stream_views (views_of C.remaining C.contents D.ports) D.coming S.stock) job
+        (streams control.old dial.old shelf.old) (streams control.new dial.new shelf.new)) }
     ensures failed { IfErr result IsFailure }
 {
     let Ok((prefix, device)) = names_answered(alloc, host, &job) else {

@@ -1,9 +1,10 @@
-use Rattle.std.proofs.Common.{◌≡◌, ◌∙◌, ◌<◌, ◌≤◌, rules, arith, refl, sym, subst, inr, ◌+◌, ℕ, Ok, length}
+use Rattle.std.proofs.Common.{◌≡◌, ◌∙◌, ◌<◌, ◌≤◌, rules, arith, refl, sym, subst, inr, ◌+◌, ℕ, Bool, true, false, Ok, length}
 use Rattle.std.specs.Prelude.{Option}
 use Rattle.std.proofs.lemmas.Bool.{false≢true}
 use Rattle.device_api.specs.State.{DeviceState}
 use Rattle.scan_job.specs.Shelves.{Stock}
-use Rattle.local_job.proofs.Batches.{HasRun, all_scanned, last_refused, no_memory_first, none_run, ok_has, one_run, out_of_pages, page_ended, rests_run}
+use Rattle.local_job.specs.LocalPages.{FilesPage}
+use Rattle.local_job.proofs.Batches.{HasRun, all_scanned, last_refused, no_memory_first, none_run, if_ok_has, ok_has, one_run, out_of_pages, page_ended, rests_run}
 use Rattle.local_job.proofs.pages.scan_each.Goals.{then-behind-gt0+else-is_no_page, else-behind-gt0}
 use Rattle.local_job.proofs.pages.scan_each.Goals as goal
 
@@ -18,9 +19,8 @@ returns-in-Ok-false-clause-stop g c =
     let old : DeviceState = (goal.Device-dyn g c.args.device.now).state c.args.device.now.1 in
     let now : DeviceState = (goal.Device-dyn g c.loop-behind.device.now).state c.loop-behind.device.now.1 in
     let new : DeviceState = (goal.Device-dyn g c.loop-behind.device.now).state c.scan_page.new.device in
-    let is = c.in-Ok-false.is in
-    let run = one_run old now new c.loop-behind.behind _ _ _ c.loop-behind.invariant.run (ok_has c.scan_page.result _ _ is c.scan_page.ensures.done) (ok_has c.scan_page.result _ _ is c.scan_page.ensures.rest) (ok_has c.scan_page.result _ _ is c.scan_page.ensures.untold) in
-    last_refused old new (c.loop-behind.behind + 1) c.args.count _ _ _ run (omega arith) (omega arith) c.failed_output.ensures
+    let is : c.scan_page.result ≡ Ok false = search (rules, c.in-Ok-false.is) in
+    last_refused old now new c.loop-behind.behind c.args.count _ _ _ _ c.loop-behind.invariant.run (if_ok_has c.scan_page.result _ (λ (kept : Bool). FilesPage now (c.loop-behind.behind + 1) kept (g.S.Shelf.stock c.loop-behind.shelf) (g.S.Shelf.stock c.scan_page.new.shelf)) is c.scan_page.ensures.done) (ok_has c.scan_page.result _ _ is c.scan_page.ensures.rest) (omega arith) c.failed_output.ensures
 
 pub returns-in-Err-clause-done : goal.returns-in-Err-clause-done
 returns-in-Err-clause-done g c =
@@ -52,9 +52,9 @@ loop-behind-preserved g c =
     let old : DeviceState = (goal.Device-dyn g c.args.device.now).state c.args.device.now.1 in
     let now : DeviceState = (goal.Device-dyn g c.loop-behind.device.now).state c.loop-behind.device.now.1 in
     let new : DeviceState = (goal.Device-dyn g c.loop-behind.device.now).state c.scan_page.new.device in
-    let is = c.in-Ok-true.is in
+    let is : c.scan_page.result ≡ Ok true = search (rules, c.in-Ok-true.is) in
     record {
       piece = search rules;
       room = search rules;
-      run = one_run old now new c.loop-behind.behind _ _ _ c.loop-behind.invariant.run (ok_has c.scan_page.result _ _ is c.scan_page.ensures.done) (ok_has c.scan_page.result _ _ is c.scan_page.ensures.rest) (ok_has c.scan_page.result _ _ is c.scan_page.ensures.untold);
+      run = one_run old now new c.loop-behind.behind _ _ _ c.loop-behind.invariant.run (if_ok_has c.scan_page.result _ (λ (kept : Bool). FilesPage now (c.loop-behind.behind + 1) kept (g.S.Shelf.stock c.loop-behind.shelf) (g.S.Shelf.stock c.scan_page.new.shelf)) is c.scan_page.ensures.done) (ok_has c.scan_page.result _ _ is c.scan_page.ensures.rest) (ok_has c.scan_page.result _ _ is c.scan_page.ensures.untold);
     }

@@ -1,4 +1,4 @@
-use Rattle.std.proofs.Common.{◌≡◌, ◌∙◌, ◌∷◌, ◌++◌, rules, arith, ap, sym, subst, take, length, refl, ℕ, List, true, false, inl, inr, []}
+use Rattle.std.proofs.Common.{◌≡◌, ◌∙◌, ◌∷◌, ◌++◌, rules, arith, ap, sym, subst, take, length, refl, ℕ, List, Bool, true, false, inl, inr, []}
 use Rattle.std.specs.Prelude.{Option, option_map}
 use Rattle.std.proofs.lemmas.List.{append-nil, length-take}
 use Rattle.client_replies.specs.ProtocolStates.{turns}
@@ -57,11 +57,12 @@ returns-then-not-is_turning-clause-drained g c = λ done.
       Gives piece ∷ c.loop-i.invariant.gave.0,
       gives_more c.args.client.now c.loop-i.client c.take_file-n.new.self c.loop-i.invariant.gave.0 piece c.loop-i.invariant.gave.1 gives,
       λ before outputs k past filing. inr (
-          subst (λ (o : Option g.row.S-Out.Denot). TurnsOn past c.args.client.now k before outputs (given_by c.loop-i.invariant.gave.0 ++ piece) c.take_file-n.new.self (g.S.Shelf.stock c.put_back.new.shelf) (option_map g.S.Out.Write.contents o)) (sym c.take.ensures.after)
-          (turned past c.args.client.now c.loop-i.client c.take_file-n.new.self k c.loop-i._i c.take_file-n.result c.file_number-number.result before outputs _ (g.S.Shelf.stock c.shelve.new.shelf) _ _ (option_map g.S.Out.Write.contents c.shelve.new.under) (given_by c.loop-i.invariant.gave.0) piece
+          subst (λ (o : Option g.row.S-Out.Denot). TurnsOn past c.args.client.now k before outputs (given_by c.loop-i.invariant.gave.0 ++ piece) true c.take_file-n.new.self (g.S.Shelf.stock c.put_back.new.shelf) (option_map g.S.Out.Write.contents o)) (sym c.take.ensures.after)
+          (turned past c.args.client.now c.loop-i.client c.take_file-n.new.self k c.loop-i._i c.take_file-n.result c.file_number-number.result before outputs _ (g.S.Shelf.stock c.shelve.new.shelf) _ _ (option_map g.S.Out.Write.contents c.shelve.new.under) true (given_by c.loop-i.invariant.gave.0) piece
           c.if-n-eq0.false pulls (sym c.is_turning-is_page.ensures ∙ c.if-is_page.true) (sym c.is_turning.ensures ∙ c.if-not-is_turning.true) c.file_number-number.ensures filing.number
           (λ had h. c.shelve.ensures.whole (search rules) before outputs had h)
-          (subst (λ (o : Option g.row.S-Out.Denot). GivesBack (g.S.Shelf.stock c.shelve.new.shelf) (option_map g.S.Out.Write.contents o) (g.S.Shelf.stock c.put_back.new.shelf)) c.take.ensures.value c.put_back.ensures)
+          (subst (λ (b : Bool). GivesBack (g.S.Shelf.stock c.shelve.new.shelf) (option_map g.S.Out.Write.contents c.shelve.new.under) b (g.S.Shelf.stock c.put_back.new.shelf)) done
+          (subst (λ (o : Option g.row.S-Out.Denot). GivesBack (g.S.Shelf.stock c.shelve.new.shelf) (option_map g.S.Out.Write.contents o) c.put_back.result (g.S.Shelf.stock c.put_back.new.shelf)) c.take.ensures.value c.put_back.ensures))
           (c.loop-i.invariant.gave.2 before outputs k past filing))),
     )
 
@@ -76,11 +77,12 @@ returns-then-not-is_turning-clause-short g c = λ failed.
       Gives piece ∷ c.loop-i.invariant.gave.0,
       gives_more c.args.client.now c.loop-i.client c.take_file-n.new.self c.loop-i.invariant.gave.0 piece c.loop-i.invariant.gave.1 gives,
       λ before outputs k past filing. inr (
-          subst (λ (o : Option g.row.S-Out.Denot). TurnsOn past c.args.client.now k before outputs (given_by c.loop-i.invariant.gave.0 ++ piece) c.take_file-n.new.self (g.S.Shelf.stock c.put_back.new.shelf) (option_map g.S.Out.Write.contents o)) (sym c.take.ensures.after)
-          (turned past c.args.client.now c.loop-i.client c.take_file-n.new.self k c.loop-i._i c.take_file-n.result c.file_number-number.result before outputs _ (g.S.Shelf.stock c.shelve.new.shelf) _ _ (option_map g.S.Out.Write.contents c.shelve.new.under) (given_by c.loop-i.invariant.gave.0) piece
+          subst (λ (o : Option g.row.S-Out.Denot). TurnsOn past c.args.client.now k before outputs (given_by c.loop-i.invariant.gave.0 ++ piece) false c.take_file-n.new.self (g.S.Shelf.stock c.put_back.new.shelf) (option_map g.S.Out.Write.contents o)) (sym c.take.ensures.after)
+          (turned past c.args.client.now c.loop-i.client c.take_file-n.new.self k c.loop-i._i c.take_file-n.result c.file_number-number.result before outputs _ (g.S.Shelf.stock c.shelve.new.shelf) _ _ (option_map g.S.Out.Write.contents c.shelve.new.under) false (given_by c.loop-i.invariant.gave.0) piece
           c.if-n-eq0.false pulls (sym c.is_turning-is_page.ensures ∙ c.if-is_page.true) (sym c.is_turning.ensures ∙ c.if-not-is_turning.true) c.file_number-number.ensures filing.number
           (λ had h. c.shelve.ensures.whole (search rules) before outputs had h)
-          (subst (λ (o : Option g.row.S-Out.Denot). GivesBack (g.S.Shelf.stock c.shelve.new.shelf) (option_map g.S.Out.Write.contents o) (g.S.Shelf.stock c.put_back.new.shelf)) c.take.ensures.value c.put_back.ensures)
+          (subst (λ (b : Bool). GivesBack (g.S.Shelf.stock c.shelve.new.shelf) (option_map g.S.Out.Write.contents c.shelve.new.under) b (g.S.Shelf.stock c.put_back.new.shelf)) failed
+          (subst (λ (o : Option g.row.S-Out.Denot). GivesBack (g.S.Shelf.stock c.shelve.new.shelf) (option_map g.S.Out.Write.contents o) c.put_back.result (g.S.Shelf.stock c.put_back.new.shelf)) c.take.ensures.value c.put_back.ensures))
           (c.loop-i.invariant.gave.2 before outputs k past filing))),
     )
 

@@ -9,7 +9,7 @@ pub returns-in-Ok-done-clause-done : goal.returns-in-Ok-done-clause-done
 returns-in-Ok-done-clause-done g c = record { reports = c.in-Ok-done.field-0-0; ran = c.in-Ok-done.ensures.done; prints = search rules }
 
 pub returns-clause-no_file : goal.returns-clause-no_file
-returns-clause-no_file g c = short_of _ g.D.Dial.coming g.W.Write.contents c.args.job _ _ c.in-Err.stop.status c.in-Err.stop.why c.in-Err.ensures.ended
+returns-clause-no_file g c = short_of _ g.D.Dial.coming g.W.Write.contents c.args.job _ _ c.in-Err.stop c.in-Err.ensures.ended
 
 pub returns-clause-ended : goal.returns-clause-ended
 returns-clause-ended g c = record { stop = c.in-Err.stop; told = c.of.ensures; reason = c.in-Err.ensures.ended }
