@@ -65,7 +65,7 @@ pub trait PageSource: Drop {
 /// A page whose rows may be had as bytes too: where a sample of its file is a byte, and 255 the greatest.
 pub trait ByteRows: PageSource {
     /// Writes the next row as bytes, from place `first` on: one for each place in gray, three in color. False where the page
-    /// has none of that kind, and after the last row; nothing was done then.
+    /// has none of that kind, and after the last row; nothing was done then. All of them must lie within the row.
     fn next_bytes(&mut self, mode: Mode, first: u32, bytes: &mut [u8]) -> Result<bool, SourceFault>
         requires { byte_place mode first 0 + length bytes.old
             ≤ byte_place mode (Self.source self.old).page.width 0 }

@@ -23,7 +23,7 @@ use Rattle.world_contract.specs.Page.{AreInForce, Settled, WasIn}
 abbrev pub WasServed : History → ℕ → Type 0
 WasServed h i = (n : ℕ) × Contains h.events (ToDaemon i n)
 
--- a page source that can fail was in a device of the name as the world was made, or an event laid it into one
+-- a page source that can fail was in a device of the name as the world was made, or came for one with an event, taken or not
 pub data CanFail (h : History) (name : List ℕ) : Type 0 where
   FromFirst : (device : DeviceState) (held : HeldPage) → Contains h.devices device → device.info.name ≡ name → Contains device.pages held → held.infallible ≡ false → CanFail h name
   SinceLoad : (source : Source) → Contains h.events (Load name source) → (source_state source).infallible ≡ false → CanFail h name
