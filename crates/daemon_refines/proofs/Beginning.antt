@@ -12,7 +12,7 @@ use Rattle.scan_laws.proofs.Places.{reset_in}
 use Rattle.system_model.specs.Devices.{Make}
 use Rattle.daemon_refines.specs.ContextRefinement.{IsMade, PlaceRefines}
 use Rattle.daemon_refines.specs.Cores.{IsOfMake, OpeningsRefine, RegistriesRefine, fresh_device, fresh_devices}
-use Rattle.daemon_refines.proofs.Sources.{reset_infallible}
+use Rattle.daemon_refines.proofs.Sources.{reset_sources}
 use Rattle.daemon_refines.proofs.Changes.{Held, place_shown}
 use Rattle.daemon_refines.proofs.Moved.{place_in}
 
@@ -21,7 +21,7 @@ use Rattle.daemon_refines.proofs.Moved.{place_in}
 fresh_made : (k : Make) (s : DeviceState) → IsOfMake k s → IsMade k (after_reset s)
 fresh_made k s h =
     let same = reset_same s in
-    record { infallible = λ e. reset_infallible s (h.infallible e); kind = h.kind ∙ sym same.setup.kind; order = h.order ∙ sym same.setup.order; allowed = defaults_allowed (after_cancel s).setup.scene.kind (after_cancel s).setup.order; in_scan = reset_in s }
+    record { sources = reset_sources s k h.sources; kind = h.kind ∙ sym same.setup.kind; order = h.order ∙ sym same.setup.order; allowed = defaults_allowed (after_cancel s).setup.scene.kind (after_cancel s).setup.order; in_scan = reset_in s }
 
 abbrev fresh_at : Option DeviceState → Option (Place DeviceState)
 fresh_at None = None

@@ -1,6 +1,6 @@
 -- The other calls of a daemon, for one of its sessions.
 use Rattle.std.proofs.Common.{inl, inr, ◌≡◌, ◌∙◌, ℕ, List, [], Bool, true, false, Option, Some, None, option_map, refl, sym, ap, subst, cond}
-use Rattle.device_api.specs.State.{DeviceState, steady_of}
+use Rattle.device_api.specs.State.{DeviceState}
 use Rattle.dispatch.specs.declared.table.place.Lease.{Lease}
 use Rattle.dispatch.specs.Table.{Table}
 use Rattle.saned_requests.specs.declared.session.DataPhase.{DataPhase as WordCarriage}
@@ -24,7 +24,8 @@ use Rattle.daemon_refines.specs.DataRefinement.{transfer_connected, off_at}
 use Rattle.daemon_refines.specs.OtherSessions.{IsHeldByNoOther, LeavesOthers}
 use Rattle.daemon_refines.specs.Feeds.{IsSessionBegun}
 use Rattle.daemon_refines.specs.Streams.{SendsAs, StreamServed}
-use Rattle.daemon_refines.specs.Cores.{SessionRefines, core_context}
+use Rattle.daemon_refines.specs.Cores.{SessionRefines}
+use Rattle.saned_core.specs.Feeding.{core_context}
 use Rattle.daemon_refines.specs.CoreCalls.{CoreConnects, CoreEnds, CoreLoses, CoreTurned, CoreTurns, CoreTurnsOff, SessionRefinesAs}
 use Rattle.daemon_refines.proofs.DataLinks.{connects_agree, loss_agrees}
 use Rattle.daemon_refines.proofs.Cores.{Behind, own_seat, stands_as}
@@ -146,9 +147,9 @@ behind_turn : (old new : Core) (n : ℕ) (now : DeskSession DeviceState) → new
 behind_turn old new n now is slots = is ∙ ap (λ (x : List (Option (SessionSlot DeviceState))). record old { slots = x }) slots
 
 turned_in : (i : ℕ) (make : ℕ → Make) (n : ℕ) (old new : Core) (table : ℕ → AbstractDevice) (s : AbstractSession) (listed : List ℕ) (p : JobState) (w : ℕ) (step : DataStep) (buf : List ℕ) → (stands : SessionRefines i make old n table s) → p.session.transfer ≡ s.transfer → stands.session.transfer ≡ word.Streaming w →
-    ((l : Lease DeviceState) → held_by stands.session.held w ≡ Some l → steady_of l.device ≡ true) → new ≡ record old { slots = new.slots } → TurnsSessions (Some stands.session) n old.slots step new.slots buf → (place : ℕ) × (s.words w ≡ Some place) × CoreTurned i make n old new table s listed p place step buf
-turned_in i make n old new table s listed p w step buf stands same streams steady is (now, g, slots) =
-    let t = streams_agree i make (core_context old stands.session) table s listed p w step now buf stands.shows same streams steady g in
+    new ≡ record old { slots = new.slots } → TurnsSessions (Some stands.session) n old.slots step new.slots buf → (place : ℕ) × (s.words w ≡ Some place) × CoreTurned i make n old new table s listed p place step buf
+turned_in i make n old new table s listed p w step buf stands same streams is (now, g, slots) =
+    let t = streams_agree i make (core_context old stands.session) table s listed p w step now buf stands.shows same streams g in
     let from : StreamsFrom (held_by stands.session.held w) w stands.session step now buf = subst (λ (c : WordCarriage). StreamsIn c stands.session step now buf) streams g in
     let own : IsHeldByNoOther i (table t.0).holder = has_own i make stands.session.held old.registry table s stands.shows.devices stands.shows.words w t.0 t.1 in (
       t.0,
@@ -171,8 +172,8 @@ core_turns_off i make n old new table s listed p place step buf stands same off 
     turned_off i make n old new table s listed p place step buf stands same off g.others (subst (λ (o : Option (DeskSession DeviceState)). TurnsSessions o n old.slots step new.slots buf) stands.stands g.slots)
 
 pub core_turns : CoreTurns
-core_turns i make n old new table s listed p w step buf stands same streams steady g =
-    turned_in i make n old new table s listed p w step buf stands same streams steady g.others (subst (λ (o : Option (DeskSession DeviceState)). TurnsSessions o n old.slots step new.slots buf) stands.stands g.slots)
+core_turns i make n old new table s listed p w step buf stands same streams g =
+    turned_in i make n old new table s listed p w step buf stands same streams g.others (subst (λ (o : Option (DeskSession DeviceState)). TurnsSessions o n old.slots step new.slots buf) stands.stands g.slots)
 
 -- ---- an end
 

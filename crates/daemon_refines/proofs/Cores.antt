@@ -12,15 +12,17 @@ use Rattle.saned_core.specs.declared.session_slot.Fed.{Fed}
 use Rattle.saned_core.specs.declared.session_slot.Fed.TheVariants.{Standing, Over, Starved}
 use Rattle.saned_core.specs.declared.session_slot.SessionSlot.{SessionSlot}
 use Rattle.saned_core.specs.DaemonStates.{Core, is_slot_number, on_session_slot, session_slot_of, session_in, session_of, slot_if_open}
-use Rattle.saned_core.specs.Feeding.{FeedsIf, FeedsIn, slot_after_feed, input_in, registry_after, slot_or_none_after_feed}
+use Rattle.saned_core.specs.Feeding.{input_in, core_context}
+use Rattle.saned_core.specs.Inside.{FeedsIn, slot_after_feed, registry_after, slot_or_none_after_feed}
 use Rattle.saned_core.proofs.Apart.{apart}
+use Rattle.saned_core.proofs.FeedCases.{feeds_in}
 use Rattle.system_model.specs.Devices.{Make}
 use Rattle.system_model.specs.AbstractDevices.{AbstractDevice}
 use Rattle.system_model.specs.AbstractSessions.{AbstractSession}
 use Rattle.daemon_refines.specs.ContextRefinement.{ContextRefines, TableRefines}
 use Rattle.daemon_refines.specs.OtherSessions.{LeavesOthers}
 use Rattle.daemon_refines.specs.Feeds.{IsSessionBegun, IsFed}
-use Rattle.daemon_refines.specs.Cores.{CoreFed, CoreFeeds, SessionRefines, RefinesAfterFeed, core_context, devices_behind}
+use Rattle.daemon_refines.specs.Cores.{CoreFed, CoreFeeds, SessionRefines, RefinesAfterFeed, devices_behind}
 use Rattle.daemon_refines.proofs.Changes.{Held}
 use Rattle.daemon_refines.proofs.FeedRefines.{feeds_agree}
 use Rattle.daemon_refines.proofs.Moved.{unsome}
@@ -124,5 +126,4 @@ fed_in i make n old new session table s piece fed stands shows begun g =
 
 pub core_feeds : CoreFeeds
 core_feeds i make n old table s piece fed new stands g =
-    fed_in i make n old new stands.session table s piece fed stands.stands stands.shows stands.begun
-    (subst (λ (o : Option (DeskSession DeviceState)). FeedsIf o old.users n (input_in (session_slot_of old.slots n)) old.slots old.registry old.stream piece fed new.slots new.registry new.stream) stands.stands g.session)
+    fed_in i make n old new stands.session table s piece fed stands.stands stands.shows stands.begun (feeds_in n old piece fed new stands.session stands.stands g)

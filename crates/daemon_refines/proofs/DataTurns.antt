@@ -1,17 +1,19 @@
 -- A turn of the data connection.
-use Rattle.std.proofs.Common.{inl, inr, ◌⊎◌, ◌≡◌, ◌≢◌, ◌∙◌, ◌<◌, ◌≤◌, ◌+◌, ◌++◌, ℕ, zero, suc, List, [], ◌∷◌, Bool, true, false, Option, Some, None, option_map, refl, sym, ap, subst, take, drop, length, arith}
+use Rattle.std.proofs.Common.{inl, inr, ◌⊎◌, ◌≡◌, ◌≢◌, ◌∙◌, ◌<◌, ◌≤◌, ◌+◌, ◌++◌, ℕ, zero, suc, List, [], ◌∷◌, Bool, true, false, Option, Some, None, option_map, refl, sym, ap, subst, take, drop, length, arith, ◌-◌}
+use Rattle.std.proofs.lemmas.List.{drop-drop, length-drop, length-take-le, take-append-drop}
 use Rattle.std.specs.Prelude.{Result, Ok, Err, ◌==◌, if◌then◌else◌}
 use Rattle.sane_fixed.specs.declared.status.Status.{Status as Code}
 use Rattle.sane_fixed.specs.declared.status.Status.TheVariants as code
 use Rattle.page_picture.specs.Shows.{Frame}
-use Rattle.scan_frames.specs.Frames.{frame_of, frames_of}
+use Rattle.scan_frames.specs.Frames.{frame_of, frames_of, pass_length, payload}
 use Rattle.scan_frames.specs.declared.setup.Setup.{Setup}
 use Rattle.device_api.specs.ScannerLimits.{IsAllowed}
-use Rattle.device_api.specs.State.{DeviceState, FrameReads, HasStopped, Phase as AnyPhase, Reads, ReadsIn, ReadsOn, after_pass, after_read_status, failures_of, feeds, goes_to, is_at_rest, left_behind, page_of, steady_of, read_status_at}
+use Rattle.device_api.specs.State.{DeviceState, FrameReads, GivesBytes, HasStopped, Phase as AnyPhase, Reads, ReadsIn, ReadsOn, after_pass, after_read_status, failures_of, feeds, goes_to, is_at_rest, left_behind, page_of, read_status_at, with_phase}
 use Rattle.device_api.specs.State.Phase.{AtRest as Rest, Between as Amid, Reading as Read}
+use Rattle.device_api.proofs.RunLaws.{length-payload}
 use Rattle.device_api.proofs.SameLaws.{read_same}
 use Rattle.scan_laws.specs.Passes as scan
-use Rattle.scan_laws.proofs.Places.{read_ends, read_gives, read_in}
+use Rattle.scan_laws.proofs.Places.{read_ends, read_in}
 use Rattle.system_model.specs.AbstractMessages.{Eof, Good}
 use Rattle.system_model.specs.Devices.{Make, read_status_of, abstract_status}
 use Rattle.system_model.specs.AbstractDevices.{ScanPhase, Resting, Reading, phase_after_frame, ended_phase, read_on, without_prefix}
@@ -21,7 +23,7 @@ use Rattle.system_model.specs.Transitions.{ReadsFrameOf}
 use Rattle.system_model.specs.Actions.{Turns, TurnsFault, TurnsLast, TurnsNamed, TurnsShort}
 use Rattle.daemon_refines.specs.ContextRefinement.{IsMade, pages_to_come, phase_at, abstract_device, abstract_device_as, page_views, tray_of}
 use Rattle.daemon_refines.specs.DataRefinement.{TurnServed, TurnsAgree}
-use Rattle.daemon_refines.proofs.Sources.{failing_is_fallible, read_infallible}
+use Rattle.daemon_refines.proofs.Sources.{failing_is_fallible, first_source, read_sources}
 use Rattle.daemon_refines.proofs.Scanning.{reads_at}
 use Rattle.daemon_refines.proofs.ScannerStarts.{failed_is, failed_setup, is_fault, setup_of}
 
@@ -60,7 +62,7 @@ pub made_read : (k : Make) (s t : DeviceState) (r : Result ℕ Code) (buf : List
 made_read k s t r buf made h =
     let same = read_same s t r buf h in
     record {
-      infallible = λ e. read_infallible s t r buf h (made.infallible e);
+      sources = read_sources s t r buf h k made.sources;
       kind = made.kind ∙ sym same.setup.kind;
       order = made.order ∙ sym same.setup.order;
       allowed = subst (λ (o : Setup). IsAllowed o) (sym (in_setup s.phase s t r buf h)) made.allowed;
@@ -115,18 +117,22 @@ some_taken zero window h n e = absurd (omega arith)
 some_taken (suc n) [] h m e = absurd (omega arith)
 some_taken (suc n) (x ∷ window) h m e = let clash : x ∷ take n window ≡ [] = e in absurd (cc)
 
-without_front : (bytes left : List ℕ) → without_prefix bytes (bytes ++ left) ≡ left
-without_front [] left = refl
-without_front (b ∷ bytes) left = without_front bytes left
+without_front : (bytes meant left : List ℕ) → length bytes ≡ length meant → without_prefix bytes (meant ++ left) ≡ left
+without_front [] [] left e = refl
+without_front [] (m ∷ meant) left e = absurd (omega arith)
+without_front (b ∷ bytes) [] left e = absurd (omega arith)
+without_front (b ∷ bytes) (m ∷ meant) left e = without_front bytes meant left (omega arith)
 
 -- ---- a device that is read by client i, in a pass of this frame
 
 record IsRead (k : Make) (p : JobState) (s : DeviceState) (pass given : ℕ) (f : Frame) (rest : List ℕ) (more : List Frame) : Type 0 where
   made : IsMade k s
-  steady : steady_of s ≡ true
   at : s.phase ≡ Read pass given
   streams : p.session.transfer ≡ Streaming
   place : scan.place_of s ≡ scan.Giving f rest more
+  -- so much of the pass is still to be given, and where the device is once more of it is
+  left : rest ≡ drop given (payload s.setup (page_of s) pass)
+  behind : (m : ℕ) → scan.place_of (with_phase s (Read pass m)) ≡ scan.Giving f (drop m (payload s.setup (page_of s) pass)) more
 
 abbrev Ended : DeviceState → DeviceState → Frame → List ℕ → List Frame → Type 0
 Ended s after f rest more = scan.EndsWhole (scan.Giving f rest more) (scan.place_of after) ⊎ ((s.setup.told ≡ Some code.Eof) × scan.EndsEmpty (scan.Giving f rest more) (scan.place_of after))
@@ -135,17 +141,38 @@ streaming : (i : ℕ) (k : Make) (p : JobState) (s : DeviceState) (pass given : 
 streaming i k p s pass given f rest more is = (is.streams, refl, ap phase_at is.place)
 
 gives_turn : (i : ℕ) (k : Make) (listed : List ℕ) (p : JobState) (s after : DeviceState) (pass given n : ℕ) (window : List ℕ) (f : Frame) (rest : List ℕ) (more : List Frame) → IsRead k p s pass given f rest more → s.setup.told ≡ None →
-    scan.GivesOn (scan.Giving f rest more) (take n window) (scan.place_of after) → after ≡ goes_to s (Read pass (given + n)) → take n window ≢ [] → IsMade k after → TurnServed i k listed p s (Ok n) after window
-gives_turn i k listed p s after pass given n window f rest more is told g now some made =
+    GivesBytes s pass given n after window → IsMade k after → TurnServed i k listed p s (Ok n) after window
+gives_turn i k listed p s after pass given n window f rest more is told g made =
+    let all = payload s.setup (page_of s) pass in
     let bytes = take n window in
-    let left = g.0 in
-    let here : scan.place_of s ≡ scan.Giving f (bytes ++ left) more = is.place ∙ ap (λ (r : List ℕ). scan.Giving f r more) g.1 in
+    let meant = take n rest in
+    let left = drop n rest in
+    let whole : length all ≡ pass_length s.setup (page_of s) pass = length-payload s.setup (page_of s) pass in
+    let long : length rest ≡ pass_length s.setup (page_of s) pass - given = ap length is.left ∙ (length-drop given all ∙ ap (λ (m : ℕ). m - given) whole) in
+    let many : length bytes ≡ length meant =
+    length-take-le n window g.room ∙ sym (length-take-le n rest (let inside = g.left in omega (arith, long, inside))) in
+    let some = some_taken n window g.some g.room in
+    let here : scan.place_of s ≡ scan.Giving f (meant ++ left) more = is.place ∙ ap (λ (r : List ℕ). scan.Giving f r more) (sym (take-append-drop n rest)) in
+    let rest_is : drop (given + n) all ≡ left = sym (drop-drop n given all) ∙ ap (drop n) (sym is.left) in
+    let there : scan.place_of after ≡ scan.Giving f left more = ap scan.place_of g.after ∙ (is.behind (given + n) ∙ ap (λ (r : List ℕ). scan.Giving f r more) rest_is) in
     record {
       action = Turns bytes;
       is = refl;
-      may = (f, left, more, (is.streams, refl, ap phase_at here), told_none k s.setup told, some);
-      device = ap (λ (q : scan.ScanPlace). abstract_device_as (Some i) s.setup (tray_of s) (read_on (phase_at q) bytes)) here ∙ ap (λ (r : List ℕ). abstract_device_as (Some i) s.setup (tray_of s) (Reading f r more)) (without_front bytes left)
-          ∙ goes_is (Some i) s after pass given (Read pass (given + n)) (Reading f left more) is.at now (ap phase_at g.2);
+      may = (
+        f,
+        left,
+        more,
+        record {
+          meant = meant;
+          as_many = many;
+          same = λ steady. g.bytes ((first_source k s.pages (is.made.in_scan.page (ap is_at_rest is.at)) is.made.sources).steady steady) ∙ ap (take n) (sym is.left);
+          reads = (is.streams, refl, ap phase_at here);
+        },
+        told_none k s.setup told,
+        some,
+      );
+      device = ap (λ (q : scan.ScanPlace). abstract_device_as (Some i) s.setup (tray_of s) (read_on (phase_at q) bytes)) here ∙ ap (λ (r : List ℕ). abstract_device_as (Some i) s.setup (tray_of s) (Reading f r more)) (without_front bytes meant left many)
+          ∙ goes_is (Some i) s after pass given (Read pass (given + n)) (Reading f left more) is.at g.after (ap phase_at there);
       made = made;
     }
 
@@ -212,8 +239,7 @@ ended_by k p s after window pass given f rest more is r =
 turn_on : (i : ℕ) (k : Make) (listed : List ℕ) (p : JobState) (s after : DeviceState) (pass given : ℕ) (answer : Result ℕ Code) (window : List ℕ) (f : Frame) (rest : List ℕ) (more : List Frame) → IsRead k p s pass given f rest more → s.setup.told ≡ None →
     Reads s answer after window → ReadsOn s pass given answer after window → TurnServed i k listed p s answer after window
 turn_on i k listed p s after pass given (Ok n) window f rest more is told r h =
-    gives_turn i k listed p s after pass given n window f rest more is told (subst (λ (q : scan.ScanPlace). scan.GivesOn q (take n window) (scan.place_of after)) is.place (read_gives s after n window is.made.in_scan is.steady r)) h.after (some_taken n window h.some h.room)
-    (made_read k s after (Ok n) window is.made r)
+    gives_turn i k listed p s after pass given n window f rest more is told h (made_read k s after (Ok n) window is.made r)
 turn_on i k listed p s after pass given (Err code.Eof) window f rest more is told r h =
     last_turn i k listed p s after window pass given f rest more (after_pass s.setup pass) is told h.1 (made_read k s after (Err code.Eof) window is.made r) (ended_by k p s after window pass given f rest more is r)
 turn_on i k listed p s after pass given (Err code.IoError) window f rest more is told r h = failed_turn i k listed p s after window pass given f rest more is h.1 (made_read k s after (Err code.IoError) window is.made r)
@@ -252,8 +278,15 @@ by_told i k listed p s after pass given answer window f rest more (Some status) 
     (turn_told i k listed p s after pass given status window f rest more is told (subst (λ (a : Result ℕ Code). Reads s a after window) h.0 r) h.1)
 
 pub turns_agree : TurnsAgree
-turns_agree i k listed p s after pass given answer window made steady at c r =
+turns_agree i k listed p s after pass given answer window made at c r =
     let is : scan.IsPhaseOf (Read pass given) s.setup (page_of s) = subst (λ (q : AnyPhase). scan.IsPhaseOf q s.setup (page_of s)) at made.in_scan.phase in
     let read : FrameReads (read_status_at s.setup.told given) s pass given answer after window = subst (λ (q : AnyPhase). ReadsIn q s answer after window) at r in
-    by_told i k listed p s after pass given answer window _ _ _ s.setup.told (record { made = made; steady = steady; at = at; streams = c; place = reading_place s pass given at is }) refl r
+    by_told i k listed p s after pass given answer window _ _ _ s.setup.told (record {
+      made = made;
+      at = at;
+      streams = c;
+      place = reading_place s pass given at is;
+      left = refl;
+      behind = λ m. reads_at s.setup (page_of s) pass m is.1;
+    }) refl r
     (subst (λ (t : Option Code). FrameReads t s pass given answer after window) (at_first s.setup.told given is.3) read)

@@ -22,7 +22,7 @@ use Rattle.saned_requests.specs.RequestAnswers.{Answers, AnswersBy, AnswersFree,
 use Rattle.saned_requests.specs.RequestAnswers.RequestOutOfMemory.{Under, All}
 use Rattle.saned_core.specs.declared.session_slot.Fed.TheVariants.{Standing, Over, Starved}
 use Rattle.saned_core.specs.Feeding as daemon
-use Rattle.saned_core.specs.Feeding.{AnswersAll, OutOfMemoryNext, FeedsContext, session_goes_on}
+use Rattle.saned_core.specs.Feeding.{AnswersAll, OutOfMemoryNext, session_goes_on}
 use Rattle.saned_core.specs.Feeding.FeedEndsSession.{Garbled, Ended}
 use Rattle.system_model.specs.Devices.{Make}
 use Rattle.system_model.specs.AbstractDevices.{AbstractDevice, device_let_go, put_back, put_down}

@@ -23,7 +23,7 @@ use Rattle.system_model.specs.AbstractDevices.{Resting, Reading, after_start, pu
 use Rattle.system_model.specs.Transitions.{IsFault, MayFail}
 use Rattle.system_model.specs.Daemon.{TransferState, Quiet, Waiting, FailureCounts, AnswerEffect, begin_page, begin_pass, start_at, start_or_fail, start_page}
 use Rattle.daemon_refines.specs.ContextRefinement.{IsMade, pages_to_come, phase_at, abstract_device, abstract_device_as, page_views, tray_of}
-use Rattle.daemon_refines.proofs.Sources.{failing_is_fallible, start_infallible}
+use Rattle.daemon_refines.proofs.Sources.{failing_is_fallible, start_sources}
 use Rattle.daemon_refines.proofs.Scanning.{reads_at, waits_at}
 
 -- the frame behind a start
@@ -308,7 +308,7 @@ pub made_started : (k : Make) (s t : DeviceState) (r : Result Unit Code) → IsM
 made_started k s t r made h =
     let same = start_same s t r h in
     record {
-      infallible = λ e. start_infallible s t r h (made.infallible e);
+      sources = start_sources s t r h k made.sources;
       kind = made.kind ∙ sym same.setup.kind;
       order = made.order ∙ sym same.setup.order;
       allowed = subst (λ (o : Setup). IsAllowed o) (sym (in_setup s.phase s t r h)) made.allowed;

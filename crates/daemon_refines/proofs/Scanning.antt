@@ -24,7 +24,7 @@ use Rattle.system_model.specs.Daemon.{abstract_params}
 use Rattle.system_model.specs.Devices.{Make, default_options, params_at_rest, params_of_tray, accept_value, abstract_accepted_set}
 use Rattle.system_model.specs.AbstractDevices.{Resting, is_resting, put_back, put_down}
 use Rattle.daemon_refines.specs.ContextRefinement.{IsMade, pages_to_come, phase_at, abstract_device, abstract_device_as, page_views, tray_of}
-use Rattle.daemon_refines.proofs.Sources.{cancel_infallible, reset_infallible}
+use Rattle.daemon_refines.proofs.Sources.{cancel_sources, reset_sources}
 
 pub got_refused : (s : Setup) (n : ℕ) (y : Code) → option_got s n ≡ Err y → y ≡ code.Inval
 got_refused s n y e = get_refused s n y e
@@ -76,7 +76,7 @@ cancelled_setup (Read pass given) s = refl
 pub made_cancelled : (k : Make) (s : DeviceState) → IsMade k s → IsMade k (after_cancel s)
 made_cancelled k s h =
     let same = cancel_same s in
-    record { infallible = λ e. cancel_infallible s (h.infallible e); kind = h.kind ∙ sym same.setup.kind; order = h.order ∙ sym same.setup.order; allowed = subst (λ (o : Setup). IsAllowed o) (sym (cancelled_setup s.phase s)) h.allowed; in_scan = cancel_in s }
+    record { sources = cancel_sources s k h.sources; kind = h.kind ∙ sym same.setup.kind; order = h.order ∙ sym same.setup.order; allowed = subst (λ (o : Setup). IsAllowed o) (sym (cancelled_setup s.phase s)) h.allowed; in_scan = cancel_in s }
 
 -- ---- a device is handed out, all its options at their default_options
 
@@ -94,7 +94,7 @@ handed_is i k s made =
 pub made_reset : (k : Make) (s : DeviceState) → IsMade k s → IsMade k (after_reset s)
 made_reset k s h =
     let same = reset_same s in
-    record { infallible = λ e. reset_infallible s (h.infallible e); kind = h.kind ∙ sym same.setup.kind; order = h.order ∙ sym same.setup.order; allowed = defaults_allowed (after_cancel s).setup.scene.kind (after_cancel s).setup.order; in_scan = reset_in s }
+    record { sources = reset_sources s k h.sources; kind = h.kind ∙ sym same.setup.kind; order = h.order ∙ sym same.setup.order; allowed = defaults_allowed (after_cancel s).setup.scene.kind (after_cancel s).setup.order; in_scan = reset_in s }
 
 -- ---- a set
 
@@ -102,7 +102,7 @@ pub made_set : (k : Make) (s : DeviceState) (n : ℕ) (asked : Value) (given : V
 made_set k s n asked given h e answered =
     let same = set_same s n given.0 in
     record {
-      infallible = h.infallible;
+      sources = h.sources;
       kind = h.kind ∙ sym same.setup.kind;
       order = h.order ∙ sym same.setup.order;
       allowed = set_allowed s.setup n asked given.0 given.1 h.allowed e;

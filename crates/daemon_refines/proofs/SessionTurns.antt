@@ -1,11 +1,11 @@
 -- A turn of a session's data connection.
-use Rattle.std.proofs.Common.{◌≡◌, ◌∙◌, ◌+◌, ◌≤◌, ◌++◌, ℕ, List, true, Option, Some, None, refl, sym, ap, subst, eqb, take, length}
+use Rattle.std.proofs.Common.{◌≡◌, ◌∙◌, ◌+◌, ◌≤◌, ◌++◌, ℕ, List, Option, Some, None, refl, sym, ap, subst, eqb, take, length}
 use Rattle.std.specs.Prelude.{Result, Ok, Err}
 use Rattle.std.specs.Int.{w32, to_be_bytes}
 use Rattle.std.proofs.lemmas.List.{length-take-le}
 use Rattle.sane_fixed.specs.declared.status.Status.{Status as Code}
 use Rattle.sane_fixed.specs.declared.status.Status.TheVariants as code
-use Rattle.device_api.specs.State.{DeviceState, FrameReads, Phase as AnyPhase, Reads, ReadsIn, steady_of, read_status_at}
+use Rattle.device_api.specs.State.{DeviceState, FrameReads, Phase as AnyPhase, Reads, ReadsIn, read_status_at}
 use Rattle.device_api.specs.State.Phase.{Reading}
 use Rattle.device_api.proofs.SameLaws.{read_same}
 use Rattle.dispatch.specs.declared.table.place.Lease.{Lease}
@@ -104,13 +104,13 @@ framed_behind (Err status) window i k listed p dev action w f is c e = end_quiet
 -- ---- a frame that streams
 
 turn_served : (i : ℕ) (make : ℕ → Make) (d : RequestContext) (table : ℕ → AbstractDevice) (s : AbstractSession) (listed : List ℕ) (p : JobState) (w : ℕ) (l : Lease DeviceState) (pass given : ℕ) (step : DataStep) (buf : List ℕ) → ContextRefines i make d table s → p.session.transfer ≡ s.transfer → d.session.transfer ≡ word.Streaming w → held_by d.session.held w ≡ Some l → l.device.phase ≡ Reading pass given →
-    steady_of l.device ≡ true → (new : DeskSession DeviceState) → StreamsOn l w d.session step new buf → StreamServed i make d table s listed p l.place step new buf
-turn_served i make d table s listed p w l pass given step buf old same is e at steady new g =
+    (new : DeskSession DeviceState) → StreamsOn l w d.session step new buf → StreamServed i make d table s listed p l.place step new buf
+turn_served i make d table s listed p w l pass given step buf old same is e at new g =
     let shown = old.devices.leases w l e in
     let k = make l.place in
     let transfer : (s.transfer ≡ Streaming) × (s.framed ≡ w) = subst (λ (c : WordCarriage). TransferRefines c s.transfer s.framed) is old.transfer in
     let streams : p.session.transfer ≡ Streaming = same ∙ transfer.0 in
-    let t = turns_agree i k listed p l.device g.after pass given g.answer g.window shown.made steady at streams g.reads in
+    let t = turns_agree i k listed p l.device g.after pass given g.answer g.window shown.made at streams g.reads in
     let dev = device_after i k listed p (table l.place) t.action in
     let behind : DeskSession DeviceState = record d.session { held = on_word (λ _. with_device l g.after) d.session.held w; transfer = data_phase_after d.session.transfer g.answer } in
     let after : RequestContext = record d { session = behind } in
@@ -149,12 +149,12 @@ from_lease : (h : Option (Lease DeviceState)) (l : Lease DeviceState) (w : ℕ) 
 from_lease h l w old step new buf e g = subst (λ (o : Option (Lease DeviceState)). StreamsFrom o w old step new buf) e g
 
 pub streams_agree : StreamsAgree
-streams_agree i make d table s listed p w step new buf old same is steady g =
+streams_agree i make d table s listed p w step new buf old same is g =
     let r : IsReadBy d.session.held w = subst (λ (c : WordCarriage). FrameIsRead c d.session.held) is old.frame in
     let l = r.lease in (
       l.place,
       old.words w ∙ ap place_in r.stands,
-      turn_served i make d table s listed p w l r.pass r.given step buf old same is r.stands r.phase (steady l r.stands) new
+      turn_served i make d table s listed p w l r.pass r.given step buf old same is r.stands r.phase new
           (from_lease (held_by d.session.held w) l w d.session step new buf r.stands (subst (λ (c : WordCarriage). StreamsIn c d.session step new buf) is g)),
     )
 

@@ -21,9 +21,9 @@ use Rattle.system_model.specs.Devices.{Make}
 use Rattle.system_model.specs.AbstractDevices.{AbstractDevice, ScanPhase, Resting, has_room, is_resting, laid_in}
 use Rattle.system_model.specs.SystemStates.{with_entry}
 use Rattle.system_model.specs.Transitions.{with_page_laid_in, without_listing}
-use Rattle.daemon_refines.specs.ContextRefinement.{SlotRefines, TableRefines, phase_at, abstract_device, abstract_device_as, page_views, pages_to_come, tray_of}
+use Rattle.daemon_refines.specs.ContextRefinement.{SlotRefines, TableRefines, phase_at, abstract_device, abstract_device_as, page_views, pages_to_come, tray_of, HasSource}
 use Rattle.daemon_refines.specs.TableRefinement.{LoadsAgree, PagesAgree, RefusalsAgree, TableLoaded, TableUnplugged, UnplugsAgree}
-use Rattle.daemon_refines.proofs.Sources.{laid_infallible}
+use Rattle.daemon_refines.proofs.Sources.{laid_sources}
 use Rattle.daemon_refines.proofs.Changes.{Held, changed, shown_as, shown_by}
 use Rattle.daemon_refines.proofs.WordsAndPlaces.{put_other, put_same, with_new}
 use Rattle.daemon_refines.proofs.Moved.{put_elsewhere, put_there, unsome}
@@ -81,7 +81,7 @@ pages_agree k s source holder made firm takes =
           ∙ ap (λ (t : List PageView). abstract_device_as holder s.setup (laid_in s.setup.scene.kind source.page t) (abstract_device holder s).phase) tray
           ∙ ap (λ (t : List PageView). abstract_device_as holder s.setup t (abstract_device holder s).phase) (laid s.setup.scene.kind s.pages (held_from source) ∙ sym (ap page_views (resting_tray s.phase next both.0)))
           ∙ ap (λ (p : ScanPhase). abstract_device_as holder s.setup (tray_of next) p) (resting_phase s.phase s both.0 ∙ sym (resting_phase s.phase next both.0));
-      made = record { infallible = λ e. laid_infallible (feeds s) s.pages (held_from source) (firm e) (made.infallible e); kind = made.kind; order = made.order; allowed = made.allowed; in_scan = rest_in_scan s.phase s next refl both.0 };
+      made = record { sources = laid_sources k (feeds s) s.pages (held_from source) firm made.sources; kind = made.kind; order = made.order; allowed = made.allowed; in_scan = rest_in_scan s.phase s next refl both.0 };
     }
 
 pub refusals_agree : RefusalsAgree
@@ -134,7 +134,7 @@ loaded_behind name registry k p s source found at e takes =
     ap (λ (o : Option ℕ). loaded_at registry o source) found ∙ loaded_table registry k p source at ∙ ap (λ (x : Slot DeviceState). with_slot registry k (loaded_slot x source)) e
     ∙ ap (λ (b : Bool). with_slot registry k (In (if b then page_loaded s source else s))) takes
 
-load_in : (i : ℕ) (make : ℕ → Make) (held : Held) (registry : Table) (table : ℕ → AbstractDevice) (name : List ℕ) (source : SourceState) (k : ℕ) (p : Place DeviceState) (s : DeviceState) → TableRefines i make held registry table → ((k : ℕ) → find_name name registry ≡ Some k → (make k).fallible ≡ false → source.infallible ≡ true) → find_name name registry ≡ Some k → slice_get registry k ≡ Some p → p.slot ≡ In s → takes_page s ≡ true →
+load_in : (i : ℕ) (make : ℕ → Make) (held : Held) (registry : Table) (table : ℕ → AbstractDevice) (name : List ℕ) (source : SourceState) (k : ℕ) (p : Place DeviceState) (s : DeviceState) → TableRefines i make held registry table → ((k : ℕ) → find_name name registry ≡ Some k → HasSource (make k) (held_from source)) → find_name name registry ≡ Some k → slice_get registry k ≡ Some p → p.slot ≡ In s → takes_page s ≡ true →
     TableLoaded i make held registry table name source
 load_in i make held registry table name source k p s old firm found at e takes =
     let shown : SlotRefines i (make k) held k (table k) p.info.name (In s) = shown_by i (make k) held k (table k) (slice_get registry k) p (In s) at e (old.places k) in
@@ -151,13 +151,13 @@ load_in i make held registry table name source k p s old firm found at e takes =
           (place_changed i make held registry table k p s (In (page_loaded s source)) dev old at e (dev_is, page.made, shown.2));
     }
 
-load_slot : (i : ℕ) (make : ℕ → Make) (held : Held) (registry : Table) (table : ℕ → AbstractDevice) (name : List ℕ) (source : SourceState) (k : ℕ) (p : Place DeviceState) → TableRefines i make held registry table → ((k : ℕ) → find_name name registry ≡ Some k → (make k).fallible ≡ false → source.infallible ≡ true) → find_name name registry ≡ Some k → slice_get registry k ≡ Some p → ((s : DeviceState) × (p.slot ≡ In s)) ⊎ (p.slot ≡ Out) →
+load_slot : (i : ℕ) (make : ℕ → Make) (held : Held) (registry : Table) (table : ℕ → AbstractDevice) (name : List ℕ) (source : SourceState) (k : ℕ) (p : Place DeviceState) → TableRefines i make held registry table → ((k : ℕ) → find_name name registry ≡ Some k → HasSource (make k) (held_from source)) → find_name name registry ≡ Some k → slice_get registry k ≡ Some p → ((s : DeviceState) × (p.slot ≡ In s)) ⊎ (p.slot ≡ Out) →
     load_at registry (Some k) ≡ Ok tt → TableLoaded i make held registry table name source
 load_slot i make held registry table name source k p old firm found at (inl in_it) ok =
     load_in i make held registry table name source k p in_it.0 old firm found at in_it.1 (takes_it (takes_page in_it.0) (sym (load_here registry k p (In in_it.0) at in_it.1) ∙ ok))
 load_slot i make held registry table name source k p old firm found at (inr out) ok = absurd (let clash : ◌≡◌ {A = Result Unit Code} (Err code.DeviceBusy) (Ok tt) = sym (load_here registry k p Out at out) ∙ ok in cc)
 
-load_found : (i : ℕ) (make : ℕ → Make) (held : Held) (registry : Table) (table : ℕ → AbstractDevice) (name : List ℕ) (source : SourceState) (found : Option ℕ) → TableRefines i make held registry table → ((k : ℕ) → find_name name registry ≡ Some k → (make k).fallible ≡ false → source.infallible ≡ true) → find_name name registry ≡ found → load_at registry found ≡ Ok tt → TableLoaded i make held registry table name source
+load_found : (i : ℕ) (make : ℕ → Make) (held : Held) (registry : Table) (table : ℕ → AbstractDevice) (name : List ℕ) (source : SourceState) (found : Option ℕ) → TableRefines i make held registry table → ((k : ℕ) → find_name name registry ≡ Some k → HasSource (make k) (held_from source)) → find_name name registry ≡ found → load_at registry found ≡ Ok tt → TableLoaded i make held registry table name source
 load_found i make held registry table name source None old firm e ok = absurd (let clash : ◌≡◌ {A = Result Unit Code} (Err code.Inval) (Ok tt) = ok in cc)
 load_found i make held registry table name source (Some k) old firm e ok =
     let there = found_slot name registry k e in load_slot i make held registry table name source k there.place old firm e there.at there.slot ok

@@ -48,13 +48,17 @@ abstract_device_as holder options tray phase = record { listed = true; holder = 
 abbrev pub abstract_device : Option ℕ → DeviceState → AbstractDevice
 abstract_device holder s = abstract_device_as holder s.setup (tray_of s) (phase_at (scan.place_of s))
 
--- none of the sources of these pages can fail
-abbrev pub AreInfallible : List HeldPage → Type 0
-AreInfallible pages = AllByRecursion (λ (held : HeldPage). held.infallible ≡ true) pages
+-- the source of a page can fail only in a device of which that is said, and gives its page's rows at each pass where that is said
+pub record HasSource (make : Make) (held : HeldPage) : Type 0 where
+  pub infallible : make.fallible ≡ false → held.infallible ≡ true
+  pub steady : make.steady ≡ true → held.steady ≡ true
+
+abbrev pub HaveSources : Make → List HeldPage → Type 0
+HaveSources make pages = AllByRecursion (HasSource make) pages
 
 -- what never changes of it; its options are within their limits, and its phase is one that a scan comes to
 pub record IsMade (make : Make) (s : DeviceState) : Type 0 where
-  pub infallible : make.fallible ≡ false → AreInfallible s.pages
+  pub sources : HaveSources make s.pages
   pub kind : make.model ≡ s.setup.scene.kind
   pub order : make.order ≡ s.setup.order
   pub allowed : IsAllowed s.setup

@@ -1,9 +1,6 @@
 -- The other calls of a daemon for one of its sessions, by the model.
-use Rattle.std.specs.Prelude.{ℕ, ◌≡◌, ◌≢◌, true, Some, List, []}
-use Rattle.device_api.specs.State.{DeviceState, steady_of}
-use Rattle.dispatch.specs.declared.table.place.Lease.{Lease}
+use Rattle.std.specs.Prelude.{ℕ, ◌≡◌, ◌≢◌, Some, List, []}
 use Rattle.saned_requests.specs.declared.session.DataPhase.TheVariants as word
-use Rattle.saned_requests.specs.Holding.{held_by}
 use Rattle.saned_core.specs.declared.session_slot.DataStep.{DataStep}
 use Rattle.saned_core.specs.DaemonStates.{Core, after_connected, after_lost, after_end_session, on_session_slot, on_session}
 use Rattle.saned_core.specs.Turns.{Turns}
@@ -49,7 +46,7 @@ pub record CoreTurned (i : ℕ) (make : ℕ → Make) (n : ℕ) (old new : Core)
 abbrev pub CoreTurns : Type 0
 CoreTurns =
     (i : ℕ) (make : ℕ → Make) (n : ℕ) (old new : Core) (table : ℕ → AbstractDevice) (s : AbstractSession) (listed : List ℕ) (p : JobState) (w : ℕ) (step : DataStep) (buf : List ℕ) → (stands : SessionRefines i make old n table s) → p.session.transfer ≡ s.transfer →
-    stands.session.transfer ≡ word.Streaming w → ((l : Lease DeviceState) → held_by stands.session.held w ≡ Some l → steady_of l.device ≡ true) → Turns n old step new buf →
+    stands.session.transfer ≡ word.Streaming w → Turns n old step new buf →
     (place : ℕ) × (s.words w ≡ Some place) × CoreTurned i make n old new table s listed p place step buf
 
 -- a turn of a frame that was cancelled

@@ -14,12 +14,12 @@ use Rattle.saned_requests.specs.RequestAnswers.{RequestContext}
 use Rattle.saned_core.specs.declared.session_slot.Fed.{Fed}
 use Rattle.saned_core.specs.declared.session_slot.Fed.TheVariants.{Standing, Over, Starved}
 use Rattle.saned_core.specs.DaemonStates.{Core, session_slot_of, session_of}
-use Rattle.saned_core.specs.Feeding.{Feeds, input_in}
+use Rattle.saned_core.specs.Feeding.{Feeds, core_context, input_in}
 use Rattle.system_model.specs.Devices.{Make}
 use Rattle.system_model.specs.AbstractDevices.{AbstractDevice, Resting, device_let_go}
 use Rattle.system_model.specs.Daemon.{Quiet}
 use Rattle.system_model.specs.AbstractSessions.{AbstractSession}
-use Rattle.daemon_refines.specs.ContextRefinement.{AreInfallible, ContextRefines, TableRefines, abstract_device, abstract_device_as}
+use Rattle.daemon_refines.specs.ContextRefinement.{ContextRefines, HaveSources, TableRefines, abstract_device, abstract_device_as}
 use Rattle.daemon_refines.specs.Feeds.{IsSessionBegun, IsFed}
 
 -- ---- what stands at the beginning
@@ -32,9 +32,9 @@ fresh_device (Some s) = abstract_device None (after_reset s)
 abbrev pub fresh_devices : List DeviceState → ℕ → AbstractDevice
 fresh_devices ss k = fresh_device (slice_get ss k)
 
--- each is of the kind and the byte order that never change, and a source of it fails only where it may
+-- each is of the kind and the byte order that never change, and its pages' sources are such as is said of them
 pub record IsOfMake (make : Make) (s : DeviceState) : Type 0 where
-  pub infallible : make.fallible ≡ false → AreInfallible s.pages
+  pub sources : HaveSources make s.pages
   pub kind : make.model ≡ s.setup.scene.kind
   pub order : make.order ≡ s.setup.order
 
@@ -54,9 +54,6 @@ OpeningsRefine =
     ContextRefines i make (record { session = fresh_session strings port; registry = registry; stream = stream }) table new_session
 
 -- ---- a piece for one of the sessions
-
-abbrev pub core_context : Core → DeskSession DeviceState → RequestContext
-core_context core session = record { session = session; registry = core.registry; stream = core.stream }
 
 -- the session of that number is this one of client i
 pub record SessionRefines (i : ℕ) (make : ℕ → Make) (core : Core) (n : ℕ) (table : ℕ → AbstractDevice) (s : AbstractSession) : Type 0 where

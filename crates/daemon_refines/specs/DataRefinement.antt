@@ -1,8 +1,8 @@
 -- The data connection of a session, as the model's actions.
-use Rattle.std.specs.Prelude.{ℕ, ◌≡◌, true, Option, Some, None, Result, Ok, Err, List, [], take}
+use Rattle.std.specs.Prelude.{ℕ, ◌≡◌, Option, Some, None, Result, Ok, Err, List, [], take}
 use Rattle.sane_fixed.specs.declared.status.Status.{Status as Code}
 use Rattle.sane_fixed.specs.declared.status.Status.TheVariants as code
-use Rattle.device_api.specs.State.{DeviceState, Reads, steady_of}
+use Rattle.device_api.specs.State.{DeviceState, Reads}
 use Rattle.device_api.specs.State.Phase.{Reading}
 use Rattle.saned_requests.specs.RequestAnswers.{RequestContext}
 use Rattle.saned_core.specs.DaemonStates.{after_connected, after_lost, session_let_go}
@@ -36,11 +36,11 @@ pub record TurnServed (i : ℕ) (k : Make) (listed : List ℕ) (p : JobState) (s
   pub device : device_after i k listed p (abstract_device (Some i) s) action ≡ abstract_device (Some i) after
   pub made : IsMade k after
 
--- a device that is read, whose source gives its page's rows at each pass
+-- a device that is read
 abbrev pub TurnsAgree : Type 0
 TurnsAgree =
     (i : ℕ) (k : Make) (listed : List ℕ) (p : JobState) (s after : DeviceState) (pass given : ℕ) (answer : Result ℕ Code) (window : List ℕ) →
-    IsMade k s → steady_of s ≡ true → s.phase ≡ Reading pass given → p.session.transfer ≡ Streaming → Reads s answer after window →
+    IsMade k s → s.phase ≡ Reading pass given → p.session.transfer ≡ Streaming → Reads s answer after window →
     TurnServed i k listed p s answer after window
 
 -- the data connection is made: for a frame that waits for none, it changes nothing

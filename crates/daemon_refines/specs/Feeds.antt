@@ -14,7 +14,8 @@ use Rattle.saned_requests.specs.RequestAnswers.{RequestContext, refused_control}
 use Rattle.saned_core.specs.declared.session_slot.Fed.{Fed}
 use Rattle.saned_core.specs.declared.session_slot.Fed.TheVariants.{Standing, Over, Starved}
 use Rattle.saned_core.specs.Feeding as daemon
-use Rattle.saned_core.specs.Feeding.{FeedsContext, DecodesRequests}
+use Rattle.saned_core.specs.Feeding.{DecodesRequests}
+use Rattle.saned_core.specs.Inside.{FeedsContext}
 use Rattle.system_model.specs.AbstractMessages.{Challenge}
 use Rattle.system_model.specs.Devices.{Make}
 use Rattle.system_model.specs.AbstractDevices.{AbstractDevice, device_let_go}
@@ -81,4 +82,4 @@ IsFed Starved i make users d table s old piece rest new = (left : List ℕ) × (
 abbrev pub FeedsAgree : Type 0
 FeedsAgree =
     (i : ℕ) (make : ℕ → Make) (users : List Entry) (d : RequestContext) (table : ℕ → AbstractDevice) (s : AbstractSession) (old piece rest text : List ℕ) (fed : Fed) (new : RequestContext) →
-    ContextRefines i make d table s → IsSessionBegun d → FeedsContext fed users d old piece rest new text → IsFed fed i make users d table s old piece rest new
+    ContextRefines i make d table s → IsSessionBegun d → FeedsContext fed (record { users = users; context = d; before = old; piece = piece }) (record { context = new; rest = rest; text = text }) → IsFed fed i make users d table s old piece rest new

@@ -1,13 +1,11 @@
 -- One turn of a session's data connection, as an action of the model.
-use Rattle.std.specs.Prelude.{ℕ, ◌≡◌, ◌+◌, true, Some, List, ◌++◌, take, length}
+use Rattle.std.specs.Prelude.{ℕ, ◌≡◌, ◌+◌, Some, List, ◌++◌, take, length}
 use Rattle.std.specs.Int.{w32, to_be_bytes}
 use Rattle.sane_fixed.specs.declared.status.Status.{Status as Code}
 use Rattle.sane_fixed.specs.declared.status.Status.TheVariants as code
-use Rattle.device_api.specs.State.{DeviceState, steady_of}
-use Rattle.dispatch.specs.declared.table.place.Lease.{Lease}
+use Rattle.device_api.specs.State.{DeviceState}
 use Rattle.saned_requests.specs.declared.session.DataPhase.TheVariants as word
 use Rattle.saned_requests.specs.declared.session.Session.{Session as DeskSession}
-use Rattle.saned_requests.specs.Holding.{held_by}
 use Rattle.saned_requests.specs.RequestAnswers.{RequestContext}
 use Rattle.saned_core.specs.declared.session_slot.DataStep.{DataStep}
 use Rattle.saned_core.specs.declared.session_slot.DataStep.TheVariants.{Bytes}
@@ -37,11 +35,11 @@ pub record StreamServed (i : ℕ) (make : ℕ → Make) (d : RequestContext) (ta
   pub sends : SendsAs step buf action
   pub shows : ContextRefines i make (record d { session = new }) (with_entry table place (device_after i (make place) listed p (table place) action)) (record s { transfer = (job_after_action i (make place) listed p (table place) action).session.transfer })
 
--- a frame that streams, of a device whose source gives its page's rows at each pass
+-- a frame that streams
 abbrev pub StreamsAgree : Type 0
 StreamsAgree =
     (i : ℕ) (make : ℕ → Make) (d : RequestContext) (table : ℕ → AbstractDevice) (s : AbstractSession) (listed : List ℕ) (p : JobState) (w : ℕ) (step : DataStep) (new : DeskSession DeviceState) (buf : List ℕ) →
-    ContextRefines i make d table s → p.session.transfer ≡ s.transfer → d.session.transfer ≡ word.Streaming w → ((l : Lease DeviceState) → held_by d.session.held w ≡ Some l → steady_of l.device ≡ true) →
+    ContextRefines i make d table s → p.session.transfer ≡ s.transfer → d.session.transfer ≡ word.Streaming w →
     daemon.TurnsStream d.session step new buf → (place : ℕ) × (s.words w ≡ Some place) × StreamServed i make d table s listed p place step new buf
 
 -- a frame that was cancelled

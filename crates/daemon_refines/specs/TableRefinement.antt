@@ -1,14 +1,14 @@
 -- Pages that are laid in and devices that are unplugged, as steps of the model.
 use Rattle.std.specs.Prelude.{ℕ, ◌≡◌, true, false, Option, Some, None, Ok, List}
 use Rattle.page_picture.specs.Source.{SourceState}
-use Rattle.device_api.specs.State.{DeviceState, after_load as page_loaded, takes_page}
+use Rattle.device_api.specs.State.{DeviceState, after_load as page_loaded, held_from, takes_page}
 use Rattle.dispatch.specs.declared.table.place.Lease.{Lease}
 use Rattle.dispatch.specs.Table.{Table, table_after_load, after_unplug, find_name, load_answer, unplug_answer}
 use Rattle.system_model.specs.Devices.{Make}
 use Rattle.system_model.specs.AbstractDevices.{AbstractDevice, Resting, has_room}
 use Rattle.system_model.specs.SystemStates.{with_entry}
 use Rattle.system_model.specs.Transitions.{with_page_laid_in, without_listing}
-use Rattle.daemon_refines.specs.ContextRefinement.{IsMade, TableRefines, abstract_device}
+use Rattle.daemon_refines.specs.ContextRefinement.{HasSource, IsMade, TableRefines, abstract_device}
 
 -- a device takes a page just where the model lets one be laid in, and is then as by the model
 pub record PageIsLaidIn (k : Make) (s : DeviceState) (source : SourceState) (holder : Option ℕ) : Type 0 where
@@ -18,7 +18,7 @@ pub record PageIsLaidIn (k : Make) (s : DeviceState) (source : SourceState) (hol
   pub made : IsMade k (page_loaded s source)
 
 abbrev pub PagesAgree : Type 0
-PagesAgree = (k : Make) (s : DeviceState) (source : SourceState) (holder : Option ℕ) → IsMade k s → (k.fallible ≡ false → source.infallible ≡ true) → takes_page s ≡ true → PageIsLaidIn k s source holder
+PagesAgree = (k : Make) (s : DeviceState) (source : SourceState) (holder : Option ℕ) → IsMade k s → HasSource k (held_from source) → takes_page s ≡ true → PageIsLaidIn k s source holder
 
 abbrev pub RefusalsAgree : Type 0
 RefusalsAgree = (k : Make) (s : DeviceState) (holder : Option ℕ) → IsMade k s → takes_page s ≡ false → (abstract_device holder s).phase ≡ Resting → has_room k.model (abstract_device holder s).tray ≡ true → ⊥
@@ -34,7 +34,7 @@ pub record TableLoaded (i : ℕ) (make : ℕ → Make) (held : List (Option (Lea
 
 abbrev pub LoadsAgree : Type 0
 LoadsAgree =
-    (i : ℕ) (make : ℕ → Make) (held : List (Option (Lease DeviceState))) (registry : Table) (table : ℕ → AbstractDevice) (name : List ℕ) (source : SourceState) → TableRefines i make held registry table → ((k : ℕ) → find_name name registry ≡ Some k → (make k).fallible ≡ false → source.infallible ≡ true) → load_answer registry name ≡ Ok tt →
+    (i : ℕ) (make : ℕ → Make) (held : List (Option (Lease DeviceState))) (registry : Table) (table : ℕ → AbstractDevice) (name : List ℕ) (source : SourceState) → TableRefines i make held registry table → ((k : ℕ) → find_name name registry ≡ Some k → HasSource (make k) (held_from source)) → load_answer registry name ≡ Ok tt →
     TableLoaded i make held registry table name source
 
 -- a device that is unplugged: nobody holds it, and it is listed no more

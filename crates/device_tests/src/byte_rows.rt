@@ -51,7 +51,7 @@ fn lines(
 }
 
 /// A table that changes each byte.
-fn turned() -> [u8; 256] {
+pub fn turned() -> [u8; 256] {
     let mut table = [0u8; 256];
     for i in 0..256usize {
         table[i] = 255 - i as u8;

@@ -4,6 +4,8 @@
 #[cfg(test)]
 mod api;
 #[cfg(test)]
+mod bit_rows;
+#[cfg(test)]
 mod byte_rows;
 #[cfg(test)]
 mod calls;

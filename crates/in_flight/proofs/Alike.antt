@@ -8,7 +8,8 @@ use Rattle.saned_requests.specs.RequestAnswers.{RequestContext}
 use Rattle.saned_core.specs.declared.session_slot.Fed.{Fed}
 use Rattle.saned_core.specs.declared.session_slot.Fed.TheVariants.{Standing, Over, Starved}
 use Rattle.saned_core.specs.DaemonStates.{after_reply_bytes, after_taken, kept_if_open, no_more, on_session, replies_in, session_in, slot_if_open, with_session}
-use Rattle.saned_core.specs.Feeding.{input_in, slot_after_feed, slot_or_none_after_feed}
+use Rattle.saned_core.specs.Feeding.{input_in}
+use Rattle.saned_core.specs.Inside.{slot_after_feed, slot_or_none_after_feed}
 use Rattle.in_flight.specs.InFlight.{SlotDiffersInFlight, undelivered_after_feed}
 use Rattle.in_flight.proofs.Slots.{KeepsNumber, Slot}
 

@@ -1,6 +1,6 @@
-mod Slots
-mod Alike
-mod Calls
-mod Feeding
-mod Places
-mod Requests
+pub mod Slots
+pub mod Alike
+pub mod Calls
+pub mod Feeding
+pub mod Places
+pub mod Requests

@@ -1,5 +1,5 @@
 -- The end of a frame.
-use Rattle.std.proofs.Common.{◌≡◌, ◌∙◌, ℕ, Option, Some, None, Bool, true, false, List, [], ◌∷◌, ◌++◌, refl, sym, ap, subst, inl, inr}
+use Rattle.std.proofs.Common.{◌≡◌, ◌∙◌, ℕ, Option, Some, None, Bool, true, false, List, [], ◌∷◌, ◌++◌, length, refl, sym, ap, subst, inl, inr}
 use Rattle.std.specs.Prelude.{Result, Ok, Err, if◌then◌else◌, nat_lt}
 use Rattle.std.proofs.lemmas.List.{append-nil}
 use Rattle.wire_format.specs.Writer.{behind}
@@ -292,6 +292,9 @@ pub ended_turns_none : (outcome : Outcome) (progress : Progress) → is_ended ou
 ended_turns_none Running progress e t = let clash : false ≡ true = e in cc
 ended_turns_none (Done reports) progress e t = let clash : false ≡ true = e in cc
 ended_turns_none (Ended status why) progress e t = let clash : false ≡ true = t in cc
+
+pub no_length : (bytes : List ℕ) → bytes ≡ [] → length bytes ≡ 0
+no_length bytes none = ap (λ (l : List ℕ). length l) none
 
 pub pulled_none : (past : JoinHistory) → after_pull [] past ≡ past
 pulled_none past = ap (λ (l : List ℕ). record past { given = l }) (append-nil past.given)

@@ -1,5 +1,5 @@
 -- Bytes of a client's file that are taken.
-use Rattle.std.specs.Prelude.{ℕ, ◌≡◌, ◌<◌, true, false, List, ◌++◌}
+use Rattle.std.specs.Prelude.{ℕ, ◌≡◌, ◌<◌, true, false, List, [], ◌++◌}
 use Rattle.netpbm.specs.Picture.{Picture}
 use Rattle.netpbm.specs.Pnm.{Denotes, IsWhole}
 use Rattle.page_picture.specs.Shows.{ShowsFrames}
@@ -7,16 +7,16 @@ use Rattle.frame_join.specs.FrameHistory.{JoinHistory, IsJoined, after_pull}
 use Rattle.client_replies.specs.ProtocolStates.{is_ended, turns}
 use Rattle.net_client.specs.ClientStates.{ClientState, ClientRepresents, TakesPage}
 
--- So many bytes were taken, where there was room for so many. Where the picture is whole and nothing more comes, what was
+-- These bytes were taken, where there was room for so many. Where the picture is whole and nothing more comes, what was
 -- given in all denotes it; before it is whole, what was given in all is not.
-pub record GivesPicture (past : JoinHistory) (room count : ℕ) (bytes : List ℕ) : Type 0 where
-  pub denotes : IsJoined past → count ≡ 0 → 0 < room → (p : Picture) → ShowsFrames past.ended p → Denotes past.given p
+pub record GivesPicture (past : JoinHistory) (room : ℕ) (bytes : List ℕ) : Type 0 where
+  pub denotes : IsJoined past → bytes ≡ [] → 0 < room → (p : Picture) → ShowsFrames past.ended p → Denotes past.given p
   pub whole : (IsJoined past → ⊥) → IsWhole (past.given ++ bytes) → ⊥
 
 -- What a client gave so: one that waits for its page's file to be taken gave bytes of that, and any other serves on with them.
 -- It gives the picture as above; only a job that has ended otherwise need not have given all of it.
-pub record TakesFile (old : ClientState) (past : JoinHistory) (room count : ℕ) (bytes : List ℕ) (new : ClientState) : Type 0 where
+pub record TakesFile (old : ClientState) (past : JoinHistory) (room : ℕ) (bytes : List ℕ) (new : ClientState) : Type 0 where
   pub carried : turns old.outcome old.progress ≡ false → ClientRepresents (after_pull bytes past) new
   pub page : turns old.outcome old.progress ≡ true → TakesPage old past bytes new
-  pub denotes : is_ended old.outcome ≡ false → IsJoined past → count ≡ 0 → 0 < room → (p : Picture) → ShowsFrames past.ended p → Denotes past.given p
+  pub denotes : is_ended old.outcome ≡ false → IsJoined past → bytes ≡ [] → 0 < room → (p : Picture) → ShowsFrames past.ended p → Denotes past.given p
   pub whole : (IsJoined past → ⊥) → IsWhole (past.given ++ bytes) → ⊥

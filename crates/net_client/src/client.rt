@@ -468,7 +468,7 @@ impl Client {
         ensures same { is_ended self.old.outcome ≡ false → turns self.old.outcome self.old.progress
             ≡ false → self.new ≡ record self.old { join = self.new.join } }
         ensures taken { (past : JoinHistory) → ClientRepresents past self.old
-            → TakesFile self.old past (length buf.old) result (take result buf.new) self.new }
+            → TakesFile self.old past (length buf.old) (take result buf.new) self.new }
     {
         not_whole_before();
         if self.is_ended() {
@@ -489,7 +489,7 @@ impl Client {
         ensures page { (past : JoinHistory) → ClientRepresents past self.old
             → TakesPage self.old past (take result buf.new) self.new }
         ensures picture { (past : JoinHistory) → Represents past self.old.join
-            → GivesPicture past (length buf.old) result (take result buf.new) }
+            → GivesPicture past (length buf.old) (take result buf.new) }
     {
         let count = self.file.pull(&mut self.join, buf);
         if self.join.has_given_all() {

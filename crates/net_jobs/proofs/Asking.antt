@@ -38,7 +38,8 @@ use Rattle.client_replies.specs.declared.progress.Next.TheVariants.{Wait, Finish
 use Rattle.client_replies.specs.ReplyTurns.{stop_by_answer, if_good, after_greeting, after_init_reply, after_list_reply, after_challenge, after_admission, opened_with, after_open_reply, after_authorize_reply, element_number, wants_value, gets_at, gets, after_settings, option_number_of, puts, puts_at, puts_named, next_of, next_setting, after_describe_reply, after_put, given_to, of_kind, put_good, put_without_resource, was_put, after_get_value, got_good, got_without_resource, was_got, is_all, started_by, started_with, after_start_reply, stop_unjoined, begun_by, status_of, page_whole, frame_joined, frame_ended_by}
 use Rattle.client_replies.specs.ProtocolStates.{is_running, is_receiving, wanted_port, next_outcome, target_of, next_progress, turns, shaped_by, after_params_reply, heard_at, answer_to, progress_connected}
 use Rattle.net_client.specs.ReplyPieces.{IsReply}
-use Rattle.net_jobs.specs.JobTraces.{TraceEvent, Replied, Opened, Came, Finished, Gave, Turned, JobTrace, EventsLead, EventLeads, initial_trace, frame_end_at, ports_opened, ports_named, port_named}
+use Rattle.net_jobs.specs.JobTraces.{TraceEvent, Replied, Opened, Came, Finished, Gave, Turned, JobTrace, EventsLead, EventLeads, initial_trace, frame_end_at, ports_named, port_named}
+use Rattle.net_jobs.specs.Inside.{ports_opened}
 use Rattle.net_jobs.specs.RunPromises.{AreAskedFor}
 use Rattle.net_jobs.proofs.InvariantRecords.{AsksPorts}
 use Rattle.net_jobs.proofs.FileNumbers.{is_turning_at}

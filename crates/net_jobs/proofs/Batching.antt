@@ -28,17 +28,16 @@ use Rattle.scan_job.specs.Stops.{failed_output}
 use Rattle.scan_job.specs.declared.stop.Stop.{Stop}
 use Rattle.client_replies.specs.ProtocolStates.{ProtocolState, target_of, is_running, is_ended, scans, HistoryFits, FitsDone, FitsEnded, IsBetweenFrames}
 use Rattle.net_client.specs.ClientStates.{ClientState}
-use Rattle.net_jobs.specs.JobJournal.{JobMove, GivesAll, dialled_by, given_by}
+use Rattle.net_jobs.specs.JobJournal.{JobMove, dialled_by, given_by}
+use Rattle.net_jobs.specs.Inside.{GivesAll, StopsAs, CallNotes, NotesMatch, HasTaken, IsFiling, TurnsOn, FallsShort, HasFiledShort, BatchCameDone, BatchCameEnded, BatchHasCome, closed_as, HasBatchRun}
 use Rattle.net_jobs.specs.JobTraces.{JobTrace}
-use Rattle.net_jobs.specs.RunPromises.{JobStreams, SeenStreams, RanWithTrace, StopsAs, ByMemory}
-use Rattle.net_jobs.specs.TurnSteps.{CallNotes, NotesMatch}
+use Rattle.net_jobs.specs.RunPromises.{JobStreams, SeenStreams, RanWithTrace, ByMemory}
 use Rattle.net_jobs.specs.Links.{LinkViews, HasBrought}
 use Rattle.net_jobs.proofs.InvariantRecords.{GivenFiles, FullRunInvariant}
 use Rattle.net_jobs.proofs.Asking.{asked_for}
-use Rattle.net_jobs.specs.Outputs.{files_text, HasTaken, page_outputs_from}
+use Rattle.net_jobs.specs.Outputs.{files_text, page_outputs_from}
 use Rattle.scan_job.specs.FileOutputs.{TakesBack, GivesBack, refused_output}
-use Rattle.net_jobs.specs.Paging.{IsFiling, TurnsOn, FallsShort, HasFiledShort, BatchCameDone, BatchCameEnded, BatchHasCome}
-use Rattle.net_jobs.specs.Batches.{IsPageFile, MayScan, last_whole_page, pages_of, closed_as, BatchDone, BatchEnded, HasBatchRun, KeepsAllPages, RefusesBatch, RefusesLastPage}
+use Rattle.net_jobs.specs.Batches.{IsPageFile, MayScan, last_whole_page, pages_of, BatchDone, BatchEnded, KeepsAllPages, RefusesBatch, RefusesLastPage}
 use Rattle.net_jobs.proofs.FileNumbers.{IsFew, HasSome, counts}
 use Rattle.net_jobs.proofs.JobEnds.{NoneBefore, stops_over, HasRefusal, Leaves, all_written, ran_refuses, cause_of, followed, unopened, task_is, ran_by, ends_well}
 use Rattle.net_jobs.proofs.Shelves.{given_back, none_back, none_kept, none_same, left_behind, outputs_more}

@@ -5,7 +5,8 @@ use Rattle.std.proofs.KnownBytes.{Consumes-trans}
 use Rattle.std.specs.Io.KnownBytes.{Consumes}
 use Rattle.data_records.specs.declared.records.RecordPhase.TheVariants as phases
 use Rattle.data_records.specs.Records.{CarriesRecords, IsRecords}
-use Rattle.net_jobs.specs.Links.{DialBrings, HasBrought, HasReadOf, BeginWith}
+use Rattle.net_jobs.specs.Links.{DialBrings, HasBrought, BeginWith}
+use Rattle.net_jobs.specs.Inside.{HasReadOf}
 
 -- the end record ends the records of the payload
 pub records_end : (bytes payload : List ℕ) (status : ℕ) → CarriesRecords phases.Head (phases.Ended status) bytes payload → IsRecords bytes payload status

@@ -5,20 +5,21 @@ use Rattle.frame_join.specs.FrameHistory.{JoinHistory}
 use Rattle.client_replies.specs.ProtocolStates.{is_ended, turns}
 use Rattle.net_client.specs.ClientStates.{ClientState, ClientRepresents}
 use Rattle.net_client.specs.Taking.{TakesFile}
-use Rattle.net_jobs.specs.JobJournal.{JobMove, Gives, GivesFileBytes, GivesAll, AreGives, MovesLead, bytes_written_by, heard_by, given_by, dialled_by, has_write_failed, loss_of, HasLoss}
+use Rattle.net_jobs.specs.JobJournal.{AreGives, JobMove, Gives, GivesFileBytes, MovesLead, bytes_written_by, heard_by, given_by, dialled_by, has_write_failed, HasLoss}
+use Rattle.net_jobs.specs.Inside.{GivesAll, loss_of}
 use Rattle.net_jobs.specs.Links.{LinkViews, Calls}
 
 -- ---- one call of the client's `take_file`
 
 pub gives_by : (old new : ClientState) (piece : List ℕ) (n room : ℕ) → length piece ≡ n → 0 < room → new.outcome ≡ old.outcome → (is_ended old.outcome ≡ true → (n ≡ 0) × (new ≡ old))
-    → (is_ended old.outcome ≡ false → turns old.outcome old.progress ≡ false → new ≡ record old { join = new.join }) → ((past : JoinHistory) → ClientRepresents past old → TakesFile old past room n piece new) → GivesFileBytes old piece new
+    → (is_ended old.outcome ≡ false → turns old.outcome old.progress ≡ false → new ≡ record old { join = new.join }) → ((past : JoinHistory) → ClientRepresents past old → TakesFile old past room piece new) → GivesFileBytes old piece new
 gives_by old new piece n room size some outcome ended same taken = record {
   room = room;
   some_room = some;
   outcome = outcome;
   ended = λ e. (size ∙ (ended e).0, (ended e).1);
   same = same;
-  taken = λ past serves. subst (λ (m : ℕ). TakesFile old past room m piece new) (sym size) (taken past serves);
+  taken = taken;
 }
 
 pub gives_none : (old : ClientState) → GivesAll old [] old

@@ -10,11 +10,11 @@ use Rattle.client_replies.specs.declared.progress.Progress.TheVariants as stages
 use Rattle.client_replies.specs.ProtocolStates.{ProtocolState, target_of, is_running, is_receiving, wanted_port}
 use Rattle.net_client.specs.ClientStates.{ClientState, ClientRepresents, IsNewClient, protocol_of}
 use Rattle.net_jobs.specs.JobJournal.{JobMove, MovesLead, given_by, heard_by, bytes_written_by, dialled_by}
-use Rattle.net_jobs.specs.JobTraces.{TraceEvent, JobTrace, BytesMatchTrace, ports_opened}
-use Rattle.net_jobs.specs.Links.{LinkViews, Calls, HasBrought, HasReadOf, BeginWith}
+use Rattle.net_jobs.specs.JobTraces.{TraceEvent, JobTrace, BytesMatchTrace}
+use Rattle.net_jobs.specs.Inside.{ports_opened, HasReadOf, CallNotes, NotesMatch}
+use Rattle.net_jobs.specs.Links.{LinkViews, Calls, HasBrought, BeginWith}
 use Rattle.net_jobs.specs.Outputs.{files_text}
 use Rattle.net_jobs.specs.RunPromises.{EndsBy}
-use Rattle.net_jobs.specs.TurnSteps.{CallNotes, NotesMatch}
 
 -- the bytes of the frame under way
 abbrev pub came_in : Option Frame → List ℕ

@@ -31,12 +31,11 @@ use Rattle.client_replies.specs.ReplyTurns.{stop_unjoined, frame_ended_by, statu
 use Rattle.client_replies.specs.ProtocolStates.{ProtocolState, target_of, is_running, is_ended, is_batch, turns, next_outcome, HistoryFits, FitsEnded}
 use Rattle.net_client.specs.ClientStates.{ClientState, ClientRepresents, IsNewClient, after_client_end}
 use Rattle.net_jobs.specs.JobTraces.{TraceEvent, Replied, Opened, Came, Finished, Gave, Turned, JobTrace, BytesMatchTrace, EventsLead, EndWell}
-use Rattle.net_jobs.specs.JobJournal.{JobMove, GivesAll, MovesLead, WritesShort, Writes, Fails, given_by, bytes_written_by, heard_by, dialled_by, has_write_failed}
+use Rattle.net_jobs.specs.JobJournal.{JobMove, MovesLead, WritesShort, Writes, Fails, given_by, bytes_written_by, heard_by, dialled_by, has_write_failed}
+use Rattle.net_jobs.specs.Inside.{GivesAll, CallNotes, NotesMatch, HasRunNoted, no_notes, TakesLeave, StopsAs, HoldsGiven, IsDrainedTo, StopsBehind, Silent, Whole, Short}
 use Rattle.net_jobs.specs.Links.{JobLinks, LinkViews, views_of, Calls, Called, HasBrought, BeginWith}
-use Rattle.net_jobs.specs.TurnSteps.{CallNotes, NotesMatch, HasRunNoted, no_notes, TakesLeave, Silent, Whole, Short}
 use Rattle.net_jobs.proofs.InvariantRecords.{LinkMatchesTrace, ClientFollowsTrace, Falls, GivenFiles, no_files_given, RunInvariant, FullRunInvariant, AsksPorts}
-use Rattle.net_jobs.specs.RunPromises.{JobStreams, SeenStreams, RefusesJob, EndsBy, ByLoss, ByMemory, ByGarble, ByLength, HasEndingCause, RanWithTrace, RanDone, RanEnded, StopsAs}
-use Rattle.net_jobs.specs.NetDraining.{HoldsGiven, IsDrainedTo, StopsBehind}
+use Rattle.net_jobs.specs.RunPromises.{JobStreams, SeenStreams, RefusesJob, EndsBy, ByLoss, ByMemory, ByGarble, ByLength, HasEndingCause, RanWithTrace, RanDone, RanEnded}
 use Rattle.net_jobs.proofs.Tracing.{did_quiet}
 use Rattle.net_jobs.proofs.KeepingInvariant.{lets_go, stage_on}
 use Rattle.net_jobs.specs.Outputs.{files_text}

@@ -14,7 +14,8 @@ use Rattle.client_replies.proofs.Fitting.{may_end}
 use Rattle.net_client.specs.ClientStates.{ClientState, protocol_of, ClientRepresents, IsNewClient}
 use Rattle.net_client.specs.ReplyPieces.{awaited_procedure, HasHeard, Heeds, Whole, Garbled, OutOfMemoryBehind, OutOfMemoryAtOnce, IsGarbled, EndsOutOfMemory}
 use Rattle.net_client.proofs.Hearings.{fits_at}
-use Rattle.net_jobs.specs.JobTraces.{JobTrace, TraceEvent, BytesMatchTrace, initial_trace, ports_opened}
+use Rattle.net_jobs.specs.JobTraces.{JobTrace, TraceEvent, BytesMatchTrace, initial_trace}
+use Rattle.net_jobs.specs.Inside.{ports_opened}
 use Rattle.net_jobs.specs.Links.{HasBrought, BeginWith}
 use Rattle.net_jobs.specs.JobJournal.{JobMove, dialled_by, HasLoss}
 use Rattle.net_jobs.specs.RunPromises.{EndsBy, ByLoss, ByMemory, ByGarble, ByLength}

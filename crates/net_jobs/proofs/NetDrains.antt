@@ -19,7 +19,7 @@ use Rattle.client_replies.specs.declared.progress.Progress.TheVariants as stages
 use Rattle.client_replies.specs.ProtocolStates.{HistoryFits, is_ended, turns}
 use Rattle.net_client.specs.ClientStates.{ClientState, ClientRepresents}
 use Rattle.net_client.proofs.Hearings.{calm_at}
-use Rattle.net_jobs.specs.NetDraining.{IsDrainedTo, StopsBehind}
+use Rattle.net_jobs.specs.Inside.{IsDrainedTo, StopsBehind}
 use Rattle.scan_job.specs.FileOutputs.{StopsShort}
 
 -- ---- a scan turns no page

@@ -17,9 +17,8 @@ use Rattle.client_replies.specs.declared.progress.Progress.TheVariants as stages
 use Rattle.client_replies.specs.ProtocolStates.{HistoryFits, FitsDone, IsBetweenFrames, scans, is_running, is_ended, turns}
 use Rattle.net_client.specs.ClientStates.{ClientState, ClientRepresents, TakesPage, Stays, Turns, TurnsPage}
 use Rattle.net_client.proofs.Hearings.{calm_at}
-use Rattle.net_jobs.specs.Outputs.{HasTaken, OutputIsUnderWay}
+use Rattle.net_jobs.specs.Inside.{HasTaken, OutputIsUnderWay, PageGoesOn, TurnsOn, FallsShort}
 use Rattle.scan_job.specs.FileOutputs.{TakesBack, GivesBack, returned_output}
-use Rattle.net_jobs.specs.Paging.{PageGoesOn, TurnsOn, FallsShort}
 use Rattle.net_jobs.proofs.NetDrains.{joined_calm, pulled_none, pulled_twice, join_only, not_ended, unmoved}
 use Rattle.net_jobs.proofs.Shelves.{given_back}
 

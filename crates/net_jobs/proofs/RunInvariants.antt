@@ -14,10 +14,10 @@ use Rattle.client_replies.specs.declared.progress.Link.TheVariants as links
 use Rattle.client_replies.specs.ProtocolStates.{is_running, is_receiving, is_imaging, is_lost_by}
 use Rattle.net_client.specs.ClientStates.{ClientState, after_client_end, IsNewClient}
 use Rattle.net_jobs.specs.declared.calls.Loss.TheVariants.{DialFailed}
-use Rattle.net_jobs.specs.JobJournal.{JobMove, Writes, Fails, Hears, Resumes, Dials, Takes, Gives, Loses, AreGives, GivesAll, given_by, HearsPiece, TakesPiece, LosesLink, after_loss, dialled_by, heard_by, bytes_written_by, HasLoss}
+use Rattle.net_jobs.specs.JobJournal.{AreGives, JobMove, Writes, Fails, Hears, Resumes, Dials, Takes, Gives, Loses, given_by, HearsPiece, TakesPiece, LosesLink, after_loss, dialled_by, heard_by, bytes_written_by, HasLoss}
+use Rattle.net_jobs.specs.Inside.{GivesAll, CallNotes, NotesMatch, no_notes, LoopState, Moves, MovesAll}
 use Rattle.net_jobs.specs.JobTraces.{JobTrace}
 use Rattle.net_jobs.specs.Links.{LinkViews}
-use Rattle.net_jobs.specs.TurnSteps.{CallNotes, NotesMatch, no_notes, LoopState, Moves, MovesAll}
 use Rattle.net_jobs.specs.Outputs.{files_text}
 use Rattle.net_jobs.proofs.InvariantRecords.{LinkMatchesTrace, ClientFollowsTrace, Falls, GivenFiles, no_files_given, RunInvariant, FullRunInvariant}
 use Rattle.net_jobs.proofs.Giving.{leads_on, calls_on, heard_on_gives, written_on_gives, dialled_on_gives, loss_on_gives, failed_on_gives, lost_on_gives, given_on_gives}

@@ -4,7 +4,8 @@ use Rattle.std.specs.Io.KnownBytes.{Appends}
 use Rattle.std.proofs.lemmas.List.{append-nil}
 use Rattle.scan_job.specs.Shelves.{Stock, ReturnedOutput, OpensOutput, IsNewOutput, Shelves}
 use Rattle.frame_join.specs.FrameHistory.{JoinHistory}
-use Rattle.net_jobs.specs.Outputs.{HasTaken, page_outputs_from}
+use Rattle.net_jobs.specs.Outputs.{page_outputs_from}
+use Rattle.net_jobs.specs.Inside.{HasTaken}
 use Rattle.scan_job.specs.FileOutputs.{TakesBack, AreLeft, GivesBack, output_of, returned_output}
 
 -- an output that was had now

@@ -23,14 +23,13 @@ use Rattle.client_replies.specs.ProtocolStates.{ProtocolState, target_of, is_run
 use Rattle.net_client.specs.Sending.{optional_request_text}
 use Rattle.net_client.specs.ClientStates.{ClientState, ClientRepresents, IsNewClient, TurnsPage, protocol_of}
 use Rattle.net_jobs.specs.JobTraces.{JobTrace, EventLeads, Turned}
-use Rattle.net_jobs.specs.JobJournal.{JobMove, GivesAll, MovesLead, Writes, Fails, given_by, bytes_written_by, heard_by, dialled_by, has_write_failed}
+use Rattle.net_jobs.specs.JobJournal.{JobMove, MovesLead, Writes, Fails, given_by, bytes_written_by, heard_by, dialled_by, has_write_failed}
+use Rattle.net_jobs.specs.Inside.{GivesAll, CallNotes, NotesMatch, no_notes, HasTaken, OutputIsUnderWay, IsFiling, TurnsOn, HasFiled}
 use Rattle.net_jobs.specs.RunPromises.{EndsBy, ByLoss, ByMemory, ByGarble, ByLength}
-use Rattle.net_jobs.specs.TurnSteps.{CallNotes, NotesMatch, no_notes}
 use Rattle.net_jobs.specs.Links.{LinkViews, Calls}
 use Rattle.net_jobs.proofs.InvariantRecords.{LinkMatchesTrace, ClientFollowsTrace, Falls, GivenFiles, no_files_given, RunInvariant, FullRunInvariant}
-use Rattle.net_jobs.specs.Outputs.{files_text, HasTaken, OutputIsUnderWay, page_outputs_from}
+use Rattle.net_jobs.specs.Outputs.{files_text, page_outputs_from}
 use Rattle.scan_job.specs.FileOutputs.{TakesBack}
-use Rattle.net_jobs.specs.Paging.{IsFiling, TurnsOn, HasFiled}
 use Rattle.net_jobs.specs.Batches.{IsPageFile}
 use Rattle.net_jobs.proofs.Tracing.{did_say}
 use Rattle.net_jobs.proofs.KeepingInvariant.{following, asked_now, stage_on}

@@ -24,7 +24,8 @@ use Rattle.client_replies.specs.declared.progress.Next.TheVariants.{Wait, Finish
 use Rattle.client_replies.specs.ProtocolStates.{ProtocolState, target_of, is_running, next_outcome, next_progress, heard_at, answer_to, after_reply, shaped_by}
 use Rattle.net_client.specs.ClientStates.{ClientState, protocol_of, IsNewClient}
 use Rattle.net_client.specs.ReplyPieces.{awaited_procedure, HearsReplies, HasHeard}
-use Rattle.net_jobs.specs.JobTraces.{TraceEvent, Replied, JobTrace, EventLeads, EventsLead, initial_trace, BytesMatchTrace, ports_opened}
+use Rattle.net_jobs.specs.JobTraces.{TraceEvent, Replied, JobTrace, EventLeads, EventsLead, initial_trace, BytesMatchTrace}
+use Rattle.net_jobs.specs.Inside.{ports_opened}
 use Rattle.net_jobs.proofs.InvariantRecords.{came_in}
 
 -- ---- what a reply makes of the join's history

@@ -12,7 +12,7 @@ use Rattle.net_jobs.specs.declared.calls.Loss.{Loss}
 use Rattle.net_jobs.specs.declared.calls.Loss.TheVariants.{UsedUp, DialFailed}
 use Rattle.net_jobs.specs.JobJournal.{JobMove, Writes, Fails, Hears, Resumes, Dials, Takes, Loses, HearsPiece, after_loss}
 use Rattle.net_jobs.specs.Links.{JobLinks, LinkViews, views_of, with_port}
-use Rattle.net_jobs.specs.TurnSteps.{CallNotes, LoopState, MovesAll, HearsOrLoses, Heard, Lost, TakesOrLoses, Took, Missed, DialsOrLoses, Made, Refused, TakesLeave, Whole, Short}
+use Rattle.net_jobs.specs.Inside.{Heard, Lost, Took, Missed, Made, Refused, Whole, Short, CallNotes, LoopState, MovesAll, HearsOrLoses, TakesOrLoses, DialsOrLoses, TakesLeave}
 use Rattle.net_jobs.proofs.RunInvariants.{out_lost}
 
 abbrev pub noted_as : Option Loss → Bool → CallNotes

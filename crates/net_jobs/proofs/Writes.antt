@@ -6,7 +6,7 @@ use Rattle.std.proofs.KnownBytes.{Appends-trans, Appends-nil}
 use Rattle.std.proofs.lemmas.List.{length-drop, take_all, drop-drop, take-take}
 use Rattle.std.proofs.Math.Seq.{take-add}
 use Rattle.net_client.specs.ClientStates.{ClientState}
-use Rattle.net_jobs.specs.ControlWriting.{WritesTo}
+use Rattle.net_jobs.specs.Inside.{WritesTo}
 
 pub none_written : (first : List ℕ) (contents : Option (List ℕ)) → WritesTo first contents contents first
 none_written first contents = record { at = 0; within = omega arith; left_is = refl; written = Appends-nil contents }

@@ -1,6 +1,5 @@
 -- What is promised of a job over streams whose files go to the outputs of a shelf.
 use Rattle.std.specs.Prelude.{ℕ, ◌+◌, ◌≡◌, ◌≢◌, ◌≤◌, ◌⊎◌, true, false, Bool, Result, Ok, Err, Option, Some, List, [], ◌∷◌, ◌++◌, All, length}
-use Rattle.sane_fixed.specs.declared.status.Status.{Status}
 use Rattle.sane_fixed.specs.declared.status.Status.TheVariants as statuses
 use Rattle.netpbm.specs.Picture.{Picture}
 use Rattle.netpbm.specs.Pnm.{Denotes}
@@ -12,8 +11,7 @@ use Rattle.scan_job.specs.declared.job.JobFault.{JobFault}
 use Rattle.scan_job.specs.declared.job.Task.{Task}
 use Rattle.scan_job.specs.declared.job.Task.TheVariants as tasks
 use Rattle.scan_job.specs.declared.outcome.Outcome.{Outcome}
-use Rattle.scan_job.specs.declared.outcome.Outcome.TheVariants.{Running, Done, Ended}
-use Rattle.scan_job.specs.declared.outcome.Why.{Why}
+use Rattle.scan_job.specs.declared.outcome.Outcome.TheVariants.{Done, Ended}
 use Rattle.scan_job.specs.declared.outcome.Why.TheVariants as whys
 use Rattle.scan_job.specs.declared.report.Reports.{Reports}
 use Rattle.scan_job.specs.JobSize.{HasJobFault}
@@ -50,11 +48,6 @@ abbrev pub MayScan : Task → ℕ → Type 0
 MayScan tasks.Scan n = n ≡ 1
 MayScan (tasks.Batch count) n = (1 ≤ n) × (n ≤ count)
 MayScan task n = n ≡ 0
-
--- the outcome of a job whose last output was given back, and taken or refused
-abbrev pub closed_as : Outcome → Bool → Outcome
-closed_as (Done reports) false = Ended statuses.IoError whys.Sink
-closed_as outcome is_taken = outcome
 
 -- The job is done, as the client's rules have it for these replies and frames. All was written, with CLOSE and EXIT, unless a
 -- write failed; each data connection began with its frame's records, which ended with EOF; and the shelf kept one output for
@@ -110,12 +103,6 @@ pub record BatchEnded {L : Type 0} (views : LinkViews L) (job : Job) (was now : 
   pub none_behind : stop.why ≢ whys.Sink → behind ≡ []
   pub shelf : ((pages ≡ ran.trace.pages) × KeepsAllPages pages text was.output now.output)
       ⊎ ((stop ≡ failed_output) × (text ≡ []) × RefusesLastPage pages was.output now.output)
-
--- how such a job is over
-abbrev pub HasBatchRun : {L : Type 0} → LinkViews L → Job → SeenStreams L (Option Stock) → SeenStreams L (Option Stock) → Outcome → Type 0
-HasBatchRun views job was now Running = ⊥
-HasBatchRun views job was now (Done reports) = BatchDone views job was now reports
-HasBatchRun views job was now (Ended status why) = BatchEnded views job was now (record { status = status; why = why })
 
 -- a job that is refused, for a fault or since there is no memory for its buffers, touches no stream and no shelf
 pub record RefusesBatch {C D S : Type 0} (job : Job) (outcome : Outcome) (was now : JobStreams C D S) : Type 0 where

@@ -1,5 +1,5 @@
 -- What the loop of a job does, one move after another, and what each makes of the client by the client's own contracts.
-use Rattle.std.specs.Prelude.{ℕ, ◌≡◌, ◌≢◌, ◌<◌, if◌then◌else◌, Bool, true, false, Option, Some, None, List, [], ◌∷◌, ◌++◌, length}
+use Rattle.std.specs.Prelude.{ℕ, ◌≡◌, ◌≢◌, ◌<◌, if◌then◌else◌, Bool, true, false, Some, List, [], ◌∷◌, ◌++◌, length}
 use Rattle.sane_fixed.specs.declared.status.Status.TheVariants as statuses
 use Rattle.frame_join.specs.FrameHistory.{JoinHistory}
 use Rattle.scan_job.specs.declared.outcome.Why.TheVariants as whys
@@ -11,7 +11,6 @@ use Rattle.net_client.specs.FramePieces.{Receives}
 use Rattle.net_client.specs.ReplyPieces.{Heeds}
 use Rattle.net_client.specs.Taking.{TakesFile}
 use Rattle.net_jobs.specs.declared.calls.Loss.{Loss}
-use Rattle.net_jobs.specs.declared.calls.Loss.TheVariants.{DialFailed}
 
 pub data JobMove : Type 0 where
   -- all that was to go out to the daemon is written to the control connection
@@ -79,7 +78,7 @@ pub record GivesFileBytes (old : ClientState) (bytes : List ℕ) (new : ClientSt
   pub outcome : new.outcome ≡ old.outcome
   pub ended : is_ended old.outcome ≡ true → (length bytes ≡ 0) × (new ≡ old)
   pub same : is_ended old.outcome ≡ false → turns old.outcome old.progress ≡ false → new ≡ record old { join = new.join }
-  pub taken : (past : JoinHistory) → ClientRepresents past old → TakesFile old past room (length bytes) bytes new
+  pub taken : (past : JoinHistory) → ClientRepresents past old → TakesFile old past room bytes new
 
 abbrev pub MoveLeads : ClientState → JobMove → ClientState → Type 0
 MoveLeads c (Writes bytes) e = WritesAll c bytes e
@@ -118,6 +117,12 @@ given_by [] = []
 given_by (Gives bytes ∷ moves) = given_by moves ++ bytes
 given_by (move ∷ moves) = given_by moves
 
+-- each gives bytes of a file
+abbrev pub AreGives : List JobMove → Type 0
+AreGives [] = Unit {0}
+AreGives (Gives bytes ∷ moves) = AreGives moves
+AreGives (move ∷ moves) = ⊥
+
 -- the ports of the data connections that were asked for, the newest first
 abbrev pub dialled_by : List JobMove → List ℕ
 dialled_by [] = []
@@ -130,13 +135,6 @@ has_write_failed [] = false
 has_write_failed (Fails bytes ∷ moves) = true
 has_write_failed (move ∷ moves) = has_write_failed moves
 
--- why nothing more was read
-abbrev pub loss_of : List JobMove → Option Loss
-loss_of [] = None
-loss_of (Dials port false ∷ moves) = Some DialFailed
-loss_of (Loses link reason ∷ moves) = Some reason
-loss_of (move ∷ moves) = loss_of moves
-
 -- a connection was lost
 abbrev pub HasLoss : List JobMove → Type 0
 HasLoss [] = ⊥
@@ -144,14 +142,3 @@ HasLoss (Loses link reason ∷ moves) = Unit {0}
 HasLoss (Fails bytes ∷ moves) = Unit {0}
 HasLoss (Dials port false ∷ moves) = Unit {0}
 HasLoss (move ∷ moves) = HasLoss moves
-
--- ---- moves that give bytes alone
-
-abbrev pub AreGives : List JobMove → Type 0
-AreGives [] = Unit {0}
-AreGives (Gives bytes ∷ moves) = AreGives moves
-AreGives (move ∷ moves) = ⊥
-
-pub record GivesAll (old : ClientState) (gives : List JobMove) (new : ClientState) : Type 0 where
-  pub are : AreGives gives
-  pub leads : MovesLead old gives new

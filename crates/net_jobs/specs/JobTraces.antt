@@ -80,12 +80,6 @@ EndWell (event ∷ events) = EndWell events
 
 -- ---- the ports of the data connections, the newest first
 
--- those of the connections that were made
-abbrev pub ports_opened : List TraceEvent → List ℕ
-ports_opened [] = []
-ports_opened (Opened port ∷ events) = port ∷ ports_opened events
-ports_opened (event ∷ events) = ports_opened events
-
 -- that of a START reply by which a frame begins
 abbrev pub port_named : Reply → List ℕ
 port_named (replies.Start statuses.Good port order []) = port ∷ []

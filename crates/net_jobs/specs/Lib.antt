@@ -1,11 +1,7 @@
-pub mod CallResults
-pub mod ControlWriting
 pub mod JobJournal
 pub mod JobTraces
 pub mod Links
-pub mod TurnSteps
 pub mod RunPromises
-pub mod NetDraining
 pub mod Outputs
 pub mod Batches
-pub mod Paging
+pub mod Inside

@@ -53,11 +53,6 @@ abbrev pub HasBrought : Option (List (List ℕ)) → Option (List (List ℕ)) �
 HasBrought None now wholes = Unit {0}
 HasBrought (Some all) now wholes = (others : List (List ℕ)) × (now ≡ Some others) × (all ≡ wholes ++ others)
 
--- so many bytes of a connection were read
-abbrev pub HasReadOf : Option (List (List ℕ)) → Option (List ℕ) → List ℕ → List ℕ → Type 0
-HasReadOf None remaining whole bytes = whole ≡ bytes
-HasReadOf (Some all) remaining whole bytes = Consumes (Some whole) remaining bytes
-
 -- each connection's bytes begin with a stream's
 abbrev pub BeginWith : List (List ℕ) → List (List ℕ) → Type 0
 BeginWith [] [] = Unit {0}

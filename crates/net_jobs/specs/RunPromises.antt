@@ -1,7 +1,6 @@
 -- What is promised of a job over streams.
 use Rattle.std.specs.Prelude.{ℕ, ◌+◌, ◌≡◌, ◌≢◌, ◌<◌, ◌≤◌, ◌⊎◌, true, false, Option, Some, List, [], ◌∷◌, ◌++◌, length}
 use Rattle.std.specs.Io.KnownBytes.{Appends}
-use Rattle.sane_fixed.specs.declared.status.Status.{Status}
 use Rattle.sane_fixed.specs.declared.status.Status.TheVariants as statuses
 use Rattle.netpbm.specs.Picture.{Picture}
 use Rattle.netpbm.specs.Pnm.{Denotes, IsWhole}
@@ -19,12 +18,10 @@ use Rattle.net_client.specs.ClientStates.{ClientState, IsNewClient}
 use Rattle.net_client.specs.ReplyPieces.{awaited_procedure}
 use Rattle.scan_job.specs.declared.job.Task.TheVariants as tasks
 use Rattle.scan_job.specs.declared.outcome.Outcome.{Outcome}
-use Rattle.scan_job.specs.declared.outcome.Outcome.TheVariants.{Running, Done, Ended}
-use Rattle.scan_job.specs.declared.outcome.Why.{Why}
+use Rattle.scan_job.specs.declared.outcome.Outcome.TheVariants.{Done, Ended}
 use Rattle.scan_job.specs.declared.outcome.Why.TheVariants as whys
 use Rattle.scan_job.specs.declared.report.Reports.{Reports}
 use Rattle.scan_job.specs.declared.stop.Stop.{Stop}
-use Rattle.scan_job.specs.Stops.{no_memory}
 use Rattle.net_jobs.specs.JobJournal.{JobMove, MovesLead, bytes_written_by, heard_by, given_by, dialled_by, has_write_failed, HasLoss}
 use Rattle.net_jobs.specs.JobTraces.{JobTrace, BytesMatchTrace, EndWell, ports_named}
 use Rattle.net_jobs.specs.Links.{JobLinks, LinkViews, Calls, HasBrought, BeginWith}
@@ -132,23 +129,11 @@ pub record RanEnded {L : Type 0} (views : LinkViews L) (job : Job) (was now : Se
   pub none_behind : stop.why ≢ whys.Sink → behind ≡ []
   pub not_whole : IsWhole text → ⊥
 
--- how a job over streams is over
-abbrev pub HasRun : {L : Type 0} → LinkViews L → Job → SeenStreams L (Option (List ℕ)) → SeenStreams L (Option (List ℕ)) → Outcome → Type 0
-HasRun views job was now Running = ⊥
-HasRun views job was now (Done reports) = RanDone views job was now reports
-HasRun views job was now (Ended status why) = RanEnded views job was now (record { status = status; why = why })
-
 abbrev pub refused_as : JobFault → Outcome
 refused_as NoMem = Ended statuses.NoMem whys.Memory
 refused_as TooManySettings = Ended statuses.Inval whys.Setting
 refused_as TextTooLong = Ended statuses.Inval whys.Setting
 refused_as BadCount = Ended statuses.Inval whys.Setting
-
--- why nothing is told of a job that is over: it has ended so, or there was no memory for what is told
-abbrev pub StopsAs : Outcome → Stop → Type 0
-StopsAs Running stop = ⊥
-StopsAs (Done reports) stop = stop ≡ no_memory
-StopsAs (Ended status why) stop = stop ≡ record { status = status; why = why }
 
 -- why a job is refused: it is a batch, it has a fault, or there is no memory for its buffers
 abbrev pub IsRefused : Job → Outcome → Type 0

@@ -6,13 +6,14 @@
 ghost use Rattle.std.specs.Prelude.{◌≡◌, ◌<◌, ◌≤◌, ◌+◌, ◌^◌, ℕ, true, false, length, take, None, Some, IfOk, OnErr, IsTrue};
 ghost use Rattle.std.specs.Io.{ReadsAtMost, WritesAtMost};
 ghost use Rattle.std.specs.Io.KnownBytes.{Appends, ReadConsumes, WriteAppends};
-ghost use Rattle.net_jobs.specs.CallResults.{loss_by_read, fails_to_write};
+ghost use Rattle.net_jobs.specs.Inside.{loss_by_read, fails_to_write};
 
 use crate::dial::{Dial, DialFault};
 use byte_output::put;
 use std::io::{self, ErrorKind, Read, Write};
 
-/// The most reads of a job, with the interrupted calls that are made again, and the most turns of its loop.
+/// The most reads of a job, with the interrupted calls on its control connection that are made again; the most turns of its
+/// loop; and the most interrupted writes to its outputs that are made again.
 const MOST_CALLS: u64 = 1 << 40;
 
 /// Why nothing more is read of a connection.
@@ -33,6 +34,7 @@ pub enum Loss {
 pub struct CallTally {
     reads: u64,
     turns: u64,
+    again: u64,
     loss: Option<Loss>,
     write_failed: bool,
 }
@@ -60,17 +62,24 @@ fn fails_to_write(took: &io::Result<usize>) -> bool
 }
 
 impl CallTally {
-    ghost use Rattle.net_jobs.specs.CallResults.{loss_by_read, loss_by_dial, fails_to_write};
+    ghost use Rattle.net_jobs.specs.Inside.{loss_by_read, loss_by_dial, fails_to_write};
     ghost use Rattle.net_jobs.specs.Links.{DialBrings, with_port};
 
     /// Before the first call.
     pub fn new() -> CallTally
         ensures { result
-            ≡ record { reads = 2 ^ 40; turns = 2 ^ 40; loss = None; write_failed = false } }
+            ≡ record {
+              reads = 2 ^ 40;
+              turns = 2 ^ 40;
+              again = 2 ^ 40;
+              loss = None;
+              write_failed = false;
+            } }
     {
         CallTally {
             reads: MOST_CALLS,
             turns: MOST_CALLS,
+            again: MOST_CALLS,
             loss: None,
             write_failed: false,
         }
@@ -176,9 +185,9 @@ impl CallTally {
             → Appends (W.contents out.old) (W.contents out.new) bytes.now }
         ensures front { result ≡ false → (n : ℕ) × (n < length bytes.now)
             × Appends (W.contents out.old) (W.contents out.new) (take n bytes.now) }
-        ensures rest { self.new ≡ record self.old { reads = self.new.reads } }
-        ensures reads { self.new.reads ≤ self.old.reads }
+        ensures rest { self.new ≡ record self.old { again = self.new.again } }
+        ensures again { self.new.again ≤ self.old.again }
     {
-        put(out, bytes, &mut self.reads)
+        put(out, bytes, &mut self.again)
     }
 }

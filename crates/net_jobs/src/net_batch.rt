@@ -8,14 +8,12 @@ ghost use Rattle.scan_job.specs.Shelves.{Stock, ReturnedOutput};
 ghost use Rattle.frame_join.specs.FrameHistory.{JoinHistory};
 ghost use Rattle.client_replies.specs.ProtocolStates.{scans};
 ghost use Rattle.net_client.specs.ClientStates.{IsNewClient};
-ghost use Rattle.net_jobs.specs.Outputs.{TakesMore, TakesFront};
+ghost use Rattle.net_jobs.specs.Inside.{TakesMore, TakesFront, IsFiling, HasFiled, HasFiledShort, BatchHasCome, closed_as, GivesAll, KeepsNotes, no_notes, notes_of};
 ghost use Rattle.scan_job.specs.FileOutputs.{GivesBack};
-ghost use Rattle.net_jobs.specs.Paging.{IsFiling, HasFiled, HasFiledShort, BatchHasCome};
-ghost use Rattle.net_jobs.specs.Batches.{BatchDone, BatchEnded, RefusesBatch, closed_as};
-ghost use Rattle.net_jobs.specs.JobJournal.{GivesAll, JobMove, given_by};
+ghost use Rattle.net_jobs.specs.Batches.{BatchDone, BatchEnded, RefusesBatch};
+ghost use Rattle.net_jobs.specs.JobJournal.{JobMove, given_by};
 ghost use Rattle.net_jobs.specs.Links.{views_of};
 ghost use Rattle.net_jobs.specs.RunPromises.{seen, streams};
-ghost use Rattle.net_jobs.specs.TurnSteps.{KeepsNotes, no_notes, notes_of};
 
 use crate::calls::CallTally;
 use crate::dial::Dial;

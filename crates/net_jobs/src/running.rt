@@ -9,11 +9,10 @@ ghost use Rattle.scan_job.specs.Outcomes.{IfDone, IfEnded, IsOver, over_as};
 ghost use Rattle.frame_join.specs.FrameHistory.{JoinHistory};
 ghost use Rattle.client_replies.specs.ProtocolStates.{is_running, is_receiving, is_batch, wanted_port};
 ghost use Rattle.net_client.specs.ClientStates.{IsNewClient};
-ghost use Rattle.net_jobs.specs.JobJournal.{GivesAll, JobMove, given_by};
+ghost use Rattle.net_jobs.specs.JobJournal.{JobMove, given_by};
+ghost use Rattle.net_jobs.specs.Inside.{GivesAll, HoldsGiven, IsDrainedTo, StopsBehind, StopsAs, DialsOrLoses, HasRunNoted, HearsOrLoses, IsLost, KeepsNotes, KeepsReads, KeepsWrites, MovesAll, TakesLeave, TakesOrLoses, loop_state, no_notes, notes_of, turns_to_go};
 ghost use Rattle.net_jobs.specs.Links.{views_of, with_port};
-ghost use Rattle.net_jobs.specs.NetDraining.{HoldsGiven, IsDrainedTo, StopsBehind};
-ghost use Rattle.net_jobs.specs.RunPromises.{RanDone, RanEnded, RefusesJob, StopsAs, refused_as, seen, streams};
-ghost use Rattle.net_jobs.specs.TurnSteps.{DialsOrLoses, HasRunNoted, HearsOrLoses, IsLost, KeepsNotes, KeepsReads, KeepsWrites, MovesAll, TakesLeave, TakesOrLoses, loop_state, no_notes, notes_of, turns_to_go};
+ghost use Rattle.net_jobs.specs.RunPromises.{RanDone, RanEnded, RefusesJob, refused_as, seen, streams};
 
 use crate::calls::CallTally;
 use crate::dial::Dial;

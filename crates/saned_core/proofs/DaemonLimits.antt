@@ -2,21 +2,19 @@
 use Rattle.std.proofs.Common.{◌≡◌, ◌≢◌, ◌<◌, ◌+◌, ◌∙◌, ℕ, List, [], ◌∷◌, Option, Some, None, Bool, true, false, cond, refl, sym, ap, subst, arith, length}
 use Rattle.std.specs.Option.{option_map, option_and_then}
 use Rattle.std.specs.List.{list_any}
-use Rattle.rand_chacha.specs.ChaCha.{ChaCha}
-use Rattle.md5_auth.specs.declared.users.Entry.{Entry}
 use Rattle.device_api.specs.State.{DeviceState}
 use Rattle.page_picture.specs.Source.{SourceState}
 use Rattle.dispatch.specs.Table.{Table}
 use Rattle.saned_requests.specs.declared.session.Session.{Session}
-use Rattle.saned_requests.specs.RequestAnswers.{RequestContext}
 use Rattle.saned_core.specs.declared.session_slot.SessionSlot.{SessionSlot}
 use Rattle.saned_core.specs.declared.session_slot.Fed.{Fed}
-use Rattle.saned_core.specs.declared.session_slot.Fed.TheVariants.{Standing, Over, Starved}
 use Rattle.saned_core.specs.declared.session_slot.DataStep.{DataStep}
-use Rattle.saned_core.specs.DaemonStates.{Core, is_slot_number, session_slot_of, session_in, on_session_slot, on_session, with_session, with_session_slot, slot_if_open, kept_if_open, after_taken, after_reply_bytes, no_more, new_session_slot, after_connected, after_lost, after_open_session, after_end_session}
-use Rattle.saned_core.specs.Feeding.{Feeds, FeedsIf, slot_or_none_after_feed, slot_after_feed, input_in}
+use Rattle.saned_core.specs.DaemonStates.{Core, is_slot_number, session_slot_of, session_in, session_of, on_session_slot, on_session, with_session, with_session_slot, after_taken, after_reply_bytes, no_more, new_session_slot, after_connected, after_lost, after_open_session, after_end_session}
+use Rattle.saned_core.specs.Feeding.{Feeds}
 use Rattle.saned_core.specs.Turns.{Turns, TurnsSessions}
 use Rattle.saned_core.specs.Loading.{holds, on_first, slot_with_page, core_after_load}
+use Rattle.saned_core.proofs.Apart.{KeepsNumber, feed_keeps, if_stands, some_number}
+use Rattle.saned_core.proofs.FeedCases.{feeds_in}
 use Rattle.saned_core.specs.DaemonLimits.{IsOtherSlot, IsFree, HaveOwnNumbers, HasDaemonLimits}
 
 abbrev Place : Type 0
@@ -81,9 +79,6 @@ limits_kept old new e k h = (
 
 -- ---- one slot
 
-abbrev KeepsNumber : (SessionSlot DeviceState → Place) → Type 0
-KeepsNumber f = (slot new : SessionSlot DeviceState) → f slot ≡ Some new → new.number ≡ slot.number
-
 kept_by : (slot : SessionSlot DeviceState) (new : Place) → ((s : SessionSlot DeviceState) → new ≡ Some s → s.number ≡ slot.number) → IsKept (Some slot) new
 kept_by slot None k = tt
 kept_by slot (Some s) k = k s refl
@@ -108,17 +103,6 @@ kept_first p f (slot ∷ slots) k = kept_if (p slot) slot (f slot) slots (on_fir
 
 -- ---- what the calls do to a slot
 
-some_number : (slot new : SessionSlot DeviceState) → Some slot ≡ Some new → new.number ≡ slot.number
-some_number slot new e = let same : slot ≡ new = cc in ap (λ (s : SessionSlot DeviceState). s.number) (sym same)
-
-stands : (session : Option (Session DeviceState)) (replies : List ℕ) (slot new : SessionSlot DeviceState) → slot_if_open session replies slot ≡ Some new → new.number ≡ slot.number
-stands (Some session) replies slot new e = some_number slot new e
-stands None [] slot new e = absurd (cc)
-stands None (byte ∷ bytes) slot new e = some_number slot new e
-
-if_stands : (slot new : SessionSlot DeviceState) → kept_if_open slot ≡ Some new → new.number ≡ slot.number
-if_stands slot new e = stands slot.session slot.replies slot new e
-
 on_keeps : (f : Session DeviceState → Session DeviceState) → KeepsNumber (on_session f)
 on_keeps f slot new e = some_number (record slot { session = option_map f slot.session }) new e
 
@@ -130,11 +114,6 @@ take_keeps count slot new e = if_stands (after_reply_bytes count slot) new e
 
 none_keeps : KeepsNumber no_more
 none_keeps slot new e = absurd (let clash : None ≡ Some new = e in cc)
-
-feed_keeps : (fed : Fed) (d : RequestContext) (rest text : List ℕ) → KeepsNumber (slot_or_none_after_feed fed d rest text)
-feed_keeps Standing d rest text slot new e = if_stands (slot_after_feed Standing d.session rest text slot) new e
-feed_keeps Over d rest text slot new e = if_stands (slot_after_feed Over d.session rest text slot) new e
-feed_keeps Starved d rest text slot new e = if_stands (slot_after_feed Starved d.session rest text slot) new e
 
 with_kept : (name : List ℕ) (source : SourceState) (slot : Place) → IsKept slot (slot_with_page name source slot)
 with_kept name source None = tt
@@ -178,16 +157,14 @@ limits_new d e = (ap (λ (l : List Place). length l) e, subst (λ (l : List Plac
 pub limits_opened : (d : Core) (port : ℕ) → HasDaemonLimits d → HasDaemonLimits (after_open_session d port)
 limits_opened d port h = (length_with d.slots (new_session_slot d.strings d.opened port) ∙ h.0, apart_with d.opened d.slots (new_session_slot d.strings d.opened port) refl h.1)
 
-kept_fed : (o : Option (Session DeviceState)) (users : List Entry) (n : ℕ) (input : List ℕ) (slots : List Place) (registry : Table) (stream : ChaCha) (piece : List ℕ) (fed : Fed) (news : List Place) (registry_new : Table) (stream_new : ChaCha)
-    → FeedsIf o users n input slots registry stream piece fed news registry_new stream_new → AreKept slots news
-kept_fed None users n input slots registry stream piece fed news registry_new stream_new f = subst (λ (l : List Place). AreKept slots l) (sym f.1) (kept_all slots)
-kept_fed (Some s) users n input slots registry stream piece fed news registry_new stream_new f =
-    subst (λ (l : List Place). AreKept slots l) (sym f.slots_is) (kept_on _ n slots (feed_keeps fed f.context f.rest f.text))
+kept_fed : (o : Option (Session DeviceState)) (n : ℕ) (old : Core) (piece : List ℕ) (fed : Fed) (new : Core) → session_of old n ≡ o → Feeds n old piece fed new → AreKept old.slots new.slots
+kept_fed None n old piece fed new at f = subst (λ (d : Core). AreKept old.slots d.slots) (sym (f.idle at).1) (kept_all old.slots)
+kept_fed (Some s) n old piece fed new at f =
+    let g = feeds_in n old piece fed new s at f in
+    subst (λ (l : List Place). AreKept old.slots l) (sym g.slots_is) (kept_on _ n old.slots (feed_keeps fed g.context g.rest g.text))
 
 pub limits_fed : (n : ℕ) (old : Core) (piece : List ℕ) (fed : Fed) (new : Core) → Feeds n old piece fed new → HasDaemonLimits old → HasDaemonLimits new
-limits_fed n old piece fed new f h =
-    limits_kept old new (ap (λ (d : Core). d.opened) f.others)
-    (kept_fed (session_in (session_slot_of old.slots n)) old.users n (input_in (session_slot_of old.slots n)) old.slots old.registry old.stream piece fed new.slots new.registry new.stream f.session) h
+limits_fed n old piece fed new f h = limits_kept old new (ap (λ (d : Core). d.opened) f.others.rest) (kept_fed (session_of old n) n old piece fed new refl f) h
 
 kept_turned : (o : Option (Session DeviceState)) (n : ℕ) (slots : List Place) (step : DataStep) (news : List Place) (buf : List ℕ) → TurnsSessions o n slots step news buf → AreKept slots news
 kept_turned None n slots step news buf t = subst (λ (l : List Place). AreKept slots l) (sym t.1) (kept_all slots)

@@ -3,7 +3,9 @@ pub mod SlotNumbers
 pub mod ContextFeeds
 pub mod Progress
 pub mod Apart
+pub mod FeedCases
 pub mod FedPieces
+pub mod PlaceFeeding
 pub mod Saying
 pub mod TakenSlots
 pub mod Firsts

@@ -31,13 +31,13 @@ map-more [] q = refl
 map-more (p ∷ qs) q = ap (λ (x : List TakenMessage). TakenRequest p ∷ x) (map-more qs q)
 
 -- before the first request
-pub progress_none : (users : List Entry) (d : RequestContext) (old piece : List ℕ) → AnsweredSoFar users d old piece (old ++ piece) d []
+pub progress_none : (users : List Entry) (d : RequestContext) (old piece : List ℕ) → AnsweredSoFar (record { users = users; context = d; before = old; piece = piece }) (record { context = d; rest = old ++ piece; text = [] })
 progress_none users d old piece = record { requests = []; told = []; reads = record { text = []; whole = refl; spelled = refl }; answers = (refl, refl); says = refl }
 
 -- one request more
 pub progress_more : (users : List Entry) (d mid new : RequestContext) (old piece rest left text more : List ℕ) (q : Request) (said : RequestAnswer)
-    → AnsweredSoFar users d old piece rest mid text → SpellsFront (limited_format message_limit request_format) rest left q → Answers users mid q said new → session_goes_on said ≡ true → SaysAll (replies_to said) more
-    → AnsweredSoFar users d old piece left new (text ++ more)
+    → AnsweredSoFar (record { users = users; context = d; before = old; piece = piece }) (record { context = mid; rest = rest; text = text }) → SpellsFront (limited_format message_limit request_format) rest left q → Answers users mid q said new → session_goes_on said ≡ true → SaysAll (replies_to said) more
+    → AnsweredSoFar (record { users = users; context = d; before = old; piece = piece }) (record { context = new; rest = left; text = text ++ more })
 progress_more users d mid new old piece rest left text more q said p t a g s = record {
   requests = p.requests ++ q ∷ [];
   told = p.told ++ replies_to said;

@@ -5,7 +5,8 @@ use Rattle.wire_message.specs.declared.message.Reply.{Reply}
 use Rattle.saned_requests.specs.declared.request_answer.RequestAnswer.TheVariants.{One, Two, Last}
 use Rattle.saned_core.specs.declared.session_slot.Fed.{Fed as What}
 use Rattle.saned_core.specs.declared.session_slot.Fed.TheVariants.{Standing, Over, Starved}
-use Rattle.saned_core.specs.Feeding.{IsSaid, IsUnsaid, SaidAs}
+use Rattle.saned_core.specs.Feeding.{IsUnsaid}
+use Rattle.saned_core.specs.Inside.{IsSaid, SaidAs}
 use Rattle.saned_core.specs.Feeding.EndsWith.{Done, Cut}
 
 abbrev pub Unsaid : Reply → List ℕ → List ℕ → Type 0

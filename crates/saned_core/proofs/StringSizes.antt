@@ -9,7 +9,6 @@ use Rattle.dispatch.specs.declared.table.place.Lease.{Lease}
 use Rattle.dispatch.specs.Table.{Table}
 use Rattle.wire_message.specs.declared.message.Request.{Request}
 use Rattle.wire_message.specs.declared.message.Reply.{Reply}
-use Rattle.saned_requests.specs.declared.request_answer.RequestAnswer.{RequestAnswer}
 use Rattle.saned_requests.specs.declared.session.DataPhase.{DataPhase}
 use Rattle.saned_requests.specs.declared.session.DataPhase.TheVariants as phases
 use Rattle.saned_requests.specs.declared.session.Session.{Session}
@@ -21,11 +20,13 @@ use Rattle.saned_core.specs.declared.session_slot.SessionSlot.{SessionSlot}
 use Rattle.saned_core.specs.declared.session_slot.Fed.{Fed}
 use Rattle.saned_core.specs.declared.session_slot.Fed.TheVariants.{Standing, Over, Starved}
 use Rattle.saned_core.specs.declared.session_slot.DataStep.{DataStep}
-use Rattle.saned_core.specs.DaemonStates.{Core, is_slot_number, session_slot_of, session_in, on_session_slot, on_session, with_session, with_session_slot, slot_if_open, after_taken, after_reply_bytes, no_more, new_session_slot, after_connected, after_lost, lost_from, after_open_session, after_end_session}
-use Rattle.saned_core.specs.Feeding.{Feeds, FeedsIf, FeedsContext, FeedEndsSession, AnswersAll, AnsweredSoFar, OutOfMemoryNext, slot_or_none_after_feed, slot_after_feed, input_in}
+use Rattle.saned_core.specs.DaemonStates.{Core, is_slot_number, session_slot_of, session_in, session_of, on_session_slot, on_session, with_session, with_session_slot, slot_if_open, after_taken, after_reply_bytes, no_more, new_session_slot, after_connected, after_lost, lost_from, after_open_session, after_end_session}
+use Rattle.saned_core.specs.Feeding.{Feeds, FeedEndsSession, AnswersAll, AnsweredSoFar, OutOfMemoryNext, core_context, input_of}
+use Rattle.saned_core.specs.Inside.{FeedsContext, slot_or_none_after_feed, slot_after_feed}
 use Rattle.saned_core.specs.Feeding.FeedEndsSession.{Garbled, Ended}
-use Rattle.saned_core.specs.Turns.{Turns, TurnsSessions, TurnsStream, StreamsIn, StreamsFrom}
+use Rattle.saned_core.specs.Turns.{Turns, TurnsSessions, StreamsIn, StreamsFrom}
 use Rattle.saned_core.specs.Loading.{holds, on_first, slot_with_page, session_with, core_after_load}
+use Rattle.saned_core.proofs.FeedCases.{feeds_in}
 use Rattle.saned_core.specs.StringSizes.{SendsStrings, SlotSendsStrings, SlotsSendStrings, HasOneStringSize}
 
 abbrev Place : Type 0
@@ -37,7 +38,7 @@ all_same : (users : List Entry) (d : RequestContext) (qs : List Request) (told :
 all_same users d [] told new g = is_same d d new g.1 refl
 all_same users d (q ∷ qs) told new g = all_same users g.1 qs g.2 new g.5 ∙ answers_same users d g.1 q g.0 g.3
 
-far_same : (users : List Entry) (d : RequestContext) (old piece rest : List ℕ) (mid : RequestContext) (text : List ℕ) → AnsweredSoFar users d old piece rest mid text → Same d mid
+far_same : (users : List Entry) (d : RequestContext) (old piece rest : List ℕ) (mid : RequestContext) (text : List ℕ) → AnsweredSoFar (record { users = users; context = d; before = old; piece = piece }) (record { context = mid; rest = rest; text = text }) → Same d mid
 far_same users d old piece rest mid text g = all_same users d g.requests g.told mid g.answers
 
 ends_same : (users : List Entry) (d : RequestContext) (rest : List ℕ) (told : List Reply) (new : RequestContext) → FeedEndsSession users d rest told new → Same d new
@@ -48,7 +49,7 @@ next_same : (users : List Entry) (d mid : RequestContext) (rest : List ℕ) (new
 next_same users d mid rest new (inl n) s = is_same d mid new n s
 next_same users d mid rest new (inr g) s = memory_same users mid new g.request g.out_of_memory ∙ s
 
-feeds_same : (fed : Fed) (users : List Entry) (d : RequestContext) (old piece rest : List ℕ) (new : RequestContext) (text : List ℕ) → FeedsContext fed users d old piece rest new text → Same d new
+feeds_same : (fed : Fed) (users : List Entry) (d : RequestContext) (old piece rest : List ℕ) (new : RequestContext) (text : List ℕ) → FeedsContext fed (record { users = users; context = d; before = old; piece = piece }) (record { context = new; rest = rest; text = text }) → Same d new
 feeds_same Standing users d old piece rest new text g = far_same users d old piece rest new text g.so_far
 feeds_same Over users d old piece rest new text g = ends_same users g.mid g.rest g.last new g.closes ∙ far_same users d old piece g.rest g.mid g.front g.so_far
 feeds_same Starved users d old piece rest new text g = next_same users d g.mid g.rest new g.out_of_memory (far_same users d old piece g.rest g.mid g.text g.so_far)
@@ -148,19 +149,19 @@ sizes_new d e = subst (λ (l : List Place). SlotsSendStrings d.strings l) (sym e
 pub sizes_opened : (d : Core) (port : ℕ) → HasOneStringSize d → HasOneStringSize (after_open_session d port)
 sizes_opened d port h = with_left d.strings d.slots (new_session_slot d.strings d.opened port) refl h
 
-fed_by : (o : Option (Session DeviceState)) (old new : Core) (n : ℕ) (piece : List ℕ) (fed : Fed) → session_in (session_slot_of old.slots n) ≡ o → FeedsIf o old.users n (input_in (session_slot_of old.slots n)) old.slots old.registry old.stream piece fed new.slots new.registry new.stream
-    → HasOneStringSize old → SlotsSendStrings old.strings new.slots
-fed_by None old new n piece fed e f h = subst (λ (l : List Place). SlotsSendStrings old.strings l) (sym f.1) h
-fed_by (Some s) old new n piece fed e f h =
-    let same = feeds_same fed old.users (record { session = s; registry = old.registry; stream = old.stream }) (input_in (session_slot_of old.slots n)) piece f.rest f.context f.text f.feeds in
+fed_by : (o : Option (Session DeviceState)) (n : ℕ) (old : Core) (piece : List ℕ) (fed : Fed) (new : Core) → session_of old n ≡ o → Feeds n old piece fed new → HasOneStringSize old → SlotsSendStrings old.strings new.slots
+fed_by None n old piece fed new e f h = subst (λ (d : Core). SlotsSendStrings old.strings d.slots) (sym (f.idle e).1) h
+fed_by (Some s) n old piece fed new e f h =
+    let g = feeds_in n old piece fed new s e f in
+    let same = feeds_same fed old.users (core_context old s) (input_of old n) piece g.rest g.context g.text g.feeds in
     let own : s.strings ≡ old.strings = found_session old.strings n old.slots (Some s) e h in
-    subst (λ (l : List Place). SlotsSendStrings old.strings l) (sym f.slots_is) (on_left old.strings (slot_or_none_after_feed fed f.context f.rest f.text) n old.slots (fed_left old.strings fed f.context f.rest f.text (same ∙ own)) h)
+    subst (λ (l : List Place). SlotsSendStrings old.strings l) (sym g.slots_is) (on_left old.strings (slot_or_none_after_feed fed g.context g.rest g.text) n old.slots (fed_left old.strings fed g.context g.rest g.text (same ∙ own)) h)
 
 daemon_same : (old new : Core) → new.strings ≡ old.strings → SlotsSendStrings old.strings new.slots → HasOneStringSize new
 daemon_same old new e h = subst (λ (x : StringSize). SlotsSendStrings x new.slots) (sym e) h
 
 pub sizes_fed : (n : ℕ) (old : Core) (piece : List ℕ) (fed : Fed) (new : Core) → Feeds n old piece fed new → HasOneStringSize old → HasOneStringSize new
-sizes_fed n old piece fed new f h = daemon_same old new (ap (λ (d : Core). d.strings) f.others) (fed_by (session_in (session_slot_of old.slots n)) old new n piece fed refl f.session h)
+sizes_fed n old piece fed new f h = daemon_same old new (ap (λ (d : Core). d.strings) f.others.rest) (fed_by (session_of old n) n old piece fed new refl f h)
 
 turned_by : (o : Option (Session DeviceState)) (strings : StringSize) (n : ℕ) (slots news : List Place) (step : DataStep) (buf : List ℕ) → SendsStrings strings o → TurnsSessions o n slots step news buf → SlotsSendStrings strings slots → SlotsSendStrings strings news
 turned_by None strings n slots news step buf own t h = subst (λ (l : List Place). SlotsSendStrings strings l) (sym t.1) h

@@ -1,77 +1,52 @@
 -- What a piece does to one of many slots.
-use Rattle.std.proofs.Common.{◌≡◌, ◌<◌, ◌∙◌, ℕ, zero, suc, arith, length, List, [], ◌∷◌, Option, Some, None, true, false, refl, ap, subst, sym}
+use Rattle.std.proofs.Common.{◌≡◌, ◌∙◌, ℕ, List, Option, Some, None, refl, ap, subst, sym}
 use Rattle.std.specs.Prelude.{slice_index_or, slice_set}
 use Rattle.std.specs.Option.{option_map, option_and_then}
 use Rattle.rand_chacha.specs.ChaCha.{ChaCha}
 use Rattle.md5_auth.specs.declared.users.Entry.{Entry}
 use Rattle.device_api.specs.State.{DeviceState}
-use Rattle.dispatch.specs.Table.{Table}
+use Rattle.dispatch.specs.declared.table.place.Place.{Place}
+use Rattle.dispatch.specs.Table.{table}
 use Rattle.saned_requests.specs.Holding.{seen_session}
 use Rattle.saned_requests.specs.declared.session.Session.{Session}
 use Rattle.saned_core.specs.declared.session_slot.Fed.{Fed}
 use Rattle.saned_core.specs.declared.session_slot.Fed.TheVariants.{Over}
 use Rattle.saned_core.specs.declared.session_slot.SessionSlot.{SessionSlot}
-use Rattle.saned_core.specs.DaemonStates.{IsFirstSlot, is_session, kept_if_open, seen_session_slot, seen_session_slots, session_in}
-use Rattle.saned_core.specs.Feeding.{FeedsAmong, FeedsIf, FeedsOne, FeedsPlace, input_in, slot_or_none_after_feed}
-use Rattle.saned_core.proofs.SlotNumbers.{first_seat, on_first_seat, standing-seen}
+use Rattle.saned_core.specs.DaemonStates.{IsFirstSlot, kept_if_open, seen_session_slot, seen_session_slots, session_in}
+use Rattle.saned_core.specs.Feeding.{input_in}
+use Rattle.saned_core.specs.Inside.{FeedsAmong, FeedsIf, FeedsPlace, place_state, slot_after_feed, slot_or_none_after_feed}
+use Rattle.saned_core.proofs.SlotNumbers.{first_seat, on_first_seat, same_seat, standing-seen}
 
--- the session of a slot that goes on
-fed_one : {D : Type 0} (f : D → DeviceState) (users : List Entry) (n : ℕ) (slots : List (Option (SessionSlot D))) (k : ℕ) (here : Option (SessionSlot D)) (slot : SessionSlot DeviceState) (new : Option (SessionSlot D)) (registry : Table) (stream : ChaCha) (piece : List ℕ) (fed : Fed) (after : SessionSlot DeviceState) (registry_new : Table) (stream_new : ChaCha) (o : Option (Session DeviceState))
-    → IsFirstSlot n slots k → here ≡ slice_index_or slots k here → option_map (seen_session_slot f) here ≡ Some slot → is_session o ≡ true → option_map (seen_session_slot f) new ≡ Some after → FeedsOne o users slot registry stream piece fed after registry_new stream_new
-    → FeedsIf o users n slot.input.rest (seen_session_slots f slots) registry stream piece fed (seen_session_slots f (slice_set slots k (option_and_then kept_if_open new))) registry_new stream_new
-fed_one f users n slots k here slot new registry stream piece fed after registry_new stream_new None i e own goes new_is t = absurd (cc)
-fed_one f users n slots k here slot new registry stream piece fed after registry_new stream_new (Some s) i e own goes new_is t = record {
-  context = t.context;
-  rest = t.rest;
-  text = t.text;
-  feeds = t.feeds;
-  slots_is =
-      let g = slot_or_none_after_feed fed t.context t.rest t.text in
-      on_first_seat f n slots k here (option_and_then kept_if_open new) g i e
-      (standing-seen f new ∙ ap (option_and_then kept_if_open) new_is ∙ ap kept_if_open t.new_is ∙ ap (option_and_then g) (sym own));
-  registry_is = t.registry_is;
-  stream_is = t.stream_is;
-}
+kept_after : (g : SessionSlot DeviceState → SessionSlot DeviceState) (o : Option (SessionSlot DeviceState)) → option_and_then kept_if_open (option_map g o) ≡ option_and_then (λ (slot : SessionSlot DeviceState). kept_if_open (g slot)) o
+kept_after g None = refl
+kept_after g (Some slot) = refl
 
--- at the place where it stands
-fed_here : {D : Type 0} (f : D → DeviceState) (users : List Entry) (n : ℕ) (slots : List (Option (SessionSlot D))) (k : ℕ) (here new : Option (SessionSlot D)) (registry : Table) (stream : ChaCha) (piece : List ℕ) (fed : Fed) (registry_new : Table) (stream_new : ChaCha) (there : Option (SessionSlot DeviceState))
-    → IsFirstSlot n slots k → here ≡ slice_index_or slots k here → option_map (seen_session_slot f) here ≡ there → is_session (session_in there) ≡ true → FeedsPlace users there registry stream piece fed (option_map (seen_session_slot f) new) registry_new stream_new
-    → FeedsIf (session_in there) users n (input_in there) (seen_session_slots f slots) registry stream piece fed (seen_session_slots f (slice_set slots k (option_and_then kept_if_open new))) registry_new stream_new
-fed_here f users n slots k here new registry stream piece fed registry_new stream_new None i e own goes t = absurd (cc)
-fed_here f users n slots k here new registry stream piece fed registry_new stream_new (Some slot) i e own goes t =
-    fed_one f users n slots k here slot new registry stream piece fed t.0 registry_new stream_new slot.session i e own goes t.1 t.2
-
--- the session of a slot goes on, however its devices are seen
-going_on : {D S : Type 0} (f : D → S) (o : Option (Session D)) → is_session (option_map (seen_session f) o) ≡ is_session o
-going_on f None = refl
-going_on f (Some s) = refl
-
-pub going-seen : {D S : Type 0} (f : D → S) (slot : Option (SessionSlot D)) → is_session (session_in (option_map (seen_session_slot f) slot)) ≡ is_session (session_in slot)
-going-seen f None = refl
-going-seen f (Some slot) = going_on f slot.session
-
--- a place that is read twice
-pub read_twice : {A : Type 0} (xs : List A) (k : ℕ) (a b : A) → k < length xs → a ≡ slice_index_or xs k a → b ≡ slice_index_or xs k b → a ≡ b
-read_twice [] k a b i e h = absurd (omega arith)
-read_twice (x ∷ xs) zero a b i e h = e ∙ sym h
-read_twice (x ∷ xs) (suc k) a b i e h = read_twice xs k a b (omega arith) e h
-
-pub fed_among : {D : Type 0} (f : D → DeviceState) (users : List Entry) (n : ℕ) (slots : List (Option (SessionSlot D))) (k : ℕ) (here new : Option (SessionSlot D)) (registry : Table) (stream : ChaCha) (piece : List ℕ) (fed : Fed) (registry_new : Table) (stream_new : ChaCha)
-    → IsFirstSlot n slots k → here ≡ slice_index_or slots k here → is_session (session_in here) ≡ true → FeedsPlace users (option_map (seen_session_slot f) here) registry stream piece fed (option_map (seen_session_slot f) new) registry_new stream_new
-    → FeedsAmong users n (seen_session_slots f slots) registry stream piece fed (seen_session_slots f (slice_set slots k (option_and_then kept_if_open new))) registry_new stream_new
-fed_among f users n slots k here new registry stream piece fed registry_new stream_new i e goes t =
-    subst (λ (x : Option (SessionSlot DeviceState)). FeedsIf (session_in x) users n (input_in x) (seen_session_slots f slots) registry stream piece fed (seen_session_slots f (slice_set slots k (option_and_then kept_if_open new))) registry_new stream_new)
+-- the session of the first place of a number
+pub fed_among : {D : Type 0} (f : D → DeviceState) (users : List Entry) (n : ℕ) (slots : List (Option (SessionSlot D))) (k : ℕ) (here new : Option (SessionSlot D)) (registry registry_new : List (Place D)) (stream stream_new : ChaCha) (piece : List ℕ) (fed : Fed)
+    → IsFirstSlot n slots k → here ≡ slice_index_or slots k here → FeedsPlace users (place_state f here registry stream) piece fed (place_state f new registry_new stream_new)
+    → FeedsAmong n (record { users = users; slots = seen_session_slots f slots; registry = table f registry; stream = stream }) piece fed (record { users = users; slots = seen_session_slots f (slice_set slots k (option_and_then kept_if_open new)); registry = table f registry_new; stream = stream_new })
+fed_among f users n slots k here new registry registry_new stream stream_new piece fed i e t =
+    let there = option_map (seen_session_slot f) here in
+    let after = slot_after_feed fed t.context.session t.rest t.text in
+    let own : option_map (seen_session_slot f) (option_and_then kept_if_open new) ≡ option_and_then (slot_or_none_after_feed fed t.context t.rest t.text) there =
+    standing-seen f new ∙ ap (option_and_then kept_if_open) t.slot ∙ kept_after after there in
+    subst (λ (x : Option (SessionSlot DeviceState)). FeedsIf (session_in x) users n (input_in x) (seen_session_slots f slots) (table f registry) stream piece fed (seen_session_slots f (slice_set slots k (option_and_then kept_if_open new))) (table f registry_new) stream_new)
     (sym (first_seat f n slots k here i e))
-    (fed_here f users n slots k here new registry stream piece fed registry_new stream_new (option_map (seen_session_slot f) here) i e refl (going-seen f here ∙ goes) t)
+    (subst (λ (o : Option (Session DeviceState)). FeedsIf o users n (input_in there) (seen_session_slots f slots) (table f registry) stream piece fed (seen_session_slots f (slice_set slots k (option_and_then kept_if_open new))) (table f registry_new) stream_new)
+    (sym t.stood)
+    (record { context = t.context; rest = t.rest; text = t.text; feeds = t.feeds; slots_is = on_first_seat f n slots k here (option_and_then kept_if_open new) (slot_or_none_after_feed fed t.context t.rest t.text) i e own; registry_is = t.registry; stream_is = t.stream }))
 
--- one that is over
-over_if : (users : List Entry) (n : ℕ) (input : List ℕ) (slots : List (Option (SessionSlot DeviceState))) (registry : Table) (stream : ChaCha) (piece : List ℕ) (o : Option (Session DeviceState)) → is_session o ≡ false → FeedsIf o users n input slots registry stream piece Over slots registry stream
-over_if users n input slots registry stream piece None e = (refl, refl, refl, refl)
-over_if users n input slots registry stream piece (Some s) e = absurd (cc)
+-- one that is over is as it was
+over_seen : {D : Type 0} (f : D → DeviceState) (place : Option (SessionSlot D)) → session_in place ≡ None → session_in (option_map (seen_session_slot f) place) ≡ None
+over_seen f None e = refl
+over_seen f (Some slot) e = ap (option_map (seen_session f)) e
 
-pub over_among : {D : Type 0} (f : D → DeviceState) (users : List Entry) (n : ℕ) (slots : List (Option (SessionSlot D))) (k : ℕ) (here : Option (SessionSlot D)) (registry : Table) (stream : ChaCha) (piece : List ℕ)
-    → IsFirstSlot n slots k → here ≡ slice_index_or slots k here → is_session (session_in here) ≡ false → FeedsAmong users n (seen_session_slots f slots) registry stream piece Over (seen_session_slots f slots) registry stream
-over_among f users n slots k here registry stream piece i e over =
-    subst (λ (x : Option (SessionSlot DeviceState)). FeedsIf (session_in x) users n (input_in x) (seen_session_slots f slots) registry stream piece Over (seen_session_slots f slots) registry stream)
+pub over_among : {D : Type 0} (f : D → DeviceState) (users : List Entry) (n : ℕ) (slots : List (Option (SessionSlot D))) (k : ℕ) (here new : Option (SessionSlot D)) (registry registry_new : List (Place D)) (stream stream_new : ChaCha) (piece : List ℕ)
+    → IsFirstSlot n slots k → here ≡ slice_index_or slots k here → session_in here ≡ None → new ≡ here → registry_new ≡ registry → stream_new ≡ stream
+    → FeedsAmong n (record { users = users; slots = seen_session_slots f slots; registry = table f registry; stream = stream }) piece Over (record { users = users; slots = seen_session_slots f (slice_set slots k new); registry = table f registry_new; stream = stream_new })
+over_among f users n slots k here new registry registry_new stream stream_new piece i e over same tables streams =
+    subst (λ (x : Option (SessionSlot DeviceState)). FeedsIf (session_in x) users n (input_in x) (seen_session_slots f slots) (table f registry) stream piece Over (seen_session_slots f (slice_set slots k new)) (table f registry_new) stream_new)
     (sym (first_seat f n slots k here i e))
-    (over_if users n (input_in (option_map (seen_session_slot f) here)) (seen_session_slots f slots) registry stream piece (session_in (option_map (seen_session_slot f) here)) (going-seen f here ∙ over))
+    (subst (λ (o : Option (Session DeviceState)). FeedsIf o users n (input_in (option_map (seen_session_slot f) here)) (seen_session_slots f slots) (table f registry) stream piece Over (seen_session_slots f (slice_set slots k new)) (table f registry_new) stream_new)
+    (sym (over_seen f here over))
+    (refl, same_seat f slots k here new e (ap (option_map (seen_session_slot f)) same), ap (table f) tables, streams))

@@ -65,11 +65,6 @@ abbrev pub session_in : {S : Type 0} → Option (SessionSlot S) → Option (Sess
 session_in None = None
 session_in (Some slot) = slot.session
 
--- whether the session of a place goes on
-abbrev pub is_session : {S : Type 0} → Option (Session S) → Bool
-is_session None = false
-is_session (Some session) = true
-
 abbrev pub session_of : {S : Type 0} → DaemonState S → ℕ → Option (Session S)
 session_of d n = session_in (session_slot_of d.slots n)
 

@@ -5,7 +5,7 @@ ghost use Rattle.page_picture.specs.Source.{SourceState};
 ghost use Rattle.dispatch.specs.Table.{without_return, table, seen_unplug, unplug_answer, after_unplug};
 ghost use Rattle.saned_requests.specs.Holding.{seen_session};
 ghost use Rattle.saned_core.specs.DaemonStates.{after_open_session, is_closed, replies_of, after_taken, after_end_session, core, is_slot_number, session_slot_of, session_of, on_session_slot, on_session, kept_if_open, frame_in, is_waiting, after_connected, after_lost, seen_session_slot, session_in};
-ghost use Rattle.saned_core.specs.Feeding.{Feeds};
+ghost use Rattle.saned_core.specs.Feeding.{HasNoSession, AnswersWhole, EndsWithin, FailsOutOfMemory, KeepsOtherSessions};
 ghost use Rattle.saned_core.specs.Loading.{daemon_load_answer, core_after_load};
 ghost use Rattle.saned_core.specs.Turns.{Turns};
 
@@ -172,7 +172,16 @@ impl<D: Device> Daemon<D> {
     /// over. Its replies can still be taken, but not where it ran out of memory.
     pub fn feed(&mut self, alloc: Global, id: SessionId, piece: &[u8]) -> Fed
         requires { length piece.now ≤ 4096 }
-        ensures { Feeds id.number (core D.state self.old) piece.now result (core D.state self.new) }
+        ensures idle { HasNoSession (core D.state self.old) id.number
+            → (result ≡ Fed.Over) × (core D.state self.new ≡ core D.state self.old) }
+        ensures standing { result ≡ Fed.Standing
+            → AnswersWhole id.number (core D.state self.old) piece.now (core D.state self.new) }
+        ensures over { result ≡ Fed.Over → HasNoSession (core D.state self.old) id.number
+            ⊎ EndsWithin id.number (core D.state self.old) piece.now (core D.state self.new) }
+        ensures out_of_memory { result ≡ Fed.Starved
+            → FailsOutOfMemory id.number (core D.state self.old) piece.now (core D.state self.new) }
+        ensures others { KeepsOtherSessions
+            id.number (core D.state self.old) (core D.state self.new) }
     {
         feed_at(
             alloc,

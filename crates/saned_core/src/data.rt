@@ -3,10 +3,9 @@
 ghost use Rattle.std.specs.Prelude.{◌≡◌, ◌<◌, ◌≤◌, IfOk, IfSome, option_map, take, length};
 ghost use Rattle.sane_fixed.specs.Status.{status_code};
 ghost use Rattle.data_records.specs.Records.{end_record};
-ghost use Rattle.dispatch.specs.Table.{seen_lease};
 ghost use Rattle.saned_requests.specs.Holding.{cancelled_lease, seen_held, seen_session, with_cancelled, held_by};
 ghost use Rattle.saned_core.specs.DaemonStates.{after_connected, after_lost, frame_state_of, data_phase_connected};
-ghost use Rattle.saned_core.specs.Turns.{ReadsLease, ReadsWord, TurnsStream, WritesEndRecord};
+ghost use Rattle.saned_core.specs.Turns.{ReadsWord, TurnsStream, WritesEndRecord};
 
 use crate::session_slot::{DataStep, FrameState};
 use device_api::Device;
@@ -40,22 +39,6 @@ pub fn data_phase_connected(transfer: DataPhase) -> DataPhase
     }
 }
 
-/// One read of a device, where there is one.
-fn read_lease<D: Device>(
-    word: &mut Option<Lease<D>>,
-    window: &mut [u8],
-) -> Option<Result<usize, Status>>
-    requires { 0 < length window.old }
-    ensures reads { ReadsLease (option_map (seen_lease D.state) word.old) result
-        (option_map (seen_lease D.state) word.new) window.new }
-    ensures room { IfSome result (λ answer. IfOk answer (λ n. n ≤ length window.new)) }
-{
-    match word {
-        Some(lease) => Some(lease.device.read(window)),
-        None => None,
-    }
-}
-
 /// One read of the device that a word stands for.
 fn read_word<D: Device>(
     held: &mut [Option<Lease<D>>],
@@ -67,10 +50,12 @@ fn read_word<D: Device>(
         (seen_held D.state held.new) window.new }
     ensures room { IfSome result (λ answer. IfOk answer (λ n. n ≤ length window.new)) }
 {
-    if word < held.len() {
-        read_lease(&mut held[word], window)
-    } else {
-        None
+    if word >= held.len() {
+        return None;
+    }
+    match &mut held[word] {
+        Some(lease) => Some(lease.device.read(window)),
+        None => None,
     }
 }
 

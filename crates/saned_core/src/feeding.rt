@@ -1,11 +1,12 @@
 //! Bytes in pieces to the requests of a session, and its replies to bytes.
 
-ghost use Rattle.std.specs.Prelude.{◌≡◌, None, option_map};
+ghost use Rattle.std.specs.Prelude.{◌≡◌, None, IfNone, IfSome, option_map};
 ghost use Rattle.dispatch.specs.Table.{table};
 ghost use Rattle.saned_requests.specs.Holding.{seen_session};
 ghost use Rattle.saned_requests.specs.RequestAnswers.{request_context};
-ghost use Rattle.saned_core.specs.DaemonStates.{seen_session_slot, session_let_go};
-ghost use Rattle.saned_core.specs.Feeding.{FeedsOne, FeedsReplies, no_input, IsSaid, IsUnsaid, SaidAs};
+ghost use Rattle.saned_core.specs.DaemonStates.{session_in, session_let_go};
+ghost use Rattle.saned_core.specs.Feeding.{no_input, IsUnsaid};
+ghost use Rattle.saned_core.specs.Inside.{FeedsPlace, FeedsReplies, place_state, IsSaid, SaidAs};
 
 use crate::replies::Replies;
 use crate::session_slot::{Fed, SessionSlot};
@@ -65,9 +66,18 @@ fn feed_session<D: Device>(
     challenger: &mut Challenger,
     piece: &[u8],
 ) -> Fed
-    ensures desk { FeedsReplies result users.now (request_context D.state
-        session.old registry.old challenger.old) input.old.rest piece.now input.new.rest
-        (request_context D.state session.new registry.new challenger.new) replies.old replies.new }
+    ensures desk { FeedsReplies result
+        (record {
+          users = users.now;
+          context = request_context D.state session.old registry.old challenger.old;
+          before = input.old.rest;
+          piece = piece.now;
+        }) replies.old
+        (record {
+          context = request_context D.state session.new registry.new challenger.new;
+          rest = input.new.rest;
+          text = replies.new;
+        }) }
     ensures fault { result ≡ Fed.Standing → input.new.fault ≡ None }
 {
     match input.feed(piece) {
@@ -108,23 +118,30 @@ fn close<D: Device>(alloc: Global, slot: &mut SessionSlot<D>, registry: &mut Reg
     }
 }
 
-/// Feeds the session of a slot, if it goes on.
-pub fn feed_slot<D: Device>(
+/// Feeds the session of a place, if one goes on there.
+pub fn feed_place<D: Device>(
     alloc: Global,
-    slot: &mut SessionSlot<D>,
+    place: &mut Option<SessionSlot<D>>,
     registry: &mut Registry<D>,
     users: &Users,
     challenger: &mut Challenger,
     piece: &[u8],
-) -> Fed
-    ensures { FeedsOne (option_map (seen_session D.state) slot.old.session) users.now
-        (seen_session_slot D.state slot.old) (table D.state registry.old) challenger.old piece.now
-        result (seen_session_slot D.state slot.new) (table D.state registry.new) challenger.new }
+) -> Option<Fed>
+    ensures none { IfNone result (session_in place.old ≡ None) }
+    ensures place { IfNone result (place.new ≡ place.old) }
+    ensures registry { IfNone result (registry.new ≡ registry.old) }
+    ensures challenger { IfNone result (challenger.new ≡ challenger.old) }
+    ensures fed { IfSome result (λ fed. FeedsPlace users.now
+        (place_state D.state place.old registry.old challenger.old) piece.now fed
+        (place_state D.state place.new registry.new challenger.new)) }
 {
-    let Some(session) = &mut slot.session else {
-        return Fed::Over;
+    let Some(slot) = place else {
+        return None;
     };
-    match feed_session(
+    let Some(session) = &mut slot.session else {
+        return None;
+    };
+    let fed = feed_session(
         alloc,
         &mut slot.input,
         session,
@@ -133,16 +150,14 @@ pub fn feed_slot<D: Device>(
         users,
         challenger,
         piece,
-    ) {
-        Fed::Standing => Fed::Standing,
-        Fed::Over => {
-            close(alloc, slot, registry);
-            Fed::Over
-        }
+    );
+    match fed {
+        Fed::Standing => {}
+        Fed::Over => close(alloc, slot, registry),
         Fed::Starved => {
             close(alloc, slot, registry);
             slot.replies.clear();
-            Fed::Starved
         }
     }
+    Some(fed)
 }

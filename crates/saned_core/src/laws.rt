@@ -11,7 +11,7 @@ ghost use Rattle.saned_requests.specs.declared.request_answer.RequestAnswer.{Req
 ghost use Rattle.saned_core.specs.declared.session_slot.SessionSlot.{SessionSlot as ASeat};
 ghost use Rattle.saned_core.specs.DaemonStates.{Core, session_slot_of, on_session_slot, on_session, after_connected, after_lost, after_taken, after_open_session, after_end_session};
 ghost use Rattle.saned_requests.specs.RequestAnswers.{RequestContext, Answers};
-ghost use Rattle.saned_core.specs.Feeding.{AnsweredSoFar, SaysAll, session_goes_on, replies_to, Feeds};
+ghost use Rattle.saned_core.specs.Feeding.{FedPiece, FeedProgress, AnsweredSoFar, SaysAll, session_goes_on, replies_to, Feeds};
 ghost use Rattle.saned_core.specs.Turns.{Turns};
 ghost use Rattle.saned_core.specs.Loading.{core_after_load};
 ghost use Rattle.saned_core.specs.DaemonLimits.{HasDaemonLimits};
@@ -24,14 +24,20 @@ ghost use Rattle.dispatch.specs.Table.{after_unplug};
 /// A piece is answered request by request: before the first nothing is, and each one more is answered on the request context that
 /// those before it left.
 pub fn requests_are_answered_in_order()
-    ensures none { (users : List Entry) (d : RequestContext) (old piece : List ℕ)
-        → AnsweredSoFar users d old piece (old ++ piece) d [] }
-    ensures more { (users : List Entry) (d mid new : RequestContext)
-        (old piece rest left text more : List ℕ) (q : AnyRequest) (said : AnySaid)
-        → AnsweredSoFar users d old piece rest mid text
-        → SpellsFront (limited_format message_limit request_format) rest left q
-        → Answers users mid q said new → session_goes_on said ≡ true
-        → SaysAll (replies_to said) more → AnsweredSoFar users d old piece left new (text ++ more) }
+    ensures none { (fed : FedPiece) → AnsweredSoFar fed (record {
+      context = fed.context;
+      rest = fed.before ++ fed.piece;
+      text = [];
+    }) }
+    ensures more { (fed : FedPiece) (now : FeedProgress) (new : RequestContext)
+        (left more : List ℕ) (q : AnyRequest) (said : AnySaid) → AnsweredSoFar fed now
+        → SpellsFront (limited_format message_limit request_format) now.rest left q
+        → Answers fed.users now.context q said new → session_goes_on said ≡ true
+        → SaysAll (replies_to said) more → AnsweredSoFar fed (record {
+          context = new;
+          rest = left;
+          text = now.text ++ more;
+        }) }
 {}
 
 /// A request uses bytes: so many requests of a piece end.

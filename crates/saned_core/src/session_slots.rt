@@ -3,12 +3,12 @@
 ghost use Rattle.std.specs.Prelude.{not, ◌==◌, ◌⊎◌, ◌++◌, take, drop, None, ◌<◌, slice_index_or, slice_set, ◌≡◌, ◌≤◌, length, option_map, option_and_then, IfSome, IfNone, position};
 ghost use Rattle.dispatch.specs.Table.{table};
 ghost use Rattle.saned_requests.specs.Holding.{seen_session};
-ghost use Rattle.saned_core.specs.DaemonStates.{is_session, is_vacant, all_slots_taken, with_session_slot, new_session_slot, after_reply_bytes, after_taken, no_more, replies_in, session_let_go, kept_if_open, IsFirstSlot, IsMissing, is_slot_number, session_slot_of, on_session_slot, on_session, frame_in, frame_state_of, is_waiting, after_connected, after_lost, seen_session_slot, seen_session_slots, session_in};
-ghost use Rattle.saned_core.specs.Feeding.{FeedsAmong, FeedsPlace};
-ghost use Rattle.saned_core.specs.Turns.{TurnsSlot, TurnsSlots};
+ghost use Rattle.saned_core.specs.DaemonStates.{is_vacant, all_slots_taken, with_session_slot, new_session_slot, after_reply_bytes, after_taken, no_more, replies_in, session_let_go, kept_if_open, IsFirstSlot, IsMissing, is_slot_number, session_slot_of, on_session_slot, on_session, frame_in, frame_state_of, is_waiting, after_connected, after_lost, seen_session_slot, seen_session_slots, session_in};
+ghost use Rattle.saned_core.specs.Inside.{FeedsAmong};
+ghost use Rattle.saned_core.specs.Turns.{TurnsSlots};
 
 use crate::data::{data_phase_connected, lose, state_of, turn};
-use crate::feeding::feed_slot;
+use crate::feeding::feed_place;
 use crate::replies::Replies;
 use crate::session_giving_back::give_back_slot;
 use crate::session_slot::{DataStep, Fed, FrameState, SessionSlot};
@@ -156,20 +156,6 @@ pub fn lose_at<D: Device>(slots: &mut [Option<SessionSlot<D>>], number: u64)
     }
 }
 
-/// One turn of the data connection of a slot.
-fn turn_slot<D: Device>(slot: &mut Option<SessionSlot<D>>, buf: &mut [u8]) -> DataStep
-    requires { 8 ≤ length buf.old }
-    ensures { TurnsSlot (option_map (seen_session_slot D.state) slot.old) result
-        (option_map (seen_session_slot D.state) slot.new) buf.new }
-{
-    if let Some(slot) = slot {
-        if let Some(session) = &mut slot.session {
-            return turn(session, buf);
-        }
-    }
-    DataStep::Idle
-}
-
 /// One turn of the data connection of the session of that number.
 pub fn turn_at<D: Device>(
     slots: &mut [Option<SessionSlot<D>>],
@@ -180,8 +166,14 @@ pub fn turn_at<D: Device>(
     ensures { TurnsSlots number (seen_session_slots D.state slots.old) result
         (seen_session_slots D.state slots.new) buf.new }
 {
-    match find(slots, number) {
-        Some(k) => turn_slot(&mut slots[k], buf),
+    let Some(k) = find(slots, number) else {
+        return DataStep::Idle;
+    };
+    match &mut slots[k] {
+        Some(slot) => match &mut slot.session {
+            Some(session) => turn(session, buf),
+            None => DataStep::Idle,
+        },
         None => DataStep::Idle,
     }
 }
@@ -385,34 +377,6 @@ fn new_slot<D: Device>(alloc: Global, strings: StringSize, number: u64, port: u1
     }
 }
 
-/// Whether the session of a place goes on.
-fn is_session<D>(slot: &Option<SessionSlot<D>>) -> bool
-    ensures { result ≡ is_session (session_in slot.now) }
-{
-    match slot {
-        Some(slot) => slot.session.is_some(),
-        None => false,
-    }
-}
-
-fn feed_place<D: Device>(
-    alloc: Global,
-    slot: &mut Option<SessionSlot<D>>,
-    registry: &mut Registry<D>,
-    users: &Users,
-    challenger: &mut Challenger,
-    piece: &[u8],
-) -> Fed
-    ensures { FeedsPlace users.now (option_map (seen_session_slot D.state) slot.old)
-        (table D.state registry.old) challenger.old piece.now result (option_map
-        (seen_session_slot D.state) slot.new) (table D.state registry.new) challenger.new }
-{
-    match slot {
-        Some(slot) => feed_slot(alloc, slot, registry, users, challenger, piece),
-        None => Fed::Over,
-    }
-}
-
 /// Feeds the session of that number.
 pub fn feed_at<D: Device>(
     alloc: Global,
@@ -423,17 +387,28 @@ pub fn feed_at<D: Device>(
     number: u64,
     piece: &[u8],
 ) -> Fed
-    ensures { FeedsAmong users.now number (seen_session_slots D.state slots.old)
-        (table D.state registry.old) challenger.old piece.now result
-        (seen_session_slots D.state slots.new) (table D.state registry.new) challenger.new }
+    ensures { FeedsAmong number
+        (record {
+          users = users.now;
+          slots = seen_session_slots D.state slots.old;
+          registry = table D.state registry.old;
+          stream = challenger.old;
+        }) piece.now result
+        (record {
+          users = users.now;
+          slots = seen_session_slots D.state slots.new;
+          registry = table D.state registry.new;
+          stream = challenger.new;
+        }) }
 {
     let Some(k) = find(slots, number) else {
         return Fed::Over;
     };
-    if !is_session(&slots[k]) {
-        return Fed::Over;
+    match feed_place(alloc, &mut slots[k], registry, users, challenger, piece) {
+        Some(fed) => {
+            settle(registry, slots, k);
+            fed
+        }
+        None => Fed::Over,
     }
-    let fed = feed_place(alloc, &mut slots[k], registry, users, challenger, piece);
-    settle(registry, slots, k);
-    fed
 }

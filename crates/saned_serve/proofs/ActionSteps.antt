@@ -1,25 +1,21 @@
 -- Single actions of a session that stands.
-use Rattle.std.proofs.Common.{◌≡◌, ◌≢◌, ◌≤◌, ◌⊎◌, inl, inr, ℕ, ◌+◌, ◌-◌, Bool, true, false, not, ◌||◌, cond, Option, None, Some, is_some, List, [], ◌∷◌, ◌++◌, length, take, drop, refl, sym, ap, ◌∙◌, subst, append_assoc, append-nil, IsSome, arith}
+use Rattle.std.proofs.Common.{◌≡◌, ◌≢◌, ◌≤◌, ◌⊎◌, inl, inr, ℕ, ◌+◌, ◌-◌, Bool, true, false, ◌||◌, cond, Option, None, Some, List, [], ◌∷◌, ◌++◌, length, take, drop, refl, sym, ap, ◌∙◌, subst, append_assoc, append-nil, arith}
 use Rattle.std.proofs.lemmas.List.{length-take-le, take-append-drop}
 use Rattle.std.proofs.Math.Dec.{eqb}
 use Rattle.std.proofs.lemmas.Bool.{eq-eqb, eqb-true, or_left, or_right, or_from}
-use Rattle.saned_core.specs.DaemonStates.{Core, frame_in, session_of, is_waiting}
-use Rattle.saned_core.specs.declared.session_slot.FrameState.{FrameState}
-use Rattle.saned_core.specs.declared.session_slot.DataStep.TheVariants.{Idle, Bytes, Last}
+use Rattle.saned_core.specs.DaemonStates.{Core}
 use Rattle.saned_core.specs.declared.session_slot.Fed.{Fed}
-use Rattle.saned_core.specs.declared.session_slot.DataStep.{DataStep}
 use Rattle.saned_serve.specs.declared.sockets.Got.{Got}
 use Rattle.saned_serve.specs.declared.sockets.Got.TheVariants.{Moved, Nothing, Lost}
-use Rattle.saned_serve.specs.ConnectionTraces.{ConnectionTrace, IsTrace, MovesWithin, after_read, after_write, bytes_moved, stirs, is_lost, trace_bytes_read, trace_bytes_written, lost_in}
+use Rattle.saned_serve.specs.ConnectionTraces.{ConnectionTrace, IsTrace, MovesWithin, after_read, after_write, bytes_moved, trace_bytes_read, trace_bytes_written, lost_in}
 use Rattle.saned_serve.specs.ConnectionTraces.ConnectionCall.{Read, Write}
-use Rattle.saned_serve.specs.ListenerTraces.{ListenerTrace, with_notice, IsForgotten}
-use Rattle.saned_serve.specs.ListenerTraces.Notice.{Dialed as Dials, Shut, Back}
-use Rattle.saned_serve.specs.SessionActions.{SessionAction, ActsOn, IsTurned, written_by, makes_progress, leaves, opens_session, is_end_record, is_idle, ends_session}
+use Rattle.saned_serve.specs.ListenerTraces.{ListenerTrace, IsForgotten}
+use Rattle.saned_serve.specs.SessionActions.{SessionAction, ActsOn, makes_progress, leaves, opens_session, ends_session}
 use Rattle.saned_serve.specs.SessionActions.SessionAction.{Opens, Hears, Feed, Forgets, Take, Says, Looks, Misses, Connect, Turn, Shows, Lose, HangsUp, Leaves}
-use Rattle.saned_serve.specs.Journal.{LoopAction, SessionProjection, empty_projection, no_bytes, concerns, projection_after, projection_after_action, projection_of, MayDo, listener_trace_act, Extends, AreEnds, Closing, JournalLeads, Tally, tally_of, after_tally, tally_with, has_stopped, has_asked, open_sessions, MayBeLeft, MayHandBackData}
+use Rattle.saned_serve.specs.Journal.{LoopAction, SessionProjection, empty_projection, no_bytes, concerns, projection_after, projection_after_action, projection_of, MayDo, listener_trace_act, JournalLeads, Tally, tally_of, after_tally, has_stopped, has_asked, open_sessions, MayBeLeft}
+use Rattle.saned_serve.specs.Inside.{Extends, tally_with, TurnPhase, IsAt, ImageTraceMatchesIn, LinkMatches, HasGoneOn, JournalGoesOn, Attends, session_turn}
 use Rattle.saned_serve.specs.Journal.LoopAction.{Of}
-use Rattle.saned_serve.specs.JournalSteps.{TurnPhase, IsAt, ImageTraceMatches, ImageTraceMatchesIn, LinkMatches, HasGoneOn, JournalGoesOn, Attends, SendsTo, SendsIn, hung_up, SessionHasEnded, LeavesSession}
-use Rattle.saned_serve.specs.JournalSteps.TurnPhase.{Due, Filled, Heard, Ready, Spoken, Dialed, Loaded, Shown}
+use Rattle.saned_serve.specs.Inside.TurnPhase.{Due, Filled, Heard, Ready, Spoken}
 use Rattle.saned_serve.specs.declared.link.SessionLink.{SessionLink}
 
 pub extends_then : (past mid journal : List LoopAction) → Extends past mid → Extends mid journal → Extends past journal
@@ -75,7 +71,7 @@ counted_none t =
 pub opened_by : (act : SessionAction) (d e : Core) (id : ℕ) → opens_session act ≡ false → ActsOn id d act e → e.opened ≡ d.opened
 opened_by (Opens port) d e id plain does = cc
 opened_by (Hears got room bytes) d e id plain does = ap (λ (c : Core). c.opened) does
-opened_by (Feed piece fed begins) d e id plain does = ap (λ (c : Core). c.opened) does.0.others
+opened_by (Feed piece fed begins) d e id plain does = ap (λ (c : Core). c.opened) does.0.others.rest
 opened_by (Forgets told port) d e id plain does = ap (λ (c : Core). c.opened) does
 opened_by (Take room bytes) d e id plain does = ap (λ (c : Core). c.opened) does.after
 opened_by (Says got bytes) d e id plain does = ap (λ (c : Core). c.opened) does
@@ -252,23 +248,23 @@ tells_at tells at = record {
 
 -- ---- nothing is done
 
-pub goes_rests : {C : Type 0} (history : C → Option ConnectionTrace) (from to : TurnPhase) (d : Core) (n : Option ListenerTrace) (l k : SessionLink C) → k.id ≡ l.id → ((projection : SessionProjection) → LinkMatches history from projection l → LinkMatches history to projection k) → JournalGoesOn history from to d n l false d n k
+pub goes_rests : {C : Type 0} (history : C → Option ConnectionTrace) (from to : TurnPhase) (d : Core) (n : Option ListenerTrace) (l k : SessionLink C) → k.id ≡ l.id → ((projection : SessionProjection) → LinkMatches history from projection l → LinkMatches history to projection k) → JournalGoesOn history (session_turn from d n l) false (session_turn to d n k)
 goes_rests history from to d n l k same tells = record {
   same = same;
   goes = λ d0 n0 past leads was. went to k (trail d0 n0 past d n l.id.number leads) (tells (projection_of l.id.number past) was);
 }
 
-pub goes_same : {C : Type 0} (history : C → Option ConnectionTrace) (phase : TurnPhase) (d : Core) (n : Option ListenerTrace) (l : SessionLink C) → JournalGoesOn history phase phase d n l false d n l
+pub goes_same : {C : Type 0} (history : C → Option ConnectionTrace) (phase : TurnPhase) (d : Core) (n : Option ListenerTrace) (l : SessionLink C) → JournalGoesOn history (session_turn phase d n l) false (session_turn phase d n l)
 goes_same history phase d n l = goes_rests history phase phase d n l l refl (λ projection tells. tells)
 
 -- replies wait
-pub goes_fresh : {C : Type 0} (history : C → Option ConnectionTrace) (d : Core) (n : Option ListenerTrace) (l : SessionLink C) → l.replies ≢ [] → JournalGoesOn history Due Filled d n l false d n l
+pub goes_fresh : {C : Type 0} (history : C → Option ConnectionTrace) (d : Core) (n : Option ListenerTrace) (l : SessionLink C) → l.replies ≢ [] → JournalGoesOn history (session_turn Due d n l) false (session_turn Filled d n l)
 goes_fresh history d n l some = goes_rests history Due Filled d n l l refl (λ projection tells. tells_at tells (tells.at.0, (λ none. absurd (some none)), tells.at.1))
 
-pub goes_waits : {C : Type 0} (history : C → Option ConnectionTrace) (d : Core) (n : Option ListenerTrace) (l : SessionLink C) → l.replies ≢ [] → JournalGoesOn history Filled Heard d n l false d n l
+pub goes_waits : {C : Type 0} (history : C → Option ConnectionTrace) (d : Core) (n : Option ListenerTrace) (l : SessionLink C) → l.replies ≢ [] → JournalGoesOn history (session_turn Filled d n l) false (session_turn Heard d n l)
 goes_waits history d n l some = goes_rests history Filled Heard d n l l refl (λ projection tells. tells_at tells ((λ done. absurd (not_both done tells.at.0)), inr some, tells.at.2.1, tells.at.2.2))
 
-pub goes_ready : {C : Type 0} (history : C → Option ConnectionTrace) (d : Core) (n : Option ListenerTrace) (l : SessionLink C) → l.replies ≢ [] → JournalGoesOn history Heard Ready d n l false d n l
+pub goes_ready : {C : Type 0} (history : C → Option ConnectionTrace) (d : Core) (n : Option ListenerTrace) (l : SessionLink C) → l.replies ≢ [] → JournalGoesOn history (session_turn Heard d n l) false (session_turn Ready d n l)
 goes_ready history d n l some = goes_rests history Heard Ready d n l l refl (λ projection tells. tells_at tells (tells.at.0, tells.at.1, (λ none. absurd (some none)), tells.at.2, tells.at.3))
 
 -- ---- the control connection
@@ -325,8 +321,8 @@ few_of : (count : ℕ) (buf : List ℕ) → length buf ≡ 4096 → MovesWithin 
 few_of count buf size within = let long = long_of count buf within in omega (arith, long, size, within.1)
 
 pub goes_hears : {C : Type 0} (history : C → Option ConnectionTrace) (d : Core) (n : Option ListenerTrace) (l k : SessionLink C) (e : Core) (m : Option ListenerTrace) (c : C) (count : ℕ) (buf : List ℕ)
-    → length buf ≡ 4096 → MovesWithin (Moved count) (length buf) → l.replies ≡ [] → history c ≡ after_read (Moved count) buf (history l.conn) → k ≡ record l { conn = c; is_over = k.is_over } → Attends l.id.number l.port (take count buf) d n l.is_over k.is_over e m
-    → JournalGoesOn history Filled Heard d n l true e m k
+    → length buf ≡ 4096 → MovesWithin (Moved count) (length buf) → l.replies ≡ [] → history c ≡ after_read (Moved count) buf (history l.conn) → k ≡ record l { conn = c; is_over = k.is_over } → Attends l.id.number l.port (take count buf) (record { daemon = d; listeners = n; is_over = l.is_over }) (record { daemon = e; listeners = m; is_over = k.is_over })
+    → JournalGoesOn history (session_turn Filled d n l) true (session_turn Heard e m k)
 goes_hears history d n l k e m c count buf size within none told same attends = record {
   same = ap (λ x. x.id) same;
   goes = λ d0 n0 past leads tells.
@@ -357,7 +353,7 @@ heard_none history got buf projection l c done none told tells alive lost = reco
   at = (lost, inl refl, tells.at.2.1, tells.at.2.2);
 }
 
-pub goes_silent : {C : Type 0} (history : C → Option ConnectionTrace) (d : Core) (n : Option ListenerTrace) (l : SessionLink C) (c : C) (buf : List ℕ) → length buf ≡ 4096 → l.replies ≡ [] → history c ≡ after_read Nothing buf (history l.conn) → JournalGoesOn history Filled Heard d n l false d n (record l { conn = c })
+pub goes_silent : {C : Type 0} (history : C → Option ConnectionTrace) (d : Core) (n : Option ListenerTrace) (l : SessionLink C) (c : C) (buf : List ℕ) → length buf ≡ 4096 → l.replies ≡ [] → history c ≡ after_read Nothing buf (history l.conn) → JournalGoesOn history (session_turn Filled d n l) false (session_turn Heard d n (record l { conn = c }))
 goes_silent history d n l c buf size none told = record {
   same = refl;
   goes = λ d0 n0 past leads tells.
@@ -367,7 +363,7 @@ goes_silent history d n l c buf size none told = record {
       (heard_none history Nothing buf projection l c l.is_done refl told tells (λ alive. or_from (lost_in projection.control) false (tells.held alive) refl) (λ done. absurd (not_both done tells.at.0)));
 }
 
-pub goes_cut : {C : Type 0} (history : C → Option ConnectionTrace) (d : Core) (n : Option ListenerTrace) (l : SessionLink C) (c : C) (buf : List ℕ) → length buf ≡ 4096 → l.replies ≡ [] → history c ≡ after_read Lost buf (history l.conn) → JournalGoesOn history Filled Heard d n l true d n (record l { conn = c; is_done = true })
+pub goes_cut : {C : Type 0} (history : C → Option ConnectionTrace) (d : Core) (n : Option ListenerTrace) (l : SessionLink C) (c : C) (buf : List ℕ) → length buf ≡ 4096 → l.replies ≡ [] → history c ≡ after_read Lost buf (history l.conn) → JournalGoesOn history (session_turn Filled d n l) true (session_turn Heard d n (record l { conn = c; is_done = true }))
 goes_cut history d n l c buf size none told = record {
   same = refl;
   goes = λ d0 n0 past leads tells.
@@ -380,7 +376,7 @@ goes_cut history d n l c buf size none told = record {
 -- replies are asked for where none waited
 goes_takes : {C : Type 0} (history : C → Option ConnectionTrace) (from to : TurnPhase) (d : Core) (n : Option ListenerTrace) (l : SessionLink C) (e : Core) (replies : List ℕ) → l.replies ≡ [] → ActsOn l.id.number d (Take 4096 replies) e
     → ((projection : SessionProjection) → IsAt from projection l → IsAt to (projection_after (Take 4096 replies) projection) (record l { replies = replies }))
-    → JournalGoesOn history from to d n l false e n (record l { replies = replies })
+    → JournalGoesOn history (session_turn from d n l) false (session_turn to e n (record l { replies = replies }))
 goes_takes history from to d n l e replies none does at = record {
   same = refl;
   goes = λ d0 n0 past leads tells.
@@ -402,10 +398,10 @@ goes_takes history from to d n l e replies none does at = record {
       });
 }
 
-pub goes_fills : {C : Type 0} (history : C → Option ConnectionTrace) (d : Core) (n : Option ListenerTrace) (l : SessionLink C) (e : Core) (replies : List ℕ) → l.replies ≡ [] → ActsOn l.id.number d (Take 4096 replies) e → JournalGoesOn history Due Filled d n l false e n (record l { replies = replies })
+pub goes_fills : {C : Type 0} (history : C → Option ConnectionTrace) (d : Core) (n : Option ListenerTrace) (l : SessionLink C) (e : Core) (replies : List ℕ) → l.replies ≡ [] → ActsOn l.id.number d (Take 4096 replies) e → JournalGoesOn history (session_turn Due d n l) false (session_turn Filled e n (record l { replies = replies }))
 goes_fills history d n l e replies none does = goes_takes history Due Filled d n l e replies none does (λ projection at. (at.0, (λ empty. ap no_bytes empty), at.1))
 
-pub goes_fills_again : {C : Type 0} (history : C → Option ConnectionTrace) (d : Core) (n : Option ListenerTrace) (l : SessionLink C) (e : Core) (replies : List ℕ) → l.replies ≡ [] → ActsOn l.id.number d (Take 4096 replies) e → JournalGoesOn history Heard Ready d n l false e n (record l { replies = replies })
+pub goes_fills_again : {C : Type 0} (history : C → Option ConnectionTrace) (d : Core) (n : Option ListenerTrace) (l : SessionLink C) (e : Core) (replies : List ℕ) → l.replies ≡ [] → ActsOn l.id.number d (Take 4096 replies) e → JournalGoesOn history (session_turn Heard d n l) false (session_turn Ready e n (record l { replies = replies }))
 goes_fills_again history d n l e replies none does =
     goes_takes history Heard Ready d n l e replies none does (λ projection at. (at.0, inl (visited projection at.1), (λ empty. ap no_bytes empty), at.2, at.3))
   where
@@ -414,7 +410,7 @@ goes_fills_again history d n l e replies none does =
     visited projection (inr some) = absurd (some none)
 
 -- no replies wait: a session that is over is done
-pub goes_finishes : {C : Type 0} (history : C → Option ConnectionTrace) (d : Core) (n : Option ListenerTrace) (l : SessionLink C) → l.replies ≡ [] → JournalGoesOn history Ready Spoken d n l false d n (record l { is_done = l.is_done || l.is_over })
+pub goes_finishes : {C : Type 0} (history : C → Option ConnectionTrace) (d : Core) (n : Option ListenerTrace) (l : SessionLink C) → l.replies ≡ [] → JournalGoesOn history (session_turn Ready d n l) false (session_turn Spoken d n (record l { is_done = l.is_done || l.is_over }))
 goes_finishes {C} history d n l none = goes_rests history Ready Spoken d n l (record l { is_done = l.is_done || l.is_over }) refl (λ projection tells. finished projection tells)
   where
     visited : (projection : SessionProjection) → (projection.visited ≡ true) ⊎ (l.replies ≢ []) → projection.visited ≡ true
@@ -464,7 +460,7 @@ said_on history got projection l c done some told tells alive lost = record {
 }
 
 pub goes_says : {C : Type 0} (history : C → Option ConnectionTrace) (d : Core) (n : Option ListenerTrace) (l : SessionLink C) (c : C) (count : ℕ) → l.replies ≢ [] → history c ≡ after_write (Moved count) l.replies (history l.conn)
-    → JournalGoesOn history Ready Spoken d n l true d n (record l { conn = c; replies = drop count l.replies })
+    → JournalGoesOn history (session_turn Ready d n l) true (session_turn Spoken d n (record l { conn = c; replies = drop count l.replies }))
 goes_says history d n l c count some told = record {
   same = refl;
   goes = λ d0 n0 past leads tells.
@@ -475,7 +471,7 @@ goes_says history d n l c count some told = record {
 }
 
 pub goes_unsaid : {C : Type 0} (history : C → Option ConnectionTrace) (d : Core) (n : Option ListenerTrace) (l : SessionLink C) (c : C) → l.replies ≢ [] → history c ≡ after_write Nothing l.replies (history l.conn)
-    → JournalGoesOn history Ready Spoken d n l false d n (record l { conn = c; replies = drop 0 l.replies })
+    → JournalGoesOn history (session_turn Ready d n l) false (session_turn Spoken d n (record l { conn = c; replies = drop 0 l.replies }))
 goes_unsaid history d n l c some told = record {
   same = refl;
   goes = λ d0 n0 past leads tells.
@@ -486,7 +482,7 @@ goes_unsaid history d n l c some told = record {
 }
 
 pub goes_dies : {C : Type 0} (history : C → Option ConnectionTrace) (d : Core) (n : Option ListenerTrace) (l : SessionLink C) (c : C) → l.replies ≢ [] → history c ≡ after_write Lost l.replies (history l.conn)
-    → JournalGoesOn history Ready Spoken d n l true d n (record l { conn = c; replies = drop 0 l.replies; is_done = true })
+    → JournalGoesOn history (session_turn Ready d n l) true (session_turn Spoken d n (record l { conn = c; replies = drop 0 l.replies; is_done = true }))
 goes_dies history d n l c some told = record {
   same = refl;
   goes = λ d0 n0 past leads tells.
@@ -498,7 +494,7 @@ goes_dies history d n l c some told = record {
 
 -- ---- one after the other
 
-pub goes_then : {C : Type 0} {history : C → Option ConnectionTrace} {p q r : TurnPhase} {d : Core} {n : Option ListenerTrace} {l : SessionLink C} {x : Bool} {e : Core} {m : Option ListenerTrace} {k : SessionLink C} {y : Bool} {f : Core} {o : Option ListenerTrace} {j : SessionLink C} → JournalGoesOn history p q d n l x e m k → JournalGoesOn history q r e m k y f o j → JournalGoesOn history p r d n l (x || y) f o j
+pub goes_then : {C : Type 0} {history : C → Option ConnectionTrace} {p q r : TurnPhase} {d : Core} {n : Option ListenerTrace} {l : SessionLink C} {x : Bool} {e : Core} {m : Option ListenerTrace} {k : SessionLink C} {y : Bool} {f : Core} {o : Option ListenerTrace} {j : SessionLink C} → JournalGoesOn history (session_turn p d n l) x (session_turn q e m k) → JournalGoesOn history (session_turn q e m k) y (session_turn r f o j) → JournalGoesOn history (session_turn p d n l) (x || y) (session_turn r f o j)
 goes_then {C} {history} {p} {q} {r} {d} {n} {l} {x} {e} {m} {k} {y} {f} {o} {j} a b = record {
   same = b.same ∙ a.same;
   goes = λ d0 n0 past leads tells.

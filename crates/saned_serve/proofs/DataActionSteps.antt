@@ -1,25 +1,22 @@
 -- Actions on the data connection of a session that stands, and its leaving.
-use Rattle.std.proofs.Common.{◌≡◌, ◌≢◌, ◌≤◌, ◌⊎◌, inl, inr, ℕ, ◌+◌, ◌-◌, Bool, true, false, not, ◌||◌, cond, Option, None, Some, is_some, List, [], ◌∷◌, ◌++◌, length, take, drop, refl, sym, ap, ◌∙◌, subst, append_assoc, append-nil, IsSome, arith}
-use Rattle.std.proofs.lemmas.List.{take-append-drop}
-use Rattle.std.proofs.Math.Dec.{eqb}
-use Rattle.std.proofs.lemmas.Bool.{eq-eqb, eqb-true, or_left, or_right, or_from}
+use Rattle.std.proofs.Common.{◌≡◌, ◌≢◌, ◌⊎◌, inl, inr, ℕ, Bool, true, false, not, ◌||◌, Option, None, Some, is_some, List, [], ◌∷◌, ◌++◌, take, drop, refl, sym, ap, ◌∙◌, subst, append_assoc, IsSome}
+use Rattle.std.proofs.lemmas.Bool.{or_right, or_from}
 use Rattle.saned_core.specs.DaemonStates.{Core, frame_in, session_of, is_waiting}
 use Rattle.saned_core.specs.declared.session_slot.FrameState.{FrameState}
 use Rattle.saned_core.specs.declared.session_slot.DataStep.TheVariants.{Idle, Bytes, Last}
-use Rattle.saned_core.specs.declared.session_slot.Fed.{Fed}
 use Rattle.saned_core.specs.declared.session_slot.DataStep.{DataStep}
 use Rattle.saned_serve.specs.declared.sockets.Got.{Got}
 use Rattle.saned_serve.specs.declared.sockets.Got.TheVariants.{Moved, Nothing, Lost}
-use Rattle.saned_serve.specs.ConnectionTraces.{ConnectionTrace, IsTrace, after_read, after_write, bytes_moved, stirs, is_lost, trace_bytes_read, trace_bytes_written, lost_in}
-use Rattle.saned_serve.specs.ConnectionTraces.ConnectionCall.{Read, Write}
-use Rattle.saned_serve.specs.ListenerTraces.{ListenerTrace, with_notice, IsForgotten}
+use Rattle.saned_serve.specs.ConnectionTraces.{ConnectionTrace, IsTrace, after_write, bytes_moved, stirs, is_lost, trace_bytes_written, lost_in}
+use Rattle.saned_serve.specs.ConnectionTraces.ConnectionCall.{Write}
+use Rattle.saned_serve.specs.ListenerTraces.{ListenerTrace, with_notice}
 use Rattle.saned_serve.specs.ListenerTraces.Notice.{Dialed as Dials, Shut, Back}
-use Rattle.saned_serve.specs.SessionActions.{SessionAction, ActsOn, IsTurned, written_by, makes_progress, leaves, opens_session, is_end_record, is_idle, ends_session}
-use Rattle.saned_serve.specs.SessionActions.SessionAction.{Opens, Hears, Feed, Forgets, Take, Says, Looks, Misses, Connect, Turn, Shows, Lose, HangsUp, Leaves}
-use Rattle.saned_serve.specs.Journal.{LoopAction, SessionProjection, empty_projection, no_bytes, concerns, projection_after, projection_after_action, projection_of, MayDo, listener_trace_act, Extends, AreEnds, Closing, JournalLeads, Tally, tally_of, after_tally, tally_with, has_stopped, has_asked, open_sessions, MayBeLeft, MayHandBackData}
+use Rattle.saned_serve.specs.SessionActions.{ActsOn, IsTurned, written_by, is_end_record, is_idle}
+use Rattle.saned_serve.specs.SessionActions.SessionAction.{Looks, Misses, Connect, Turn, Shows, Lose, HangsUp, Leaves}
+use Rattle.saned_serve.specs.Journal.{LoopAction, SessionProjection, projection_after, projection_of, listener_trace_act, AreEnds, Closing, JournalLeads, has_stopped, MayBeLeft, MayHandBackData}
+use Rattle.saned_serve.specs.Inside.{TurnPhase, IsAt, ImageTraceMatches, ImageTraceMatchesIn, LinkMatches, HasGoneOn, JournalGoesOn, SendsTo, SendsIn, hung_up, SessionHasEnded, LeavesSession, session_turn}
 use Rattle.saned_serve.specs.Journal.LoopAction.{Of}
-use Rattle.saned_serve.specs.JournalSteps.{TurnPhase, IsAt, ImageTraceMatches, ImageTraceMatchesIn, LinkMatches, HasGoneOn, JournalGoesOn, Attends, SendsTo, SendsIn, hung_up, SessionHasEnded, LeavesSession}
-use Rattle.saned_serve.specs.JournalSteps.TurnPhase.{Due, Filled, Heard, Ready, Spoken, Dialed, Loaded, Shown}
+use Rattle.saned_serve.specs.Inside.TurnPhase.{Spoken, Dialed, Loaded, Shown}
 use Rattle.saned_serve.specs.declared.link.SessionLink.{SessionLink}
 use Rattle.saned_serve.proofs.ActionSteps.{Trail, trail_begin, trail, trail_next, trail_on, went, told_write, rest_after, all_taken, none_on, carries_on, tells_at, goes_rests}
 
@@ -46,11 +43,11 @@ tells_dialed {C} {history} {projection} {l} tended tells none had = record {
 }
 
 -- there is one
-pub goes_images : {C : Type 0} (history : C → Option ConnectionTrace) (d : Core) (n : Option ListenerTrace) (l : SessionLink C) → is_some l.image ≡ true → JournalGoesOn history Spoken Dialed d n l false d n l
+pub goes_images : {C : Type 0} (history : C → Option ConnectionTrace) (d : Core) (n : Option ListenerTrace) (l : SessionLink C) → is_some l.image ≡ true → JournalGoesOn history (session_turn Spoken d n l) false (session_turn Dialed d n l)
 goes_images history d n l some = goes_rests history Spoken Dialed d n l l refl (λ projection tells. tells_at tells (tells.at.0, (λ none. let wrong : false ≡ true = sym (ap is_some none) ∙ some in absurd (let no = wrong in cc)), λ is. tells.at.1))
 
 -- no frame waits
-pub goes_looks : {C : Type 0} (history : C → Option ConnectionTrace) (d : Core) (n : Option ListenerTrace) (l : SessionLink C) (frame : FrameState) → l.image ≡ None → frame ≡ frame_in (session_of d l.id.number) → is_waiting frame ≡ false → JournalGoesOn history Spoken Dialed d n l false d n l
+pub goes_looks : {C : Type 0} (history : C → Option ConnectionTrace) (d : Core) (n : Option ListenerTrace) (l : SessionLink C) (frame : FrameState) → l.image ≡ None → frame ≡ frame_in (session_of d l.id.number) → is_waiting frame ≡ false → JournalGoesOn history (session_turn Spoken d n l) false (session_turn Dialed d n l)
 goes_looks history d n l frame was is rests = record {
   same = refl;
   goes = λ d0 n0 past leads tells.
@@ -61,7 +58,7 @@ goes_looks history d n l frame was is rests = record {
 }
 
 -- one does, and none came
-pub goes_misses : {C : Type 0} (history : C → Option ConnectionTrace) (d : Core) (n : Option ListenerTrace) (l : SessionLink C) (m : Option ListenerTrace) (frame : FrameState) → l.image ≡ None → frame ≡ frame_in (session_of d l.id.number) → is_waiting frame ≡ true → m ≡ with_notice (Dials l.port false) n → JournalGoesOn history Spoken Dialed d n l false d m l
+pub goes_misses : {C : Type 0} (history : C → Option ConnectionTrace) (d : Core) (n : Option ListenerTrace) (l : SessionLink C) (m : Option ListenerTrace) (frame : FrameState) → l.image ≡ None → frame ≡ frame_in (session_of d l.id.number) → is_waiting frame ≡ true → m ≡ with_notice (Dials l.port false) n → JournalGoesOn history (session_turn Spoken d n l) false (session_turn Dialed d m l)
 goes_misses history d n l m frame was is waits net = record {
   same = refl;
   goes = λ d0 n0 past leads tells.
@@ -74,7 +71,7 @@ goes_misses history d n l m frame was is waits net = record {
 
 -- one came
 pub goes_dials : {C : Type 0} (history : C → Option ConnectionTrace) (d : Core) (n : Option ListenerTrace) (l : SessionLink C) (e : Core) (m : Option ListenerTrace) (frame : FrameState) (image : Option C) (records : List ℕ) (conn : C) → l.image ≡ None → frame ≡ frame_in (session_of d l.id.number) → image ≡ Some conn → records ≡ [] → IsTrace (history conn) [] → ActsOn l.id.number d (Connect l.port) e → m ≡ with_notice (Dials l.port true) n
-    → JournalGoesOn history Spoken Dialed d n l true e m (record l { image = image; records = records; is_last = false })
+    → JournalGoesOn history (session_turn Spoken d n l) true (session_turn Dialed e m (record l { image = image; records = records; is_last = false }))
 goes_dials {C} history d n l e m frame image records conn was is now none fresh does net = record {
   same = refl;
   goes = λ d0 n0 past leads tells.
@@ -123,7 +120,7 @@ not_idle step records some turned = never (is_idle step) (λ idle. some (turned.
 
 -- a record is taken where none waits
 goes_turns : {C : Type 0} (history : C → Option ConnectionTrace) (d : Core) (n : Option ListenerTrace) (l : SessionLink C) (e : Core) (records : List ℕ) (last : Bool) (step : DataStep) (conn : C) → l.image ≡ Some conn → l.records ≡ [] → last ≡ is_end_record step → (is_idle step ≡ false → records ≢ []) → ActsOn l.id.number d (Turn 65540 step records) e
-    → JournalGoesOn history Dialed Loaded d n l false e n (record l { records = records; is_last = last })
+    → JournalGoesOn history (session_turn Dialed d n l) false (session_turn Loaded e n (record l { records = records; is_last = last }))
 goes_turns history d n l e records last step conn was none ended some does = record {
   same = refl;
   goes = λ d0 n0 past leads tells.
@@ -158,16 +155,16 @@ goes_turns history d n l e records last step conn was none ended some does = rec
 }
 
 pub goes_records : {C : Type 0} (history : C → Option ConnectionTrace) (d : Core) (n : Option ListenerTrace) (l : SessionLink C) (e : Core) (records : List ℕ) (last : Bool) (step : DataStep) (image : Option C) → l.image ≡ image → IsSome image → l.records ≡ [] → last ≡ is_end_record step → (is_idle step ≡ false → records ≢ []) → ActsOn l.id.number d (Turn 65540 step records) e
-    → JournalGoesOn history Dialed Loaded d n l false e n (record l { records = records; is_last = last })
+    → JournalGoesOn history (session_turn Dialed d n l) false (session_turn Loaded e n (record l { records = records; is_last = last }))
 goes_records history d n l e records last step None was some none ended more does = cc
 goes_records history d n l e records last step (Some conn) was some none ended more does = goes_turns history d n l e records last step conn was none ended more does
 
 -- one waits
-pub goes_loaded : {C : Type 0} (history : C → Option ConnectionTrace) (d : Core) (n : Option ListenerTrace) (l : SessionLink C) → l.records ≢ [] → JournalGoesOn history Dialed Loaded d n l false d n l
+pub goes_loaded : {C : Type 0} (history : C → Option ConnectionTrace) (d : Core) (n : Option ListenerTrace) (l : SessionLink C) → l.records ≢ [] → JournalGoesOn history (session_turn Dialed d n l) false (session_turn Loaded d n l)
 goes_loaded history d n l some = goes_rests history Dialed Loaded d n l l refl (λ projection tells. tells_at tells (tells.at.0, tells.at.1, (λ empty. absurd (some empty)), λ is. λ more. tells.at.2 is))
 
 -- there is no data connection
-pub goes_dark : {C : Type 0} (history : C → Option ConnectionTrace) (d : Core) (n : Option ListenerTrace) (l : SessionLink C) → l.image ≡ None → JournalGoesOn history Dialed Shown d n l false d n l
+pub goes_dark : {C : Type 0} (history : C → Option ConnectionTrace) (d : Core) (n : Option ListenerTrace) (l : SessionLink C) → l.image ≡ None → JournalGoesOn history (session_turn Dialed d n l) false (session_turn Shown d n l)
 goes_dark history d n l none = goes_rests history Dialed Shown d n l l refl (λ projection tells. tells_at tells (tells.at.0, tells.at.1 none))
 
 -- what is the same once the calls of the data connection, and what waits for it, are others
@@ -220,7 +217,7 @@ carries_sent history got l k projection s had more held = record {
 }
 
 goes_sent : {C : Type 0} (history : C → Option ConnectionTrace) (got : Got) (d : Core) (n : Option ListenerTrace) (l k : SessionLink C) → k ≡ record l { image = k.image; records = k.records } → Sent history got l k → (l.is_last ≡ true → k.records ≢ []) → ((b : Bool) → b ≡ false → (b || is_lost got) ≡ false)
-    → JournalGoesOn history Loaded Shown d n l (stirs got) d n k
+    → JournalGoesOn history (session_turn Loaded d n l) (stirs got) (session_turn Shown d n k)
 goes_sent history got d n l k link s more held = record {
   same = ap (λ x. x.id) link;
   goes = λ d0 n0 past leads tells.
@@ -234,26 +231,26 @@ goes_sent history got d n l k link s more held = record {
 }
 
 -- nothing was written
-pub goes_shows_none : {C : Type 0} (history : C → Option ConnectionTrace) (d : Core) (n : Option ListenerTrace) (l k : SessionLink C) → k ≡ record l { image = k.image; records = k.records } → SendsIn history Nothing l.image l.records k.image k.records → JournalGoesOn history Loaded Shown d n l false d n k
+pub goes_shows_none : {C : Type 0} (history : C → Option ConnectionTrace) (d : Core) (n : Option ListenerTrace) (l k : SessionLink C) → k ≡ record l { image = k.image; records = k.records } → SendsIn history Nothing l.image l.records k.image k.records → JournalGoesOn history (session_turn Loaded d n l) false (session_turn Shown d n k)
 goes_shows_none {C} history d n l k link sends = by_image l.image refl sends
   where
-    same : k.image ≡ l.image → k.records ≡ l.records → ((projection : SessionProjection) → IsAt Loaded projection l → projection.tended ≡ true) → JournalGoesOn history Loaded Shown d n l false d n k
+    same : k.image ≡ l.image → k.records ≡ l.records → ((projection : SessionProjection) → IsAt Loaded projection l → projection.tended ≡ true) → JournalGoesOn history (session_turn Loaded d n l) false (session_turn Shown d n k)
     same image records tended =
         let whole = link ∙ ap (λ i. record l { image = i; records = k.records }) image ∙ ap (λ r. record l { image = l.image; records = r }) records in
-        subst (λ x. JournalGoesOn history Loaded Shown d n l false d n x) (sym whole) (goes_rests history Loaded Shown d n l l refl (λ projection tells. tells_at tells (tells.at.0, tended projection tells.at)))
+        subst (λ x. JournalGoesOn history (session_turn Loaded d n l) false (session_turn Shown d n x)) (sym whole) (goes_rests history Loaded Shown d n l l refl (λ projection tells. tells_at tells (tells.at.0, tended projection tells.at)))
 
-    by_case : (conn : C) → l.image ≡ Some conn → SendsTo history Nothing conn l.records k.image k.records → JournalGoesOn history Loaded Shown d n l false d n k
+    by_case : (conn : C) → l.image ≡ Some conn → SendsTo history Nothing conn l.records k.image k.records → JournalGoesOn history (session_turn Loaded d n l) false (session_turn Shown d n k)
     by_case conn was (inl none) = same (none.2 ∙ sym was) none.3 (λ projection at. at.2 none.0)
     by_case conn was (inr some) =
         goes_sent history Nothing d n l k link (record { conn = conn; was = was; some = some.0; now = some.1; image = some.2; told = some.3; rest = some.4 })
         (λ last. λ none. some.0 (sym some.4 ∙ none)) (λ b e. or_from b false e refl)
 
-    by_image : (image : Option C) → l.image ≡ image → SendsIn history Nothing image l.records k.image k.records → JournalGoesOn history Loaded Shown d n l false d n k
+    by_image : (image : Option C) → l.image ≡ image → SendsIn history Nothing image l.records k.image k.records → JournalGoesOn history (session_turn Loaded d n l) false (session_turn Shown d n k)
     by_image None was sends = same (sends.1 ∙ sym was) sends.2 (λ projection at. at.1 was)
     by_image (Some conn) was sends = by_case conn was sends
 
 -- a piece was, and not all of the end record
-pub goes_shows : {C : Type 0} (history : C → Option ConnectionTrace) (d : Core) (n : Option ListenerTrace) (l k : SessionLink C) (count : ℕ) → k ≡ record l { image = k.image; records = k.records } → SendsIn history (Moved count) l.image l.records k.image k.records → (l.is_last ≡ true → k.records ≢ []) → JournalGoesOn history Loaded Shown d n l true d n k
+pub goes_shows : {C : Type 0} (history : C → Option ConnectionTrace) (d : Core) (n : Option ListenerTrace) (l k : SessionLink C) (count : ℕ) → k ≡ record l { image = k.image; records = k.records } → SendsIn history (Moved count) l.image l.records k.image k.records → (l.is_last ≡ true → k.records ≢ []) → JournalGoesOn history (session_turn Loaded d n l) true (session_turn Shown d n k)
 goes_shows history d n l k count link sends more =
     goes_sent history (Moved count) d n l k link (sent history (Moved count) l k l.image refl (λ e. let wrong : Moved count ≡ Nothing = e in cc) sends) more (λ b e. or_from b false e refl)
 
@@ -263,7 +260,7 @@ hung history k now n e = ap (λ i. hung_up history i n) e
 
 -- the end record is written, and the connection handed back
 pub goes_shows_last : {C : Type 0} (history : C → Option ConnectionTrace) (d : Core) (n : Option ListenerTrace) (l k j : SessionLink C) (m : Option ListenerTrace) (count : ℕ) → k ≡ record l { image = k.image; records = k.records } → SendsIn history (Moved count) l.image l.records k.image k.records
-    → l.is_last ≡ true → k.records ≡ [] → j ≡ record k { image = None } → m ≡ hung_up history k.image n → JournalGoesOn history Loaded Shown d n l true d m j
+    → l.is_last ≡ true → k.records ≡ [] → j ≡ record k { image = None } → m ≡ hung_up history k.image n → JournalGoesOn history (session_turn Loaded d n l) true (session_turn Shown d m j)
 goes_shows_last {C} history d n l k j m count link sends last none gone net =
     let s = sent history (Moved count) l k l.image refl (λ e. let wrong : Moved count ≡ Nothing = e in cc) sends in
     let whole = gone ∙ ap (λ (x : SessionLink C). record x { image = None }) link in
@@ -286,7 +283,7 @@ goes_shows_last {C} history d n l k j m count link sends last none gone net =
 
 -- the connection is found lost
 pub goes_shows_lost : {C : Type 0} (history : C → Option ConnectionTrace) (d : Core) (n : Option ListenerTrace) (l k j : SessionLink C) (e : Core) (m : Option ListenerTrace) → k ≡ record l { image = k.image; records = k.records } → SendsIn history Lost l.image l.records k.image k.records
-    → ActsOn l.id.number d Lose e → j ≡ record k { image = None } → m ≡ hung_up history k.image n → JournalGoesOn history Loaded Shown d n l true e m j
+    → ActsOn l.id.number d Lose e → j ≡ record k { image = None } → m ≡ hung_up history k.image n → JournalGoesOn history (session_turn Loaded d n l) true (session_turn Shown e m j)
 goes_shows_lost {C} history d n l k j e m link sends does gone net =
     let s = sent history Lost l k l.image refl (λ e. let wrong : Lost ≡ Nothing = e in cc) sends in
     let whole = gone ∙ ap (λ (x : SessionLink C). record x { image = None }) link in
@@ -309,7 +306,7 @@ goes_shows_lost {C} history d n l k j e m link sends does gone net =
 
 -- ---- a session is left
 
-pub parts_hung : {C : Type 0} (history : C → Option ConnectionTrace) (d : Core) (n : Option ListenerTrace) (l : SessionLink C) (m : Option ListenerTrace) (e : Core) (o : Option ListenerTrace) → m ≡ hung_up history l.image n → ActsOn l.id.number d (Leaves l.port (history l.conn)) e → o ≡ with_notice (Back (history l.conn)) (with_notice (Shut l.port) m) → LeavesSession history d n l e o
+pub parts_hung : {C : Type 0} (history : C → Option ConnectionTrace) (d : Core) (n : Option ListenerTrace) (l : SessionLink C) (m : Option ListenerTrace) (e : Core) (o : Option ListenerTrace) → m ≡ hung_up history l.image n → ActsOn l.id.number d (Leaves l.port (history l.conn)) e → o ≡ with_notice (Back (history l.conn)) (with_notice (Shut l.port) m) → LeavesSession history (record { daemon = d; listeners = n }) l (record { daemon = e; listeners = o })
 parts_hung {C} history d n l m e o net does back = record {
   goes = λ phase d0 n0 past leads tells why. by_image phase d0 n0 past leads tells why l.image refl (back ∙ ap (λ x. with_notice (Back (history l.conn)) (with_notice (Shut l.port) x)) net);
 }

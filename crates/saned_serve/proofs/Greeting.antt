@@ -10,9 +10,8 @@ use Rattle.saned_serve.specs.SessionActions.{ActsOn}
 use Rattle.saned_serve.specs.SessionActions.SessionAction.{Opens}
 use Rattle.saned_serve.specs.Journal.{LoopAction, empty_projection, projection_after, projection_of, IsRefusedConnection, listener_trace_step, JournalLeads, Steps, IsEnabledAfter, tally_of, concerns, has_asked, open_sessions}
 use Rattle.saned_serve.specs.Journal.LoopAction.{Of, Waits, Refuses}
-use Rattle.saned_serve.specs.JournalSteps.{ImageTraceMatchesIn, LinkMatches, IsDue}
-use Rattle.saned_serve.specs.JournalSteps.TurnPhase.{Fresh}
-use Rattle.saned_serve.specs.LoopInvariants.{one_link, IsLinkOf, IsNewLink, Greets}
+use Rattle.saned_serve.specs.Inside.{ImageTraceMatchesIn, LinkMatches, IsDue, one_link, IsLinkOf, IsNewLink, Greets}
+use Rattle.saned_serve.specs.Inside.TurnPhase.{Fresh}
 use Rattle.saned_serve.specs.declared.link.SessionLink.{SessionLink}
 use Rattle.saned_serve.proofs.ActionSteps.{life_at, life_off, eqb_off, counted_none}
 
@@ -32,7 +31,7 @@ one_more n conn id port None sits = absurd sits
 one_more n conn id port (Some l) sits = omega arith
 
 -- nobody came
-pub greets_none : {C : Type 0} (history : C → Option ConnectionTrace) (d : Core) (n m : Option ListenerTrace) (link : Option (SessionLink C)) → link ≡ None → m ≡ with_notice (Asked false) n → Greets history d n false d m link
+pub greets_none : {C : Type 0} (history : C → Option ConnectionTrace) (d : Core) (n m : Option ListenerTrace) (link : Option (SessionLink C)) → link ≡ None → m ≡ with_notice (Asked false) n → Greets history (record { daemon = d; listeners = n }) false (record { daemon = d; listeners = m }) link
 greets_none history d n m link none net = record {
   greets = λ d0 n0 past leads ask. record {
     journal = Waits ∷ past;
@@ -47,7 +46,7 @@ greets_none history d n m link none net = record {
 }
 
 -- a connection came that gets no session
-pub greets_refuses : {C : Type 0} (history : C → Option ConnectionTrace) (d : Core) (n : Option ListenerTrace) (m : Option ListenerTrace) (port : Option ℕ) (conn : C) (link : Option (SessionLink C)) → link ≡ None → IsTrace (history conn) [] → IsRefusedConnection port d → m ≡ listener_trace_step (Refuses port (history conn)) n → Greets history d n true d m link
+pub greets_refuses : {C : Type 0} (history : C → Option ConnectionTrace) (d : Core) (n : Option ListenerTrace) (m : Option ListenerTrace) (port : Option ℕ) (conn : C) (link : Option (SessionLink C)) → link ≡ None → IsTrace (history conn) [] → IsRefusedConnection port d → m ≡ listener_trace_step (Refuses port (history conn)) n → Greets history (record { daemon = d; listeners = n }) true (record { daemon = d; listeners = m }) link
 greets_refuses history d n m port conn link none fresh refused net = record {
   greets = λ d0 n0 past leads ask.
       let action = Refuses port (history conn) in
@@ -93,7 +92,7 @@ met_new history past d e port id conn (Some l) does none fresh sits =
       subst (λ v. IsDue v) (sym at) (refl, refl, refl),
     )
 
-pub greets_opens : {C : Type 0} (history : C → Option ConnectionTrace) (d : Core) (n : Option ListenerTrace) (e : Core) (m : Option ListenerTrace) (port : ℕ) (id : SessionId) (conn : C) (p : Option (SessionLink C)) → ActsOn id.number d (Opens port) e → m ≡ with_notice (Port (Some port)) (with_notice (Asked true) n) → IsTrace (history conn) [] → IsNewLink conn id port p → Greets history d n true e m p
+pub greets_opens : {C : Type 0} (history : C → Option ConnectionTrace) (d : Core) (n : Option ListenerTrace) (e : Core) (m : Option ListenerTrace) (port : ℕ) (id : SessionId) (conn : C) (p : Option (SessionLink C)) → ActsOn id.number d (Opens port) e → m ≡ with_notice (Port (Some port)) (with_notice (Asked true) n) → IsTrace (history conn) [] → IsNewLink conn id port p → Greets history (record { daemon = d; listeners = n }) true (record { daemon = e; listeners = m }) p
 greets_opens history d n e m port id conn p does net fresh sits = record {
   greets = λ d0 n0 past leads ask.
       let action = Of id.number (Opens port) in

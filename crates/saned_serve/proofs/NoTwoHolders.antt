@@ -23,9 +23,11 @@ use Rattle.saned_core.specs.declared.session_slot.Fed.{Fed}
 use Rattle.saned_core.specs.declared.session_slot.Fed.TheVariants.{Standing, Over, Starved}
 use Rattle.saned_core.specs.declared.session_slot.DataStep.{DataStep}
 use Rattle.saned_core.specs.DaemonStates.{Core, is_slot_number, session_slot_of, session_in, session_of, on_session_slot, on_session, with_session, with_session_slot, slot_if_open, after_taken, after_reply_bytes, no_more, new_session_slot, after_connected, after_lost, lost_from, after_open_session, session_let_go}
-use Rattle.saned_core.specs.Feeding.{FeedsIf, FeedsContext, AnswersAll, AnsweredSoFar, FeedEndsSession, OutOfMemoryNext, slot_or_none_after_feed, slot_after_feed, registry_after, table_let_go, input_in}
+use Rattle.saned_core.specs.Feeding.{AnswersAll, AnsweredSoFar, FeedEndsSession, Feeds, OutOfMemoryNext, core_context, input_of, table_let_go}
+use Rattle.saned_core.specs.Inside.{FeedsContext, slot_or_none_after_feed, slot_after_feed, registry_after}
 use Rattle.saned_core.specs.Feeding.FeedEndsSession.{Garbled, Ended}
 use Rattle.saned_core.specs.Turns.{TurnsSessions, StreamsIn, StreamsFrom}
+use Rattle.saned_core.proofs.FeedCases.{feeds_in}
 use Rattle.saned_serve.specs.SessionActions.{SessionAction, ActsOn}
 use Rattle.saned_serve.specs.SessionActions.SessionAction.{Opens, Hears, Feed, Forgets, Take, Says, Looks, Misses, Connect, Turn, Shows, Lose, HangsUp, Leaves}
 use Rattle.saned_serve.specs.Journal.{LoopAction, Steps, DaemonRuns}
@@ -217,10 +219,10 @@ ran_out : (users : _) (d : RequestContext) (rest : List ℕ) (e : RequestContext
 ran_out users d rest e (inl same) = subst (λ x. Keeps d.registry d.session.held x.registry x.session.held) (sym same) (keeps_still d.registry d.session.held d.session.held refl)
 ran_out users d rest e (inr next) = faltered users d next.request e next.out_of_memory
 
-went_on : (users : _) (d : RequestContext) (old piece rest : List ℕ) (mid : RequestContext) (text : List ℕ) → AnsweredSoFar users d old piece rest mid text → Keeps d.registry d.session.held mid.registry mid.session.held
+went_on : (users : _) (d : RequestContext) (old piece rest : List ℕ) (mid : RequestContext) (text : List ℕ) → AnsweredSoFar (record { users = users; context = d; before = old; piece = piece }) (record { context = mid; rest = rest; text = text }) → Keeps d.registry d.session.held mid.registry mid.session.held
 went_on users d old piece rest mid text progress = all_answered users d progress.requests progress.told mid progress.answers
 
-fed_desk : (fed : Fed) (users : _) (d : RequestContext) (old piece rest : List ℕ) (e : RequestContext) (text : List ℕ) → FeedsContext fed users d old piece rest e text → Keeps d.registry d.session.held e.registry e.session.held
+fed_desk : (fed : Fed) (users : _) (d : RequestContext) (old piece rest : List ℕ) (e : RequestContext) (text : List ℕ) → FeedsContext fed (record { users = users; context = d; before = old; piece = piece }) (record { context = e; rest = rest; text = text }) → Keeps d.registry d.session.held e.registry e.session.held
 fed_desk Standing users d old piece rest e text feeds = went_on users d old piece rest e text feeds.so_far
 fed_desk Over users d old piece rest e text feeds = keeps_then (went_on users d old piece feeds.rest feeds.mid feeds.front feeds.so_far) (closed users feeds.mid feeds.rest feeds.last e feeds.closes)
 fed_desk Starved users d old piece rest e text feeds = keeps_then (went_on users d old piece feeds.rest feeds.mid feeds.text feeds.so_far) (ran_out users feeds.mid feeds.rest e feeds.out_of_memory)
@@ -240,13 +242,14 @@ with_own : (slot : Place) (s : Session DeviceState) (t u : Table) (f : SessionSl
 with_own None s t u f is keeps = absurd (let wrong : None ≡ Some s = is in cc)
 with_own (Some slot) s t u f is keeps = subst (λ h. Keeps t h u (held_in (f slot))) (sym (ap held_of is)) (keeps slot)
 
-fed_if : (o : Option (Session DeviceState)) (d : Core) (n : ℕ) (piece : List ℕ) (fed : Fed) (e : Core) → session_in (session_slot_of d.slots n) ≡ o → FeedsIf o d.users n (input_in (session_slot_of d.slots n)) d.slots d.registry d.stream piece fed e.slots e.registry e.stream → HoldsApart d → HoldsApart e
-fed_if None d n piece fed e is feeds was = subst (λ t. AreHeldApart t e.slots) (sym feeds.2) (subst (λ xs. AreHeldApart d.registry xs) (sym feeds.1) was)
+fed_if : (o : Option (Session DeviceState)) (d : Core) (n : ℕ) (piece : List ℕ) (fed : Fed) (e : Core) → session_of d n ≡ o → Feeds n d piece fed e → HoldsApart d → HoldsApart e
+fed_if None d n piece fed e is feeds was = subst HoldsApart (sym (feeds.idle is).1) was
 fed_if (Some s) d n piece fed e is feeds was =
-    let keeps = fed_desk fed d.users (record { session = s; registry = d.registry; stream = d.stream }) (input_in (session_slot_of d.slots n)) piece feeds.rest feeds.context feeds.text feeds.feeds in
-    let now = on_apart d.registry (registry_after fed feeds.context) d.slots (slot_or_none_after_feed fed feeds.context feeds.rest feeds.text) n
-    (with_own (session_slot_of d.slots n) s d.registry (registry_after fed feeds.context) (slot_or_none_after_feed fed feeds.context feeds.rest feeds.text) is (λ slot. keeps_then keeps (seat_held fed feeds.context feeds.rest feeds.text slot))) was in
-    subst (λ t. AreHeldApart t e.slots) (sym feeds.registry_is) (subst (λ xs. AreHeldApart (registry_after fed feeds.context) xs) (sym feeds.slots_is) now)
+    let at = feeds_in n d piece fed e s is feeds in
+    let keeps = fed_desk fed d.users (core_context d s) (input_of d n) piece at.rest at.context at.text at.feeds in
+    let now = on_apart d.registry (registry_after fed at.context) d.slots (slot_or_none_after_feed fed at.context at.rest at.text) n
+    (with_own (session_slot_of d.slots n) s d.registry (registry_after fed at.context) (slot_or_none_after_feed fed at.context at.rest at.text) is (λ slot. keeps_then keeps (seat_held fed at.context at.rest at.text slot))) was in
+    subst (λ t. AreHeldApart t e.slots) (sym at.registry_is) (subst (λ xs. AreHeldApart (registry_after fed at.context) xs) (sym at.slots_is) now)
 
 -- nothing of the leases changes
 same_apart : (d : Core) (f : SessionSlot DeviceState → Place) (n : ℕ) → ((slot : SessionSlot DeviceState) → held_in (f slot) ≡ held_in (Some slot)) → HoldsApart d → AreHeldApart d.registry (on_session_slot f n d.slots)
@@ -334,7 +337,7 @@ ended_by (Some s) d n is was =
 does_apart : (act : SessionAction) (id : ℕ) (d e : Core) → ActsOn id d act e → HoldsApart d → HoldsApart e
 does_apart (Opens port) id d e does was = subst (λ x. HoldsApart x) (sym does.after) (opened_apart d port was)
 does_apart (Hears got room bytes) id d e does was = subst (λ x. HoldsApart x) (sym does) was
-does_apart (Feed piece fed begins) id d e does was = fed_if (session_in (session_slot_of d.slots id)) d id piece fed e refl does.0.session was
+does_apart (Feed piece fed begins) id d e does was = fed_if (session_of d id) d id piece fed e refl does.0 was
 does_apart (Forgets told port) id d e does was = subst (λ x. HoldsApart x) (sym does) was
 does_apart (Take room bytes) id d e does was = subst (λ x. HoldsApart x) (sym does.after) (same_apart d (after_taken (length bytes)) id (taken_same (length bytes)) was)
 does_apart (Says got bytes) id d e does was = subst (λ x. HoldsApart x) (sym does) was

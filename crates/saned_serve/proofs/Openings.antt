@@ -1,5 +1,5 @@
 -- A number is one session's: nobody acts for it behind its end. And how many sessions stand.
-use Rattle.std.specs.Prelude.{nat_eq, Contains}
+use Rattle.std.specs.Prelude.{nat_eq}
 use Rattle.std.specs.Set.{is_member}
 use Rattle.std.proofs.Common.{◌≡◌, ◌≤◌, ◌<◌, ◌⊎◌, inl, inr, ℕ, ◌+◌, ◌-◌, Bool, true, false, ◌||◌, cond, Option, List, [], ◌∷◌, ◌++◌, length, refl, sym, ap, ◌∙◌, subst, arith}
 use Rattle.std.proofs.Math.Dec.{eqb}
@@ -95,7 +95,7 @@ below_act act number id past d e true false at plain does before on =
     omega (arith, few, more)
 below_act act number id past d e false o off kind does before on = below_as_before id (Of number act) past d e (open_off id (Of number act) past off) does before on
 
-below_count : (journal : List LoopAction) (id : ℕ) (d e : Core) → DaemonRuns d journal e → IsBelowCount id journal e
+pub below_count : (journal : List LoopAction) (id : ℕ) (d e : Core) → DaemonRuns d journal e → IsBelowCount id journal e
 below_count [] id d e runs = λ on. absurd (not_both on (none_open id))
 below_count (Of number act ∷ past) id d e runs = below_act act number id past runs.0 e (eqb number id) (opens_session act) refl refl runs.2 (below_count past id d runs.0 runs.1)
 below_count (Full ∷ past) id d e runs = below_as_before id Full past runs.0 e (open_off id Full past refl) runs.2 (below_count past id d runs.0 runs.1)

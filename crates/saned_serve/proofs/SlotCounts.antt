@@ -2,7 +2,7 @@
 use Rattle.std.proofs.Common.{◌≡◌, ◌≢◌, ◌≤◌, ◌<◌, ◌⊎◌, inl, inr, ℕ, zero, suc, ◌+◌, Bool, true, false, Option, None, Some, List, refl, sym, ap, ◌∙◌, arith}
 use Rattle.std.proofs.Math.Dec.{eqb}
 use Rattle.std.proofs.lemmas.Bool.{eq-eqb, eqb-true}
-use Rattle.saned_serve.specs.LoopInvariants.{link_at, one_link, links_below}
+use Rattle.saned_serve.specs.Inside.{link_at, one_link, links_below}
 use Rattle.saned_serve.specs.declared.link.SessionLink.{SessionLink}
 use Rattle.saned_serve.specs.declared.link_slots.LinkSlot.{LinkSlot}
 

@@ -5,11 +5,11 @@ use Rattle.std.proofs.lemmas.Bool.{eq-eqb}
 use Rattle.saned_core.specs.DaemonStates.{Core}
 use Rattle.saned_serve.specs.ConnectionTraces.{ConnectionTrace, lost_in, trace_bytes_written}
 use Rattle.saned_serve.specs.ListenerTraces.{ListenerTrace}
-use Rattle.saned_serve.specs.Journal.{LoopAction, SessionProjection, projection_of, JournalLeads, tally_of, after_tally, tally_with, empty_projection, has_stopped, has_asked, open_sessions, most_sessions, IsBehindItsTurn}
+use Rattle.saned_serve.specs.Journal.{LoopAction, SessionProjection, projection_of, JournalLeads, tally_of, after_tally, empty_projection, has_stopped, has_asked, open_sessions, most_sessions, IsBehindItsTurn}
+use Rattle.saned_serve.specs.Inside.{tally_with, ImageTraceMatchesIn, LinkMatches, HasGoneOn, JournalGoesOn, LeavesSession, SessionHasEnded, IsDue, link_at, one_link, links_below, HadTurn, LoopInvariant, WentOn, TookTurn, HasTakenTurns, HasTakenAllTurns, Shuts, KeepsSession, IsToBeLeft, Empties, HasGreeted, Greets, ClosesAll, session_turn, serving_state}
 use Rattle.saned_serve.specs.Journal.LoopAction.{Full, Turned, Stops}
-use Rattle.saned_serve.specs.JournalSteps.{ImageTraceMatchesIn, LinkMatches, HasGoneOn, JournalGoesOn, LeavesSession, SessionHasEnded, IsDue}
-use Rattle.saned_serve.specs.JournalSteps.TurnPhase.{Fresh, Due, Shown}
-use Rattle.saned_serve.specs.LoopInvariants.{link_at, one_link, links_below, HadTurn, LoopInvariant, WentOn, TookTurn, HasTakenTurns, HasTakenAllTurns, most_turns, Shuts, KeepsSession, IsToBeLeft, Empties, HasGreeted, Greets, ClosesAll, HasServed}
+use Rattle.saned_serve.specs.Inside.TurnPhase.{Fresh, Due, Shown}
+use Rattle.saned_serve.specs.Serving.{most_turns, HasServed}
 use Rattle.saned_serve.specs.declared.link.SessionLink.{SessionLink}
 use Rattle.saned_serve.specs.declared.link_slots.LinkSlot.{LinkSlot}
 use Rattle.saned_serve.specs.declared.serving.ServeEnd.TheVariants.{Sessions, Idle, Turns, NoMem}
@@ -57,7 +57,7 @@ new_dark : {C : Type 0} (history : C → Option ConnectionTrace) (place : ℕ �
 new_dark history place i id journal None new gone = new.1
 new_dark history place i id journal (Some k) new gone = absurd (let wrong : true ≡ false = sym (new.2.is_open) ∙ gone in cc)
 
-pub stands_change : {C : Type 0} (history : C → Option ConnectionTrace) (d0 : Core) (n0 : Option ListenerTrace) (past : List LoopAction) (d : Core) (n : Option ListenerTrace) (h : ℕ) (slots : List (LinkSlot C)) (was : LoopInvariant history d0 n0 past d n h slots)
+pub stands_change : {C : Type 0} (history : C → Option ConnectionTrace) (d0 : Core) (n0 : Option ListenerTrace) (past : List LoopAction) (d : Core) (n : Option ListenerTrace) (h : ℕ) (slots : List (LinkSlot C)) (was : LoopInvariant history (record { daemon = d0; listeners = n0 }) past (serving_state d n h slots))
     (e : Core) (m : Option ListenerTrace) (h' : ℕ) (slots' : List (LinkSlot C)) (journal : List LoopAction) (id i : ℕ) (p : Option (SessionLink C)) (place : ℕ → ℕ)
     → JournalLeads d0 n0 journal e m
     → ((j : ℕ) → j ≢ id → projection_of j journal ≡ projection_of j past)
@@ -73,7 +73,7 @@ pub stands_change : {C : Type 0} (history : C → Option ConnectionTrace) (d0 : 
     → ((k : SessionLink C) → p ≡ Some k → h' ≤ i → IsDue (projection_of k.id.number journal))
     → ((k : SessionLink C) → p ≡ Some k → i < most_sessions)
     → open_sessions journal ≡ links_below most_sessions slots'
-    → LoopInvariant history d0 n0 journal e m h' slots'
+    → LoopInvariant history (record { daemon = d0; listeners = n0 }) journal (serving_state e m h' slots')
 stands_change {C} history d0 n0 past d n h slots was e m h' slots' journal id i p place leads others at off placed own only new below above mine fresh room count = record {
   leads = leads;
   place = place;
@@ -129,8 +129,8 @@ stands_change {C} history d0 n0 past d n h slots was e m h' slots' journal id i 
         let before = was.turned j x f2 (below j differ few) in
         (ap (λ v. v.visited) projection ∙ before.0, (λ over. ap (λ v. v.drained) projection ∙ before.1 (sym (ap (λ v. v.over) projection) ∙ over)), ap (λ v. v.tended) projection ∙ before.2)
 
-pub stands_same : {C : Type 0} (history : C → Option ConnectionTrace) (d0 : Core) (n0 : Option ListenerTrace) (past : List LoopAction) (d : Core) (n : Option ListenerTrace) (h : ℕ) (slots : List (LinkSlot C)) → LoopInvariant history d0 n0 past d n h slots
-    → (e : Core) (m : Option ListenerTrace) (h' : ℕ) (slots' : List (LinkSlot C)) → e ≡ d → m ≡ n → ((j : ℕ) → link_at slots' j ≡ link_at slots j) → ((j : ℕ) (x : SessionLink C) → link_at slots j ≡ Some x → j < h' → j < h) → ((j : ℕ) → h' ≤ j → h ≤ j) → LoopInvariant history d0 n0 past e m h' slots'
+pub stands_same : {C : Type 0} (history : C → Option ConnectionTrace) (d0 : Core) (n0 : Option ListenerTrace) (past : List LoopAction) (d : Core) (n : Option ListenerTrace) (h : ℕ) (slots : List (LinkSlot C)) → LoopInvariant history (record { daemon = d0; listeners = n0 }) past (serving_state d n h slots)
+    → (e : Core) (m : Option ListenerTrace) (h' : ℕ) (slots' : List (LinkSlot C)) → e ≡ d → m ≡ n → ((j : ℕ) → link_at slots' j ≡ link_at slots j) → ((j : ℕ) (x : SessionLink C) → link_at slots j ≡ Some x → j < h' → j < h) → ((j : ℕ) → h' ≤ j → h ≤ j) → LoopInvariant history (record { daemon = d0; listeners = n0 }) past (serving_state e m h' slots')
 stands_same history d0 n0 past d n h slots was e m h' slots' same net off below above = record {
   leads = subst (λ x. JournalLeads d0 n0 past x m) (sym same) (subst (λ x. JournalLeads d0 n0 past d x) (sym net) was.leads);
   place = was.place;
@@ -144,12 +144,12 @@ stands_same history d0 n0 past d n h slots was e m h' slots' same net off below 
 }
 
 -- the journal did not go on
-pub stays : {C : Type 0} (history : C → Option ConnectionTrace) (d0 : Core) (n0 : Option ListenerTrace) (past : List LoopAction) (e : Core) (m : Option ListenerTrace) (h : ℕ) (slots : List (LinkSlot C)) → has_asked past ≡ true → LoopInvariant history d0 n0 past e m h slots → WentOn history d0 n0 past 0 false e m h slots
+pub stays : {C : Type 0} (history : C → Option ConnectionTrace) (d0 : Core) (n0 : Option ListenerTrace) (past : List LoopAction) (e : Core) (m : Option ListenerTrace) (h : ℕ) (slots : List (LinkSlot C)) → has_asked past ≡ true → LoopInvariant history (record { daemon = d0; listeners = n0 }) past (serving_state e m h slots) → WentOn history (record { daemon = d0; listeners = n0 }) past (record { has_moved = false; left = 0 }) (serving_state e m h slots)
 stays history d0 n0 past e m h slots asked stands = record { journal = past; more = ([], refl); stands = stands; tally = counted_none (tally_of past); asked = asked }
 
 -- one after the other
 pub then_on : {C : Type 0} (history : C → Option ConnectionTrace) (d0 : Core) (n0 : Option ListenerTrace) (past : List LoopAction) (left more : ℕ) (x y : Bool) (e : Core) (m : Option ListenerTrace) (h : ℕ) (slots : List (LinkSlot C)) (f : Core) (o : Option ListenerTrace) (h' : ℕ) (slots' : List (LinkSlot C))
-    → WentOn history d0 n0 past left x e m h slots → ((journal : List LoopAction) → has_asked journal ≡ true → LoopInvariant history d0 n0 journal e m h slots → WentOn history d0 n0 journal more y f o h' slots') → WentOn history d0 n0 past (left + more) (x || y) f o h' slots'
+    → WentOn history (record { daemon = d0; listeners = n0 }) past (record { has_moved = x; left = left }) (serving_state e m h slots) → ((journal : List LoopAction) → has_asked journal ≡ true → LoopInvariant history (record { daemon = d0; listeners = n0 }) journal (serving_state e m h slots) → WentOn history (record { daemon = d0; listeners = n0 }) journal (record { has_moved = y; left = more }) (serving_state f o h' slots')) → WentOn history (record { daemon = d0; listeners = n0 }) past (record { has_moved = (x || y); left = (left + more) }) (serving_state f o h' slots')
 then_on history d0 n0 past left more x y e m h slots f o h' slots' first then =
     let next = then first.journal first.asked first.stands in
     record {
@@ -165,11 +165,11 @@ unfolding projection_of
 nobody id = refl
 
 -- a link that sits at a place is the only one with its number
-own_at : {C : Type 0} (history : C → Option ConnectionTrace) (d0 : Core) (n0 : Option ListenerTrace) (past : List LoopAction) (d : Core) (n : Option ListenerTrace) (h : ℕ) (slots : List (LinkSlot C)) → LoopInvariant history d0 n0 past d n h slots → (i : ℕ) (l : SessionLink C) → link_at slots i ≡ Some l
+own_at : {C : Type 0} (history : C → Option ConnectionTrace) (d0 : Core) (n0 : Option ListenerTrace) (past : List LoopAction) (d : Core) (n : Option ListenerTrace) (h : ℕ) (slots : List (LinkSlot C)) → LoopInvariant history (record { daemon = d0; listeners = n0 }) past (serving_state d n h slots) → (i : ℕ) (l : SessionLink C) → link_at slots i ≡ Some l
     → (k : SessionLink C) → link_at slots i ≡ Some k → k.id.number ≡ l.id.number
 own_at history d0 n0 past d n h slots was i l at k f = ap (λ x. x.id.number) (same_some k l (sym f ∙ at))
 
-only_at : {C : Type 0} (history : C → Option ConnectionTrace) (d0 : Core) (n0 : Option ListenerTrace) (past : List LoopAction) (d : Core) (n : Option ListenerTrace) (h : ℕ) (slots : List (LinkSlot C)) → LoopInvariant history d0 n0 past d n h slots → (i : ℕ) (l : SessionLink C) → link_at slots i ≡ Some l
+only_at : {C : Type 0} (history : C → Option ConnectionTrace) (d0 : Core) (n0 : Option ListenerTrace) (past : List LoopAction) (d : Core) (n : Option ListenerTrace) (h : ℕ) (slots : List (LinkSlot C)) → LoopInvariant history (record { daemon = d0; listeners = n0 }) past (serving_state d n h slots) → (i : ℕ) (l : SessionLink C) → link_at slots i ≡ Some l
     → (j : ℕ) (k : SessionLink C) → j ≢ i → link_at slots j ≡ Some k → k.id.number ≢ l.id.number
 only_at history d0 n0 past d n h slots was i l at j k differ f same =
     differ (sym (was.each j k f).0 ∙ ap was.place same ∙ (was.each i l at).0)
@@ -188,8 +188,8 @@ begins : {C : Type 0} {history : C → Option ConnectionTrace} {projection : Ses
 begins tells due = tells_at tells (tells.at, due)
 
 -- a session had its turn, and stays
-pub stands_goes : {C : Type 0} (history : C → Option ConnectionTrace) (d0 : Core) (n0 : Option ListenerTrace) (past : List LoopAction) (d : Core) (n : Option ListenerTrace) (slots : List (LinkSlot C)) (i : ℕ) → has_asked past ≡ true → LoopInvariant history d0 n0 past d n i slots
-    → (stir : Bool) (e : Core) (m : Option ListenerTrace) (slots' : List (LinkSlot C)) (l k : SessionLink C) → link_at slots i ≡ Some l → JournalGoesOn history Due Shown d n l stir e m k → k.is_done ≡ false → link_at slots' i ≡ Some k → ((j : ℕ) → j ≢ i → link_at slots' j ≡ link_at slots j) → WentOn history d0 n0 past 0 stir e m (i + 1) slots'
+pub stands_goes : {C : Type 0} (history : C → Option ConnectionTrace) (d0 : Core) (n0 : Option ListenerTrace) (past : List LoopAction) (d : Core) (n : Option ListenerTrace) (slots : List (LinkSlot C)) (i : ℕ) → has_asked past ≡ true → LoopInvariant history (record { daemon = d0; listeners = n0 }) past (serving_state d n i slots)
+    → (stir : Bool) (e : Core) (m : Option ListenerTrace) (slots' : List (LinkSlot C)) (l k : SessionLink C) → link_at slots i ≡ Some l → JournalGoesOn history (session_turn Due d n l) stir (session_turn Shown e m k) → k.is_done ≡ false → link_at slots' i ≡ Some k → ((j : ℕ) → j ≢ i → link_at slots' j ≡ link_at slots j) → WentOn history (record { daemon = d0; listeners = n0 }) past (record { has_moved = stir; left = 0 }) (serving_state e m (i + 1) slots')
 stands_goes {C} history d0 n0 past d n slots i asked was stir e m slots' l k at goes alive now off =
     let had = was.each i l at in
     let w = goes.goes d0 n0 past was.leads (begins had.1 (was.due i l at (omega arith))) in
@@ -216,9 +216,9 @@ stands_goes {C} history d0 n0 past d n slots i asked was stir e m slots' l k at 
     mine w x same number = subst (λ y. HadTurn w.journal y) same (turn (projection_of k.id.number w.journal) (subst (λ j. LinkMatches history Shown (projection_of j w.journal) k) (sym number) w.tells))
 
 -- a session is gone from its slot
-stands_ended : {C : Type 0} (history : C → Option ConnectionTrace) (d0 : Core) (n0 : Option ListenerTrace) (past : List LoopAction) (d : Core) (n : Option ListenerTrace) (h : ℕ) (slots : List (LinkSlot C)) (was : LoopInvariant history d0 n0 past d n h slots)
+stands_ended : {C : Type 0} (history : C → Option ConnectionTrace) (d0 : Core) (n0 : Option ListenerTrace) (past : List LoopAction) (d : Core) (n : Option ListenerTrace) (h : ℕ) (slots : List (LinkSlot C)) (was : LoopInvariant history (record { daemon = d0; listeners = n0 }) past (serving_state d n h slots))
     → (stir : Bool) (e : Core) (m : Option ListenerTrace) (h' : ℕ) (slots' : List (LinkSlot C)) (i : ℕ) (l : SessionLink C) → link_at slots i ≡ Some l → (w : SessionHasEnded d0 n0 past l.id.number stir e m) → link_at slots' i ≡ None → ((j : ℕ) → j ≢ i → link_at slots' j ≡ link_at slots j) → ((j : ℕ) → j ≢ i → j < h' → j < h) → ((j : ℕ) → j ≢ i → h' ≤ j → h ≤ j)
-    → LoopInvariant history d0 n0 w.journal e m h' slots'
+    → LoopInvariant history (record { daemon = d0; listeners = n0 }) w.journal (serving_state e m h' slots')
 stands_ended history d0 n0 past d n h slots was stir e m h' slots' i l at w now off below above =
     stands_change history d0 n0 past d n h slots was e m h' slots' w.journal l.id.number i None was.place w.leads w.others now off (λ j differ. refl)
     (own_at history d0 n0 past d n h slots was i l at) (only_at history d0 n0 past d n h slots was i l at)
@@ -234,8 +234,8 @@ stands_ended history d0 n0 past d n h slots was stir e m h' slots' i l at w now 
         omega (arith, change, before, after, left, count)
 
 -- a session had its turn, and is left
-pub stands_leaves : {C : Type 0} (history : C → Option ConnectionTrace) (d0 : Core) (n0 : Option ListenerTrace) (past : List LoopAction) (d : Core) (n : Option ListenerTrace) (slots : List (LinkSlot C)) (i : ℕ) → has_asked past ≡ true → LoopInvariant history d0 n0 past d n i slots
-    → (stir : Bool) (e : Core) (m : Option ListenerTrace) (f : Core) (o : Option ListenerTrace) (slots' : List (LinkSlot C)) (l k : SessionLink C) → link_at slots i ≡ Some l → JournalGoesOn history Due Shown d n l stir e m k → k.is_done ≡ true → LeavesSession history e m k f o → link_at slots' i ≡ None → ((j : ℕ) → j ≢ i → link_at slots' j ≡ link_at slots j) → WentOn history d0 n0 past 1 stir f o (i + 1) slots'
+pub stands_leaves : {C : Type 0} (history : C → Option ConnectionTrace) (d0 : Core) (n0 : Option ListenerTrace) (past : List LoopAction) (d : Core) (n : Option ListenerTrace) (slots : List (LinkSlot C)) (i : ℕ) → has_asked past ≡ true → LoopInvariant history (record { daemon = d0; listeners = n0 }) past (serving_state d n i slots)
+    → (stir : Bool) (e : Core) (m : Option ListenerTrace) (f : Core) (o : Option ListenerTrace) (slots' : List (LinkSlot C)) (l k : SessionLink C) → link_at slots i ≡ Some l → JournalGoesOn history (session_turn Due d n l) stir (session_turn Shown e m k) → k.is_done ≡ true → LeavesSession history (record { daemon = e; listeners = m }) k (record { daemon = f; listeners = o }) → link_at slots' i ≡ None → ((j : ℕ) → j ≢ i → link_at slots' j ≡ link_at slots j) → WentOn history (record { daemon = d0; listeners = n0 }) past (record { has_moved = stir; left = 1 }) (serving_state f o (i + 1) slots')
 stands_leaves {C} history d0 n0 past d n slots i asked was stir e m f o slots' l k at goes done parts now off =
     let had = was.each i l at in
     let w = goes.goes d0 n0 past was.leads (begins had.1 (was.due i l at (omega arith))) in
@@ -260,10 +260,10 @@ stands_leaves {C} history d0 n0 past d n slots i asked was stir e m f o slots' l
     }
 
 -- the slot at i had its turn, and nobody leaves
-pub stands_keeps : {C : Type 0} (history : C → Option ConnectionTrace) (d0 : Core) (n0 : Option ListenerTrace) (past : List LoopAction) (d : Core) (n : Option ListenerTrace) (slots : List (LinkSlot C)) (i : ℕ) → has_asked past ≡ true → LoopInvariant history d0 n0 past d n i slots
-    → (stir : Bool) (e : Core) (m : Option ListenerTrace) (slots' : List (LinkSlot C)) (o p : Option (SessionLink C)) → link_at slots i ≡ o → KeepsSession history d n o stir e m p → IsToBeLeft false p → link_at slots' i ≡ p → ((j : ℕ) → j ≢ i → link_at slots' j ≡ link_at slots j) → WentOn history d0 n0 past 0 stir e m (i + 1) slots'
+pub stands_keeps : {C : Type 0} (history : C → Option ConnectionTrace) (d0 : Core) (n0 : Option ListenerTrace) (past : List LoopAction) (d : Core) (n : Option ListenerTrace) (slots : List (LinkSlot C)) (i : ℕ) → has_asked past ≡ true → LoopInvariant history (record { daemon = d0; listeners = n0 }) past (serving_state d n i slots)
+    → (stir : Bool) (e : Core) (m : Option ListenerTrace) (slots' : List (LinkSlot C)) (o p : Option (SessionLink C)) → link_at slots i ≡ o → KeepsSession history (record { daemon = d; listeners = n; link = o }) stir (record { daemon = e; listeners = m; link = p }) → IsToBeLeft false p → link_at slots' i ≡ p → ((j : ℕ) → j ≢ i → link_at slots' j ≡ link_at slots j) → WentOn history (record { daemon = d0; listeners = n0 }) past (record { has_moved = stir; left = 0 }) (serving_state e m (i + 1) slots')
 stands_keeps {C} history d0 n0 past d n slots i asked was stir e m slots' None None at keeps left now off =
-    subst (λ b. WentOn history d0 n0 past 0 b e m (i + 1) slots') (sym keeps.2)
+    subst (λ b. WentOn history (record { daemon = d0; listeners = n0 }) past (record { has_moved = b; left = 0 }) (serving_state e m (i + 1) slots')) (sym keeps.2)
     (stays history d0 n0 past e m (i + 1) slots' asked (stands_same history d0 n0 past d n i slots was e m (i + 1) slots' keeps.0 keeps.1 (λ j. each_off j (decide j i)) (λ j x f few. below j x f few (decide j i)) (λ j much. above_next i j much)))
   where
     each_off : (j : ℕ) → (j ≡ i) ⊎ (j ≢ i) → link_at slots' j ≡ link_at slots j
@@ -279,15 +279,15 @@ stands_keeps history d0 n0 past d n slots i asked was stir e m slots' (Some l) (
     stands_goes history d0 n0 past d n slots i asked was stir e m slots' l k at keeps (sym left) now off
 
 -- the slot at i had its turn, and its session is left
-pub stands_empties : {C : Type 0} (history : C → Option ConnectionTrace) (d0 : Core) (n0 : Option ListenerTrace) (past : List LoopAction) (d : Core) (n : Option ListenerTrace) (slots : List (LinkSlot C)) (i : ℕ) → has_asked past ≡ true → LoopInvariant history d0 n0 past d n i slots
-    → (stir : Bool) (e : Core) (m : Option ListenerTrace) (f : Core) (q : Option ListenerTrace) (slots' : List (LinkSlot C)) (o p : Option (SessionLink C)) → link_at slots i ≡ o → KeepsSession history d n o stir e m p → IsToBeLeft true p → Empties history e m p f q → link_at slots' i ≡ None → ((j : ℕ) → j ≢ i → link_at slots' j ≡ link_at slots j) → WentOn history d0 n0 past 1 stir f q (i + 1) slots'
+pub stands_empties : {C : Type 0} (history : C → Option ConnectionTrace) (d0 : Core) (n0 : Option ListenerTrace) (past : List LoopAction) (d : Core) (n : Option ListenerTrace) (slots : List (LinkSlot C)) (i : ℕ) → has_asked past ≡ true → LoopInvariant history (record { daemon = d0; listeners = n0 }) past (serving_state d n i slots)
+    → (stir : Bool) (e : Core) (m : Option ListenerTrace) (f : Core) (q : Option ListenerTrace) (slots' : List (LinkSlot C)) (o p : Option (SessionLink C)) → link_at slots i ≡ o → KeepsSession history (record { daemon = d; listeners = n; link = o }) stir (record { daemon = e; listeners = m; link = p }) → IsToBeLeft true p → Empties history (record { daemon = e; listeners = m }) p (record { daemon = f; listeners = q }) → link_at slots' i ≡ None → ((j : ℕ) → j ≢ i → link_at slots' j ≡ link_at slots j) → WentOn history (record { daemon = d0; listeners = n0 }) past (record { has_moved = stir; left = 1 }) (serving_state f q (i + 1) slots')
 stands_empties history d0 n0 past d n slots i asked was stir e m f q slots' o None at keeps left empties now off = absurd (let wrong : true ≡ false = left in cc)
 stands_empties history d0 n0 past d n slots i asked was stir e m f q slots' None (Some k) at keeps left empties now off = absurd keeps
 stands_empties history d0 n0 past d n slots i asked was stir e m f q slots' (Some l) (Some k) at keeps left empties now off =
     stands_leaves history d0 n0 past d n slots i asked was stir e m f q slots' l k at keeps (sym left) empties now off
 
-pub stands_greets : {C : Type 0} (history : C → Option ConnectionTrace) (d0 : Core) (n0 : Option ListenerTrace) (past : List LoopAction) (d : Core) (n : Option ListenerTrace) (slots : List (LinkSlot C)) → has_asked past ≡ false → LoopInvariant history d0 n0 past d n 0 slots
-    → (stir : Bool) (e : Core) (m : Option ListenerTrace) (slots' : List (LinkSlot C)) (i : ℕ) (p : Option (SessionLink C)) → i < most_sessions → link_at slots i ≡ None → Greets history d n stir e m p → link_at slots' i ≡ p → ((j : ℕ) → j ≢ i → link_at slots' j ≡ link_at slots j) → WentOn history d0 n0 past 0 stir e m 0 slots'
+pub stands_greets : {C : Type 0} (history : C → Option ConnectionTrace) (d0 : Core) (n0 : Option ListenerTrace) (past : List LoopAction) (d : Core) (n : Option ListenerTrace) (slots : List (LinkSlot C)) → has_asked past ≡ false → LoopInvariant history (record { daemon = d0; listeners = n0 }) past (serving_state d n 0 slots)
+    → (stir : Bool) (e : Core) (m : Option ListenerTrace) (slots' : List (LinkSlot C)) (i : ℕ) (p : Option (SessionLink C)) → i < most_sessions → link_at slots i ≡ None → Greets history (record { daemon = d; listeners = n }) stir (record { daemon = e; listeners = m }) p → link_at slots' i ≡ p → ((j : ℕ) → j ≢ i → link_at slots' j ≡ link_at slots j) → WentOn history (record { daemon = d0; listeners = n0 }) past (record { has_moved = stir; left = 0 }) (serving_state e m 0 slots')
 stands_greets {C} history d0 n0 past d n slots anew was stir e m slots' i p room at greets now off =
     let met = greets.greets d0 n0 past was.leads (anew, subst (λ k. k < most_sessions) (sym was.count) (links_fewer most_sessions i slots room at)) in
     record { journal = met.journal; more = met.more; stands = by_link p met now; tally = met.tally; asked = met.asked }
@@ -310,7 +310,7 @@ stands_greets {C} history d0 n0 past d n slots anew was stir e m slots' i p room
     more_count : {a b : ℕ} → a ≡ open_sessions past + 1 → links_below most_sessions slots' + one_link (link_at slots i) ≡ links_below most_sessions slots + b → b ≡ 1 → a ≡ links_below most_sessions slots'
     more_count crowd change one = let count = was.count in let before = ap one_link at in omega (arith, crowd, change, one, count, before)
 
-    by_link : (p : Option (SessionLink C)) (met : HasGreeted history d0 n0 past stir e m d.opened p) → link_at slots' i ≡ p → LoopInvariant history d0 n0 met.journal e m 0 slots'
+    by_link : (p : Option (SessionLink C)) (met : HasGreeted history d0 n0 past stir e m d.opened p) → link_at slots' i ≡ p → LoopInvariant history (record { daemon = d0; listeners = n0 }) met.journal (serving_state e m 0 slots')
     by_link None met now =
         let lives : (j : ℕ) → projection_of j met.journal ≡ projection_of j past = λ j. elim (decide j d.opened) [ inl same ↦ subst (λ k. projection_of k met.journal ≡ projection_of k past) (sym same) met.met | inr differ ↦ met.others j differ ] in
         let links : (j : ℕ) → link_at slots' j ≡ link_at slots j = λ j. elim (decide j i) [ inl same ↦ subst (λ k. link_at slots' k ≡ link_at slots k) (sym same) (now ∙ sym at) | inr differ ↦ off j differ ] in
@@ -350,7 +350,7 @@ settled {C} history projection l tells turned = record {
     shows imaging None was carries = absurd (not_both imaging carries)
     shows imaging (Some conn) was carries = (carries.held, λ last. λ all. carries.more (carries.last ∙ last) (append_front (trace_bytes_written projection.image) l.records projection.shown carries.shown all))
 
-pub stands_turned : {C : Type 0} (history : C → Option ConnectionTrace) (d0 : Core) (n0 : Option ListenerTrace) (past : List LoopAction) (d : Core) (n : Option ListenerTrace) (h : ℕ) (slots : List (LinkSlot C)) → has_asked past ≡ true → LoopInvariant history d0 n0 past d n h slots → ((j : ℕ) (l : SessionLink C) → link_at slots j ≡ Some l → j < h) → LoopInvariant history d0 n0 (Turned ∷ past) d n 0 slots
+pub stands_turned : {C : Type 0} (history : C → Option ConnectionTrace) (d0 : Core) (n0 : Option ListenerTrace) (past : List LoopAction) (d : Core) (n : Option ListenerTrace) (h : ℕ) (slots : List (LinkSlot C)) → has_asked past ≡ true → LoopInvariant history (record { daemon = d0; listeners = n0 }) past (serving_state d n h slots) → ((j : ℕ) (l : SessionLink C) → link_at slots j ≡ Some l → j < h) → LoopInvariant history (record { daemon = d0; listeners = n0 }) (Turned ∷ past) (serving_state d n 0 slots)
 stands_turned {C} history d0 n0 past d n h slots asked was full = record {
   leads = record {
     is_journal = (was.leads.is_journal, (asked, λ id standing. by_link id (was.all id standing)));
@@ -414,12 +414,12 @@ pub link_at_empty : {C : Type 0} (slots : List (LinkSlot C)) (slot : LinkSlot C)
 link_at_empty slots slot none all j = elim (decide j (length slots)) [ inl same ↦ ap (link_at (slots ++ slot ∷ [])) same ∙ link_at_last slots slot ∙ none | inr differ ↦ sym (link_at_before slots slot j differ) ∙ all j ]
 
 -- nothing was done
-pub shuts_here : {C : Type 0} (history : C → Option ConnectionTrace) (d0 : Core) (n0 : Option ListenerTrace) (past : List LoopAction) (e : Core) (m : Option ListenerTrace) (slots : List (LinkSlot C)) → has_stopped past ≡ true → LoopInvariant history d0 n0 past e m 0 slots → Shuts history d0 n0 past e m slots
+pub shuts_here : {C : Type 0} (history : C → Option ConnectionTrace) (d0 : Core) (n0 : Option ListenerTrace) (past : List LoopAction) (e : Core) (m : Option ListenerTrace) (slots : List (LinkSlot C)) → has_stopped past ≡ true → LoopInvariant history (record { daemon = d0; listeners = n0 }) past (serving_state e m 0 slots) → Shuts history d0 n0 past e m slots
 shuts_here history d0 n0 past e m slots stopped stands = record { journal = past; closing = ([], tt, refl); stands = stands; stopped = stopped }
 
 -- the last slot is emptied and taken away
-pub stands_pops : {C : Type 0} (history : C → Option ConnectionTrace) (d0 : Core) (n0 : Option ListenerTrace) (past : List LoopAction) (d : Core) (n : Option ListenerTrace) (slots : List (LinkSlot C)) (slot : LinkSlot C) → has_stopped past ≡ true → LoopInvariant history d0 n0 past d n 0 (slots ++ slot ∷ [])
-    → (e : Core) (m : Option ListenerTrace) (o : Option (SessionLink C)) → slot.link ≡ o → Empties history d n o e m → Shuts history d0 n0 past e m slots
+pub stands_pops : {C : Type 0} (history : C → Option ConnectionTrace) (d0 : Core) (n0 : Option ListenerTrace) (past : List LoopAction) (d : Core) (n : Option ListenerTrace) (slots : List (LinkSlot C)) (slot : LinkSlot C) → has_stopped past ≡ true → LoopInvariant history (record { daemon = d0; listeners = n0 }) past (serving_state d n 0 (slots ++ slot ∷ []))
+    → (e : Core) (m : Option ListenerTrace) (o : Option (SessionLink C)) → slot.link ≡ o → Empties history (record { daemon = d; listeners = n }) o (record { daemon = e; listeners = m }) → Shuts history d0 n0 past e m slots
 stands_pops history d0 n0 past d n slots slot stopped was e m None at empties =
     shuts_here history d0 n0 past e m slots stopped (stands_same history d0 n0 past d n 0 (slots ++ slot ∷ []) was e m 0 slots empties.0 empties.1
     (λ j. elim (decide j (length slots)) [ inl same ↦ ap (link_at slots) same ∙ link_at_end slots ∙ sym (ap (link_at (slots ++ slot ∷ [])) same ∙ link_at_last slots slot ∙ at) | inr differ ↦ link_at_before slots slot j differ ]) (λ j x f few. few) (λ j much. much))
@@ -434,7 +434,7 @@ stands_pops history d0 n0 past d n slots slot stopped was e m (Some l) at emptie
     }
 
 -- all slots are empty
-pub stands_begins : {C : Type 0} (history : C → Option ConnectionTrace) (d : Core) (n : Option ListenerTrace) (slots : List (LinkSlot C)) → ((j : ℕ) → link_at slots j ≡ None) → LoopInvariant history d n [] d n 0 slots
+pub stands_begins : {C : Type 0} (history : C → Option ConnectionTrace) (d : Core) (n : Option ListenerTrace) (slots : List (LinkSlot C)) → ((j : ℕ) → link_at slots j ≡ None) → LoopInvariant history (record { daemon = d; listeners = n }) [] (serving_state d n 0 slots)
 stands_begins history d n slots none = record {
   leads = record { is_journal = tt; run = refl; net = refl; unused = λ id h. nobody id };
   place = λ j. j;
@@ -448,7 +448,7 @@ stands_begins history d n slots none = record {
 }
 
 -- all turns are over
-pub stands_stops : {C : Type 0} (history : C → Option ConnectionTrace) (d0 : Core) (n0 : Option ListenerTrace) (past : List LoopAction) (d : Core) (n : Option ListenerTrace) (slots : List (LinkSlot C)) → LoopInvariant history d0 n0 past d n 0 slots → LoopInvariant history d0 n0 (Stops ∷ past) d n 0 slots
+pub stands_stops : {C : Type 0} (history : C → Option ConnectionTrace) (d0 : Core) (n0 : Option ListenerTrace) (past : List LoopAction) (d : Core) (n : Option ListenerTrace) (slots : List (LinkSlot C)) → LoopInvariant history (record { daemon = d0; listeners = n0 }) past (serving_state d n 0 slots) → LoopInvariant history (record { daemon = d0; listeners = n0 }) (Stops ∷ past) (serving_state d n 0 slots)
 stands_stops history d0 n0 past d n slots was = record {
   leads = record {
     is_journal = (was.leads.is_journal, tt);
@@ -467,8 +467,8 @@ stands_stops history d0 n0 past d n slots was = record {
 }
 
 -- all slots have a session
-pub stands_full : {C : Type 0} (history : C → Option ConnectionTrace) (d0 : Core) (n0 : Option ListenerTrace) (past : List LoopAction) (d : Core) (n : Option ListenerTrace) (slots : List (LinkSlot C)) → has_asked past ≡ false → LoopInvariant history d0 n0 past d n 0 slots
-    → ((j : ℕ) → j < most_sessions → one_link (link_at slots j) ≡ 1) → WentOn history d0 n0 past 0 false d n 0 slots
+pub stands_full : {C : Type 0} (history : C → Option ConnectionTrace) (d0 : Core) (n0 : Option ListenerTrace) (past : List LoopAction) (d : Core) (n : Option ListenerTrace) (slots : List (LinkSlot C)) → has_asked past ≡ false → LoopInvariant history (record { daemon = d0; listeners = n0 }) past (serving_state d n 0 slots)
+    → ((j : ℕ) → j < most_sessions → one_link (link_at slots j) ≡ 1) → WentOn history (record { daemon = d0; listeners = n0 }) past (record { has_moved = false; left = 0 }) (serving_state d n 0 slots)
 stands_full history d0 n0 past d n slots anew was all = record {
   journal = Full ∷ past;
   more = (Full ∷ [], refl);
@@ -493,7 +493,7 @@ stands_full history d0 n0 past d n slots anew was all = record {
 }
 
 -- no slot is left
-pub stands_ends : {C : Type 0} (history : C → Option ConnectionTrace) (d0 : Core) (n0 : Option ListenerTrace) (past : List LoopAction) (d : Core) (n : Option ListenerTrace) → Shuts {C = C} history d0 n0 past d n [] → ClosesAll d0 n0 past d n
+pub stands_ends : {C : Type 0} (history : C → Option ConnectionTrace) (d0 : Core) (n0 : Option ListenerTrace) (past : List LoopAction) (d : Core) (n : Option ListenerTrace) → Shuts {C = C} history d0 n0 past d n [] → ClosesAll (record { daemon = d0; listeners = n0 }) past (record { daemon = d; listeners = n })
 stands_ends {C} history d0 n0 past d n turned = record {
   journal = turned.journal;
   closing = turned.closing;
@@ -514,7 +514,7 @@ link_inside (s ∷ slots) zero l e = omega arith
 link_inside (s ∷ slots) (suc j) l e = let inside = link_inside slots j l e in omega (arith, inside)
 
 -- all slots had their turn
-pub took_turn : {C : Type 0} (history : C → Option ConnectionTrace) (d0 : Core) (n0 : Option ListenerTrace) (past : List LoopAction) (left : ℕ) (stir : Bool) (e : Core) (m : Option ListenerTrace) (h : ℕ) (slots : List (LinkSlot C)) → length slots ≤ h → WentOn history d0 n0 past left stir e m h slots → TookTurn history d0 n0 past left stir e m slots
+pub took_turn : {C : Type 0} (history : C → Option ConnectionTrace) (d0 : Core) (n0 : Option ListenerTrace) (past : List LoopAction) (left : ℕ) (stir : Bool) (e : Core) (m : Option ListenerTrace) (h : ℕ) (slots : List (LinkSlot C)) → length slots ≤ h → WentOn history (record { daemon = d0; listeners = n0 }) past (record { has_moved = stir; left = left }) (serving_state e m h slots) → TookTurn history (record { daemon = d0; listeners = n0 }) past (record { has_moved = stir; left = left }) (serving_state e m 0 slots)
 took_turn history d0 n0 past left stir e m h slots all on = record {
   journal = on.journal;
   more = on.more;
@@ -524,24 +524,24 @@ took_turn history d0 n0 past left stir e m h slots all on = record {
 
 -- one turn more
 pub took_next : {C : Type 0} (history : C → Option ConnectionTrace) (d0 : Core) (n0 : Option ListenerTrace) (left turns idle more : ℕ) (stir : Bool) (d : Core) (n : Option ListenerTrace) (slots : List (LinkSlot C)) (e : Core) (m : Option ListenerTrace) (slots' : List (LinkSlot C)) → HasTakenTurns history d0 n0 left turns idle d n slots
-    → ((past : List LoopAction) → has_asked past ≡ false → LoopInvariant history d0 n0 past d n 0 slots → TookTurn history d0 n0 past more stir e m slots') → HasTakenTurns history d0 n0 (left + more) (turns + 1) (cond stir 0 (idle + 1)) e m slots'
+    → ((past : List LoopAction) → has_asked past ≡ false → LoopInvariant history (record { daemon = d0; listeners = n0 }) past (serving_state d n 0 slots) → TookTurn history (record { daemon = d0; listeners = n0 }) past (record { has_moved = stir; left = more }) (serving_state e m 0 slots')) → HasTakenTurns history d0 n0 (left + more) (turns + 1) (cond stir 0 (idle + 1)) e m slots'
 took_next history d0 n0 left turns idle more stir d n slots e m slots' took turn =
     let next = turn took.journal took.anew took.stands in
     record { journal = Turned ∷ next.journal; stands = next.stands; anew = refl; tally = ap (after_tally Turned) (next.tally ∙ ap (tally_with more stir) took.tally) }
 
-pub took_none : {C : Type 0} (history : C → Option ConnectionTrace) (d0 : Core) (n0 : Option ListenerTrace) (d : Core) (n : Option ListenerTrace) (slots : List (LinkSlot C)) → LoopInvariant history d0 n0 [] d n 0 slots → HasTakenTurns history d0 n0 0 0 0 d n slots
+pub took_none : {C : Type 0} (history : C → Option ConnectionTrace) (d0 : Core) (n0 : Option ListenerTrace) (d : Core) (n : Option ListenerTrace) (slots : List (LinkSlot C)) → LoopInvariant history (record { daemon = d0; listeners = n0 }) [] (serving_state d n 0 slots) → HasTakenTurns history d0 n0 0 0 0 d n slots
 took_none history d0 n0 d n slots stands = record { journal = []; stands = stands; tally = refl; anew = refl }
 
-pub ran_sessions : {C : Type 0} (history : C → Option ConnectionTrace) (d0 : Core) (n0 : Option ListenerTrace) (left turns idle sessions waits : ℕ) (e : Core) (m : Option ListenerTrace) (slots : List (LinkSlot C)) → HasTakenTurns history d0 n0 left turns idle e m slots → 0 < sessions → sessions ≤ left → left < sessions + most_sessions → HasTakenAllTurns history d0 n0 Sessions sessions waits e m slots
+pub ran_sessions : {C : Type 0} (history : C → Option ConnectionTrace) (d0 : Core) (n0 : Option ListenerTrace) (left turns idle sessions waits : ℕ) (e : Core) (m : Option ListenerTrace) (slots : List (LinkSlot C)) → HasTakenTurns history d0 n0 left turns idle e m slots → 0 < sessions → sessions ≤ left → left < sessions + most_sessions → HasTakenAllTurns history (record { daemon = d0; listeners = n0 }) (record { sessions = sessions; idle_turns = waits }) Sessions (serving_state e m 0 slots)
 ran_sessions history d0 n0 left turns idle sessions waits e m slots took some most few =
     let same = ap (λ t. t.left) took.tally in
     record { journal = took.journal; stands = took.stands; ends = (some, subst (λ k. sessions ≤ k) (sym same) most, subst (λ k. k < sessions + most_sessions) (sym same) few) }
 
-pub ran_idle : {C : Type 0} (history : C → Option ConnectionTrace) (d0 : Core) (n0 : Option ListenerTrace) (left turns idle sessions waits : ℕ) (e : Core) (m : Option ListenerTrace) (slots : List (LinkSlot C)) → HasTakenTurns history d0 n0 left turns idle e m slots → (0 < sessions → left < sessions) → waits ≤ idle → HasTakenAllTurns history d0 n0 Idle sessions waits e m slots
+pub ran_idle : {C : Type 0} (history : C → Option ConnectionTrace) (d0 : Core) (n0 : Option ListenerTrace) (left turns idle sessions waits : ℕ) (e : Core) (m : Option ListenerTrace) (slots : List (LinkSlot C)) → HasTakenTurns history d0 n0 left turns idle e m slots → (0 < sessions → left < sessions) → waits ≤ idle → HasTakenAllTurns history (record { daemon = d0; listeners = n0 }) (record { sessions = sessions; idle_turns = waits }) Idle (serving_state e m 0 slots)
 ran_idle history d0 n0 left turns idle sessions waits e m slots took few long =
     record { journal = took.journal; stands = took.stands; ends = ((λ some. subst (λ k. k < sessions) (sym (ap (λ t. t.left) took.tally)) (few some)), subst (λ k. waits ≤ k) (sym (ap (λ t. t.idle) took.tally)) long) }
 
-pub ran_turns : {C : Type 0} (history : C → Option ConnectionTrace) (d0 : Core) (n0 : Option ListenerTrace) (left turns idle sessions waits : ℕ) (e : Core) (m : Option ListenerTrace) (slots : List (LinkSlot C)) → HasTakenTurns history d0 n0 left turns idle e m slots → (0 < sessions → left < sessions) → idle < waits → turns ≡ most_turns → HasTakenAllTurns history d0 n0 Turns sessions waits e m slots
+pub ran_turns : {C : Type 0} (history : C → Option ConnectionTrace) (d0 : Core) (n0 : Option ListenerTrace) (left turns idle sessions waits : ℕ) (e : Core) (m : Option ListenerTrace) (slots : List (LinkSlot C)) → HasTakenTurns history d0 n0 left turns idle e m slots → (0 < sessions → left < sessions) → idle < waits → turns ≡ most_turns → HasTakenAllTurns history (record { daemon = d0; listeners = n0 }) (record { sessions = sessions; idle_turns = waits }) Turns (serving_state e m 0 slots)
 ran_turns history d0 n0 left turns idle sessions waits e m slots took few short all =
     record { journal = took.journal; stands = took.stands; ends = ((λ some. subst (λ k. k < sessions) (sym (ap (λ t. t.left) took.tally)) (few some)), subst (λ k. k < waits) (sym (ap (λ t. t.idle) took.tally)) short, ap (λ t. t.turns) took.tally ∙ all) }
 

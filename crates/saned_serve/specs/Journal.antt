@@ -411,15 +411,7 @@ abbrev pub tally_of : List LoopAction → Tally
 tally_of [] = record { left = 0; turns = 0; idle = 0; stir = false }
 tally_of (action ∷ past) = after_tally action (tally_of past)
 
--- so many sessions left more, and something moved or not
-abbrev pub tally_with : ℕ → Bool → Tally → Tally
-tally_with left stir t = record t { left = t.left + left; stir = t.stir || stir }
-
 -- ---- a journal that goes on
-
--- what was done before it still tells
-abbrev pub Extends : List LoopAction → List LoopAction → Type 0
-Extends past journal = (since : List LoopAction) × (journal ≡ since ++ past)
 
 -- a session is left, or its data connection before
 abbrev pub IsClosingAct : SessionAction → Type 0

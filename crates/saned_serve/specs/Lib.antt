@@ -2,7 +2,7 @@ pub mod ConnectionTraces
 pub mod ListenerTraces
 pub mod SessionActions
 pub mod Journal
-pub mod JournalSteps
-pub mod LoopInvariants
+pub mod Serving
 pub mod JournalSummary
 pub mod HeldLeases
+pub mod Inside

@@ -5,8 +5,8 @@ ghost use Rattle.saned_core.specs.DaemonStates.{Core, core, frame_in, session_of
 ghost use Rattle.saned_serve.specs.ListenerTraces.{ListenerTrace, with_notice};
 ghost use Rattle.saned_serve.specs.ListenerTraces.Notice.{Back};
 ghost use Rattle.saned_serve.specs.SessionActions.{ends_session};
-ghost use Rattle.saned_serve.specs.JournalSteps.{JournalGoesOn, Attends, SendsRecords, LeavesSession, hung_up};
-ghost use Rattle.saned_serve.specs.JournalSteps.TurnPhase.{Due, Filled, Heard, Ready, Spoken, Dialed, Loaded, Shown};
+ghost use Rattle.saned_serve.specs.Inside.{JournalGoesOn, Attends, SendsRecords, LeavesSession, hung_up, session_turn};
+ghost use Rattle.saned_serve.specs.Inside.TurnPhase.{Due, Filled, Heard, Ready, Spoken, Dialed, Loaded, Shown};
 
 use crate::pending::{PendingBytes, is_end};
 use crate::{Got, Listeners, Socket};
@@ -75,9 +75,17 @@ fn attend<D: Device, L: Listeners>(
 )
     requires { length piece.now ≤ 4096 }
     ensures link { link.new ≡ record link.old { is_over = link.new.is_over } }
-    ensures attends { Attends link.old.id.number link.old.port piece.now (core D.state daemon.old)
-        (L.trace net.old) link.old.is_over link.new.is_over (core D.state daemon.new)
-        (L.trace net.new) }
+    ensures attends { Attends link.old.id.number link.old.port piece.now
+        (record {
+          daemon = core D.state daemon.old;
+          listeners = L.trace net.old;
+          is_over = link.old.is_over;
+        })
+        (record {
+          daemon = core D.state daemon.new;
+          listeners = L.trace net.new;
+          is_over = link.new.is_over;
+        }) }
 {
     let was_waiting = is_waiting(daemon, link.id);
     let fed = daemon.feed(alloc, link.id, piece);
@@ -95,8 +103,9 @@ fn hear<D: Device, L: Listeners>(
     link: &mut SessionLink<L::Conn>,
 ) -> bool
     requires { link.old.replies ≡ [] }
-    ensures { JournalGoesOn L.Conn.history Filled Heard (core D.state daemon.old)
-        (L.trace net.old) link.old result (core D.state daemon.new) (L.trace net.new) link.new }
+    ensures { JournalGoesOn L.Conn.history
+        (session_turn Filled (core D.state daemon.old) (L.trace net.old) link.old) result
+        (session_turn Heard (core D.state daemon.new) (L.trace net.new) link.new) }
 {
     let mut room = [0u8; PIECE];
     match link.conn.read(&mut room) {
@@ -114,10 +123,12 @@ fn hear<D: Device, L: Listeners>(
 
 /// Takes replies where none wait.
 fn fill_replies<D: Device, C: Socket>(daemon: &mut Daemon<D>, link: &mut SessionLink<C>)
-    ensures first { (n : Option ListenerTrace) → JournalGoesOn C.history Due Filled
-        (core D.state daemon.old) n link.old false (core D.state daemon.new) n link.new }
-    ensures again { (n : Option ListenerTrace) → JournalGoesOn C.history Heard Ready
-        (core D.state daemon.old) n link.old false (core D.state daemon.new) n link.new }
+    ensures first { (n : Option ListenerTrace) → JournalGoesOn C.history
+        (session_turn Due (core D.state daemon.old) n link.old) false
+        (session_turn Filled (core D.state daemon.new) n link.new) }
+    ensures again { (n : Option ListenerTrace) → JournalGoesOn C.history
+        (session_turn Heard (core D.state daemon.old) n link.old) false
+        (session_turn Ready (core D.state daemon.new) n link.new) }
 {
     if link.replies.is_empty() {
         link.replies.take_reply(daemon, link.id);
@@ -132,8 +143,9 @@ fn listen<D: Device, L: Listeners>(
     net: &mut L,
     link: &mut SessionLink<L::Conn>,
 ) -> bool
-    ensures { JournalGoesOn L.Conn.history Due Heard (core D.state daemon.old)
-        (L.trace net.old) link.old result (core D.state daemon.new) (L.trace net.new) link.new }
+    ensures { JournalGoesOn L.Conn.history
+        (session_turn Due (core D.state daemon.old) (L.trace net.old) link.old) result
+        (session_turn Heard (core D.state daemon.new) (L.trace net.new) link.new) }
 {
     fill_replies(daemon, link);
     if link.replies.is_empty() {
@@ -155,7 +167,8 @@ fn finish<C>(link: &mut SessionLink<C>)
 /// One write of the replies that wait.
 fn send_replies<C: Socket>(link: &mut SessionLink<C>) -> bool
     ensures { (d : Core) (n : Option ListenerTrace)
-        → JournalGoesOn C.history Ready Spoken d n link.old result d n link.new }
+        → JournalGoesOn C.history (session_turn Ready d n link.old) result
+        (session_turn Spoken d n link.new) }
 {
     if link.replies.is_empty() {
         finish(link);
@@ -173,8 +186,9 @@ fn send_replies<C: Socket>(link: &mut SessionLink<C>) -> bool
 
 /// One write of replies, which are taken from the daemon where none wait.
 fn speak<D: Device, C: Socket>(daemon: &mut Daemon<D>, link: &mut SessionLink<C>) -> bool
-    ensures { (n : Option ListenerTrace) → JournalGoesOn C.history Heard Spoken
-        (core D.state daemon.old) n link.old result (core D.state daemon.new) n link.new }
+    ensures { (n : Option ListenerTrace) → JournalGoesOn C.history
+        (session_turn Heard (core D.state daemon.old) n link.old) result
+        (session_turn Spoken (core D.state daemon.new) n link.new) }
 {
     fill_replies(daemon, link);
     send_replies(link)
@@ -196,8 +210,9 @@ fn dial<D: Device, L: Listeners>(
     net: &mut L,
     link: &mut SessionLink<L::Conn>,
 ) -> bool
-    ensures { JournalGoesOn L.Conn.history Spoken Dialed (core D.state daemon.old) (L.trace net.old)
-        link.old result (core D.state daemon.new) (L.trace net.new) link.new }
+    ensures { JournalGoesOn L.Conn.history
+        (session_turn Spoken (core D.state daemon.old) (L.trace net.old) link.old) result
+        (session_turn Dialed (core D.state daemon.new) (L.trace net.new) link.new) }
 {
     if link.image.is_some() {
         return false;
@@ -224,8 +239,9 @@ fn dial<D: Device, L: Listeners>(
 /// Takes a record where none waits.
 fn fill_records<D: Device, C: Socket>(daemon: &mut Daemon<D>, link: &mut SessionLink<C>)
     requires { IsSome link.old.image }
-    ensures { (n : Option ListenerTrace) → JournalGoesOn C.history Dialed Loaded
-        (core D.state daemon.old) n link.old false (core D.state daemon.new) n link.new }
+    ensures { (n : Option ListenerTrace) → JournalGoesOn C.history
+        (session_turn Dialed (core D.state daemon.old) n link.old) false
+        (session_turn Loaded (core D.state daemon.new) n link.new) }
 {
     if link.records.is_empty() {
         let step = link.records.take_record(daemon, link.id);
@@ -249,8 +265,9 @@ fn show<D: Device, L: Listeners>(
     net: &mut L,
     link: &mut SessionLink<L::Conn>,
 ) -> bool
-    ensures { JournalGoesOn L.Conn.history Dialed Shown (core D.state daemon.old)
-        (L.trace net.old) link.old result (core D.state daemon.new) (L.trace net.new) link.new }
+    ensures { JournalGoesOn L.Conn.history
+        (session_turn Dialed (core D.state daemon.old) (L.trace net.old) link.old) result
+        (session_turn Shown (core D.state daemon.new) (L.trace net.new) link.new) }
 {
     if link.image.is_none() {
         return false;
@@ -279,8 +296,9 @@ pub fn converse<D: Device, L: Listeners>(
     net: &mut L,
     link: &mut SessionLink<L::Conn>,
 ) -> bool
-    ensures { JournalGoesOn L.Conn.history Due Shown (core D.state daemon.old)
-        (L.trace net.old) link.old result (core D.state daemon.new) (L.trace net.new) link.new }
+    ensures { JournalGoesOn L.Conn.history
+        (session_turn Due (core D.state daemon.old) (L.trace net.old) link.old) result
+        (session_turn Shown (core D.state daemon.new) (L.trace net.new) link.new) }
 {
     let has_heard = listen(alloc, daemon, net, link);
     let has_spoken = speak(daemon, link);
@@ -331,8 +349,9 @@ pub fn leave<D: Device, L: Listeners>(
     net: &mut L,
     mut link: SessionLink<L::Conn>,
 ) -> Rooms
-    ensures { LeavesSession L.Conn.history (core D.state daemon.old) (L.trace net.old) link
-        (core D.state daemon.new) (L.trace net.new) }
+    ensures { LeavesSession L.Conn.history
+        (record { daemon = core D.state daemon.old; listeners = L.trace net.old }) link
+        (record { daemon = core D.state daemon.new; listeners = L.trace net.new }) }
 {
     hang_up(net, &mut link);
     net.close_data(link.port);

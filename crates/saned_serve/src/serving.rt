@@ -3,7 +3,8 @@
 ghost use Rattle.std.specs.Prelude.{◌≡◌, ◌≢◌, ◌≤◌, ◌<◌, ◌+◌, cond, Bool, true, false, List, [], Option, All, length};
 ghost use Rattle.saned_core.specs.DaemonStates.{Core, core};
 ghost use Rattle.saned_serve.specs.ListenerTraces.{ListenerTrace};
-ghost use Rattle.saned_serve.specs.LoopInvariants.{LoopInvariant, HasRooms, TookTurn, HasTakenAllTurns, HasServed, most_turns};
+ghost use Rattle.saned_serve.specs.Serving.{HasServed, most_turns, DaemonAndListeners};
+ghost use Rattle.saned_serve.specs.Inside.{LoopInvariant, HasRooms, TookTurn, HasTakenAllTurns, serving_state};
 ghost use Rattle.saned_serve.specs.Journal.{LoopAction, has_asked, most_sessions};
 
 use crate::Listeners;
@@ -29,10 +30,11 @@ fn take_turn<D: Device, L: Listeners>(
     requires len { length slots.old ≡ most_sessions }
     requires roomed { All HasRooms slots.old }
     ensures roomed { All HasRooms slots.new }
-    ensures turned { (d0 : Core) (n0 : Option ListenerTrace) (past : List LoopAction)
-        → has_asked past ≡ false → LoopInvariant L.Conn.history d0 n0 past
-        (core D.state daemon.old) (L.trace net.old) 0 slots.old → TookTurn L.Conn.history d0
-        n0 past result.left result.has_moved (core D.state daemon.new) (L.trace net.new) slots.new }
+    ensures turned { (start : DaemonAndListeners) (past : List LoopAction) → has_asked past ≡ false
+        → LoopInvariant L.Conn.history start past
+        (serving_state (core D.state daemon.old) (L.trace net.old) 0 slots.old)
+        → TookTurn L.Conn.history start past result
+        (serving_state (core D.state daemon.new) (L.trace net.new) 0 slots.new) }
     ensures few { result.left ≤ length slots.old }
 {
     let mut has_moved = welcome(alloc, daemon, net, slots);
@@ -78,9 +80,11 @@ fn take_turns<D: Device, L: Listeners>(
 ) -> ServeEnd
     requires len { length slots.old ≡ most_sessions }
     requires roomed { All HasRooms slots.old }
-    ensures ran { (d0 : Core) (n0 : Option ListenerTrace) → LoopInvariant L.Conn.history d0 n0 []
-        (core D.state daemon.old) (L.trace net.old) 0 slots.old → HasTakenAllTurns L.Conn.history
-        d0 n0 result sessions idle_turns (core D.state daemon.new) (L.trace net.new) slots.new }
+    ensures ran { (start : DaemonAndListeners) → LoopInvariant L.Conn.history start []
+        (serving_state (core D.state daemon.old) (L.trace net.old) 0 slots.old)
+        → HasTakenAllTurns L.Conn.history start
+        (record { sessions = sessions; idle_turns = idle_turns }) result
+        (serving_state (core D.state daemon.new) (L.trace net.new) 0 slots.new) }
     ensures memory { result ≢ ServeEnd.NoMem }
 {
     let mut all_left = 0u64;

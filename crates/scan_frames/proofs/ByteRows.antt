@@ -2,6 +2,8 @@
 use Rattle.std.proofs.Common.{◌≡◌, ℕ, ◌<◌, ◌≤◌, ◌+◌, ◌-◌, ◌*◌, ◌/◌, Bool, true, false, List, [], ◌++◌, length, drop, get_or, arith, refl, sym, ap, ◌∙◌, subst}
 use Rattle.std.specs.Prelude.{nat_lt, ◌==◌, slice_index, if◌then◌else◌}
 use Rattle.std.proofs.Common.{length-append, length-drop}
+use Rattle.std.proofs.lemmas.Bool.Decides.{nat_tests}
+use Rattle.netpbm.specs.FileText.{binary, bits_byte}
 use Rattle.std.proofs.lemmas.List.{get_or-drop, get_or_append_left, get_or-append_right}
 use Rattle.page_picture.specs.Page.{PageView, page_sample_at}
 use Rattle.page_picture.specs.Columns.{Columns, IsRun, columns_of, place_at}
@@ -22,10 +24,12 @@ use Rattle.scan_frames.specs.Line.{packing_of, line_of}
 use Rattle.scan_frames.specs.Frames.{width_of, channel_in, format_at, bytes_per_line, line_bytes}
 use Rattle.scan_frames.specs.Samples.{HasZeros}
 use Rattle.scan_frames.specs.Tables.{AreComposed, IsPlain}
-use Rattle.scan_frames.proofs.Lines.{line_from_samples, tone_bytes}
-use Rattle.scan_frames.specs.ByteLines.{PutsGrays, PutsColors, MakesOfRow}
-use Rattle.scan_frames.proofs.Scans.{brightness-same, three_channels}
+use Rattle.scan_frames.proofs.Lines.{line_from_samples, line_is, binary_same, tone_bytes}
+use Rattle.scan_frames.proofs.Grays.{tone_of_bits}
+use Rattle.scan_frames.specs.ByteLines.{PutsGrays, PutsColors, PutsGrayBits, MakesOfRow, black, black_in, blacks_in}
+use Rattle.scan_frames.proofs.Scans.{brightness-same, some_channels, three_channels}
 use Rattle.scan_frames.proofs.Seen.{on_page}
+use Rattle.scan_frames.proofs.Zeros.{bits_past}
 
 -- what the picture has where it shows a place of the page
 sample_on_page : (page : PageView) (scene : Scene) (x y k place row : ℕ) → column_seen scene page.dpi x ≡ place → place < page.width → row_seen scene page.dpi y ≡ row → row < page.height → k < 3
@@ -150,4 +154,75 @@ color_made s t setup pass first tables columns part line n packing mode rgb comp
           ∙ (shown
           ∙ (sym (color_on_page s.page setup.scene tables x y k (first + x) s.given packing mode composed plain column inside height put.more few (subst (λ v. v < 256) shown (small (3 * x + k))))
           ∙ ap (λ (f : FrameFormat). sample_of s.page setup.scene x y (channel_in f k)) (sym rgb))));
+    }
+
+-- ---- bits of bytes
+
+-- the byte of eight bytes, by the bit of each
+pub blacks_of : (bytes : List ℕ) (b : ℕ) (f : ℕ → ℕ) → 8 * b + 8 ≤ length bytes → ((j : ℕ) → j < 8 → f j ≡ black (slice_index bytes (8 * b + j))) → binary f 8 ≡ blacks_in bytes b
+unfolding blacks_in black_in
+blacks_of bytes b f room each =
+    binary_same f (λ j. if nat_lt (8 * b + j) (length bytes) then black (slice_index bytes (8 * b + j)) else 0) 8 (λ j less.
+    let inside : nat_lt (8 * b + j) (length bytes) ≡ true = grind (arith, nat_tests) in
+    each j less ∙ sym (ap (λ t. if t then black (slice_index bytes (8 * b + j)) else 0) inside))
+
+-- behind the last byte
+pub blacks_behind : (bytes : List ℕ) (b : ℕ) → length bytes ≤ 8 * b → blacks_in bytes b ≡ 0
+unfolding blacks_in black_in
+blacks_behind bytes b past = bits_past (length bytes) (λ x. black (slice_index bytes x)) b (omega arith)
+
+-- the bits of a row of grays
+pub bits_put : (s t : SourceState) (table : List ℕ) (first count : ℕ) (grays line : List ℕ) → length grays ≡ count → PutsGrays s table first t grays → ((b : ℕ) → b < length line → slice_index line b ≡ blacks_in grays b) → PutsGrayBits s table first count t line
+unfolding blacks_in black_in
+bits_put s t table first count grays line size put bits =
+    let shown : ℕ → ℕ = λ x. slice_index table (brightness Gray (λ k. page_sample_at s.page (first + x) s.given k) 0 / 256) in
+    record {
+      more = put.more;
+      after = put.after;
+      here = λ steady b less.
+          let P : ℕ → ℕ → Type 0 = λ n x. (if nat_lt x n then black (slice_index grays x) else 0) ≡ (if nat_lt x n then black (shown x) else 0) in
+          let each : (x : ℕ) → P (length grays) x = λ x. elim (nat_lt x (length grays)) as (λ t. nat_lt x (length grays) ≡ t → (if t then black (slice_index grays x) else 0) ≡ (if t then black (shown x) else 0)) [
+            | true ↦ λ e. ap black (put.here steady x (grind (arith, nat_tests)))
+            | false ↦ λ e. refl
+          ] refl in
+          bits b less
+          ∙ (binary_same (λ j. if nat_lt (8 * b + j) (length grays) then black (slice_index grays (8 * b + j)) else 0) (λ j. if nat_lt (8 * b + j) (length grays) then black (shown (8 * b + j)) else 0) 8 (λ j less. each (8 * b + j))
+          ∙ ap (λ n. bits_byte n (λ x. black (shown x)) b) size);
+    }
+
+-- the sample of a bit
+bit_on_page : (page : PageView) (scene : Scene) (x y k place row : ℕ) → packing_of scene.depth ≡ Bits → scene.mode ≡ Gray → column_seen scene page.dpi x ≡ place → place < page.width → row_seen scene page.dpi y ≡ row → row < page.height → k < 3
+    → sample_of page scene x y k ≡ black (slice_index scene.gamma (brightness Gray (λ i. page_sample_at page place row i) 0 / 256))
+bit_on_page page scene x y k place row packing mode column inside height on less =
+    sample_on_page page scene x y k place row column inside height on less
+    ∙ ap (λ (m : Mode). in_channel m scene.depth scene.channel_gamma k (tone scene.depth scene.gamma (brightness m (λ i. page_sample_at page place row i) k))) mode
+    ∙ tone_of_bits scene.depth scene.gamma (brightness Gray (λ i. page_sample_at page place row i) 0) packing
+
+-- a line of bits that shows the picture at each place
+pub bits_made : (s t : SourceState) (setup : Setup) (pass first : ℕ) (columns : Columns) (line : List ℕ) → packing_of setup.scene.depth ≡ Bits → setup.scene.mode ≡ Gray
+    → columns ≡ columns_of setup.scene s.page.width s.page.dpi → IsRun columns → first ≡ columns.left → ((x : ℕ) → x < columns.count → place_at columns x ≡ first + x) → length line ≡ bytes_per_line setup pass
+    → PutsGrayBits s setup.scene.gamma first columns.count t line → MakesOfRow s setup pass t line
+bits_made s t setup pass first columns line packing mode of run left places long put =
+    let format = format_at setup pass in
+    let count : columns.count ≡ width_of setup = ap (λ (c : Columns). c.count) of in
+    let wide : columns.width ≡ s.page.width = ap (λ (c : Columns). c.width) of in
+    let shown : ℕ → ℕ = λ x. black (slice_index setup.scene.gamma (brightness Gray (λ k. page_sample_at s.page (first + x) s.given k) 0 / 256)) in
+    record {
+      more = put.more;
+      after = put.after;
+      bytes = λ steady y height.
+          let at : ℕ → ℕ → ℕ = λ x k. sample_of s.page setup.scene x y (channel_in format k) in
+          let each : (x : ℕ) → (if nat_lt x columns.count then shown x else 0) ≡ (if nat_lt x columns.count then at x 0 else 0) = λ x. elim (nat_lt x columns.count) as (λ t. nat_lt x columns.count ≡ t → (if t then shown x else 0) ≡ (if t then at x 0 else 0)) [
+            | true ↦ λ e.
+                let less : x < columns.count = grind (arith, nat_tests) in
+                let inside : first + x < s.page.width = let end = run.inside in omega arith in
+                let column = column_of_run setup.scene s.page x (first + x) (sym (ap (λ (c : Columns). place_at c x) of) ∙ places x less) inside in
+                sym (bit_on_page s.page setup.scene x y (channel_in format 0) (first + x) s.given packing mode column inside height put.more (three_channels format 0 (some_channels format)))
+            | false ↦ λ e. refl
+          ] refl in
+          subst (λ (p : Packing). line ≡ line_of p setup.order (channels_within format) (width_of setup) at (bytes_per_line setup pass)) (sym packing)
+          (line_is Bits setup.order (channels_within format) (width_of setup) at (bytes_per_line setup pass) line long (λ b less.
+          put.here steady b (subst (λ n. b < n) (sym long) less)
+          ∙ (binary_same (λ j. if nat_lt (8 * b + j) columns.count then shown (8 * b + j) else 0) (λ j. if nat_lt (8 * b + j) columns.count then at (8 * b + j) 0 else 0) 8 (λ j less. each (8 * b + j))
+          ∙ ap (λ n. bits_byte n (λ x. at x 0) b) count)));
     }

@@ -1,14 +1,17 @@
--- Eight lanes of a vector.
-use Rattle.std.proofs.Common.{Fits, w8, w16, map, replicate, subst, sym, ◌≡◌, ℕ, zero, suc, ◌+◌, ◌*◌, ◌/◌, ◌%◌, ◌^◌, ◌<◌, ◌≤◌, List, [], ◌∷◌, ◌++◌, length, get_or, arith, refl, ap, ◌∙◌}
+-- Eight lanes of a vector, and sixteen.
+use Rattle.std.proofs.Common.{Fits, false, cond, ltb, w8, w16, map, replicate, subst, sym, ◌≡◌, ℕ, zero, suc, ◌+◌, ◌-◌, ◌*◌, ◌/◌, ◌%◌, ◌^◌, ◌<◌, ◌≤◌, List, [], ◌∷◌, ◌++◌, length, get_or, arith, refl, ap, ◌∙◌}
 use Rattle.std.specs.Prelude.{slice_index}
-use Rattle.netpbm.specs.FileText.{binary}
+use Rattle.netpbm.specs.FileText.{binary, concat_up_to}
+use Rattle.scan_frames.specs.Line.{numbers}
+use Rattle.scan_frames.proofs.Lines.{numbers_at}
+use Rattle.page_picture.proofs.EightLemmas.{splat_lane, length-splat}
 use Rattle.scan_frames.specs.declared.lanes.TheConstants.{LEFTMOST_FIRST}
 use Rattle.std.specs.Simd.Lanes.{chunk}
 use Rattle.std.proofs.lemmas.List.{get_or_append_left}
-use Rattle.std.specs.Simd.Lanes.{zip2, Each1}
+use Rattle.std.specs.Simd.Lanes.{zip2, mask_l, Each1}
 use Rattle.std.proofs.lemmas.List.{length-map, get_or-map}
 use Rattle.std.proofs.lemmas.Grind.{common_steps}
-use Rattle.std.proofs.lemmas.Simd.{length-chunk, get_or-chunk, length-zip2, get_or-zip2, get_or-replicate, Each1-from_get_or}
+use Rattle.std.proofs.lemmas.Simd.{mask_l-lt, bit_mask_l, length-chunk, get_or-chunk, length-zip2, get_or-zip2, Each1-from_get_or}
 
 -- a list of eight, lane by lane
 pub eighth : (f g : ℕ → ℕ) → ((j : ℕ) → j < 8 → f j ≡ g j) → (i : ℕ) → i < 8
@@ -29,47 +32,51 @@ of_load at n xs room j less =
     let long : length (chunk at n xs) ≡ n = length-chunk at n xs room in
     get_or_append_left (chunk at n xs) (chunk at n xs) 0 j (omega arith) ∙ get_or-chunk at n xs j 0 less
 
--- numbers whose binary digits are the same
-pub binary_same : (f g : ℕ → ℕ) (n : ℕ) → ((j : ℕ) → j < n → f j ≡ g j) → binary f n ≡ binary g n
-binary_same f g zero same = refl
-binary_same f g (suc n) same =
-    let before = binary_same f g n (λ j less. same j (omega (arith, less))) in
-    let last = same n (omega arith) in
-    omega (arith, before, last)
-
 -- what the table of eight bits gives
 abbrev as_leftmost_first : ℕ → ℕ
 as_leftmost_first lanes = binary (λ j. lanes / 2 ^ (3 * j % 8) % 2) 8
 
-abbrev listed_from : (ℕ → ℕ) → ℕ → ℕ → List ℕ
-listed_from f i zero = []
-listed_from f i (suc n) = f i ∷ listed_from f (suc i) n
-
-listed_at : (f : ℕ → ℕ) (i n k : ℕ) → k < n → slice_index (listed_from f i n) k ≡ f (i + k)
-listed_at f i zero k less = absurd (omega (arith, less))
-listed_at f i (suc n) zero less = ap f (omega arith)
-listed_at f i (suc n) (suc k) less = listed_at f (suc i) n k (omega (arith, less)) ∙ ap f (omega arith)
-
-table_is_rule : LEFTMOST_FIRST ≡ listed_from as_leftmost_first 0 256
+table_is_rule : LEFTMOST_FIRST ≡ numbers as_leftmost_first 256
+unfolding concat_up_to
 table_is_rule = refl
 
 pub leftmost_first_is : (lanes : ℕ) → lanes < 256 → slice_index LEFTMOST_FIRST lanes ≡ binary (λ j. lanes / 2 ^ (3 * j % 8) % 2) 8
 leftmost_first_is lanes less =
-    let same : 0 + lanes ≡ lanes = omega arith in
-    ap (λ (l : List ℕ). slice_index l lanes) table_is_rule ∙ (listed_at as_leftmost_first 0 256 lanes less ∙ ap as_leftmost_first same)
+    ap (λ (l : List ℕ). slice_index l lanes) table_is_rule ∙ numbers_at as_leftmost_first 256 lanes less
 
--- a lane of eight lanes beside eight of one value
-pub splat_lane : (f : ℕ → ℕ → ℕ) (xs : List ℕ) (y i : ℕ) → length xs ≡ 8 → i < 8 → get_or (zip2 f xs (replicate 8 y)) i 0 ≡ f (get_or xs i 0) y
-splat_lane f xs y i long less =
-    get_or-zip2 f xs (replicate 8 y) i 0 0 0 (subst (λ (n : ℕ). i < n) (sym long) less) less ∙ ap (f (get_or xs i 0)) (get_or-replicate 8 i y 0 less)
+-- the mask of n lanes, of those below a limit
+pub mask_fits : (v : List ℕ) (y n : ℕ) → length v ≡ n → mask_l (map (λ x. ltb x y) v) < 2 ^ n
+mask_fits v y n long =
+    subst (λ (n : ℕ). mask_l (map (λ x. ltb x y) v) < 2 ^ n) (length-map v (λ x. ltb x y) ∙ long) (mask_l-lt (map (λ x. ltb x y) v))
 
-pub length-splat : (f : ℕ → ℕ → ℕ) (xs : List ℕ) (y : ℕ) → length xs ≡ 8 → length (zip2 f xs (replicate 8 y)) ≡ 8
-length-splat f xs y long = length-zip2 f xs (replicate 8 y) long ∙ long
+pub mask_lane : (v : List ℕ) (y n i : ℕ) → length v ≡ n → i < n → mask_l (map (λ x. ltb x y) v) / 2 ^ i % 2 ≡ cond (ltb (get_or v i 0) y) 1 0
+mask_lane v y n i long less =
+    bit_mask_l (map (λ x. ltb x y) v) i
+    ∙ ap (λ t. cond t 1 0) (get_or-map (λ x. ltb x y) v i 0 false (subst (λ (n : ℕ). i < n) (sym long) less))
 
--- the same of eight lanes that were cast
-pub cast_lane : (f : ℕ → ℕ → ℕ) (g : ℕ → ℕ) (xs : List ℕ) (y i : ℕ) → length xs ≡ 8 → i < 8 → get_or (zip2 f (map g xs) (replicate 8 y)) i 0 ≡ f (g (get_or xs i 0)) y
-cast_lane f g xs y i long less =
-    splat_lane f (map g xs) y i (length-map xs g ∙ long) less ∙ ap (λ (x : ℕ). f x y) (get_or-map g xs i 0 0 (subst (λ (n : ℕ). i < n) (sym long) less))
+-- sixteen lanes, the last of each eight first
+abbrev mirror : ℕ → ℕ
+mirror i = 8 * (i / 8) + (7 - i % 8)
+
+abbrev mirrors : List ℕ
+mirrors = 7 ∷ 6 ∷ 5 ∷ 4 ∷ 3 ∷ 2 ∷ 1 ∷ 0 ∷ 15 ∷ 14 ∷ 13 ∷ 12 ∷ 11 ∷ 10 ∷ 9 ∷ 8 ∷ []
+
+mirrors_are : mirrors ≡ numbers mirror 16
+unfolding concat_up_to
+mirrors_are = refl
+
+pub mirrored_lane : (v : List ℕ) (i : ℕ) → length v ≡ 16 → i < 16 → slice_index (map (λ k. get_or (v ++ v) k 0) mirrors) i ≡ get_or v (8 * (i / 8) + (7 - i % 8)) 0
+mirrored_lane v i long less =
+    get_or-map (λ k. get_or (v ++ v) k 0) mirrors i 0 0 less
+    ∙ (ap (λ (k : ℕ). get_or (v ++ v) k 0) (ap (λ (l : List ℕ). slice_index l i) mirrors_are ∙ numbers_at mirror 16 i less)
+    ∙ get_or_append_left v v 0 (mirror i) (omega (arith, less, long)))
+
+-- the two bytes of sixteen bits, each from its most significant on
+pub lower_bits : (n : ℕ) → n % 256 ≡ binary (λ j. n / 2 ^ (7 - j) % 2) 8
+lower_bits n = omega arith
+
+pub upper_bits : (n : ℕ) → n < 65536 → n / 256 ≡ binary (λ j. n / 2 ^ (15 - j) % 2) 8
+upper_bits n less = omega arith
 
 -- a product with a weight
 pub product_fits : (x w : ℕ) → x < 65536 → w ≤ 1000 → x * w % 4294967296 ≡ w * x
@@ -119,30 +126,3 @@ quotients_fit v long limit =
     let less : i < 8 = subst (λ (n : ℕ). i < n) (length-quotients v long) l in
     let small : get_or v i 0 / 125 < 256 = omega (arith, limit i less) in
     record { fits = subst (λ (n : ℕ). n < 256) (sym (quotient_lane v i long less)) small })
-
--- eight lanes of two bytes, which are turned
-abbrev raised : List ℕ → List ℕ
-raised v = zip2 (λ a b. a * b % 65536) v (replicate 8 256)
-
-abbrev lowered : List ℕ → List ℕ
-lowered v = zip2 (λ a b. a / 2 ^ b) v (replicate 8 8)
-
-abbrev pub turned_lanes : List ℕ → List ℕ
-turned_lanes v = zip2 (λ a b. (a + b) % 65536) (raised v) (lowered v)
-
-pub length-turned : (v : List ℕ) → length v ≡ 8 → length (turned_lanes v) ≡ 8
-length-turned v long =
-    let up : length (raised v) ≡ 8 = length-splat (λ a b. a * b % 65536) v 256 long in
-    let down : length (lowered v) ≡ 8 = length-splat (λ a b. a / 2 ^ b) v 8 long in
-    length-zip2 (λ a b. (a + b) % 65536) (raised v) (lowered v) (up ∙ sym down) ∙ up
-
-pub turned_lane : (v : List ℕ) (i : ℕ) → length v ≡ 8 → i < 8
-    → get_or (turned_lanes v) i 0 ≡ (get_or v i 0 * 256 % 65536 + get_or v i 0 / 256) % 65536
-turned_lane v i long less =
-    let up : length (raised v) ≡ 8 = length-splat (λ a b. a * b % 65536) v 256 long in
-    let down : length (lowered v) ≡ 8 = length-splat (λ a b. a / 2 ^ b) v 8 long in
-    let in_up : i < length (raised v) = subst (λ (n : ℕ). i < n) (sym up) less in
-    let in_down : i < length (lowered v) = subst (λ (n : ℕ). i < n) (sym down) less in
-    get_or-zip2 (λ a b. (a + b) % 65536) (raised v) (lowered v) i 0 0 0 in_up in_down
-    ∙ (ap (λ (x : ℕ). (x + get_or (lowered v) i 0) % 65536) (splat_lane (λ a b. a * b % 65536) v 256 i long less)
-    ∙ ap (λ (x : ℕ). (get_or v i 0 * 256 % 65536 + x) % 65536) (splat_lane (λ a b. a / 2 ^ b) v 8 i long less))

@@ -12,7 +12,7 @@ use Rattle.scan_frames.specs.declared.setup.Packing.TheVariants.{Bits, Bytes, Wo
 use Rattle.scan_frames.specs.Line.{packing_of}
 use Rattle.scan_frames.specs.Tables.{IsSame}
 use Rattle.scan_frames.specs.Samples.{IsGrayDot, IsGrayRow, bit_in, bits_in, dark, gray_in, sample_in_row}
-use Rattle.scan_frames.proofs.Eights.{binary_same}
+use Rattle.scan_frames.proofs.Lines.{binary_same}
 
 -- the gray of a dot whose three samples are the same is that sample
 pub gray_of_even : (row : List ℕ) (p : ℕ) → IsGrayDot row p → gray_in row p ≡ slice_index row (3 * p)
@@ -78,7 +78,7 @@ dots_as_next row dot p same low high =
     (sym first, sym (first ∙ (second ∙ ap (slice_index row) third)))
 
 -- the tone of a bit
-tone_of_bits : (depth : ℕ) (table : List ℕ) (v : ℕ) → packing_of depth ≡ Bits → tone depth table v ≡ (if nat_lt (slice_index table (v / 256)) 128 then 1 else 0)
+pub tone_of_bits : (depth : ℕ) (table : List ℕ) (v : ℕ) → packing_of depth ≡ Bits → tone depth table v ≡ (if nat_lt (slice_index table (v / 256)) 128 then 1 else 0)
 tone_of_bits depth table v bits =
     let P : Bool → Bool → Type 0 = λ a b. (if a then Words else (if b then Bytes else Bits)) ≡ Bits → (if a then v else (if b then slice_index table (v / 256) else (if nat_lt (slice_index table (v / 256)) 128 then 1 else 0))) ≡ (if nat_lt (slice_index table (v / 256)) 128 then 1 else 0) in
     elim (depth == 16) as (λ a. P a (depth == 8)) [

@@ -98,9 +98,13 @@ line_from_samples Bits order m w at line n size not each zeros = absurd (not ref
 line_from_samples Bytes order m w at line n size not each zeros = line_is Bytes order (channels_within m) w at n line size (λ j h. bytes_at order m w at line each zeros j)
 line_from_samples Words order m w at line n size not each zeros = line_is Words order (channels_within m) w at n line size (λ j h. words_at order m w at line each zeros j)
 
-pub binary-same : (f g : ℕ → ℕ) (n : ℕ) → ((j : ℕ) → f j ≡ g j) → binary f n ≡ binary g n
-binary-same f g zero same = refl
-binary-same f g (suc n) same = omega (arith, binary-same f g n same, same n)
+-- numbers whose binary digits are the same
+pub binary_same : (f g : ℕ → ℕ) (n : ℕ) → ((j : ℕ) → j < n → f j ≡ g j) → binary f n ≡ binary g n
+binary_same f g zero same = refl
+binary_same f g (suc n) same =
+    let before = binary_same f g n (λ j less. same j (omega (arith, less))) in
+    let last = same n (omega arith) in
+    omega (arith, before, last)
 
 -- a line whose bytes are those of its bits
 pub line_from_bits : (order : ByteOrder) (c : ℕ) (scene : Scene) (row places : List ℕ) (channel w : ℕ) (at : ℕ → ℕ → ℕ) (line : List ℕ) (n : ℕ) → length line ≡ n → length places ≡ w → ((x : ℕ) → x < w → sample_in_row scene row (slice_index places x) channel ≡ at x 0) → ((b : ℕ) → b < n → slice_index line b ≡ bits_in scene row places channel b) → line ≡ line_of Bits order c w at n
@@ -111,7 +115,7 @@ line_from_bits order c scene row places channel w at line n size count each byte
     (let P : Bool → Type 0 = λ t. (if t then sample_in_row scene row (slice_index places x) channel else 0) ≡ (if t then at x 0 else 0) in
     elim (nat_lt x w) as (λ t. nat_lt x w ≡ t → P t) [ true ↦ λ e. each x (grind (arith, nat_tests)) | false ↦ λ e. refl ] refl)
     in
-    line_is Bits order c w at n line size (λ b h. bytes b h ∙ binary-same (λ j. bit_in scene row places channel (8 * b + j)) (λ j. if nat_lt (8 * b + j) w then at (8 * b + j) 0 else 0) 8 (λ j. bit (8 * b + j)))
+    line_is Bits order c w at n line size (λ b h. bytes b h ∙ binary_same (λ j. bit_in scene row places channel (8 * b + j)) (λ j. if nat_lt (8 * b + j) w then at (8 * b + j) 0 else 0) 8 (λ j less. bit (8 * b + j)))
 
 -- the places of a map's columns
 abbrev pub ArePlaces : Columns → List ℕ → Type 0

@@ -33,7 +33,7 @@ use Rattle.scan_frames.specs.Rows.{IsSeen, IsWhiteBehind, TakesRows}
 use Rattle.scan_frames.specs.Tables.{AreComposed}
 use Rattle.scan_frames.specs.PassReading.{FrameProgress, IsFrame, IsLineCounted, given_in, row_of}
 use Rattle.scan_frames.specs.Buffers.{MakesLine, left_of_line}
-use Rattle.scan_frames.proofs.Lines.{length-numbers, numbers_at, sample_place, binary-same}
+use Rattle.scan_frames.proofs.Lines.{length-numbers, numbers_at, sample_place, binary_same}
 use Rattle.scan_frames.proofs.Seen.{off_page}
 
 -- a slice that was lent from a vector, put back
@@ -47,7 +47,7 @@ unfolding line_of
 length-line_of p order c w at n = length-numbers (line_byte p order c w at) n
 
 -- a frame has some channel, and it is one of the picture's three
-some_channels : (m : FrameFormat) → 0 < channels_within m
+pub some_channels : (m : FrameFormat) → 0 < channels_within m
 some_channels GrayFrame = omega arith
 some_channels RgbFrame = omega arith
 some_channels RedFrame = omega arith
@@ -71,7 +71,7 @@ numbers-same f g n same =
 byte-same : (p : Packing) (order : ByteOrder) (m : FrameFormat) (w : ℕ) (f g : ℕ → ℕ → ℕ) → ((x k : ℕ) → x < w → k < channels_within m → f x k ≡ g x k) → (j : ℕ) → line_byte p order (channels_within m) w f j ≡ line_byte p order (channels_within m) w g j
 byte-same Bits order m w f g same j =
     let first : 0 < channels_within m = some_channels m in
-    binary-same (λ i. if nat_lt (8 * j + i) w then f (8 * j + i) 0 else 0) (λ i. if nat_lt (8 * j + i) w then g (8 * j + i) 0 else 0) 8 (λ i.
+    binary_same (λ i. if nat_lt (8 * j + i) w then f (8 * j + i) 0 else 0) (λ i. if nat_lt (8 * j + i) w then g (8 * j + i) 0 else 0) 8 (λ i few.
     let P : Bool → Type 0 = λ t. (if t then f (8 * j + i) 0 else 0) ≡ (if t then g (8 * j + i) 0 else 0) in
     elim (nat_lt (8 * j + i) w) as (λ t. nat_lt (8 * j + i) w ≡ t → P t) [ true ↦ λ e. same (8 * j + i) 0 (grind (arith, nat_tests)) first | false ↦ λ e. refl ] refl)
 byte-same Bytes order m w f g same j =

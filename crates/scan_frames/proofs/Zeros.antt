@@ -13,12 +13,12 @@ use Rattle.scan_frames.specs.declared.setup.Setup.{Setup}
 use Rattle.scan_frames.specs.Line.{packing_of, line_byte, half}
 use Rattle.scan_frames.specs.Frames.{IsSetup, bytes_per_line, channel_in, format_at, height_of, payload, width_of}
 use Rattle.scan_frames.specs.Filler.{EndsInZeros}
-use Rattle.scan_frames.proofs.Lines.{binary-same}
+use Rattle.scan_frames.proofs.Lines.{binary_same}
 use Rattle.scan_frames.proofs.FramesShow.{samples_at, payload_at, bit_sample, bit_under}
 
-bits_past : (w : ℕ) (at : ℕ → ℕ) (j : ℕ) → bit_row w ≤ j → bits_byte w at j ≡ 0
+pub bits_past : (w : ℕ) (at : ℕ → ℕ) (j : ℕ) → bit_row w ≤ j → bits_byte w at j ≡ 0
 bits_past w at j past =
-    binary-same (λ i. if nat_lt (8 * j + i) w then at (8 * j + i) else 0) (λ i. 0) 8 (λ i.
+    binary_same (λ i. if nat_lt (8 * j + i) w then at (8 * j + i) else 0) (λ i. 0) 8 (λ i few.
     let P : Bool → Type 0 = λ t. (if t then at (8 * j + i) else 0) ≡ 0 in
     let behind : nat_lt (8 * j + i) w ≡ false = let far : w ≤ 8 * j + i = omega arith in grind (arith, nat_tests) in
     subst P (sym behind) refl)

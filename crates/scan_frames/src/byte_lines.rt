@@ -1,15 +1,16 @@
-//! Lines of depth 8 that are made of rows of bytes, so that no sample of two bytes stands between a page's file and them.
+//! Lines of depths 1 and 8 made of rows of bytes, so that no sample of two bytes stands between a page's file and them.
 
 ghost use Rattle.std.specs.Prelude.{◌≡◌, ◌≤◌, ◌<◌, ◌+◌, ◌*◌, ℕ, Ok, true, false, length, slice_index, OnOk, OnErr};
 ghost use Rattle.page_picture.specs.Columns.{columns_of};
 ghost use Rattle.page_picture.specs.Shows.{channels_within};
 ghost use Rattle.page_picture.specs.Source.{Fails};
-ghost use Rattle.scan_frames.specs.ByteLines.{PutsGrays, PutsColors, MakesOfRow};
+ghost use Rattle.scan_frames.specs.ByteLines.{PutsGrays, PutsColors, PutsGrayBits, MakesOfRow};
 ghost use Rattle.scan_frames.specs.Line.{packing_of};
 ghost use Rattle.scan_frames.specs.Frames.{bytes_per_line, format_at};
 ghost use Rattle.scan_frames.specs.Samples.{HasZeros, sample_end};
 ghost use Rattle.scan_frames.specs.Tables.{AreComposed};
 
+use crate::byte_bits::put_bits_of;
 use crate::line::{is_plain, is_same};
 use crate::pass::format_at;
 use crate::setup::{Packing, Setup, packing_of};
@@ -67,6 +68,33 @@ fn put_color_bytes<S: ByteRows>(
     source.next_bytes(Mode::Color, first, line)
 }
 
+/// Puts `count` places of the next row from `first` on in gray, a bit each, by a table, and zeros behind them. False where
+/// the source has no bytes of them; nothing was done then.
+fn put_gray_bits<S: ByteRows>(
+    source: &mut S,
+    table: &[u8; 256],
+    first: u32,
+    count: usize,
+    line: &mut [u8],
+) -> Result<bool, SourceFault>
+    requires { first + count ≤ (S.source source.old).page.width }
+    ensures put { result ≡ Ok true → PutsGrayBits (S.source source.old) table.now first count
+        (S.source source.new) line.new }
+    ensures none { result ≡ Ok false → (S.source source.new ≡ S.source source.old)
+        × (line.new ≡ line.old) }
+    ensures failed { OnErr result (Fails (S.source source.old) (S.source source.new)) }
+{
+    // The limits of a page.
+    let _size = source.size();
+    let mut room = [0u8; 16384];
+    let grays = &mut room[..count];
+    if !put_gray_bytes(source, table, first, grays)? {
+        return Ok(false);
+    }
+    put_bits_of(grays, line);
+    Ok(true)
+}
+
 /// Makes a line of the bytes of the next row, where it shows just these: its places lie one beside the other on the page,
 /// and in color no table changes them. False where it does not, or the source has none; nothing was done then.
 pub fn byte_line<S: ByteRows>(
@@ -108,6 +136,9 @@ pub fn byte_line<S: ByteRows>(
         }
         (Packing::Bytes, Mode::Color, FrameFormat::Rgb) if is_plain(tables) => {
             put_color_bytes(source, first, &mut line[..3 * count])
+        }
+        (Packing::Bits, Mode::Gray, _) => {
+            put_gray_bits(source, &setup.scene.gamma, first, count, line)
         }
         _ => Ok(false),
     }

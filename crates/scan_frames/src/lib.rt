@@ -2,6 +2,7 @@
 #![tactic(auto)]
 
 mod buffers;
+mod byte_bits;
 mod byte_lines;
 mod byte_words;
 mod faults;

@@ -167,9 +167,9 @@ stands_shut_out p f = goes_with p (after_link_loss links.Control p.client) true 
 stands_linked : (p : Endpoint) (id : SessionId) → FilesRepresent p → FilesRepresent (with_link id (after_move p))
 stands_linked p id f = goes_with p p.client true (Some id) p.is_over p.image p.out_of_memory (p.budget - 1) (λ e. e) (same_client p.client) f
 
-stands_connected : (b : Bool) (d : Core) (p : Endpoint) (e : Core) (q : Endpoint) → Connects b d p e q → FilesRepresent p → FilesRepresent q
-stands_connected true d p e q c f = subst FilesRepresent (sym c.1) (stands_shut_out p f)
-stands_connected false d p e q c f = subst FilesRepresent (sym c.3) (stands_linked p c.0 f)
+stands_connected : (port : ℕ) (b : Bool) (d : Core) (p : Endpoint) (e : Core) (q : Endpoint) → Connects port b d p e q → FilesRepresent p → FilesRepresent q
+stands_connected port true d p e q c f = subst FilesRepresent (sym c.1) (stands_shut_out p f)
+stands_connected port false d p e q c f = subst FilesRepresent (sym c.3) (stands_linked p c.0 f)
 
 stands_fed : (fed : Fed) (p : Endpoint) (n : ℕ) → FilesRepresent p → FilesRepresent (after_fed fed (without_sent n p))
 stands_fed feds.Standing p n f = goes_with p (without_sent n p).client p.was_connected p.link p.is_over p.image p.out_of_memory (p.budget - 1) (λ e. e) (less_out p.client (without_sent n p).client.out) f
@@ -286,7 +286,7 @@ linked_by None Is Q at of = elim at [ ]
 linked_by (Some id) Is Q at of = of id.number at
 
 stands_done : (d : Core) (p : Endpoint) (job_event : JobEvent) (e : Core) (q : Endpoint) → Can d p job_event → Does d p job_event e q → FilesRepresent p → FilesRepresent q
-stands_done d p Connect e q can does f = stands_connected (is_closed d) d p e q does f
+stands_done d p Connect e q can does f = stands_connected does.0 (is_closed d) d p e q does.1 f
 stands_done d p (ToDaemon n) e q can does f = linked_by p.link _ (FilesRepresent q) does (λ k fed. subst FilesRepresent (sym fed.2) (stands_fed fed.0 p n f))
 stands_done d p (ToClient n) e q can does f = linked_by p.link _ (FilesRepresent q) does (λ k told. stands_heard _ (after_move p) q told.1 (stands_spent p f))
 stands_done d p DataConnect e q can does f = linked_by p.link _ (FilesRepresent q) does (λ k made. subst FilesRepresent (sym made.1) (stands_dialled p f))
@@ -371,7 +371,7 @@ new_post job p n has =
       done = λ d. absurd (let clash : false ≡ true = sym (ap (λ (c : ClientState). is_done c.outcome) n.client.value) ∙ d in cc);
     }))
 
-new_posts : (jobs : List Job) (endpoints : List Endpoint) (k : ℕ) (p : Endpoint) → ((j : ℕ) (job : Job) → slice_get jobs j ≡ Some job → HasCount job.task) → AreNew jobs endpoints → slice_get endpoints k ≡ Some p → FilesRepresent p
+pub new_posts : (jobs : List Job) (endpoints : List Endpoint) (k : ℕ) (p : Endpoint) → ((j : ℕ) (job : Job) → slice_get jobs j ≡ Some job → HasCount job.task) → AreNew jobs endpoints → slice_get endpoints k ≡ Some p → FilesRepresent p
 new_posts [] [] k p fit new at = absurd (let clash : None ≡ Some p = at in cc)
 new_posts [] (q ∷ endpoints) k p fit new at = elim new [ ]
 new_posts (job ∷ jobs) [] k p fit new at = elim new [ ]

@@ -40,9 +40,9 @@ fed_budget feds.Starved p = refl
 laid_budget : (p q : Endpoint) → IsLaid p q → q.budget ≡ p.budget
 laid_budget p q e = ap (λ (x : Endpoint). x.budget) e
 
-connected_budget : (b : Bool) (d : Core) (p : Endpoint) (e : Core) (q : Endpoint) → Connects b d p e q → q.budget ≡ p.budget - 1
-connected_budget true d p e q c = ap (λ (x : Endpoint). x.budget) c.1
-connected_budget false d p e q c = ap (λ (x : Endpoint). x.budget) c.3
+connected_budget : (port : ℕ) (b : Bool) (d : Core) (p : Endpoint) (e : Core) (q : Endpoint) → Connects port b d p e q → q.budget ≡ p.budget - 1
+connected_budget port true d p e q c = ap (λ (x : Endpoint). x.budget) c.1
+connected_budget port false d p e q c = ap (λ (x : Endpoint). x.budget) c.3
 
 heard_budget : (b : Bool) (piece : List ℕ) (p q : Endpoint) → is_running p.client.outcome ≡ b → HeedsPiece piece p q → q.budget ≡ p.budget
 heard_budget false piece p q e h = ap (λ (x : Endpoint). x.budget) (h.over e)
@@ -72,7 +72,7 @@ piece_budget : (n : ℕ) (p q : Endpoint) → TakesPieceOfData n p q → q.budge
 piece_budget n p q s = ap (λ (x : Endpoint). x.budget) s.2.2 ∙ seen_budget _ _ _ s.2.0 refl s.2.1
 
 does_spend : (d : Core) (p : Endpoint) (job_event : JobEvent) (e : Core) (q : Endpoint) → Does d p job_event e q → q.budget ≡ p.budget - 1
-does_spend d p Connect e q does = connected_budget (is_closed d) d p e q does
+does_spend d p Connect e q does = connected_budget does.0 (is_closed d) d p e q does.1
 does_spend d p (ToDaemon n) e q does = linked_by p.link _ (q.budget ≡ p.budget - 1) does (λ k fed. ap (λ (x : Endpoint). x.budget) fed.2 ∙ fed_budget fed.0 (without_sent n p))
 does_spend d p (ToClient n) e q does = linked_by p.link _ (q.budget ≡ p.budget - 1) does (λ k told. heard_budget (is_running p.client.outcome) _ (after_move p) q refl told.1)
 does_spend d p DataConnect e q does = linked_by p.link _ (q.budget ≡ p.budget - 1) does (λ k it. ap (λ (x : Endpoint). x.budget) it.1)
@@ -102,9 +102,9 @@ fed_over feds.Standing p e = e
 fed_over feds.Over p e = e
 fed_over feds.Starved p e = e
 
-connects_over : (b : Bool) (d : Core) (p : Endpoint) (e : Core) (q : Endpoint) → Connects b d p e q → IsOver p → IsOver q
-connects_over true d p e q c o = subst IsOver (sym c.1) (lost_over links.Control p.client o)
-connects_over false d p e q c o = subst IsOver (sym c.3) o
+connects_over : (port : ℕ) (b : Bool) (d : Core) (p : Endpoint) (e : Core) (q : Endpoint) → Connects port b d p e q → IsOver p → IsOver q
+connects_over port true d p e q c o = subst IsOver (sym c.1) (lost_over links.Control p.client o)
+connects_over port false d p e q c o = subst IsOver (sym c.3) o
 
 sends_over : (k : ℕ) (bytes : List ℕ) (last : Bool) (d : Core) (p : Endpoint) (e : Core) (q : Endpoint) → SendsRecord k bytes last d p e q → IsOver p → IsOver q
 sends_over k bytes last d p e q (inl s) o = subst IsOver (sym s.3) o
@@ -125,7 +125,7 @@ piece_over : (n : ℕ) (p q : Endpoint) → TakesPieceOfData n p q → IsOver p 
 piece_over n p q s o = subst IsOver (sym s.2.2) (seen_over _ _ s.2.0 s.2.1 o)
 
 does_over : (d : Core) (p : Endpoint) (job_event : JobEvent) (e : Core) (q : Endpoint) → Does d p job_event e q → IsOver p → IsOver q
-does_over d p Connect e q does o = connects_over (is_closed d) d p e q does o
+does_over d p Connect e q does o = connects_over does.0 (is_closed d) d p e q does.1 o
 does_over d p (ToDaemon n) e q does o = linked_by p.link _ (IsOver q) does (λ k fed. subst IsOver (sym fed.2) (fed_over fed.0 (without_sent n p) o))
 does_over d p (ToClient n) e q does o = linked_by p.link _ (IsOver q) does (λ k told. heard_over _ (after_move p) q told.1 o)
 does_over d p DataConnect e q does o = linked_by p.link _ (IsOver q) does (λ k it. subst IsOver (sym it.1) o)

@@ -80,10 +80,10 @@ delivered_bytes n bytes = take (min n 4096) bytes
 abbrev pub bytes_not_delivered : ℕ → List ℕ → List ℕ
 bytes_not_delivered n bytes = drop (min n 4096) bytes
 
--- a session is opened for it, where one is to be had
-abbrev pub Connects : Bool → Core → Endpoint → Core → Endpoint → Type 0
-Connects true d p e q = (e ≡ d) × (q ≡ shut_out (after_move p))
-Connects false d p e q = (id : SessionId) × (id.number ≡ d.opened) × (e ≡ after_open_session d 1) × (q ≡ with_link id (after_move p))
+-- a session is opened for it with that data port, where one is to be had
+abbrev pub Connects : ℕ → Bool → Core → Endpoint → Core → Endpoint → Type 0
+Connects port true d p e q = (e ≡ d) × (q ≡ shut_out (after_move p))
+Connects port false d p e q = (id : SessionId) × (id.number ≡ d.opened) × (e ≡ after_open_session d port) × (q ≡ with_link id (after_move p))
 
 abbrev pub without_sent : ℕ → Endpoint → Endpoint
 without_sent n p = record (after_move p) { client = record p.client { out = bytes_not_delivered n p.client.out } }
@@ -180,7 +180,7 @@ NeedsLink Cancel = ⊥
 NeedsLink job_event = Unit {0}
 
 abbrev pub Does : Core → Endpoint → JobEvent → Core → Endpoint → Type 0
-Does d p Connect e q = Connects (is_closed d) d p e q
+Does d p Connect e q = (port : ℕ) × Connects port (is_closed d) d p e q
 Does d p (ToDaemon n) e q = IfLinked p.link (λ k. FeedsPiece k n d p e q)
 Does d p (ToClient n) e q = IfLinked p.link (λ k. (e ≡ without_taken k n d) × HeedsPiece (delivered_bytes n (replies_of d k)) (after_move p) q)
 Does d p DataConnect e q = IfLinked p.link (λ k. (e ≡ record d { slots = on_session_slot (on_session after_connected) k d.slots }) × (q ≡ with_image_link (after_move p)))

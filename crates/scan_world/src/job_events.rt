@@ -86,7 +86,7 @@ pub fn can<D: Device>(daemon: &Daemon<D>, endpoint: &Endpoint, job_event: JobEve
 
 /// The control connection is made: a session is opened for it.
 fn connect<D: Device>(alloc: Global, daemon: &mut Daemon<D>, endpoint: &mut Endpoint)
-    ensures { Connects (is_closed (core D.state daemon.old))
+    ensures { Connects 1 (is_closed (core D.state daemon.old))
         (core D.state daemon.old) endpoint.old (core D.state daemon.new) endpoint.new }
 {
     endpoint.spend();

@@ -164,7 +164,7 @@ reads_slot k dev f rest bytes more p = busy_same (device_view k dev) true (ap is
 
 deed_goes : (i d : ℕ) (k : Make) (places : List ℕ) (p : JobState) (dev : AbstractDevice) (x : Action) → IsDown dev → IsActionEnabled i k p dev x → Leads k dev (action_marks i d k places p dev x) (device_after i k places p dev x)
 deed_goes i d k places p dev (Actions.Answers challenge fault) z l = next_goes i d k places p dev challenge fault p.todo z
-deed_goes i d k places p dev (Actions.Turns bytes) z l = reads_slot k dev l.0 _ bytes l.2 l.3.2
+deed_goes i d k places p dev (Actions.Turns bytes) z l = reads_slot k dev l.0 _ bytes l.2 l.3.reads.2
 deed_goes i d k places p dev Actions.TurnsLast z l = ends_goes i d k dev l.0 [] l.1 _ l.2.1 l.2.2 (ap ended_phase l.2.2)
 deed_goes i d k places p dev Actions.TurnsShort z l = ends_goes i d k dev l.0 l.1 l.2 _ l.3.1 l.3.2 (ap ended_phase l.3.2)
 deed_goes i d k places p dev (Actions.TurnsNamed status) z l = ((l.3.1, ap is_busy l.3.2), refl)

@@ -21,21 +21,22 @@ no_parts [] ys e = (refl, e)
 no_parts (x ∷ xs) ys e = cc
 
 -- BYTES
-still_carries : (i : ℕ) (k : Make) (b : SessionView) (dev : AbstractDevice) (o : OptionsInForce) (f : Frame) (more : List Frame) (heard rest bytes left : List ℕ) → b.flight ≡ bytes ++ left →
-    DataUnderWay i k b dev o f more heard rest → DataUnderWay i k (with_flight b left) dev o f more (heard ++ bytes) rest
-still_carries i k b dev o f more heard rest bytes left e (inl h) =
+still_carries : (i : ℕ) (k : Make) (b : SessionView) (dev : AbstractDevice) (o : OptionsInForce) (more : List Frame) (heard rest bytes left : List ℕ) → b.flight ≡ bytes ++ left →
+    DataUnderWay i k b dev o more heard rest → DataUnderWay i k (with_flight b left) dev o more (heard ++ bytes) rest
+still_carries i k b dev o more heard rest bytes left e (inl h) =
     inl (record {
+      meant = h.meant;
       held = h.held;
       ending = h.ending;
       transfer = h.transfer;
       unread = λ status r. let u = h.unread status r in let z = no_parts bytes left (sym e ∙ u.1) in (rw (u.0, z.0) refl, z.1);
     })
-still_carries i k b dev o f more heard rest bytes left e (inr (inl h)) =
-    inr (inl (record { held = h.held; nothing = h.nothing; ending = h.ending; transfer = h.transfer }))
-still_carries i k b dev o f more heard rest bytes left e (inr (inr (inl h))) =
+still_carries i k b dev o more heard rest bytes left e (inr (inl h)) =
+    inr (inl (record { meant = h.meant; held = h.held; nothing = h.nothing; ending = h.ending; transfer = h.transfer }))
+still_carries i k b dev o more heard rest bytes left e (inr (inr (inl h))) =
     let z = no_parts bytes left (sym e ∙ h.flight) in
     inr (inr (inl (record { mine = h.mine; ending = h.ending; flight = z.1; heard_none = rw (h.heard_none, z.0) refl; cause = h.cause; transfer = h.transfer })))
-still_carries i k b dev o f more heard rest bytes left e (inr (inr (inr h))) =
+still_carries i k b dev o more heard rest bytes left e (inr (inr (inr h))) =
     inr (inr (inr (record { mine = h.mine; status = h.status; ending = h.ending; not_eof = h.not_eof; not_good = h.not_good; cause = h.cause; transfer = h.transfer })))
 
 pub reads_right : (i : ℕ) (k : Make) (b : SessionView) (m : ClientView) (dev : AbstractDevice) (params : Params) (heard bytes left : List ℕ) → b.flight ≡ bytes ++ left →
@@ -53,7 +54,7 @@ reads_right i k b m dev params heard bytes left e h =
       awaited = h.awaited;
       rest = h.rest;
       payload = all;
-      carries = still_carries i k b dev h.continues.begin.options h.frame h.more heard h.rest bytes left e h.carries;
+      carries = still_carries i k b dev h.continues.begin.options h.more heard h.rest bytes left e h.carries;
     })
 
 -- A WHOLE PAGE
@@ -79,10 +80,10 @@ all_done k b m o SetOnly page s l g h = absurd s
 all_done k b m o Scan page s l g h = ((o, subst (λ r. AllInForce k b.job b.sent r o) h.1 h.2), let a = length-append m.pages (page ∷ []) in omega arith)
 all_done k b m o (Batch n) page s l g h = ((o, subst (λ r. AllInForce k b.job b.sent r o) h.1 h.2), inl (let a = length-append m.pages (page ∷ []) in omega arith))
 
-after_whole : (i : ℕ) (k : Make) (b : SessionView) (m : ClientView) (dev : AbstractDevice) (f : Frame) (x : Bool) → ltb (length m.pages) (further_pages b.job.task) ≡ x →
-    (c : PageUnderWay k b.job b.sent b.started m.reports m.pages m.frames (f ∷ [])) → HoldsDevice i dev c.begin.options (phase_after_frame f []) → b.transfer ≡ Quiet → b.awaited ≡ None →
+after_whole : (i : ℕ) (k : Make) (b : SessionView) (m : ClientView) (dev : AbstractDevice) (f meant : Frame) (x : Bool) → ltb (length m.pages) (further_pages b.job.task) ≡ x →
+    (c : PageUnderWay k b.job b.sent b.started m.reports m.pages m.frames (f ∷ [])) → HoldsDevice i dev c.begin.options (phase_after_frame meant []) → b.transfer ≡ Quiet → b.awaited ≡ None →
     IsRight i k (with_nothing_in_flight b) (record m { stage = after_page x; frames = []; pages = m.pages ++ (m.frames ++ f ∷ []) ∷ [] }) dev (after_page x)
-after_whole i k b m dev f true e c h q a =
+after_whole i k b m dev f meant true e c h q a =
     let l = ltb-true (length m.pages) (further_pages b.job.task) e in
     let n = length-append m.pages ((m.frames ++ f ∷ []) ∷ []) in
     inl (record {
@@ -96,7 +97,7 @@ after_whole i k b m dev f true e c h q a =
           (one_more k b.job.settings c.earlier m.pages c.begin (m.frames ++ f ∷ []) c.pictures ((m.reports, c.settled.forced), c.frames, some_frame m.frames f));
       fewer = omega arith;
     })
-after_whole i k b m dev f false e c h q a =
+after_whole i k b m dev f meant false e c h q a =
     all_done k (with_nothing_in_flight b) m c.begin.options b.job.task (m.frames ++ f ∷ []) c.scans c.fewer (ltb-false (length m.pages) (further_pages b.job.task) e) (m.reports, refl, c.settled)
 
 pages_more : (k : Make) (b : SessionView) (m : ClientView) (f : Frame) (st : JobStage) → PageUnderWay k b.job b.sent b.started m.reports m.pages m.frames (f ∷ []) →
@@ -119,16 +120,16 @@ same_pages k b c m n j s p h =
     }
 
 -- A WHOLE FRAME
-next_frame : (i : ℕ) (k : Make) (b : SessionView) (m : ClientView) (dev : AbstractDevice) (f : Frame) (more : List Frame) (x : Bool) → x ≡ no_frame_left more →
-    (c : PageUnderWay k b.job b.sent b.started m.reports m.pages m.frames (f ∷ more)) → HoldsDevice i dev c.begin.options (phase_after_frame f more) → b.transfer ≡ Quiet → b.awaited ≡ None → PagesAreOfStarts k b m →
+next_frame : (i : ℕ) (k : Make) (b : SessionView) (m : ClientView) (dev : AbstractDevice) (f meant : Frame) (more : List Frame) (x : Bool) → x ≡ no_frame_left more →
+    (c : PageUnderWay k b.job b.sent b.started m.reports m.pages m.frames (f ∷ more)) → HoldsDevice i dev c.begin.options (phase_after_frame meant more) → b.transfer ≡ Quiet → b.awaited ≡ None → PagesAreOfStarts k b m →
     IsRightAt i k (with_nothing_in_flight b) dev (close_page x b.job.task f m)
-next_frame i k b m dev f [] true e c h q a p =
-    (after_whole i k b m dev f (ltb (length m.pages) (further_pages b.job.task)) refl c h q a, pages_more k b m f _ c)
-next_frame i k b m dev f [] false e c h q a p = cc
-next_frame i k b m dev f (g ∷ more) true e c h q a p = cc
-next_frame i k b m dev f (g ∷ more) false e c h q a p = (
+next_frame i k b m dev f meant [] true e c h q a p =
+    (after_whole i k b m dev f meant (ltb (length m.pages) (further_pages b.job.task)) refl c h q a, pages_more k b m f _ c)
+next_frame i k b m dev f meant [] false e c h q a p = cc
+next_frame i k b m dev f meant (g ∷ more) true e c h q a p = cc
+next_frame i k b m dev f meant (g ∷ more) false e c h q a p = (
   inr (record {
-    last = f;
+    last = meant;
     frame = g;
     more = more;
     continues = record {
@@ -136,7 +137,7 @@ next_frame i k b m dev f (g ∷ more) false e c h q a p = (
       begin = c.begin;
       started = c.started;
       settled = c.settled;
-      frames = append_assoc m.frames (f ∷ []) (g ∷ more) ∙ c.frames;
+      frames = λ steady. append_assoc m.frames (f ∷ []) (g ∷ more) ∙ c.frames steady;
       proper = c.proper.6;
       scans = c.scans;
       pictures = c.pictures;
@@ -148,15 +149,15 @@ next_frame i k b m dev f (g ∷ more) false e c h q a p = (
   same_pages k b (with_nothing_in_flight b) m (record m { stage = Running Starting; frames = m.frames ++ f ∷ [] }) refl refl refl p,
 )
 
-whole_right : (i : ℕ) (k : Make) (b : SessionView) (m : ClientView) (dev : AbstractDevice) (params : Params) (heard : List ℕ) (f : Frame) (more : List Frame) → f ≡ record { params = params; order = m.order; payload = heard } →
-    (c : PageUnderWay k b.job b.sent b.started m.reports m.pages m.frames (f ∷ more)) → HoldsDevice i dev c.begin.options (phase_after_frame f more) → b.transfer ≡ Quiet → b.awaited ≡ None → PagesAreOfStarts k b m →
+whole_right : (i : ℕ) (k : Make) (b : SessionView) (m : ClientView) (dev : AbstractDevice) (params : Params) (heard : List ℕ) (f meant : Frame) (more : List Frame) → f ≡ record { params = params; order = m.order; payload = heard } →
+    (c : PageUnderWay k b.job b.sent b.started m.reports m.pages m.frames (f ∷ more)) → HoldsDevice i dev c.begin.options (phase_after_frame meant more) → b.transfer ≡ Quiet → b.awaited ≡ None → PagesAreOfStarts k b m →
     IsRightAt i k (with_nothing_in_flight b) dev (close_frame (frame_fills params heard) b.job.task params heard m)
-whole_right i k b m dev params heard f more e c h q a p =
+whole_right i k b m dev params heard f meant more e c h q a p =
     let w : frame_fills params heard ≡ true = ap (λ (x : Frame). frame_fills x.params x.payload) (sym e) ∙ c.proper.2 in
     let l : params.last_frame ≡ no_frame_left more = ap (λ (x : Frame). x.params.last_frame) (sym e) ∙ c.proper.4 in
     let n : close_page params.last_frame b.job.task f m ≡ close_frame (frame_fills params heard) b.job.task params heard m =
     ap (λ (x : Frame). close_page params.last_frame b.job.task x m) e ∙ ap (λ (x : Bool). close_frame x b.job.task params heard m) (sym w) in
-    subst (λ (x : ClientView). IsRightAt i k (with_nothing_in_flight b) dev x) n (next_frame i k b m dev f more params.last_frame l c h q a p)
+    subst (λ (x : ClientView). IsRightAt i k (with_nothing_in_flight b) dev x) n (next_frame i k b m dev f meant more params.last_frame l c h q a p)
 
 -- THE END OF A FRAME
 pub refused : (status : Status) (task : Task) (params : Params) (heard : List ℕ) (m : ClientView) → status ≢ Eof → status ≢ Good → end_frame status task params heard m ≡ with_ending status Answer m
@@ -174,14 +175,14 @@ refused NoMem task params heard m e g = refl
 refused AccessDenied task params heard m e g = refl
 
 ends_by : (i : ℕ) (k : Make) (b : SessionView) (m : ClientView) (dev : AbstractDevice) (params : Params) (heard : List ℕ) (status : Status) → b.flight ≡ [] → b.ending ≡ Some status → PagesAreOfStarts k b m →
-    (h : Images i k b m dev params heard) → DataUnderWay i k b dev h.continues.begin.options h.frame h.more heard h.rest → IsRightAt i k (with_nothing_in_flight b) dev (end_frame status b.job.task params heard m)
+    (h : Images i k b m dev params heard) → DataUnderWay i k b dev h.continues.begin.options h.more heard h.rest → IsRightAt i k (with_nothing_in_flight b) dev (end_frame status b.job.task params heard m)
 ends_by i k b m dev params heard status n e p h (inl c) = absurd (cc (e, c.ending))
 ends_by i k b m dev params heard status n e p h (inr (inl c)) =
     let z : status ≡ Eof = cc (e, c.ending) in
     let w : heard ≡ h.frame.payload = sym (append-nil heard) ∙ (rw (n, c.nothing) at h.payload) in
     let o : m.order ≡ h.frame.order = h.order ∙ sym h.continues.proper.5 in
     let f : h.frame ≡ record { params = params; order = m.order; payload = heard } = rw (h.params_are, w, o) refl in
-    rw z (whole_right i k b m dev params heard h.frame h.more f h.continues c.held c.transfer h.awaited p)
+    rw z (whole_right i k b m dev params heard h.frame c.meant h.more f h.continues c.held c.transfer h.awaited p)
 ends_by i k b m dev params heard status n e p h (inr (inr (inl c))) =
     let z : status ≡ Eof = cc (e, c.ending) in
     let short : frame_fills params heard ≡ false = rw (c.heard_none, h.params_are) h.continues.proper.3 in

@@ -57,8 +57,8 @@ kept i k listed_devices p dev (Actions.Hears r) l z t f =
     (kept_heard i k p dev r l.1.0 p.client.stage l.0 l.1.1 t, same_pages k p.session p.session p.client (hear_in p.client.stage p.session.job p.client r) refl refl (hear_pages p.client.stage p.session.job p.client r) f)
 kept i k listed_devices p dev Actions.Dials l z t f = (kept_dialled i k p dev l.0.0 l.0.1 p.client.stage l.0.2 l.1 t, same_pages k p.session (Actions.with_transfer p.session Streaming) p.client p.client refl refl refl f)
 kept i k listed_devices p dev (Actions.Turns bytes) l z t f = (
-  lift i k p dev (record dev { phase = read_on dev.phase bytes }) p.session.transfer (p.session.flight ++ bytes) p.session.ending p.session.met p.client.stage (not_quiet _ Streaming l.3.0 streaming_is) (λ z. absurd (no_stream _ l.3.0 z))
-      (λ m st. turned_right i k p.session m dev l.0 bytes l.1 l.2 st l.3.0 l.3.2 l.4) t,
+  lift i k p dev (record dev { phase = read_on dev.phase bytes }) p.session.transfer (p.session.flight ++ bytes) p.session.ending p.session.met p.client.stage (not_quiet _ Streaming l.3.reads.0 streaming_is) (λ z. absurd (no_stream _ l.3.reads.0 z))
+      (λ m st. turned_right i k p.session m dev l.0 bytes l.3.meant l.1 l.2 st l.3.as_many l.3.same l.3.reads.0 l.3.reads.2 l.4) t,
   same_pages k p.session (Actions.with_flight p.session (p.session.flight ++ bytes)) p.client p.client refl refl refl f,
 )
 kept i k listed_devices p dev Actions.TurnsLast l z t f = (

@@ -1,5 +1,5 @@
 -- WHAT AN ACTION KEEPS OF THE JOB THAT IT COMES TO: messages.
-use Rattle.std.proofs.Common.{◌≡◌, ◌∙◌, ◌≢◌, ℕ, List, [], ◌∷◌, ◌++◌, Bool, true, false, Option, Some, None, refl, sym, subst, ap, inl, inr, append_assoc}
+use Rattle.std.proofs.Common.{◌≡◌, ◌∙◌, ◌≢◌, ℕ, List, [], ◌∷◌, ◌++◌, Bool, true, false, Option, Some, None, refl, sym, subst, ap, inl, inr, append_assoc, ◌⊎◌}
 use Rattle.page_picture.specs.Shows.{Frame}
 use Rattle.sane_fixed.specs.declared.params.Params.{Params}
 use Rattle.system_model.specs.AbstractMessages.{Challenge, Status, NoDocs, IoError, Why, Lost, AbstractRequest, AbstractReply, Refused}
@@ -8,7 +8,7 @@ use Rattle.system_model.specs.Client.{AbstractJob, ClientView, JobStage, Idle, R
 use Rattle.system_model.specs.ClientReplies.{hear_in, hear_at, client_after_bytes, finish_in, start_refused, reads_on, stage_after_stop}
 use Rattle.system_model.specs.AbstractDevices.{DeviceInvariant, AbstractDevice, Begin, without_first}
 use Rattle.system_model.specs.Daemon.{TransferState, Quiet, Waiting, Streaming, FailureCounts, AnswerEffect}
-use Rattle.system_model.specs.Causes.{Cause, TrayRanOut, Explains}
+use Rattle.system_model.specs.Causes.{Cause, TrayRanOut, Explains, LinkOutOfMemory, WasUnsaid, IsCauseAmong}
 use Rattle.system_model.specs.SystemStates.{SessionView, JobState}
 use Rattle.system_model.specs.Actions.{first_noted, after_connection, environment_of, served_by, session_after_answer, job_after_answer, loss_cause, with_nothing_in_flight, with_flight, with_transfer, break_causes, without_session}
 use Rattle.system_model.specs.Transitions.{IsRunning, MayBreak}
@@ -179,12 +179,12 @@ images i k p dev params heard (inl h) = h
 images i k p dev params heard (inr (inl h)) = absurd (h.waits refl)
 images i k p dev params heard (inr (inr h)) = absurd (h.waits refl)
 
-dial_carries : (i : ℕ) (k : Make) (b : SessionView) (dev : AbstractDevice) (o : _) (f : Frame) (more : List Frame) (heard rest : List ℕ) → b.transfer ≡ Waiting →
-    DataUnderWay i k b dev o f more heard rest → DataUnderWay i k (with_transfer b Streaming) dev o f more heard rest
-dial_carries i k b dev o f more heard rest c (inl h) = inl (record { held = h.held; ending = h.ending; transfer = inr refl; unread = h.unread })
-dial_carries i k b dev o f more heard rest c (inr (inl h)) = absurd (cc (c, h.transfer))
-dial_carries i k b dev o f more heard rest c (inr (inr (inl h))) = absurd (cc (c, h.transfer))
-dial_carries i k b dev o f more heard rest c (inr (inr (inr h))) = absurd (cc (c, h.transfer))
+dial_carries : (i : ℕ) (k : Make) (b : SessionView) (dev : AbstractDevice) (o : _) (more : List Frame) (heard rest : List ℕ) → b.transfer ≡ Waiting →
+    DataUnderWay i k b dev o more heard rest → DataUnderWay i k (with_transfer b Streaming) dev o more heard rest
+dial_carries i k b dev o more heard rest c (inl h) = inl (record { meant = h.meant; held = h.held; ending = h.ending; transfer = inr refl; unread = h.unread })
+dial_carries i k b dev o more heard rest c (inr (inl h)) = absurd (cc (c, h.transfer))
+dial_carries i k b dev o more heard rest c (inr (inr (inl h))) = absurd (cc (c, h.transfer))
+dial_carries i k b dev o more heard rest c (inr (inr (inr h))) = absurd (cc (c, h.transfer))
 
 pub kept_dialled : (i : ℕ) (k : Make) (p : JobState) (dev : AbstractDevice) (params : Params) (heard : List ℕ) (st : JobStage) → st ≡ Running (Imaging params heard) → p.session.transfer ≡ Waiting →
     StageInvariant i k p dev st → StageInvariant i k (record p { image = true; session = with_transfer p.session Streaming }) dev st
@@ -205,7 +205,7 @@ kept_dialled i k p dev params heard st e c h =
         awaited = a.in_sync.awaited;
         rest = a.in_sync.rest;
         payload = a.in_sync.payload;
-        carries = dial_carries i k p.session dev a.in_sync.continues.begin.options a.in_sync.frame a.in_sync.more heard a.in_sync.rest c a.in_sync.carries;
+        carries = dial_carries i k p.session dev a.in_sync.continues.begin.options a.in_sync.more heard a.in_sync.rest c a.in_sync.carries;
       };
     }))
 
@@ -284,9 +284,13 @@ still_linked i k p dev g (inl h) = h.linked
 still_linked i k p dev g (inr (inl h)) = h.linked
 still_linked i k p dev g (inr (inr h)) = h.linked
 
+break_cause : (memory : Bool) (met : List Cause) → IsCauseAmong LinkOutOfMemory (break_causes memory ++ met) ⊎ IsCauseAmong WasUnsaid (break_causes memory ++ met)
+break_cause true met = inl (inl refl)
+break_cause false met = inr (inl refl)
+
 pub kept_broken : (i : ℕ) (k : Make) (p : JobState) (dev new : AbstractDevice) (st : JobStage) → (memory : Bool) → p.served ≡ true → MayBreak st → StageInvariant i k p dev st →
     StageInvariant i k (record p { todo = []; due = []; served = false; session = without_session memory p.session }) new st
 kept_broken i k p dev new Idle memory s m h = absurd (cc (s, h.0))
-kept_broken i k p dev new (Running g) memory s m h = inr (inr (record { linked = still_linked i k p dev g h; served = refl; transfer = refl; todo = refl; due = refl; waits = m g refl }))
+kept_broken i k p dev new (Running g) memory s m h = inr (inr (record { cause = break_cause memory p.session.met; linked = still_linked i k p dev g h; served = refl; transfer = refl; todo = refl; due = refl; waits = m g refl }))
 kept_broken i k p dev new Done memory s m h = done_more k p.session p.client Quiet p.session.flight p.session.ending (break_causes memory) p.session.job.task h
 kept_broken i k p dev new (Ended status why) memory s m h = caused_more k p.session (break_causes memory) status why h

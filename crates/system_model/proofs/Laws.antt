@@ -1,15 +1,18 @@
 -- THE LAWS OF THE LAYERS BELOW: nothing else is known of them.
-use Rattle.std.proofs.Common.{arith, ◌≤◌, ◌≡◌, ◌≢◌, ◌↔◌, ◌∙◌, ℕ, ◌+◌, List, [], ◌∷◌, ◌++◌, Bool, true, false, refl, sym, ap, subst, length}
+use Rattle.std.proofs.Common.{arith, ◌≤◌, ◌≡◌, ◌≢◌, ◌↔◌, ◌∙◌, ℕ, ◌+◌, List, [], ◌∷◌, ◌++◌, Bool, true, false, refl, sym, ap, subst, length, length-append, take, drop}
 use Rattle.std.proofs.lemmas.Bool.{le-ltb}
-use Rattle.std.specs.Prelude.{Option, Some, None, option_map, if◌then◌else◌, Result, Ok, Err}
+use Rattle.std.proofs.lemmas.List.{length-take-le, take-append-drop}
+use Rattle.std.specs.Prelude.{Option, Some, None, option_map, if◌then◌else◌, Result, Ok, Err, ◌==◌, ◌&&◌, not, nat_lt}
 use Rattle.sane_fixed.specs.declared.status.Status.{Status as Code}
 use Rattle.sane_fixed.specs.declared.status.Status.TheVariants as code
 use Rattle.sane_fixed.specs.declared.info.Info.{Info as Bits}
 use Rattle.sane_fixed.specs.declared.byte_order.ByteOrder.{ByteOrder as Order}
+use Rattle.sane_fixed.specs.declared.params.Params.{Params}
 use Rattle.option_desc.specs.declared.value.Value.{Value}
 use Rattle.page_picture.specs.Shows.{Frame}
 use Rattle.frame_join.specs.AloneFrame.{most_bytes}
-use Rattle.frame_join.specs.FrameHistory.{is_accepted}
+use Rattle.frame_join.specs.FrameHistory.{is_accepted, is_full_at}
+use Rattle.frame_join.specs.KeptFrame.{color_number, goes_with, is_alike, is_pass_that}
 use Rattle.scan_frames.specs.Frames as scan
 use Rattle.scan_frames.specs.declared.setup.Setup.{Setup}
 use Rattle.device_api.specs.ScannerLimits as limits
@@ -145,6 +148,79 @@ three o page_view = three_by o page_view (scan.has_picture o page_view) (scan.ta
 pub small : (k : Make) (o : OptionsInForce) (page_view : Page) → AreOptionsAllowed k o → (payload_total (picture_frames k o page_view) ≤ 539216256) × (length (picture_frames k o page_view) ≤ 3)
 unfolding picture_frames AreOptionsAllowed
 small k o page_view a = (let h = ruled.few o page_view a in let e = same_total (rules.frames_given o page_view) in omega arith, three o page_view)
+
+-- WHAT COMES IN PLACE OF A FRAME'S BYTES: as many are joined as they
+-- frames of the same parameters and byte orders
+abbrev AreLike : List Frame → List Frame → Type 0
+AreLike [] [] = Unit {0}
+AreLike (f ∷ fs) (g ∷ gs) = (f.params ≡ g.params) × (f.order ≡ g.order) × AreLike fs gs
+AreLike fs gs = ⊥
+
+like_themselves : (fs : List Frame) → AreLike fs fs
+like_themselves [] = tt
+like_themselves (f ∷ fs) = (refl, refl, like_themselves fs)
+
+like_behind : (fs gs : List Frame) (f g : Frame) → AreLike fs gs → f.params ≡ g.params → f.order ≡ g.order → AreLike (fs ++ f ∷ []) (gs ++ g ∷ [])
+like_behind [] [] f g h p o = (p, o, tt)
+like_behind [] (y ∷ gs) f g h p o = absurd h
+like_behind (x ∷ fs) [] f g h p o = absurd h
+like_behind (x ∷ fs) (y ∷ gs) f g h p o = (h.0, h.1, like_behind fs gs f g h.2 p o)
+
+same_goes : (f g : Frame) (params : Params) (order : Order) → f.params ≡ g.params → f.order ≡ g.order → goes_with f params order ≡ goes_with g params order
+same_goes f g params order p o = ap (λ (x : Params). not (color_number x.format == color_number params.format) && is_alike x f.order params order) p ∙ ap (λ (x : Order). not (color_number g.params.format == color_number params.format) && is_alike g.params x params order) o
+
+same_accepted : (fs gs : List Frame) (params : Params) (order : Order) → AreLike fs gs → is_accepted fs params order ≡ is_accepted gs params order
+same_accepted [] [] params order h = refl
+same_accepted [] (b ∷ gs) params order h = absurd h
+same_accepted (a ∷ fs) [] params order h = absurd h
+same_accepted (a ∷ []) (b ∷ []) params order h = ap (λ (x : Bool). is_pass_that false params && x) (same_goes a b params order h.0 h.1)
+same_accepted (a ∷ []) (b ∷ d ∷ gs) params order h = absurd h.2
+same_accepted (a ∷ c ∷ fs) (b ∷ []) params order h = absurd h.2
+same_accepted (a ∷ c ∷ []) (b ∷ d ∷ []) params order h =
+    ap (λ (x : Bool). is_pass_that true params && (x && goes_with c params order)) (same_goes a b params order h.0 h.1)
+    ∙ ap (λ (x : Bool). is_pass_that true params && (goes_with b params order && x)) (same_goes c d params order h.2.0 h.2.1)
+same_accepted (a ∷ c ∷ []) (b ∷ d ∷ e ∷ gs) params order h = absurd h.2.2
+same_accepted (a ∷ c ∷ e ∷ fs) (b ∷ d ∷ []) params order h = absurd h.2.2
+same_accepted (a ∷ c ∷ e ∷ fs) (b ∷ d ∷ g ∷ gs) params order h = refl
+
+like_accepted : (fs gs : List Frame) (params : Params) (order : Order) → AreLike fs gs → accepts fs params order ≡ accepts gs params order
+unfolding accepts
+like_accepted fs gs params order h = same_accepted fs gs params order h
+
+joined_like : (order : Order) (fs gs more : List Frame) → AreLike fs gs → AreJoinable order fs more → AreJoinable order gs more
+joined_like order fs gs [] h p = tt
+joined_like order fs gs (f ∷ more) h p = (
+  sym (like_accepted fs gs f.params order h) ∙ p.0,
+  p.1,
+  p.2,
+  p.3,
+  p.4,
+  p.5,
+  joined_like order (fs ++ f ∷ []) (gs ++ f ∷ []) more (like_behind fs gs f f h refl refl) p.6,
+)
+
+overflows_alike : (params : Params) (xs ys : List ℕ) → length xs ≡ length ys → frame_overflows params xs ≡ frame_overflows params ys
+unfolding frame_overflows
+overflows_alike params xs ys e = ap (λ (n : ℕ). nat_lt (most_bytes params) n) e
+
+fills_alike : (params : Params) (xs ys : List ℕ) → length xs ≡ length ys → frame_fills params xs ≡ frame_fills params ys
+unfolding frame_fills
+fills_alike params xs ys e = ap (λ (n : ℕ). is_full_at params.lines params.bytes_per_line n) e
+
+-- the join takes a frame with as many other bytes, and those behind it
+pub retaken : (order : Order) (done more : List Frame) (f : Frame) (bytes : List ℕ) → length bytes ≡ length f.payload → AreJoinable order done (f ∷ more) → AreJoinable order done (record f { payload = bytes } ∷ more)
+retaken order done more f bytes e p = (
+  p.0,
+  (λ front rest is.
+      let n = length-append front rest in
+      let short : length (take (length front) f.payload) ≡ length front = length-take-le (length front) f.payload (let whole = ap length is in omega arith) in
+      overflows_alike f.params front (take (length front) f.payload) (sym short) ∙ p.1 (take (length front) f.payload) (drop (length front) f.payload) (take-append-drop (length front) f.payload)),
+  fills_alike f.params bytes f.payload e ∙ p.2,
+  p.3,
+  p.4,
+  p.5,
+  joined_like order (done ++ f ∷ []) (done ++ record f { payload = bytes } ∷ []) more (like_behind done done f (record f { payload = bytes }) (like_themselves done) refl refl) p.6,
+)
 
 -- VALUES
 -- what a client asks the value of is told, and there are few such options

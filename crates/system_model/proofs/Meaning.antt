@@ -50,5 +50,5 @@ shown s page_view frames true e f n a is = let m = means_and_shows s page_view a
 
 pub pictures_meant : PicturesAreMeant
 unfolding picture_frames AreOptionsAllowed rules.frames_given
-pictures_meant k settings begin frames h is =
-    shown begin.options begin.page frames (has_picture begin.options begin.page) refl h.1 h.2 (forced_allowed k settings begin.options h.0.0 h.0.1) is
+pictures_meant k settings begin frames h steady is =
+    shown begin.options begin.page frames (has_picture begin.options begin.page) refl (h.1 steady) h.2 (forced_allowed k settings begin.options h.0.0 h.0.1) is

@@ -74,7 +74,7 @@ first_6 i k p dev g e h (Actions.Hears r) m l = let x = l.1.1 in let y = h.due i
 first_6 i k p dev g e h Actions.Dials m l = absurd (no_image g l.0.0 l.0.1 h.waits (sym e ∙ l.0.2))
 first_6 i k p dev g e h (Actions.Reads bytes) m l = absurd (no_image g l.0.0 l.0.1 h.waits (sym e ∙ l.0.2))
 first_6 i k p dev g e h (Actions.Finishes status) m l = absurd (no_image g l.0.0 l.0.1 h.waits (sym e ∙ l.0.2))
-first_6 i k p dev g e h (Actions.Turns bytes) m l = let x = h.transfer in let y = l.3.0 in absurd (cc (x, y))
+first_6 i k p dev g e h (Actions.Turns bytes) m l = let x = h.transfer in let y = l.3.reads.0 in absurd (cc (x, y))
 first_6 i k p dev g e h Actions.TurnsLast m l = let x = h.transfer in let y = l.2.0 in absurd (cc (x, y))
 first_6 i k p dev g e h (Actions.TurnsNamed status) m l = let x = h.transfer in let y = l.3.0 in absurd (cc (x, y))
 first_6 i k p dev g e h Actions.TurnsShort m l = let x = h.transfer in let y = l.3.0 in absurd (cc (x, y))
@@ -107,7 +107,7 @@ turns_named i k p dev f rest more AccessDenied h r n o = (Actions.TurnsNamed Acc
 turns : (i : ℕ) (k : Make) (p : JobState) (dev : AbstractDevice) (f : Frame) (rest : List ℕ) (more : List Frame) (r : Option Status) → ReadsFrameOf i p dev f rest more → read_status_of k dev.options ≡ r → IsFirst i k p dev 5 → DeviceInvariant k dev → CanMove i k p dev
 turns i k p dev f [] more None h r o y = (Actions.TurnsLast, tt, (f, more, h, r), o)
 turns i k p dev f (b ∷ rest) more None h r o y =
-    (Actions.Turns (b ∷ rest), tt, (f, [], more, (h.0, h.1, h.2 ∙ ap (λ (x : List ℕ). Reading f x more) (sym (append-nil (b ∷ rest)))), r, λ z. cc), o)
+    (Actions.Turns (b ∷ rest), tt, (f, [], more, record { meant = b ∷ rest; as_many = refl; same = λ steady. refl; reads = (h.0, h.1, h.2 ∙ ap (λ (x : List ℕ). Reading f x more) (sym (append-nil (b ∷ rest)))) }, r, λ z. cc), o)
 turns i k p dev f rest more (Some status) h r o y = turns_named i k p dev f rest more status h r (λ z. never_good _ _ y.allowed (r ∙ ap Some z)) o
 
 -- where the frame streams, what is on the way comes first
@@ -123,16 +123,16 @@ streams i k p dev params heard f more rest (b ∷ bytes) a e h l n y = (
   first_4 i k p dev (Imaging params heard) e a.todo a.due (λ z. let c = h.0 in cc (c, z)),
 )
 
-flows : (i : ℕ) (k : Make) (p : JobState) (dev : AbstractDevice) (params : Params) (heard : List ℕ) (o : OptionsInForce) (f : Frame) (more : List Frame) (rest : List ℕ) → RequestInFlight i k p dev (Imaging params heard) → p.client.stage ≡ Running (Imaging params heard) →
-    DataUnderWay i k p.session dev o f more heard rest → DeviceInvariant k dev → CanMove i k p dev
-flows i k p dev params heard o f more rest a e (inl h) y =
+flows : (i : ℕ) (k : Make) (p : JobState) (dev : AbstractDevice) (params : Params) (heard : List ℕ) (o : OptionsInForce) (more : List Frame) (rest : List ℕ) → RequestInFlight i k p dev (Imaging params heard) → p.client.stage ≡ Running (Imaging params heard) →
+    DataUnderWay i k p.session dev o more heard rest → DeviceInvariant k dev → CanMove i k p dev
+flows i k p dev params heard o more rest a e (inl h) y =
     elim h.transfer [
       | inl c ↦ (Actions.Dials, tt, ((params, heard, e), c), first_3 i k p dev (Imaging params heard) e a.todo a.due)
-      | inr c ↦ streams i k p dev params heard f more rest p.session.flight a e (c, h.held.mine, h.held.phase_is) refl h.ending y
+      | inr c ↦ streams i k p dev params heard h.meant more rest p.session.flight a e (c, h.held.mine, h.held.phase_is) refl h.ending y
     ]
-flows i k p dev params heard o f more rest a e (inr (inl h)) y = takes i k p dev params heard Eof p.session.flight a e (λ z. let c = h.transfer in cc (c, z)) refl h.ending
-flows i k p dev params heard o f more rest a e (inr (inr (inl h))) y = takes i k p dev params heard Eof p.session.flight a e (λ z. let c = h.transfer in cc (c, z)) refl h.ending
-flows i k p dev params heard o f more rest a e (inr (inr (inr h))) y = takes i k p dev params heard h.status p.session.flight a e (λ z. let c = h.transfer in cc (c, z)) refl h.ending
+flows i k p dev params heard o more rest a e (inr (inl h)) y = takes i k p dev params heard Eof p.session.flight a e (λ z. let c = h.transfer in cc (c, z)) refl h.ending
+flows i k p dev params heard o more rest a e (inr (inr (inl h))) y = takes i k p dev params heard Eof p.session.flight a e (λ z. let c = h.transfer in cc (c, z)) refl h.ending
+flows i k p dev params heard o more rest a e (inr (inr (inr h))) y = takes i k p dev params heard h.status p.session.flight a e (λ z. let c = h.transfer in cc (c, z)) refl h.ending
 
 -- EACH STAGE
 asks : (i : ℕ) (k : Make) (p : JobState) (dev : AbstractDevice) (g : AbstractProgress) (q : AbstractRequest) → request_awaited g ≡ q ∷ [] → p.client.stage ≡ Running g → RequestInFlight i k p dev g → CanMove i k p dev
@@ -148,7 +148,7 @@ goes_on i k p dev (Putting n value requested left) e h y = asks i k p dev (Putti
 goes_on i k p dev (Getting n left) e h y = asks i k p dev (Getting n left) (Get n) refl e h
 goes_on i k p dev Starting e h y = asks i k p dev Starting Start refl e h
 goes_on i k p dev Shaping e h y = asks i k p dev Shaping Parameters refl e h
-goes_on i k p dev (Imaging params heard) e h y = flows i k p dev params heard h.in_sync.continues.begin.options h.in_sync.frame h.in_sync.more h.in_sync.rest h e h.in_sync.carries y
+goes_on i k p dev (Imaging params heard) e h y = flows i k p dev params heard h.in_sync.continues.begin.options h.in_sync.more h.in_sync.rest h e h.in_sync.carries y
 
 moves : (i : ℕ) (k : Make) (p : JobState) (dev : AbstractDevice) (st : JobStage) → p.client.stage ≡ st → IsUnderWay st → StageInvariant i k p dev st → DeviceInvariant k dev → CanMove i k p dev
 moves i k p dev Idle e u h y = (Actions.Connects, tt, e, first_0 i k p dev)

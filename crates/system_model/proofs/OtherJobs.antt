@@ -54,14 +54,14 @@ kept_settles i k b m dev new left o s h =
       pages = h.pages;
     }
 
-kept_carries : (i : ℕ) (k : Make) (b : SessionView) (dev new : AbstractDevice) (o : OptionsInForce) (f : Frame) (more : List Frame) (heard rest : List ℕ) → Same i dev new → DataUnderWay i k b dev o f more heard rest → DataUnderWay i k b new o f more heard rest
-kept_carries i k b dev new o f more heard rest s (inl h) =
-    inl (record { held = kept_held i dev new _ _ s h.held; ending = h.ending; transfer = h.transfer; unread = h.unread })
-kept_carries i k b dev new o f more heard rest s (inr (inl h)) =
-    inr (inl (record { held = kept_held i dev new _ _ s h.held; nothing = h.nothing; ending = h.ending; transfer = h.transfer }))
-kept_carries i k b dev new o f more heard rest s (inr (inr (inl h))) =
+kept_carries : (i : ℕ) (k : Make) (b : SessionView) (dev new : AbstractDevice) (o : OptionsInForce) (more : List Frame) (heard rest : List ℕ) → Same i dev new → DataUnderWay i k b dev o more heard rest → DataUnderWay i k b new o more heard rest
+kept_carries i k b dev new o more heard rest s (inl h) =
+    inl (record { meant = h.meant; held = kept_held i dev new _ _ s h.held; ending = h.ending; transfer = h.transfer; unread = h.unread })
+kept_carries i k b dev new o more heard rest s (inr (inl h)) =
+    inr (inl (record { meant = h.meant; held = kept_held i dev new _ _ s h.held; nothing = h.nothing; ending = h.ending; transfer = h.transfer }))
+kept_carries i k b dev new o more heard rest s (inr (inr (inl h))) =
     inr (inr (inl (record { mine = (s.held h.mine).0; ending = h.ending; flight = h.flight; heard_none = h.heard_none; cause = h.cause; transfer = h.transfer })))
-kept_carries i k b dev new o f more heard rest s (inr (inr (inr h))) =
+kept_carries i k b dev new o more heard rest s (inr (inr (inr h))) =
     inr (inr (inr (record { mine = (s.held h.mine).0; status = h.status; ending = h.ending; not_eof = h.not_eof; not_good = h.not_good; cause = h.cause; transfer = h.transfer })))
 
 pub kept_sync : (i : ℕ) (k : Make) (b : SessionView) (m : ClientView) (dev new : AbstractDevice) (g : AbstractProgress) → Same i dev new → InSync i k b m dev g → InSync i k b m new g
@@ -119,7 +119,7 @@ kept_sync i k b m dev new (Imaging params heard) s h =
       awaited = h.awaited;
       rest = h.rest;
       payload = h.payload;
-      carries = kept_carries i k b dev new _ h.frame h.more heard h.rest s h.carries;
+      carries = kept_carries i k b dev new _ h.more heard h.rest s h.carries;
     }
 
 pub kept_right : (i : ℕ) (k : Make) (b : SessionView) (m : ClientView) (dev new : AbstractDevice) (st : JobStage) → Same i dev new → IsRight i k b m dev st → IsRight i k b m new st

@@ -33,7 +33,7 @@ begin_right i k b m dev page (f ∷ more) h a s e = (
         begin = record { page = page; options = dev.options };
         started = refl;
         settled = record { forced = rw h.held.options_are h.settled.forced; permitted = h.settled.permitted };
-        frames = rw h.frames (sym e);
+        frames = λ steady. rw h.frames (sym e);
         proper = rw h.frames (rw e at (proper k dev.options page a s));
         scans = h.scans;
         pictures = h.pictures;
@@ -139,7 +139,7 @@ shape_right i k b m dev true h e =
       awaited = h.awaited;
       rest = h.frame.payload;
       payload = rw h.flight refl;
-      carries = inl (record { held = h.held; ending = h.ending; transfer = inl h.transfer; unread = λ status e. (refl, h.flight) });
+      carries = inl (record { meant = h.frame; held = h.held; ending = h.ending; transfer = inl h.transfer; unread = λ status e. (refl, h.flight) });
     }
 shape_right i k b m dev false h e =
     let a : accepts m.frames h.frame.params m.order ≡ true = ap (λ o. accepts m.frames h.frame.params o) h.order ∙ h.continues.proper.0 in cc

@@ -177,7 +177,7 @@ off_treats i k Ending dev = inl refl
 -- EACH ACTION
 pub treats : (i : ℕ) (k : Make) (listed : List ℕ) (p : JobState) (dev : AbstractDevice) (x : Action) → IsActionEnabled i k p dev x → Treats i k dev (device_after i k listed p dev x)
 treats i k listed p dev (Actions.Answers challenge fault) l = next_treats i k listed p dev challenge fault p.todo
-treats i k listed p dev (Actions.Turns bytes) l = phased i k dev (read_on dev.phase bytes) l.3.1
+treats i k listed p dev (Actions.Turns bytes) l = phased i k dev (read_on dev.phase bytes) l.3.reads.1
 treats i k listed p dev Actions.TurnsLast l = phased i k dev (ended_phase dev.phase) l.2.1
 treats i k listed p dev (Actions.TurnsNamed status) l = rested i k dev l.3.1
 treats i k listed p dev Actions.TurnsShort l = phased i k dev (ended_phase dev.phase) l.3.1

@@ -20,7 +20,7 @@ use Rattle.system_model.specs.Invariants.{IsCalm, RequestInFlight, StageInvarian
 use Rattle.system_model.specs.Variant.{exchange_cost, page_cost, frames_cost, pages_variant, flow_variant, image_variant, stage_variant, later_pages, stage_variant_of, running_variant, control_variant_at, control_variant_of, action_cost}
 use Rattle.system_model.proofs.RightAnswers.{answers_right}
 use Rattle.system_model.proofs.Image.{refused}
-use Rattle.system_model.proofs.Turns.{streaming, never_ending, without_append}
+use Rattle.system_model.proofs.Turns.{streaming, never_ending, without_as_many}
 use Rattle.system_model.proofs.Kept.{heard_pages}
 use Rattle.system_model.proofs.Kept
 use Rattle.system_model.proofs.Lows.{answers_low}
@@ -82,17 +82,17 @@ hears_low i k p dev r rest Done u l e h = absurd u
 hears_low i k p dev r rest (Ended s w) u l e h = absurd u
 
 -- THE DATA CONNECTION
-dial_carried : (i : ℕ) (k : Make) (b : SessionView) (dev : AbstractDevice) (o : _) (f : Frame) (more : List Frame) (heard rest : List ℕ) → b.transfer ≡ Waiting → DataUnderWay i k b dev o f more heard rest → b.ending ≡ None
-dial_carried i k b dev o f more heard rest c (inl h) = h.ending
-dial_carried i k b dev o f more heard rest c (inr (inl h)) = absurd (cc (c, h.transfer))
-dial_carried i k b dev o f more heard rest c (inr (inr (inl h))) = absurd (cc (c, h.transfer))
-dial_carried i k b dev o f more heard rest c (inr (inr (inr h))) = absurd (cc (c, h.transfer))
+dial_carried : (i : ℕ) (k : Make) (b : SessionView) (dev : AbstractDevice) (o : _) (more : List Frame) (heard rest : List ℕ) → b.transfer ≡ Waiting → DataUnderWay i k b dev o more heard rest → b.ending ≡ None
+dial_carried i k b dev o more heard rest c (inl h) = h.ending
+dial_carried i k b dev o more heard rest c (inr (inl h)) = absurd (cc (c, h.transfer))
+dial_carried i k b dev o more heard rest c (inr (inr (inl h))) = absurd (cc (c, h.transfer))
+dial_carried i k b dev o more heard rest c (inr (inr (inr h))) = absurd (cc (c, h.transfer))
 
 dials_low : (i : ℕ) (k : Make) (p : JobState) (dev : AbstractDevice) (params : Params) (heard : List ℕ) (st : JobStage) → p.client.stage ≡ st → st ≡ Running (Imaging params heard) → p.session.transfer ≡ Waiting → StageInvariant i k p dev st →
     control_variant_of (record p { image = true; session = Actions.with_transfer p.session Streaming }) dev + 1 ≤ control_variant_at st p dev
 dials_low i k p dev params heard st x e c h =
     let a = Kept.images i k p dev params heard (subst (λ (z : JobStage). StageInvariant i k p dev z) e h) in
-    let n = dial_carried i k p.session dev a.in_sync.continues.begin.options a.in_sync.frame a.in_sync.more heard a.in_sync.rest c a.in_sync.carries in
+    let n = dial_carried i k p.session dev a.in_sync.continues.begin.options a.in_sync.more heard a.in_sync.rest c a.in_sync.carries in
     let before = image_is params heard p dev None Waiting dev.phase a.served a.due n c refl in
     let after = image_is params heard (record p { image = true; session = Actions.with_transfer p.session Streaming }) dev None Streaming dev.phase a.served a.due n refl refl in
     let low : control_variant_at (Running (Imaging params heard)) (record p { image = true; session = Actions.with_transfer p.session Streaming }) dev + 1 ≤ control_variant_at (Running (Imaging params heard)) p dev = omega arith in
@@ -120,7 +120,7 @@ streamed i k p dev (Running g) c u (inl h) =
       heard = s.heard;
       is = ap Running s.is;
       asks = subst (λ (x : AbstractProgress). RequestInFlight i k p dev x) s.is h;
-      frame = s.images.frame;
+      frame = s.flows.meant;
       rest = s.images.rest;
       more = s.images.more;
       ending = s.flows.ending;
@@ -151,20 +151,21 @@ behind_low last (f ∷ more) t = omega arith
 ended_low : (ph : ScanPhase) (f : Frame) (rest : List ℕ) (more : List Frame) (t : ℕ) → ph ≡ Reading f rest more → image_variant (Some Eof) Quiet (ended_phase ph) t + 6 ≤ flow_variant (Reading f rest more) t
 ended_low ph f rest more t e = let a = ap (λ (x : ScanPhase). pages_variant (ended_phase x) t) e in let b = behind_low f more t in omega arith
 
-turn_low : (bytes rest : List ℕ) (f : Frame) (more : List Frame) (t : ℕ) → bytes ≢ [] → flow_variant (Reading f rest more) t + (5 + length bytes) ≤ flow_variant (Reading f (bytes ++ rest) more) t
-turn_low [] rest f more t n = absurd (n refl)
-turn_low (b ∷ bytes) rest f more t n = let a = length-append bytes rest in omega arith
+turn_low : (bytes meant rest : List ℕ) (f : Frame) (more : List Frame) (t : ℕ) → bytes ≢ [] → length bytes ≡ length meant → flow_variant (Reading f rest more) t + (5 + length bytes) ≤ flow_variant (Reading f (meant ++ rest) more) t
+turn_low [] meant rest f more t n e = absurd (n refl)
+turn_low (b ∷ bytes) [] rest f more t n e = absurd (omega arith)
+turn_low (b ∷ bytes) (c ∷ meant) rest f more t n e = let a = length-append meant rest in omega arith
 
-turns_low : (i : ℕ) (k : Make) (p : JobState) (dev : AbstractDevice) (st : JobStage) (f : Frame) (bytes rest : List ℕ) (more : List Frame) → p.client.stage ≡ st → IsUnderWay st → ReadsFrameOf i p dev f (bytes ++ rest) more → bytes ≢ [] → StageInvariant i k p dev st →
+turns_low : (i : ℕ) (k : Make) (p : JobState) (dev : AbstractDevice) (st : JobStage) (f : Frame) (bytes meant rest : List ℕ) (more : List Frame) → p.client.stage ≡ st → IsUnderWay st → length bytes ≡ length meant → ReadsFrameOf i p dev f (meant ++ rest) more → bytes ≢ [] → StageInvariant i k p dev st →
     control_variant_of (record p { session = with_flight p.session (p.session.flight ++ bytes) }) (record dev { phase = read_on dev.phase bytes }) + (5 + length bytes) ≤ control_variant_at st p dev
-turns_low i k p dev st f bytes rest more x u l n h =
+turns_low i k p dev st f bytes meant rest more x u many l n h =
     let s = streamed i k p dev st l.0 u h in
     let t = later_pages p.session.job p.client in
-    let e : Reading s.frame s.rest s.more ≡ Reading f (bytes ++ rest) more = sym s.phase ∙ l.2 in
+    let e : Reading s.frame s.rest s.more ≡ Reading f (meant ++ rest) more = sym s.phase ∙ l.2 in
     let same = ap (λ (z : ScanPhase). flow_variant z t) e in
-    let low = turn_low bytes rest f more t n in
+    let low = turn_low bytes meant rest f more t n many in
     let ph : read_on dev.phase bytes ≡ Reading f rest more =
-    ap (λ (z : ScanPhase). read_on z bytes) l.2 ∙ ap (λ (z : List ℕ). Reading f z more) (without_append bytes rest) in
+    ap (λ (z : ScanPhase). read_on z bytes) l.2 ∙ ap (λ (z : List ℕ). Reading f z more) (without_as_many bytes meant rest many) in
     pays i k p (record p { session = with_flight p.session (p.session.flight ++ bytes) }) dev (record dev { phase = read_on dev.phase bytes }) st None Streaming (Reading f rest more) (5 + length bytes) x l.0 s
     refl refl refl refl s.ending l.0 ph (omega arith)
 
@@ -224,7 +225,7 @@ close_low task m f last (g ∷ more) true n c e = cc
 close_low task m f last (g ∷ more) false n c e = omega arith
 
 ends_low : (i : ℕ) (k : Make) (b : SessionView) (m : ClientView) (dev : AbstractDevice) (params : Params) (heard : List ℕ) (status : Status) (n : ℕ) (z : TransferState) → b.flight ≡ [] → b.ending ≡ Some status → (h : Images i k b m dev params heard) →
-    DataUnderWay i k b dev h.continues.begin.options h.frame h.more heard h.rest → after_end b.job.task (end_frame status b.job.task params heard m) n dev.phase z ≤ pages_variant dev.phase (further_pages b.job.task - length m.pages)
+    DataUnderWay i k b dev h.continues.begin.options h.more heard h.rest → after_end b.job.task (end_frame status b.job.task params heard m) n dev.phase z ≤ pages_variant dev.phase (further_pages b.job.task - length m.pages)
 ends_low i k b m dev params heard status n z f e h (inl c) = absurd (cc (e, c.ending))
 ends_low i k b m dev params heard status n z f e h (inr (inl c)) =
     let s : status ≡ Eof = cc (e, c.ending) in
@@ -234,7 +235,7 @@ ends_low i k b m dev params heard status n z f e h (inr (inl c)) =
     subst (λ (x : Status). after_end b.job.task (end_frame x b.job.task params heard m) n dev.phase z ≤ pages_variant dev.phase (further_pages b.job.task - length m.pages)) (sym s)
     (subst (λ (x : Bool). after_end b.job.task (close_frame x b.job.task params heard m) n dev.phase z ≤ pages_variant dev.phase (further_pages b.job.task - length m.pages)) (sym y)
     (subst (λ (x : ScanPhase). after_end b.job.task (close_frame true b.job.task params heard m) n x z ≤ pages_variant x (further_pages b.job.task - length m.pages)) (sym c.held.phase_is)
-    (close_low b.job.task m (record { params = params; order = m.order; payload = heard }) h.frame h.more params.last_frame n z l)))
+    (close_low b.job.task m (record { params = params; order = m.order; payload = heard }) c.meant h.more params.last_frame n z l)))
 ends_low i k b m dev params heard status n z f e h (inr (inr (inl c))) =
     let s : status ≡ Eof = cc (e, c.ending) in
     let short : frame_fills params heard ≡ false = rw (c.heard_none, h.params_are) h.continues.proper.3 in
@@ -281,7 +282,7 @@ paid i k listed p dev Actions.Connects u l y h = connects_low i k p dev p.client
 paid i k listed p dev (Actions.Answers challenge fault) u l y h = next_low i k listed p dev challenge fault p.client.stage p.todo refl u refl l.1 l.0 y h
 paid i k listed p dev (Actions.Hears r) u l y h = hears_low i k p dev r l.1.0 p.client.stage u l.0 l.1.1 h
 paid i k listed p dev Actions.Dials u l y h = dials_low i k p dev l.0.0 l.0.1 p.client.stage refl l.0.2 l.1 h
-paid i k listed p dev (Actions.Turns bytes) u l y h = turns_low i k p dev p.client.stage l.0 bytes l.1 l.2 refl u (l.3.0, l.3.1, l.3.2) l.5 h
+paid i k listed p dev (Actions.Turns bytes) u l y h = turns_low i k p dev p.client.stage l.0 bytes l.3.meant l.1 l.2 refl u l.3.as_many l.3.reads l.5 h
 paid i k listed p dev Actions.TurnsLast u l y h = last_low i k p dev p.client.stage [] refl u l.2.0 h
 paid i k listed p dev (Actions.TurnsNamed status) u l y h = fails_low i k p dev p.client.stage status (Names status ∷ []) refl u l.3.0 h
 paid i k listed p dev Actions.TurnsShort u l y h = last_low i k p dev p.client.stage (NamesEof ∷ []) refl u l.3.0 h

@@ -121,11 +121,11 @@ numbers_fall s i x h u l =
     subst (λ (n : ℕ). n < job_variant s i) (sym a) (omega arith)
 
 -- OTHERS
-carries_mine : (i : ℕ) (k : Make) (b : SessionView) (dev : AbstractDevice) (o : _) (f : Frame) (more : List Frame) (heard rest : List ℕ) → DataUnderWay i k b dev o f more heard rest → dev.holder ≡ Some i
-carries_mine i k b dev o f more heard rest (inl h) = h.held.mine
-carries_mine i k b dev o f more heard rest (inr (inl h)) = h.held.mine
-carries_mine i k b dev o f more heard rest (inr (inr (inl h))) = h.mine
-carries_mine i k b dev o f more heard rest (inr (inr (inr h))) = h.mine
+carries_mine : (i : ℕ) (k : Make) (b : SessionView) (dev : AbstractDevice) (o : _) (more : List Frame) (heard rest : List ℕ) → DataUnderWay i k b dev o more heard rest → dev.holder ≡ Some i
+carries_mine i k b dev o more heard rest (inl h) = h.held.mine
+carries_mine i k b dev o more heard rest (inr (inl h)) = h.held.mine
+carries_mine i k b dev o more heard rest (inr (inr (inl h))) = h.mine
+carries_mine i k b dev o more heard rest (inr (inr (inr h))) = h.mine
 
 abbrev SameNumber : AbstractProgress → SessionView → ClientView → AbstractDevice → AbstractDevice → Type 0
 SameNumber g b m dev new = stage_variant_of (Running g) b m new ≡ stage_variant_of (Running g) b m dev
@@ -145,7 +145,7 @@ moved_number i k b m n dev new Starting s (inl h) = held_number i b m dev new St
 moved_number i k b m n dev new Starting s (inr h) = held_number i b m dev new Starting s h.held.mine
 moved_number i k b m n dev new Shaping s h = held_number i b m dev new Shaping s h.held.mine
 moved_number i k b m n dev new (Imaging params heard) s h =
-    held_number i b m dev new (Imaging params heard) s (carries_mine i k b dev h.continues.begin.options h.frame h.more heard h.rest h.carries)
+    held_number i b m dev new (Imaging params heard) s (carries_mine i k b dev h.continues.begin.options h.more heard h.rest h.carries)
 
 -- (the client view of a client that heard a reply has the pages that it had)
 right_number : (i : ℕ) (k : Make) (b : SessionView) (m n : ClientView) (dev new : AbstractDevice) (st : JobStage) → Same i dev new → IsRight i k b n dev st → stage_variant_of st b m new ≡ stage_variant_of st b m dev

@@ -6,7 +6,7 @@ use Rattle.system_model.specs.Client.{ClientView, with_progress, Greeting, reque
 use Rattle.system_model.specs.ClientReplies.{hear_in, client_after_bytes, finish_in, client_after_stop}
 use Rattle.system_model.specs.AbstractDevices.{AbstractDevice, Begin, put_down, device_let_go, is_held_by, without_first, without_prefix, read_on, ended_phase}
 use Rattle.system_model.specs.Daemon.{TransferState, Quiet, Waiting, Streaming, Ending, FailureCounts, Environment, AnswerEffect, answer}
-use Rattle.system_model.specs.Causes.{Cause, GaveUp, LinkLost, LinkOutOfMemory, ClientOutOfMemory, SourceFailed, NamesEof, Names}
+use Rattle.system_model.specs.Causes.{Cause, GaveUp, LinkLost, LinkOutOfMemory, WasUnsaid, ClientOutOfMemory, SourceFailed, NamesEof, Names}
 use Rattle.system_model.specs.SystemStates.{SessionView, JobState}
 
 -- what comes to one job
@@ -30,7 +30,8 @@ pub data Action : Type 0 where
   -- the client takes bytes of a frame, or its end
   Reads : (bytes : List ℕ) → Action
   Finishes : (status : Status) → Action
-  -- losses, by out of memory or not; the end of the session by the daemon, for lack of memory or not; out of memory at the client; a cancel
+  -- losses, by out of memory or not; the end of the session by the daemon, for lack of memory or at a reply that cannot be said; out of
+  -- memory at the client; a cancel
   Loses : (memory : Bool) → Action
   LosesImage : (memory : Bool) → Action
   Breaks : (memory : Bool) → Action
@@ -119,7 +120,7 @@ without_image b cause = record b { flight = []; ending = None; transfer = left_b
 
 -- the session is over: for lack of memory, or for a reply past the limits of the wire, which explains no ending
 abbrev pub break_causes : Bool → List Cause
-break_causes memory = cond memory (LinkOutOfMemory ∷ []) []
+break_causes memory = cond memory LinkOutOfMemory WasUnsaid ∷ []
 
 abbrev pub without_session : Bool → SessionView → SessionView
 without_session memory b = record b { transfer = Quiet; met = break_causes memory ++ b.met }

@@ -7,6 +7,8 @@ pub data Cause : Type 0 where
   GaveUp : Cause
   LinkLost : Cause
   LinkOutOfMemory : Cause
+  -- a reply to it passed a limit of the wire, or had no spelling: its session was over then, which by itself explains no ending
+  WasUnsaid : Cause
   -- the page source of its device failed; the option `read-return-value` names EOF, or another status
   SourceFailed : Cause
   NamesEof : Cause
@@ -29,6 +31,7 @@ abbrev pub Explains : Cause → Status → Why → Type 0
 Explains GaveUp s w = (s ≡ GivenUp) × (w ≡ Cancelled)
 Explains LinkLost s w = (s ≡ IoError) × (w ≡ Lost)
 Explains LinkOutOfMemory s w = (s ≡ IoError) × (w ≡ Lost)
+Explains WasUnsaid s w = ⊥
 Explains SourceFailed s w = (s ≡ IoError) × (w ≡ Answer)
 Explains NamesEof s w = (s ≡ IoError) × (w ≡ Short)
 Explains (Names status) s w = (s ≡ status) × (status ≢ Eof) × (w ≡ Answer)

@@ -40,6 +40,8 @@ pub record Make : Type 0 where
   pub order : Order
   -- whether a page source that is ever in it can fail
   pub fallible : Bool
+  -- whether each of them gives its page's rows at each pass
+  pub steady : Bool
 
 abbrev pub abstract_status : Code → Status
 abstract_status code.Good = Good

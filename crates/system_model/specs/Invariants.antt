@@ -7,7 +7,7 @@ use Rattle.system_model.specs.Client.{Task, List_, Show, SetOnly, Scan, Batch, C
 use Rattle.system_model.specs.ClientReplies.{hear_at}
 use Rattle.system_model.specs.AbstractDevices.{AbstractDevice, Begin, DeviceInvariant}
 use Rattle.system_model.specs.Daemon.{TransferState, Quiet, Waiting, Streaming, Ending}
-use Rattle.system_model.specs.Causes.{Unforced, TrayRanOut, Explains, IsExplained, IsCauseAmong}
+use Rattle.system_model.specs.Causes.{LinkOutOfMemory, WasUnsaid, Unforced, TrayRanOut, Explains, IsExplained, IsCauseAmong}
 use Rattle.system_model.specs.SystemStates.{SessionView, JobState, SystemState, make_for, device_for}
 use Rattle.system_model.specs.Sync.{InSync, NotYet, AllInForce, ArePictures}
 
@@ -67,8 +67,9 @@ pub record ReplyInFlight (i : ℕ) (k : Make) (p : JobState) (dev : AbstractDevi
   pub calm : IsCalm p.session.transfer
   pub right : IsRight i k p.session (hear_at g p.session.job p.client reply) dev (hear_at g p.session.job p.client reply).stage
 
--- out of memory ended the session
+-- the daemon ended the session: for lack of memory, or at a reply that it could not say
 pub record SessionIsDead (p : JobState) (g : AbstractProgress) : Type 0 where
+  pub cause : IsCauseAmong LinkOutOfMemory p.session.met ⊎ IsCauseAmong WasUnsaid p.session.met
   pub linked : p.linked ≡ true
   pub served : p.served ≡ false
   pub transfer : p.session.transfer ≡ Quiet

@@ -34,7 +34,8 @@ abbrev pub HistoriesKeepInvariant : Type 0
 HistoriesKeepInvariant = (s : SystemState) (xs : List Transition) → Invariant s → IsHistory s xs → Invariant (after_all s xs)
 
 -- JOBS THAT ARE DONE
--- A scan that is done has one page, and its frames are those of the picture that its settings mean on the page of its first start.
+-- A scan that is done has one page, and where the sources are steady its frames are those of the picture that its settings mean on the
+-- page of its first start.
 abbrev pub ScansAreRight : Type 0
 ScansAreRight =
     (s : SystemState) (i : ℕ) → Invariant s → (s.job i).client.stage ≡ Done → (s.job i).session.job.task ≡ Scan →

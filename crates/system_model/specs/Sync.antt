@@ -37,10 +37,11 @@ Scans (Batch n) = Unit {0}
 abbrev pub IsPermitted : AbstractJob → Option Challenge → Type 0
 IsPermitted job sent = (job.guarded ≡ false) ⊎ ((c : Challenge) × (sent ≡ Some c) × (job.allows c ≡ true))
 
--- these frames are those of the picture that the job's settings mean on the page of this start, and there is one
+-- There are frames, and where the device's sources are steady they are those of the picture that the job's settings mean on the page
+-- of this start.
 abbrev pub IsPictureOfStart : Make → List RequestedSetting → Begin → List Frame → Type 0
 IsPictureOfStart k settings begin frames =
-    ((reports : List Report) × (abstract_in_force k settings ≡ Some (record { options = begin.options; reports = reports }))) × (frames ≡ picture_frames k begin.options begin.page) × (frames ≢ [])
+    ((reports : List Report) × (abstract_in_force k settings ≡ Some (record { options = begin.options; reports = reports }))) × (k.steady ≡ true → frames ≡ picture_frames k begin.options begin.page) × (frames ≢ [])
 
 -- each of these pages is that of its start
 abbrev pub ArePictures : Make → List RequestedSetting → List Begin → List (List Frame) → Type 0
@@ -123,13 +124,14 @@ pub record Ready (i : ℕ) (k : Make) (b : SessionView) (m : ClientView) (dev : 
   pub pictures : ArePictures k b.job.settings b.started m.pages
   pub fewer : length m.pages ≤ further_pages b.job.task
 
--- A page is under way: the frames but these are heard, of the picture of its start; the pages before it are those of theirs.
+-- A page is under way: the frames but these are heard, of the picture of its start where the sources are steady; the pages before it
+-- are those of theirs.
 pub record PageUnderWay (k : Make) (job : AbstractJob) (sent : Option Challenge) (starts : List Begin) (reports : List Report) (pages : List (List Frame)) (done more : List Frame) : Type 0 where
   pub earlier : List Begin
   pub begin : Begin
   pub started : starts ≡ earlier ++ begin ∷ []
   pub settled : AllInForce k job sent reports begin.options
-  pub frames : done ++ more ≡ picture_frames k begin.options begin.page
+  pub frames : k.steady ≡ true → done ++ more ≡ picture_frames k begin.options begin.page
   pub proper : AreJoinable (order_of k begin.options) done more
   pub scans : Scans job.task
   pub pictures : ArePictures k job.settings earlier pages
@@ -156,17 +158,19 @@ pub record IsShaping (i : ℕ) (k : Make) (b : SessionView) (m : ClientView) (de
   pub ending : b.ending ≡ None
   pub awaited : b.awaited ≡ None
 
--- THE DATA CONNECTION OF A FRAME is in one of four states. So much of the frame is still to be read;
-pub record StillReading (i : ℕ) (k : Make) (b : SessionView) (dev : AbstractDevice) (options : OptionsInForce) (f : Frame) (more : List Frame) (heard rest : List ℕ) : Type 0 where
-  pub held : HoldsDevice i dev options (Reading f rest more)
+-- THE DATA CONNECTION OF A FRAME is in one of four states. So much of the frame that the device has is still to be read;
+pub record StillReading (i : ℕ) (k : Make) (b : SessionView) (dev : AbstractDevice) (options : OptionsInForce) (more : List Frame) (heard rest : List ℕ) : Type 0 where
+  pub meant : Frame
+  pub held : HoldsDevice i dev options (Reading meant rest more)
   pub ending : b.ending ≡ None
   pub transfer : (b.transfer ≡ Waiting) ⊎ (b.transfer ≡ Streaming)
   -- a status in place of the data comes before any of them
   pub unread : (status : Status) → read_status_of k options ≡ Some status → (heard ≡ []) × (b.flight ≡ [])
 
 -- all of it was sent;
-pub record FlowsOut (i : ℕ) (b : SessionView) (dev : AbstractDevice) (options : OptionsInForce) (f : Frame) (more : List Frame) (rest : List ℕ) : Type 0 where
-  pub held : HoldsDevice i dev options (phase_after_frame f more)
+pub record FlowsOut (i : ℕ) (b : SessionView) (dev : AbstractDevice) (options : OptionsInForce) (more : List Frame) (rest : List ℕ) : Type 0 where
+  pub meant : Frame
+  pub held : HoldsDevice i dev options (phase_after_frame meant more)
   pub nothing : rest ≡ []
   pub ending : b.ending ≡ Some Eof
   pub transfer : b.transfer ≡ Quiet
@@ -190,10 +194,10 @@ pub record ReadWasRefused (i : ℕ) (b : SessionView) (dev : AbstractDevice) : T
   pub cause : IsExplained status Answer b.met
   pub transfer : b.transfer ≡ Quiet
 
-abbrev pub DataUnderWay : ℕ → Make → SessionView → AbstractDevice → OptionsInForce → Frame → List Frame → List ℕ → List ℕ → Type 0
-DataUnderWay i k b dev o f more heard rest = StillReading i k b dev o f more heard rest ⊎ (FlowsOut i b dev o f more rest ⊎ (CutShort i b dev heard ⊎ ReadWasRefused i b dev))
+abbrev pub DataUnderWay : ℕ → Make → SessionView → AbstractDevice → OptionsInForce → List Frame → List ℕ → List ℕ → Type 0
+DataUnderWay i k b dev o more heard rest = StillReading i k b dev o more heard rest ⊎ (FlowsOut i b dev o more rest ⊎ (CutShort i b dev heard ⊎ ReadWasRefused i b dev))
 
--- the data of a frame come
+-- the data of a frame come: what was heard, what is on the way, and what is to come are its payload
 pub record Images (i : ℕ) (k : Make) (b : SessionView) (m : ClientView) (dev : AbstractDevice) (params : Params) (heard : List ℕ) : Type 0 where
   pub frame : Frame
   pub more : List Frame
@@ -203,7 +207,7 @@ pub record Images (i : ℕ) (k : Make) (b : SessionView) (m : ClientView) (dev :
   pub awaited : b.awaited ≡ None
   pub rest : List ℕ
   pub payload : heard ++ (b.flight ++ rest) ≡ frame.payload
-  pub carries : DataUnderWay i k b dev continues.begin.options frame more heard rest
+  pub carries : DataUnderWay i k b dev continues.begin.options more heard rest
 
 -- what a client that waits for this knows is so
 abbrev pub InSync : ℕ → Make → SessionView → ClientView → AbstractDevice → AbstractProgress → Type 0

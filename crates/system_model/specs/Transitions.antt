@@ -1,5 +1,5 @@
 -- The steps of a world, when they may come, and what stands after them.
-use Rattle.std.specs.Prelude.{ℕ, ◌≡◌, ◌≢◌, ◌<◌, ◌^◌, ◌-◌, ◌⊎◌, List, [], ◌∷◌, ◌++◌, true, false, Option, Some, None}
+use Rattle.std.specs.Prelude.{ℕ, ◌≡◌, ◌≢◌, ◌<◌, ◌^◌, ◌-◌, ◌⊎◌, List, [], ◌∷◌, ◌++◌, true, false, Option, Some, None, length}
 use Rattle.sane_fixed.specs.declared.params.Params.{Params}
 use Rattle.page_picture.specs.Shows.{Frame}
 use Rattle.system_model.specs.AbstractMessages.{Good, Eof, AbstractReply}
@@ -71,13 +71,21 @@ MayFail k (Some f) = (k.fallible ≡ true) × IsFault f
 abbrev pub ReadsFrameOf : ℕ → JobState → AbstractDevice → Frame → List ℕ → List Frame → Type 0
 ReadsFrameOf i p dev f rest more = (p.session.transfer ≡ Streaming) × (dev.holder ≡ Some i) × (dev.phase ≡ Reading f rest more)
 
--- the actions that may come to the job of client i
+-- Of the frame these bytes are sent next, and the rest is still to be read: as many as the page means there, and where the device's
+-- sources are steady the same.
+pub record SendsOfFrame (i : ℕ) (k : Make) (p : JobState) (dev : AbstractDevice) (f : Frame) (bytes rest : List ℕ) (more : List Frame) : Type 0 where
+  pub meant : List ℕ
+  pub as_many : length bytes ≡ length meant
+  pub same : k.steady ≡ true → bytes ≡ meant
+  pub reads : ReadsFrameOf i p dev f (meant ++ rest) more
+
+-- the actions that may come to the job of client i; a session breaks off where memory runs out, or over a reply that is due
 abbrev pub IsActionEnabled : ℕ → Make → JobState → AbstractDevice → Actions.Action → Type 0
 IsActionEnabled i k p dev Actions.Connects = p.client.stage ≡ Idle
 IsActionEnabled i k p dev (Actions.Answers challenge fault) = (p.served ≡ true) × (p.todo ≢ []) × MayFail k fault
 IsActionEnabled i k p dev (Actions.Hears r) = IsRunning p.client.stage × ((rest : List AbstractReply) × (p.due ≡ r ∷ rest))
 IsActionEnabled i k p dev Actions.Dials = IsImaging p.client.stage × (p.session.transfer ≡ Waiting)
-IsActionEnabled i k p dev (Actions.Turns bytes) = (f : Frame) × (rest : List ℕ) × (more : List Frame) × ReadsFrameOf i p dev f (bytes ++ rest) more × (read_status_of k dev.options ≡ None) × (bytes ≢ [])
+IsActionEnabled i k p dev (Actions.Turns bytes) = (f : Frame) × (rest : List ℕ) × (more : List Frame) × SendsOfFrame i k p dev f bytes rest more × (read_status_of k dev.options ≡ None) × (bytes ≢ [])
 IsActionEnabled i k p dev Actions.TurnsLast = (f : Frame) × (more : List Frame) × ReadsFrameOf i p dev f [] more × (read_status_of k dev.options ≡ None)
 IsActionEnabled i k p dev (Actions.TurnsNamed status) =
     (f : Frame) × (rest : List ℕ) × (more : List Frame) × ReadsFrameOf i p dev f rest more × (read_status_of k dev.options ≡ Some status) × (status ≢ Eof) × (status ≢ Good)
@@ -88,7 +96,7 @@ IsActionEnabled i k p dev (Actions.Reads bytes) = IsImaging p.client.stage × ((
 IsActionEnabled i k p dev (Actions.Finishes status) = IsImaging p.client.stage × (p.session.flight ≡ []) × (p.session.ending ≡ Some status)
 IsActionEnabled i k p dev (Actions.Loses memory) = p.linked ≡ true
 IsActionEnabled i k p dev (Actions.LosesImage memory) = p.image ≡ true
-IsActionEnabled i k p dev (Actions.Breaks memory) = (p.served ≡ true) × MayBreak p.client.stage
+IsActionEnabled i k p dev (Actions.Breaks memory) = (p.served ≡ true) × MayBreak p.client.stage × (memory ≡ false → p.due ≢ [])
 IsActionEnabled i k p dev Actions.RunsOutOfMemory = IsRunning p.client.stage
 IsActionEnabled i k p dev Actions.Stops = IsUnderWay p.client.stage
 

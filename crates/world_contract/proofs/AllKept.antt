@@ -24,8 +24,8 @@ use Rattle.world_contract.specs.Histories.{History}
 use Rattle.world_contract.specs.Endings.{JobIsPermitted}
 use Rattle.world_contract.specs.Promise.{CountIsKept, FileIsKept, MoveIsKept, MovesAreKept, OutcomeIsKept, PageIsKept}
 use Rattle.world_contract.specs.Laws.{Below}
-use Rattle.world_contract.proofs.Fallible.{is_fallible, only_there}
-use Rattle.world_contract.proofs.Jobs.{IsJob, are_steady}
+use Rattle.world_contract.proofs.Sources.{sources_of, have_sources}
+use Rattle.world_contract.proofs.Jobs.{IsJob}
 use Rattle.world_contract.proofs.Scanned.{at_first, infos_of, job_there, kept_by, make_there, page_right, scan_right}
 use Rattle.std.specs.Prelude.{Ok, Err}
 use Rattle.md5_auth.specs.declared.users.Entry.{Entry}
@@ -119,13 +119,13 @@ kept_by_outcome u i o reports e h = subst (IsOutcome u i) e h
 
 settings_kept : Below → (h : History) (w : WorldCore) (i : ℕ) (job : Job) (endpoint : Endpoint) (reports : Reports) (device : DeviceState) → IsJob h w i job endpoint → endpoint.client.outcome ≡ Done reports → job.task ≢ tasks.List → Contains h.devices device → device.info.name ≡ job.device → AreSettingsAnswered device job reports.settings
 settings_kept below h w i job endpoint reports device j done list there named =
-    let k = kept_by below.kept h w job j.led j.premises in
+    let k = kept_by below.kept h w job j.led in
     let u = k.run.ghost_then in
-    let new = below.new (is_fallible h) h.jobs job h.devices j.led.first j.led.endpoints j.led.daemon j.led.names (are_steady h w j.led j.premises) (only_there h) j.led.fit in
+    let new = below.new (sources_of h) h.jobs job h.devices j.led.first j.led.endpoints j.led.daemon j.led.names j.led.limits (have_sources h) j.led.fit in
     let mine = job_there h w job j.led k i j.job_at in
     let p = kept_by_outcome u i endpoint.client.outcome reports done (k.promises.outcomes i endpoint j.endpoint_at) in
     let s = p.settings (λ e. list (sym (ap (λ (x : Job). x.task) mine) ∙ e)) in
-    let b = is_fallible h (place_named (infos_of h) job.device) in
+    let b = sources_of h (place_named (infos_of h) job.device) in
     let make : make_for u.system i ≡ make_of b (Some device) = make_there h w job j.led k i j.job_at ∙ ap (make_of b) (device_named h job.device device new.is_of.apart there named) in
     let forced : ruled.abstract_in_force (make_of b (Some device)) (map requested_setting job.settings.items) ≡ Some (record { options = s.options; reports = s.reports }) =
     subst (λ (x : Job). ruled.abstract_in_force (make_of b (Some device)) (map requested_setting x.settings.items) ≡ Some (record { options = s.options; reports = s.reports })) mine
@@ -141,7 +141,7 @@ permitted_by h job ruled sent e (inr (c, was, allows)) = inr (c, ap (λ (x : Rul
 
 allowed : Below → (h : History) (w : WorldCore) (i : ℕ) (job : Job) (endpoint : Endpoint) (reports : Reports) → IsJob h w i job endpoint → endpoint.client.outcome ≡ Done reports → job.task ≢ tasks.List → JobIsPermitted h job
 allowed below h w i job endpoint reports j done list =
-    let k = kept_by below.kept h w job j.led j.premises in
+    let k = kept_by below.kept h w job j.led in
     let u = k.run.ghost_then in
     let mine = job_there h w job j.led k i j.job_at in
     let p = kept_by_outcome u i endpoint.client.outcome reports done (k.promises.outcomes i endpoint j.endpoint_at) in
@@ -181,7 +181,7 @@ device_by h places told info e there =
 
 is_listed : Below → (h : History) (w : WorldCore) (i : ℕ) (job : Job) (endpoint : Endpoint) (reports : Reports) (info : DeviceInfo) → IsJob h w i job endpoint → endpoint.client.outcome ≡ Done reports → job.task ≡ tasks.List → Contains reports.devices info → (device : DeviceState) × Contains h.devices device × (device.info ≡ info)
 is_listed below h w i job endpoint reports info j done list there =
-    let k = kept_by below.kept h w job j.led j.premises in
+    let k = kept_by below.kept h w job j.led in
     let u = k.run.ghost_then in
     let mine = job_there h w job j.led k i j.job_at in
     let p = kept_by_outcome u i endpoint.client.outcome reports done (k.promises.outcomes i endpoint j.endpoint_at) in
@@ -217,7 +217,7 @@ by_task (tasks.Batch count) past v pages endpoint reports file unlike stands fit
 
 no_scan : Below → (h : History) (w : WorldCore) (i : ℕ) (job : Job) (endpoint : Endpoint) (reports : Reports) (file : List ℕ) → IsJob h w i job endpoint → endpoint.client.outcome ≡ Done reports → job.task ≢ tasks.Scan → endpoint.file ≡ Some file → IsWhole file → ⊥
 no_scan below h w i job endpoint reports file j done scan is whole =
-    let k = kept_by below.kept h w job j.led j.premises in
+    let k = kept_by below.kept h w job j.led in
     let u = k.run.ghost_then in
     let mine = job_there h w job j.led k i j.job_at in
     let talks = (k.run.stands.endpoints i endpoint j.endpoint_at).talks in
@@ -237,7 +237,7 @@ outcome_kept below h w i job p j = record {
     listed = λ info list there. is_listed below h w i job p reports info j e list there;
   };
   ended = λ status why e.
-      let s = (kept_by below.kept h w job j.led j.premises).promises.statuses i p status why j.endpoint_at e in
+      let s = (kept_by below.kept h w job j.led).promises.statuses i p status why j.endpoint_at e in
       record { not_good = s.0; not_eof = s.1; caused = at_end below h w i job p status why j e };
 }
 
@@ -253,29 +253,29 @@ whole_as (Done reports) (tasks.Batch count) undone other = absurd (other reports
 
 pub file_kept : Below → (h : History) (w : WorldCore) (i : ℕ) (job : Job) (p : Endpoint) → IsJob h w i job p → FileIsKept h job p.out_of_memory p.client.outcome p.file
 file_kept below h w i job p j =
-    let k = kept_by below.kept h w job j.led j.premises in
+    let k = kept_by below.kept h w job j.led in
     record {
-      scanned = λ reports bytes scan done f. scan_right below.kept below.notes h w i job p reports bytes j scan done f;
+      scanned = λ reports bytes steady scan done f. scan_right below.kept below.notes h w i job p reports bytes j steady scan done f;
       whole = λ bytes f is. whole_as p.client.outcome job.task (λ undone. k.promises.short i p bytes j.endpoint_at undone f is) (λ reports done other. no_scan below h w i job p reports bytes j done other f is);
       missing = λ f. k.promises.starved i p j.endpoint_at f;
     }
 
 pub page_kept : Below → (h : History) (w : WorldCore) (i k : ℕ) (job : Job) (p : Endpoint) → IsJob h w i job p → PageIsKept h job p.out_of_memory (min p.finished 16) k (finished_page p k)
 page_kept below h w i k job p j = record {
-  scanned = λ bytes f. let page = page_there p k bytes f in (page.some, page.finished, page_right below.kept below.notes h w i (k - 1) job p bytes j page.low page.at);
-  missing = λ some within f. (kept_by below.kept h w job j.led j.premises).promises.pages_lost i k p j.endpoint_at some (omega (arith, within, min-le_left p.finished 16)) (omega (arith, within, min-le_right p.finished 16)) f;
+  scanned = λ bytes f. let page = page_there p k bytes f in (page.some, page.finished, λ steady. page_right below.kept below.notes h w i (k - 1) job p bytes j steady page.low page.at);
+  missing = λ some within f. (kept_by below.kept h w job j.led).promises.pages_lost i k p j.endpoint_at some (omega (arith, within, min-le_left p.finished 16)) (omega (arith, within, min-le_right p.finished 16)) f;
 }
 
 pub count_kept : Below → (h : History) (w : WorldCore) (i : ℕ) (job : Job) (p : Endpoint) → IsJob h w i job p → CountIsKept job p.client.outcome (min p.finished 16)
 count_kept below h w i job p j count reports batch done =
-    let k = kept_by below.kept h w job j.led j.premises in
+    let k = kept_by below.kept h w job j.led in
     let mine = job_there h w job j.led k i j.job_at in
     let fit : IsFitJob job = subst IsFitJob (get_or_from_slice_get h.jobs i job job j.job_at) (j.led.fit i job (slice_get_within h.jobs i job j.job_at)) in
     counted p.finished count (most_pages job.task count batch fit.1) (k.promises.batches i count p reports j.endpoint_at (ap (λ (x : Job). x.task) mine ∙ batch) done)
 
 pub move_kept : Below → (h : History) (w : WorldCore) (i : ℕ) (job : Job) (p : Endpoint) (event : Option Event) → IsJob h w i job p → IsNextMove w.daemon i p event → MoveIsKept p.client.outcome event
 move_kept below h w i job p event j is =
-    let k = kept_by below.kept h w job j.led j.premises in
+    let k = kept_by below.kept h w job j.led in
     record {
       running = λ e. (k.promises.moves i p event j.endpoint_at is).0 (ap is_running e);
       over = λ n. (k.promises.moves i p event j.endpoint_at is).1 (runs_not p.client.outcome n);
@@ -283,7 +283,7 @@ move_kept below h w i job p event j is =
 
 pub moves_kept : Below → (h : History) (w : WorldCore) (i : ℕ) (job : Job) (p : Endpoint) → IsJob h w i job p → MovesAreKept p.client.outcome (moves_left_of p)
 moves_kept below h w i job p j =
-    let k = kept_by below.kept h w job j.led j.premises in
+    let k = kept_by below.kept h w job j.led in
     record {
       running = λ e. positive (moves_left_of p) (λ none. let off = k.promises.left i p j.endpoint_at none in absurd (let clash : true ≡ false = sym (ap is_running e) ∙ off in cc));
       over = λ n. none_left p (is_running p.client.outcome) refl (runs_not p.client.outcome n);

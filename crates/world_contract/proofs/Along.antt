@@ -17,7 +17,7 @@ use Rattle.system_model.specs.Settings.{SettingsMeanTheSame, pair_of}
 use Rattle.page_picture.specs.declared.scene.DeviceKind.{DeviceKind}
 use Rattle.page_picture.specs.declared.scene.DeviceKind.TheVariants.{Flatbed, Hand, ThreePass, Feeder}
 use Rattle.system_model.specs.AbstractDevices.{AbstractDevice, IsStocked}
-use Rattle.system_model.specs.Causes.{Cause, IsExplained, Explains, GaveUp, LinkLost, LinkOutOfMemory, SourceFailed, NamesEof, Names, Unforced, WasUnlisted, HadNoPicture, WasHeld, Disallowed, TrayWasEmpty, TrayRanOut, ClientOutOfMemory, IsCauseAmong}
+use Rattle.system_model.specs.Causes.{Cause, IsExplained, Explains, GaveUp, LinkLost, LinkOutOfMemory, WasUnsaid, SourceFailed, NamesEof, Names, Unforced, WasUnlisted, HadNoPicture, WasHeld, Disallowed, TrayWasEmpty, TrayRanOut, ClientOutOfMemory, IsCauseAmong}
 use Rattle.system_model.specs.SystemStates.{JobState, SystemState, listed_devices, make_for, device_for, wanted_place}
 use Rattle.system_model.specs.Actions
 use Rattle.system_model.specs.Actions.{Action, job_after_action}
@@ -33,9 +33,9 @@ use Rattle.world_refines.specs.GhostStates.{backend_of, is_guarded, name_at, pla
 use Rattle.world_refines.proofs.state.Infos.{place_is}
 use Rattle.daemon_refines.proofs.Moved.{own}
 use Rattle.world_contract.specs.Histories.{History}
-use Rattle.world_contract.specs.Page.{Settled}
-use Rattle.world_contract.specs.Endings.{AreFeeders, CanFail, IsShared, IsUnlisted, MeansNoPicture, WasServed}
-use Rattle.world_contract.proofs.Fallible.{can_fail_there, fallible_at, is_fallible, make_at}
+use Rattle.world_contract.specs.Page.{Settled, CameFor}
+use Rattle.world_contract.specs.Endings.{AreFeeders, IsShared, IsUnlisted, MeansNoPicture, WasServed}
+use Rattle.world_contract.proofs.Sources.{CanFail, can_fail_there, fallible_at, sources_of, make_at}
 use Rattle.world_contract.proofs.Lists.{In, all_each, all_then, contains_at, contains_in}
 use Rattle.world_contract.proofs.Mine.{IsMine, deed_mine}
 use Rattle.world_contract.proofs.Marked.{Slotted}
@@ -50,6 +50,7 @@ use Rattle.world_contract.proofs.Events.{answers_event, chokes_event, fault_even
 use Rattle.world_contract.proofs.Nearest.{nearest_for}
 use Rattle.world_contract.proofs.Scanned.{infos_of, name_of}
 use Rattle.world_contract.proofs.Traced.{StepOf}
+use Rattle.world_contract.specs.Calls.{HadUnsaidReply}
 
 -- ---- devices
 
@@ -142,6 +143,7 @@ abbrev pub Evid : History → ℕ → Job → Cause → Type 0
 Evid h i job GaveUp = Contains h.events (Cancel i)
 Evid h i job LinkLost = Contains h.events (LoseControl i) ⊎ Contains h.events (LoseImage i)
 Evid h i job LinkOutOfMemory = Unit {0}
+Evid h i job WasUnsaid = HadUnsaidReply h job
 Evid h i job SourceFailed = (WasServed h i ⊎ Contains h.events (DataTurn i)) × CanFail h job.device
 Evid h i job NamesEof = Contains h.events (DataTurn i) × IsTold h job Eof
 Evid h i job (Names status) = Contains h.events (DataTurn i) × IsTold h job status
@@ -188,7 +190,7 @@ settled_by h i job s o f is mine forced =
     let place : wanted_place s i ≡ d = f.places i ∙ own_place h i job o.at in
     let there : HasDevice h d = subst (HasDevice h) place ((f.slots (wanted_place s i)).held i mine) in
     let device = there.0 in
-    let b = is_fallible h d in
+    let b = sources_of h d in
     let make : make_for s i ≡ make_of b (Some device) = ap (λ (m : ℕ → Make). m (wanted_place s i)) f.makes ∙ (ap (make_at h) place ∙ ap (make_of b) there.1) in
     let ruled : abstract_in_force (make_of b (Some device)) (map requested_setting job.settings.items) ≡ Some (record { options = (device_for s i).options; reports = forced.0 }) =
     subst (λ (k : Make). abstract_in_force k (map requested_setting job.settings.items) ≡ Some (record { options = (device_for s i).options; reports = forced.0 })) make
@@ -217,7 +219,12 @@ meant_by : (h : History) (i : ℕ) (job : Job) (s : SystemState) → Own h i job
 meant_by h i job s o f is set page later tray none =
     let x = settled_by h i job s o f is set.0 set.1 in
     let first : IsOfDevice h (wanted_place s i) page = (subst (AllByRecursion (IsOfDevice h (wanted_place s i))) tray (f.slots (wanted_place s i)).pages).0 in
-    (x.0, page, first x.0.device x.2, ap (λ (y : Setup). meaning_of page y.scene) x.1 ∙ no_meaning (make_for s i) (device_for s i).options page none)
+    let came = first x.0.device x.2 in (
+      x.0,
+      came.0,
+      subst (λ (n : List ℕ). CameFor h n came.0) x.0.named came.1,
+      ap (λ (p : Page). meaning_of p x.0.setup.scene) came.2 ∙ (ap (λ (y : Setup). meaning_of page y.scene) x.1 ∙ no_meaning (make_for s i) (device_for s i).options page none),
+    )
 
 fallible_by : (h : History) (i : ℕ) (job : Job) (s : SystemState) → Own h i job → Fine h job s → (make_for s i).fallible ≡ true → CanFail h job.device
 fallible_by h i job s o f can =
@@ -257,7 +264,7 @@ feeders_by : (h : History) (i : ℕ) (job : Job) (s : SystemState) → Own h i j
 feeders_by h i job s o f sound none device there named =
     let at = device_named h job.device device o.apart there named in
     let place : wanted_place s i ≡ place_named (infos_of h) job.device = f.places i ∙ own_place h i job o.at in
-    let make : make_for s i ≡ make_of (is_fallible h (place_named (infos_of h) job.device)) (Some device) = ap (λ (m : ℕ → Make). m (wanted_place s i)) f.makes ∙ (ap (make_at h) place ∙ ap (make_of (is_fallible h (place_named (infos_of h) job.device))) at) in
+    let make : make_for s i ≡ make_of (sources_of h (place_named (infos_of h) job.device)) (Some device) = ap (λ (m : ℕ → Make). m (wanted_place s i)) f.makes ∙ (ap (make_at h) place ∙ ap (make_of (sources_of h (place_named (infos_of h) job.device))) at) in
     let stocked : IsStocked (make_for s i).model (device_for s i).tray = (sound.fit (wanted_place s i)).stocked in
     stocked_feeder device.setup.scene.kind (subst (λ (m : Make). IsStocked m.model []) make (subst (λ (tray : List Page). IsStocked (make_for s i).model tray) none stocked))
 
@@ -292,6 +299,7 @@ evid : (h : History) (i : ℕ) (job : Job) (s : SystemState) (x : Action) → He
 evid h i job s x e on of GaveUp c = let o = of_deed h i x Actions.Stops c of in stops_event h.events (map info_of_state h.devices) i o.event o.among o.is
 evid h i job s x e on of LinkLost c = lost_by h i x c of
 evid h i job s x e on of LinkOutOfMemory c = tt
+evid h i job s x e on of WasUnsaid c = (of_deed h i x (Actions.Breaks false) c of).cut job e.own_job.at
 evid h i job s x e on of SourceFailed c = (failed_by h i x c.0 of, fallible_by h i job s e.own_job e.fine c.1)
 evid h i job s x e on of NamesEof c =
     let o = of_deed h i x Actions.TurnsShort c.0 of in

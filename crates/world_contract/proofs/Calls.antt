@@ -1,6 +1,6 @@
 -- What each call promises, and what all of them do.
 use Rattle.std.specs.Prelude.{◌<◌, ◌≤◌, ◌≢◌, All, min, length, map, option_map, option_and_then, slice_get}
-use Rattle.std.proofs.Common.{◌≡◌, ◌∙◌, ℕ, ◌+◌, List, [], ◌∷◌, ◌++◌, Option, Some, None, Bool, true, false, refl, sym, ap, subst}
+use Rattle.std.proofs.Common.{arith, ◌≡◌, ◌∙◌, ℕ, suc, ◌+◌, List, [], ◌∷◌, ◌++◌, Option, Some, None, Bool, true, false, refl, sym, ap, subst, ◌⊎◌, inl, inr}
 use Rattle.std.proofs.lemmas.Option.{slice_get_within}
 use Rattle.std.proofs.lemmas.List.Elements.{All-map}
 use Rattle.std.specs.List.{AllByRecursion}
@@ -24,8 +24,8 @@ use Rattle.scan_world.specs.JobEvents.{job_event_of}
 use Rattle.scan_world.specs.JobMoves.{IsNextMove, moves_left_of}
 use Rattle.scan_world.specs.Rounds.{Rounds, RoundsRunOut, TakesMoves, all_made, moves_made}
 use Rattle.scan_world.specs.Worlds.{IsInitialWorld, MayRun, Runs, WorldCore}
-use Rattle.world_refines.specs.MainTheorem.{AreTrueLoads}
-use Rattle.world_contract.specs.Histories.{History, LedTo, MeetsPremises, and_then, begun}
+use Rattle.world_refines.specs.MainTheorem.{AreTrueLoads, IsTrueLoad}
+use Rattle.world_contract.specs.Histories.{History, LedTo, and_then, begun}
 use Rattle.world_contract.specs.Promise.{CountIsKept, FileIsKept, MoveIsKept, MovesAreKept, OutcomeIsKept, PageIsKept}
 use Rattle.world_contract.specs.Calls.{IsJobAt, IsMoveAt, KeepsPageCount, KeepsScanFile, KeepsMemory, KeepsMove, KeepsMoves, KeepsOutcome, KeepsPage, KeepsRunning, LoadsNothing, MovesNext, file_answered, finished_at, finished_by, is_starved, left_at, moves_answered, outcome_at, page_answered, starved_at}
 use Rattle.world_contract.specs.Laws.{AllFollow, Below}
@@ -34,6 +34,7 @@ use Rattle.world_contract.proofs.Lists.{all_then}
 use Rattle.world_contract.proofs.Scanned.{at_first, kept_by}
 use Rattle.world_refines.proofs.job_events.Constant.{Fixed, all_fixed}
 use Rattle.world_contract.proofs.AllKept.{count_kept, file_kept, move_kept, moves_kept, outcome_kept, page_kept}
+use Rattle.world_contract.proofs.Ended.{loss_kept}
 
 -- ---- events behind events
 
@@ -41,30 +42,38 @@ runs_then : (es fs : List Event) (u v w : WorldCore) → Runs source_state es u 
 runs_then [] fs u v w a b = subst (λ (x : WorldCore). Runs source_state fs x w) a b
 runs_then (e ∷ es) fs u v w (x, first, rest) b = (x, first, runs_then es fs x v w rest b)
 
-pub led_then : (h : History) (es : List Event) (v w : WorldCore) → LedTo h v → Runs source_state es v w → LedTo (and_then h es) w
-led_then h es v w l run = record { first = l.first; endpoints = l.endpoints; daemon = l.daemon; users_are = l.users_are; names = l.names; limits = l.limits; fit = l.fit; runs = runs_then h.events es l.first v w l.runs run }
-
 loads_then : (es fs : List Event) → AreTrueLoads source_state es → AreTrueLoads source_state fs → AreTrueLoads source_state (es ++ fs)
 loads_then [] fs a b = b
 loads_then (e ∷ es) fs a b = (a.0, loads_then es fs a.1 b)
 
-premises_then : (h : History) (es : List Event) → MeetsPremises h → AreTrueLoads source_state es → MeetsPremises (and_then h es)
-premises_then h es is loads = record { steady = is.steady; loads = loads_then h.events es is.loads loads }
+pub led_then : (h : History) (es : List Event) (v w : WorldCore) → LedTo h v → AreTrueLoads source_state es → Runs source_state es v w → LedTo (and_then h es) w
+led_then h es v w l loads run = record { first = l.first; endpoints = l.endpoints; daemon = l.daemon; users_are = l.users_are; names = l.names; limits = l.limits; fit = l.fit; loads = loads_then h.events es l.loads loads; runs = runs_then h.events es l.first v w l.runs run }
+
+true_each : (es : List Event) → AllByRecursion (IsTrueLoad source_state) es → AreTrueLoads source_state es
+true_each [] h = tt
+true_each (e ∷ es) h = (h.0, true_each es h.1)
+
+each_is : {X : Type 0} (P : X → Type 0) (xs : List X) → All P xs → AllByRecursion P xs
+each_is P [] h = tt
+each_is P (x ∷ xs) h = (h 0 x (omega arith), each_is P xs (λ k d low. h (suc k) d (omega (arith, low))))
+
+pub asked_true : (asked es : List Event) → asked ≡ es → All (IsTrueLoad source_state) asked → AreTrueLoads source_state es
+asked_true asked es same h = subst (AreTrueLoads source_state) same (true_each asked (each_is (IsTrueLoad source_state) asked h))
 
 pub new_led : {D : Type 0} (state : D → DeviceState) (devices asked : List D) (users : List Entry) (seed : List ℕ) (jobs : List Job) (w : WorldCore) → IsInitialWorld (map state devices) users seed jobs w → AreRegistrable (map state devices) → MayRun jobs → asked ≡ devices → All (λ (device : D). HasLimits (state device)) asked → LedTo (begun (map state devices) users jobs) w
 new_led {D = D} state devices asked users seed jobs w is named fit same limits =
     let own : All (λ (device : D). HasLimits (state device)) devices = subst (λ (xs : List D). All (λ (device : D). HasLimits (state device)) xs) same limits in
-    record { first = w; endpoints = is.endpoints; daemon = record { registry = is.registry; slots = is.sessions; opened = is.opened }; users_are = is.users_are; names = named.names; limits = All-map HasLimits state devices own; fit = fit.1; runs = refl }
+    record { first = w; endpoints = is.endpoints; daemon = record { registry = is.registry; slots = is.sessions; opened = is.opened }; users_are = is.users_are; names = named.names; limits = All-map HasLimits state devices own; fit = fit.1; loads = tt; runs = refl }
 
 -- ---- the endpoint of a job
 
 pub endpoint_there : Below → (h : History) (w : WorldCore) (i : ℕ) (job : Job) → IsJobAt h w i job → (p : Endpoint) × IsJob h w i job p
 endpoint_there below h w i job at =
-    let k = kept_by below.kept h w job at.led at.premises in
+    let k = kept_by below.kept h w job at.led in
     let count : k.run.ghost_then.count ≡ length h.jobs = ap (λ (f : Fixed). f.2) (all_fixed source_state h.events (at_first h w job at.led) k.run.steps k.run.ghost_then k.run.comes) in
     let as_many : length h.jobs ≡ length w.endpoints = sym count ∙ k.run.stands.is_of.count in
     let p = item_there w.endpoints i (subst (λ (n : ℕ). i < n) as_many (slice_get_within h.jobs i job at.job_at)) in
-    (p.0, record { led = at.led; premises = at.premises; job_at = at.job_at; endpoint_at = p.1 })
+    (p.0, record { led = at.led; job_at = at.job_at; endpoint_at = p.1 })
 
 pub outcome_there : (endpoints : List Endpoint) (i : ℕ) (p : Endpoint) (o : Outcome) → slice_get endpoints i ≡ Some p → option_map (λ (x : Endpoint). x.client.outcome) (slice_get endpoints i) ≡ Some o → p.client.outcome ≡ o
 outcome_there endpoints i p o at e = let both : Some p.client.outcome ≡ Some o = ap (option_map (λ (x : Endpoint). x.client.outcome)) (sym at) ∙ e in cc
@@ -115,7 +124,7 @@ quiet_rounds : (rounds : List (List (Option Event))) (w v : WorldCore) → Round
 quiet_rounds [] w v h = tt
 quiet_rounds (turns ∷ rounds) w v (u, is, rest) = all_then LoadsNothing (moves_made turns) (all_made rounds) (quiet_turns 0 turns w u is.1) (quiet_rounds rounds u v rest)
 
--- what loads nothing loads no page that is not steady
+-- what loads nothing loads no page past its limits
 quiet_loads : (events : List Event) → AllByRecursion LoadsNothing events → AreTrueLoads source_state events
 quiet_loads [] q = tt
 quiet_loads (Connect i ∷ es) q = (tt, quiet_loads es q.1)
@@ -182,8 +191,12 @@ move_call below w i given is h job at =
     let next : IsNextMove w.daemon i p.0 given = subst (λ (o : Option Endpoint). MovesNext w.daemon i o given) p.1.endpoint_at is in
     record {
       move = λ outcome there. subst (λ (o : Outcome). MoveIsKept o given) (outcome_there w.endpoints i p.0 outcome p.1.endpoint_at there) (move_kept below h w i job p.0 given p.1 next);
-      premises = λ event e. premises_then h (event ∷ []) at.premises (quiet_loads (event ∷ []) (quiet_next next.job_event i event (sym e ∙ next.event_is), tt));
+      loss = λ e. by_loss (starved_at w i) (p.0.out_of_memory) (ap is_starved p.1.endpoint_at) (loss_kept below h w i job p.0 p.1 (subst (IsNextMove w.daemon i p.0) e next));
     }
+  where
+    by_loss : {A : Type 0} (a b : Bool) → a ≡ b → (b ≡ true) ⊎ A → (a ≡ true) ⊎ A
+    by_loss a b same (inl out) = inl (same ∙ out)
+    by_loss a b same (inr unsaid) = inr unsaid
 
 pub moves_call : Below → (w : WorldCore) (i : ℕ) (given : ℕ) → given ≡ left_at w i → KeepsMoves w i given
 moves_call below w i given is h job at outcome there =
@@ -199,19 +212,16 @@ runs_no_more o off e = absurd (let clash : true ≡ false = sym (ap is_running e
 pub ran_out : Below → (w v : WorldCore) → RoundsRunOut source_state w v → KeepsRunning w v
 ran_out below w v out h l =
     let moves = all_made out.rounds in
-    let led = led_then h moves w v l out.events in
     let quiet = quiet_rounds out.rounds w v out.goes in
-    let loads = quiet_loads moves quiet in
+    let led = led_then h moves w v l (quiet_loads moves quiet) out.events in
     record {
       moves = moves;
       few = out.few;
       quiet = quiet;
       led = led;
-      premises = λ is. premises_then h moves is loads;
-      over = λ is i job outcome job_at there.
-          let now = premises_then h moves is loads in
-          let p = endpoint_there below (and_then h moves) v i job (record { led = led; premises = now; job_at = job_at }) in
-          let off = (kept_by below.kept (and_then h moves) v job led now).promises.rests i p.0 p.1.endpoint_at (out.rest i) in
+      over = λ i job outcome job_at there.
+          let p = endpoint_there below (and_then h moves) v i job (record { led = led; job_at = job_at }) in
+          let off = (kept_by below.kept (and_then h moves) v job led).promises.rests i p.0 p.1.endpoint_at (out.rest i) in
           runs_no_more outcome (subst (λ (o : Outcome). is_running o ≡ false) (outcome_there v.endpoints i p.0 outcome p.1.endpoint_at there) off);
     }
 

@@ -1,6 +1,6 @@
 -- A job that ended has its cause.
-use Rattle.std.specs.Prelude.{option_map, map, slice_get, slice_index_or, Contains}
-use Rattle.std.proofs.Common.{◌≡◌, ◌∙◌, ◌⊎◌, ℕ, List, Bool, true, false, Option, Some, None, inl, inr, refl, sym, ap, subst}
+use Rattle.std.specs.Prelude.{option_map, map, slice_get, slice_index_or}
+use Rattle.std.proofs.Common.{◌≡◌, ◌∙◌, ◌⊎◌, ℕ, List, Bool, true, false, Option, Some, None, inl, inr, refl, sym, ap, subst, ◌∷◌, []}
 use Rattle.sane_fixed.specs.declared.status.Status.{Status as Code}
 use Rattle.sane_fixed.specs.declared.status.Status.TheVariants as codes
 use Rattle.device_api.specs.InForce as devices
@@ -18,9 +18,8 @@ use Rattle.system_model.specs.AbstractMessages.{Status, Why}
 use Rattle.system_model.specs.Client.{JobStage, Idle, Running, Done, Ended, ClientView}
 use Rattle.system_model.specs.Devices.{Make, abstract_status}
 use Rattle.system_model.specs.AbstractInForce.{SettingsResult, abstract_in_force}
-use Rattle.system_model.specs.Causes.{Cause, Explains, GaveUp, LinkLost, LinkOutOfMemory, SourceFailed, NamesEof, Names, Unforced, WasUnlisted, HadNoPicture, WasHeld, Disallowed, TrayWasEmpty, TrayRanOut, ClientOutOfMemory, IsCauseAmong}
+use Rattle.system_model.specs.Causes.{Cause, Explains, GaveUp, LinkLost, LinkOutOfMemory, SourceFailed, NamesEof, Names, Unforced, WasUnlisted, HadNoPicture, WasHeld, Disallowed, TrayWasEmpty, TrayRanOut, ClientOutOfMemory, IsCauseAmong, WasUnsaid}
 use Rattle.scan_world.specs.declared.endpoint.Endpoint.{Endpoint}
-use Rattle.scan_world.specs.declared.event.Event.TheVariants.{LoseControl, LoseImage}
 use Rattle.scan_world.specs.Worlds.{WorldCore}
 use Rattle.world_refines.specs.NewWorlds.{make_of}
 use Rattle.world_refines.specs.WorldRefinement.{client_at_greeting}
@@ -28,9 +27,9 @@ use Rattle.world_contract.specs.Histories.{History}
 use Rattle.world_contract.specs.Endings.{IsEndingExplained, IsUnforced}
 use Rattle.world_contract.specs.Endings.IsEndingExplained.{GaveUp as GaveUpRow, LostLink, Starved, SourceFailed as SourceFailedRow, NamesEof as NamesEofRow, NamesStatus, Unforced as UnforcedRow, Unlisted, HadNoPicture as HadNoPictureRow, WasHeld as WasHeldRow, Disallowed as DisallowedRow, TrayWasEmpty as TrayWasEmptyRow, ClientStarved as ClientStarvedRow}
 use Rattle.world_contract.specs.Laws.{Below}
-use Rattle.world_contract.proofs.Fallible.{is_fallible, only_there}
+use Rattle.world_contract.proofs.Sources.{sources_of, have_sources}
 use Rattle.world_contract.proofs.Nearest.{none_nearest}
-use Rattle.world_contract.proofs.Jobs.{IsJob, are_steady}
+use Rattle.world_contract.proofs.Jobs.{IsJob}
 use Rattle.client_replies.specs.ProtocolStates.{target_of}
 use Rattle.client_replies.specs.declared.progress.JobTarget.{JobTarget}
 use Rattle.client_replies.specs.declared.progress.Progress.{Progress}
@@ -50,6 +49,12 @@ use Rattle.daemon_refines.specs.Cores.{fresh_device}
 use Rattle.system_model.specs.Marks.{device_view}
 use Rattle.md5_auth.specs.declared.users.Entry.{Entry}
 use Rattle.world_contract.proofs.Along.{EndedBy, Evid, Fine, Here, IsGone, IsHeldBy, Judged, JudgedAt, Laws, NotForced, Own, all_judged, device_named, forced_there}
+use Rattle.world_contract.proofs.Cuts.{cut_of_history}
+use Rattle.world_contract.specs.Calls.{HadUnsaidReply}
+use Rattle.scan_world.specs.JobMoves.{IsNextMove}
+use Rattle.system_model.specs.Transitions.{IsUnderWay}
+use Rattle.std.specs.List.{AllByRecursion}
+use Rattle.scan_world.specs.declared.event.Event.TheVariants.{LoseControl}
 
 -- ---- the words of the rules, and those of the clients
 
@@ -131,7 +136,7 @@ none_by (Some r) e = absurd (let clash : Some r.0 ≡ None = e in cc)
 unforced : (h : History) (i : ℕ) (job : Job) → Own h i job → NotForced h job → IsUnforced h job
 unforced h i job o none device there named =
     let at = device_named h job.device device o.apart there named in
-    let b = is_fallible h (place_named (infos_of h) job.device) in
+    let b = sources_of h (place_named (infos_of h) job.device) in
     let ruled : abstract_in_force (make_of b (Some device)) (map requested_setting job.settings.items) ≡ None = subst (λ (x : Option DeviceState). abstract_in_force (make_of b x) (map requested_setting job.settings.items) ≡ None) at none in
     none_nearest device.setup.scene.kind device.setup.order job.settings.items (none_by (devices.in_force device.setup.scene.kind device.setup.order job.settings.items) (sym (forced_there o.same (make_of b (Some device)) job) ∙ ap (option_map (λ (f : SettingsResult). f.options)) ruled))
 
@@ -144,8 +149,9 @@ setting_row status why w is (inr e) = inr (why_is why words.Answer (is ∙ ap (�
 row : (h : History) (i : ℕ) (job : Job) (starved : Bool) (status : Code) (why : Reason) (w : Why) (c : Cause) → why_of why ≡ Some w → (c ≡ LinkOutOfMemory → starved ≡ true) → Evid h i job c → Explains c (abstract_status status) w → IsEndingExplained h i job starved status why
 row h i job starved status why w GaveUp is z e x = GaveUpRow (both_are status why words.GivenUp words.Cancelled w is x) e
 row h i job starved status why w LinkLost is z e x = LostLink (both_are status why words.IoError words.Lost w is x) e
+row h i job starved status why w WasUnsaid is z e x = absurd x
 row h i job starved status why w LinkOutOfMemory is z e x = Starved (both_are status why words.IoError words.Lost w is x) (z refl)
-row h i job starved status why w SourceFailed is z e x = SourceFailedRow (both_are status why words.IoError words.Answer w is x) e.0 e.1
+row h i job starved status why w SourceFailed is z e x = SourceFailedRow (both_are status why words.IoError words.Answer w is x) e.0 e.1.0 e.1.1 e.1.2
 row h i job starved status why w NamesEof is z e x = NamesEofRow (both_are status why words.IoError words.Short w is x) e.0 e.1.0 (code_in e.1.0.setup.told words.Eof e.1.1)
 row h i job starved status why w (Names s) is z e x =
     NamesStatus (λ eof. x.1 (sym x.0 ∙ ap abstract_status eof), why_is why words.Answer (is ∙ ap (λ (y : Why). Some y) x.2)) e.0 e.1.0
@@ -184,21 +190,51 @@ woken_ended (Ended s w) m status why e h = sym e ∙ h
 ended_reads : (place : DeviceInfo → ℕ) (errand : JobTarget) (job : rules.AbstractJob) (pages : List (List Frame)) (o : Outcome) (progress : Progress) (notes : Notes) (past : JoinHistory) (m : ClientView) (status : Code) (why : Reason) → OutcomeRefines place errand job pages o progress notes past m → o ≡ outcomes.Ended status why → EndedAs status why m
 ended_reads place errand job pages o progress notes past m status why h e = subst (λ (x : Outcome). OutcomeRefines place errand job pages x progress notes past m) e h
 
-pub at_end : Below → (h : History) (w : WorldCore) (i : ℕ) (job : Job) (endpoint : Endpoint) (status : Code) (why : Reason) → IsJob h w i job endpoint → endpoint.client.outcome ≡ outcomes.Ended status why → IsEndingExplained h i job endpoint.out_of_memory status why
-at_end below h w i job endpoint status why j e =
+-- each cause that a job met that is under way has its evidence, and its ending has its own
+pub judged_there : (below : Below) (h : History) (w : WorldCore) (i : ℕ) (job : Job) (endpoint : Endpoint) → (j : IsJob h w i job endpoint) → JudgedAt h i job (kept_by below.kept h w job j.led).run.ghost_then.system
+judged_there below h w i job endpoint j =
     let l = j.led in
-    let k = kept_by below.kept h w job l j.premises in
+    let k = kept_by below.kept h w job l in
     let t = at_first h w job l in
     let u = k.run.ghost_then in
     let steps = k.run.steps in
-    let new = below.new (is_fallible h) h.jobs job h.devices l.first l.endpoints l.daemon l.names (are_steady h w j.led j.premises) (only_there h) l.fit in
+    let new = below.new (sources_of h) h.jobs job h.devices l.first l.endpoints l.daemon l.names l.limits (have_sources h) l.fit in
     let o : Own h i job = record { at = j.job_at; apart = new.is_of.apart; same = below.same } in
     let fine : Fine h job t.system = record { makes = refl; places = λ n. refl; slots = λ d. first_slot h (t.system.make d) d; owned = λ d. first_owned h job (t.system.make d) d (slice_get h.devices d) refl } in
     let here : Here h i job t.system = record { own_job = o; fine = fine; is = ap (λ (users : List Entry). abstract_job users (infos_of h) (slice_index_or h.jobs i job)) l.users_are ∙ ap (λ (x : Job). abstract_job h.users (infos_of h) x) (get_or_from_slice_get h.jobs i job job j.job_at); asks = λ c is. absurd (let clash : None ≡ Some c = is in cc); sound = new.sound } in
     let laws : Laws = record { legal = below.marks; sound = below.histories; last = below.last; grounds = below.grounds } in
-    let judged = all_judged laws h i job steps t.system here (all_of_one h steps (each_of t.infos h.events steps (traced h.events t steps u k.run.comes)) (all_of_jobs h.events t steps u (untouched_at_first h w job l) k.run.comes)) k.run.legal tt in
-    let there : JudgedAt h i job u.system = subst (JudgedAt h i job) (sym k.run.rules_are) judged in
+    let of = all_of_one h steps (each_of t.infos h.events steps (traced h.events t steps u k.run.comes)) (all_of_jobs h.events t steps u (untouched_at_first h w job l) k.run.comes) (cut_of_history h t u job steps l.users_are refl refl k.run.comes) in
+    subst (JudgedAt h i job) (sym k.run.rules_are) (all_judged laws h i job steps t.system here of k.run.legal tt)
+
+pub at_end : Below → (h : History) (w : WorldCore) (i : ℕ) (job : Job) (endpoint : Endpoint) (status : Code) (why : Reason) → IsJob h w i job endpoint → endpoint.client.outcome ≡ outcomes.Ended status why → IsEndingExplained h i job endpoint.out_of_memory status why
+at_end below h w i job endpoint status why j e =
+    let k = kept_by below.kept h w job j.led in
+    let u = k.run.ghost_then in
+    let new = below.new (sources_of h) h.jobs job h.devices j.led.first j.led.endpoints j.led.daemon j.led.names j.led.limits (have_sources h) j.led.fit in
+    let o : Own h i job = record { at = j.job_at; apart = new.is_of.apart; same = below.same } in
     let sits = k.run.stands.endpoints i endpoint j.endpoint_at in
     let d = ended_reads (place_of_info u.infos) (target_of (u.jobs i)) (job_state u i).session.job (map (λ (q : JoinHistory). q.ended) (u.pages i)) endpoint.client.outcome endpoint.client.progress endpoint.client.notes (u.history i) (client_at_greeting (job_state u i).client.stage (job_state u i).client) status why sits.talks.reads.stands e in
     let stage = woken_ended (job_state u i).client.stage (job_state u i).client (abstract_status status) d.0 refl d.1.1 in
-    table h i job endpoint.out_of_memory (job_state u i).session.met status why d.0 o d.1.0 sits.means.starved (subst (Judged h i job (job_state u i).session.met) stage there)
+    table h i job endpoint.out_of_memory (job_state u i).session.met status why d.0 o d.1.0 sits.means.starved (subst (Judged h i job (job_state u i).session.met) stage (judged_there below h w i job endpoint j))
+
+-- ---- a reply that could not be said
+
+unsaid_among : (h : History) (i : ℕ) (job : Job) (met : List Cause) → AllByRecursion (Evid h i job) met → IsCauseAmong WasUnsaid met → HadUnsaidReply h job
+unsaid_among h i job [] a m = absurd m
+unsaid_among h i job (c ∷ met) a (inl same) = subst (Evid h i job) (sym same) a.0
+unsaid_among h i job (c ∷ met) a (inr m) = unsaid_among h i job met a.1 m
+
+unsaid_judged : (h : History) (i : ℕ) (job : Job) (met : List Cause) (stage : JobStage) → IsUnderWay stage → Judged h i job met stage → IsCauseAmong WasUnsaid met → HadUnsaidReply h job
+unsaid_judged h i job met Idle on a m = unsaid_among h i job met a m
+unsaid_judged h i job met (Running g) on a m = unsaid_among h i job met a m
+unsaid_judged h i job met Done on a m = absurd on
+unsaid_judged h i job met (Ended status why) on a m = absurd on
+
+loss_by : (below : Below) (h : History) (w : WorldCore) (i : ℕ) (job : Job) (endpoint : Endpoint) (j : IsJob h w i job endpoint) → (endpoint.out_of_memory ≡ true) ⊎ (IsUnderWay (job_state (kept_by below.kept h w job j.led).run.ghost_then i).client.stage × IsCauseAmong WasUnsaid (job_state (kept_by below.kept h w job j.led).run.ghost_then i).session.met) → (endpoint.out_of_memory ≡ true) ⊎ HadUnsaidReply h job
+loss_by below h w i job endpoint j (inl out) = inl out
+loss_by below h w i job endpoint j (inr met) =
+    let u = (kept_by below.kept h w job j.led).run.ghost_then in
+    inr (unsaid_judged h i job (job_state u i).session.met (job_state u i).client.stage met.0 (judged_there below h w i job endpoint j) met.1)
+
+pub loss_kept : (below : Below) (h : History) (w : WorldCore) (i : ℕ) (job : Job) (endpoint : Endpoint) → IsJob h w i job endpoint → IsNextMove w.daemon i endpoint (Some (LoseControl i)) → (endpoint.out_of_memory ≡ true) ⊎ HadUnsaidReply h job
+loss_kept below h w i job endpoint j next = loss_by below h w i job endpoint j ((kept_by below.kept h w job j.led).promises.losses i endpoint j.endpoint_at next)

@@ -5,7 +5,7 @@ use Rattle.system_model.specs.AbstractMessages.{Eof, Challenge, AbstractRequest,
 use Rattle.system_model.specs.Devices.{Make, Page, picture_frames, read_status_of}
 use Rattle.system_model.specs.AbstractDevices.{AbstractDevice}
 use Rattle.system_model.specs.Daemon.{FailureCounts, Streaming}
-use Rattle.system_model.specs.Causes.{Cause, GaveUp, LinkLost, LinkOutOfMemory, SourceFailed, NamesEof, Names, Unforced, WasUnlisted, HadNoPicture, WasHeld, Disallowed, TrayWasEmpty, TrayRanOut, ClientOutOfMemory}
+use Rattle.system_model.specs.Causes.{Cause, GaveUp, LinkLost, LinkOutOfMemory, WasUnsaid, SourceFailed, NamesEof, Names, Unforced, WasUnlisted, HadNoPicture, WasHeld, Disallowed, TrayWasEmpty, TrayRanOut, ClientOutOfMemory}
 use Rattle.system_model.specs.Grounds.{HasGround, HaveGrounds}
 use Rattle.system_model.specs.SystemStates.{JobState}
 use Rattle.system_model.specs.Actions
@@ -67,6 +67,7 @@ abbrev pub Comes : ℕ → Make → JobState → AbstractDevice → Action → C
 Comes i k p dev x GaveUp = x ≡ Actions.Stops
 Comes i k p dev x LinkLost = (x ≡ Actions.Loses false) ⊎ (x ≡ Actions.LosesImage false)
 Comes i k p dev x LinkOutOfMemory = Unit {0}
+Comes i k p dev x WasUnsaid = x ≡ Actions.Breaks false
 Comes i k p dev x SourceFailed = (IsAnswer x ⊎ ((fault : FailureCounts) × (x ≡ Actions.TurnsFault fault))) × (k.fallible ≡ true)
 Comes i k p dev x NamesEof = (x ≡ Actions.TurnsShort) × (p.session.transfer ≡ Streaming) × (dev.holder ≡ Some i) × (read_status_of k dev.options ≡ Some Eof)
 Comes i k p dev x (Names status) = (x ≡ Actions.TurnsNamed status) × (p.session.transfer ≡ Streaming) × (dev.holder ≡ Some i) × (read_status_of k dev.options ≡ Some status)
@@ -83,6 +84,7 @@ grounds : (i : ℕ) (k : Make) (ds : List ℕ) (p : JobState) (dev : AbstractDev
 grounds i k ds p dev challenge fault q rest may todo GaveUp start g = absurd g
 grounds i k ds p dev challenge fault q rest may todo LinkLost start g = absurd g
 grounds i k ds p dev challenge fault q rest may todo LinkOutOfMemory start g = tt
+grounds i k ds p dev challenge fault q rest may todo WasUnsaid start g = absurd g
 grounds i k ds p dev challenge fault q rest may todo SourceFailed start g = (inl (challenge, fault, refl), (subst (λ (o : Option FailureCounts). MayFail k o) g.1 may).0)
 grounds i k ds p dev challenge fault q rest may todo NamesEof start g = absurd g
 grounds i k ds p dev challenge fault q rest may todo (Names status) start g = absurd g
@@ -123,6 +125,6 @@ all_come so i k ds p dev (Actions.Loses false) may = (inl refl, tt)
 all_come so i k ds p dev (Actions.LosesImage true) may = (tt, tt)
 all_come so i k ds p dev (Actions.LosesImage false) may = (inr refl, tt)
 all_come so i k ds p dev (Actions.Breaks true) may = (tt, tt)
-all_come so i k ds p dev (Actions.Breaks false) may = tt
+all_come so i k ds p dev (Actions.Breaks false) may = (refl, tt)
 all_come so i k ds p dev Actions.RunsOutOfMemory may = (refl, tt)
 all_come so i k ds p dev Actions.Stops may = (refl, tt)

@@ -1,7 +1,7 @@
 -- What the worked examples come to.
-use Rattle.std.specs.Prelude.{All, map, Contains, ◌<◌, length, slice_get, slice_index_or}
+use Rattle.std.specs.Prelude.{All, map, Contains, ◌<◌, length, slice_get, slice_index_or, ◌≢◌, ◌⊎◌}
 use Rattle.std.specs.List.{AllByRecursion}
-use Rattle.std.proofs.Common.{◌≡◌, ◌∙◌, ℕ, zero, suc, arith, List, [], ◌∷◌, Option, Some, true, false, refl, sym, ap, subst}
+use Rattle.std.proofs.Common.{◌≡◌, inl, inr, ◌∙◌, ℕ, zero, suc, arith, List, [], ◌∷◌, Option, Some, true, false, refl, sym, ap, subst}
 use Rattle.sane_fixed.specs.declared.byte_order.ByteOrder.TheVariants.{Little}
 use Rattle.page_picture.specs.Page.{PageView}
 use Rattle.page_picture.specs.Meaning.{meaning_of}
@@ -10,6 +10,7 @@ use Rattle.page_picture.specs.declared.sources.kinds.Source.{Source}
 use Rattle.page_picture.specs.declared.scene.DeviceKind.TheVariants.{Flatbed}
 use Rattle.md5_auth.specs.declared.users.Entry.{Entry}
 use Rattle.device_api.specs.State.{DeviceState, HeldPage, held_from}
+use Rattle.dispatch.specs.RegistryFault.{HaveOwnNames}
 use Rattle.scan_frames.specs.declared.setup.Setup.{Setup}
 use Rattle.device_api.specs.InForce.{Placement}
 use Rattle.device_api.specs.Values.{defaults}
@@ -21,16 +22,14 @@ use Rattle.scan_job.specs.declared.outcome.Outcome.TheVariants.{Running, Done, E
 use Rattle.scan_job.specs.declared.report.Reports.{Reports}
 use Rattle.scan_job.specs.declared.outcome.Why.TheVariants.{Answer}
 use Rattle.sane_fixed.specs.declared.status.Status.TheVariants.{DeviceBusy}
-use Rattle.page_picture.specs.SourceView.{source_state}
-use Rattle.world_refines.specs.MainTheorem.{AreTrueLoads}
 use Rattle.scan_world.specs.declared.event.Event.{Event}
 use Rattle.scan_world.specs.declared.event.Event.TheVariants.{Load}
 use Rattle.scan_world.specs.JobEvents.{is_done}
 use Rattle.scan_world.specs.Worlds.{WorldCore}
-use Rattle.world_contract.specs.Histories.{HasSteadyPages, History, LedTo, MeetsPremises, and_then, begun}
+use Rattle.world_contract.specs.Histories.{History, LedTo, and_then, begun}
 use Rattle.world_contract.specs.Settings.{AreSettingsPut}
-use Rattle.world_contract.specs.Page.{AreInForce, IsScan, WasIn}
-use Rattle.world_contract.specs.Page.WasIn.{AtFirst, LaidIn}
+use Rattle.world_contract.specs.Page.{AreInForce, CameFor, IsScan, IsSteady}
+use Rattle.world_contract.specs.Page.CameFor.{AtFirst, WithEvent}
 use Rattle.world_contract.specs.Promise.{FileIsKept}
 use Rattle.world_contract.specs.Calls.{IsJobAt, KeepsScanFile, KeepsOutcome, KeepsRunning, LoadsNothing, outcome_at, starved_at}
 use Rattle.world_contract.specs.Examples.{HasExplanation, IsScanOf, until_busy}
@@ -48,24 +47,56 @@ contains_one : {X : Type 0} (x y : X) → Contains (x ∷ []) y → x ≡ y
 contains_one x y (zero, within, is) = is
 contains_one x y (suc k, within, is) = absurd (omega (arith, within))
 
+contains_two : {X : Type 0} (x y z : X) → Contains (x ∷ y ∷ []) z → (x ≡ z) ⊎ (y ≡ z)
+contains_two x y z (zero, within, is) = inl is
+contains_two x y z (suc zero, within, is) = inr is
+contains_two x y z (suc (suc k), within, is) = absurd (omega (arith, within))
+
+-- the device of the name is this flatbed
+abbrev pub IsOnly : List DeviceState → List ℕ → SourceState → List ℕ → Type 0
+IsOnly devices name source asked = (device : DeviceState) → Contains devices device → device.info.name ≡ asked → new_scanner Flatbed name source Little ≡ device
+
+only_device : (devices : List DeviceState) (name asked : List ℕ) (source : SourceState) → devices ≡ new_scanner Flatbed name source Little ∷ [] → IsOnly devices name source asked
+only_device devices name asked source are device there named =
+    contains_one (new_scanner Flatbed name source Little) device (subst (λ (ds : List DeviceState). Contains ds device) are there)
+
+-- beside another one, by their own names
+only_of_two : (devices : List DeviceState) (name asked : List ℕ) (source : SourceState) (other : DeviceState) → devices ≡ new_scanner Flatbed name source Little ∷ other ∷ [] → asked ≡ name → HaveOwnNames devices → IsOnly devices name source asked
+only_of_two devices name asked source other are asks own device there named =
+    one (contains_two flatbed other device (subst (λ (ds : List DeviceState). Contains ds device) are there))
+  where
+    flatbed : DeviceState
+    flatbed = new_scanner Flatbed name source Little
+
+    names : HaveOwnNames (flatbed ∷ other ∷ [])
+    names = subst HaveOwnNames are own
+
+    differ : name ≢ other.info.name
+    differ = names.0 0 other (omega arith)
+
+    one : (flatbed ≡ device) ⊎ (other ≡ device) → flatbed ≡ device
+    one (inl is) = is
+    one (inr is) = absurd (differ (sym asks ∙ sym named ∙ ap (λ (d : DeviceState). d.info.name) (sym is)))
+
 no_load : (events : List Event) (name : List ℕ) (source : Source) → AllByRecursion LoadsNothing events → Contains events (Load name source) → ⊥
 no_load events name source quiet there = at_all LoadsNothing events there.0 (Load name source) quiet (get_at events there.0 (Load name source) there.1 ∙ ap (λ (e : Event). Some e) there.2)
 
-page_is : (h : History) (name : List ℕ) (source : SourceState) (device : DeviceState) (page : PageView) → new_scanner Flatbed name source Little ≡ device → AllByRecursion LoadsNothing h.events → WasIn h device page → source.page ≡ page
-page_is h name source device page same quiet (AtFirst held there is) =
-    let one : held_from source ≡ held = contains_one (held_from source) held (subst (λ (d : DeviceState). Contains d.pages held) (sym same) there) in
-    ap (λ (x : HeldPage). x.page) one ∙ is
-page_is h name source device page same quiet (LaidIn other there is) = absurd (no_load h.events device.info.name other quiet there)
+page_is : (h : History) (name other : List ℕ) (source : SourceState) (held : HeldPage) → IsOnly h.devices name source other → AllByRecursion LoadsNothing h.events → CameFor h other held → source.page ≡ held.page
+page_is h name other source held only quiet (AtFirst device there named among) =
+    let same : new_scanner Flatbed name source Little ≡ device = only device there named in
+    let one : held_from source ≡ held = contains_one (held_from source) held (subst (λ (d : DeviceState). Contains d.pages held) (sym same) among) in
+    ap (λ (x : HeldPage). x.page) one
+page_is h name other source held only quiet (WithEvent laid there is) = absurd (no_load h.events other laid quiet there)
 
 on_flatbed : (name : List ℕ) (source : SourceState) (placed : List Placement) (setup : Setup) (job : Job) → AreInForce (new_scanner Flatbed name source Little) job placed setup → AreSettingsPut (defaults Flatbed Little) job.settings.items placed setup
 unfolding defaults
 on_flatbed name source placed setup job h = h
 
-scan_of_one : (h : History) (job : Job) (bytes : List ℕ) (name : List ℕ) (source : SourceState) → h.devices ≡ new_scanner Flatbed name source Little ∷ [] → AllByRecursion LoadsNothing h.events → IsScan h job bytes → IsScanOf source.page job bytes
-scan_of_one h job bytes name source devices quiet scan =
+scan_of_one : (h : History) (job : Job) (bytes : List ℕ) (name : List ℕ) (source : SourceState) → IsOnly h.devices name source job.device → AllByRecursion LoadsNothing h.events → IsScan h job bytes → IsScanOf source.page job bytes
+scan_of_one h job bytes name source only quiet scan =
     let s = scan.settled in
-    let same : new_scanner Flatbed name source Little ≡ s.device = contains_one (new_scanner Flatbed name source Little) s.device (subst (λ (ds : List DeviceState). Contains ds s.device) devices s.is_there) in
-    let page : source.page ≡ scan.page = page_is h name source s.device scan.page same quiet scan.was_in in
+    let same : new_scanner Flatbed name source Little ≡ s.device = only s.device s.is_there s.named in
+    let page : source.page ≡ scan.held.page = page_is h name job.device source scan.held only quiet scan.came in
     record {
       setup = s.setup;
       placed = s.placed;
@@ -80,26 +111,28 @@ done_reports Running e = absurd (let clash : false ≡ true = e in cc)
 done_reports (Done reports) e = (reports, refl)
 done_reports (Ended status why) e = absurd (let clash : false ≡ true = e in cc)
 
-one_true : (name : List ℕ) (source : SourceState) (states : List DeviceState) (users : List Entry) (jobs : List Job) → states ≡ new_scanner Flatbed name source Little ∷ [] → source.steady ≡ true → MeetsPremises (begun states users jobs)
-one_true name source states users jobs devices steady = record { steady = subst (All HasSteadyPages) (sym devices) (all_one HasSteadyPages (new_scanner Flatbed name source Little) (all_one (λ (held : HeldPage). held.steady ≡ true) (held_from source) steady)); loads = tt }
-
-both_true : (name : List ℕ) (source : SourceState) (states : List DeviceState) (users : List Entry) (jobs : List Job) (events : List Event) → states ≡ new_scanner Flatbed name source Little ∷ [] → source.steady ≡ true → events ≡ until_busy → MeetsPremises (and_then (begun states users jobs) events)
-both_true name source states users jobs events devices steady are = record { steady = (one_true name source states users jobs devices steady).steady; loads = subst (AreTrueLoads source_state) (sym are) (tt, (tt, (tt, (tt, (tt, (tt, (tt, (tt, (tt, tt))))))))) }
+-- the pages of the flatbed, where events bring none, are that of its source
+steady_for_all : (h : History) (name other : List ℕ) (source : SourceState) → IsOnly h.devices name source other → source.steady ≡ true → AllByRecursion LoadsNothing h.events → IsSteady h other
+steady_for_all h name other source only steady quiet held (AtFirst device there named among) =
+    let same : new_scanner Flatbed name source Little ≡ device = only device there named in
+    let one : held_from source ≡ held = contains_one (held_from source) held (subst (λ (d : DeviceState). Contains d.pages held) (sym same) among) in
+    ap (λ (x : HeldPage). x.steady) (sym one) ∙ steady
+steady_for_all h name other source only steady quiet held (WithEvent laid there is) = absurd (no_load h.events other laid quiet there)
 
 both_quiet : (events : List Event) → events ≡ until_busy → AllByRecursion LoadsNothing events
 both_quiet events are = subst (AllByRecursion LoadsNothing) (sym are) (tt, (tt, (tt, (tt, (tt, (tt, (tt, (tt, (tt, tt)))))))))
 
 pub once : (old new : WorldCore) (name : List ℕ) (source : SourceState) (states : List DeviceState) (users : List Entry) (job : Job) (jobs : List Job) (outcome : Outcome) (bytes : List ℕ) →
-    states ≡ new_scanner Flatbed name source Little ∷ [] → jobs ≡ job ∷ [] → source.steady ≡ true → LedTo (begun states users jobs) old → KeepsRunning old new →
+    (HaveOwnNames states → IsOnly states name source job.device) → jobs ≡ job ∷ [] → source.steady ≡ true → LedTo (begun states users jobs) old → KeepsRunning old new →
     outcome_at new 0 ≡ Some outcome → is_done outcome ≡ true → KeepsScanFile new 0 (Some bytes) → job.task ≡ tasks.Scan → IsScanOf source.page job bytes
-once old new name source states users job jobs outcome bytes devices own steady led ran there done file scan =
+once old new name source states users job jobs outcome bytes only own steady led ran there done file scan =
     let out = ran (begun states users jobs) led in
-    let is : MeetsPremises (begun states users jobs) = one_true name source states users jobs devices steady in
     let h = and_then (begun states users jobs) out.moves in
-    let at : IsJobAt h new 0 job = record { led = out.led; premises = out.premises is; job_at = ap (λ (js : List Job). slice_get js 0) own } in
+    let at : IsJobAt h new 0 job = record { led = out.led; job_at = ap (λ (js : List Job). slice_get js 0) own } in
     let reports = done_reports outcome done in
     let kept : FileIsKept h job (starved_at new 0) outcome (Some bytes) = file h job at outcome there in
-    scan_of_one h job bytes name source devices out.quiet (kept.scanned reports.0 bytes scan reports.1 refl)
+    let this : IsOnly states name source job.device = only out.led.names in
+    scan_of_one h job bytes name source this out.quiet (kept.scanned reports.0 bytes (steady_for_all h name job.device source this steady out.quiet) scan reports.1 refl)
 
 pub beside : (old mid new : WorldCore) (name : List ℕ) (source : SourceState) (states : List DeviceState) (users : List Entry) (first second : Job) (jobs : List Job) (outcome : Outcome) (bytes : List ℕ) (events : List Event) →
     states ≡ new_scanner Flatbed name source Little ∷ [] → jobs ≡ first ∷ second ∷ [] → source.steady ≡ true → LedTo (begun states users jobs) old → events ≡ until_busy → ((h : History) → LedTo h old → LedTo (and_then h events) mid) → KeepsRunning mid new →
@@ -108,10 +141,12 @@ beside old mid new name source states users first second jobs outcome bytes even
     let asked = and_then (begun states users jobs) events in
     let out = ran asked (run (begun states users jobs) led) in
     let h = and_then asked out.moves in
-    let at : IsJobAt h new 0 first = record { led = out.led; premises = out.premises (both_true name source states users jobs events devices steady are); job_at = ap (λ (js : List Job). slice_get js 0) own } in
+    let at : IsJobAt h new 0 first = record { led = out.led; job_at = ap (λ (js : List Job). slice_get js 0) own } in
     let reports = done_reports outcome done in
     let kept : FileIsKept h first (starved_at new 0) outcome (Some bytes) = file h first at outcome there in
-    scan_of_one h first bytes name source devices (all_then LoadsNothing events out.moves (both_quiet events are) out.quiet) (kept.scanned reports.0 bytes scan reports.1 refl)
+    let quiet = all_then LoadsNothing events out.moves (both_quiet events are) out.quiet in
+    let this : IsOnly states name source first.device = only_device states name first.device source devices in
+    scan_of_one h first bytes name source this quiet (kept.scanned reports.0 bytes (steady_for_all h name first.device source this steady quiet) scan reports.1 refl)
 
 pub busy : (old mid new : WorldCore) (name : List ℕ) (source : SourceState) (states : List DeviceState) (users : List Entry) (first second : Job) (jobs : List Job) (outcome : Outcome) (given : Option Outcome) (events : List Event) →
     states ≡ new_scanner Flatbed name source Little ∷ [] → jobs ≡ first ∷ second ∷ [] → source.steady ≡ true → LedTo (begun states users jobs) old → events ≡ until_busy → ((h : History) → LedTo h old → LedTo (and_then h events) mid) → KeepsRunning mid new →
@@ -120,7 +155,7 @@ busy old mid new name source states users first second jobs outcome given events
     let asked = and_then (begun states users jobs) events in
     let out = ran asked (run (begun states users jobs) led) in
     let h = and_then asked out.moves in
-    let at : IsJobAt h new 1 second = record { led = out.led; premises = out.premises (both_true name source states users jobs events devices steady are); job_at = ap (λ (js : List Job). slice_get js 1) own } in
+    let at : IsJobAt h new 1 second = record { led = out.led; job_at = ap (λ (js : List Job). slice_get js 1) own } in
     let o = kept h second at in
     let same : o.0 ≡ outcome = (let both : Some o.0 ≡ Some outcome = sym o.1 ∙ is in cc) in
     record { history = h; jobs = own; starved = starved_at new 1; caused = (o.2.ended DeviceBusy Answer (same ∙ told)).caused }
@@ -136,7 +171,19 @@ pub once_boxed : {D : Type 0} (state : D → DeviceState) (items : List D) (box 
 once_boxed state items box users jobs job old new name source page outcome file bytes led ran kept alone is own steady on there done same scan =
     subst (λ (p : PageView). IsScanOf p job bytes) on
     (subst (IsScanOf source.page job) same
-    (once old new name source (map state items) users job jobs outcome file (one_state state items box (new_scanner Flatbed name source Little) alone is) own steady led ran there done kept scan))
+    (once old new name source (map state items) users job jobs outcome file (λ names. only_device (map state items) name job.device source (one_state state items box (new_scanner Flatbed name source Little) alone is)) own steady led ran there done kept scan))
+
+two_states : {D : Type 0} (state : D → DeviceState) (items : List D) (x y : D) (s : DeviceState) → items ≡ x ∷ y ∷ [] → state x ≡ s → map state items ≡ s ∷ state y ∷ []
+two_states state items x y s own is = ap (map state) own ∙ ap (λ (d : DeviceState). d ∷ state y ∷ []) is
+
+pub with_other_boxed : {D : Type 0} (state : D → DeviceState) (items : List D) (box other : D) (users : List Entry) (jobs : List Job) (job : Job) (old new : WorldCore) (name : List ℕ) (source : SourceState) (page : PageView) (outcome : Outcome) (file bytes : List ℕ) →
+    LedTo (begun (map state items) users jobs) old → KeepsRunning old new → KeepsScanFile new 0 (Some file) → items ≡ box ∷ other ∷ [] → state box ≡ new_scanner Flatbed name source Little → jobs ≡ job ∷ [] → source.steady ≡ true → source.page ≡ page →
+    outcome_at new 0 ≡ Some outcome → is_done outcome ≡ true → file ≡ bytes → job.device ≡ name → job.task ≡ tasks.Scan → IsScanOf page job bytes
+with_other_boxed state items box other users jobs job old new name source page outcome file bytes led ran kept both is own steady on there done same named scan =
+    let are : map state items ≡ new_scanner Flatbed name source Little ∷ state other ∷ [] = two_states state items box other (new_scanner Flatbed name source Little) both is in
+    subst (λ (p : PageView). IsScanOf p job bytes) on
+    (subst (IsScanOf source.page job) same
+    (once old new name source (map state items) users job jobs outcome file (only_of_two (map state items) name job.device source (state other) are named) own steady led ran there done kept scan))
 
 pub beside_boxed : {D : Type 0} (state : D → DeviceState) (items : List D) (box : D) (users : List Entry) (jobs : List Job) (first second : Job) (events : List Event) (old mid new : WorldCore) (name : List ℕ) (source : SourceState) (page : PageView) (outcome : Outcome) (file bytes : List ℕ) →
     LedTo (begun (map state items) users jobs) old → ((h : History) → LedTo h old → LedTo (and_then h events) mid) → KeepsRunning mid new → KeepsScanFile new 0 (Some file) → items ≡ box ∷ [] → state box ≡ new_scanner Flatbed name source Little → jobs ≡ first ∷ second ∷ [] → source.steady ≡ true → source.page ≡ page → events ≡ until_busy →

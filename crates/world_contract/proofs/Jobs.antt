@@ -1,21 +1,15 @@
 -- The job of a place, and its endpoint.
-use Rattle.std.specs.Prelude.{◌<◌, All, length, slice_get}
+use Rattle.std.specs.Prelude.{◌<◌, length, slice_get}
 use Rattle.std.proofs.Common.{◌≡◌, ℕ, zero, suc, List, [], ◌∷◌, Some, refl, arith}
 use Rattle.scan_job.specs.declared.job.Job.{Job}
 use Rattle.scan_world.specs.declared.endpoint.Endpoint.{Endpoint}
 use Rattle.scan_world.specs.Worlds.{WorldCore}
-use Rattle.world_refines.specs.NewWorlds.{IsSteady}
-use Rattle.world_contract.specs.Histories.{History, LedTo, MeetsPremises}
+use Rattle.world_contract.specs.Histories.{History, LedTo}
 
 pub record IsJob (h : History) (w : WorldCore) (i : ℕ) (job : Job) (endpoint : Endpoint) : Type 0 where
   pub led : LedTo h w
-  pub premises : MeetsPremises h
   pub job_at : slice_get h.jobs i ≡ Some job
   pub endpoint_at : slice_get w.endpoints i ≡ Some endpoint
-
--- the devices are within their limits, and their pages steady
-pub are_steady : (h : History) (w : WorldCore) → LedTo h w → MeetsPremises h → All IsSteady h.devices
-are_steady h w l is = λ k d within. record { limits = l.limits k d within; steady = is.steady k d within }
 
 pub item_there : {X : Type 0} (xs : List X) (i : ℕ) → i < length xs → (x : X) × (slice_get xs i ≡ Some x)
 item_there [] i within = absurd (omega (arith, within))

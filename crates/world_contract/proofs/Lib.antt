@@ -6,8 +6,9 @@ pub mod Begun
 pub mod Asked
 pub mod Traced
 pub mod OfJobs
+pub mod Cuts
 pub mod Pages
-pub mod Fallible
+pub mod Sources
 pub mod Settings
 pub mod Nearest
 pub mod Scanned

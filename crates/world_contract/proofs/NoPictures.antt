@@ -2,12 +2,11 @@
 use Rattle.std.specs.Prelude.{option_map, if◌then◌else◌}
 use Rattle.std.specs.List.{AllByRecursion}
 use Rattle.std.proofs.Common.{◌≡◌, ◌∙◌, ◌≢◌, ℕ, List, [], ◌∷◌, Bool, true, false, Option, Some, None, inl, inr, refl, sym, ap, eqb}
-use Rattle.page_picture.specs.Shows.{Frame}
 use Rattle.page_picture.specs.Extent.{extent_of}
 use Rattle.page_picture.specs.Meaning.{meaning_of, picture_of}
 use Rattle.scan_frames.specs.Frames.{frame_of, frames_of, has_picture, takes_colors}
 use Rattle.scan_laws.specs.SetAndJoin as rules
-use Rattle.system_model.specs.AbstractMessages.{Challenge, Report, AbstractRequest, Init, GetDevices, Open, Authorize, Describe, Get, Set, Parameters, Start, Cancel, Close, Exit, same_text}
+use Rattle.system_model.specs.AbstractMessages.{Challenge, AbstractRequest, Init, GetDevices, Open, Authorize, Describe, Get, Set, Parameters, Start, Cancel, Close, Exit, same_text}
 use Rattle.system_model.specs.Devices.{Make, OptionsInForce, Page, AbstractAcceptedSet, accept_value, has_readable_value, picture_frames}
 use Rattle.system_model.specs.AbstractDevices.{AbstractDevice, is_held_by, is_resting}
 use Rattle.system_model.specs.Causes.{Cause, HadNoPicture, WasUnlisted, WasHeld, Disallowed}

@@ -141,7 +141,7 @@ sent_by t i deed text steps u (inr h) = moved_by t i steps _ u h.1
 answered_by : (n : ℕ) (t : Ghost) (i : ℕ) (steps : List Transition) (u : Ghost) → AnswersSome n t i steps u → Moves t i steps u
 answered_by n t i steps u (GoesOn asked rest said a b c h on) = moved_by t i steps _ u h
 answered_by n t i steps u (IsOver asked rest said a b h was over) = moved_by t i steps _ u h
-answered_by n t i steps u (BreaksOff memory asked rest said before a b c h) = moved_by t i steps _ u h
+answered_by n t i steps u (BreaksOff memory asked rest said before a b cut c h) = moved_by t i steps _ u h
 answered_by n t i steps u (WasOver a b h) = subst (λ (xs : List Transition). Moves t i xs u) (sym b) (moved_by t i [] _ u h)
 
 heard_by : (n : ℕ) (t : Ghost) (i : ℕ) (steps : List Transition) (u : Ghost) → GhostHears n t i steps u → Moves t i steps u

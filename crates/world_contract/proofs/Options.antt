@@ -21,7 +21,7 @@ quiet b q s = absurd (let clash : Quiet ≡ Streaming = sym q ∙ s in cc)
 waiting : {A : Type 0} (b : SessionView) → b.transfer ≡ Waiting → b.transfer ≡ Streaming → A
 waiting b q s = absurd (let clash : Waiting ≡ Streaming = sym q ∙ s in cc)
 
-images : (i : ℕ) (k : Make) (b : SessionView) (m : ClientView) (dev : AbstractDevice) (params : _) (heard : List ℕ) → b.transfer ≡ Streaming → (h : Images i k b m dev params heard) → DataUnderWay i k b dev h.continues.begin.options h.frame h.more heard h.rest → IsForced k b dev
+images : (i : ℕ) (k : Make) (b : SessionView) (m : ClientView) (dev : AbstractDevice) (params : _) (heard : List ℕ) → b.transfer ≡ Streaming → (h : Images i k b m dev params heard) → DataUnderWay i k b dev h.continues.begin.options h.more heard h.rest → IsForced k b dev
 images i k b m dev params heard s h (inl f) = (m.reports, h.continues.settled.forced ∙ ap (λ (o : OptionsInForce). Some (record { options = o; reports = m.reports })) (sym f.held.options_are))
 images i k b m dev params heard s h (inr (inl f)) = quiet b f.transfer s
 images i k b m dev params heard s h (inr (inr (inl f))) = quiet b f.transfer s

@@ -2,7 +2,7 @@
 use Rattle.std.specs.Prelude.{cond, eqb, length, map, slice_get, Contains}
 use Rattle.std.specs.List.{AllByRecursion}
 use Rattle.std.proofs.Common.{◌≡◌, ◌∙◌, ℕ, zero, suc, List, [], ◌∷◌, Bool, true, false, Option, Some, None, refl, sym, ap, subst, eqb-true}
-use Rattle.device_api.specs.State.{DeviceState, HeldPage, Phase as AnyPhase, after_reset, cancelled_in, feeds, left_behind}
+use Rattle.device_api.specs.State.{DeviceState, HeldPage, Phase as AnyPhase, after_reset, cancelled_in, feeds, left_behind, held_from}
 use Rattle.device_api.specs.State.Phase.{AtRest, Between, Reading}
 use Rattle.daemon_refines.specs.Cores.{fresh_device, fresh_devices}
 use Rattle.daemon_refines.specs.ContextRefinement.{page_views}
@@ -17,20 +17,22 @@ use Rattle.scan_world.specs.declared.event.Event.TheVariants.{Connect, ToDaemon,
 use Rattle.world_refines.specs.NewWorlds.{info_of_state}
 use Rattle.world_refines.specs.GhostStates.{name_at}
 use Rattle.world_contract.specs.Histories.{History}
-use Rattle.world_contract.specs.Page.{WasIn}
-use Rattle.world_contract.specs.Page.WasIn.{AtFirst, LaidIn}
-use Rattle.world_contract.proofs.Lists.{In, all_each, all_in, all_then, contains_in}
+use Rattle.world_contract.specs.Page.{CameFor}
+use Rattle.world_contract.specs.Page.CameFor.{AtFirst, WithEvent}
+use Rattle.world_contract.proofs.Lists.{In, all_each, all_in, all_then, contains_in, contains_at}
 use Rattle.world_contract.proofs.Mine.{IsMine, deed_mine}
 use Rattle.world_contract.proofs.Marked.{LoadsIt, Slotted, mine_loads}
 use Rattle.world_contract.proofs.Traced.{IsOfSome, StepOf}
 use Rattle.world_contract.proofs.OfJobs.{IsOfJob}
+use Rattle.page_picture.specs.SourceView.{source_state}
+use Rattle.world_contract.proofs.Cuts.{IsCutAt}
 
 -- there is a device of that place; and a page of it
 abbrev pub HasDevice : History → ℕ → Type 0
 HasDevice h d = (device : DeviceState) × (slice_get h.devices d ≡ Some device)
 
 abbrev pub IsOfDevice : History → ℕ → Page → Type 0
-IsOfDevice h d page = (device : DeviceState) → slice_get h.devices d ≡ Some device → WasIn h device page
+IsOfDevice h d page = (device : DeviceState) → slice_get h.devices d ≡ Some device → (held : HeldPage) × CameFor h device.info.name held × (held.page ≡ page)
 
 abbrev pub IsBegun : History → ℕ → Begin → Type 0
 IsBegun h d begin = HasDevice h d × IsOfDevice h d begin.page
@@ -55,7 +57,7 @@ same_device : (h : History) (d : ℕ) (s device : DeviceState) → slice_get h.d
 same_device h d s device a b = let same : Some s ≡ Some device = sym a ∙ b in cc
 
 first_pages : (h : History) (d : ℕ) (s : DeviceState) → slice_get h.devices d ≡ Some s → AllByRecursion (λ (held : HeldPage). IsOfDevice h d held.page) s.pages
-first_pages h d s at = all_in (λ (held : HeldPage). IsOfDevice h d held.page) s.pages (λ held among. λ device there. AtFirst held (subst (λ (x : DeviceState). Contains x.pages held) (same_device h d s device at there) (contains_in s.pages held among)) refl)
+first_pages h d s at = all_in (λ (held : HeldPage). IsOfDevice h d held.page) s.pages (λ held among. λ device there. (held, AtFirst device (contains_at h.devices d device there) refl (subst (λ (x : DeviceState). Contains x.pages held) (same_device h d s device at there) (contains_in s.pages held among)), refl))
 
 first_of : (h : History) (k : Make) (d : ℕ) (o : Option DeviceState) → slice_get h.devices d ≡ o → Slotted (HasDevice h d) (IsOfDevice h d) (device_view k (fresh_device o))
 first_of h k d None at = record { listed = λ e. absurd (let clash : false ≡ true = e in cc); held = λ j e. absurd (let clash : None ≡ Some j = e in cc); pages = tt }
@@ -88,7 +90,7 @@ laid h d page (Cancel i) among of = absurd of
 laid h d page (Load name source) among of = λ device there.
     let both : Some name ≡ Some device.info.name = sym of.0 ∙ name_there h.devices d device there in
     let same : name ≡ device.info.name = cc in
-    LaidIn source (contains_in h.events (Load device.info.name source) (subst (λ (x : List ℕ). In (Load x source) h.events) same among)) of.1
+    (held_from (source_state source), WithEvent source (contains_in h.events (Load device.info.name source) (subst (λ (x : List ℕ). In (Load x source) h.events) same among)) refl, of.1)
 laid h d page (Unplug name) among of = absurd of
 
 -- a step of one of the events, of a job that there is
@@ -97,10 +99,11 @@ pub record IsOfOne (h : History) (x : Transition) : Type 0 where
   pub among : In event h.events
   pub is : StepOf (map info_of_state h.devices) event x
   pub there : IsOfJob (length h.jobs) x
+  pub cut : IsCutAt h x
 
-pub all_of_one : (h : History) (xs : List Transition) → AllByRecursion (IsOfSome (map info_of_state h.devices) h.events) xs → AllByRecursion (IsOfJob (length h.jobs)) xs → AllByRecursion (IsOfOne h) xs
-all_of_one h [] a b = tt
-all_of_one h (x ∷ xs) a b = (record { event = a.0.event; among = a.0.among; is = a.0.is; there = b.0 }, all_of_one h xs a.1 b.1)
+pub all_of_one : (h : History) (xs : List Transition) → AllByRecursion (IsOfSome (map info_of_state h.devices) h.events) xs → AllByRecursion (IsOfJob (length h.jobs)) xs → AllByRecursion (IsCutAt h) xs → AllByRecursion (IsOfOne h) xs
+all_of_one h [] a b c = tt
+all_of_one h (x ∷ xs) a b c = (record { event = a.0.event; among = a.0.among; is = a.0.is; there = b.0; cut = c.0 }, all_of_one h xs a.1 b.1 c.1)
 
 pub loads_if : (h : History) (d : ℕ) (s : SystemState) (x : Transition) → IsOfOne h x → (b : Bool) → eqb d (touched_device s x) ≡ b → AllByRecursion (LoadsIt (IsOfDevice h d)) (cond b (marks s x) [])
 loads_if h d s x of false e = tt

@@ -1,7 +1,7 @@
 -- The file of a scan, and each finished page of a batch.
 use Rattle.std.specs.Prelude.{length, option_map, map, slice_get, ◌<◌}
 use Rattle.std.specs.List.{AllByRecursion}
-use Rattle.std.proofs.Common.{◌≡◌, ◌∙◌, ℕ, zero, suc, List, [], ◌∷◌, Option, Some, None, refl, sym, ap, subst}
+use Rattle.std.proofs.Common.{◌≡◌, ◌∙◌, ℕ, zero, suc, List, [], ◌∷◌, Option, Some, None, refl, sym, ap, subst, true}
 use Rattle.std.specs.List.{position}
 use Rattle.std.proofs.lemmas.Option.{get_or_from_slice_get}
 use Rattle.page_picture.specs.SourceView.{source_state}
@@ -27,24 +27,27 @@ use Rattle.world_refines.specs.MainTheorem.{AllIsKept, PromisesAreKept}
 use Rattle.world_refines.proofs.job_events.Constant.{Fixed, all_fixed, makes_stay}
 use Rattle.world_refines.proofs.state.Infos.{is_name, name_here}
 use Rattle.world_contract.proofs.Nearest.{nearest_for}
-use Rattle.world_contract.specs.Histories.{History, LedTo, MeetsPremises}
-use Rattle.world_contract.specs.Page.{IsScan}
-use Rattle.world_contract.proofs.Jobs.{IsJob, are_steady}
+use Rattle.world_contract.specs.Histories.{History, LedTo}
+use Rattle.world_contract.specs.Page.{IsScan, CameFor, IsSteady}
+use Rattle.world_contract.proofs.Jobs.{IsJob}
 use Rattle.world_contract.proofs.Lists.{at_all, contains_at}
 use Rattle.world_contract.proofs.Marked.{starts_there}
 use Rattle.world_contract.proofs.Begun.{all_begun, wants_all}
-use Rattle.world_contract.proofs.Fallible.{is_fallible, loads_fit, make_at, only_there}
+use Rattle.world_contract.proofs.Sources.{sources_of, loads_fit, make_at, have_sources, steady_there}
 use Rattle.world_contract.proofs.Pages.{HasDevice, IsBegun, IsOfDevice, all_loads, all_of_one, first_slot, name_there}
 use Rattle.world_contract.proofs.OfJobs.{AreUntouched, all_of_jobs, no_image_at_first}
 use Rattle.world_contract.proofs.Traced.{each_of, traced}
+use Rattle.page_picture.specs.Page.{PageView}
+use Rattle.page_picture.specs.Meaning.{meaning_of}
+use Rattle.world_contract.proofs.Cuts.{cut_of_history}
 
 -- ---- what all that happened stands for
 
 abbrev pub at_first : (h : History) (w : WorldCore) (job : Job) → LedTo h w → Ghost
-at_first h w job l = initial_ghost (is_fallible h) h.jobs job h.devices l.first.daemon.users l.first.endpoints
+at_first h w job l = initial_ghost (sources_of h) h.jobs job h.devices l.first.daemon.users l.first.endpoints
 
-abbrev pub kept_by : AllIsKept → (h : History) (w : WorldCore) (job : Job) (l : LedTo h w) → MeetsPremises h → PromisesAreKept source_state h.events (at_first h w job l) l.first w
-kept_by all h w job l is = all source_state h.events (is_fallible h) h.jobs job h.devices l.first w l.endpoints l.daemon l.names (are_steady h w l is) l.fit is.loads (only_there h) (loads_fit h) l.runs
+abbrev pub kept_by : AllIsKept → (h : History) (w : WorldCore) (job : Job) (l : LedTo h w) → PromisesAreKept source_state h.events (at_first h w job l) l.first w
+kept_by all h w job l = all source_state h.events (sources_of h) h.jobs job h.devices l.first w l.endpoints l.daemon l.names l.limits l.fit l.loads (have_sources h) (loads_fit h) l.runs
 
 pub untouched_at_first : (h : History) (w : WorldCore) (job : Job) (l : LedTo h w) → AreUntouched (at_first h w job l)
 untouched_at_first h w job l = λ j n. record { linked = refl; quiet = refl; no_image = no_image_at_first (slice_get l.first.endpoints j) }
@@ -55,7 +58,7 @@ pub begun_there : NotesAreTrue → (h : History) (w : WorldCore) (job : Job) (l 
 begun_there notes h w job l k i =
     let t = at_first h w job l in
     let steps = k.run.steps in
-    let of = all_of_one h steps (each_of t.infos h.events steps (traced h.events t steps k.run.ghost_then k.run.comes)) (all_of_jobs h.events t steps k.run.ghost_then (untouched_at_first h w job l) k.run.comes) in
+    let of = all_of_one h steps (each_of t.infos h.events steps (traced h.events t steps k.run.ghost_then k.run.comes)) (all_of_jobs h.events t steps k.run.ghost_then (untouched_at_first h w job l) k.run.comes) (cut_of_history h t k.run.ghost_then job steps l.users_are refl refl k.run.comes) in
     let starts = λ (d : ℕ). starts_there (HasDevice h d) (IsOfDevice h d) (all_marks d t.system steps) (device_view (t.system.make d) (t.system.device d)) (device_view (t.system.make d) ((after_all t.system steps).device d)) (k.run.marks d) (all_loads h steps t.system of d) (first_slot h (t.system.make d) d) in
     let begun = all_begun notes (IsBegun h) steps t.system starts (λ j. tt) i in
     subst (λ (s : SystemState). AllByRecursion (IsBegun h (wanted_place t.system i)) (s.job i).session.started) (sym k.run.rules_are)
@@ -106,24 +109,30 @@ pub is_scan : (h : History) (job : Job) (begin : Begin) (file : List ℕ) → Is
 is_scan h job begin file there meant =
     let device = there.0.0 in
     let at = there.0.1 in
-    let b = is_fallible h (place_named (infos_of h) job.device) in
+    let b = sources_of h (place_named (infos_of h) job.device) in
     let m : IsMeant (make_of b (Some device)) job.settings.items begin file = subst (λ (o : Option DeviceState). IsMeant (make_of b o) job.settings.items begin file) at meant in
     let put = nearest_for device.setup.scene.kind device.setup.order job.settings.items begin.options m.in_force in
+    let name : device.info.name ≡ job.device = name_of h job.device device at in
+    let page = there.1 device at in
     record {
       settled = record {
         device = device;
         is_there = contains_at h.devices (place_named (infos_of h) job.device) device at;
-        named = name_of h job.device device at;
+        named = name;
         setup = begin.options;
         placed = put.0;
         in_force = put.1;
       };
-      page = begin.page;
-      was_in = there.1 device at;
+      held = page.0;
+      came = subst (λ (x : List ℕ). CameFor h x page.0) name page.1;
       picture = m.picture;
-      meant = m.meant;
+      meant = ap (λ (x : PageView). meaning_of x begin.options.scene) page.2 ∙ m.meant;
       denotes = m.denotes;
     }
+
+-- where all pages that came for the job's device are steady, its sources are
+pub steady_for : (h : History) (w : WorldCore) (job : Job) (l : LedTo h w) (k : PromisesAreKept source_state h.events (at_first h w job l) l.first w) (i : ℕ) → slice_get h.jobs i ≡ Some job → IsSteady h job.device → (make_for k.run.ghost_then.system i).steady ≡ true
+steady_for h w job l k i at steady = ap (λ (make : Make). make.steady) (make_there h w job l k i at) ∙ steady_there h (place_named (infos_of h) job.device) job.device (λ device there. name_of h job.device device there) steady
 
 pub meant_there : (h : History) (w : WorldCore) (i : ℕ) (job : Job) (l : LedTo h w) (k : PromisesAreKept source_state h.events (at_first h w job l) l.first w) (begin : Begin) (file : List ℕ) → slice_get h.jobs i ≡ Some job →
     IsMeant (make_for k.run.ghost_then.system i) (k.run.ghost_then.jobs i).settings.items begin file → IsMeant (make_at h (place_named (infos_of h) job.device)) job.settings.items begin file
@@ -131,17 +140,17 @@ meant_there h w i job l k begin file at m =
     subst (λ (make : Make). IsMeant make job.settings.items begin file) (make_there h w job l k i at)
     (subst (λ (j : Job). IsMeant (make_for k.run.ghost_then.system i) j.settings.items begin file) (job_there h w job l k i at) m)
 
-pub scan_right : AllIsKept → NotesAreTrue → (h : History) (w : WorldCore) (i : ℕ) (job : Job) (endpoint : Endpoint) (reports : Reports) (file : List ℕ) → IsJob h w i job endpoint → job.task ≡ tasks.Scan → endpoint.client.outcome ≡ Done reports → endpoint.file ≡ Some file → IsScan h job file
-scan_right all notes h w i job endpoint reports file j scan done is =
-    let k = kept_by all h w job j.led j.premises in
+pub scan_right : AllIsKept → NotesAreTrue → (h : History) (w : WorldCore) (i : ℕ) (job : Job) (endpoint : Endpoint) (reports : Reports) (file : List ℕ) → IsJob h w i job endpoint → IsSteady h job.device → job.task ≡ tasks.Scan → endpoint.client.outcome ≡ Done reports → endpoint.file ≡ Some file → IsScan h job file
+scan_right all notes h w i job endpoint reports file j steady scan done is =
+    let k = kept_by all h w job j.led in
     let s = k.promises.scans i endpoint reports file j.endpoint_at (ap (λ (x : Job). x.task) (job_there h w job j.led k i j.job_at) ∙ scan) done is in
     let begun = subst (λ (d : ℕ). AllByRecursion (IsBegun h d) (job_state k.run.ghost_then i).session.started) (wants_there h w job j.led i j.job_at) (begun_there notes h w job j.led k i) in
     let first = subst (AllByRecursion (IsBegun h (place_named (infos_of h) job.device))) s.started begun in
-    is_scan h job s.begin file first.0 (meant_there h w i job j.led k s.begin file j.job_at s.meant)
+    is_scan h job s.begin file first.0 (meant_there h w i job j.led k s.begin file j.job_at (s.meant (steady_for h w job j.led k i j.job_at steady)))
 
-pub page_right : AllIsKept → NotesAreTrue → (h : History) (w : WorldCore) (i n : ℕ) (job : Job) (endpoint : Endpoint) (file : List ℕ) → IsJob h w i job endpoint → n < endpoint.finished → slice_get endpoint.pages n ≡ Some (Some file) → IsScan h job file
-page_right all notes h w i n job endpoint file j low is =
-    let k = kept_by all h w job j.led j.premises in
+pub page_right : AllIsKept → NotesAreTrue → (h : History) (w : WorldCore) (i n : ℕ) (job : Job) (endpoint : Endpoint) (file : List ℕ) → IsJob h w i job endpoint → IsSteady h job.device → n < endpoint.finished → slice_get endpoint.pages n ≡ Some (Some file) → IsScan h job file
+page_right all notes h w i n job endpoint file j steady low is =
+    let k = kept_by all h w job j.led in
     let s = k.promises.pages i n endpoint file j.endpoint_at low is in
     let begun = subst (λ (d : ℕ). AllByRecursion (IsBegun h d) (job_state k.run.ghost_then i).session.started) (wants_there h w job j.led i j.job_at) (begun_there notes h w job j.led k i) in
-    is_scan h job s.begin file (at_all (IsBegun h (place_named (infos_of h) job.device)) _ n s.begin begun s.started) (meant_there h w i job j.led k s.begin file j.job_at s.meant)
+    is_scan h job s.begin file (at_all (IsBegun h (place_named (infos_of h) job.device)) _ n s.begin begun s.started) (meant_there h w i job j.led k s.begin file j.job_at (s.meant (steady_for h w job j.led k i j.job_at steady)))

@@ -12,18 +12,18 @@ use Rattle.option_desc.specs.declared.descriptor.Constraint.{Constraint}
 use Rattle.option_desc.specs.declared.descriptor.Descriptor.{Descriptor}
 use Rattle.option_desc.specs.declared.value.Value.{Value}
 use Rattle.option_desc.specs.declared.value.Value.TheVariants.{Flag, Int, Fixed, Words, Text}
-use Rattle.option_desc.specs.Fits.{Fits, HasRoomFor}
+use Rattle.option_desc.specs.Fits.{Fits}
 use Rattle.option_desc.specs.Put.{Puts, NearestValue}
-use Rattle.option_desc.specs.Reads.{ReadsAsValue, SpellsWords}
+use Rattle.option_desc.specs.Reads.{ReadsAsValue}
 use Rattle.page_picture.specs.declared.scene.DeviceKind.{DeviceKind}
 use Rattle.page_picture.specs.declared.scene.DeviceKind.TheVariants.{Flatbed, Hand, ThreePass, Feeder}
 use Rattle.scan_frames.specs.declared.setup.Setup.{Setup}
 use Rattle.device_api.specs.declared.scan_option.ScanOption.{ScanOption}
 use Rattle.device_api.specs.InForce.{Placement, may_be_set, number_named}
-use Rattle.device_api.specs.Options.{descriptor_of, descriptors_of, is_active, option_at, option_caps, option_constraint, option_kind, option_name, option_size, options_of}
-use Rattle.device_api.specs.Values.{option_passing, option_to_set, setup_after, with_given, with_value}
+use Rattle.device_api.specs.Options.{descriptor_of, descriptors_of, is_active, option_at, option_caps, option_name, options_of}
+use Rattle.device_api.specs.Values.{option_passing, setup_after, with_given, with_value}
 use Rattle.device_api.proofs.OptionForms.{may_be_set_is}
-use Rattle.scan_laws.specs.NearestSet.{GivesNearest, PutsNearest, PutAllNearest}
+use Rattle.scan_laws.specs.NearestSet.{PutsNearest, PutAllNearest}
 use Rattle.world_contract.specs.Settings.{AreSettingsPut, IsSettingPut}
 
 -- ---- options are found by their names

@@ -1,10 +1,8 @@
 -- Each event takes steps of its own kind.
 use Rattle.std.specs.List.{AllByRecursion}
-use Rattle.std.proofs.Common.{◌≡◌, ◌∙◌, ◌⊎◌, ℕ, List, [], ◌∷◌, ◌++◌, true, false, Some, inl, inr, refl, sym, ap, subst}
+use Rattle.std.proofs.Common.{◌≡◌, ◌⊎◌, ℕ, List, [], ◌∷◌, ◌++◌, true, false, Some, inl, inr, refl, sym, ap, subst}
 use Rattle.page_picture.specs.SourceView.{source_state}
 use Rattle.sane_fixed.specs.declared.device_info.DeviceInfo.{DeviceInfo}
-use Rattle.md5_auth.specs.declared.users.Entry.{Entry}
-use Rattle.scan_job.specs.declared.job.Job.{Job}
 use Rattle.system_model.specs.Actions as deeds
 use Rattle.system_model.specs.Client.{JobStage, Idle, Running, Done, Ended}
 use Rattle.system_model.specs.Deliveries.{Chance, answers}
@@ -13,11 +11,11 @@ use Rattle.scan_world.specs.declared.event.Event.{Event}
 use Rattle.scan_world.specs.declared.event.Event.TheVariants.{Connect, ToDaemon, ToClient, DataConnect, DataTurn, DataToClient, LoseControl, LoseImage, Cancel, Load, Unplug}
 use Rattle.scan_world.specs.declared.event.JobEvent.{JobEvent}
 use Rattle.scan_world.specs.declared.event.JobEvent.TheVariants as events
-use Rattle.world_refines.specs.GhostStates.{Ghost, Wires, name_at, job_state}
+use Rattle.world_refines.specs.GhostStates.{Ghost, name_at, job_state}
 use Rattle.world_refines.specs.Answering.{AnswersEach, AnswersSome}
 use Rattle.world_refines.specs.Answering.AnswersSome.{GoesOn, IsOver, BreaksOff, WasOver}
-use Rattle.world_refines.specs.ClientDeliveries.{Delivers, GhostHears}
-use Rattle.world_refines.specs.GhostEvents.{GhostCan, CanLoad, CanUnplug, GhostConnects, GhostHappens, IsRecordOf, GhostSends, GhostTakes}
+use Rattle.world_refines.specs.ClientDeliveries.{GhostHears}
+use Rattle.world_refines.specs.GhostEvents.{GhostCan, CanLoad, CanUnplug, GhostConnects, GhostHappens, IsRecordOf, GhostSends}
 use Rattle.world_refines.specs.DataDeliveries.{ReadsBytes, GhostReadsEnd, ReadsShort, GhostSees, by_all, read_actions}
 use Rattle.world_refines.specs.MainTheorem.{GhostComes, GhostComesAll}
 use Rattle.world_refines.proofs.job_events.Constant.{Fixed, stays_fixed}
@@ -109,7 +107,7 @@ each_by i n asked steps h = steps_by (ByOf i (events.ToDaemon n)) steps (answers
 daemon_by : (n : ℕ) (t : Ghost) (i : ℕ) (steps : List Transition) (u : Ghost) → AnswersSome n t i steps u → AreBy i (events.ToDaemon n) steps
 daemon_by n t i steps u (GoesOn asked rest said a b c h on) = each_by i n asked steps c
 daemon_by n t i steps u (IsOver asked rest said a b h was over) = each_by i n asked steps b
-daemon_by n t i steps u (BreaksOff memory asked rest said before a b c h) =
+daemon_by n t i steps u (BreaksOff memory asked rest said before a b cut c h) =
     steps_by (ByOf i (events.ToDaemon n)) steps (before ++ By i (deeds.Breaks memory) ∷ []) c (all_then (ByOf i (events.ToDaemon n)) before (By i (deeds.Breaks memory) ∷ []) (each_by i n asked before b) ((refl, tt), tt))
 daemon_by n t i steps u (WasOver a b h) = steps_by (ByOf i (events.ToDaemon n)) steps [] b tt
 

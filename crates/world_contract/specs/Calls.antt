@@ -1,5 +1,5 @@
 -- What the calls of a world answer, and what each promises, for whatever history led to the world.
-use Rattle.std.specs.Prelude.{ℕ, ◌≡◌, ◌≢◌, ◌⊎◌, ◌<◌, ◌≤◌, Bool, false, min, Option, Some, None, option_map, option_and_then, List, [], ◌∷◌, Contains, length, slice_get}
+use Rattle.std.specs.Prelude.{ℕ, ◌≡◌, ◌≢◌, ◌⊎◌, ◌<◌, ◌≤◌, Bool, false, min, Option, Some, None, option_map, option_and_then, List, [], ◌∷◌, Contains, length, slice_get, true, map}
 use Rattle.std.specs.List.{AllByRecursion}
 use Rattle.scan_job.specs.declared.job.Job.{Job}
 use Rattle.scan_job.specs.declared.outcome.Outcome.{Outcome}
@@ -16,8 +16,10 @@ use Rattle.scan_world.specs.JobEvents.{job_event_of}
 use Rattle.scan_world.specs.JobMoves.{IsNextMove, moves_left_of}
 use Rattle.scan_world.specs.Rounds.{total_left}
 use Rattle.scan_world.specs.Worlds.{WorldCore}
-use Rattle.world_contract.specs.Histories.{History, LedTo, MeetsPremises, and_then}
+use Rattle.world_contract.specs.Histories.{History, LedTo, and_then}
 use Rattle.world_contract.specs.Promise.{JobAnswers, CountIsKept, FileIsKept, MoveIsKept, MovesAreKept, OutcomeIsKept, PageIsKept}
+use Rattle.world_refines.specs.Answering.{HasUnsaidReply}
+use Rattle.world_refines.specs.NewWorlds.{info_of_state}
 
 -- ---- what they answer of job i
 
@@ -71,10 +73,9 @@ pub record AnswersAre (w : WorldCore) (i : ℕ) (a : JobAnswers) : Type 0 where
 
 -- ---- what they promise of it
 
--- the history led to the world and meets the premises, and the job is the one of that place
+-- the history led to the world, and the job is the one of that place
 pub record IsJobAt (h : History) (w : WorldCore) (i : ℕ) (job : Job) : Type 0 where
   pub led : LedTo h w
-  pub premises : MeetsPremises h
   pub job_at : slice_get h.jobs i ≡ Some job
 
 -- for each history that led to the world
@@ -98,13 +99,17 @@ KeepsPageCount w i given = ForEach w i (λ h job. (outcome : Outcome) → outcom
 abbrev pub KeepsMemory : WorldCore → ℕ → Bool → Type 0
 KeepsMemory w i given = ForEach w i (λ h job. given ≡ false → (file_answered w i ≢ None) × ((k : ℕ) → 0 < k → k ≤ finished_at w i → page_answered w i k ≢ None))
 
--- `next_move`: and the history with it meets the premises too
-pub record IsGoodMove (h : History) (w : WorldCore) (i : ℕ) (given : Option Event) : Type 0 where
+-- something that the job asks has a reply that passes a limit of the wire, or that has no spelling
+abbrev pub HadUnsaidReply : History → Job → Type 0
+HadUnsaidReply h job = HasUnsaidReply h.users (map info_of_state h.devices) job
+
+-- `next_move`: it is the loss of the control connection only where the job is told as out of memory, or had such a reply
+pub record IsGoodMove (h : History) (w : WorldCore) (i : ℕ) (job : Job) (given : Option Event) : Type 0 where
   pub move : (outcome : Outcome) → outcome_at w i ≡ Some outcome → MoveIsKept outcome given
-  pub premises : (event : Event) → given ≡ Some event → MeetsPremises (and_then h (event ∷ []))
+  pub loss : given ≡ Some (LoseControl i) → (starved_at w i ≡ true) ⊎ HadUnsaidReply h job
 
 abbrev pub KeepsMove : WorldCore → ℕ → Option Event → Type 0
-KeepsMove w i given = ForEach w i (λ h job. IsGoodMove h w i given)
+KeepsMove w i given = ForEach w i (λ h job. IsGoodMove h w i job given)
 
 abbrev pub KeepsMoves : WorldCore → ℕ → ℕ → Type 0
 KeepsMoves w i given = ForEach w i (λ h job. (outcome : Outcome) → outcome_at w i ≡ Some outcome → MovesAreKept outcome given)
@@ -156,8 +161,7 @@ pub record RunsOut (h : History) (old new : WorldCore) : Type 0 where
   pub few : length moves ≤ total_left old.endpoints
   pub quiet : AllByRecursion LoadsNothing moves
   pub led : LedTo (and_then h moves) new
-  pub premises : MeetsPremises h → MeetsPremises (and_then h moves)
-  pub over : MeetsPremises h → NoneRuns h.jobs new
+  pub over : NoneRuns h.jobs new
 
 abbrev pub KeepsRunning : WorldCore → WorldCore → Type 0
 KeepsRunning old new = (h : History) → LedTo h old → RunsOut h old new

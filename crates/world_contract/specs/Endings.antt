@@ -3,30 +3,22 @@ use Rattle.std.specs.Prelude.{ℕ, ◌≡◌, ◌≢◌, ◌⊎◌, Bool, true, 
 use Rattle.sane_fixed.specs.declared.status.Status.{Status}
 use Rattle.sane_fixed.specs.declared.status.Status.TheVariants.{Cancelled, DeviceBusy, Inval, Eof, NoDocs, IoError, NoMem, AccessDenied}
 use Rattle.md5_auth.specs.ChallengeReading.{challenge_of}
-use Rattle.page_picture.specs.Page.{PageView}
 use Rattle.page_picture.specs.Meaning.{meaning_of}
 use Rattle.page_picture.specs.declared.scene.DeviceKind.TheVariants.{Feeder}
 use Rattle.scan_frames.specs.declared.setup.Setup.{Setup}
-use Rattle.page_picture.specs.SourceView.{source_state}
-use Rattle.page_picture.specs.declared.sources.kinds.Source.{Source}
 use Rattle.device_api.specs.State.{DeviceState, HeldPage}
 use Rattle.device_api.specs.InForce.{Placement}
 use Rattle.scan_job.specs.declared.job.Job.{Job}
 use Rattle.scan_job.specs.declared.outcome.Why.{Why}
 use Rattle.scan_job.specs.declared.outcome.Why.TheVariants as whys
-use Rattle.scan_world.specs.declared.event.Event.TheVariants.{ToDaemon, ToClient, DataTurn, DataToClient, LoseControl, LoseImage, Cancel, Load, Unplug}
+use Rattle.scan_world.specs.declared.event.Event.TheVariants.{ToDaemon, ToClient, DataTurn, DataToClient, LoseControl, LoseImage, Cancel, Unplug}
 use Rattle.world_refines.specs.GhostStates.{backend_of, is_allowed_for, is_guarded}
 use Rattle.world_contract.specs.Histories.{History}
-use Rattle.world_contract.specs.Page.{AreInForce, Settled, WasIn}
+use Rattle.world_contract.specs.Page.{AreInForce, CameFor, Settled}
 
 -- requests of the job came to the daemon
 abbrev pub WasServed : History → ℕ → Type 0
 WasServed h i = (n : ℕ) × Contains h.events (ToDaemon i n)
-
--- a page source that can fail was in a device of the name as the world was made, or came for one with an event, taken or not
-pub data CanFail (h : History) (name : List ℕ) : Type 0 where
-  FromFirst : (device : DeviceState) (held : HeldPage) → Contains h.devices device → device.info.name ≡ name → Contains device.pages held → held.infallible ≡ false → CanFail h name
-  SinceLoad : (source : Source) → Contains h.events (Load name source) → (source_state source).infallible ≡ false → CanFail h name
 
 -- each device of the name was taken out
 abbrev pub IsUnlisted : History → List ℕ → Type 0
@@ -36,9 +28,9 @@ IsUnlisted h name = (device : DeviceState) → Contains h.devices device → dev
 abbrev pub IsUnforced : History → Job → Type 0
 IsUnforced h job = (device : DeviceState) → Contains h.devices device → device.info.name ≡ job.device → (placed : List Placement) (setup : Setup) → AreInForce device job placed setup → ⊥
 
--- they are, and mean no picture on a page of it
+-- they are, and mean no picture on a page that came for it
 abbrev pub MeansNoPicture : History → Job → Type 0
-MeansNoPicture h job = (s : Settled h job) × (page : PageView) × WasIn h s.device page × (meaning_of page s.setup.scene ≡ None)
+MeansNoPicture h job = (s : Settled h job) × (held : HeldPage) × CameFor h job.device held × (meaning_of held.page s.setup.scene ≡ None)
 
 -- each device of the name is a feeder
 abbrev pub AreFeeders : History → List ℕ → Type 0
@@ -57,7 +49,7 @@ pub data IsEndingExplained (h : History) (i : ℕ) (job : Job) (starved : Bool) 
   GaveUp : (status ≡ Cancelled) × (why ≡ whys.Cancelled) → Contains h.events (Cancel i) → IsEndingExplained h i job starved status why
   LostLink : (status ≡ IoError) × (why ≡ whys.Lost) → Contains h.events (LoseControl i) ⊎ Contains h.events (LoseImage i) → IsEndingExplained h i job starved status why
   Starved : (status ≡ IoError) × (why ≡ whys.Lost) → starved ≡ true → IsEndingExplained h i job starved status why
-  SourceFailed : (status ≡ IoError) × (why ≡ whys.Answer) → WasServed h i ⊎ Contains h.events (DataTurn i) → CanFail h job.device → IsEndingExplained h i job starved status why
+  SourceFailed : (status ≡ IoError) × (why ≡ whys.Answer) → WasServed h i ⊎ Contains h.events (DataTurn i) → (held : HeldPage) → CameFor h job.device held → held.infallible ≡ false → IsEndingExplained h i job starved status why
   NamesEof : (status ≡ IoError) × (why ≡ whys.Short) → Contains h.events (DataTurn i) → (s : Settled h job) → s.setup.told ≡ Some Eof → IsEndingExplained h i job starved status why
   NamesStatus : (status ≢ Eof) × (why ≡ whys.Answer) → Contains h.events (DataTurn i) → (s : Settled h job) → s.setup.told ≡ Some status → IsEndingExplained h i job starved status why
   Unforced : (status ≡ Inval) × ((why ≡ whys.Setting) ⊎ (why ≡ whys.Answer)) → IsUnforced h job → IsEndingExplained h i job starved status why

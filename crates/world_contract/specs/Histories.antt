@@ -1,9 +1,9 @@
--- What was handed to a world over all its calls, that it led to it, and what is assumed of it.
-use Rattle.std.specs.Prelude.{◌≡◌, ◌++◌, true, List, [], All}
+-- What was handed to a world over all its calls, and that it led to it.
+use Rattle.std.specs.Prelude.{◌≡◌, ◌++◌, List, [], All}
 use Rattle.page_picture.specs.SourceView.{source_state}
 use Rattle.md5_auth.specs.declared.users.Entry.{Entry}
 use Rattle.device_api.specs.ScannerLimits.{HasLimits}
-use Rattle.device_api.specs.State.{DeviceState, HeldPage}
+use Rattle.device_api.specs.State.{DeviceState}
 use Rattle.dispatch.specs.RegistryFault.{HaveOwnNames}
 use Rattle.scan_job.specs.declared.job.Job.{Job}
 use Rattle.scan_world.specs.declared.event.Event.{Event}
@@ -26,7 +26,7 @@ begun devices users jobs = record { devices = devices; users = users; jobs = job
 abbrev pub and_then : History → List Event → History
 and_then h events = record h { events = h.events ++ events }
 
--- a new world of these devices, users and jobs, and then these events, led to this one
+-- a new world of these devices, users and jobs, and then these events, led to this one; each device and page was within its limits
 pub record LedTo (h : History) (w : WorldCore) : Type 0 where
   pub first : WorldCore
   pub endpoints : AreNew h.jobs first.endpoints
@@ -35,13 +35,5 @@ pub record LedTo (h : History) (w : WorldCore) : Type 0 where
   pub names : HaveOwnNames h.devices
   pub limits : All HasLimits h.devices
   pub fit : All IsFitJob h.jobs
-  pub runs : Runs source_state h.events first w
-
--- each page in the device is of a source that gives its rows at each pass
-abbrev pub HasSteadyPages : DeviceState → Type 0
-HasSteadyPages device = All (λ (held : HeldPage). held.steady ≡ true) device.pages
-
--- THE PREMISES: the sources of the devices' pages, and of those that were laid in, are steady
-pub record MeetsPremises (h : History) : Type 0 where
-  pub steady : All HasSteadyPages h.devices
   pub loads : AreTrueLoads source_state h.events
+  pub runs : Runs source_state h.events first w

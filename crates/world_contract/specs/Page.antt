@@ -1,13 +1,12 @@
 -- WHAT IS PROMISED of a job that was handed to a world.
-use Rattle.std.specs.Prelude.{ℕ, ◌≡◌, Some, List, Contains}
+use Rattle.std.specs.Prelude.{ℕ, ◌≡◌, true, Some, List, Contains}
 use Rattle.netpbm.specs.Picture.{Picture}
 use Rattle.netpbm.specs.Pnm.{Denotes}
-use Rattle.page_picture.specs.Page.{PageView}
 use Rattle.page_picture.specs.Meaning.{meaning_of}
 use Rattle.page_picture.specs.SourceView.{source_state}
 use Rattle.page_picture.specs.declared.sources.kinds.Source.{Source}
 use Rattle.scan_frames.specs.declared.setup.Setup.{Setup}
-use Rattle.device_api.specs.State.{DeviceState, HeldPage}
+use Rattle.device_api.specs.State.{DeviceState, HeldPage, held_from}
 use Rattle.device_api.specs.InForce.{Placement}
 use Rattle.device_api.specs.Values.{defaults}
 use Rattle.scan_job.specs.declared.job.Job.{Job}
@@ -15,10 +14,14 @@ use Rattle.scan_world.specs.declared.event.Event.TheVariants.{Load}
 use Rattle.world_contract.specs.Histories.{History}
 use Rattle.world_contract.specs.Settings.{AreSettingsPut}
 
--- a page that was in a device as the world was made, or that an event laid into it
-pub data WasIn (h : History) (device : DeviceState) (page : PageView) : Type 0 where
-  AtFirst : (held : HeldPage) → Contains device.pages held → held.page ≡ page → WasIn h device page
-  LaidIn : (source : Source) → Contains h.events (Load device.info.name source) → (source_state source).page ≡ page → WasIn h device page
+-- a page that was in a device of the name as the world was made, or came for one with an event, taken or not
+pub data CameFor (h : History) (name : List ℕ) (held : HeldPage) : Type 0 where
+  AtFirst : (device : DeviceState) → Contains h.devices device → device.info.name ≡ name → Contains device.pages held → CameFor h name held
+  WithEvent : (source : Source) → Contains h.events (Load name source) → held_from (source_state source) ≡ held → CameFor h name held
+
+-- each of them is of a source that gives the page's rows at each pass
+abbrev pub IsSteady : History → List ℕ → Type 0
+IsSteady h name = (held : HeldPage) → CameFor h name held → held.steady ≡ true
 
 -- the job's settings are in force on a device: from its defaults on, each in turn was given the nearest admitted value
 abbrev pub AreInForce : DeviceState → Job → List Placement → Setup → Type 0
@@ -33,11 +36,11 @@ pub record Settled (h : History) (job : Job) : Type 0 where
   pub placed : List Placement
   pub in_force : AreInForce device job placed setup
 
--- a file that denotes exactly the picture that the job's settings mean on a page of its device
+-- a file that denotes exactly the picture that the job's settings mean on a page that came for its device
 pub record IsScan (h : History) (job : Job) (file : List ℕ) : Type 0 where
   pub settled : Settled h job
-  pub page : PageView
-  pub was_in : WasIn h settled.device page
+  pub held : HeldPage
+  pub came : CameFor h job.device held
   pub picture : Picture
-  pub meant : meaning_of page settled.setup.scene ≡ Some picture
+  pub meant : meaning_of held.page settled.setup.scene ≡ Some picture
   pub denotes : Denotes file picture

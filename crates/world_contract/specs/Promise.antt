@@ -13,7 +13,7 @@ use Rattle.scan_job.specs.declared.outcome.Why.{Why}
 use Rattle.scan_job.specs.declared.report.Reports.{Reports}
 use Rattle.scan_world.specs.declared.event.Event.{Event}
 use Rattle.world_contract.specs.Histories.{History}
-use Rattle.world_contract.specs.Page.{IsScan}
+use Rattle.world_contract.specs.Page.{IsScan, IsSteady}
 use Rattle.world_contract.specs.Reports.{AreSettingsAnswered}
 use Rattle.world_contract.specs.Endings.{IsEndingExplained, JobIsPermitted}
 
@@ -39,8 +39,8 @@ pub record OutcomeIsKept (h : History) (i : ℕ) (job : Job) (starved : Bool) (o
 
 -- `file`
 pub record FileIsKept (h : History) (job : Job) (starved : Bool) (outcome : Outcome) (file : Option (List ℕ)) : Type 0 where
-  -- of a scan that is done: exactly the picture that its settings mean on a page of its device
-  pub scanned : (reports : Reports) (bytes : List ℕ) → job.task ≡ tasks.Scan → outcome ≡ Done reports → file ≡ Some bytes → IsScan h job bytes
+  -- of a scan that is done, where the pages that came for its device are steady: exactly the picture that its settings mean on one
+  pub scanned : (reports : Reports) (bytes : List ℕ) → IsSteady h job.device → job.task ≡ tasks.Scan → outcome ≡ Done reports → file ≡ Some bytes → IsScan h job bytes
   -- it is whole only of such a scan: of a job that runs, that ended otherwise, or that is no scan it is not
   pub whole : (bytes : List ℕ) → file ≡ Some bytes → IsWhole bytes → (reports : Reports) × (job.task ≡ tasks.Scan) × (outcome ≡ Done reports)
   -- it is missing only where there was no memory for it
@@ -48,7 +48,7 @@ pub record FileIsKept (h : History) (job : Job) (starved : Bool) (outcome : Outc
 
 -- `file_at` of page k, from 1, of so many that are finished, whatever became of the job
 pub record PageIsKept (h : History) (job : Job) (starved : Bool) (finished k : ℕ) (file : Option (List ℕ)) : Type 0 where
-  pub scanned : (bytes : List ℕ) → file ≡ Some bytes → (0 < k) × (k ≤ finished) × IsScan h job bytes
+  pub scanned : (bytes : List ℕ) → file ≡ Some bytes → (0 < k) × (k ≤ finished) × (IsSteady h job.device → IsScan h job bytes)
   pub missing : 0 < k → k ≤ finished → file ≡ None → starved ≡ true
 
 -- `finished`: a batch that is done has all its pages, or fewer and at least one

@@ -87,7 +87,59 @@ pub fn scan_once(alloc: Global, name: Text, page: Page, users: Users, job: Job) 
     Some(bytes)
 }
 
-/// Two clients want one flatbed with this page, and the second asks while the first one has it. JobAnswers the file of the first
+/// Does one scan on a flatbed with this page as `scan_once` does, beside another flatbed with a page of whatever source: that takes
+/// nothing from a job that names the first.
+pub fn scan_with_another(
+    alloc: Global,
+    name: Text,
+    page: Page,
+    other_name: Text,
+    other_source: Source,
+    users: Users,
+    job: Job,
+) -> Option<Vec<u8>>
+    ensures { IfSome result
+        (λ bytes. job.device ≡ name → job.task ≡ tasks.Scan → IsScanOf page job bytes.items) }
+{
+    let source = Source::Memory(MemoryPage::new(page));
+    let Ok(flatbed) = Flatbed::new(alloc, name, source, ByteOrder::Little) else {
+        return None;
+    };
+    let Ok(scanner) = Box::new(alloc, flatbed) else {
+        return None;
+    };
+    let Ok(other_flatbed) = Flatbed::new(alloc, other_name, other_source, ByteOrder::Little) else {
+        return None;
+    };
+    let Ok(other) = Box::new(alloc, other_flatbed) else {
+        return None;
+    };
+    let mut devices: Vec<Box<dyn Device>> = Vec::new(alloc);
+    if devices.push(scanner).is_err() {
+        return None;
+    }
+    if devices.push(other).is_err() {
+        return None;
+    }
+    let mut jobs = Vec::new(alloc);
+    if jobs.push(job).is_err() {
+        return None;
+    }
+    let Ok(mut world) = World::new(alloc, devices, users, [0; 32], jobs) else {
+        return None;
+    };
+    world.run_all();
+    if !is_done(world.outcome(0)?) {
+        return None;
+    }
+    let mut bytes = Vec::new(alloc);
+    if bytes.extend_from_slice(world.file(0)?).is_err() {
+        return None;
+    }
+    Some(bytes)
+}
+
+/// Two clients want one flatbed with this page, and the second asks while the first one has it. Answers the file of the first
 /// one's scan, and whether the second ended as told that the device is busy: then that is so since another job names it.
 pub fn scan_beside(
     alloc: Global,

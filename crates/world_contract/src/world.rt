@@ -4,6 +4,7 @@ ghost use Rattle.std.specs.Prelude.{◌≡◌, All, IfErr, IfOk, OnOk, map, opti
 ghost use Rattle.device_api.specs.ScannerLimits.{HasLimits};
 ghost use Rattle.dispatch.specs.RegistryFault.{AreRegistrable};
 ghost use Rattle.page_picture.specs.SourceView.{source_state};
+ghost use Rattle.world_refines.specs.MainTheorem.{IsTrueLoad};
 ghost use Rattle.scan_world.specs.Worlds.{HasFaultAmong, IsInitialWorld, MayRun, Runs, seen_world};
 ghost use Rattle.world_contract.specs.Histories.{History, LedTo, and_then, begun};
 ghost use Rattle.world_contract.specs.Calls.{CancelEnds, IsMoveAt, KeepsPageCount, KeepsScanFile, KeepsMemory, KeepsMove, KeepsMoves, KeepsOutcome, KeepsPage, KeepsRunning, LossEnds, MovesFall, OthersStay, OverStays, file_answered, finished_at, left_at, outcome_at, page_answered, starved_at};
@@ -12,6 +13,7 @@ use crate::laws::what_stands_below;
 use device_api::Device;
 use md5_auth::Users;
 use net_backend::{Job, Outcome};
+use page_picture::PageSource;
 use saned_core::Daemon;
 use scan_world::{Event, WorldFault, parts_of};
 use std::alloc::Global;
@@ -28,6 +30,24 @@ fn ask_limits<D: Device>(devices: &[D])
 {
     for device in devices {
         let _ = device.params();
+    }
+}
+
+/// The page that an event brings tells its size, and so that it is within its limits.
+fn ask_page(event: &Event)
+    ensures { IsTrueLoad source_state event.now }
+{
+    if let Event::Load(_, source) = event {
+        let _ = source.size();
+    }
+}
+
+/// So does each of theirs.
+fn ask_pages(events: &[Event])
+    ensures { All (IsTrueLoad source_state) events.now }
+{
+    for event in events {
+        ask_page(event);
     }
 }
 
@@ -96,6 +116,7 @@ impl World {
             let v = seen_world ⟦<Box<dyn Device> as Device>⟧.state self.new.inner in
             LossEnds events.items w v }
     {
+        ask_pages(events.as_slice());
         self.inner.run(events)
     }
 
@@ -125,7 +146,7 @@ impl World {
     }
 
     /// The file of job i under way, as far as it has come. Of a scan that is done it denotes exactly the picture that the
-    /// job's settings mean on a page of its device; of any other job it is not whole.
+    /// job's settings mean on a page of its device, where all that came for it are steady; of any other job it is not whole.
     pub fn file(&self, i: usize) -> Option<&[u8]>
         ensures is { let w = seen_world ⟦<Box<dyn Device> as Device>⟧.state self.now.inner in
             option_map (λ f. f.now) result ≡ file_answered w i }
@@ -137,7 +158,7 @@ impl World {
     }
 
     /// The file of the k-th finished page of a batch, from 1: it denotes the picture that the job's settings mean on a page of
-    /// its device. None where k is 0 or above `finished`, or a growth of that file was refused.
+    /// its device, where all that came for it are steady. None where k is 0 or above `finished`, or a growth of that file was refused.
     pub fn file_at(&self, i: usize, k: u32) -> Option<&[u8]>
         ensures is { let w = seen_world ⟦<Box<dyn Device> as Device>⟧.state self.now.inner in
             option_map (λ f. f.now) result ≡ page_answered w i k }
@@ -171,7 +192,8 @@ impl World {
         self.inner.starved(i)
     }
 
-    /// The next move of job i: it has one just where it runs.
+    /// The next move of job i: it has one just where it runs. It is the loss of the control connection only
+    /// where memory ran out, or where a reply to something that the job asks passes a limit of the wire.
     pub fn next_move(&self, i: usize) -> Option<Event>
         ensures is { let w = seen_world ⟦<Box<dyn Device> as Device>⟧.state self.now.inner in
             IsMoveAt w i result }

@@ -1,5 +1,5 @@
 -- What a delivery of requests to the daemon does: each that is whole with it is answered, and the session goes on or is over.
-use Rattle.std.specs.Prelude.{ℕ, ◌≡◌, ◌++◌, Bool, true, false, cond, List, [], ◌∷◌, length}
+use Rattle.std.specs.Prelude.{ℕ, ◌≡◌, ◌++◌, Bool, true, false, cond, List, [], ◌∷◌, length, map}
 use Rattle.wire_format.specs.Limit.{NeedsMore}
 use Rattle.wire_message.specs.Message.{message_limit, request as request_format}
 use Rattle.system_model.specs.AbstractMessages.{AbstractRequest}
@@ -10,6 +10,18 @@ use Rattle.scan_world.specs.JobEvents.{bytes_not_delivered, delivered_bytes}
 use Rattle.world_refines.specs.GhostStates.{Ghost, job_state, wires}
 use Rattle.world_refines.specs.Wires.{SpellsAsked}
 use Rattle.world_refines.specs.GhostEvents.{GhostTakes}
+use Rattle.md5_auth.specs.declared.users.Entry.{Entry}
+use Rattle.sane_fixed.specs.declared.device_info.DeviceInfo.{DeviceInfo}
+use Rattle.option_desc.specs.declared.descriptor.Descriptor.{Descriptor}
+use Rattle.wire_message.specs.declared.message.Request.{Request}
+use Rattle.wire_message.specs.declared.message.Reply.{Reply}
+use Rattle.saned_requests.specs.declared.request_answer.RequestAnswer.{RequestAnswer}
+use Rattle.saned_requests.specs.RequestAnswers.{Answers, RequestContext}
+use Rattle.saned_core.specs.Feeding.{IsUnsaid, replies_to}
+use Rattle.scan_job.specs.declared.job.Job.{Job}
+use Rattle.client_replies.specs.ProtocolStates.{target_of}
+use Rattle.client_refines.specs.RequestRefinement.{IsRequest}
+use Rattle.world_refines.specs.WorldRefinement.{info_at}
 
 -- the requests that are whole with the piece, the first of those that were sent, and what is left behind them
 pub record Completes (t : Ghost) (i n : ℕ) (asked : List AbstractRequest) (rest : List ℕ) : Type 0 where
@@ -25,6 +37,29 @@ pub record AnswersEach (i : ℕ) (asked : List AbstractRequest) (steps : List Tr
   pub count : length chances ≡ length asked
   pub steps_are : steps ≡ answers i chances
 
+-- These users are asked something by the job, among devices of these infos, and a reply to it passes a limit of the wire, or has no
+-- spelling.
+pub record HasUnsaidReply (users : List Entry) (infos : List DeviceInfo) (job : Job) : Type 0 where
+  pub context : RequestContext
+  pub devices : infos ≡ map info_at context.registry
+  pub request : Request
+  pub known : List Descriptor
+  pub asked : AbstractRequest
+  pub is : IsRequest (target_of job) 0 known request asked
+  pub said : RequestAnswer
+  pub then_is : RequestContext
+  pub answers : Answers users context request said then_is
+  pub before : List Reply
+  pub reply : Reply
+  pub behind : List Reply
+  pub among : replies_to said ≡ before ++ reply ∷ behind
+  pub unsaid : IsUnsaid reply
+
+-- a session that was not out of memory broke off at such a reply
+abbrev pub IsCutShort : Bool → List Entry → List DeviceInfo → Job → Type 0
+IsCutShort true users infos job = Unit {0}
+IsCutShort false users infos job = HasUnsaidReply users infos job
+
 -- the replies that wait behind it; where memory ran out they are dropped
 abbrev pub replies_kept : Bool → List ℕ → List ℕ
 replies_kept memory replies = cond memory [] replies
@@ -36,6 +71,6 @@ pub data AnswersSome (n : ℕ) (t : Ghost) (i : ℕ) (steps : List Transition) (
       GhostTakes t i steps (record (wires t i) { up = bytes_not_delivered n (wires t i).up; asking = rest; down = (wires t i).down ++ told }) u → (job_state u i).served ≡ true → AnswersSome n t i steps u
   IsOver : (asked : List AbstractRequest) (rest told : List ℕ) → Completes t i n asked rest → AnswersEach i asked steps →
       GhostTakes t i steps (record (wires t i) { up = bytes_not_delivered n (wires t i).up; asking = []; down = (wires t i).down ++ told }) u → (job_state t i).served ≡ true → (job_state u i).served ≡ false → AnswersSome n t i steps u
-  BreaksOff : (memory : Bool) (asked : List AbstractRequest) (rest told : List ℕ) (before : List Transition) → Completes t i n asked rest → AnswersEach i asked before → steps ≡ before ++ By i (actions.Breaks memory) ∷ [] →
+  BreaksOff : (memory : Bool) (asked : List AbstractRequest) (rest told : List ℕ) (before : List Transition) → Completes t i n asked rest → AnswersEach i asked before → IsCutShort memory t.users t.infos (t.jobs i) → steps ≡ before ++ By i (actions.Breaks memory) ∷ [] →
       GhostTakes t i steps (record (wires t i) { up = bytes_not_delivered n (wires t i).up; asking = []; down = replies_kept memory ((wires t i).down ++ told) }) u → AnswersSome n t i steps u
   WasOver : (job_state t i).served ≡ false → steps ≡ [] → GhostTakes t i [] (record (wires t i) { up = bytes_not_delivered n (wires t i).up }) u → AnswersSome n t i steps u

@@ -9,7 +9,6 @@ use Rattle.system_model.specs.Devices.{abstract_status, Make}
 use Rattle.system_model.specs.Client.{Idle, abstract_farewell}
 use Rattle.system_model.specs.Daemon.{Waiting, Streaming, Ending}
 use Rattle.system_model.specs.Actions as actions
-use Rattle.page_picture.specs.Page.{IsPageView}
 use Rattle.page_picture.specs.Source.{SourceState}
 use Rattle.system_model.specs.Devices.{Page}
 use Rattle.system_model.specs.AbstractDevices.{Resting, has_room}
@@ -22,6 +21,9 @@ use Rattle.world_refines.specs.GhostStates.{Ghost, Wires, name_at, job_state, wi
 use Rattle.world_refines.specs.Wires.{SpellsAsked}
 use Rattle.scan_world.specs.Worlds.{AtEndpoint, WorldCore}
 use Rattle.world_refines.specs.WorldRefinement.{WorldRefines, client_at_greeting}
+use Rattle.daemon_refines.specs.ContextRefinement.{HasSource}
+use Rattle.device_api.specs.ScannerLimits.{IsHeldPage}
+use Rattle.device_api.specs.State.{held_from}
 
 -- ---- when it can happen
 
@@ -159,12 +161,12 @@ pub record LaysIn (t : Ghost) (name : List ℕ) (page : Page) (steps : List Tran
   pub legal : IsHistory t.system steps
   pub then_is : u ≡ record t { system = after_all t.system steps }
 
--- a source that can fail comes to that name only where a source in its place may fail
+-- a source comes to that name only where it is such as is said of those in its place
 abbrev pub MayHaveSource : List DeviceInfo → (ℕ → Make) → List ℕ → SourceState → Type 0
-MayHaveSource infos make name source = (k : ℕ) → name_at infos k ≡ Some name → (make k).fallible ≡ false → source.infallible ≡ true
+MayHaveSource infos make name source = (k : ℕ) → name_at infos k ≡ Some name → HasSource (make k) (held_from source)
 
--- of a page whose source gives its rows at each pass
+-- of a page within its limits
 abbrev pub LoadsFollow : Type 0
 LoadsFollow =
-    (t : Ghost) (w : WorldCore) (name : List ℕ) (source : SourceState) → source.steady ≡ true → MayHaveSource t.infos t.system.make name source → IsPageView source.page → WorldRefines t w →
+    (t : Ghost) (w : WorldCore) (name : List ℕ) (source : SourceState) → IsHeldPage (held_from source) → MayHaveSource t.infos t.system.make name source → WorldRefines t w →
     GhostLeadsTo (CanLoad t name) (LaysIn t name source.page) t (record w { daemon = core_after_load w.daemon name source })

@@ -1,12 +1,12 @@
 -- What a list of events does to what stands, in whatever order they come, and what is promised behind it.
-use Rattle.std.specs.Prelude.{ℕ, ◌≡◌, ◌≢◌, ◌≤◌, ◌<◌, ◌++◌, true, false, Option, Some, None, IsSome, Bool, List, [], ◌∷◌, All, map, slice_get}
+use Rattle.std.specs.Prelude.{ℕ, ◌≡◌, ◌≢◌, ◌≤◌, ◌<◌, ◌++◌, true, false, Option, Some, None, IsSome, List, [], ◌∷◌, All, map, slice_get, ◌⊎◌}
 use Rattle.sane_fixed.specs.declared.status.Status.{Status}
 use Rattle.sane_fixed.specs.declared.status.Status.TheVariants.{Good, Eof}
 use Rattle.netpbm.specs.Pnm.{IsWhole}
-use Rattle.page_picture.specs.Page.{IsPageView}
 use Rattle.page_picture.specs.Source.{SourceState}
 use Rattle.page_picture.specs.declared.sources.kinds.Source.{Source}
-use Rattle.device_api.specs.State.{DeviceState}
+use Rattle.device_api.specs.ScannerLimits.{HasLimits, IsHeldPage}
+use Rattle.device_api.specs.State.{DeviceState, held_from}
 use Rattle.dispatch.specs.RegistryFault.{HaveOwnNames}
 use Rattle.scan_job.specs.declared.job.Job.{Job}
 use Rattle.scan_job.specs.declared.job.Task.TheVariants as tasks
@@ -17,7 +17,7 @@ use Rattle.sane_fixed.specs.declared.device_info.DeviceInfo.{DeviceInfo}
 use Rattle.system_model.specs.Devices.{Make}
 use Rattle.system_model.specs.Marks.{MarksLead, device_view}
 use Rattle.system_model.specs.MoveRuns.{all_marks}
-use Rattle.system_model.specs.Transitions.{IsHistory, Transition, after_all}
+use Rattle.system_model.specs.Transitions.{IsHistory, Transition, after_all, IsUnderWay}
 use Rattle.scan_world.specs.declared.event.Event.{Event}
 use Rattle.scan_world.specs.declared.event.Event.TheVariants.{Connect, ToDaemon, ToClient, DataConnect, DataTurn, DataToClient, LoseControl, LoseImage, Cancel, Load, Unplug}
 use Rattle.scan_world.specs.declared.event.JobEvent.TheVariants as actions
@@ -28,15 +28,16 @@ use Rattle.scan_world.specs.JobMoves.{IsNextMove, moves_left_of}
 use Rattle.scan_world.specs.Endpoints.{finished_page}
 use Rattle.scan_world.specs.Rounds.{RestsAt}
 use Rattle.scan_world.specs.Worlds.{AreNew, IsFitJob, Runs, WorldCore}
-use Rattle.world_refines.specs.GhostStates.{Ghost}
+use Rattle.world_refines.specs.GhostStates.{Ghost, job_state}
 use Rattle.world_refines.specs.WorldRefinement.{WorldRefines}
 use Rattle.world_refines.specs.Costs.{Pays}
 use Rattle.world_refines.specs.GhostEvents.{GhostCan, MayHaveSource, CanLoad, CanUnplug, GhostConnects, Dials, GivesUp, GhostHappens, LaysIn, LosesControl, LosesImage, TakesOut, GhostTurns}
 use Rattle.world_refines.specs.Answering.{AnswersSome}
 use Rattle.world_refines.specs.ClientDeliveries.{GhostHears}
 use Rattle.world_refines.specs.DataDeliveries.{GhostSees}
-use Rattle.world_refines.specs.NewWorlds.{FailOnlyAt, IsNewDaemon, IsSteady, info_of_state, initial_ghost, make_of}
+use Rattle.world_refines.specs.NewWorlds.{HaveSourcesAt, IsNewDaemon, PageSources, info_of_state, initial_ghost, make_of}
 use Rattle.world_refines.specs.WorldPromises.{FileIsOfFirstStart, HasScannedPage, PagesAreCounted, IsOutcome}
+use Rattle.system_model.specs.Causes.{IsCauseAmong, WasUnsaid}
 
 -- an event takes its steps of the model where it can happen, and changes nothing where it cannot
 abbrev pub GhostComes : (Source → SourceState) → Event → Ghost → List Transition → Ghost → Type 0
@@ -57,16 +58,16 @@ abbrev pub GhostComesAll : (Source → SourceState) → List Event → Ghost →
 GhostComesAll source [] t steps v = (steps ≡ []) × (v ≡ t)
 GhostComesAll source (e ∷ es) t steps v = (first : List Transition) × (more : List Transition) × (u : Ghost) × (steps ≡ first ++ more) × GhostComes source e t first u × GhostComesAll source es u more v
 
--- the source of a page that is laid in gives the page's rows at each pass, and the page is a page view
+-- a page that is laid in is within its limits
 abbrev pub IsTrueLoad : (Source → SourceState) → Event → Type 0
-IsTrueLoad source (Load name page) = ((source page).steady ≡ true) × IsPageView (source page).page
+IsTrueLoad source (Load name page) = IsHeldPage (held_from (source page))
 IsTrueLoad source e = Unit {0}
 
 abbrev pub AreTrueLoads : (Source → SourceState) → List Event → Type 0
 AreTrueLoads source [] = Unit {0}
 AreTrueLoads source (e ∷ es) = IsTrueLoad source e × AreTrueLoads source es
 
--- a page whose source can fail comes only into a device of which that is said
+-- a page comes only into a device of which is said what its source is
 abbrev pub IsFittingLoad : (Source → SourceState) → List DeviceInfo → (ℕ → Make) → Event → Type 0
 IsFittingLoad source infos make (Load name page) = MayHaveSource infos make name (source page)
 IsFittingLoad source infos make e = Unit {0}
@@ -106,6 +107,8 @@ pub record Promises (u : Ghost) (v : WorldCore) : Type 0 where
   pub scans : (i : ℕ) (endpoint : Endpoint) (reports : Reports) (file : List ℕ) → slice_get v.endpoints i ≡ Some endpoint → (u.jobs i).task ≡ tasks.Scan → endpoint.client.outcome ≡ Done reports → endpoint.file ≡ Some file → FileIsOfFirstStart u i file
   pub batches : (i count : ℕ) (endpoint : Endpoint) (reports : Reports) → slice_get v.endpoints i ≡ Some endpoint → (u.jobs i).task ≡ tasks.Batch count → endpoint.client.outcome ≡ Done reports → PagesAreCounted u i count endpoint
   pub moves : (i : ℕ) (endpoint : Endpoint) (event : Option Event) → slice_get v.endpoints i ≡ Some endpoint → IsNextMove v.daemon i endpoint event → (is_running endpoint.client.outcome ≡ true → IsSome event) × (is_running endpoint.client.outcome ≡ false → event ≡ None)
+  -- the loss of its control connection is the next one only where it is told as out of memory, or a reply to it could not be said
+  pub losses : (i : ℕ) (endpoint : Endpoint) → slice_get v.endpoints i ≡ Some endpoint → IsNextMove v.daemon i endpoint (Some (LoseControl i)) → (endpoint.out_of_memory ≡ true) ⊎ (IsUnderWay (job_state u i).client.stage × IsCauseAmong WasUnsaid (job_state u i).session.met)
   -- none runs out of moves: one that has none left is over, and one that rests behind rounds of next moves is
   pub left : (i : ℕ) (endpoint : Endpoint) → slice_get v.endpoints i ≡ Some endpoint → moves_left_of endpoint ≡ 0 → is_running endpoint.client.outcome ≡ false
   pub rests : (i : ℕ) (endpoint : Endpoint) → slice_get v.endpoints i ≡ Some endpoint → RestsAt v i → is_running endpoint.client.outcome ≡ false
@@ -119,6 +122,6 @@ pub record PromisesAreKept (source : Source → SourceState) (events : List Even
 
 abbrev pub AllIsKept : Type 0
 AllIsKept =
-    (source : Source → SourceState) (events : List Event) (fallible : ℕ → Bool) (jobs : List Job) (other : Job) (devices : List DeviceState) (w v : WorldCore) → AreNew jobs w.endpoints → IsNewDaemon devices w.daemon → HaveOwnNames devices → All IsSteady devices → All IsFitJob jobs → AreTrueLoads source events →
-    FailOnlyAt fallible devices → AreFittingLoads source (map info_of_state devices) (λ k. make_of (fallible k) (slice_get devices k)) events →
-    Runs source events w v → PromisesAreKept source events (initial_ghost fallible jobs other devices w.daemon.users w.endpoints) w v
+    (source : Source → SourceState) (events : List Event) (sources : ℕ → PageSources) (jobs : List Job) (other : Job) (devices : List DeviceState) (w v : WorldCore) → AreNew jobs w.endpoints → IsNewDaemon devices w.daemon → HaveOwnNames devices → All HasLimits devices → All IsFitJob jobs → AreTrueLoads source events →
+    HaveSourcesAt sources devices → AreFittingLoads source (map info_of_state devices) (λ k. make_of (sources k) (slice_get devices k)) events →
+    Runs source events w v → PromisesAreKept source events (initial_ghost sources jobs other devices w.daemon.users w.endpoints) w v

@@ -1,19 +1,19 @@
 -- A new world: nothing has happened.
-use Rattle.std.specs.Prelude.{ℕ, ◌≡◌, Bool, true, false, Option, Some, None, List, [], ◌∷◌, All, length, map, slice_get, slice_index_or}
+use Rattle.std.specs.Prelude.{ℕ, ◌≡◌, Bool, Option, Some, None, List, [], ◌∷◌, All, length, map, slice_get, slice_index_or}
 use Rattle.sane_fixed.specs.declared.byte_order.ByteOrder.TheVariants.{Little}
 use Rattle.page_picture.specs.declared.scene.DeviceKind.TheVariants.{Feeder}
 use Rattle.md5_auth.specs.declared.users.Entry.{Entry}
 use Rattle.frame_join.specs.FrameHistory.{empty_history}
 use Rattle.device_api.specs.ScannerLimits.{HasLimits}
 use Rattle.sane_fixed.specs.declared.device_info.DeviceInfo.{DeviceInfo}
-use Rattle.device_api.specs.State.{DeviceState, HeldPage}
+use Rattle.device_api.specs.State.{DeviceState}
 use Rattle.dispatch.specs.RegistryFault.{HaveOwnNames}
 use Rattle.dispatch.specs.Table.{fresh_table}
 use Rattle.saned_core.specs.DaemonStates.{Core}
 use Rattle.scan_job.specs.declared.job.Job.{Job}
 use Rattle.system_model.specs.Devices.{Make}
 use Rattle.system_model.specs.ModelPromises.{initial_state}
-use Rattle.daemon_refines.specs.ContextRefinement.{AreInfallible}
+use Rattle.daemon_refines.specs.ContextRefinement.{HaveSources}
 use Rattle.daemon_refines.specs.Cores.{fresh_devices}
 use Rattle.scan_world.specs.declared.endpoint.Endpoint.{Endpoint}
 use Rattle.scan_world.specs.Worlds.{AreNew, IsFitJob, WorldCore}
@@ -27,19 +27,19 @@ pub record IsNewDaemon (devices : List DeviceState) (core : Core) : Type 0 where
   pub slots : core.slots ≡ None ∷ None ∷ None ∷ None ∷ None ∷ None ∷ None ∷ None ∷ []
   pub opened : core.opened ≡ 0
 
--- a device within its limits, whose sources give their pages' rows at each pass
-pub record IsSteady (s : DeviceState) : Type 0 where
-  pub limits : HasLimits s
-  pub steady : All (λ (held : HeldPage). held.steady ≡ true) s.pages
+-- of the page sources that are ever in a device: whether one can fail, and whether each gives its page's rows at each pass
+pub record PageSources : Type 0 where
+  pub fallible : Bool
+  pub steady : Bool
 
--- what never changes of a device, and whether a page source that is ever in it can fail; where there is none it matters to nobody
-abbrev pub make_of : Bool → Option DeviceState → Make
-make_of fallible None = record { model = Feeder; order = Little; fallible = fallible }
-make_of fallible (Some s) = record { model = s.setup.scene.kind; order = s.setup.order; fallible = fallible }
+-- what never changes of a device, with that; where there is none it matters to nobody
+abbrev pub make_of : PageSources → Option DeviceState → Make
+make_of sources None = record { model = Feeder; order = Little; fallible = sources.fallible; steady = sources.steady }
+make_of sources (Some s) = record { model = s.setup.scene.kind; order = s.setup.order; fallible = sources.fallible; steady = sources.steady }
 
--- only in these places can page sources fail, of all that the devices were handed in with
-abbrev pub FailOnlyAt : (ℕ → Bool) → List DeviceState → Type 0
-FailOnlyAt fallible devices = (k : ℕ) (s : DeviceState) → slice_get devices k ≡ Some s → fallible k ≡ false → AreInfallible s.pages
+-- the sources of the pages that the devices were handed in with are such
+abbrev pub HaveSourcesAt : (ℕ → PageSources) → List DeviceState → Type 0
+HaveSourcesAt sources devices = (k : ℕ) (s : DeviceState) → slice_get devices k ≡ Some s → HaveSources (make_of (sources k) (Some s)) s.pages
 
 -- what a client has written before its connection is made
 abbrev pub wires_of : Option Endpoint → Wires
@@ -50,11 +50,11 @@ abbrev pub info_of_state : DeviceState → DeviceInfo
 info_of_state s = s.info
 
 -- Of these jobs nothing is told yet. (The other job stands for those that there are not.)
-abbrev pub initial_ghost : (ℕ → Bool) → List Job → Job → List DeviceState → List Entry → List Endpoint → Ghost
-initial_ghost fallible jobs other devices users endpoints =
+abbrev pub initial_ghost : (ℕ → PageSources) → List Job → Job → List DeviceState → List Entry → List Endpoint → Ghost
+initial_ghost sources jobs other devices users endpoints =
     let infos = map info_of_state devices in
     record {
-      system = initial_state (λ k. make_of (fallible k) (slice_get devices k)) (fresh_devices devices) (λ i. abstract_job users infos (slice_index_or jobs i other)) (numbers_from 0 infos);
+      system = initial_state (λ k. make_of (sources k) (slice_get devices k)) (fresh_devices devices) (λ i. abstract_job users infos (slice_index_or jobs i other)) (numbers_from 0 infos);
       users = users;
       infos = infos;
       count = length jobs;
@@ -67,8 +67,8 @@ initial_ghost fallible jobs other devices users endpoints =
 -- a new world stands for that
 abbrev pub NewWorldsRefine : Type 0
 NewWorldsRefine =
-    (fallible : ℕ → Bool) (jobs : List Job) (other : Job) (devices : List DeviceState) (w : WorldCore) → AreNew jobs w.endpoints → IsNewDaemon devices w.daemon → HaveOwnNames devices → All IsSteady devices → FailOnlyAt fallible devices → All IsFitJob jobs → WorldRefines (initial_ghost fallible jobs other devices w.daemon.users w.endpoints) w
+    (sources : ℕ → PageSources) (jobs : List Job) (other : Job) (devices : List DeviceState) (w : WorldCore) → AreNew jobs w.endpoints → IsNewDaemon devices w.daemon → HaveOwnNames devices → All HasLimits devices → HaveSourcesAt sources devices → All IsFitJob jobs → WorldRefines (initial_ghost sources jobs other devices w.daemon.users w.endpoints) w
 
 -- its jobs have moves enough for all that is to come
 abbrev pub NewWorldsPay : Type 0
-NewWorldsPay = (fallible : ℕ → Bool) (jobs : List Job) (other : Job) (devices : List DeviceState) (w : WorldCore) → AreNew jobs w.endpoints → All IsFitJob jobs → Pays (initial_ghost fallible jobs other devices w.daemon.users w.endpoints) w
+NewWorldsPay = (sources : ℕ → PageSources) (jobs : List Job) (other : Job) (devices : List DeviceState) (w : WorldCore) → AreNew jobs w.endpoints → All IsFitJob jobs → Pays (initial_ghost sources jobs other devices w.daemon.users w.endpoints) w

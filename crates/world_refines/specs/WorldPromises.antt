@@ -16,7 +16,7 @@ use Rattle.scan_job.specs.declared.outcome.Why.{Why}
 use Rattle.scan_job.specs.declared.report.Report.{Report}
 use Rattle.scan_job.specs.declared.report.Reports.{Reports}
 use Rattle.system_model.specs.AbstractMessages as words
-use Rattle.system_model.specs.Causes.{IsCauseAmong, TrayRanOut}
+use Rattle.system_model.specs.Causes.{IsCauseAmong, TrayRanOut, WasUnsaid}
 use Rattle.system_model.specs.Devices.{Make, OptionsInForce, descriptors_in_force, readable_options, abstract_status}
 use Rattle.system_model.specs.Client as rules
 use Rattle.system_model.specs.AbstractInForce as ruled
@@ -35,6 +35,7 @@ use Rattle.saned_requests.specs.declared.session.StringSize.{StringSize}
 use Rattle.saned_requests.specs.OptionValues.{sent_as}
 use Rattle.wire_message.specs.WireValues.{wire_of}
 use Rattle.scan_world.specs.declared.event.Event.{Event}
+use Rattle.scan_world.specs.declared.event.Event.TheVariants.{LoseControl}
 use Rattle.scan_world.specs.declared.endpoint.Endpoint.{Endpoint}
 use Rattle.scan_world.specs.JobMoves.{IsNextMove}
 use Rattle.scan_world.specs.Worlds.{WorldCore}
@@ -95,22 +96,22 @@ pub record IsMeant (make : Make) (settings : List (List ℕ × List ℕ)) (begin
   pub meant : meaning_of begin.page begin.options.scene ≡ Some picture
   pub denotes : Denotes file picture
 
--- it is the job's first start
+-- it is the job's first start, where the device's sources give their rows at each pass
 pub record FileIsOfFirstStart (t : Ghost) (i : ℕ) (file : List ℕ) : Type 0 where
   pub begin : Begin
   pub later : List Begin
   pub started : (job_state t i).session.started ≡ begin ∷ later
-  pub meant : IsMeant (make_for t.system i) (t.jobs i).settings.items begin file
+  pub meant : (make_for t.system i).steady ≡ true → IsMeant (make_for t.system i) (t.jobs i).settings.items begin file
 
 abbrev pub ScansAreMeant : Type 0
 ScansAreMeant =
     (t : Ghost) (w : WorldCore) (i : ℕ) (endpoint : Endpoint) (reports : Reports) (file : List ℕ) → WorldRefines t w → slice_get w.endpoints i ≡ Some endpoint → (t.jobs i).task ≡ tasks.Scan → endpoint.client.outcome ≡ Done reports → endpoint.file ≡ Some file → FileIsOfFirstStart t i file
 
--- page k of a batch, from 0, is that of its k-th start
+-- page k of a batch, from 0, is that of its k-th start, where they do
 pub record HasScannedPage (t : Ghost) (i k : ℕ) (file : List ℕ) : Type 0 where
   pub begin : Begin
   pub started : slice_get (job_state t i).session.started k ≡ Some begin
-  pub meant : IsMeant (make_for t.system i) (t.jobs i).settings.items begin file
+  pub meant : (make_for t.system i).steady ≡ true → IsMeant (make_for t.system i) (t.jobs i).settings.items begin file
 
 abbrev pub PagesAreMeant : Type 0
 PagesAreMeant =
@@ -132,6 +133,13 @@ BatchesAreCounted =
 abbrev pub NobodyIsStuck : Type 0
 NobodyIsStuck =
     (t : Ghost) (w : WorldCore) (i : ℕ) (endpoint : Endpoint) (event : Option Event) → WorldRefines t w → slice_get w.endpoints i ≡ Some endpoint → IsNextMove w.daemon i endpoint event → (is_running endpoint.client.outcome ≡ true → IsSome event) × (is_running endpoint.client.outcome ≡ false → event ≡ None)
+
+-- A next move is the loss of a control connection only where the job is told as out of memory, or where it is under way and its session
+-- was over at a reply that could not be said.
+abbrev pub LossesAreExplained : Type 0
+LossesAreExplained =
+    (t : Ghost) (w : WorldCore) (i : ℕ) (endpoint : Endpoint) → WorldRefines t w → slice_get w.endpoints i ≡ Some endpoint → IsNextMove w.daemon i endpoint (Some (LoseControl i)) →
+    (endpoint.out_of_memory ≡ true) ⊎ (IsUnderWay (job_state t i).client.stage × IsCauseAmong WasUnsaid (job_state t i).session.met)
 
 -- ---- the size of string values
 

@@ -143,12 +143,12 @@ abbrev pub IsServed : ℕ → (ℕ → Make) → Core → Option SessionId → B
 IsServed i make core link true device s = LinkRefines i make core link device s
 IsServed i make core link false device s = (session_in (slot_of_link core link) ≡ None) × TableRefines i make [] core.registry device
 
--- the source of each page gives the page's rows at each pass, and the page is a page view
-abbrev pub IsSteadyPage : HeldPage → Type 0
-IsSteadyPage held = (held.steady ≡ true) × IsPageView held.page
+-- a page whose source gives its rows at each pass is a page view
+abbrev pub IsFaithfulPage : HeldPage → Type 0
+IsFaithfulPage held = held.steady ≡ true → IsPageView held.page
 
 abbrev pub IsFaithful : DeviceState → Type 0
-IsFaithful s = AllByRecursion IsSteadyPage s.pages
+IsFaithful s = AllByRecursion IsFaithfulPage s.pages
 
 abbrev pub IsFaithfulSlot : Slot DeviceState → Type 0
 IsFaithfulSlot (In s) = IsFaithful s
@@ -249,6 +249,10 @@ pub record SlotsAreOfEndpoints (slots : List (Option (SessionSlot DeviceState)))
   pub linked : (k : ℕ) (slot : SessionSlot DeviceState) → slice_get slots k ≡ Some (Some slot) → IsLinked endpoints slot.number
   pub apart : (j k : ℕ) (a b : SessionSlot DeviceState) → slice_get slots j ≡ Some (Some a) → slice_get slots k ≡ Some (Some b) → a.number ≡ b.number → j ≡ k
 
+-- where the sources of its device give their rows, the pages that a job started are page views
+abbrev pub AreStartedViews : (ℕ → Make) → JobState → Type 0
+AreStartedViews make p = (make p.session.job.wants).steady ≡ true → AllByRecursion (λ (b : Begin). IsPageView b.page) p.session.started
+
 pub record WorldRefines (t : Ghost) (w : WorldCore) : Type 0 where
   pub sound : Invariant t.system
   pub asks : (i : ℕ) → AsksAsHeld t.system i
@@ -261,5 +265,4 @@ pub record WorldRefines (t : Ghost) (w : WorldCore) : Type 0 where
   pub slots : AllByRecursion (IsBelow w.daemon.opened) w.daemon.slots
   pub slots_are : SlotsAreOfEndpoints w.daemon.slots w.endpoints
   pub faithful : AreFaithful w.daemon
-  -- the pages that were started are page views
-  pub begun : (i : ℕ) → AllByRecursion (λ (b : Begin). IsPageView b.page) (t.system.job i).session.started
+  pub begun : (i : ℕ) → AreStartedViews t.system.make (t.system.job i)

@@ -16,6 +16,6 @@ pub use events::{
 };
 pub use histories::{a_run_refines, all_is_kept};
 pub use promises::{
-    a_batch_is_counted, a_scan_is_meant, nobody_is_stuck, outcomes_are_right, pages_are_meant,
-    values_are_read_alike,
+    a_batch_is_counted, a_scan_is_meant, losses_are_explained, nobody_is_stuck, outcomes_are_right,
+    pages_are_meant, values_are_read_alike,
 };

@@ -1,6 +1,6 @@
 //! What is promised of jobs, of whatever a world stands for.
 
-ghost use Rattle.world_refines.specs.WorldPromises.{BatchesAreCounted, NobodyIsStuck, OutcomesAreRight, PagesAreMeant, ScansAreMeant, ValuesAreReadAlike};
+ghost use Rattle.world_refines.specs.WorldPromises.{BatchesAreCounted, LossesAreExplained, NobodyIsStuck, OutcomesAreRight, PagesAreMeant, ScansAreMeant, ValuesAreReadAlike};
 
 /// A job that runs is under way; one that is done kept its promise on its settings, on permission and on its list; one that ended
 /// otherwise has its cause.
@@ -32,6 +32,13 @@ pub fn a_batch_is_counted()
 #[tactic(none)]
 pub fn nobody_is_stuck()
     ensures { NobodyIsStuck }
+{}
+
+/// The next move of a job that runs is the loss of its control connection only where the daemon ended its session for lack of memory,
+/// or at a reply past the limits of the wire.
+#[tactic(none)]
+pub fn losses_are_explained()
+    ensures { LossesAreExplained }
 {}
 
 /// A client reads the same value from a reply, whether its daemon sends a string value as its text and a NUL or fills it up to its

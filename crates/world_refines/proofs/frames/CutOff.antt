@@ -1,6 +1,5 @@
 -- A data connection that is lost for lack of memory; and two tellings of one world.
 use Rattle.std.specs.Prelude.{IsSome}
-use Rattle.std.specs.List.{AllByRecursion}
 use Rattle.std.proofs.Common.{◌≡◌, inl, inr, ◌∙◌, ℕ, zero, suc, ◌<◌, List, [], ◌∷◌, Option, Some, None, Bool, true, false, cond, eqb, refl, sym, ap, subst, slice_get, slice_set}
 use Rattle.frame_join.specs.FrameHistory.{JoinHistory}
 use Rattle.saned_core.specs.declared.session_slot.SessionId.{SessionId}
@@ -11,16 +10,14 @@ use Rattle.system_model.specs.Causes.{LinkOutOfMemory}
 use Rattle.system_model.specs.Actions as actions
 use Rattle.system_model.specs.Actions.{without_image}
 use Rattle.system_model.specs.SystemStates.{JobState, with_entry}
-use Rattle.system_model.specs.AbstractDevices.{Begin}
 use Rattle.system_model.specs.Transitions.{By, IsUnderWay}
 use Rattle.system_model.proofs.JobPromises.{sound_after_all}
-use Rattle.page_picture.specs.Page.{IsPageView}
 use Rattle.daemon_refines.proofs.Moved.{put_there}
 use Rattle.scan_world.specs.declared.endpoint.Endpoint.{Endpoint}
 use Rattle.scan_world.specs.Endpoints.{image_out_of_memory}
 use Rattle.scan_world.specs.Worlds.{WorldCore}
 use Rattle.world_refines.specs.GhostStates.{Ghost, Wires, place_of_info, wired_then}
-use Rattle.world_refines.specs.WorldRefinement.{WiresMatch, IsNobody, IsServed, EndpointRefines, EndpointRefinesAt, WorldRefines, slot_of_link, session_by}
+use Rattle.world_refines.specs.WorldRefinement.{WiresMatch, IsNobody, IsServed, EndpointRefines, EndpointRefinesAt, WorldRefines, slot_of_link, session_by, AreStartedViews}
 use Rattle.world_refines.specs.GhostEvents.{wires_with_image}
 use Rattle.world_refines.proofs.state.EndpointSlots.{reseats_on}
 use Rattle.world_refines.proofs.state.CoreCallsKeep.{is_lost, on_core}
@@ -82,7 +79,7 @@ cut_stands t w i p id h at low link some =
       });
       link = λ x is. inl is;
       reseats = reseats_on after_lost p.link w.daemon id.number;
-      begun = subst (λ (x : JobState). AllByRecursion (λ (b : Begin). IsPageView b.page) x.session.started) (sym job_state) (h.begun i);
+      begun = subst (λ (x : JobState). AreStartedViews t.system.make x) (sym job_state) (h.begun i);
     })
 
 -- ---- what is told of each job is the same

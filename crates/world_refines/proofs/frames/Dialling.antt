@@ -1,8 +1,6 @@
 -- The connection for a frame's data is made.
 use Rattle.std.specs.Prelude.{is_some, IsSome}
-use Rattle.std.specs.List.{AllByRecursion}
 use Rattle.std.proofs.Common.{◌≡◌, ◌⊎◌, inl, inr, ◌∙◌, ℕ, ◌<◌, List, [], ◌∷◌, ◌++◌, Option, Some, None, Bool, true, false, refl, sym, ap, subst, map, slice_get, slice_set}
-use Rattle.page_picture.specs.Page.{IsPageView}
 use Rattle.page_picture.specs.Shows.{Frame}
 use Rattle.sane_fixed.specs.declared.device_info.DeviceInfo.{DeviceInfo}
 use Rattle.data_records.specs.declared.records.RecordPhase.{RecordPhase}
@@ -34,7 +32,7 @@ use Rattle.system_model.specs.Actions as actions
 use Rattle.system_model.specs.Actions.{with_transfer}
 use Rattle.system_model.specs.Devices.{Make}
 use Rattle.system_model.specs.SystemStates.{JobState, make_for, device_for, wanted_place}
-use Rattle.system_model.specs.AbstractDevices.{Begin, AbstractDevice}
+use Rattle.system_model.specs.AbstractDevices.{AbstractDevice}
 use Rattle.system_model.specs.Invariants as sound
 use Rattle.system_model.specs.Transitions.{By, IsImaging}
 use Rattle.system_model.proofs.JobPromises.{sound_after_all}
@@ -53,7 +51,7 @@ use Rattle.scan_world.specs.JobEvents as world
 use Rattle.scan_world.specs.Worlds.{WorldCore}
 use Rattle.world_refines.specs.GhostStates.{Ghost, Wires, place_of_info, wired_then}
 use Rattle.world_refines.specs.Wires.{CarriesFlight, FlightMatches, SpellsReplies, IsNotDialled}
-use Rattle.world_refines.specs.WorldRefinement.{WiresMatch, IsServed, KeepsFiles, Means, WorldRefines, EndpointClientRefines, is_laid, slot_of_link, session_by, client_at_greeting}
+use Rattle.world_refines.specs.WorldRefinement.{WiresMatch, IsServed, KeepsFiles, Means, WorldRefines, EndpointClientRefines, is_laid, slot_of_link, session_by, client_at_greeting, AreStartedViews}
 use Rattle.world_refines.specs.GhostEvents.{Dials, GhostLeads, wires_with_image}
 use Rattle.world_refines.proofs.state.CoreCallsKeep.{input_on, is_connected, on_core, replies_on}
 use Rattle.world_refines.proofs.state.Changing.{stands_change}
@@ -113,7 +111,7 @@ runs_wanted outcomes.Running progress over h = refl
 runs_wanted (outcomes.Done reports) progress over h = absurd (let clash : false ≡ true = subst (λ (x : Progress). IsSome (client.wanted_port x)) (over refl) h in cc)
 runs_wanted (outcomes.Ended status why) progress over h = absurd (let clash : false ≡ true = subst (λ (x : Progress). IsSome (client.wanted_port x)) (over refl) h in cc)
 
-wants_imaging : (place : DeviceInfo → ℕ) (job : Job) (past : JoinHistory) (pages : List JoinHistory) (p : JobState) (endpoint : Endpoint) → EndpointClientRefines place job past pages p endpoint → IsSome (client.wanted_port endpoint.client.progress) → IsImaging p.client.stage
+pub wants_imaging : (place : DeviceInfo → ℕ) (job : Job) (past : JoinHistory) (pages : List JoinHistory) (p : JobState) (endpoint : Endpoint) → EndpointClientRefines place job past pages p endpoint → IsSome (client.wanted_port endpoint.client.progress) → IsImaging p.client.stage
 wants_imaging place job past pages p endpoint h some =
     let runs = runs_wanted endpoint.client.outcome endpoint.client.progress h.over some in
     woken_imaging p.client.stage p.client refl
@@ -312,7 +310,7 @@ dialled_stands t w i p id h at low link some frame =
       });
       link = λ x is. inl is;
       reseats = reseats_on after_connected p.link w.daemon id.number;
-      begun = subst (λ (x : JobState). AllByRecursion (λ (b : Begin). IsPageView b.page) x.session.started) (sym job_state) (h.begun i);
+      begun = subst (λ (x : JobState). AreStartedViews t.system.make x) (sym job_state) (h.begun i);
     }))
 
 -- ---- the event

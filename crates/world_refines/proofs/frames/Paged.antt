@@ -132,7 +132,7 @@ page_meant t w i k endpoint file q h at p is kept =
     record {
       begin = start.begin;
       started = started;
-      meant = meant_by t w i endpoint start.begin q file h at start.picture (all_at (λ (b : Begin). IsPageView b.page) me.session.started k start.begin (h.begun i) started) (p.are.finished k q is) given;
+      meant = λ steady. meant_by t w i endpoint start.begin q file h at start.picture steady (all_at (λ (b : Begin). IsPageView b.page) me.session.started k start.begin (h.begun i steady) started) (p.are.finished k q is) given;
     }
 
 by_place : (t : Ghost) (w : WorldCore) (i k : ℕ) (endpoint : Endpoint) (file : List ℕ) → WorldRefines t w → slice_get w.endpoints i ≡ Some endpoint → k < endpoint.finished → slice_get endpoint.pages k ≡ Some (Some file) → (p : HasPages (t.history i) (t.pages i) endpoint) → ((q : JoinHistory) × (slice_get p.all k ≡ Some q)) ⊎ (length p.all ≤ k) → HasScannedPage t i k file

@@ -55,7 +55,7 @@ use Rattle.scan_world.specs.Worlds.{WorldCore}
 use Rattle.scan_world.proofs.Pulls.{files_laid, laid_always, laid_starved, laid_then}
 use Rattle.world_refines.specs.GhostStates.{Ghost, Wires, place_of_info, ghost_after}
 use Rattle.world_refines.specs.Wires.{CarriesFlight, IsDialled, FlightMatches, FlowsAt, SpellsAsked, SpellsReplies}
-use Rattle.world_refines.specs.WorldRefinement.{WiresMatch, IsServed, KeepsFiles, Means, WorldRefines, EndpointClientRefines, image_bytes, is_laid, slot_of_link, session_by, client_at_greeting}
+use Rattle.world_refines.specs.WorldRefinement.{WiresMatch, IsServed, KeepsFiles, Means, WorldRefines, EndpointClientRefines, image_bytes, is_laid, slot_of_link, session_by, client_at_greeting, AreStartedViews}
 use Rattle.world_refines.specs.GhostEvents.{HasSomeBytes, GhostLeads}
 use Rattle.world_refines.specs.DataDeliveries.{GhostSees, by_all, open_still, wires_after_data}
 use Rattle.world_refines.proofs.job_events.Cancelling.{flows_over}
@@ -511,7 +511,8 @@ seen_stands t w i p n image r h at low has some positive s =
       });
       link = λ id e. inl (sym link ∙ e);
       reseats = subst (λ (x : Option SessionId). Reseats p.link x w.daemon w.daemon) (sym link) (reseats_same p.link w.daemon);
-      begun = subst (λ (x : JobState). AllByRecursion (λ (b : Begin). IsPageView b.page) x.session.started) (sym job_state) (subst (λ (x : List Begin). AllByRecursion (λ (b : Begin). IsPageView b.page) x) (sym c.started) (h.begun i));
+      begun = subst (λ (x : JobState). AreStartedViews t.system.make x) (sym job_state)
+          (λ steady. subst (λ (x : List Begin). AllByRecursion (λ (b : Begin). IsPageView b.page) x) (sym c.started) (h.begun i (ap (λ (j : _). (t.system.make j.wants).steady) (sym c.job) ∙ steady)));
     }))
 
 -- the endpoint behind it, by whether the job runs

@@ -36,7 +36,7 @@ use Rattle.world_refines.specs.WorldRefinement.{AreFaithful, IsBelow, IsFaithful
 use Rattle.world_refines.proofs.state.EndpointSlots.{Reseats, reseats_with, with_number}
 use Rattle.world_refines.proofs.state.CoreCallsKeep.{word_wanted}
 use Rattle.world_refines.proofs.state.Faithful.{on_seat_all, seat_all, session_true}
-use Rattle.world_refines.proofs.state.ReadTrue.{steady_read, stream_true}
+use Rattle.world_refines.proofs.state.ReadTrue.{stream_true}
 use Rattle.world_refines.proofs.state.Sees.{Leaves}
 use Rattle.world_refines.proofs.state.Spoken.{AreSame, same_streamed}
 use Rattle.world_refines.proofs.frames.Turned.{IsShortRecord, Turn, Failed, Gives, Named, Off, Short, Whole, carriage_after, deed_of, dev_after, device_is, is_end, is_turn, job_after, party_is, short_turn, text_of}
@@ -72,7 +72,7 @@ is_seated n slots session now (Some slot) e is = record { slot = slot; old = e; 
 -- ---- its device
 
 turn_kept : (turn : Turn) (i : ℕ) (k : Make) (p : JobState) (dev : AbstractDevice) → IsActionEnabled i k p dev (deed_of turn) → IsKept i dev (dev_after turn dev)
-turn_kept (Gives bytes) i k p dev m = changed i dev _ (own_of i dev.holder (Some i) m.3.1 refl) refl refl
+turn_kept (Gives bytes) i k p dev m = changed i dev _ (own_of i dev.holder (Some i) m.3.reads.1 refl) refl refl
 turn_kept Whole i k p dev m = changed i dev _ (own_of i dev.holder (Some i) m.2.1 refl) refl refl
 turn_kept (Named code) i k p dev m = changed i dev _ (own_of i dev.holder (Some i) m.3.1 refl) refl refl
 turn_kept Short i k p dev m = changed i dev _ (own_of i dev.holder (Some i) m.3.1 refl) refl refl
@@ -165,7 +165,7 @@ streamed_in i make listed d e id table p step buf (word.Waiting w) below faithfu
 streamed_in i make listed d e id table p step buf (word.Streaming w) below faithful h is flows g =
     let s = session_by i table p in
     let wants = p.session.job.wants in
-    let t = core_turns i make id.number d e table s listed p w step buf h refl is (steady_read i make d id.number table s w h is (session_is_true i make d id.number table s h faithful)) g in
+    let t = core_turns i make id.number d e table s listed p w step buf h refl is g in
     let place : t.0 ≡ wants = word_wanted (is_held_by i (table wants).holder) wants w t.0 (eqb w 0) refl t.1 in
     streamed_by i make listed d e id table p step buf below faithful h g (subst (λ (k : ℕ). CoreTurned i make id.number d e table s listed p k step buf) place t.2)
 streamed_in i make listed d e id table p step buf word.Ending below faithful h is flows g =

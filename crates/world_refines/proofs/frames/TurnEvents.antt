@@ -1,8 +1,6 @@
 -- A turn of a job's data connection.
 use Rattle.std.specs.Prelude.{is_some, option_map, IsSome}
-use Rattle.std.specs.List.{AllByRecursion}
 use Rattle.std.proofs.Common.{◌≡◌, ◌⊎◌, inl, inr, ◌∙◌, ℕ, ◌<◌, List, [], ◌∷◌, ◌++◌, Option, Some, None, Bool, true, false, refl, sym, ap, subst, slice_get, slice_set}
-use Rattle.page_picture.specs.Page.{IsPageView}
 use Rattle.sane_fixed.specs.declared.status.Status.TheVariants as codes
 use Rattle.sane_fixed.specs.Status.{status_code}
 use Rattle.sane_fixed.specs.declared.device_info.DeviceInfo.{DeviceInfo}
@@ -26,7 +24,7 @@ use Rattle.system_model.specs.Daemon.{TransferState, Quiet, Waiting, Streaming, 
 use Rattle.system_model.specs.Actions as actions
 use Rattle.system_model.specs.Actions.{device_after, job_after_action}
 use Rattle.system_model.specs.Devices.{Make}
-use Rattle.system_model.specs.AbstractDevices.{Begin, AbstractDevice}
+use Rattle.system_model.specs.AbstractDevices.{AbstractDevice}
 use Rattle.system_model.specs.SystemStates.{JobState, listed_devices, make_for, with_entry, device_for}
 use Rattle.system_model.specs.Transitions.{By, IsActionEnabled, Transition}
 use Rattle.system_model.proofs.JobPromises.{sound_after_all}
@@ -41,7 +39,7 @@ use Rattle.scan_world.specs.JobEvents as world
 use Rattle.scan_world.specs.Worlds.{WorldCore}
 use Rattle.world_refines.specs.GhostStates.{Ghost, Wires, place_of_info, wired_then}
 use Rattle.world_refines.specs.Wires.{CarriesFlight, IsDialled, FlightMatches, FlowsAt}
-use Rattle.world_refines.specs.WorldRefinement.{WiresMatch, HasNoEnd, IsServed, KeepsFiles, Means, WorldRefines, EndpointClientRefines, image_bytes, is_laid, slot_of_link, session_by}
+use Rattle.world_refines.specs.WorldRefinement.{WiresMatch, HasNoEnd, IsServed, KeepsFiles, Means, WorldRefines, EndpointClientRefines, image_bytes, is_laid, slot_of_link, session_by, AreStartedViews}
 use Rattle.world_refines.specs.GhostEvents.{GhostCan, GhostLeads, GhostTurns, wires_with_image, with_record}
 use Rattle.world_refines.proofs.state.CoreCallsKeep.{on_core}
 use Rattle.world_refines.proofs.job_events.Cancelling.{other_cause}
@@ -71,7 +69,7 @@ carried_turned (Failed fault) phase text flight short c = (codes.IoError, refl, 
 carried_turned Off phase text flight short c = (codes.Cancelled, refl, carries_end phase text flight (status_code codes.Cancelled) c)
 
 -- a frame that is streamed, or to be ended
-abbrev Started : TransferState → Type 0
+abbrev pub Started : TransferState → Type 0
 Started c = (c ≡ Streaming) ⊎ (c ≡ Ending)
 
 to_dialled : (c : TransferState) (progress : Progress) (phase : RecordPhase) (image : Option (List ℕ)) (flight : List ℕ) (ending : Option Status) → Started c → FlowsAt c progress phase image flight ending → IsDialled progress phase image flight ending
@@ -254,7 +252,7 @@ turned_stands t w i p id im mid step buf h at low link image served started some
       });
       link = λ x is. inl is;
       reseats = turned.reseats p.link;
-      begun = subst (λ (x : JobState). AllByRecursion (λ (b : Begin). IsPageView b.page) x.session.started) (sym job_state) (h.begun i);
+      begun = subst (λ (x : JobState). AreStartedViews t.system.make x) (sym job_state) (h.begun i);
     })
 
 -- ---- there is no memory for the record
@@ -305,7 +303,7 @@ pub record IsStarted (i : ℕ) (make : ℕ → Make) (core : Core) (id : Session
   pub started : Started p.session.transfer
   pub shows : SessionRefines i make core id.number device (session_by i device p)
 
-started_by : (i : ℕ) (make : ℕ → Make) (core : Core) (id : SessionId) (served : Bool) (device : ℕ → AbstractDevice) (p : JobState) → p.served ≡ served → IsServed i make core (Some id) served device (session_by i device p) → world.IsFlowing (world.frame_state_at core id.number) → IsStarted i make core id device p
+pub started_by : (i : ℕ) (make : ℕ → Make) (core : Core) (id : SessionId) (served : Bool) (device : ℕ → AbstractDevice) (p : JobState) → p.served ≡ served → IsServed i make core (Some id) served device (session_by i device p) → world.IsFlowing (world.frame_state_at core id.number) → IsStarted i make core id device p
 started_by i make core id true device p is h f =
     record {
       served = is;

@@ -1,8 +1,6 @@
 -- The loss of a data connection.
 use Rattle.std.specs.Prelude.{option_map, is_some, IsSome}
-use Rattle.std.specs.List.{AllByRecursion}
 use Rattle.std.proofs.Common.{◌≡◌, ◌⊎◌, inl, inr, ◌∙◌, ℕ, ◌<◌, List, [], ◌∷◌, Option, Some, None, Bool, true, false, refl, sym, ap, subst, map, slice_get, slice_set}
-use Rattle.page_picture.specs.Page.{IsPageView}
 use Rattle.page_picture.specs.Shows.{Frame}
 use Rattle.sane_fixed.specs.declared.device_info.DeviceInfo.{DeviceInfo}
 use Rattle.data_records.specs.declared.records.RecordPhase.{RecordPhase}
@@ -28,7 +26,6 @@ use Rattle.system_model.specs.Daemon.{TransferState, Quiet, Waiting, Streaming, 
 use Rattle.system_model.specs.Actions as actions
 use Rattle.system_model.specs.Actions.{left_by_loss, without_image}
 use Rattle.system_model.specs.SystemStates.{JobState}
-use Rattle.system_model.specs.AbstractDevices.{Begin}
 use Rattle.system_model.specs.Transitions.{By, IsImaging, IsUnderWay}
 use Rattle.system_model.proofs.JobPromises.{sound_after_all}
 use Rattle.client_refines.specs.ClientRefinement.{ClientRefines, OutcomeRefines, WaitsAs}
@@ -41,7 +38,7 @@ use Rattle.scan_world.specs.JobEvents as world
 use Rattle.scan_world.specs.Worlds.{WorldCore}
 use Rattle.world_refines.specs.GhostStates.{Ghost, Wires, place_of_info, wired_then}
 use Rattle.world_refines.specs.Wires.{FlightMatches, FlowsBy}
-use Rattle.world_refines.specs.WorldRefinement.{WiresMatch, HasNoEnd, IsServed, Means, WorldRefines, EndpointClientRefines, image_bytes, slot_of_link, session_by, client_at_greeting}
+use Rattle.world_refines.specs.WorldRefinement.{WiresMatch, HasNoEnd, IsServed, Means, WorldRefines, EndpointClientRefines, image_bytes, slot_of_link, session_by, client_at_greeting, AreStartedViews}
 use Rattle.world_refines.specs.GhostEvents.{GhostLeads, LosesImage, wires_with_image}
 use Rattle.world_refines.proofs.state.CoreCallsKeep.{input_on, is_lost, on_core, replies_on}
 use Rattle.world_refines.proofs.job_events.Cancelling.{flows_over, other_cause}
@@ -210,7 +207,7 @@ unimaged_stands t w i p id h at low link some =
       });
       link = λ x is. inl is;
       reseats = reseats_on after_lost p.link w.daemon id.number;
-      begun = subst (λ (x : JobState). AllByRecursion (λ (b : Begin). IsPageView b.page) x.session.started) (sym job_state) (h.begun i);
+      begun = subst (λ (x : JobState). AreStartedViews t.system.make x) (sym job_state) (h.begun i);
     }))
 
 -- ---- the event

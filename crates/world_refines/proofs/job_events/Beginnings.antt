@@ -27,7 +27,7 @@ use Rattle.system_model.specs.AbstractDevices.{AreShaped, DeviceInvariant, IsSto
 use Rattle.system_model.specs.SystemStates.{initial_job}
 use Rattle.system_model.proofs.JobPromises.{beginning_sound}
 use Rattle.client_refines.proofs.SilentCalls.{made_alike}
-use Rattle.daemon_refines.specs.ContextRefinement.{TableRefines, page_views}
+use Rattle.daemon_refines.specs.ContextRefinement.{TableRefines, page_views, HaveSources}
 use Rattle.daemon_refines.specs.Cores.{fresh_device, fresh_devices}
 use Rattle.daemon_refines.proofs.Beginning.{registries_show}
 use Rattle.daemon_refines.proofs.Moved.{unsome}
@@ -36,9 +36,9 @@ use Rattle.scan_world.specs.Endpoints.{IsNew, budget_of, no_pages}
 use Rattle.scan_world.specs.JobEvents.{is_done}
 use Rattle.scan_world.specs.Worlds.{AreNew, WorldCore}
 use Rattle.world_refines.specs.GhostStates.{name_at, place_of_info, abstract_job}
-use Rattle.world_refines.specs.WorldRefinement.{HaveDifferentNames, SlotsAreOfEndpoints, IsBelow, IsFaithful, IsFaithfulPlace, IsFaithfulSessionSlot, IsSteadyPage, KeepsFiles, Means, EndpointRefines, EndpointRefinesAt, EndpointClientRefines, info_at, is_laid}
+use Rattle.world_refines.specs.WorldRefinement.{HaveDifferentNames, SlotsAreOfEndpoints, IsBelow, IsFaithful, IsFaithfulPlace, IsFaithfulSessionSlot, IsFaithfulPage, KeepsFiles, Means, EndpointRefines, EndpointRefinesAt, EndpointClientRefines, info_at, is_laid}
 use Rattle.world_refines.proofs.state.EndpointSlots.{none_seated}
-use Rattle.world_refines.specs.NewWorlds.{FailOnlyAt, info_of_state, initial_ghost, IsNewDaemon, IsSteady, make_of, NewWorldsRefine, wires_of}
+use Rattle.world_refines.specs.NewWorlds.{HaveSourcesAt, info_of_state, initial_ghost, IsNewDaemon, PageSources, make_of, NewWorldsRefine, wires_of}
 use Rattle.world_refines.proofs.state.Faithful.{cancel_true}
 use Rattle.world_refines.proofs.state.Waiting.{waits_first}
 use Rattle.world_refines.proofs.state.WorldPending.{no_reply_none, no_request_none, receives_greeting}
@@ -101,7 +101,7 @@ unfolding IsPageShaped
 shaped [] h = tt
 shaped (p ∷ pages) h = (h.0.shape, shaped pages h.1)
 
-fit_one : (b : Bool) (s : DeviceState) → HasLimits s → DeviceInvariant (make_of b (Some s)) (fresh_device (Some s))
+fit_one : (b : PageSources) (s : DeviceState) → HasLimits s → DeviceInvariant (make_of b (Some s)) (fresh_device (Some s))
 unfolding AreOptionsAllowed
 fit_one b s h =
     let c = after_cancel s in
@@ -112,11 +112,11 @@ fit_one b s h =
       shaped = shaped c.pages (cancelled_held s.phase s (all_each IsHeldPage s.pages h.pages));
     }
 
-fit_none : (b : Bool) → DeviceInvariant (make_of b None) (fresh_device None)
+fit_none : (b : PageSources) → DeviceInvariant (make_of b None) (fresh_device None)
 unfolding AreOptionsAllowed
 fit_none b = record { laid_down = λ _. refl; allowed = defaults_allowed Flatbed Little; stocked = omega arith; shaped = tt }
 
-fit_at : (b : Bool) (o : Option DeviceState) → ((s : DeviceState) → o ≡ Some s → HasLimits s) → DeviceInvariant (make_of b o) (fresh_device o)
+fit_at : (b : PageSources) (o : Option DeviceState) → ((s : DeviceState) → o ≡ Some s → HasLimits s) → DeviceInvariant (make_of b o) (fresh_device o)
 fit_at b None h = fit_none b
 fit_at b (Some s) h = fit_one b s (h s refl)
 
@@ -126,16 +126,16 @@ free_at (Some s) = refl
 
 -- ---- and true to their pages
 
-true_one : (pages : List HeldPage) → AllByRecursion IsHeldPage pages → AllByRecursion (λ (held : HeldPage). held.steady ≡ true) pages → AllByRecursion IsSteadyPage pages
-true_one [] h s = tt
-true_one (p ∷ pages) h s = ((s.0, h.0.view s.0), true_one pages h.1 s.1)
+true_one : (pages : List HeldPage) → AllByRecursion IsHeldPage pages → AllByRecursion IsFaithfulPage pages
+true_one [] h = tt
+true_one (p ∷ pages) h = (h.0.view, true_one pages h.1)
 
-steady_true : (s : DeviceState) → IsSteady s → IsFaithful s
-steady_true s h = true_one s.pages (all_each IsHeldPage s.pages h.limits.pages) (all_each (λ (held : HeldPage). held.steady ≡ true) s.pages h.steady)
+device_true : (s : DeviceState) → HasLimits s → IsFaithful s
+device_true s h = true_one s.pages (all_each IsHeldPage s.pages h.pages)
 
-table_true : (devices : List DeviceState) → AllByRecursion IsSteady devices → AllByRecursion IsFaithfulPlace (fresh_table devices)
+table_true : (devices : List DeviceState) → AllByRecursion HasLimits devices → AllByRecursion IsFaithfulPlace (fresh_table devices)
 table_true [] h = tt
-table_true (s ∷ devices) h = (cancel_true s (steady_true s h.0), table_true devices h.1)
+table_true (s ∷ devices) h = (cancel_true s (device_true s h.0), table_true devices h.1)
 
 -- ---- their infos
 
@@ -230,22 +230,18 @@ new_means users infos job c h =
 -- ---- the world
 
 -- nobody holds a device
-fallible_is : (b : Bool) (o : Option DeviceState) → (make_of b o).fallible ≡ b
-fallible_is b None = refl
-fallible_is b (Some s) = refl
-
-new_table : (fallible : ℕ → Bool) (i : ℕ) (devices : List DeviceState) → FailOnlyAt fallible devices → TableRefines i (λ k. make_of (fallible k) (slice_get devices k)) [] (fresh_table devices) (fresh_devices devices)
-new_table fallible i devices only = registries_show i (λ k. make_of (fallible k) (slice_get devices k)) devices (λ k s e. record {
-  infallible = λ f. only k s e (sym (fallible_is (fallible k) (slice_get devices k)) ∙ f);
-  kind = ap (λ (o : Option DeviceState). (make_of (fallible k) o).model) e;
-  order = ap (λ (o : Option DeviceState). (make_of (fallible k) o).order) e;
+new_table : (sources : ℕ → PageSources) (i : ℕ) (devices : List DeviceState) → HaveSourcesAt sources devices → TableRefines i (λ k. make_of (sources k) (slice_get devices k)) [] (fresh_table devices) (fresh_devices devices)
+new_table sources i devices only = registries_show i (λ k. make_of (sources k) (slice_get devices k)) devices (λ k s e. record {
+  sources = subst (λ (o : Option DeviceState). HaveSources (make_of (sources k) o) s.pages) (sym e) (only k s e);
+  kind = ap (λ (o : Option DeviceState). (make_of (sources k) o).model) e;
+  order = ap (λ (o : Option DeviceState). (make_of (sources k) o).order) e;
 })
 
-new_sits : (fallible : ℕ → Bool) (jobs : List Job) (other : Job) (devices : List DeviceState) (w : WorldCore) (i : ℕ) (p : Endpoint) → FailOnlyAt fallible devices → IsNewDaemon devices w.daemon → IsNewAt jobs i p → slice_get w.endpoints i ≡ Some p → EndpointRefinesAt (initial_ghost fallible jobs other devices w.daemon.users w.endpoints) w.daemon i p
-new_sits fallible jobs other devices w i p only d n at =
+new_sits : (sources : ℕ → PageSources) (jobs : List Job) (other : Job) (devices : List DeviceState) (w : WorldCore) (i : ℕ) (p : Endpoint) → HaveSourcesAt sources devices → IsNewDaemon devices w.daemon → IsNewAt jobs i p → slice_get w.endpoints i ≡ Some p → EndpointRefinesAt (initial_ghost sources jobs other devices w.daemon.users w.endpoints) w.daemon i p
+new_sits sources jobs other devices w i p only d n at =
     let users = w.daemon.users in
     let infos = map info_of_state devices in
-    let make = λ (k : ℕ). make_of (fallible k) (slice_get devices k) in
+    let make = λ (k : ℕ). make_of (sources k) (slice_get devices k) in
     let device = fresh_devices devices in
     let job_is : slice_index_or jobs i other ≡ n.job = at_index jobs i n.job other n.at in
     subst (λ (job : Job). EndpointRefines users infos job make device i (initial_job (abstract_job users infos job)) (wires_of (slice_get w.endpoints i)) empty_history [] w.daemon p) (sym job_is)
@@ -255,7 +251,7 @@ new_sits fallible jobs other devices w i p only d n at =
       talks = new_talks users infos n.job p.client n.new.client;
       carries = record { up = refl; asking = refl; down = refl; telling = ap (λ (v : ClientState). v.input.rest) n.new.client.value; image = refl };
       means = new_means users infos n.job p.client n.new.client;
-      served = (refl, subst (λ (t : Table). TableRefines i make [] t device) (sym d.registry) (new_table fallible i devices only));
+      served = (refl, subst (λ (t : Table). TableRefines i make [] t device) (sym d.registry) (new_table sources i devices only));
       speaks = tt;
       waits = waits_first p.client.progress [] (ap (λ (v : ClientState). v.progress) n.new.client.value);
       pends = record { asking = no_request_none; telling = λ on. no_reply_none p.client.progress; reading = λ e. absurd (receives_greeting p.client.outcome p.client.progress (ap (λ (v : ClientState). v.progress) n.new.client.value) e) };
@@ -265,12 +261,12 @@ unlinked : (jobs : List Job) (i : ℕ) (p : Endpoint) (id : SessionId) → IsNew
 unlinked jobs i p id n e = let clash : None ≡ Some id = sym (ap (λ (x : Endpoint). x.link) n.new.rest) ∙ e in absurd (cc)
 
 pub new_worlds_stand : NewWorldsRefine
-new_worlds_stand fallible jobs other devices w new d names steady only fit =
-    let t = initial_ghost fallible jobs other devices w.daemon.users w.endpoints in
-    let all = all_each IsSteady devices steady in
+new_worlds_stand sources jobs other devices w new d names limits only fit =
+    let t = initial_ghost sources jobs other devices w.daemon.users w.endpoints in
+    let all = all_each HasLimits devices limits in
     record {
       sound = beginning_sound t.system.make t.system.device (λ i. abstract_job w.daemon.users t.infos (slice_index_or jobs i other)) t.system.places (λ k. free_at (slice_get devices k))
-          (λ k. fit_at (fallible k) (slice_get devices k) (λ s e. (all_there IsSteady devices k s all e).limits));
+          (λ k. fit_at (sources k) (slice_get devices k) (λ s e. all_there HasLimits devices k s all e));
       asks = λ i. tt;
       shown = λ i. tt;
       is_of = record {
@@ -281,13 +277,13 @@ new_worlds_stand fallible jobs other devices w new d names steady only fit =
         places = refl;
         counts = λ i low. (fit i other low).1;
       };
-      endpoints = λ i p at. new_sits fallible jobs other devices w i p only d (new_at jobs w.endpoints i p new at) at;
+      endpoints = λ i p at. new_sits sources jobs other devices w i p only d (new_at jobs w.endpoints i p new at) at;
       beyond = λ i high. record {
         stage = refl;
         linked = refl;
         transfer = refl;
         image = ap (λ (o : Option Endpoint). (wires_of o).image) (past_end w.endpoints i high);
-        table = subst (λ (r : Table). TableRefines i t.system.make [] r t.system.device) (sym d.registry) (new_table fallible i devices only);
+        table = subst (λ (r : Table). TableRefines i t.system.make [] r t.system.device) (sym d.registry) (new_table sources i devices only);
       };
       own = λ i j a b x y at_a at_b is_x is_y same. absurd (unlinked jobs i a x (new_at jobs w.endpoints i a new at_a) is_x);
       links = λ i p id at is. absurd (unlinked jobs i p id (new_at jobs w.endpoints i p new at) is);
@@ -297,5 +293,5 @@ new_worlds_stand fallible jobs other devices w new d names steady only fit =
         lying = subst (λ (r : Table). AllByRecursion IsFaithfulPlace r) (sym d.registry) (table_true devices all);
         lent = subst (λ (slots : List (Option (SessionSlot DeviceState))). AllByRecursion IsFaithfulSessionSlot slots) (sym d.slots) (tt, (tt, (tt, (tt, (tt, (tt, (tt, (tt, tt))))))));
       };
-      begun = λ i. tt;
+      begun = λ i steady. tt;
     }

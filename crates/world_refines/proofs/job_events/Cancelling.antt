@@ -1,8 +1,6 @@
 -- A job that is given up.
 use Rattle.std.proofs.Common.{◌≡◌, ◌≢◌, ◌⊎◌, inl, inr, ◌∙◌, ℕ, ◌<◌, List, [], ◌∷◌, ◌++◌, Option, Some, Bool, true, false, refl, sym, ap, subst, map, slice_get, slice_set, append_assoc}
 use Rattle.std.specs.Prelude.{cond}
-use Rattle.std.specs.List.{AllByRecursion}
-use Rattle.page_picture.specs.Page.{IsPageView}
 use Rattle.sane_fixed.specs.declared.device_info.DeviceInfo.{DeviceInfo}
 use Rattle.page_picture.specs.Shows.{Frame}
 use Rattle.frame_join.specs.FrameHistory.{JoinHistory, is_joined}
@@ -29,7 +27,7 @@ use Rattle.system_model.specs.Actions as actions
 use Rattle.system_model.specs.Actions.{job_after_action, with_cause}
 use Rattle.system_model.specs.Devices.{Make}
 use Rattle.system_model.specs.SystemStates.{JobState, device_for, wanted_place}
-use Rattle.system_model.specs.AbstractDevices.{Begin, AbstractDevice}
+use Rattle.system_model.specs.AbstractDevices.{AbstractDevice}
 use Rattle.system_model.specs.Invariants.{StageInvariant as SoundTalks}
 use Rattle.system_model.specs.Transitions.{By, IsUnderWay}
 use Rattle.system_model.proofs.JobPromises.{sound_after_all}
@@ -45,7 +43,7 @@ use Rattle.scan_world.specs.JobEvents.{is_done}
 use Rattle.scan_world.specs.Worlds.{WorldCore}
 use Rattle.world_refines.specs.GhostStates.{Ghost, Wires, place_of_info, wired_then}
 use Rattle.world_refines.specs.Wires.{FlightMatches, SpellsAsked}
-use Rattle.world_refines.specs.WorldRefinement.{KeepsFiles, Means, WorldRefines, EndpointClientRefines, is_laid, slot_of_link, client_at_greeting}
+use Rattle.world_refines.specs.WorldRefinement.{KeepsFiles, Means, WorldRefines, EndpointClientRefines, is_laid, slot_of_link, client_at_greeting, AreStartedViews}
 use Rattle.world_refines.specs.GhostEvents.{GivesUp, GhostLeads}
 use Rattle.world_refines.proofs.state.Changing.{stands_change}
 use Rattle.world_refines.proofs.state.Held.{held_after_all}
@@ -208,7 +206,7 @@ given_up_stands t w i p out h at low runs c text =
       });
       link = λ id e. inl e;
       reseats = reseats_same p.link w.daemon;
-      begun = subst (λ (x : JobState). AllByRecursion (λ (b : Begin). IsPageView b.page) x.session.started) (sym (one_party t i actions.Stops bytes (t.history i) (t.pages i))) (h.begun i);
+      begun = subst (λ (x : JobState). AreStartedViews t.system.make x) (sym (one_party t i actions.Stops bytes (t.history i) (t.pages i))) (h.begun i);
     }))
 
 runs_or : (b : Bool) → (b ≡ true) ⊎ (b ≡ true → ⊥)

@@ -1,5 +1,5 @@
 -- What no event changes: the users, the devices' infos, the jobs, and what never changes of each device.
-use Rattle.std.proofs.Common.{◌≡◌, ◌∙◌, ◌⊎◌, ℕ, List, [], ◌∷◌, ◌++◌, Some, inl, inr, refl, sym, ap}
+use Rattle.std.proofs.Common.{◌≡◌, ◌∙◌, ◌⊎◌, ℕ, List, [], ◌∷◌, inl, inr, refl, ap}
 use Rattle.page_picture.specs.Source.{SourceState}
 use Rattle.page_picture.specs.declared.sources.kinds.Source.{Source}
 use Rattle.sane_fixed.specs.declared.device_info.DeviceInfo.{DeviceInfo}
@@ -54,7 +54,7 @@ fixed_sends t i deed text steps u (inr h) = takes t i steps _ u h.1
 fixed_answers : (n : ℕ) (t : Ghost) (i : ℕ) (steps : List Transition) (u : Ghost) → AnswersSome n t i steps u → fixed_of u ≡ fixed_of t
 fixed_answers n t i steps u (GoesOn asked rest said a b c h on) = takes t i steps _ u h
 fixed_answers n t i steps u (IsOver asked rest said a b h was over) = takes t i steps _ u h
-fixed_answers n t i steps u (BreaksOff memory asked rest said before a b c h) = takes t i steps _ u h
+fixed_answers n t i steps u (BreaksOff memory asked rest said before a b cut c h) = takes t i steps _ u h
 fixed_answers n t i steps u (WasOver a b h) = takes t i [] _ u h
 
 fixed_hears : (n : ℕ) (t : Ghost) (i : ℕ) (steps : List Transition) (u : Ghost) → GhostHears n t i steps u → fixed_of u ≡ fixed_of t

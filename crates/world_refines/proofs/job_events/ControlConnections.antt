@@ -1,7 +1,5 @@
 -- A control connection is made.
-use Rattle.std.specs.List.{AllByRecursion}
 use Rattle.std.proofs.Common.{◌≡◌, ◌≢◌, ◌⊎◌, inl, inr, ◌∙◌, ℕ, ◌<◌, List, [], ◌∷◌, ◌++◌, Option, Some, None, Bool, true, false, refl, sym, ap, subst, map, slice_get, slice_set, arith}
-use Rattle.page_picture.specs.Page.{IsPageView}
 use Rattle.sane_fixed.specs.declared.device_info.DeviceInfo.{DeviceInfo}
 use Rattle.device_api.specs.State.{DeviceState}
 use Rattle.data_records.specs.declared.records.RecordPhase.{RecordPhase}
@@ -23,7 +21,7 @@ use Rattle.system_model.specs.Daemon.{TransferState, Quiet}
 use Rattle.system_model.specs.Actions as actions
 use Rattle.system_model.specs.Actions.{session_after_loss, after_connection}
 use Rattle.system_model.specs.SystemStates.{JobState, make_for, device_for, wanted_place}
-use Rattle.system_model.specs.AbstractDevices.{Begin, device_let_go}
+use Rattle.system_model.specs.AbstractDevices.{device_let_go}
 use Rattle.system_model.specs.Invariants as sound
 use Rattle.system_model.specs.Transitions.{By, IsHistory, IsUnderWay, Transition, after_transition}
 use Rattle.system_model.proofs.JobPromises.{sound_after_all}
@@ -38,7 +36,7 @@ use Rattle.scan_world.specs.JobEvents as world
 use Rattle.scan_world.specs.Worlds.{WorldCore}
 use Rattle.world_refines.specs.GhostStates.{Ghost, Wires, place_of_info, wired_then}
 use Rattle.world_refines.specs.Wires.{FlightMatches, NothingFlows, SpellsAsked}
-use Rattle.world_refines.specs.WorldRefinement.{WiresMatch, IsServed, KeepsFiles, Means, WorldRefines, EndpointClientRefines, is_laid, slot_of_link, session_by, client_at_greeting}
+use Rattle.world_refines.specs.WorldRefinement.{WiresMatch, IsServed, KeepsFiles, Means, WorldRefines, EndpointClientRefines, is_laid, slot_of_link, session_by, client_at_greeting, AreStartedViews}
 use Rattle.world_refines.specs.GhostEvents.{GhostConnects, GhostLeads, wires_without_down}
 use Rattle.world_refines.proofs.state.Changing.{IsChange, stands_change}
 use Rattle.world_refines.proofs.job_events.Fresh.{fresh_served, fresh_there, leaves_opened}
@@ -104,8 +102,8 @@ talks_linked place job past pages p old id e h =
     files_same true past pages old id f = record { file = f.file; each = f.each; count = f.count; room = f.room }
     files_same false past pages old id f = record { file = f.file; each = f.each; count = f.count; room = f.room }
 
-carries_linked : (x : Wires) (d : Core) (id : SessionId) (old : Endpoint) → old.link ≡ None → session_slot_of (after_open_session d 1).slots id.number ≡ Some (new_session_slot d.strings d.opened 1) → WiresMatch x (slot_of_link d old.link) old → WiresMatch x (slot_of_link (after_open_session d 1) (Some id)) (with_link id (after_move old))
-carries_linked x d id old none fresh h =
+carries_linked : (x : Wires) (d : Core) (port : ℕ) (id : SessionId) (old : Endpoint) → old.link ≡ None → session_slot_of (after_open_session d port).slots id.number ≡ Some (new_session_slot d.strings d.opened port) → WiresMatch x (slot_of_link d old.link) old → WiresMatch x (slot_of_link (after_open_session d port) (Some id)) (with_link id (after_move old))
+carries_linked x d port id old none fresh h =
     record {
       up = h.up;
       asking = ap input_in fresh ∙ (sym (ap (λ (l : Option SessionId). input_in (slot_of_link d l)) none) ∙ h.asking);
@@ -138,16 +136,16 @@ abbrev number_of : Option SessionId → ℕ
 number_of None = 0
 number_of (Some id) = id.number
 
-linked_stands : (t : Ghost) (w : WorldCore) (i : ℕ) (p : Endpoint) (id : SessionId) → WorldRefines t w → slice_get w.endpoints i ≡ Some p → i < t.count → IsIdle i t p → is_closed w.daemon ≡ false → id.number ≡ w.daemon.opened →
-    GhostLeads events.Connect GhostConnects t i (record { daemon = after_open_session w.daemon 1; endpoints = slice_set w.endpoints i (with_link id (after_move p)) })
-linked_stands t w i p id h at low idle closed number =
+linked_stands : (t : Ghost) (w : WorldCore) (i : ℕ) (p : Endpoint) (port : ℕ) (id : SessionId) → WorldRefines t w → slice_get w.endpoints i ≡ Some p → i < t.count → IsIdle i t p → is_closed w.daemon ≡ false → id.number ≡ w.daemon.opened →
+    GhostLeads events.Connect GhostConnects t i (record { daemon = after_open_session w.daemon port; endpoints = slice_set w.endpoints i (with_link id (after_move p)) })
+linked_stands t w i p port id h at low idle closed number =
     let s = h.endpoints i p at in
     let me = t.system.job i in
     let place = place_of_info t.infos in
     let bytes : Wires = t.wires i in
     let steps = By i actions.Connects ∷ [] in
     let u : Ghost = wired_then t i steps bytes in
-    let e = after_open_session w.daemon 1 in
+    let e = after_open_session w.daemon port in
     let q = with_link id (after_move p) in
     let same = put_self t.system.device (wanted_place t.system i) (device_for t.system i) refl in
     let table = nothing_held t w i p h at idle in
@@ -159,25 +157,25 @@ linked_stands t w i p id h at low idle closed number =
     done events.Connect GhostConnects t i _ steps u (low, idle.stage) (inl (refl, record { legal = (idle.stage, tt); then_is = refl }))
     (stands_change t u w i p q e h at (subst (λ (n : ℕ). i < n) h.is_of.count low) (record {
       told = one_change t i actions.Connects bytes (t.history i) (t.pages i);
-      leaves = subst (λ (x : Option SessionId). Leaves i t.system.make x w.daemon e t.system.device u.system.device) (sym idle.link) (leaves_opened i t.system.make w.daemon t.system.device u.system.device h.slots h.faithful same table);
+      leaves = subst (λ (x : Option SessionId). Leaves i t.system.make x w.daemon e t.system.device u.system.device) (sym idle.link) (leaves_opened i t.system.make w.daemon port t.system.device u.system.device h.slots h.faithful same table);
       sound = sound_after_all t.system steps h.sound (idle.stage, tt);
       asks = held_after_all t.system steps h.sound h.asks (idle.stage, tt);
       shown = shown_after t w steps h;
       sits = sits_there u e i q (after_connection me) bytes (t.history i) (t.pages i) job_state (put_there t.wires i bytes) (put_there t.history i (t.history i)) (put_there t.pages i (t.pages i)) (record {
         job_is = s.job_is;
         talks = talks_linked place (t.jobs i) (t.history i) (t.pages i) me p id idle.stage s.talks;
-        carries = carries_linked bytes w.daemon id p idle.link (fresh_there w.daemon id.number closed h.slots number) s.carries;
+        carries = carries_linked bytes w.daemon port id p idle.link (fresh_there w.daemon port id.number closed h.slots number) s.carries;
         means = means_linked place (t.jobs i) bytes me p id idle.stage asking idle.over s.means;
-        served = fresh_served i t.system.make w.daemon id t.system.device u.system.device (after_connection me) closed h.slots number same idle.free idle.quiet idle.awaits table;
+        served = fresh_served i t.system.make w.daemon port id t.system.device u.system.device (after_connection me) closed h.slots number same idle.free idle.quiet idle.awaits table;
         speaks =
-            subst (λ (x : Option (SessionSlot DeviceState)). Speaks (t.jobs i).device (after_connection me) (session_in x)) (sym (fresh_there w.daemon id.number closed h.slots number))
+            subst (λ (x : Option (SessionSlot DeviceState)). Speaks (t.jobs i).device (after_connection me) (session_in x)) (sym (fresh_there w.daemon port id.number closed h.slots number))
             (record { greeted = ([], refl); awaits = idle.awaits });
         waits = waits_greeting me.session.job p.client.progress p.client.notes (t.history i) (client_at_greeting me.client.stage me.client) (after_connection me).todo waiting (ap (λ (x : ClientView). x.stage) (woken_idle me.client.stage me.client idle.stage));
         pends = pends_same p.client.outcome p.client.progress p.client.phase (t.wires i) bytes s.pends.asking refl s.pends;
       });
       link = λ x is. let same_id : Some id ≡ Some x = is in let number_is : x.number ≡ w.daemon.opened = sym (ap number_of same_id) ∙ number in inr (omega (arith, number_is), omega (arith, number_is));
-      reseats = subst (λ (x : Option SessionId). Reseats x (Some id) w.daemon e) (sym idle.link) (reseats_opened w.daemon id number);
-      begun = subst (λ (x : JobState). AllByRecursion (λ (b : Begin). IsPageView b.page) x.session.started) (sym job_state) (h.begun i);
+      reseats = subst (λ (x : Option SessionId). Reseats x (Some id) w.daemon e) (sym idle.link) (reseats_opened w.daemon port id number);
+      begun = subst (λ (x : JobState). AreStartedViews t.system.make x) (sym job_state) (h.begun i);
     }))
 
 -- ---- there is none, and the connection is lost
@@ -259,7 +257,7 @@ shut_stands t w i p h at low idle =
       });
       link = λ x none. absurd (let clash : None ≡ Some x = none in cc);
       reseats = subst (λ (x : Option SessionId). Reseats x None w.daemon w.daemon) (sym idle.link) (reseats_same None w.daemon);
-      begun = subst (λ (x : JobState). AllByRecursion (λ (b : Begin). IsPageView b.page) x.session.started) (sym (two_party t i bytes)) (h.begun i);
+      begun = subst (λ (x : JobState). AreStartedViews t.system.make x) (sym (two_party t i bytes)) (h.begun i);
     }))
 
 -- ---- the event
@@ -275,13 +273,13 @@ not_connected t w i p h at can =
     by_begun st u (inl e) = e
     by_begun st u (inr n) = absurd (n u)
 
-by_closed : (t : Ghost) (w : WorldCore) (i : ℕ) (p : Endpoint) (closed : Bool) → WorldRefines t w → slice_get w.endpoints i ≡ Some p → i < t.count → IsIdle i t p → is_closed w.daemon ≡ closed → (e : Core) (q : Endpoint) → world.Connects closed w.daemon p e q → GhostLeads events.Connect GhostConnects t i (record { daemon = e; endpoints = slice_set w.endpoints i q })
-by_closed t w i p true h at low idle closed e q d =
+by_closed : (t : Ghost) (w : WorldCore) (i : ℕ) (p : Endpoint) (port : ℕ) (closed : Bool) → WorldRefines t w → slice_get w.endpoints i ≡ Some p → i < t.count → IsIdle i t p → is_closed w.daemon ≡ closed → (e : Core) (q : Endpoint) → world.Connects port closed w.daemon p e q → GhostLeads events.Connect GhostConnects t i (record { daemon = e; endpoints = slice_set w.endpoints i q })
+by_closed t w i p port true h at low idle closed e q d =
     subst (λ (x : Core). GhostLeads events.Connect GhostConnects t i (record { daemon = x; endpoints = slice_set w.endpoints i q })) (sym d.0)
     (subst (λ (x : Endpoint). GhostLeads events.Connect GhostConnects t i (record { daemon = w.daemon; endpoints = slice_set w.endpoints i x })) (sym d.1) (shut_stands t w i p h at low idle))
-by_closed t w i p false h at low idle closed e q d =
+by_closed t w i p port false h at low idle closed e q d =
     subst (λ (x : Core). GhostLeads events.Connect GhostConnects t i (record { daemon = x; endpoints = slice_set w.endpoints i q })) (sym d.2)
-    (subst (λ (x : Endpoint). GhostLeads events.Connect GhostConnects t i (record { daemon = after_open_session w.daemon 1; endpoints = slice_set w.endpoints i x })) (sym d.3) (linked_stands t w i p d.0 h at low idle closed d.1))
+    (subst (λ (x : Endpoint). GhostLeads events.Connect GhostConnects t i (record { daemon = after_open_session w.daemon port; endpoints = slice_set w.endpoints i x })) (sym d.3) (linked_stands t w i p port d.0 h at low idle closed d.1))
 
 is_or : (b c : Bool) → (b ≡ c) ⊎ (b ≡ c → ⊥)
 is_or true true = inl refl
@@ -300,5 +298,5 @@ connect_decides t w i p h at low =
       );
       back = λ can. (low, not_connected t w i p h at can);
       either = both_or (is_or (is_running p.client.outcome) true) (is_or p.was_connected false);
-      does = λ can e q d. by_closed t w i p (is_closed w.daemon) h at low (is_idle t w i p h at (not_connected t w i p h at can)) refl e q d;
+      does = λ can e q d. by_closed t w i p d.0 (is_closed w.daemon) h at low (is_idle t w i p h at (not_connected t w i p h at can)) refl e q d.1;
     }

@@ -50,7 +50,7 @@ use Rattle.world_refines.proofs.frames.Paged.{pages_are_meant}
 use Rattle.world_refines.proofs.promise_proofs.PromiseProofs.{outcomes_are_right, scans_are_meant}
 use Rattle.world_refines.proofs.frames.Seeing.{data_decides}
 use Rattle.world_refines.proofs.moves.Spending.{answers_own, connects_own, dials_own, hears_own, image_own, loses_own, sees_own, stops_own, turns_own}
-use Rattle.world_refines.proofs.moves.Stuck.{nobody_is_stuck}
+use Rattle.world_refines.proofs.moves.Stuck.{losses_explained, nobody_is_stuck}
 use Rattle.world_refines.proofs.state.Taking.{DecidesAt, follows_by}
 use Rattle.world_refines.proofs.frames.TurnEvents.{turn_decides}
 use Rattle.world_refines.proofs.frames.Unimaged.{image_decides}
@@ -79,7 +79,7 @@ of_sends t i action text steps u (inr h) = of_takes t i steps _ u h.1
 of_answers : (n : ℕ) (t : Ghost) (i : ℕ) (steps : List Transition) (u : Ghost) → AnswersSome n t i steps u → LeadsLegally t steps u
 of_answers n t i steps u (GoesOn asked rest told c w e takes on) = of_takes t i steps _ u takes
 of_answers n t i steps u (IsOver asked rest told c e takes on off) = of_takes t i steps _ u takes
-of_answers n t i steps u (BreaksOff memory asked rest told before c e is takes) = of_takes t i steps _ u takes
+of_answers n t i steps u (BreaksOff memory asked rest told before c e cut is takes) = of_takes t i steps _ u takes
 of_answers n t i steps u (WasOver off none takes) = subst (λ (xs : List Transition). LeadsLegally t xs u) (sym none) (of_takes t i [] _ u takes)
 
 of_delivers : (t : Ghost) (i n : ℕ) (telling text : List ℕ) (steps : List Transition) (u : Ghost) → Delivers t i n telling text steps u → LeadsLegally t steps u
@@ -170,7 +170,7 @@ one_event source (LoseImage i) t w v h page_view fits at =
 one_event source (Cancel i) t w v h page_view fits at =
     to_job source (Cancel i) i actions.Cancel GivesUp (record { decides = cancel_decides; owns = λ t u w v i p q steps h k at there can d. stops_own t i steps u d; legal = λ t steps u d. of_takes t i steps _ u d.takes; comes = λ t steps u x. x }) t w v h at
 one_event source (Load name page) t w v h page_view fits at =
-    let l = subst (λ (x : WorldCore). GhostLeadsTo (CanLoad t name) (LaysIn t name (source page).page) t x) (sym at) (loads_follow t w name (source page) page_view.0 fits page_view.1 h) in
+    let l = subst (λ (x : WorldCore). GhostLeadsTo (CanLoad t name) (LaysIn t name (source page).page) t x) (sym at) (loads_follow t w name (source page) page_view fits h) in
     let endpoints : v.endpoints ≡ w.endpoints = ap (λ (x : WorldCore). x.endpoints) at in
     behind source (Load name page) t w v (CanLoad t name) (LaysIn t name (source page).page) (λ steps u x. x) (λ steps u d. record { legal = d.legal; rules_are = ap (λ (v : Ghost). v.system) d.then_is }) l
     (beside t w v (CanLoad t name) (LaysIn t name (source page).page) endpoints (laid_pays t w v name (source page).page h endpoints) l)
@@ -232,10 +232,10 @@ ended_named u v i endpoint status why h at spared e =
     refuses (make_for u.system i) (u.system.job i) status cause.0 (spared i) cause.2
 
 pub all_kept : AllIsKept
-all_kept source events fallible jobs other devices w v new daemon names steady fit page_views only fits run =
-    let stood = events_follow source events _ w v (new_worlds_stand fallible jobs other devices w new daemon names steady only fit) page_views fits run in
+all_kept source events sources jobs other devices w v new daemon names limits fit page_views only fits run =
+    let stood = events_follow source events _ w v (new_worlds_stand sources jobs other devices w new daemon names limits only fit) page_views fits run in
     let u = stood.ghost_then in
-    let pays = stood.pays (new_worlds_pay fallible jobs other devices w new fit) in
+    let pays = stood.pays (new_worlds_pay sources jobs other devices w new fit) in
     let files = stands_run source events w v run (new_files jobs w.endpoints fit new) in
     let spared : AllSpared u.system = subst AllSpared (sym stood.rules_are) (all_spared _ stood.steps stood.legal (λ i none. none)) in
     record {
@@ -249,6 +249,7 @@ all_kept source events fallible jobs other devices w v new daemon names steady f
         scans = λ i endpoint reports file at task done file_is. scans_are_meant u v i endpoint reports file stood.stands at task done file_is;
         batches = λ i count endpoint reports at task done. batches_are_counted u v i count endpoint reports stood.stands (subst (λ (n : ℕ). i < n) (sym stood.stands.is_of.count) (within v.endpoints i endpoint at)) at task done;
         moves = λ i endpoint event at next. nobody_is_stuck u v i endpoint event stood.stands at next;
+        losses = λ i endpoint at next. losses_explained u v i endpoint stood.stands at next;
         left = λ i endpoint at none. none_left u v i endpoint stood.stands pays at none;
         rests = λ i endpoint at rests. rests_over u v i endpoint stood.stands pays at rests;
         pages = λ i k endpoint file at low file_is. pages_are_meant u v i k endpoint file stood.stands at low file_is;

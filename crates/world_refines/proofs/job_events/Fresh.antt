@@ -16,7 +16,8 @@ use Rattle.system_model.specs.Daemon.{TransferState, Quiet}
 use Rattle.system_model.specs.SystemStates.{JobState}
 use Rattle.system_model.specs.AbstractSessions.{AbstractSession, one_word_session, only_word}
 use Rattle.daemon_refines.specs.ContextRefinement.{ContextRefines, TableRefines}
-use Rattle.daemon_refines.specs.Cores.{SessionRefines, core_context}
+use Rattle.daemon_refines.specs.Cores.{SessionRefines}
+use Rattle.saned_core.specs.Feeding.{core_context}
 use Rattle.daemon_refines.proofs.Beginning.{openings_show}
 use Rattle.daemon_refines.proofs.SessionEndings.{same_tables}
 use Rattle.daemon_refines.proofs.OtherSessions.{leaves_all, leaves_same}
@@ -46,25 +47,25 @@ not_full : (b c : Bool) → (b || c) ≡ false → c ≡ false
 not_full true c e = absurd (let clash : true ≡ false = e in cc)
 not_full false c e = e
 
-pub fresh_there : (d : Core) (n : ℕ) → is_closed d ≡ false → AllByRecursion (IsBelow d.opened) d.slots → n ≡ d.opened → session_slot_of (after_open_session d 1).slots n ≡ Some (new_session_slot d.strings d.opened 1)
-fresh_there d n closed below e =
-    subst (λ (k : ℕ). session_slot_of (after_open_session d 1).slots k ≡ Some (new_session_slot d.strings d.opened 1)) (sym e)
-    (own_seat d.slots (new_session_slot d.strings d.opened 1) d.opened (not_full (d.opened == 18446744073709551615) (all_slots_taken d.slots) closed) below (let same : (d.opened == d.opened) ≡ true = grind (arith, nat_tests) in same))
+pub fresh_there : (d : Core) (port n : ℕ) → is_closed d ≡ false → AllByRecursion (IsBelow d.opened) d.slots → n ≡ d.opened → session_slot_of (after_open_session d port).slots n ≡ Some (new_session_slot d.strings d.opened port)
+fresh_there d port n closed below e =
+    subst (λ (k : ℕ). session_slot_of (after_open_session d port).slots k ≡ Some (new_session_slot d.strings d.opened port)) (sym e)
+    (own_seat d.slots (new_session_slot d.strings d.opened port) d.opened (not_full (d.opened == 18446744073709551615) (all_slots_taken d.slots) closed) below (let same : (d.opened == d.opened) ≡ true = grind (arith, nat_tests) in same))
 
 -- ---- what it leaves
 
-number_other : (d : Core) (m : ℕ) → m < d.opened → is_slot_number m (Some (new_session_slot d.strings d.opened 1)) ≡ false
-number_other d m low = let apart : (d.opened == m) ≡ false = grind (arith, nat_tests) in apart
+number_other : (d : Core) (port m : ℕ) → m < d.opened → is_slot_number m (Some (new_session_slot d.strings d.opened port)) ≡ false
+number_other d port m low = let apart : (d.opened == m) ≡ false = grind (arith, nat_tests) in apart
 
-pub leaves_opened : (i : ℕ) (make : ℕ → Make) (d : Core) (table device : ℕ → AbstractDevice) → AllByRecursion (IsBelow d.opened) d.slots → AreFaithful d → ((k : ℕ) → device k ≡ table k) → TableRefines i make [] d.registry table → Leaves i make None d (after_open_session d 1) table device
-leaves_opened i make d table device below faithful same h =
+pub leaves_opened : (i : ℕ) (make : ℕ → Make) (d : Core) (port : ℕ) (table device : ℕ → AbstractDevice) → AllByRecursion (IsBelow d.opened) d.slots → AreFaithful d → ((k : ℕ) → device k ≡ table k) → TableRefines i make [] d.registry table → Leaves i make None d (after_open_session d port) table device
+leaves_opened i make d port table device below faithful same h =
     record {
       users = refl;
       infos = refl;
       opened = omega arith;
-      below = with_seat_all (IsBelow (d.opened + 1)) d.slots (new_session_slot d.strings d.opened 1) (omega arith) (all_below_more d.opened (d.opened + 1) d.slots (omega arith) below);
-      faithful = record { lying = faithful.lying; lent = with_seat_all IsFaithfulSessionSlot d.slots (new_session_slot d.strings d.opened 1) (tt, (tt, (tt, (tt, tt)))) faithful.lent };
-      slots = λ m other low. other_seat d.slots (new_session_slot d.strings d.opened 1) m (number_other d m low);
+      below = with_seat_all (IsBelow (d.opened + 1)) d.slots (new_session_slot d.strings d.opened port) (omega arith) (all_below_more d.opened (d.opened + 1) d.slots (omega arith) below);
+      faithful = record { lying = faithful.lying; lent = with_seat_all IsFaithfulSessionSlot d.slots (new_session_slot d.strings d.opened port) (tt, (tt, (tt, (tt, tt)))) faithful.lent };
+      slots = λ m other low. other_seat d.slots (new_session_slot d.strings d.opened port) m (number_other d port m low);
       held = [];
       shows = same_tables i make [] d.registry table device same h;
       others = leaves_same i d.registry d.registry table table device same (leaves_all i d.registry table);
@@ -76,27 +77,27 @@ no_word : (d w : ℕ) (b : Bool) → eqb w 0 ≡ b → only_word false d w ≡ N
 no_word d w true e = ap (λ (x : Bool). cond {A = Option ℕ} x None None) e
 no_word d w false e = ap (λ (x : Bool). cond {A = Option ℕ} x None None) e
 
-fresh_shows : (i : ℕ) (make : ℕ → Make) (d : Core) (table : ℕ → AbstractDevice) (wants : ℕ) → TableRefines i make [] d.registry table → ContextRefines i make (core_context (after_open_session d 1) (fresh_session d.strings 1)) table (one_word_session false wants Quiet None)
-fresh_shows i make d table wants h =
-    let o = openings_show i make d.strings 1 d.registry d.stream table h in
+fresh_shows : (i : ℕ) (make : ℕ → Make) (d : Core) (port : ℕ) (table : ℕ → AbstractDevice) (wants : ℕ) → TableRefines i make [] d.registry table → ContextRefines i make (core_context (after_open_session d port) (fresh_session d.strings port)) table (one_word_session false wants Quiet None)
+fresh_shows i make d port table wants h =
+    let o = openings_show i make d.strings port d.registry d.stream table h in
     record { words = λ w. no_word wants w (eqb w 0) refl ∙ o.words w; four = o.four; transfer = refl; frame = tt; awaited = o.awaited; devices = o.devices }
 
 not_held : (i : ℕ) (h : Option ℕ) → h ≢ Some i → is_held_by i h ≡ false
 not_held i None n = refl
 not_held i (Some j) n = ne_eqb j i (λ e. n (ap (λ (x : ℕ). Some x) e))
 
-pub fresh_served : (i : ℕ) (make : ℕ → Make) (d : Core) (id : SessionId) (table device : ℕ → AbstractDevice) (p : JobState) → is_closed d ≡ false → AllByRecursion (IsBelow d.opened) d.slots → id.number ≡ d.opened → ((k : ℕ) → device k ≡ table k) →
-    (table p.session.job.wants).holder ≢ Some i → p.session.transfer ≡ Quiet → p.session.awaited ≡ None → TableRefines i make [] d.registry table → SessionRefines i make (after_open_session d 1) id.number device (session_by i device p)
-fresh_served i make d id table device p closed below number same free quiet none h =
+pub fresh_served : (i : ℕ) (make : ℕ → Make) (d : Core) (port : ℕ) (id : SessionId) (table device : ℕ → AbstractDevice) (p : JobState) → is_closed d ≡ false → AllByRecursion (IsBelow d.opened) d.slots → id.number ≡ d.opened → ((k : ℕ) → device k ≡ table k) →
+    (table p.session.job.wants).holder ≢ Some i → p.session.transfer ≡ Quiet → p.session.awaited ≡ None → TableRefines i make [] d.registry table → SessionRefines i make (after_open_session d port) id.number device (session_by i device p)
+fresh_served i make d port id table device p closed below number same free quiet none h =
     let wants = p.session.job.wants in
     let ruled : session_by i device p ≡ one_word_session false wants Quiet None =
     ap (λ (x : AbstractDevice). one_word_session (is_held_by i x.holder) wants p.session.transfer p.session.awaited) (same wants)
     ∙ (ap (λ (x : Bool). one_word_session x wants p.session.transfer p.session.awaited) (not_held i (table wants).holder free)
     ∙ (ap (λ (x : TransferState). one_word_session false wants x p.session.awaited) quiet ∙ ap (λ (x : Option Challenge). one_word_session false wants Quiet x) none)) in
-    subst (λ (s : AbstractSession). SessionRefines i make (after_open_session d 1) id.number device s) (sym ruled)
-    (same_session i make (after_open_session d 1) id.number table device (one_word_session false wants Quiet None) same (record {
-      session = fresh_session d.strings 1;
-      stands = ap session_in (fresh_there d id.number closed below number);
-      shows = fresh_shows i make d table wants h;
+    subst (λ (s : AbstractSession). SessionRefines i make (after_open_session d port) id.number device s) (sym ruled)
+    (same_session i make (after_open_session d port) id.number table device (one_word_session false wants Quiet None) same (record {
+      session = fresh_session d.strings port;
+      stands = ap session_in (fresh_there d port id.number closed below number);
+      shows = fresh_shows i make d port table wants h;
       begun = inr refl;
     }))

@@ -2,7 +2,7 @@
 use Rattle.std.specs.Prelude.{◌&&◌, if◌then◌else◌}
 use Rattle.std.proofs.Common.{◌≡◌, ◌≢◌, ◌⊎◌, inl, inr, ◌∙◌, ℕ, zero, suc, [], ◌∷◌, Option, Some, Bool, true, false, eqb, refl, sym, ap, length}
 use Rattle.page_picture.specs.Source.{SourceState}
-use Rattle.device_api.specs.State.{DeviceState, after_load as page_loaded, takes_page}
+use Rattle.device_api.specs.State.{DeviceState, after_load as page_loaded, takes_page, held_from}
 use Rattle.device_api.specs.State.Phase.{Reading}
 use Rattle.device_api.specs.State.{Phase as AnyPhase, is_at_rest}
 use Rattle.dispatch.specs.declared.table.place.Lease.{Lease}
@@ -16,7 +16,7 @@ use Rattle.system_model.specs.Devices.{Make}
 use Rattle.system_model.specs.AbstractDevices.{AbstractDevice}
 use Rattle.system_model.specs.AbstractSessions.{AbstractSession}
 use Rattle.system_model.specs.SystemStates.{with_entry}
-use Rattle.daemon_refines.specs.ContextRefinement.{FrameIsRead, IsReadBy, ContextRefines, abstract_device}
+use Rattle.daemon_refines.specs.ContextRefinement.{FrameIsRead, IsReadBy, ContextRefines, abstract_device, HasSource}
 use Rattle.daemon_refines.proofs.Changes.{Held}
 use Rattle.daemon_refines.proofs.DataLinks.{listed_by, still_awaited}
 use Rattle.daemon_refines.proofs.WordsAndPlaces.{on_length, on_other, on_same}
@@ -73,7 +73,7 @@ frame_still source word.Ending held w l e takes h = tt
 abbrev pub laid_desk : SourceState → ℕ → RequestContext → RequestContext
 laid_desk source w d = record d { session = laid source w d.session }
 
-pub laid_shows : (i : ℕ) (make : ℕ → Make) (d : RequestContext) (table : ℕ → AbstractDevice) (s : AbstractSession) (w : ℕ) (l : Lease DeviceState) (source : SourceState) → ContextRefines i make d table s → held_by d.session.held w ≡ Some l → ((make l.place).fallible ≡ false → source.infallible ≡ true) → takes_page l.device ≡ true →
+pub laid_shows : (i : ℕ) (make : ℕ → Make) (d : RequestContext) (table : ℕ → AbstractDevice) (s : AbstractSession) (w : ℕ) (l : Lease DeviceState) (source : SourceState) → ContextRefines i make d table s → held_by d.session.held w ≡ Some l → HasSource (make l.place) (held_from source) → takes_page l.device ≡ true →
     ContextRefines i make (laid_desk source w d) (with_entry table l.place (abstract_device (Some i) (page_loaded l.device source))) s
 laid_shows i make d table s w l source old e firm takes =
     let shown = old.devices.leases w l e in

@@ -4,8 +4,8 @@ use Rattle.std.specs.Option.{option_and_then}
 use Rattle.std.specs.List.{AllByRecursion, list_any}
 use Rattle.std.proofs.Common.{◌≡◌, ◌∙◌, ℕ, zero, suc, List, [], ◌∷◌, Option, Some, None, option_map, Bool, true, false, refl, sym, ap, slice_get, arith}
 use Rattle.std.proofs.lemmas.Bool.{ne_eqb}
-use Rattle.page_picture.specs.Page.{IsPageView}
 use Rattle.page_picture.specs.Source.{SourceState}
+use Rattle.device_api.specs.ScannerLimits.{IsHeldPage}
 use Rattle.device_api.specs.State.{DeviceState, HeldPage as Page, after_load as page_loaded, feeds, held_from, pages_with, takes_page}
 use Rattle.dispatch.specs.declared.table.place.Lease.{Lease}
 use Rattle.saned_requests.specs.declared.session.Session.{Session as DeskSession}
@@ -15,36 +15,36 @@ use Rattle.saned_core.specs.Loading.{held_with, holds, holds_in, is_lease_named,
 use Rattle.saned_core.specs.DaemonStates.{is_slot_number, on_session_slot, on_session, session_slot_of}
 use Rattle.daemon_refines.proofs.Changes.{Held}
 use Rattle.daemon_refines.proofs.Moved.{own}
-use Rattle.world_refines.specs.WorldRefinement.{IsFaithful, IsFaithfulLease, IsSteadyPage}
+use Rattle.world_refines.specs.WorldRefinement.{IsFaithful, IsFaithfulLease, IsFaithfulPage}
 use Rattle.world_refines.proofs.state.Faithful.{Seats, word_true}
 use Rattle.world_refines.proofs.state.Finding.{same_texts}
 use Rattle.world_refines.proofs.state.EndpointSlots.{Single, later}
 
 -- ---- what a page leaves true
 
-page_true : (source : SourceState) → source.steady ≡ true → IsPageView source.page → (b : Bool) (pages : List Page) → AllByRecursion IsSteadyPage pages → AllByRecursion IsSteadyPage (pages_with b pages (held_from source))
-page_true source steady page_view false pages h = ((steady, page_view), tt)
-page_true source steady page_view true [] h = ((steady, page_view), tt)
-page_true source steady page_view true (p ∷ pages) h = (h.0, page_true source steady page_view true pages h.1)
+page_true : (source : SourceState) → IsHeldPage (held_from source) → (b : Bool) (pages : List Page) → AllByRecursion IsFaithfulPage pages → AllByRecursion IsFaithfulPage (pages_with b pages (held_from source))
+page_true source limits false pages h = (limits.view, tt)
+page_true source limits true [] h = (limits.view, tt)
+page_true source limits true (p ∷ pages) h = (h.0, page_true source limits true pages h.1)
 
-pub load_true : (source : SourceState) → source.steady ≡ true → IsPageView source.page → (s : DeviceState) → IsFaithful s → IsFaithful (page_loaded s source)
-load_true source steady page_view s h = page_true source steady page_view (feeds s) s.pages h
+pub load_true : (source : SourceState) → IsHeldPage (held_from source) → (s : DeviceState) → IsFaithful s → IsFaithful (page_loaded s source)
+load_true source limits s h = page_true source limits (feeds s) s.pages h
 
-device_true : (source : SourceState) → source.steady ≡ true → IsPageView source.page → (b : Bool) (s : DeviceState) → IsFaithful s → IsFaithful (if b then page_loaded s source else s)
-device_true source steady page_view true s h = load_true source steady page_view s h
-device_true source steady page_view false s h = h
+device_true : (source : SourceState) → IsHeldPage (held_from source) → (b : Bool) (s : DeviceState) → IsFaithful s → IsFaithful (if b then page_loaded s source else s)
+device_true source limits true s h = load_true source limits s h
+device_true source limits false s h = h
 
-lease_true : (source : SourceState) → source.steady ≡ true → IsPageView source.page → (lease : Option (Lease DeviceState)) → IsFaithfulLease lease → IsFaithfulLease (lease_with source lease)
-lease_true source steady page_view None h = h
-lease_true source steady page_view (Some l) h = device_true source steady page_view (takes_page l.device) l.device h
+lease_true : (source : SourceState) → IsHeldPage (held_from source) → (lease : Option (Lease DeviceState)) → IsFaithfulLease lease → IsFaithfulLease (lease_with source lease)
+lease_true source limits None h = h
+lease_true source limits (Some l) h = device_true source limits (takes_page l.device) l.device h
 
 -- ---- a session, of which the device of one word takes a page
 
 abbrev pub laid : SourceState → ℕ → DeskSession DeviceState → DeskSession DeviceState
 laid source word s = record s { held = on_word (lease_with source) s.held word }
 
-pub laid_true : (source : SourceState) → source.steady ≡ true → IsPageView source.page → (word : ℕ) (s : DeskSession DeviceState) → AllByRecursion IsFaithfulLease s.held → AllByRecursion IsFaithfulLease (laid source word s).held
-laid_true source steady page_view word s h = word_true (lease_with source) s.held word (lease_true source steady page_view) h
+pub laid_true : (source : SourceState) → IsHeldPage (held_from source) → (word : ℕ) (s : DeskSession DeviceState) → AllByRecursion IsFaithfulLease s.held → AllByRecursion IsFaithfulLease (laid source word s).held
+laid_true source limits word s h = word_true (lease_with source) s.held word (lease_true source limits) h
 
 -- ---- the first lease of that name
 

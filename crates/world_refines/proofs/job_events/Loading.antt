@@ -4,9 +4,8 @@ use Rattle.sane_fixed.specs.declared.status.Status.TheVariants.{DeviceBusy}
 use Rattle.std.specs.Option.{option_and_then}
 use Rattle.std.specs.List.{AllByRecursion, list_any}
 use Rattle.std.proofs.Common.{◌≡◌, ◌≢◌, ◌⊎◌, inl, inr, ◌∙◌, ℕ, zero, suc, ◌≤◌, List, [], ◌∷◌, Option, Some, None, Bool, true, false, eqb, refl, sym, ap, subst, length, slice_get, slice_set, arith}
-use Rattle.page_picture.specs.Page.{IsPageView}
 use Rattle.page_picture.specs.Source.{SourceState}
-use Rattle.device_api.specs.State.{DeviceState, after_load as page_loaded, takes_page}
+use Rattle.device_api.specs.State.{DeviceState, after_load as page_loaded, takes_page, held_from}
 use Rattle.sane_fixed.specs.declared.device_info.DeviceInfo.{DeviceInfo}
 use Rattle.dispatch.specs.declared.table.place.Lease.{Lease}
 use Rattle.dispatch.specs.declared.table.place.Place.{Place}
@@ -29,8 +28,9 @@ use Rattle.system_model.specs.AbstractSessions.{AbstractSession, one_word_sessio
 use Rattle.system_model.specs.Transitions.{IsHistory, Loads, after_all}
 use Rattle.system_model.specs.Transitions as steps
 use Rattle.system_model.proofs.JobPromises.{sound_after_all}
-use Rattle.daemon_refines.specs.ContextRefinement.{HoldsPlace, IsAwaited, NamesPlace, ContextRefines, PlaceRefines, SlotRefines, TableRefines, abstract_device}
-use Rattle.daemon_refines.specs.Cores.{SessionRefines, core_context}
+use Rattle.daemon_refines.specs.ContextRefinement.{HoldsPlace, IsAwaited, NamesPlace, ContextRefines, PlaceRefines, SlotRefines, TableRefines, abstract_device, HasSource}
+use Rattle.daemon_refines.specs.Cores.{SessionRefines}
+use Rattle.saned_core.specs.Feeding.{core_context}
 use Rattle.daemon_refines.proofs.Changes.{Held}
 use Rattle.daemon_refines.proofs.DataLinks.{listed_by}
 use Rattle.daemon_refines.proofs.Moved.{put_elsewhere, put_there, unsome}
@@ -56,13 +56,14 @@ use Rattle.world_refines.proofs.job_events.Leasing.{FoundSeat, any_lease, any_se
 use Rattle.world_refines.proofs.state.ListEntries.{is_same, there, within}
 use Rattle.world_refines.proofs.state.EndpointSlots.{reseats_on}
 use Rattle.world_refines.proofs.state.Spoken.{same_on, speaks_still}
+use Rattle.device_api.specs.ScannerLimits.{IsHeldPage}
 
 abbrev Loaded : Ghost → WorldCore → List ℕ → SourceState → Type 0
 Loaded t w name source = GhostLeadsTo (CanLoad t name) (LaysIn t name source.page) t (record w { daemon = core_after_load w.daemon name source })
 
-shaped : (source : SourceState) → IsPageView source.page → IsPageShaped source.page
+shaped : (source : SourceState) → IsHeldPage (held_from source) → IsPageShaped source.page
 unfolding IsPageShaped
-shaped source page_view = page_view.shape
+shaped source limits = limits.shape
 
 same_posts : {X : Type 0} (xs : List X) (i : ℕ) (x : X) → slice_get xs i ≡ Some x → slice_set xs i x ≡ xs
 same_posts [] i x e = refl
@@ -124,15 +125,15 @@ named_there t w name h d =
 
 -- ---- leased, and it takes the page
 
-lays_leased : (t : Ghost) (w : WorldCore) (name : List ℕ) (source : SourceState) → source.steady ≡ true → MayHaveSource t.infos t.system.make name source → IsPageView source.page → WorldRefines t w → (d : IsLeased t w name) → takes_page d.lease.device ≡ true → Loaded t w name source
-lays_leased t w name source steady keep page_view h d takes =
+lays_leased : (t : Ghost) (w : WorldCore) (name : List ℕ) (source : SourceState) → IsHeldPage (held_from source) → MayHaveSource t.infos t.system.make name source → WorldRefines t w → (d : IsLeased t w name) → takes_page d.lease.device ≡ true → Loaded t w name source
+lays_leased t w name source limits keep h d takes =
     let l = d.lease in
     let k = l.place in
     let i = d.i in
     let p = d.endpoint in
     let s = h.endpoints i p d.at in
     let shown = d.shows.shows.devices.leases d.word l d.stands in
-    let firm : (t.system.make k).fallible ≡ false → source.infallible ≡ true = keep k (named_there t w name h d) in
+    let firm : HasSource (t.system.make k) (held_from source) = keep k (named_there t w name h d) in
     let page = pages_agree (t.system.make k) l.device source (Some i) shown.made firm takes in
     let dev = abstract_device (Some i) (page_loaded l.device source) in
     let value : steps.with_page_laid_in (t.system.make k) source.page (t.system.device k) ≡ dev = ap (λ (x : AbstractDevice). steps.with_page_laid_in (t.system.make k) source.page x) shown.device ∙ page.device in
@@ -140,7 +141,7 @@ lays_leased t w name source steady keep page_view h d takes =
     let listed : (t.system.device k).listed ≡ true = ap (λ (x : AbstractDevice). x.listed) shown.device in
     let rest : (t.system.device k).phase ≡ Resting = ap (λ (x : AbstractDevice). x.phase) shown.device ∙ page.at_rest in
     let room : has_room (t.system.make k).model (t.system.device k).tray ≡ true = ap (λ (x : AbstractDevice). has_room (t.system.make k).model x.tray) shown.device ∙ page.room in
-    let legal : IsHistory t.system xs = ((listed, rest, room, shaped source page_view), tt) in
+    let legal : IsHistory t.system xs = ((listed, rest, room, shaped source limits), tt) in
     let u : Ghost = record t { system = after_all t.system xs } in
     let device : ℕ → AbstractDevice = with_entry t.system.device k dev in
     let is_device : u.system.device ≡ device = ap (with_entry t.system.device k) value in
@@ -154,7 +155,7 @@ lays_leased t w name source steady keep page_view h d takes =
     let there : session_of e d.id.number ≡ Some (g d.shows.session) = on_there g d.id.number w.daemon.slots d.shows.session d.shows.stands in
     let own : SessionRefines i t.system.make e d.id.number device (session_by i device (t.system.job i)) =
     subst (λ (r : AbstractSession). SessionRefines i t.system.make e d.id.number device r) (sym ruled) (record { session = g d.shows.session; stands = there; shows = shows; begun = d.shows.begun }) in
-    let keeps : (x : DeskSession DeviceState) → AllByRecursion IsFaithfulLease x.held → AllByRecursion IsFaithfulLease (g x).held = laid_true source steady page_view d.word in
+    let keeps : (x : DeskSession DeviceState) → AllByRecursion IsFaithfulLease x.held → AllByRecursion IsFaithfulLease (g x).held = laid_true source limits d.word in
     let same = same_on g (λ x. record { greeted = refl; awaited = refl }) d.id.number w.daemon.slots in
     record {
       steps = xs;
@@ -339,10 +340,10 @@ answer_in registry name h takes =
 abbrev new_table : (ℕ → Make) → (ℕ → AbstractDevice) → ℕ → Page → ℕ → AbstractDevice
 new_table make table k page = with_entry table k (steps.with_page_laid_in (make k) page (table k))
 
-table_in : (i : ℕ) (make : ℕ → Make) (held : Held) (registry : Table) (table : ℕ → AbstractDevice) (name : List ℕ) (source : SourceState) → (h : IsIn registry name) → takes_page h.state ≡ true → ((make h.place).fallible ≡ false → source.infallible ≡ true) → TableRefines i make held registry table →
+table_in : (i : ℕ) (make : ℕ → Make) (held : Held) (registry : Table) (table : ℕ → AbstractDevice) (name : List ℕ) (source : SourceState) → (h : IsIn registry name) → takes_page h.state ≡ true → HasSource (make h.place) (held_from source) → TableRefines i make held registry table →
     TableRefines i make held (with_slot registry h.place (In (page_loaded h.state source))) (new_table make table h.place source.page)
 table_in i make held registry table name source h takes firm shows =
-    let l = loads_agree i make held registry table name source shows (λ k found e. firm (subst (λ (n : ℕ). (make n).fallible ≡ false) (unsome k h.place (sym found ∙ h.found)) e)) (answer_in registry name h takes) in
+    let l = loads_agree i make held registry table name source shows (λ k found. subst (λ (n : ℕ). HasSource (make n) (held_from source)) (sym (unsome k h.place (sym found ∙ h.found))) firm) (answer_in registry name h takes) in
     subst (λ (t : Table). TableRefines i make held t (new_table make table h.place source.page)) (after_in registry name source h takes)
     (subst (λ (k : ℕ). TableRefines i make held (table_after_load registry name source) (new_table make table k source.page)) (unsome l.place h.place (sym l.named ∙ h.found)) l.shows)
 
@@ -373,7 +374,7 @@ holder_in make table d k page (inr n) = ap (λ (x : AbstractDevice). x.holder) (
 ruled_in : (j : ℕ) (make : ℕ → Make) (table : ℕ → AbstractDevice) (d : ℕ) (page : Page) (p : JobState) → session_by j (new_table make table d page) p ≡ session_by j table p
 ruled_in j make table d page p = ap (λ (x : Option ℕ). one_word_session (is_held_by j x) p.session.job.wants p.session.transfer p.session.awaited) (holder_in make table d p.session.job.wants page (is_same p.session.job.wants d))
 
-shows_in : (j : ℕ) (make : ℕ → Make) (d : RequestContext) (table : ℕ → AbstractDevice) (s : AbstractSession) (name : List ℕ) (source : SourceState) → (h : IsIn d.registry name) → takes_page h.state ≡ true → ((make h.place).fallible ≡ false → source.infallible ≡ true) → ContextRefines j make d table s →
+shows_in : (j : ℕ) (make : ℕ → Make) (d : RequestContext) (table : ℕ → AbstractDevice) (s : AbstractSession) (name : List ℕ) (source : SourceState) → (h : IsIn d.registry name) → takes_page h.state ≡ true → HasSource (make h.place) (held_from source) → ContextRefines j make d table s →
     ContextRefines j make (record d { registry = with_slot d.registry h.place (In (page_loaded h.state source)) }) (new_table make table h.place source.page) s
 shows_in j make d table s name source h takes firm shows =
     record {
@@ -388,7 +389,7 @@ shows_in j make d table s name source h takes firm shows =
 abbrev core_in : Core → ℕ → DeviceState → Core
 core_in d k s = record d { registry = with_slot d.registry k (In s) }
 
-served_in : (j : ℕ) (make : ℕ → Make) (d : Core) (link : Option SessionId) (served : Bool) (table : ℕ → AbstractDevice) (p : JobState) (name : List ℕ) (source : SourceState) → (h : IsIn d.registry name) → takes_page h.state ≡ true → ((make h.place).fallible ≡ false → source.infallible ≡ true) → IsServed j make d link served table (session_by j table p) →
+served_in : (j : ℕ) (make : ℕ → Make) (d : Core) (link : Option SessionId) (served : Bool) (table : ℕ → AbstractDevice) (p : JobState) (name : List ℕ) (source : SourceState) → (h : IsIn d.registry name) → takes_page h.state ≡ true → HasSource (make h.place) (held_from source) → IsServed j make d link served table (session_by j table p) →
     IsServed j make (core_in d h.place (page_loaded h.state source)) link served (new_table make table h.place source.page) (session_by j (new_table make table h.place source.page) p)
 served_in j make d None true table p name source h takes firm is = absurd is
 served_in j make d (Some id) true table p name source h takes firm is =
@@ -402,11 +403,11 @@ named_in t w name h d =
     let f = found_place w.daemon.registry name d.place d.found in
     ap (λ (infos : List DeviceInfo). name_at infos d.place) h.is_of.infos ∙ (names_at w.daemon.registry d.place f.place f.at ∙ ap (λ (x : List ℕ). Some x) f.name_is)
 
-lays_in : (t : Ghost) (w : WorldCore) (name : List ℕ) (source : SourceState) → source.steady ≡ true → MayHaveSource t.infos t.system.make name source → IsPageView source.page → WorldRefines t w → list_any (holds name) w.daemon.slots ≡ false → (d : IsIn w.daemon.registry name) → takes_page d.state ≡ true → Loaded t w name source
-lays_in t w name source steady keep page_view h free d takes =
+lays_in : (t : Ghost) (w : WorldCore) (name : List ℕ) (source : SourceState) → IsHeldPage (held_from source) → MayHaveSource t.infos t.system.make name source → WorldRefines t w → list_any (holds name) w.daemon.slots ≡ false → (d : IsIn w.daemon.registry name) → takes_page d.state ≡ true → Loaded t w name source
+lays_in t w name source limits keep h free d takes =
     let n = length w.endpoints in
-    let firm : (t.system.make d.place).fallible ≡ false → source.infallible ≡ true = keep d.place (named_in t w name h d) in
-    let l = loads_agree n t.system.make [] w.daemon.registry t.system.device name source (h.beyond n (omega arith)).table (λ k found e. firm (subst (λ (m : ℕ). (t.system.make m).fallible ≡ false) (unsome k d.place (sym found ∙ d.found)) e)) (answer_in w.daemon.registry name d takes) in
+    let firm : HasSource (t.system.make d.place) (held_from source) = keep d.place (named_in t w name h d) in
+    let l = loads_agree n t.system.make [] w.daemon.registry t.system.device name source (h.beyond n (omega arith)).table (λ k found. subst (λ (m : ℕ). HasSource (t.system.make m) (held_from source)) (sym (unsome k d.place (sym found ∙ d.found))) firm) (answer_in w.daemon.registry name d takes) in
     let k = d.place in
     let same : l.place ≡ k = unsome l.place k (sym l.named ∙ d.found) in
     let listed : (t.system.device k).listed ≡ true = subst (λ (x : ℕ). (t.system.device x).listed ≡ true) same l.listed in
@@ -414,7 +415,7 @@ lays_in t w name source steady keep page_view h free d takes =
     let room : has_room (t.system.make k).model (t.system.device k).tray ≡ true = subst (λ (x : ℕ). has_room (t.system.make x).model (t.system.device x).tray ≡ true) same l.room in
     let named = named_in t w name h d in
     let xs = Loads k source.page ∷ [] in
-    let legal : IsHistory t.system xs = ((listed, rest, room, shaped source page_view), tt) in
+    let legal : IsHistory t.system xs = ((listed, rest, room, shaped source limits), tt) in
     let next = page_loaded d.state source in
     let told : Ghost = record t { system = after_all t.system xs } in
     let core_is : core_after_load w.daemon name source ≡ core_in w.daemon k next = not_leased w.daemon name source free ∙ ap (λ (r : Table). record w.daemon { registry = r }) (after_in w.daemon.registry name source d takes) in
@@ -455,7 +456,7 @@ lays_in t w name source steady keep page_view h free d takes =
         links = h.links;
         slots = h.slots;
         slots_are = h.slots_are;
-        faithful = record { lying = slot_true w.daemon.registry k (In next) (load_true source steady page_view d.state (in_true w.daemon.registry k d.at d.state d.is_at d.is_in h.faithful.lying)) h.faithful.lying; lent = h.faithful.lent };
+        faithful = record { lying = slot_true w.daemon.registry k (In next) (load_true source limits d.state (in_true w.daemon.registry k d.at d.state d.is_at d.is_in h.faithful.lying)) h.faithful.lying; lent = h.faithful.lent };
         begun = h.begun;
       });
     }
@@ -518,29 +519,29 @@ unknown registry name source e = ap (λ (o : Option ℕ). loaded_at registry o s
 
 -- ---- the event
 
-by_takes : (t : Ghost) (w : WorldCore) (name : List ℕ) (source : SourceState) (b : Bool) → source.steady ≡ true → MayHaveSource t.infos t.system.make name source → IsPageView source.page → WorldRefines t w → list_any (holds name) w.daemon.slots ≡ false → (d : IsIn w.daemon.registry name) → takes_page d.state ≡ b → Loaded t w name source
-by_takes t w name source true steady keep page_view h free d e = lays_in t w name source steady keep page_view h free d e
-by_takes t w name source false steady keep page_view h free d e = keeps_in t w name source h free d e
+by_takes : (t : Ghost) (w : WorldCore) (name : List ℕ) (source : SourceState) (b : Bool) → IsHeldPage (held_from source) → MayHaveSource t.infos t.system.make name source → WorldRefines t w → list_any (holds name) w.daemon.slots ≡ false → (d : IsIn w.daemon.registry name) → takes_page d.state ≡ b → Loaded t w name source
+by_takes t w name source true limits keep h free d e = lays_in t w name source limits keep h free d e
+by_takes t w name source false limits keep h free d e = keeps_in t w name source h free d e
 
-by_slot : (t : Ghost) (w : WorldCore) (name : List ℕ) (source : SourceState) (k : ℕ) (p : Place DeviceState) → source.steady ≡ true → MayHaveSource t.infos t.system.make name source → IsPageView source.page → WorldRefines t w → list_any (holds name) w.daemon.slots ≡ false → find_name name w.daemon.registry ≡ Some k → slice_get w.daemon.registry k ≡ Some p → ((s : DeviceState) × (p.slot ≡ In s)) ⊎ (p.slot ≡ Out) → Loaded t w name source
-by_slot t w name source k p steady keep page_view h free found at (inl s) = by_takes t w name source (takes_page s.0) steady keep page_view h free (record { place = k; at = p; state = s.0; found = found; is_at = at; is_in = s.1 }) refl
-by_slot t w name source k p steady keep page_view h free found at (inr out) =
+by_slot : (t : Ghost) (w : WorldCore) (name : List ℕ) (source : SourceState) (k : ℕ) (p : Place DeviceState) → IsHeldPage (held_from source) → MayHaveSource t.infos t.system.make name source → WorldRefines t w → list_any (holds name) w.daemon.slots ≡ false → find_name name w.daemon.registry ≡ Some k → slice_get w.daemon.registry k ≡ Some p → ((s : DeviceState) × (p.slot ≡ In s)) ⊎ (p.slot ≡ Out) → Loaded t w name source
+by_slot t w name source k p limits keep h free found at (inl s) = by_takes t w name source (takes_page s.0) limits keep h free (record { place = k; at = p; state = s.0; found = found; is_at = at; is_in = s.1 }) refl
+by_slot t w name source k p limits keep h free found at (inr out) =
     let f = found_place w.daemon.registry name k found in
     let same : f.place ≡ p = unsome f.place p (sym f.at ∙ at) in
     let leased = is_out t w name k p h at out (ap (λ (x : Place DeviceState). x.info.name) (sym same) ∙ f.name_is) in
     absurd (let clash : false ≡ true = sym free ∙ leased in cc)
 
-by_name : (t : Ghost) (w : WorldCore) (name : List ℕ) (source : SourceState) (o : Option ℕ) → source.steady ≡ true → MayHaveSource t.infos t.system.make name source → IsPageView source.page → WorldRefines t w → list_any (holds name) w.daemon.slots ≡ false → find_name name w.daemon.registry ≡ o → Loaded t w name source
-by_name t w name source None steady keep page_view h free e = refused t w name source h (not_leased w.daemon name source free ∙ ap (λ (r : Table). record w.daemon { registry = r }) (unknown w.daemon.registry name source e)) (unlisted t w name h e)
-by_name t w name source (Some k) steady keep page_view h free e = let f = found_slot name w.daemon.registry k e in by_slot t w name source k f.place steady keep page_view h free e f.at f.slot
+by_name : (t : Ghost) (w : WorldCore) (name : List ℕ) (source : SourceState) (o : Option ℕ) → IsHeldPage (held_from source) → MayHaveSource t.infos t.system.make name source → WorldRefines t w → list_any (holds name) w.daemon.slots ≡ false → find_name name w.daemon.registry ≡ o → Loaded t w name source
+by_name t w name source None limits keep h free e = refused t w name source h (not_leased w.daemon name source free ∙ ap (λ (r : Table). record w.daemon { registry = r }) (unknown w.daemon.registry name source e)) (unlisted t w name h e)
+by_name t w name source (Some k) limits keep h free e = let f = found_slot name w.daemon.registry k e in by_slot t w name source k f.place limits keep h free e f.at f.slot
 
-by_lease : (t : Ghost) (w : WorldCore) (name : List ℕ) (source : SourceState) → source.steady ≡ true → MayHaveSource t.infos t.system.make name source → IsPageView source.page → WorldRefines t w → (d : IsLeased t w name) → (b : Bool) → takes_page d.lease.device ≡ b → Loaded t w name source
-by_lease t w name source steady keep page_view h d true e = lays_leased t w name source steady keep page_view h d e
-by_lease t w name source steady keep page_view h d false e = stays_leased t w name source h d e
+by_lease : (t : Ghost) (w : WorldCore) (name : List ℕ) (source : SourceState) → IsHeldPage (held_from source) → MayHaveSource t.infos t.system.make name source → WorldRefines t w → (d : IsLeased t w name) → (b : Bool) → takes_page d.lease.device ≡ b → Loaded t w name source
+by_lease t w name source limits keep h d true e = lays_leased t w name source limits keep h d e
+by_lease t w name source limits keep h d false e = stays_leased t w name source h d e
 
-by_held : (t : Ghost) (w : WorldCore) (name : List ℕ) (source : SourceState) (b : Bool) → source.steady ≡ true → MayHaveSource t.infos t.system.make name source → IsPageView source.page → WorldRefines t w → list_any (holds name) w.daemon.slots ≡ b → Loaded t w name source
-by_held t w name source true steady keep page_view h e = let d = whose t w name h e in by_lease t w name source steady keep page_view h d (takes_page d.lease.device) refl
-by_held t w name source false steady keep page_view h e = by_name t w name source (find_name name w.daemon.registry) steady keep page_view h e refl
+by_held : (t : Ghost) (w : WorldCore) (name : List ℕ) (source : SourceState) (b : Bool) → IsHeldPage (held_from source) → MayHaveSource t.infos t.system.make name source → WorldRefines t w → list_any (holds name) w.daemon.slots ≡ b → Loaded t w name source
+by_held t w name source true limits keep h e = let d = whose t w name h e in by_lease t w name source limits keep h d (takes_page d.lease.device) refl
+by_held t w name source false limits keep h e = by_name t w name source (find_name name w.daemon.registry) limits keep h e refl
 
 pub loads_follow : LoadsFollow
-loads_follow t w name source steady keep page_view h = by_held t w name source (list_any (holds name) w.daemon.slots) steady keep page_view h refl
+loads_follow t w name source limits keep h = by_held t w name source (list_any (holds name) w.daemon.slots) limits keep h refl

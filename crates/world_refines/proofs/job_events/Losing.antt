@@ -1,8 +1,6 @@
 -- The loss of a control connection, and of a data connection.
 use Rattle.std.specs.Prelude.{option_map, is_some, IsSome}
-use Rattle.std.specs.List.{AllByRecursion}
 use Rattle.std.proofs.Common.{◌≡◌, ◌≢◌, ◌⊎◌, inl, inr, ◌∙◌, ℕ, ◌<◌, List, [], ◌∷◌, Option, Some, None, Bool, true, false, refl, sym, ap, subst, map, slice_get, slice_set}
-use Rattle.page_picture.specs.Page.{IsPageView}
 use Rattle.sane_fixed.specs.declared.device_info.DeviceInfo.{DeviceInfo}
 use Rattle.device_api.specs.State.{DeviceState}
 use Rattle.frame_join.specs.FrameHistory.{JoinHistory}
@@ -20,7 +18,6 @@ use Rattle.system_model.specs.Daemon.{Quiet}
 use Rattle.system_model.specs.Actions as actions
 use Rattle.system_model.specs.Actions.{session_after_loss}
 use Rattle.system_model.specs.SystemStates.{JobState}
-use Rattle.system_model.specs.AbstractDevices.{Begin}
 use Rattle.system_model.specs.Transitions.{By, IsUnderWay}
 use Rattle.system_model.proofs.JobPromises.{sound_after_all}
 use Rattle.daemon_refines.proofs.Moved.{put_there}
@@ -31,7 +28,7 @@ use Rattle.scan_world.specs.Endpoints.{after_move, without_link}
 use Rattle.scan_world.specs.JobEvents as world
 use Rattle.scan_world.specs.Worlds.{WorldCore}
 use Rattle.world_refines.specs.GhostStates.{Ghost, Wires, place_of_info, wired_then}
-use Rattle.world_refines.specs.WorldRefinement.{WiresMatch, IsServed, Means, WorldRefines, slot_of_link, session_by}
+use Rattle.world_refines.specs.WorldRefinement.{WiresMatch, IsServed, Means, WorldRefines, slot_of_link, session_by, AreStartedViews}
 use Rattle.world_refines.specs.GhostEvents.{GhostLeads, LosesControl, wires_without_down}
 use Rattle.world_refines.proofs.state.CoreCallsKeep.{leaves_ended, shows_ended}
 use Rattle.world_refines.proofs.job_events.Cancelling.{flows_over, other_cause}
@@ -125,7 +122,7 @@ unlinked_stands t w i p id h at low link =
       });
       link = λ x none. absurd (let clash : None ≡ Some x = none in cc);
       reseats = subst (λ (x : Option SessionId). Reseats x None w.daemon e) (sym link) (reseats_ended w.daemon id h.slots_are.apart);
-      begun = subst (λ (x : JobState). AllByRecursion (λ (b : Begin). IsPageView b.page) x.session.started) (sym job_state) (h.begun i);
+      begun = subst (λ (x : JobState). AreStartedViews t.system.make x) (sym job_state) (h.begun i);
     }))
 
 pub control_decides : DecidesAt events.LoseControl LosesControl

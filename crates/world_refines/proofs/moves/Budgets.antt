@@ -121,8 +121,8 @@ enough tasks.Scan n count few = few.0 refl
 enough (tasks.Batch count) n (some, most) few = few.1 (omega (arith, some, most))
 
 pub new_worlds_pay : NewWorldsPay
-new_worlds_pay fallible jobs other devices w new fit i endpoint at under =
-    let t = initial_ghost fallible jobs other devices w.daemon.users w.endpoints in
+new_worlds_pay sources jobs other devices w new fit i endpoint at under =
+    let t = initial_ghost sources jobs other devices w.daemon.users w.endpoints in
     let is = new_at jobs w.endpoints i endpoint new at in
     let job = slice_index_or jobs i other in
     let size : HasJobSize job × HasCount job.task = fit i other (within jobs i is.job is.at) in

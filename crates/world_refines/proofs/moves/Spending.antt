@@ -362,7 +362,7 @@ answers_own t u w v i n p q steps h k at there can a = by_answers a
     by_answers : AnswersSome n t i steps u → Own t i steps u
     by_answers (GoesOn asked rest told c more e takes on) = answered e.chances _ refl refl e.steps_are takes (λ legal. served_before t i e.chances legal (served_in t u i steps _ e.chances takes e.steps_are on))
     by_answers (IsOver asked rest told c e takes was off) = answered e.chances _ refl refl e.steps_are takes (λ _. was)
-    by_answers (BreaksOff memory asked rest told before c e is takes) = broken e.chances memory _ refl refl (is ∙ ap (λ (xs : List Transition). xs ++ By i (actions.Breaks memory) ∷ []) e.steps_are) takes
+    by_answers (BreaksOff memory asked rest told before c e cut is takes) = broken e.chances memory _ refl refl (is ∙ ap (λ (xs : List Transition). xs ++ By i (actions.Breaks memory) ∷ []) e.steps_are) takes
     by_answers (WasOver off none takes) =
         by_takes t i steps u [] (record x { up = bytes_not_delivered n x.up }) none (subst (λ (xs : List Transition). GhostTakes t i xs (record x { up = bytes_not_delivered n x.up }) u) (sym none) takes)
         (λ _ _. by_less (length x.up) (length x.down) (on_its_way x.image) (counted_at (job_state t i).client.stage x) (length (bytes_not_delivered n x.up)) all less)

@@ -1,6 +1,6 @@
 -- NOBODY IS STUCK: a job that runs has a next move.
 use Rattle.std.specs.Prelude.{IsSome, ◌<◌, ◌≤◌, not}
-use Rattle.std.proofs.Common.{◌≡◌, ◌≢◌, ◌⊎◌, inl, inr, ◌∙◌, ℕ, ◌+◌, List, [], ◌∷◌, ◌++◌, true, false, Option, Some, None, option_map, refl, sym, ap, subst, map, length, slice_get, arith, append-nil}
+use Rattle.std.proofs.Common.{◌≡◌, ◌≢◌, ◌⊎◌, inl, inr, ◌∙◌, ℕ, ◌+◌, List, [], ◌∷◌, ◌++◌, true, false, Option, Some, None, option_map, refl, sym, ap, subst, map, length, slice_get, arith, append-nil, Bool}
 use Rattle.std.proofs.lemmas.List.{length-append}
 use Rattle.data_records.specs.Records.{RecordsContinue, HasEnded, IsInBody, IsRecords, all_counted, end_record}
 use Rattle.data_records.specs.declared.records.RecordPhase.{RecordPhase}
@@ -27,14 +27,14 @@ use Rattle.scan_world.specs.declared.event.JobEvent.TheVariants as events
 use Rattle.scan_world.specs.declared.endpoint.Image.{Image}
 use Rattle.scan_world.specs.declared.endpoint.Endpoint.{Endpoint}
 use Rattle.scan_world.specs.JobEvents as world
-use Rattle.scan_world.specs.JobMoves.{HasNone, IsNext, in_order}
+use Rattle.scan_world.specs.JobMoves.{HasNone, IsNext, in_order, IsFirstMove}
 use Rattle.scan_world.specs.Worlds.{WorldCore}
 use Rattle.world_refines.specs.GhostStates.{Ghost, place_of_info}
 use Rattle.world_refines.specs.Wires.{CarriesFlight, IsDialled, FlightMatches, FlowsAt, SpellsAsked, SpellsReplies}
 use Rattle.world_refines.specs.WorldPending.{HasNoRequest}
 use Rattle.world_refines.specs.WorldRefinement.{WorldRefines, image_bytes}
 use Rattle.world_refines.specs.GhostEvents.{GhostCan, HasSomeBytes}
-use Rattle.world_refines.specs.WorldPromises.{NobodyIsStuck}
+use Rattle.world_refines.specs.WorldPromises.{NobodyIsStuck, LossesAreExplained}
 use Rattle.world_refines.proofs.job_events.ControlConnections.{connect_decides}
 use Rattle.world_refines.proofs.requests.Cut.{is_limited, sent}
 use Rattle.world_refines.proofs.frames.Dialling.{dial_decides}
@@ -47,6 +47,10 @@ use Rattle.world_refines.proofs.state.GhostClients.{runs_under}
 use Rattle.world_refines.proofs.requests.OneAnswer.{all_requests}
 use Rattle.world_refines.proofs.frames.Seeing.{data_decides, is_reader}
 use Rattle.world_refines.proofs.frames.TurnEvents.{turn_decides}
+use Rattle.std.specs.List.{AllByRecursion}
+use Rattle.system_model.specs.Causes.{IsCauseAmong, WasUnsaid}
+use Rattle.saned_core.specs.DaemonStates.{Core}
+use Rattle.scan_world.specs.declared.event.Event.TheVariants.{Connect, ToDaemon, ToClient, DataConnect, DataTurn, DataToClient, LoseControl, LoseImage, Cancel}
 
 -- ---- a reader that has not ended wants more
 
@@ -135,7 +139,7 @@ imaging_move t w i p params heard h at low runs stage images = by_carried images
     flow : flow_at t i p (t.system.job i).session.transfer
     flow = subst (λ (st : JobStage). FlightMatches st (t.system.job i).session.transfer p.client.progress p.client.phase (t.wires i).image (t.system.job i).session.flight (t.system.job i).session.ending) stage (h.endpoints i p at).means.flow
 
-    by_carried : sync.DataUnderWay i (make_for t.system i) (t.system.job i).session (device_for t.system i) images.continues.begin.options images.frame images.more heard images.rest → CanMove t i
+    by_carried : sync.DataUnderWay i (make_for t.system i) (t.system.job i).session (device_for t.system i) images.continues.begin.options images.more heard images.rest → CanMove t i
     by_carried (inl flows) = flows_move t w i p params heard stage flow flows.transfer
     by_carried (inr (inl out)) = ended_move t w i p _ h at low runs out.transfer out.ending flow
     by_carried (inr (inr (inl cut))) = ended_move t w i p _ h at low runs cut.transfer cut.ending flow
@@ -200,3 +204,76 @@ nobody_is_stuck t w i p event h at next = (
   λ runs. by_deed t w i p next.job_event event h at (subst (λ (n : ℕ). i < n) (sym h.is_of.count) (within w.endpoints i p at)) runs next.event_is (next.runs runs),
   λ over. next.event_is ∙ ap (option_map (world.job_event_of i)) (next.over over),
 )
+
+-- ---- the loss of its control connection
+
+-- none of these moves comes first, so its session is over
+last_of : (d : Core) (p : Endpoint) (ms : List JobEvent) (x : JobEvent) → AllByRecursion (λ (m : JobEvent). x ≡ m → ⊥) ms → IsFirstMove d p ms x → p.is_over ≡ true
+last_of d p [] x none h = h.1
+last_of d p (m ∷ ms) x none (inl h) = absurd (none.0 h.1)
+last_of d p (m ∷ ms) x none (inr h) = last_of d p ms x none.1 h.1
+
+no_other : AllByRecursion (λ (m : JobEvent). events.LoseControl ≡ m → ⊥) in_order
+no_other = (
+  (λ e. let clash : events.LoseControl ≡ events.Connect = e in cc),
+  (
+    (λ e. let clash : events.LoseControl ≡ events.ToDaemon 4096 = e in cc),
+    (
+      (λ e. let clash : events.LoseControl ≡ events.ToClient 4096 = e in cc),
+      (
+        (λ e. let clash : events.LoseControl ≡ events.DataConnect = e in cc),
+        (
+          (λ e. let clash : events.LoseControl ≡ events.DataToClient 4096 = e in cc),
+          ((λ e. let clash : events.LoseControl ≡ events.DataTurn = e in cc), tt),
+        ),
+      ),
+    ),
+  ),
+)
+
+abbrev IsExplainedAt : Ghost → ℕ → Endpoint → Type 0
+IsExplainedAt t i p = (p.out_of_memory ≡ true) ⊎ (IsUnderWay (t.system.job i).client.stage × IsCauseAmong WasUnsaid (t.system.job i).session.met)
+
+-- its session does not stand
+no_session : {A : Type 0} (t : Ghost) (w : WorldCore) (i : ℕ) (p : Endpoint) → WorldRefines t w → slice_get w.endpoints i ≡ Some p → p.is_over ≡ true → (t.system.job i).linked ≡ true → (t.system.job i).served ≡ true → A
+no_session t w i p h at over linked served = absurd (let clash : true ≡ false = sym over ∙ ((h.endpoints i p at).means.over linked ∙ ap not served) in cc)
+
+explained_by : (t : Ghost) (w : WorldCore) (i : ℕ) (p : Endpoint) (st : JobStage) → WorldRefines t w → slice_get w.endpoints i ≡ Some p → (GhostCan t i events.Connect → ⊥) → i < t.count → p.is_over ≡ true → (t.system.job i).client.stage ≡ st → IsUnderWay st → sound.StageInvariant i (make_for t.system i) (t.system.job i) (device_for t.system i) st → IsExplainedAt t i p
+explained_by t w i p Idle h at never low over stage u k = absurd (never (low, stage))
+explained_by t w i p (Running g) h at never low over stage u (inl a) = no_session t w i p h at over a.linked a.served
+explained_by t w i p (Running g) h at never low over stage u (inr (inl told)) = no_session t w i p h at over told.linked told.served
+explained_by t w i p (Running g) h at never low over stage u (inr (inr dead)) =
+    elim dead.cause [
+      | inl memory ↦ inl ((h.endpoints i p at).means.starved memory)
+      | inr unsaid ↦ inr (subst IsUnderWay (sym stage) tt, unsaid)
+    ]
+explained_by t w i p Done h at never low over stage u k = absurd u
+explained_by t w i p (Ended status why) h at never low over stage u k = absurd u
+
+explained_first : (t : Ghost) (w : WorldCore) (i : ℕ) (p : Endpoint) → WorldRefines t w → slice_get w.endpoints i ≡ Some p → is_running p.client.outcome ≡ true → IsFirstMove w.daemon p in_order events.LoseControl → IsExplainedAt t i p
+explained_first t w i p h at runs (inl first) = absurd (let clash : events.LoseControl ≡ events.Connect = first.1 in cc)
+explained_first t w i p h at runs (inr first) =
+    let s = h.endpoints i p at in
+    let me = t.system.job i in
+    let low : i < t.count = subst (λ (n : ℕ). i < n) (sym h.is_of.count) (within w.endpoints i p at) in
+    let under = runs_under (place_of_info t.infos) (target_of (t.jobs i)) me.session.job (map (λ (x : JoinHistory). x.ended) (t.pages i)) (protocol_of p.client (t.history i)) me.client s.talks.reads runs in
+    explained_by t w i p me.client.stage h at (λ can. first.0 ((connect_decides t w i p h at low).can can)) low (last_of w.daemon p in_order events.LoseControl no_other (inr first)) refl under (h.sound.talks i)
+
+is_loss : (i : ℕ) (x : JobEvent) → Some (LoseControl i) ≡ Some (world.job_event_of i x) → x ≡ events.LoseControl
+is_loss i events.LoseControl e = refl
+is_loss i events.Connect e = absurd (let clash : Some (LoseControl i) ≡ Some (Connect i) = e in cc)
+is_loss i (events.ToDaemon n) e = absurd (let clash : Some (LoseControl i) ≡ Some (ToDaemon i n) = e in cc)
+is_loss i (events.ToClient n) e = absurd (let clash : Some (LoseControl i) ≡ Some (ToClient i n) = e in cc)
+is_loss i events.DataConnect e = absurd (let clash : Some (LoseControl i) ≡ Some (DataConnect i) = e in cc)
+is_loss i events.DataTurn e = absurd (let clash : Some (LoseControl i) ≡ Some (DataTurn i) = e in cc)
+is_loss i (events.DataToClient n) e = absurd (let clash : Some (LoseControl i) ≡ Some (DataToClient i n) = e in cc)
+is_loss i events.LoseImage e = absurd (let clash : Some (LoseControl i) ≡ Some (LoseImage i) = e in cc)
+is_loss i events.Cancel e = absurd (let clash : Some (LoseControl i) ≡ Some (Cancel i) = e in cc)
+
+explained_move : (t : Ghost) (w : WorldCore) (i : ℕ) (p : Endpoint) (x : Option JobEvent) (b : Bool) → is_running p.client.outcome ≡ b → WorldRefines t w → slice_get w.endpoints i ≡ Some p → Some (LoseControl i) ≡ option_map (world.job_event_of i) x → (b ≡ true → IsNext w.daemon p in_order x) → (b ≡ false → x ≡ None) → IsExplainedAt t i p
+explained_move t w i p None b runs h at is first over = absurd (let clash : Some (LoseControl i) ≡ None = is in cc)
+explained_move t w i p (Some x) true runs h at is first over = explained_first t w i p h at runs (subst (IsFirstMove w.daemon p in_order) (is_loss i x is) (first refl))
+explained_move t w i p (Some x) false runs h at is first over = absurd (let clash : Some x ≡ None = over refl in cc)
+
+pub losses_explained : LossesAreExplained
+losses_explained t w i p h at next = explained_move t w i p next.job_event (is_running p.client.outcome) refl h at next.event_is next.runs next.over

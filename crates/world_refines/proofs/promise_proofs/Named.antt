@@ -3,7 +3,7 @@ use Rattle.std.proofs.Common.{◌≡◌, ◌≢◌, inl, inr, ◌∙◌, ℕ, Li
 use Rattle.sane_fixed.specs.declared.status.Status.{Status as Code}
 use Rattle.sane_fixed.specs.declared.status.Status.TheVariants as codes
 use Rattle.system_model.specs.AbstractMessages.{Challenge, AbstractRequest, Status, Good, GivenUp, Busy, Inval, Eof, NoDocs, IoError, NoMem, AccessDenied, Why}
-use Rattle.system_model.specs.Causes.{Cause, GaveUp, LinkLost, LinkOutOfMemory, SourceFailed, NamesEof, Names, Unforced, WasUnlisted, HadNoPicture, WasHeld, Disallowed, TrayWasEmpty, TrayRanOut, ClientOutOfMemory, IsExplained, Explains, IsCauseAmong}
+use Rattle.system_model.specs.Causes.{Cause, GaveUp, LinkLost, LinkOutOfMemory, WasUnsaid, SourceFailed, NamesEof, Names, Unforced, WasUnlisted, HadNoPicture, WasHeld, Disallowed, TrayWasEmpty, TrayRanOut, ClientOutOfMemory, IsExplained, Explains, IsCauseAmong}
 use Rattle.system_model.specs.Daemon.{Environment, FailureCounts}
 use Rattle.system_model.specs.Actions as actions
 use Rattle.system_model.specs.Actions.{answer_next, environment_of, break_causes, loss_cause, job_after_action, served_by}
@@ -40,7 +40,7 @@ loss_spares false = one LinkLost (λ e. let clash : Names Good ≡ LinkLost = e 
 
 breaking_spares : (memory : Bool) → Spares (break_causes memory)
 breaking_spares true = one LinkOutOfMemory (λ e. let clash : Names Good ≡ LinkOutOfMemory = e in cc)
-breaking_spares false = λ h. h
+breaking_spares false = one WasUnsaid (λ e. let clash : Names Good ≡ WasUnsaid = e in cc)
 
 abbrev IsSpared : JobState → Type 0
 IsSpared p = Spares p.session.met
@@ -119,6 +119,7 @@ cause_refuses : (c : Cause) (s : Status) (w : Why) → (Names Good ≡ c → ⊥
 cause_refuses GaveUp s w n h = given_up s h.0
 cause_refuses LinkLost s w n h = io_error s h.0
 cause_refuses LinkOutOfMemory s w n h = io_error s h.0
+cause_refuses WasUnsaid s w n h = absurd h
 cause_refuses SourceFailed s w n h = io_error s h.0
 cause_refuses NamesEof s w n h = io_error s h.0
 cause_refuses (Names status) s w n h = (λ g. n (ap (λ (x : Status). Names x) (sym g ∙ h.0)), λ g. h.1 (sym h.0 ∙ g))

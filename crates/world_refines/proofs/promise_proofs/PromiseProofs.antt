@@ -175,13 +175,13 @@ not_laid task o past true e n = ap (λ (x : Bool). cond x (cond (is_batch task) 
 not_laid task o past false e n = ap (λ (x : Bool). cond x (cond (is_batch task) (is_joined past.ended) false) false) e
 
 -- the file of a finished page denotes what the settings mean on the page of its start
-pub meant_by : (t : Ghost) (w : WorldCore) (i : ℕ) (endpoint : Endpoint) (begin : Begin) (q : JoinHistory) (file : List ℕ) → WorldRefines t w → slice_get w.endpoints i ≡ Some endpoint → IsPictureOfStart (make_for t.system i) (t.system.job i).session.job.settings begin q.ended → IsPageView begin.page → IsFinished q → file ≡ q.given →
+pub meant_by : (t : Ghost) (w : WorldCore) (i : ℕ) (endpoint : Endpoint) (begin : Begin) (q : JoinHistory) (file : List ℕ) → WorldRefines t w → slice_get w.endpoints i ≡ Some endpoint → IsPictureOfStart (make_for t.system i) (t.system.job i).session.job.settings begin q.ended → (make_for t.system i).steady ≡ true → IsPageView begin.page → IsFinished q → file ≡ q.given →
     IsMeant (make_for t.system i) (t.jobs i).settings.items begin file
-meant_by t w i endpoint begin q file h at picture page_view finished given =
+meant_by t w i endpoint begin q file h at picture steady page_view finished given =
     let s = h.endpoints i endpoint at in
     let me = t.system.job i in
     let k = make_for t.system i in
-    let meant = pictures_meant k me.session.job.settings begin q.ended picture page_view in
+    let meant = pictures_meant k me.session.job.settings begin q.ended picture steady page_view in
     let settings : me.session.job.settings ≡ map requested_setting (t.jobs i).settings.items = ap (λ (x : rules.AbstractJob). x.settings) s.job_is in
     let in_force : option_map (λ r. r.0) (devices.in_force k.model k.order (t.jobs i).settings.items) ≡ Some begin.options =
     ap (λ (x : List (List ℕ × List ℕ)). option_map (λ r. r.0) (devices.in_force k.model k.order x)) (sym (ap (map pair_of) settings ∙ same_pairs (t.jobs i).settings.items))
@@ -207,12 +207,12 @@ scans_are_meant t w i endpoint reports file h at scan done kept =
     let none : t.pages i ≡ [] = s.talks.alone (no_batch (t.jobs i).task scan) in
     let all : frames ∷ [] ≡ wholes past.ended = sym c.4 ∙ (ap (λ (m : ClientView). m.pages) (sym same) ∙ (s.talks.reads.files.all ∙ ap (λ (pages : List JoinHistory). map (λ (q : JoinHistory). q.ended) pages ++ wholes past.ended) none)) in
     let whole = only_whole (is_joined past.ended) past.ended frames refl (sym all) in
-    let page_view : IsPageView begin.page = (subst (λ (x : List Begin). AllByRecursion (λ (b : Begin). IsPageView b.page) x) c.3 (h.begun i)).0 in
+    let page_view : k.steady ≡ true → IsPageView begin.page = λ steady. (subst (λ (x : List Begin). AllByRecursion (λ (b : Begin). IsPageView b.page) x) c.3 (h.begun i steady)).0 in
     let files = subst (λ (b : Bool). KeepsFiles b past (t.pages i) endpoint) (not_laid (t.jobs i).task endpoint.client.outcome past (is_done endpoint.client.outcome) refl (no_batch (t.jobs i).task scan)) s.talks.files in
     let given : file ≡ past.given = subst (λ (x : Option (List ℕ)). KeepsFile endpoint.out_of_memory past.given x) kept files.file in
     record {
       begin = begin;
       later = c.1;
       started = c.3;
-      meant = meant_by t w i endpoint begin past file h at (subst (λ (x : List Frame). IsPictureOfStart k me.session.job.settings begin x) (sym whole.1) c.5) page_view (s.talks.done (ap is_done done) whole.0) given;
+      meant = λ steady. meant_by t w i endpoint begin past file h at (subst (λ (x : List Frame). IsPictureOfStart k me.session.job.settings begin x) (sym whole.1) c.5) steady (page_view steady) (s.talks.done (ap is_done done) whole.0) given;
     }

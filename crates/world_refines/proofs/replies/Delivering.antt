@@ -34,7 +34,7 @@ use Rattle.scan_world.specs.JobEvents.{is_done, bytes_not_delivered, delivered_b
 use Rattle.scan_world.specs.Worlds.{WorldCore}
 use Rattle.world_refines.specs.GhostStates.{Ghost, Wires, place_of_info, ghost_after}
 use Rattle.world_refines.specs.Wires.{SpellsAwaitedReply, FlightMatches, FlowsBy, NothingFlows, SpellsAsked, SpellsReplies}
-use Rattle.world_refines.specs.WorldRefinement.{WiresMatch, IsServed, Means, WorldRefines, EndpointClientRefines, slot_of_link, session_by}
+use Rattle.world_refines.specs.WorldRefinement.{WiresMatch, IsServed, Means, WorldRefines, EndpointClientRefines, slot_of_link, session_by, AreStartedViews}
 use Rattle.world_refines.specs.ClientDeliveries.{asking_left, wires_after_delivery}
 use Rattle.world_refines.proofs.state.Changing.{stands_change}
 use Rattle.world_refines.proofs.state.Held.{held_after_all}
@@ -100,7 +100,8 @@ delivered_stands t w i n p q id steps x past after h at low link stays to keeps 
       });
       link = λ y is. inl (sym stays ∙ is);
       reseats = subst (λ (l : Option SessionId). Reseats p.link l w.daemon e) (sym stays) (reseats_taken n p.link w.daemon id.number);
-      begun = subst (λ (y : JobState). AllByRecursion (λ (b : Begin). IsPageView b.page) y.session.started) (sym to.job) (subst (AllByRecursion (λ (b : Begin). IsPageView b.page)) (sym keeps.started) (h.begun i));
+      begun = subst (λ (y : JobState). AreStartedViews t.system.make y) (sym to.job)
+          (λ steady. subst (AllByRecursion (λ (b : Begin). IsPageView b.page)) (sym keeps.started) (h.begun i (ap (λ (j : _). (t.system.make j.wants).steady) (sym keeps.job) ∙ steady)));
     })
 
 -- ---- the bytes
@@ -239,7 +240,7 @@ waits_for i k b m dev st right imaging none calm = let images : sync.Images i k 
     by_carriage c calm (inl e) = e
     by_carriage c calm (inr e) = absurd (calm_streams c calm e)
 
-    by_carried : (i : ℕ) (k : Make) (b : SessionView) (m : ClientView) (dev : AbstractDevice) (params : _) (heard : List ℕ) → (images : sync.Images i k b m dev params heard) → b.ending ≡ None → sound.IsCalm b.transfer → sync.DataUnderWay i k b dev images.continues.begin.options images.frame images.more heard images.rest → b.transfer ≡ Waiting
+    by_carried : (i : ℕ) (k : Make) (b : SessionView) (m : ClientView) (dev : AbstractDevice) (params : _) (heard : List ℕ) → (images : sync.Images i k b m dev params heard) → b.ending ≡ None → sound.IsCalm b.transfer → sync.DataUnderWay i k b dev images.continues.begin.options images.more heard images.rest → b.transfer ≡ Waiting
     by_carried i k b m dev params heard images none calm (inl flows) = by_carriage b.transfer calm flows.transfer
     by_carried i k b m dev params heard images none calm (inr (inl out)) = absurd (let clash : None ≡ Some _ = sym none ∙ out.ending in cc)
     by_carried i k b m dev params heard images none calm (inr (inr (inl short))) = absurd (let clash : None ≡ Some _ = sym none ∙ short.ending in cc)

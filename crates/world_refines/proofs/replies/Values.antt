@@ -7,7 +7,6 @@ use Rattle.std.proofs.lemmas.Bool.{eq-eqb}
 use Rattle.std.proofs.lemmas.List.{length-map}
 use Rattle.sane_fixed.specs.declared.kind.Kind.{Kind}
 use Rattle.sane_fixed.specs.declared.kind.Kind.TheVariants as kinds
-use Rattle.sane_fixed.specs.declared.status.Status.TheVariants as statuses
 use Rattle.constraint.specs.Nearest.{PlaceByPlace}
 use Rattle.option_desc.specs.declared.descriptor.Constraint.{Constraint}
 use Rattle.option_desc.specs.declared.value.Value.{Value}
@@ -16,7 +15,6 @@ use Rattle.option_desc.specs.Put.{NearestValue, NearestWord}
 use Rattle.page_picture.specs.declared.scene.DeviceKind.{DeviceKind}
 use Rattle.scan_frames.specs.declared.setup.Setup.{Setup}
 use Rattle.device_api.specs.ScannerLimits.{IsAllowed}
-use Rattle.device_api.specs.declared.choice.Choice.TheVariants as choice
 use Rattle.device_api.specs.declared.scan_option.ScanOption.{ScanOption}
 use Rattle.device_api.specs.Options.{option_constraint, option_kind, option_size}
 use Rattle.device_api.specs.Values.{option_value}

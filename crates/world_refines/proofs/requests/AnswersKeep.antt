@@ -3,7 +3,7 @@ use Rattle.std.proofs.Common.{◌≡◌, ◌≢◌, ◌⊎◌, inl, inr, ◌∙�
 use Rattle.system_model.specs.AbstractMessages.{Challenge, AbstractRequest, Status}
 use Rattle.system_model.specs.Devices.{Make}
 use Rattle.system_model.specs.AbstractDevices.{AbstractDevice}
-use Rattle.system_model.specs.Causes.{Cause, IsCauseAmong, LinkOutOfMemory}
+use Rattle.system_model.specs.Causes.{Cause, IsCauseAmong, LinkOutOfMemory, WasUnsaid}
 use Rattle.system_model.specs.Daemon.{Environment, TransferState, Quiet, Waiting, Streaming, Ending, FailureCounts, answer}
 use Rattle.system_model.specs.Actions as actions
 use Rattle.system_model.specs.Actions.{answer_next, break_causes, job_after_action}
@@ -67,7 +67,8 @@ answer_not_starved i k dev c awaited x q met h = by_either (met_either (answer i
     by_either (inr m) = m
 
 pub not_breaking : (met : List Cause) → IsCauseAmong LinkOutOfMemory (break_causes false ++ met) → IsCauseAmong LinkOutOfMemory met
-not_breaking met h = h
+not_breaking met (inl e) = absurd (let clash : LinkOutOfMemory ≡ WasUnsaid = e in cc)
+not_breaking met (inr m) = m
 
 -- ---- a job that is answered
 

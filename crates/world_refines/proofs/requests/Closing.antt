@@ -2,7 +2,6 @@
 use Rattle.std.specs.Prelude.{map, option_map}
 use Rattle.std.specs.List.{AllByRecursion}
 use Rattle.std.proofs.Common.{◌≡◌, ◌≢◌, ◌⊎◌, inl, inr, ◌∙◌, ℕ, List, [], ◌∷◌, ◌++◌, Bool, true, false, eqb, Some, refl, sym, ap, subst, slice_get}
-use Rattle.page_picture.specs.Page.{IsPageView}
 use Rattle.dispatch.specs.declared.table.place.Lease.{Lease}
 use Rattle.device_api.specs.State.{DeviceState}
 use Rattle.saned_requests.specs.declared.request_answer.RequestAnswer.{RequestAnswer}
@@ -14,7 +13,7 @@ use Rattle.wire_message.specs.declared.message.Request.{Request as Asked}
 use Rattle.system_model.specs.AbstractMessages.{AbstractRequest}
 use Rattle.system_model.specs.Devices.{Make}
 use Rattle.system_model.specs.Causes.{IsCauseAmong, LinkOutOfMemory}
-use Rattle.system_model.specs.AbstractDevices.{Begin, AbstractDevice, is_held_by, device_let_go}
+use Rattle.system_model.specs.AbstractDevices.{AbstractDevice, is_held_by, device_let_go}
 use Rattle.system_model.specs.Client.{ClientView}
 use Rattle.system_model.specs.Daemon.{Quiet}
 use Rattle.system_model.specs.Actions as actions
@@ -32,8 +31,8 @@ use Rattle.daemon_refines.proofs.Moved.{put_elsewhere, put_there}
 use Rattle.daemon_refines.proofs.OtherSessions.{leaves_same, leaves_then}
 use Rattle.daemon_refines.proofs.ScannerStarts.{starved_in}
 use Rattle.world_refines.specs.GhostStates.{Ghost}
-use Rattle.world_refines.specs.WorldRefinement.{IsFaithful, IsFaithfulLease, IsFaithfulPlace, info_at, session_by}
-use Rattle.world_refines.proofs.requests.AnswersKeep.{Stays, stays}
+use Rattle.world_refines.specs.WorldRefinement.{IsFaithful, IsFaithfulLease, IsFaithfulPlace, info_at, session_by, AreStartedViews}
+use Rattle.world_refines.proofs.requests.AnswersKeep.{Stays, stays, not_breaking}
 use Rattle.world_refines.proofs.state.CoreCallsKeep.{given_infos, place_left, put_let_go, word_wanted}
 use Rattle.world_refines.proofs.state.Faithful.{given_true, word_true}
 use Rattle.world_refines.proofs.state.ReadTrue.{held_true, stopped_true}
@@ -104,7 +103,7 @@ pub record Closed (t : Ghost) (i : ℕ) (s : SystemState) (d : RequestContext) (
   pub served : ((after_all s steps).job i).served ≡ false
   pub quiet : ((after_all s steps).job i).session.transfer ≡ Quiet
   pub starved : memory ≡ false → IsCauseAmong LinkOutOfMemory ((after_all s steps).job i).session.met → IsCauseAmong LinkOutOfMemory (s.job i).session.met
-  pub started : AllByRecursion (λ (b : Begin). IsPageView b.page) ((after_all s steps).job i).session.started
+  pub started : AreStartedViews s.make ((after_all s steps).job i)
   pub back : TableRefines i s.make [] (daemon.table_let_go new) (after_all s steps).device
   pub others : LeavesOthers i d.registry (daemon.table_let_go new) s.device (after_all s steps).device
   pub infos : t.infos ≡ map info_at (daemon.table_let_go new)
@@ -128,14 +127,14 @@ broken i memory = By i (actions.Breaks memory)
 abbrev broken_party : Bool → JobState → JobState
 broken_party memory p = record p { todo = []; due = []; served = false; session = without_session memory p.session }
 
-pub breaks : (t : Ghost) (i : ℕ) (s : SystemState) (d new : RequestContext) (memory : Bool) → Desked t i s d → MayBreak (s.job i).client.stage → Back i s.make d s.device new → Closed t i s d (broken i memory ∷ []) memory new
-breaks t i s d new memory h may back =
+pub breaks : (t : Ghost) (i : ℕ) (s : SystemState) (d new : RequestContext) (memory : Bool) → Desked t i s d → MayBreak (s.job i).client.stage → (memory ≡ false → (s.job i).due ≢ []) → Back i s.make d s.device new → Closed t i s d (broken i memory ∷ []) memory new
+breaks t i s d new memory h may some back =
     let p = s.job i in
     let next = after_transition s (By i (actions.Breaks memory)) in
     let is : next.job i ≡ broken_party memory p = put_there s.job i (broken_party memory p) in
     let same : (k : ℕ) → next.device k ≡ device_let_go i (s.device k) = let_go_there i s.make d s.device p h.shows in
     record {
-      legal = ((h.served, may), tt);
+      legal = ((h.served, may, some), tt);
       keeps = record {
         make = refl;
         places = refl;
@@ -150,7 +149,7 @@ breaks t i s d new memory h may back =
       served = ap (λ (x : JobState). x.served) is;
       quiet = ap (λ (x : JobState). x.session.transfer) is;
       starved = λ nay met. by_memory memory p nay (subst (λ (x : JobState). IsCauseAmong LinkOutOfMemory x.session.met) is met);
-      started = subst (λ (x : JobState). AllByRecursion (λ (b : Begin). IsPageView b.page) x.session.started) (sym is) h.started;
+      started = subst (λ (x : JobState). AreStartedViews s.make x) (sym is) h.started;
       back = same_tables i s.make [] (daemon.table_let_go new) (λ k. device_let_go i (s.device k)) next.device same back.back;
       others = leaves_same i d.registry (daemon.table_let_go new) s.device (λ k. device_let_go i (s.device k)) next.device same back.others;
       infos = h.infos ∙ (ap (map info_at) (sym back.registry) ∙ sym (given_infos new.registry new.session.held));
@@ -160,7 +159,7 @@ breaks t i s d new memory h may back =
   where
     by_memory : (memory : Bool) (p : JobState) → memory ≡ false → IsCauseAmong LinkOutOfMemory (without_session memory p.session).met → IsCauseAmong LinkOutOfMemory p.session.met
     by_memory true p e met = absurd (let clash : true ≡ false = e in cc)
-    by_memory false p e met = met
+    by_memory false p e met = not_breaking p.session.met met
 
 -- ---- its last request
 
@@ -202,7 +201,7 @@ closed_behind t i s d mid new chances steps memory legal others c =
       served = ap (λ (x : SystemState). (x.job i).served) is ∙ c.served;
       quiet = ap (λ (x : SystemState). (x.job i).session.transfer) is ∙ c.quiet;
       starved = λ nay met. stay.own.starved (c.starved nay (subst (λ (x : SystemState). IsCauseAmong LinkOutOfMemory (x.job i).session.met) is met));
-      started = subst (λ (x : SystemState). AllByRecursion (λ (b : Begin). IsPageView b.page) (x.job i).session.started) (sym is) c.started;
+      started = subst (λ (x : SystemState). AreStartedViews s.make (x.job i)) (sym is) (subst (λ (m : ℕ → Make). AreStartedViews m ((after_all far steps).job i)) stay.make c.started);
       back = subst (λ (x : SystemState). TableRefines i s.make [] (daemon.table_let_go new) x.device) (sym is) (subst (λ (m : ℕ → Make). TableRefines i m [] (daemon.table_let_go new) (after_all far steps).device) stay.make c.back);
       others = subst (λ (x : SystemState). LeavesOthers i d.registry (daemon.table_let_go new) s.device x.device) (sym is) (leaves_then i d.registry mid.registry (daemon.table_let_go new) s.device far.device (after_all far steps).device others c.others);
       infos = c.infos;
@@ -219,4 +218,4 @@ breaks_behind_one t i s d new r rest said memory h e may on one =
     let now = one.on on in
     let still : MayBreak (next.job i).client.stage = subst (λ (m : ClientView). MayBreak m.stage) (sym (stays i s (chance ∷ [])).own.client) may in
     let back = back_same i next.make new next.device (session_by i next.device (next.job i)) new now.shows (record { held = refl; registry = refl }) in
-    closed_behind t i s d new new (chance ∷ []) (broken i memory ∷ []) memory (legal_answer t i s d one.challenge one.fault r rest h e one.may, tt) (one.others on) (breaks t i next new new memory now still back)
+    closed_behind t i s d new new (chance ∷ []) (broken i memory ∷ []) memory (legal_answer t i s d one.challenge one.fault r rest h e one.may, tt) (one.others on) (breaks t i next new new memory now still (λ _. one.some_due on) back)

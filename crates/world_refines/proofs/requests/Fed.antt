@@ -1,8 +1,6 @@
 -- A delivery to a session: what stands behind it, of what became of the session and of its slot.
 use Rattle.std.specs.Prelude.{is_some, not, option_map}
-use Rattle.std.specs.List.{AllByRecursion}
 use Rattle.std.proofs.Common.{◌≡◌, inl, ◌∙◌, ℕ, ◌<◌, List, ◌++◌, Option, Some, Bool, true, false, refl, sym, ap, subst, slice_get, slice_set}
-use Rattle.page_picture.specs.Page.{IsPageView}
 use Rattle.device_api.specs.State.{DeviceState}
 use Rattle.sane_fixed.specs.declared.device_info.DeviceInfo.{DeviceInfo}
 use Rattle.saned_core.specs.declared.session_slot.SessionSlot.{SessionSlot}
@@ -12,7 +10,6 @@ use Rattle.saned_core.specs.Feeding.{input_in}
 use Rattle.scan_job.specs.declared.job.Job.{Job}
 use Rattle.system_model.specs.Devices.{Make}
 use Rattle.system_model.specs.Causes.{IsCauseAmong, LinkOutOfMemory}
-use Rattle.system_model.specs.AbstractDevices.{Begin}
 use Rattle.system_model.specs.Client.{Idle, ClientView}
 use Rattle.system_model.specs.Daemon.{Quiet}
 use Rattle.system_model.specs.SystemStates.{JobState}
@@ -26,7 +23,7 @@ use Rattle.net_client.specs.ClientStates.{ClientState}
 use Rattle.world_refines.specs.GhostStates.{Ghost, Wires, place_of_info, wired_then}
 use Rattle.world_refines.specs.Speaks.{Speaks, WaitsQuietly}
 use Rattle.world_refines.specs.Wires.{FlightMatches, SpellsAsked, SpellsReplies}
-use Rattle.world_refines.specs.WorldRefinement.{WiresMatch, HasNoEnd, IsServed, Means, WorldRefines, slot_of_link, session_by}
+use Rattle.world_refines.specs.WorldRefinement.{WiresMatch, HasNoEnd, IsServed, Means, WorldRefines, slot_of_link, session_by, AreStartedViews}
 use Rattle.world_refines.proofs.state.Changing.{IsChange, stands_change}
 use Rattle.world_refines.proofs.requests.Closing.{Keeps}
 use Rattle.world_refines.proofs.state.Held.{held_after_all}
@@ -111,7 +108,7 @@ pub record FedSo (t : Ghost) (w : WorldCore) (i : ℕ) (p q : Endpoint) (id : Se
   pub served : IsServed i t.system.make e (Some id) ((after_all t.system steps).job i).served (after_all t.system steps).device (session_by i (after_all t.system steps).device ((after_all t.system steps).job i))
   pub leaves : Leaves i t.system.make (Some id) w.daemon e t.system.device (after_all t.system steps).device
   pub reseats : Reseats (Some id) (Some id) w.daemon e
-  pub begun : AllByRecursion (λ (b : Begin). IsPageView b.page) ((after_all t.system steps).job i).session.started
+  pub begun : AreStartedViews t.system.make ((after_all t.system steps).job i)
   pub speaks : Speaks (t.jobs i).device ((after_all t.system steps).job i) (session_in (session_slot_of e.slots id.number))
   pub waits : WaitsQuietly p.client.progress ((after_all t.system steps).job i).todo
   pub pending : HasNoRequest asking

@@ -19,7 +19,9 @@ use Rattle.wire_message.specs.declared.message.Request.{Request as WireRequest}
 use Rattle.net_client.specs.Sending.{requests_text}
 use Rattle.client_refines.specs.RequestRefinement.{AreRequests}
 use Rattle.saned_core.specs.Feeding as daemon
-use Rattle.saned_core.specs.Feeding.{Feeds, FeedsIn, input_in}
+use Rattle.saned_core.specs.Feeding.{Feeds, input_in, core_context}
+use Rattle.saned_core.specs.Inside.{FeedsIn, slot_or_none_after_feed}
+use Rattle.saned_core.proofs.FeedCases.{feeds_in}
 use Rattle.scan_job.specs.declared.job.Job.{Job}
 use Rattle.client_replies.specs.declared.progress.Progress.{Progress}
 use Rattle.client_replies.specs.ProtocolStates.{target_of, is_running}
@@ -38,7 +40,7 @@ use Rattle.system_model.specs.SystemStates.{JobState, make_for, device_for}
 use Rattle.system_model.specs.Transitions.{IsHistory, IsImaging, IsUnderWay, MayBreak, Transition, after_all}
 use Rattle.daemon_refines.specs.ContextRefinement.{ContextRefines, TableRefines}
 use Rattle.daemon_refines.specs.Feeds.{IsSessionBegun}
-use Rattle.daemon_refines.specs.Cores.{SessionRefines, core_context}
+use Rattle.daemon_refines.specs.Cores.{SessionRefines}
 use Rattle.system_model.specs.AbstractSessions.{AbstractSession as RuledSession}
 use Rattle.scan_world.specs.declared.event.JobEvent.TheVariants as events
 use Rattle.scan_world.specs.declared.endpoint.Endpoint.{Endpoint}
@@ -47,10 +49,10 @@ use Rattle.scan_world.specs.JobEvents.{after_fed, bytes_not_delivered, delivered
 use Rattle.scan_world.specs.Worlds.{WorldCore}
 use Rattle.world_refines.specs.GhostStates.{Ghost, place_of_info, wired_then}
 use Rattle.world_refines.specs.Wires.{FlightMatches, FlowsBy, SpellsAsked, SpellsReplies}
-use Rattle.world_refines.specs.WorldRefinement.{HasNoEnd, IsFaithfulLease, IsFaithfulSessionSlot, IsFaithfulSession, IsServed, WorldRefines, slot_of_link, session_by}
+use Rattle.world_refines.specs.WorldRefinement.{HasNoEnd, IsFaithfulLease, IsFaithfulSessionSlot, IsFaithfulSession, IsServed, WorldRefines, slot_of_link, session_by, AreStartedViews}
 use Rattle.world_refines.specs.Speaks.{Speaks}
 use Rattle.world_refines.specs.GhostEvents.{GhostCan, GhostLeads}
-use Rattle.world_refines.specs.Answering.{AnswersSome, Completes}
+use Rattle.world_refines.specs.Answering.{AnswersSome, Completes, IsCutShort}
 use Rattle.world_refines.specs.Answering.AnswersSome.{BreaksOff, GoesOn, IsOver, WasOver}
 use Rattle.world_refines.proofs.requests.AnswersKeep.{stays}
 use Rattle.world_refines.proofs.requests.Closing.{Closed, broken, keeps_stayed}
@@ -177,10 +179,10 @@ own_waits t w i p id session r =
 -- what the daemon's contract says of it
 record IsFedOn (t : Ghost) (w : WorldCore) (n i : ℕ) (id : SessionId) (session : DeskSession DeviceState) (e : Core) (context : RequestContext) (rest text : List ℕ) : Type 0 where
   others : e ≡ record w.daemon { slots = e.slots; registry = e.registry; stream = e.stream }
-  slots : e.slots ≡ on_session_slot (daemon.slot_or_none_after_feed Standing context rest text) id.number w.daemon.slots
+  slots : e.slots ≡ on_session_slot (slot_or_none_after_feed Standing context rest text) id.number w.daemon.slots
   registry : e.registry ≡ context.registry
   stream : e.stream ≡ context.stream
-  feeds : daemon.FeedsOn t.users (core_context w.daemon session) (t.wires i).asking (delivered_bytes n (t.wires i).up) rest context text
+  feeds : daemon.FeedsOn (record { users = t.users; context = core_context w.daemon session; before = (t.wires i).asking; piece = delivered_bytes n (t.wires i).up }) (record { context = context; rest = rest; text = text })
 
 session_on : (e : Core) (context : RequestContext) (i : ℕ) (make : ℕ → Make) (n : ℕ) (device : ℕ → AbstractDevice) (s : RuledSession) → session_in (session_slot_of e.slots n) ≡ Some context.session → e.registry ≡ context.registry → e.stream ≡ context.stream → ContextRefines i make context device s → IsSessionBegun context → SessionRefines i make e n device s
 session_on e context i make n device s stands registry stream shows begun =
@@ -231,7 +233,7 @@ goes_on t w i n p id session e context rest text r can f =
       served = subst (λ (b : Bool). IsServed i t.system.make e (Some id) b s.device (session_by i s.device now)) (sym ran.desked.served) (session_on e context i t.system.make id.number s.device (session_by i s.device now) session_there f.registry f.stream shows ran.desked.begun);
       leaves = leaves_fed i t.system.make w.daemon e id t.system.device s.device Standing context rest text context.registry f.others f.slots f.registry h.slots h.faithful (sym ran.desked.infos ∙ h.is_of.infos) ran.desked.lying ran.desked.held context.session.held shows.devices ran.others;
       reseats = reseats_fed Standing context rest text (Some id) w.daemon e id.number f.slots;
-      begun = ran.desked.started;
+      begun = subst (λ (m : ℕ → Make). AreStartedViews m now) stay.make ran.desked.started;
       speaks = subst (λ (o : Option (DeskSession DeviceState)). Speaks (t.jobs i).device now o) (sym session_there) ran.desked.speaks;
       waits = subst (WaitsQuietly p.client.progress) (sym ran.todo) (waits_behind p.client.progress c.first c.others (subst (WaitsQuietly p.client.progress) c.are sits.waits));
       pending = no_request_wants rest g.wants;
@@ -259,7 +261,7 @@ goes_on t w i n p id session e context rest text r can f =
 record IsFedOff (t : Ghost) (w : WorldCore) (id : SessionId) (e : Core) (fed : Fed) (context : RequestContext) (rest text : List ℕ) : Type 0 where
   off : IsNotOn fed
   others : e ≡ record w.daemon { slots = e.slots; registry = e.registry; stream = e.stream }
-  slots : e.slots ≡ on_session_slot (daemon.slot_or_none_after_feed fed context rest text) id.number w.daemon.slots
+  slots : e.slots ≡ on_session_slot (slot_or_none_after_feed fed context rest text) id.number w.daemon.slots
   registry : e.registry ≡ daemon.table_let_go context
 
 -- the endpoint behind it
@@ -282,7 +284,7 @@ off_so t w i n p q id session e fed context rest text down steps memory r f endp
     let s = after_all t.system steps in
     let now = s.job i in
     let over = seat_over fed context rest text id.number w.daemon.slots r.slot f.off h.slots_are.apart r.seat_is in
-    let there : session_slot_of e.slots id.number ≡ session_slot_of (on_session_slot (daemon.slot_or_none_after_feed fed context rest text) id.number w.daemon.slots) id.number = ap (λ (ss : Seats). session_slot_of ss id.number) f.slots in
+    let there : session_slot_of e.slots id.number ≡ session_slot_of (on_session_slot (slot_or_none_after_feed fed context rest text) id.number w.daemon.slots) id.number = ap (λ (ss : Seats). session_slot_of ss id.number) f.slots in
     let none : session_in (session_slot_of e.slots id.number) ≡ None = ap session_in there ∙ over.session in
     let way : (p.client.progress ≡ stages.Over) ⊎ IsUnderWay now.client.stage = way_or p.client.outcome p.client.progress now.client.stage (is_running p.client.outcome) refl sits.talks.over
     (λ runs. subst (λ (m : ClientView). IsUnderWay m.stage) (sym c.keeps.client) (runs_under (place_of_info t.infos) (target_of (t.jobs i)) me.session.job (map (λ (y : JoinHistory). y.ended) (t.pages i)) (protocol_of p.client (t.history i)) me.client sits.talks.reads runs)) in
@@ -331,7 +333,7 @@ assoc_down : (a b c : List ℕ) → (a ++ b) ++ c ≡ [] → a ++ (b ++ c) ≡ [
 assoc_down a b c e = sym (append_assoc a b c) ∙ e
 
 goes_off : (t : Ghost) (w : WorldCore) (i n : ℕ) (p : Endpoint) (id : SessionId) (session : DeskSession DeviceState) (e : Core) (context : RequestContext) (rest text : List ℕ) → Ready t w i p id session → GhostCan t i (events.ToDaemon n) → IsFedOff t w id e Over context rest text →
-    daemon.FeedsOver t.users (core_context w.daemon session) (t.wires i).asking (delivered_bytes n (t.wires i).up) context text → GhostLeads (events.ToDaemon n) (AnswersSome n) t i (record { daemon = e; endpoints = slice_set w.endpoints i (after_fed Over (world.without_sent n p)) })
+    daemon.FeedsOver (record { users = t.users; context = core_context w.daemon session; before = (t.wires i).asking; piece = delivered_bytes n (t.wires i).up }) context text → GhostLeads (events.ToDaemon n) (AnswersSome n) t i (record { daemon = e; endpoints = slice_set w.endpoints i (after_fed Over (world.without_sent n p)) })
 goes_off t w i n p id session e context rest text r can f g =
     let x = t.wires i in
     let o = is_over t i (core_context w.daemon session) context x.asking x.up n text r.one r.desked r.may r.spells g in
@@ -348,12 +350,12 @@ goes_off t w i n p id session e context rest text r can f g =
     (fed_stands t w i p q id e a.steps up [] down (bytes_not_delivered n p.client.out) r.stands r.at r.low r.link (off_so t w i n p q id session e Over context rest text down a.steps false r f endpoint a.closed refl silent))
   where
     by_steps : (t : Ghost) (i n : ℕ) (request_awaited : List AbstractRequest) (rest : List ℕ) (steps : List Transition) (chances : List Chance) (text : List ℕ) → Completes t i n request_awaited rest → length chances ≡ length request_awaited → IsHistory t.system steps → (t.system.job i).served ≡ true → ((after_all t.system steps).job i).served ≡ false →
-        ((false ≡ false) × (steps ≡ answers i chances)) ⊎ (steps ≡ answers i chances ++ broken i false ∷ []) → AnswersSome n t i steps (wired_then t i steps (fed_wires (bytes_not_delivered n (t.wires i).up) [] ((t.wires i).down ++ text) (t.wires i)))
+        ((false ≡ false) × (steps ≡ answers i chances)) ⊎ (IsCutShort false t.users t.infos (t.jobs i) × (steps ≡ answers i chances ++ broken i false ∷ [])) → AnswersSome n t i steps (wired_then t i steps (fed_wires (bytes_not_delivered n (t.wires i).up) [] ((t.wires i).down ++ text) (t.wires i)))
     by_steps t i n request_awaited rest steps chances text completes count legal on off (inl is) = IsOver request_awaited rest text completes (record { chances = chances; count = count; steps_are = is.1 }) (record { legal = legal; then_is = refl }) on off
-    by_steps t i n request_awaited rest steps chances text completes count legal on off (inr is) = BreaksOff false request_awaited rest text (answers i chances) completes (record { chances = chances; count = count; steps_are = refl }) is (record { legal = legal; then_is = refl })
+    by_steps t i n request_awaited rest steps chances text completes count legal on off (inr is) = BreaksOff false request_awaited rest text (answers i chances) completes (record { chances = chances; count = count; steps_are = refl }) is.0 is.1 (record { legal = legal; then_is = refl })
 
 goes_without : (t : Ghost) (w : WorldCore) (i n : ℕ) (p : Endpoint) (id : SessionId) (session : DeskSession DeviceState) (e : Core) (context : RequestContext) (rest text : List ℕ) → Ready t w i p id session → GhostCan t i (events.ToDaemon n) → IsFedOff t w id e Starved context rest text →
-    daemon.FeedOutOfMemory t.users (core_context w.daemon session) (t.wires i).asking (delivered_bytes n (t.wires i).up) context → GhostLeads (events.ToDaemon n) (AnswersSome n) t i (record { daemon = e; endpoints = slice_set w.endpoints i (after_fed Starved (world.without_sent n p)) })
+    daemon.FeedOutOfMemory (record { users = t.users; context = core_context w.daemon session; before = (t.wires i).asking; piece = delivered_bytes n (t.wires i).up }) context → GhostLeads (events.ToDaemon n) (AnswersSome n) t i (record { daemon = e; endpoints = slice_set w.endpoints i (after_fed Starved (world.without_sent n p)) })
 goes_without t w i n p id session e context rest text r can f g =
     let x = t.wires i in
     let a = is_starved t i (core_context w.daemon session) context x.asking x.up n r.one r.desked r.may r.spells g in
@@ -367,9 +369,9 @@ goes_without t w i n p id session e context rest text r can f g =
     (fed_stands t w i p q id e a.steps up [] [] (bytes_not_delivered n p.client.out) r.stands r.at r.low r.link (off_so t w i n p q id session e Starved context rest text [] a.steps true r f endpoint a.closed refl silent))
   where
     by_steps : (t : Ghost) (i n : ℕ) (request_awaited : List AbstractRequest) (rest : List ℕ) (steps : List Transition) (chances : List Chance) → Completes t i n request_awaited rest → length chances ≡ length request_awaited → IsHistory t.system steps →
-        ((true ≡ false) × (steps ≡ answers i chances)) ⊎ (steps ≡ answers i chances ++ broken i true ∷ []) → AnswersSome n t i steps (wired_then t i steps (fed_wires (bytes_not_delivered n (t.wires i).up) [] [] (t.wires i)))
+        ((true ≡ false) × (steps ≡ answers i chances)) ⊎ (IsCutShort true t.users t.infos (t.jobs i) × (steps ≡ answers i chances ++ broken i true ∷ [])) → AnswersSome n t i steps (wired_then t i steps (fed_wires (bytes_not_delivered n (t.wires i).up) [] [] (t.wires i)))
     by_steps t i n request_awaited rest steps chances completes count legal (inl is) = absurd (let clash : true ≡ false = is.0 in cc)
-    by_steps t i n request_awaited rest steps chances completes count legal (inr is) = BreaksOff true request_awaited rest [] (answers i chances) completes (record { chances = chances; count = count; steps_are = refl }) is (record { legal = legal; then_is = refl })
+    by_steps t i n request_awaited rest steps chances completes count legal (inr is) = BreaksOff true request_awaited rest [] (answers i chances) completes (record { chances = chances; count = count; steps_are = refl }) is.0 is.1 (record { legal = legal; then_is = refl })
 
 -- ---- a connection that stands is that of a job that was begun
 
@@ -493,8 +495,8 @@ piece_leads t w i n p id fed e true on h at low link one can g =
     let s = h.endpoints i p at in
     let stands : session_in (session_slot_of w.daemon.slots id.number) ≡ Some r.0 = ap session_in r.1.seat_is ∙ r.1.going in
     let fed_in : FeedsIn r.0 w.daemon.users id.number (input_in (session_slot_of w.daemon.slots id.number)) w.daemon.slots w.daemon.registry w.daemon.stream (delivered_bytes n p.client.out) fed e.slots e.registry e.stream =
-    subst (λ (o : Option (DeskSession DeviceState)). daemon.FeedsIf o w.daemon.users id.number (input_in (session_slot_of w.daemon.slots id.number)) w.daemon.slots w.daemon.registry w.daemon.stream (delivered_bytes n p.client.out) fed e.slots e.registry e.stream) stands g.session in
-    by_fed t w i n p id r.0 fed e r.1 can g.others
+    feeds_in id.number w.daemon (delivered_bytes n p.client.out) fed e r.0 stands g in
+    by_fed t w i n p id r.0 fed e r.1 can g.others.rest
     (subst (λ (us : List Entry). FeedsIn r.0 us id.number (t.wires i).asking w.daemon.slots w.daemon.registry w.daemon.stream (delivered_bytes n (t.wires i).up) fed e.slots e.registry e.stream) (sym h.is_of.users)
     (subst (λ (b : List ℕ). FeedsIn r.0 w.daemon.users id.number (t.wires i).asking w.daemon.slots w.daemon.registry w.daemon.stream (delivered_bytes n b) fed e.slots e.registry e.stream) s.carries.up
     (subst (λ (b : List ℕ). FeedsIn r.0 w.daemon.users id.number b w.daemon.slots w.daemon.registry w.daemon.stream (delivered_bytes n p.client.out) fed e.slots e.registry e.stream) (came_is t w i p id r.0 r.1) fed_in)))
@@ -502,13 +504,8 @@ piece_leads t w i n p id fed e false off h at low link one can g =
     let s = h.endpoints i p at in
     let served = subst (λ (o : Option SessionId). IsServed i t.system.make w.daemon o (t.system.job i).served t.system.device (session_by i t.system.device (t.system.job i))) link s.served in
     let none : session_in (session_slot_of w.daemon.slots id.number) ≡ None = (subst (λ (b : Bool). IsServed i t.system.make w.daemon (Some id) b t.system.device (session_by i t.system.device (t.system.job i))) off served).0 in
-    let f = subst (λ (o : Option (DeskSession DeviceState)). daemon.FeedsIf o w.daemon.users id.number (input_in (session_slot_of w.daemon.slots id.number)) w.daemon.slots w.daemon.registry w.daemon.stream (delivered_bytes n p.client.out) fed e.slots e.registry e.stream) none g.session in
-    let same : e ≡ w.daemon = g.others ∙ same_core w.daemon e f.1 f.2 f.3 in
-    subst (λ (x : Fed). GhostLeads (events.ToDaemon n) (AnswersSome n) t i (record { daemon = e; endpoints = slice_set w.endpoints i (after_fed x (world.without_sent n p)) })) (sym f.0) (was_over t w i n p id e h at low link can off same)
-  where
-    same_core : (d e : Core) → e.slots ≡ d.slots → e.registry ≡ d.registry → e.stream ≡ d.stream → record d { slots = e.slots; registry = e.registry; stream = e.stream } ≡ d
-    same_core d e a b c =
-        ap (λ (x : Seats). record d { slots = x; registry = e.registry; stream = e.stream }) a ∙ (ap (λ (x : Table). record d { registry = x; stream = e.stream }) b ∙ ap (λ (x : ChaCha). record d { stream = x }) c)
+    let still = g.idle none in
+    subst (λ (x : Fed). GhostLeads (events.ToDaemon n) (AnswersSome n) t i (record { daemon = e; endpoints = slice_set w.endpoints i (after_fed x (world.without_sent n p)) })) (sym still.0) (was_over t w i n p id e h at low link can off still.1)
 
 -- ---- when it can be
 

@@ -10,7 +10,8 @@ use Rattle.saned_core.specs.declared.session_slot.Fed.TheVariants.{Standing, Ove
 use Rattle.saned_core.specs.declared.session_slot.SessionSlot.{SessionSlot}
 use Rattle.saned_core.specs.declared.session_slot.SessionId.{SessionId}
 use Rattle.saned_core.specs.DaemonStates.{Core, on_session_slot, replies_in, session_slot_of, session_in, slot_if_open}
-use Rattle.saned_core.specs.Feeding.{slot_after_feed, input_in, slot_or_none_after_feed}
+use Rattle.saned_core.specs.Feeding.{input_in}
+use Rattle.saned_core.specs.Inside.{slot_after_feed, slot_or_none_after_feed}
 use Rattle.system_model.specs.Devices.{Make}
 use Rattle.system_model.specs.AbstractDevices.{AbstractDevice}
 use Rattle.daemon_refines.specs.ContextRefinement.{TableRefines}

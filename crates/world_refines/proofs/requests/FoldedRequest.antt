@@ -1,7 +1,7 @@
 -- One request of a job's client, by the model, as the fold over a piece's requests takes it.
 use Rattle.std.specs.Prelude.{map}
 use Rattle.std.specs.List.{AllByRecursion}
-use Rattle.std.proofs.Common.{◌≡◌, ◌⊎◌, inl, inr, ◌∙◌, ℕ, List, [], ◌∷◌, ◌++◌, true, false, Option, sym, ap, subst, append-nil}
+use Rattle.std.proofs.Common.{◌≡◌, inl, inr, ◌∙◌, ℕ, List, [], ◌∷◌, ◌++◌, true, false, Option, sym, ap, subst, append-nil, ◌≢◌}
 use Rattle.page_picture.specs.Page.{IsPageView}
 use Rattle.page_picture.specs.Shows.{Frame}
 use Rattle.wire_message.specs.declared.message.Request.{Request as Asked}
@@ -27,21 +27,22 @@ use Rattle.daemon_refines.specs.OtherSessions.{LeavesOthers}
 use Rattle.daemon_refines.proofs.Moved.{put_there}
 use Rattle.world_refines.specs.GhostStates.{Ghost}
 use Rattle.world_refines.specs.Speaks.{SetsAsHeld, SpeaksAs, WaitsQuietly}
-use Rattle.world_refines.specs.WorldRefinement.{IsFaithfulLease, IsFaithfulPlace, info_at, session_by}
+use Rattle.world_refines.specs.WorldRefinement.{IsFaithfulLease, IsFaithfulPlace, info_at, session_by, AreStartedViews}
 use Rattle.world_refines.proofs.requests.Asked.{IsSession, free_elsewhere}
 use Rattle.world_refines.proofs.requests.Folding.{AnswersOne, Desked, IsReadAs, OneRequest, Replied, answers_to, legal_answer}
 use Rattle.world_refines.proofs.state.Held.{held_after_all}
-use Rattle.world_refines.proofs.requests.PlainAnswers.{answer_ends}
+use Rattle.world_refines.proofs.requests.PlainAnswers.{Ends, IsTold, answer_ends}
 use Rattle.world_refines.proofs.requests.Replied.{Answering, IsAnswered, answers_as}
 use Rattle.world_refines.proofs.requests.Served.{devices_by, put_let_go, serving}
 use Rattle.world_refines.proofs.requests.Silent.{IsOwnInit, ends_silent}
+use Rattle.system_model.specs.Devices.{Make}
 
 -- what an answer leaves of the table's infos, and of what is true to its pages
-pub record KeepsTrue (d new : RequestContext) (v : AnswerEffect) : Type 0 where
+pub record KeepsTrue (k : Make) (d new : RequestContext) (v : AnswerEffect) : Type 0 where
   pub infos : map info_at new.registry ≡ map info_at d.registry
   pub held : AllByRecursion IsFaithfulLease new.session.held
   pub lying : AllByRecursion IsFaithfulPlace new.registry
-  pub begun : AllByRecursion (λ (b : Begin). IsPageView b.page) v.begun
+  pub begun : k.steady ≡ true → AllByRecursion (λ (b : Begin). IsPageView b.page) v.begun
 
 -- the job by the model, and all devices, behind the answer
 abbrev pub served_now : ℕ → SystemState → AbstractRequest → Challenge → Option FailureCounts → AnswerEffect
@@ -71,9 +72,19 @@ own_init target known q r is = tt
 
 -- ---- where it ends
 
-ended_is : (v : AnswerEffect) (i : ℕ) (dev : AbstractDevice) → v.goes_on ≡ false → (v.goes_on ≡ true) ⊎ (v ≡ session_over_effect (device_let_go i dev)) → v ≡ session_over_effect (device_let_go i dev)
-ended_is v i dev off (inl on) = absurd (let clash : true ≡ false = sym on ∙ off in cc)
+ended_is : (v : AnswerEffect) (i : ℕ) (dev : AbstractDevice) → v.goes_on ≡ false → Ends i dev v → v ≡ session_over_effect (device_let_go i dev)
+ended_is v i dev off (inl on) = absurd (let clash : true ≡ false = sym on.0 ∙ off in cc)
 ended_is v i dev off (inr is) = is
+
+-- something is due to its client where it goes on
+told_on : (due told : List AbstractReply) → IsTold told → due ++ told ≢ []
+told_on [] [] some none = some
+told_on [] (r ∷ told) some none = let clash : r ∷ told ≡ [] = none in absurd (cc)
+told_on (d ∷ due) told some none = let clash : d ∷ (due ++ told) ≡ [] = none in absurd (cc)
+
+tells_on : (v : AnswerEffect) (i : ℕ) (dev : AbstractDevice) (due : List AbstractReply) → v.goes_on ≡ true → Ends i dev v → due ++ v.told ≢ []
+tells_on v i dev due on (inl tells) = told_on due v.told tells.1
+tells_on v i dev due on (inr is) = absurd (let clash : false ≡ true = sym (ap (λ (x : AnswerEffect). x.goes_on) is) ∙ on in cc)
 
 -- ---- the request
 
@@ -83,7 +94,7 @@ sheets_more (x ∷ xs) ys a b = (a.0, sheets_more xs ys a.1 b)
 
 -- what is still to be shown of an answer: what it leaves true, and what is said to a client that is under way
 pub record Rest (t : Ghost) (i : ℕ) (s : SystemState) (d : RequestContext) (q : Asked) (r : AbstractRequest) (said : RequestAnswer) (new : RequestContext) (challenge : Challenge) (fault : Option FailureCounts) : Type 0 where
-  pub keeps : KeepsTrue d new (served_now i s r challenge fault)
+  pub keeps : KeepsTrue (make_for s i) d new (served_now i s r challenge fault)
   pub replied : session_goes_on said ≡ true → IsUnderWay (s.job i).client.stage → (pages : List (List Frame)) (protocol : ProtocolState) → IsReadAs t i s pages protocol → WaitsQuietly protocol.progress (s.job i).todo → Replied t i s (after_transition s (answers_to i challenge fault)) protocol.progress said
   pub cut : IsUnderWay (s.job i).client.stage → (before behind : List Wire) (reply : Wire) → replies_to said ≡ before ++ reply ∷ behind → IsUnsaid reply → before ≡ []
 
@@ -111,20 +122,21 @@ one_by t i s d new q r rest said challenge fault h e is g a more =
         places = h.places;
         held = more.keeps.held;
         lying = more.keeps.lying;
-        started = subst (λ (x : JobState). AllByRecursion (λ (b : Begin). IsPageView b.page) x.session.started) (sym job_state) (sheets_more p.session.started v.begun h.started more.keeps.begun);
+        started = subst (λ (x : JobState). AreStartedViews s.make x) (sym job_state) (λ steady. sheets_more p.session.started v.begun (h.started steady) (more.keeps.begun steady));
         sound = sound_after_all s (answers_to i challenge fault ∷ []) h.sound (legal, tt);
         asks = held_after_all s (answers_to i challenge fault ∷ []) h.sound h.asks (legal, tt);
         speaks = subst (λ (x : JobState). SpeaksAs (t.jobs i).device x new.session) (sym job_state) (a.speaks on);
         served = ap (λ (x : JobState). x.served) job_state ∙ (a.behind.same_end ∙ on);
       };
       others = λ on. subst (λ (x : ℕ → AbstractDevice). LeavesOthers i d.registry new.registry s.device x) (sym device) a.behind.others;
+      some_due = λ on. subst (λ (x : JobState). x.due ≢ []) (sym job_state) (tells_on v i (device_for s i) p.due (a.behind.same_end ∙ on) ends);
       replied = more.replied;
       cut = more.cut;
       over = λ no_more. ap (λ (x : JobState). x.served) job_state ∙ (a.behind.same_end ∙ no_more);
       quiet = λ no_more. ap (λ (x : JobState). x.session.transfer) job_state ∙ ap (λ (x : AnswerEffect). x.transfer) (off no_more);
       device = λ no_more k.
           ap (λ (x : ℕ → AbstractDevice). x k) device ∙ (ap (λ (x : AnswerEffect). devices_by s.device p x k) (off no_more) ∙ put_let_go i p.session.job.wants s.device (free_elsewhere i s.make d s.device p h.shows) k);
-      page_views = λ started. subst (λ (x : JobState). AllByRecursion (λ (b : Begin). IsPageView b.page) x.session.started) (sym job_state) (sheets_more p.session.started v.begun started more.keeps.begun);
+      page_views = λ started. subst (λ (x : JobState). AreStartedViews s.make x) (sym job_state) (λ steady. sheets_more p.session.started v.begun (started steady) (more.keeps.begun steady));
       silent = λ no_more. (
         ends_silent t.users d q said new (own_init (target_of (t.jobs i)) p.client.known q r is) g no_more,
         ap (λ (x : JobState). x.due) job_state ∙ (ap (λ (x : AnswerEffect). p.due ++ x.told) (off no_more) ∙ append-nil p.due),

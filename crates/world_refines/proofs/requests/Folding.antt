@@ -1,8 +1,7 @@
 -- The requests of a piece, one after another: each is answered as the model says, on what those before it left.
 use Rattle.std.specs.Prelude.{map, length}
 use Rattle.std.specs.List.{AllByRecursion}
-use Rattle.std.proofs.Common.{◌≡◌, inl, inr, ◌∙◌, ℕ, suc, List, [], ◌∷◌, ◌++◌, true, false, Option, refl, sym, ap, subst, append_assoc, append-nil}
-use Rattle.page_picture.specs.Page.{IsPageView}
+use Rattle.std.proofs.Common.{◌≡◌, inl, inr, ◌∙◌, ℕ, suc, List, [], ◌∷◌, ◌++◌, true, false, Option, refl, sym, ap, subst, append_assoc, append-nil, ◌≢◌}
 use Rattle.page_picture.specs.Shows.{Frame}
 use Rattle.saned_requests.specs.declared.request_answer.RequestAnswer.{RequestAnswer}
 use Rattle.saned_requests.specs.RequestAnswers.{Answers, RequestContext}
@@ -14,7 +13,7 @@ use Rattle.client_replies.specs.ProtocolStates.{ProtocolState, target_of}
 use Rattle.system_model.specs.AbstractMessages.{Challenge, AbstractRequest}
 use Rattle.system_model.specs.AbstractMessages as words
 use Rattle.system_model.specs.Devices.{Make}
-use Rattle.system_model.specs.AbstractDevices.{Begin, AbstractDevice, device_let_go, without_first}
+use Rattle.system_model.specs.AbstractDevices.{AbstractDevice, device_let_go, without_first}
 use Rattle.system_model.specs.Client.{Done, Ended, Idle, AbstractJob, ClientView, Running, JobStage}
 use Rattle.system_model.specs.Daemon.{FailureCounts, Quiet}
 use Rattle.system_model.specs.Actions as actions
@@ -34,7 +33,7 @@ use Rattle.daemon_refines.proofs.OtherSessions.{leaves_all, leaves_then}
 use Rattle.world_refines.specs.GhostStates.{Ghost, place_of_info, abstract_job}
 use Rattle.world_refines.specs.Speaks.{AsksAsHeld, SpeaksAs, WaitsQuietly}
 use Rattle.world_refines.specs.Wires.{SpellsAwaitedReply, SpellsReplies}
-use Rattle.world_refines.specs.WorldRefinement.{HaveDifferentNames, IsFaithfulLease, IsFaithfulPlace, info_at, numbers_from, session_by, client_at_greeting}
+use Rattle.world_refines.specs.WorldRefinement.{HaveDifferentNames, IsFaithfulLease, IsFaithfulPlace, info_at, numbers_from, session_by, client_at_greeting, AreStartedViews}
 use Rattle.world_refines.proofs.requests.AnswersKeep.{stays}
 use Rattle.world_refines.proofs.state.Waiting.{waits_less}
 
@@ -48,7 +47,7 @@ pub record Desked (t : Ghost) (i : ℕ) (s : SystemState) (d : RequestContext) :
   pub places : s.places ≡ numbers_from 0 t.infos
   pub held : AllByRecursion IsFaithfulLease d.session.held
   pub lying : AllByRecursion IsFaithfulPlace d.registry
-  pub started : AllByRecursion (λ (b : Begin). IsPageView b.page) (s.job i).session.started
+  pub started : AreStartedViews s.make (s.job i)
   pub sound : Invariant s
   pub asks : (j : ℕ) → AsksAsHeld s j
   pub speaks : SpeaksAs (t.jobs i).device (s.job i) d.session
@@ -74,13 +73,14 @@ pub record AnswersOne (t : Ghost) (i : ℕ) (s : SystemState) (d : RequestContex
   pub may : MayFail (make_for s i) fault
   pub on : session_goes_on said ≡ true → Desked t i (after_transition s (answers_to i challenge fault)) new
   pub others : session_goes_on said ≡ true → LeavesOthers i d.registry new.registry s.device (after_transition s (answers_to i challenge fault)).device
+  pub some_due : session_goes_on said ≡ true → ((after_transition s (answers_to i challenge fault)).job i).due ≢ []
   pub replied : session_goes_on said ≡ true → IsUnderWay (s.job i).client.stage → (pages : List (List Frame)) (protocol : ProtocolState) → IsReadAs t i s pages protocol → WaitsQuietly protocol.progress (s.job i).todo → Replied t i s (after_transition s (answers_to i challenge fault)) protocol.progress said
   pub cut : IsUnderWay (s.job i).client.stage → (before behind : List Reply) (reply : Reply) → replies_to said ≡ before ++ reply ∷ behind → IsUnsaid reply → before ≡ []
   -- where it ends the session all is given back, and nothing is said
   pub over : session_goes_on said ≡ false → ((after_transition s (answers_to i challenge fault)).job i).served ≡ false
   pub quiet : session_goes_on said ≡ false → ((after_transition s (answers_to i challenge fault)).job i).session.transfer ≡ Quiet
   pub device : session_goes_on said ≡ false → (k : ℕ) → (after_transition s (answers_to i challenge fault)).device k ≡ device_let_go i (s.device k)
-  pub page_views : AllByRecursion (λ (b : Begin). IsPageView b.page) (s.job i).session.started → AllByRecursion (λ (b : Begin). IsPageView b.page) ((after_transition s (answers_to i challenge fault)).job i).session.started
+  pub page_views : AreStartedViews s.make (s.job i) → AreStartedViews s.make ((after_transition s (answers_to i challenge fault)).job i)
   pub silent : session_goes_on said ≡ false → (replies_to said ≡ []) × (((after_transition s (answers_to i challenge fault)).job i).due ≡ (s.job i).due)
 
 abbrev pub OneRequest : Ghost → ℕ → Type 0

@@ -46,7 +46,7 @@ use Rattle.world_refines.proofs.state.StaysSteady.{IsTrueDesk, answers_keep}
 
 -- ---- what it leaves
 
-keeps_true : (t : Ghost) (i : ℕ) (s : SystemState) (d : RequestContext) (q : Asked) (r : AbstractRequest) (said : RequestAnswer) (new : RequestContext) (challenge : Challenge) (fault : Option FailureCounts) → Desked t i s d → Answers t.users d q said new → KeepsTrue d new (served_now i s r challenge fault)
+keeps_true : (t : Ghost) (i : ℕ) (s : SystemState) (d : RequestContext) (q : Asked) (r : AbstractRequest) (said : RequestAnswer) (new : RequestContext) (challenge : Challenge) (fault : Option FailureCounts) → Desked t i s d → Answers t.users d q said new → KeepsTrue (make_for s i) d new (served_now i s r challenge fault)
 keeps_true t i s d q r said new challenge fault h g =
     let keeps = answers_keep t.users d q said new g in
     let own : IsTrueDesk d = record { lying = h.lying; lent = h.held } in

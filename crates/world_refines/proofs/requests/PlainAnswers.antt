@@ -139,93 +139,101 @@ answer_asks i k dev c awaited x none e f = ap (λ (a : Option Challenge). answer
 
 -- ---- an end: the device is let go
 
+-- something is told, and the session goes on
+abbrev pub IsTold : List AbstractReply → Type 0
+IsTold [] = ⊥
+IsTold (reply ∷ told) = Unit {0}
+
+abbrev pub TellsOn : AnswerEffect → Type 0
+TellsOn v = (v.goes_on ≡ true) × IsTold v.told
+
 abbrev pub Ends : ℕ → AbstractDevice → AnswerEffect → Type 0
-Ends i dev v = (v.goes_on ≡ true) ⊎ (v ≡ session_over_effect (device_let_go i dev))
+Ends i dev v = TellsOn v ⊎ (v ≡ session_over_effect (device_let_go i dev))
 
-take_ends : (i : ℕ) (k : Make) (dev : AbstractDevice) (c : TransferState) (h : Option ℕ) → (hand_out_device i k dev c h).goes_on ≡ true
-take_ends i k dev c None = refl
-take_ends i k dev c (Some j) = refl
+take_ends : (i : ℕ) (k : Make) (dev : AbstractDevice) (c : TransferState) (h : Option ℕ) → TellsOn (hand_out_device i k dev c h)
+take_ends i k dev c None = (refl, tt)
+take_ends i k dev c (Some j) = (refl, tt)
 
-take_listed_ends : (i : ℕ) (k : Make) (dev : AbstractDevice) (c : TransferState) (listed : Bool) → (take_listed i k dev c listed).goes_on ≡ true
-take_listed_ends i k dev c false = refl
+take_listed_ends : (i : ℕ) (k : Make) (dev : AbstractDevice) (c : TransferState) (listed : Bool) → TellsOn (take_listed i k dev c listed)
+take_listed_ends i k dev c false = (refl, tt)
 take_listed_ends i k dev c true = take_ends i k dev c dev.holder
 
-open_ends : (i : ℕ) (k : Make) (dev : AbstractDevice) (c : TransferState) (challenge : Challenge) (listed guarded : Bool) → (open_listed i k dev c challenge listed guarded).goes_on ≡ true
-open_ends i k dev c challenge false guarded = refl
-open_ends i k dev c challenge true true = refl
+open_ends : (i : ℕ) (k : Make) (dev : AbstractDevice) (c : TransferState) (challenge : Challenge) (listed guarded : Bool) → TellsOn (open_listed i k dev c challenge listed guarded)
+open_ends i k dev c challenge false guarded = (refl, tt)
+open_ends i k dev c challenge true true = (refl, tt)
 open_ends i k dev c challenge true false = take_ends i k dev c dev.holder
 
-allow_ends : (i : ℕ) (k : Make) (dev : AbstractDevice) (c : TransferState) (same allowed : Bool) → (allow i k dev c same allowed).goes_on ≡ true
+allow_ends : (i : ℕ) (k : Make) (dev : AbstractDevice) (c : TransferState) (same allowed : Bool) → TellsOn (allow i k dev c same allowed)
 allow_ends i k dev c true true = take_listed_ends i k dev c dev.listed
-allow_ends i k dev c true false = refl
-allow_ends i k dev c false allowed = refl
+allow_ends i k dev c true false = (refl, tt)
+allow_ends i k dev c false allowed = (refl, tt)
 
-get_ends : (k : Make) (dev : AbstractDevice) (c : TransferState) (n : ℕ) (b : Bool) → (get_reply k dev c n b).goes_on ≡ true
-get_ends k dev c n true = refl
-get_ends k dev c n false = refl
+get_ends : (k : Make) (dev : AbstractDevice) (c : TransferState) (n : ℕ) (b : Bool) → TellsOn (get_reply k dev c n b)
+get_ends k dev c n true = (refl, tt)
+get_ends k dev c n false = (refl, tt)
 
-put_ends : (dev : AbstractDevice) (c : TransferState) (o : Option AbstractAcceptedSet) → (put_reply dev c o).goes_on ≡ true
-put_ends dev c None = refl
-put_ends dev c (Some put) = refl
+put_ends : (dev : AbstractDevice) (c : TransferState) (o : Option AbstractAcceptedSet) → TellsOn (put_reply dev c o)
+put_ends dev c None = (refl, tt)
+put_ends dev c (Some put) = (refl, tt)
 
-set_ends : (k : Make) (dev : AbstractDevice) (c : TransferState) (n : ℕ) (value : Value) (b : Bool) → (set_reply k dev c n value b).goes_on ≡ true
+set_ends : (k : Make) (dev : AbstractDevice) (c : TransferState) (n : ℕ) (value : Value) (b : Bool) → TellsOn (set_reply k dev c n value b)
 set_ends k dev c n value true = put_ends dev c (accept_value k dev.options n value)
-set_ends k dev c n value false = refl
+set_ends k dev c n value false = (refl, tt)
 
-page_ends : (k : Make) (dev : AbstractDevice) (c : TransferState) (page : Page) (frames : List Frame) → (begin_page k dev c page frames).goes_on ≡ true
-page_ends k dev c page [] = refl
-page_ends k dev c page (f ∷ more) = refl
+page_ends : (k : Make) (dev : AbstractDevice) (c : TransferState) (page : Page) (frames : List Frame) → TellsOn (begin_page k dev c page frames)
+page_ends k dev c page [] = (refl, tt)
+page_ends k dev c page (f ∷ more) = (refl, tt)
 
-pass_ends : (k : Make) (dev : AbstractDevice) (c : TransferState) (frames : List Frame) → (begin_pass k dev c frames).goes_on ≡ true
-pass_ends k dev c [] = refl
-pass_ends k dev c (f ∷ more) = refl
+pass_ends : (k : Make) (dev : AbstractDevice) (c : TransferState) (frames : List Frame) → TellsOn (begin_pass k dev c frames)
+pass_ends k dev c [] = (refl, tt)
+pass_ends k dev c (f ∷ more) = (refl, tt)
 
-tray_ends : (k : Make) (dev : AbstractDevice) (c : TransferState) (again : Bool) (tray : List Page) → (start_page k dev c again tray).goes_on ≡ true
-tray_ends k dev c again [] = refl
+tray_ends : (k : Make) (dev : AbstractDevice) (c : TransferState) (again : Bool) (tray : List Page) → TellsOn (start_page k dev c again tray)
+tray_ends k dev c again [] = (refl, tt)
 tray_ends k dev c again (page ∷ tray) = page_ends k dev c page (picture_frames k dev.options page)
 
-at_ends : (k : Make) (dev : AbstractDevice) (c : TransferState) (again : Bool) (phase : ScanPhase) → (start_at k dev c again phase).goes_on ≡ true
+at_ends : (k : Make) (dev : AbstractDevice) (c : TransferState) (again : Bool) (phase : ScanPhase) → TellsOn (start_at k dev c again phase)
 at_ends k dev c again Resting = tray_ends k dev c again dev.tray
 at_ends k dev c again (Between last more) = pass_ends k dev c more
-at_ends k dev c again (Reading frame rest more) = refl
+at_ends k dev c again (Reading frame rest more) = (refl, tt)
 
-fail_ends : (k : Make) (dev : AbstractDevice) (c : TransferState) (again : Bool) (fault : Option FailureCounts) → (start_or_fail k dev c again fault).goes_on ≡ true
+fail_ends : (k : Make) (dev : AbstractDevice) (c : TransferState) (again : Bool) (fault : Option FailureCounts) → TellsOn (start_or_fail k dev c again fault)
 fail_ends k dev c again None = at_ends k dev c again dev.phase
-fail_ends k dev c again (Some fault) = refl
+fail_ends k dev c again (Some fault) = (refl, tt)
 
-start_ends : (k : Make) (dev : AbstractDevice) (x : Environment) (c : TransferState) → (start_effect k dev x c).goes_on ≡ true
+start_ends : (k : Make) (dev : AbstractDevice) (x : Environment) (c : TransferState) → TellsOn (start_effect k dev x c)
 start_ends k dev x Quiet = fail_ends k dev Quiet x.again x.fault
-start_ends k dev x Waiting = refl
-start_ends k dev x Streaming = refl
-start_ends k dev x Ending = refl
+start_ends k dev x Waiting = (refl, tt)
+start_ends k dev x Streaming = (refl, tt)
+start_ends k dev x Ending = (refl, tt)
 
 held_over : (i : ℕ) (dev : AbstractDevice) (b : Bool) → is_held_by i dev.holder ≡ b → session_over_effect (cond b (put_back dev) dev) ≡ session_over_effect (device_let_go i dev)
 held_over i dev b e = ap (λ (x : Bool). session_over_effect (cond x (put_back dev) dev)) (sym e)
 
 if_ends : (b : Bool) (i : ℕ) (k : Make) (dev : AbstractDevice) (c : TransferState) (x : Environment) (q : AbstractRequest) → is_held_by i dev.holder ≡ b → Ends i dev (answer_if b i k dev c x q)
-if_ends true i k dev c x Init e = inl refl
-if_ends true i k dev c x GetDevices e = inl refl
+if_ends true i k dev c x Init e = inl (refl, tt)
+if_ends true i k dev c x GetDevices e = inl (refl, tt)
 if_ends true i k dev c x Open e = inl (open_ends i k dev c x.challenge dev.listed x.guarded)
 if_ends true i k dev c x (Authorize challenge) e = inr (held_over i dev true e)
-if_ends true i k dev c x Describe e = inl refl
+if_ends true i k dev c x Describe e = inl (refl, tt)
 if_ends true i k dev c x (Get o) e = inl (get_ends k dev c o (has_readable_value k dev.options o))
 if_ends true i k dev c x (Set o value) e = inl (set_ends k dev c o value (is_resting dev.phase))
-if_ends true i k dev c x Parameters e = inl refl
+if_ends true i k dev c x Parameters e = inl (refl, tt)
 if_ends true i k dev c x Start e = inl (start_ends k dev x c)
-if_ends true i k dev c x Cancel e = inl refl
-if_ends true i k dev c x Close e = inl refl
+if_ends true i k dev c x Cancel e = inl (refl, tt)
+if_ends true i k dev c x Close e = inl (refl, tt)
 if_ends true i k dev c x Exit e = inr (held_over i dev true e)
-if_ends false i k dev c x Init e = inl refl
-if_ends false i k dev c x GetDevices e = inl refl
+if_ends false i k dev c x Init e = inl (refl, tt)
+if_ends false i k dev c x GetDevices e = inl (refl, tt)
 if_ends false i k dev c x Open e = inl (open_ends i k dev c x.challenge dev.listed x.guarded)
 if_ends false i k dev c x (Authorize challenge) e = inr (held_over i dev false e)
-if_ends false i k dev c x Describe e = inl refl
-if_ends false i k dev c x (Get o) e = inl refl
-if_ends false i k dev c x (Set o value) e = inl refl
-if_ends false i k dev c x Parameters e = inl refl
-if_ends false i k dev c x Start e = inl refl
-if_ends false i k dev c x Cancel e = inl refl
-if_ends false i k dev c x Close e = inl refl
+if_ends false i k dev c x Describe e = inl (refl, tt)
+if_ends false i k dev c x (Get o) e = inl (refl, tt)
+if_ends false i k dev c x (Set o value) e = inl (refl, tt)
+if_ends false i k dev c x Parameters e = inl (refl, tt)
+if_ends false i k dev c x Start e = inl (refl, tt)
+if_ends false i k dev c x Cancel e = inl (refl, tt)
+if_ends false i k dev c x Close e = inl (refl, tt)
 if_ends false i k dev c x Exit e = inr (held_over i dev false e)
 
 awaited_ends : (i : ℕ) (k : Make) (dev : AbstractDevice) (c : TransferState) (x : Environment) (sent : Challenge) (q : AbstractRequest) → Ends i dev (answer_awaited i k dev c x sent q)

@@ -37,6 +37,7 @@ use Rattle.world_refines.proofs.requests.Folding.{AnswersOne, Desked, IsReadAs, 
 use Rattle.world_refines.proofs.requests.AnswersKeep.{stays}
 use Rattle.world_refines.proofs.requests.Spelling.{spell_behind}
 use Rattle.world_refines.specs.Speaks.{WaitsQuietly}
+use Rattle.world_refines.specs.Answering.{HasUnsaidReply, IsCutShort}
 
 -- ---- the piece
 
@@ -107,7 +108,7 @@ pub record Parts (t : Ghost) (i : ℕ) (d : RequestContext) (todo : List Abstrac
   pub chances : List Chance
   pub count : length chances ≡ length asked
   pub steps : List Transition
-  pub steps_are : ((memory ≡ false) × (steps ≡ answers i chances)) ⊎ (steps ≡ answers i chances ++ broken i memory ∷ [])
+  pub steps_are : ((memory ≡ false) × (steps ≡ answers i chances)) ⊎ (IsCutShort memory t.users t.infos (t.jobs i) × (steps ≡ answers i chances ++ broken i memory ∷ []))
   pub closed : Closed t i t.system d steps memory new
 
 more_count : {X Y : Type 0} (xs : List X) (ys : List Y) (x : X) (y : Y) → length xs ≡ length ys → length (xs ++ x ∷ []) ≡ length (ys ++ y ∷ [])
@@ -163,8 +164,8 @@ by_request t i d mid new todo came q said one o g off =
     }
 
 -- behind it the session breaks off
-by_break : (t : Ghost) (i : ℕ) (d mid new : RequestContext) (todo : List AbstractRequest) (came : List ℕ) (q : Asked) (said : RequestAnswer) (memory : Bool) → OneRequest t i → MayBreak (t.system.job i).client.stage → (o : OneMore t i d mid todo came q) → Answers t.users mid q said new → daemon.session_goes_on said ≡ true → Parts t i d todo came memory new
-by_break t i d mid new todo came q said memory one may o g on =
+by_break : (t : Ghost) (i : ℕ) (d mid new : RequestContext) (todo : List AbstractRequest) (came : List ℕ) (q : Asked) (said : RequestAnswer) (memory : Bool) → OneRequest t i → MayBreak (t.system.job i).client.stage → (o : OneMore t i d mid todo came q) → Answers t.users mid q said new → daemon.session_goes_on said ≡ true → IsCutShort memory t.users t.infos (t.jobs i) → Parts t i d todo came memory new
+by_break t i d mid new todo came q said memory one may o g on cut =
     let r = o.ran in
     let far = after_all t.system (answers i r.chances) in
     let known = known_far t i d mid o.qs (o.next ∷ o.later) o.told r in
@@ -185,7 +186,7 @@ by_break t i d mid new todo came q said memory one may o g on =
       chances = r.chances ++ chance ∷ [];
       count = more_count r.chances o.first chance o.next o.count;
       steps = answers i (r.chances ++ chance ∷ []) ++ broken i memory ∷ [];
-      steps_are = inr refl;
+      steps_are = inr (cut, refl);
       closed = subst (λ (xs : List Transition). Closed t i t.system d xs memory new) is c;
     }
 
@@ -204,7 +205,7 @@ record SoFar (t : Ghost) (i : ℕ) (d mid : RequestContext) (todo : List Abstrac
   ran : Ran t i t.system d qs others told mid
   lengths : length qs ≡ length first
 
-so_far : (t : Ghost) (i : ℕ) (d mid : RequestContext) (asking up : List ℕ) (n : ℕ) (rest text : List ℕ) → OneRequest t i → Desked t i t.system d → SpellsAsked (t.jobs i) (t.system.job i).client (t.system.job i).todo (asking ++ up) → (g : daemon.AnsweredSoFar t.users d asking (delivered_bytes n up) rest mid text) →
+so_far : (t : Ghost) (i : ℕ) (d mid : RequestContext) (asking up : List ℕ) (n : ℕ) (rest text : List ℕ) → OneRequest t i → Desked t i t.system d → SpellsAsked (t.jobs i) (t.system.job i).client (t.system.job i).todo (asking ++ up) → (g : daemon.AnsweredSoFar (record { users = t.users; context = d; before = asking; piece = delivered_bytes n up }) (record { context = mid; rest = rest; text = text })) →
     SoFar t i d mid (t.system.job i).todo (asking ++ delivered_bytes n up) rest (bytes_not_delivered n up) g.told
 so_far t i d mid asking up n rest text one h spells g =
     let c = cut_piece (t.jobs i) (t.system.job i).client (t.system.job i).todo asking up n g.requests g.reads.text rest spells g.reads.whole g.reads.spelled in
@@ -272,9 +273,30 @@ pub record IsOverSo (t : Ghost) (i : ℕ) (d new : RequestContext) (came text : 
   pub parts : Parts t i d (t.system.job i).todo came false new
   pub silent : IsSilent t i text
 
-over_by : (t : Ghost) (i : ℕ) (d mid new : RequestContext) (todo : List AbstractRequest) (came : List ℕ) (q : Asked) (said : RequestAnswer) (b : Bool) → daemon.session_goes_on said ≡ b → OneRequest t i → MayBreak (t.system.job i).client.stage → OneMore t i d mid todo came q → Answers t.users mid q said new → Parts t i d todo came false new
-over_by t i d mid new todo came q said true e one may o g = by_break t i d mid new todo came q said false one may o g e
-over_by t i d mid new todo came q said false e one may o g = by_request t i d mid new todo came q said one o g e
+-- a session that its request did not end was cut short at a reply to it
+cut_by : (t : Ghost) (i : ℕ) (d mid new : RequestContext) (todo : List AbstractRequest) (came : List ℕ) (q : Asked) (said : RequestAnswer) (last : List Reply) → OneMore t i d mid todo came q → Answers t.users mid q said new → daemon.session_goes_on said ≡ true → daemon.EndsWith said last → HasUnsaidReply t.users t.infos (t.jobs i)
+cut_by t i d mid new todo came q said last o g on (ends.Done off is) = absurd (let clash : true ≡ false = sym on ∙ off in cc)
+cut_by t i d mid new todo came q said last o g on (ends.Cut before behind reply at unsaid is) =
+    record {
+      context = mid;
+      devices = o.ran.desked.infos;
+      request = q;
+      known = (t.system.job i).client.known;
+      asked = o.next;
+      is = o.is;
+      said = said;
+      then_is = new;
+      answers = g;
+      before = before;
+      reply = reply;
+      behind = behind;
+      among = at;
+      unsaid = unsaid;
+    }
+
+over_by : (t : Ghost) (i : ℕ) (d mid new : RequestContext) (todo : List AbstractRequest) (came : List ℕ) (q : Asked) (said : RequestAnswer) (last : List Reply) (b : Bool) → daemon.session_goes_on said ≡ b → OneRequest t i → MayBreak (t.system.job i).client.stage → OneMore t i d mid todo came q → Answers t.users mid q said new → daemon.EndsWith said last → Parts t i d todo came false new
+over_by t i d mid new todo came q said last true e one may o g ended = by_break t i d mid new todo came q said false one may o g e (cut_by t i d mid new todo came q said last o g e ended)
+over_by t i d mid new todo came q said last false e one may o g ended = by_request t i d mid new todo came q said one o g e
 
 closed_so : (t : Ghost) (i : ℕ) (d mid new : RequestContext) (came rest behind front back : List ℕ) (told last : List Reply) → OneRequest t i → MayBreak (t.system.job i).client.stage → SoFar t i d mid (t.system.job i).todo came rest behind told → daemon.SaysAll told front → daemon.SaysAll last back →
     daemon.FeedEndsSession t.users mid rest last new → IsOverSo t i d new came (front ++ back)
@@ -282,12 +304,12 @@ closed_so t i d mid new came rest behind front back told last one may f says_fro
 closed_so t i d mid new came rest behind front back told last one may f says_front says_back (Ended left_over q said k g ended) =
     let o = one_more t i d mid (t.system.job i).todo came rest behind left_over told q f k in
     record {
-      parts = over_by t i d mid new (t.system.job i).todo came q said (daemon.session_goes_on said) refl one may o g;
+      parts = over_by t i d mid new (t.system.job i).todo came q said last (daemon.session_goes_on said) refl one may o g ended;
       silent = over_silent t i d mid new (t.system.job i).todo came front back q said last one o g ended says_front says_back;
     }
 
 pub is_over : (t : Ghost) (i : ℕ) (d new : RequestContext) (asking up : List ℕ) (n : ℕ) (text : List ℕ) → OneRequest t i → Desked t i t.system d → MayBreak (t.system.job i).client.stage → SpellsAsked (t.jobs i) (t.system.job i).client (t.system.job i).todo (asking ++ up) →
-    daemon.FeedsOver t.users d asking (delivered_bytes n up) new text → IsOverSo t i d new (asking ++ delivered_bytes n up) text
+    daemon.FeedsOver (record { users = t.users; context = d; before = asking; piece = delivered_bytes n up }) new text → IsOverSo t i d new (asking ++ delivered_bytes n up) text
 is_over t i d new asking up n text one h may spells g =
     let f = so_far t i d g.mid asking up n g.rest g.front one h spells g.so_far in
     subst (IsOverSo t i d new (asking ++ delivered_bytes n up)) (sym g.text_is) (closed_so t i d g.mid new (asking ++ delivered_bytes n up) g.rest (bytes_not_delivered n up) g.front g.back g.so_far.told g.last one may f g.so_far.says g.says g.closes)
@@ -311,8 +333,8 @@ at_once t i d mid new todo came rest behind told may f back =
       chances = r.chances;
       count = r.count ∙ f.lengths;
       steps = answers i r.chances ++ broken i true ∷ [];
-      steps_are = inr refl;
-      closed = closed_behind t i t.system d mid new r.chances (broken i true ∷ []) true r.legal r.others (breaks t i far mid new true r.desked still back);
+      steps_are = inr (tt, refl);
+      closed = closed_behind t i t.system d mid new r.chances (broken i true ∷ []) true r.legal r.others (breaks t i far mid new true r.desked still (λ nay. absurd (let clash : true ≡ false = nay in cc)) back);
     }
 
 starved_by : (t : Ghost) (i : ℕ) (d mid new : RequestContext) (todo : List AbstractRequest) (came rest behind left_over : List ℕ) (told : List Reply) (q : Asked) → OneRequest t i → MayBreak (t.system.job i).client.stage → (f : SoFar t i d mid todo came rest behind told) → SpellsFront (limited_format message_limit request_format) rest left_over q →
@@ -321,7 +343,7 @@ starved_by t i d mid new todo came rest behind left_over told q one may f k (inl
 starved_by t i d mid new todo came rest behind left_over told q one may f k (inr g) = by_end (daemon.session_goes_on g.0) refl
   where
     by_end : (b : Bool) → daemon.session_goes_on g.0 ≡ b → Parts t i d todo came true new
-    by_end true e = by_break t i d mid new todo came q g.0 true one may (one_more t i d mid todo came rest behind left_over told q f k) g.1 e
+    by_end true e = by_break t i d mid new todo came q g.0 true one may (one_more t i d mid todo came rest behind left_over told q f k) g.1 e tt
     by_end false e =
         let far = after_all t.system (answers i f.ran.chances) in
         at_once t i d mid new todo came rest behind told may f (back_same i far.make mid far.device (session_by i far.device (far.job i)) new f.ran.desked.shows (answers_end t.users mid q g.0 new g.1 e))
@@ -335,7 +357,7 @@ starved_so t i d mid new todo came rest behind told one may f (inr g) =
     starved_by t i d mid new todo came rest behind g.left told g.request one may f g.takes (faltered i far.make t.users mid far.device (session_by i far.device (far.job i)) g.request new f.ran.desked.shows g.out_of_memory)
 
 pub is_starved : (t : Ghost) (i : ℕ) (d new : RequestContext) (asking up : List ℕ) (n : ℕ) → OneRequest t i → Desked t i t.system d → MayBreak (t.system.job i).client.stage → SpellsAsked (t.jobs i) (t.system.job i).client (t.system.job i).todo (asking ++ up) →
-    daemon.FeedOutOfMemory t.users d asking (delivered_bytes n up) new → Parts t i d (t.system.job i).todo (asking ++ delivered_bytes n up) true new
+    daemon.FeedOutOfMemory (record { users = t.users; context = d; before = asking; piece = delivered_bytes n up }) new → Parts t i d (t.system.job i).todo (asking ++ delivered_bytes n up) true new
 is_starved t i d new asking up n one h may spells g =
     let f = so_far t i d g.mid asking up n g.rest g.text one h spells g.so_far in
     starved_so t i d g.mid new (t.system.job i).todo (asking ++ delivered_bytes n up) g.rest (bytes_not_delivered n up) g.so_far.told one may f g.out_of_memory

@@ -103,7 +103,7 @@ put_let_go i wants table free k = by_test (is_same k wants)
 
 -- a session that ends leaves to others what they hold
 leaves_end : (i : ℕ) (make : ℕ → Make) (d : RequestContext) (device : ℕ → AbstractDevice) (p : JobState) (new : RequestContext) (v : AnswerEffect) → ContextRefines i make d device (session_by i device p) → SameWords d new → Ends i (device p.session.job.wants) v → v.goes_on ≡ false → LeavesOthers i d.registry (daemon.table_let_go new) device (devices_by device p v)
-leaves_end i make d device p new v h same (inl on) off = absurd (let clash : true ≡ false = sym on ∙ off in cc)
+leaves_end i make d device p new v h same (inl on) off = absurd (let clash : true ≡ false = sym on.0 ∙ off in cc)
 leaves_end i make d device p new v h same (inr ended) off =
     let wants = p.session.job.wants in
     let back : daemon.table_let_go new ≡ daemon.table_let_go d = ap (λ (t : Table). given_back t new.session.held) same.registry ∙ ap (λ (x : Held). given_back d.registry x) same.held in

@@ -1,4 +1,4 @@
--- A page that is started is a page view: it is one of the device that the session holds.
+-- A page that is started of a device whose sources give their rows is a page view: it is one of the device that the session holds.
 use Rattle.std.specs.List.{AllByRecursion}
 use Rattle.std.specs.Prelude.{option_map}
 use Rattle.std.proofs.Common.{◌≡◌, ◌∙◌, ℕ, List, [], ◌∷◌, ◌++◌, Option, Some, None, Bool, true, false, cond, refl, sym, ap, subst}
@@ -16,9 +16,10 @@ use Rattle.system_model.specs.AbstractDevices.{Begin, Between, AbstractDevice, S
 use Rattle.system_model.specs.Daemon.{Environment, TransferState, Ending, FailureCounts, Quiet, AnswerEffect, Streaming, Waiting, allow, answer, answer_awaited, answer_if, begin_page, begin_pass, get_reply, open_listed, put_reply, set_reply, start_at, start_or_fail, start_page, start_effect, hand_out_device, take_listed}
 use Rattle.system_model.specs.Actions.{environment_of}
 use Rattle.system_model.specs.SystemStates.{JobState}
-use Rattle.daemon_refines.specs.ContextRefinement.{ContextRefines, pages_to_come, abstract_device, page_views, tray_of}
+use Rattle.daemon_refines.specs.ContextRefinement.{ContextRefines, HaveSources, pages_to_come, abstract_device, page_views, tray_of}
 use Rattle.daemon_refines.proofs.Moved.{unsome}
-use Rattle.world_refines.specs.WorldRefinement.{IsFaithful, IsSteadyPage, session_by}
+use Rattle.daemon_refines.proofs.Sources.{left_sources}
+use Rattle.world_refines.specs.WorldRefinement.{IsFaithful, IsFaithfulPage, session_by}
 use Rattle.world_refines.proofs.state.Faithful.{left_true}
 use Rattle.world_refines.proofs.state.ReadTrue.{held_true}
 use Rattle.world_refines.proofs.requests.Served.{serving}
@@ -114,34 +115,39 @@ answer_sheets i k dev c (Some sent) x q h = awaited_sheets i k dev c x sent q
 
 -- ---- the pages of the device that is held
 
-all_sheets : (pages : List HeldPage) → AllByRecursion IsSteadyPage pages → AllByRecursion IsPageView (page_views pages)
-all_sheets [] h = tt
-all_sheets (held ∷ pages) h = (h.0.1, all_sheets pages h.1)
+all_sheets : (k : Make) (pages : List HeldPage) → k.steady ≡ true → HaveSources k pages → AllByRecursion IsFaithfulPage pages → AllByRecursion IsPageView (page_views pages)
+all_sheets k [] steady s h = tt
+all_sheets k (held ∷ pages) steady s h = (h.0 (s.0.steady steady), all_sheets k pages steady s.1 h.1)
 
-coming_true : (phase : AnyPhase) (s : DeviceState) → IsFaithful s → AllByRecursion IsSteadyPage (pages_to_come phase s)
+coming_sources : (k : Make) (phase : AnyPhase) (s : DeviceState) → HaveSources k s.pages → HaveSources k (pages_to_come phase s)
+coming_sources k (Rest c) s h = h
+coming_sources k (Amid n) s h = left_sources k (feeds s) s.pages h
+coming_sources k (Read pass given) s h = left_sources k (feeds s) s.pages h
+
+coming_true : (phase : AnyPhase) (s : DeviceState) → IsFaithful s → AllByRecursion IsFaithfulPage (pages_to_come phase s)
 coming_true (Rest c) s h = h
 coming_true (Amid n) s h = left_true (feeds s) s.pages h
 coming_true (Read pass given) s h = left_true (feeds s) s.pages h
 
-tray_true : (s : DeviceState) → IsFaithful s → AllByRecursion IsPageView (tray_of s)
-tray_true s h = all_sheets (pages_to_come s.phase s) (coming_true s.phase s h)
+tray_true : (k : Make) (s : DeviceState) → k.steady ≡ true → HaveSources k s.pages → IsFaithful s → AllByRecursion IsPageView (tray_of s)
+tray_true k s steady sources h = all_sheets k (pages_to_come s.phase s) steady (coming_sources k s.phase s sources) (coming_true s.phase s h)
 
 pub lease_there : (wants : ℕ) (o : Option (Lease DeviceState)) → Some wants ≡ option_map (λ (l : Lease DeviceState). l.place) o → (l : Lease DeviceState) × (o ≡ Some l) × (l.place ≡ wants)
 lease_there wants None e = absurd (let clash : Some wants ≡ None = e in cc)
 lease_there wants (Some l) e = (l, refl, sym (unsome wants l.place e))
 
-held_sheets : (i : ℕ) (make : ℕ → Make) (d : RequestContext) (device : ℕ → AbstractDevice) (p : JobState) → ContextRefines i make d device (session_by i device p) → IsTrueDesk d → is_held_by i (device p.session.job.wants).holder ≡ true → AllByRecursion IsPageView (device p.session.job.wants).tray
-held_sheets i make d device p h t held =
+held_sheets : (i : ℕ) (make : ℕ → Make) (d : RequestContext) (device : ℕ → AbstractDevice) (p : JobState) → ContextRefines i make d device (session_by i device p) → IsTrueDesk d → (make p.session.job.wants).steady ≡ true → is_held_by i (device p.session.job.wants).holder ≡ true → AllByRecursion IsPageView (device p.session.job.wants).tray
+held_sheets i make d device p h t steady held =
     let wants = p.session.job.wants in
     let word : Some wants ≡ option_map (λ (l : Lease DeviceState). l.place) (held_by d.session.held 0) = sym (ap (λ (b : Bool). cond b (Some wants) None) held) ∙ h.words 0 in
     let l = lease_there wants (held_by d.session.held 0) word in
     let shown = h.devices.leases 0 l.0 l.1 in
     let dev : device wants ≡ abstract_device (Some i) l.0.device = ap device (sym l.2) ∙ shown.device in
-    subst (λ (x : AbstractDevice). AllByRecursion IsPageView x.tray) (sym dev) (tray_true l.0.device (held_true d.session.held 0 l.0 l.1 t.lent))
+    subst (λ (x : AbstractDevice). AllByRecursion IsPageView x.tray) (sym dev) (tray_true (make l.0.place) l.0.device (ap (λ (k : ℕ). (make k).steady) l.2 ∙ steady) shown.made.sources (held_true d.session.held 0 l.0 l.1 t.lent))
 
-pub begun_sheets : (i : ℕ) (make : ℕ → Make) (listed : List ℕ) (d : RequestContext) (device : ℕ → AbstractDevice) (p : JobState) (r : AbstractRequest) (challenge : Challenge) (fault : Option FailureCounts) → ContextRefines i make d device (session_by i device p) → IsTrueDesk d → AreSheets (serving i make listed device p r challenge fault).begun
-begun_sheets i make listed d device p r challenge fault h t =
-    answer_sheets i (make p.session.job.wants) (device p.session.job.wants) p.session.transfer p.session.awaited (environment_of p.session listed challenge fault) r (λ held. held_sheets i make d device p h t held)
+pub begun_sheets : (i : ℕ) (make : ℕ → Make) (listed : List ℕ) (d : RequestContext) (device : ℕ → AbstractDevice) (p : JobState) (r : AbstractRequest) (challenge : Challenge) (fault : Option FailureCounts) → ContextRefines i make d device (session_by i device p) → IsTrueDesk d → (make p.session.job.wants).steady ≡ true → AreSheets (serving i make listed device p r challenge fault).begun
+begun_sheets i make listed d device p r challenge fault h t steady =
+    answer_sheets i (make p.session.job.wants) (device p.session.job.wants) p.session.transfer p.session.awaited (environment_of p.session listed challenge fault) r (λ held. held_sheets i make d device p h t steady held)
 
 pub more_sheets : (begun more : List Begin) → AreSheets begun → AreSheets more → AreSheets (begun ++ more)
 more_sheets [] more h m = m

@@ -1,7 +1,5 @@
 -- A world in which one job, its device and its session changed.
 use Rattle.std.proofs.Common.{◌≡◌, ◌≢◌, ◌⊎◌, inl, inr, ◌∙◌, ℕ, ◌<◌, ◌≤◌, List, [], Option, Some, None, refl, sym, ap, subst, length, slice_get, slice_set, arith}
-use Rattle.std.specs.List.{AllByRecursion}
-use Rattle.page_picture.specs.Page.{IsPageView}
 use Rattle.frame_join.specs.FrameHistory.{JoinHistory}
 use Rattle.device_api.specs.State.{DeviceState}
 use Rattle.sane_fixed.specs.declared.device_info.DeviceInfo.{DeviceInfo}
@@ -12,7 +10,6 @@ use Rattle.saned_core.specs.DaemonStates.{Core}
 use Rattle.scan_job.specs.JobSize.{HasCount}
 use Rattle.scan_job.specs.declared.job.Job.{Job}
 use Rattle.system_model.specs.Devices.{Make}
-use Rattle.system_model.specs.AbstractDevices.{Begin}
 use Rattle.system_model.specs.SystemStates.{JobState}
 use Rattle.system_model.specs.Invariants.{Invariant}
 use Rattle.scan_world.specs.declared.endpoint.Endpoint.{Endpoint}
@@ -21,7 +18,7 @@ use Rattle.saned_core.specs.DaemonStates.{session_in}
 use Rattle.world_refines.specs.Speaks.{AsksAsHeld, Speaks}
 use Rattle.world_refines.specs.GhostStates.{Ghost, Wires}
 use Rattle.daemon_refines.specs.ContextRefinement.{TableRefines}
-use Rattle.world_refines.specs.WorldRefinement.{HaveDifferentNames, WiresMatch, HaveOwn, IsNobody, IsServed, AreListedBelow, EndpointRefines, EndpointRefinesAt, WorldRefines, numbers_from, slot_of_link, session_by}
+use Rattle.world_refines.specs.WorldRefinement.{HaveDifferentNames, WiresMatch, HaveOwn, IsNobody, IsServed, AreListedBelow, EndpointRefines, EndpointRefinesAt, WorldRefines, numbers_from, slot_of_link, session_by, AreStartedViews}
 use Rattle.world_refines.proofs.state.ListEntries.{is_same, set_elsewhere, set_length, set_there}
 use Rattle.world_refines.proofs.state.EndpointSlots.{Reseats, seated_change}
 use Rattle.world_refines.proofs.state.Sees.{IsOther, Leaves, seat_stands, served_stands, table_stands}
@@ -50,7 +47,7 @@ pub record Change (i : ℕ) (t u : Ghost) (w : WorldCore) (p q : Endpoint) (e : 
   -- its session is the one that it had, or was not opened before
   pub link : (id : SessionId) → q.link ≡ Some id → (p.link ≡ Some id) ⊎ ((w.daemon.opened ≤ id.number) × (id.number < e.opened))
   pub reseats : Reseats p.link q.link w.daemon e
-  pub begun : AllByRecursion (λ (b : Begin). IsPageView b.page) (u.system.job i).session.started
+  pub begun : AreStartedViews t.system.make (u.system.job i)
 
 abbrev changed : WorldCore → ℕ → Endpoint → Core → WorldCore
 changed w i q e = record { daemon = e; endpoints = slice_set w.endpoints i q }
@@ -148,9 +145,9 @@ link_below t u w i j p q a e x h at c is (inr m) = let below : x.number < w.daem
 
 -- ---- the world
 
-begun_stays : (t u : Ghost) (w : WorldCore) (i j : ℕ) (p q : Endpoint) (e : Core) → WorldRefines t w → Change i t u w p q e → (j ≡ i) ⊎ (j ≢ i) → AllByRecursion (λ (b : Begin). IsPageView b.page) (u.system.job j).session.started
-begun_stays t u w i j p q e h c (inl same) = subst (λ (k : ℕ). AllByRecursion (λ (b : Begin). IsPageView b.page) (u.system.job k).session.started) (sym same) c.begun
-begun_stays t u w i j p q e h c (inr n) = subst (λ (x : JobState). AllByRecursion (λ (b : Begin). IsPageView b.page) x.session.started) (sym (c.told.job j n)) (h.begun j)
+begun_stays : (t u : Ghost) (w : WorldCore) (i j : ℕ) (p q : Endpoint) (e : Core) → WorldRefines t w → Change i t u w p q e → (j ≡ i) ⊎ (j ≢ i) → AreStartedViews u.system.make (u.system.job j)
+begun_stays t u w i j p q e h c (inl same) = subst (λ (m : ℕ → Make). AreStartedViews m (u.system.job j)) (sym c.told.make) (subst (λ (k : ℕ). AreStartedViews t.system.make (u.system.job k)) (sym same) c.begun)
+begun_stays t u w i j p q e h c (inr n) = subst (λ (m : ℕ → Make). AreStartedViews m (u.system.job j)) (sym c.told.make) (subst (λ (x : JobState). AreStartedViews t.system.make x) (sym (c.told.job j n)) (h.begun j))
 
 beyond_other : (i j n : ℕ) → i < n → n ≤ j → j ≢ i
 beyond_other i j n low high = λ same. omega (arith, low, high, same)

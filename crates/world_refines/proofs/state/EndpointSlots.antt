@@ -129,17 +129,17 @@ was_with (None ∷ slots) new (suc k) s e = inl (record { slot = s; at = e; numb
 was_with (Some r ∷ slots) new zero s e = inl (record { slot = s; at = e; number = refl })
 was_with (Some r ∷ slots) new (suc k) s e = next_seat r slots new k s (was_with slots new k s e)
 
-new_by : (d : Core) (id : SessionId) (k : ℕ) (s : SessionSlot DeviceState) → id.number ≡ d.opened → WasSeat d.slots k s.number ⊎ IsFresh d.slots (new_session_slot d.strings d.opened 1) k s → WasSeat d.slots k s.number ⊎ IsNew (Some id) d (vacant d.slots) k s.number
-new_by d id k s number (inl w) = inl w
-new_by d id k s number (inr f) =
+new_by : (d : Core) (port : ℕ) (id : SessionId) (k : ℕ) (s : SessionSlot DeviceState) → id.number ≡ d.opened → WasSeat d.slots k s.number ⊎ IsFresh d.slots (new_session_slot d.strings d.opened port) k s → WasSeat d.slots k s.number ⊎ IsNew (Some id) d (vacant d.slots) k s.number
+new_by d port id k s number (inl w) = inl w
+new_by d port id k s number (inr f) =
     let is : s.number ≡ d.opened = ap (λ (x : SessionSlot DeviceState). x.number) f.is in
     inr (record { there = f.there; id = id; link_is = refl; number = number ∙ sym is; high = omega (arith, is) })
 
-pub reseats_opened : (d : Core) (id : SessionId) → id.number ≡ d.opened → Reseats None (Some id) d (after_open_session d 1)
-reseats_opened d id number =
+pub reseats_opened : (d : Core) (port : ℕ) (id : SessionId) → id.number ≡ d.opened → Reseats None (Some id) d (after_open_session d port)
+reseats_opened d port id number =
     record {
       place = vacant d.slots;
-      each = λ k s e. new_by d id k s number (was_with d.slots (new_session_slot d.strings d.opened 1) k s e);
+      each = λ k s e. new_by d port id k s number (was_with d.slots (new_session_slot d.strings d.opened port) k s e);
       still = λ x e. absurd (let clash : None ≡ Some x = e in cc);
     }
 

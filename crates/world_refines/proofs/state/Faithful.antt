@@ -13,11 +13,11 @@ use Rattle.saned_requests.specs.declared.session.Session.{Session}
 use Rattle.saned_requests.specs.Holding.{with_lease_back, cancelled_lease, given_back, on_word}
 use Rattle.saned_core.specs.declared.session_slot.SessionSlot.{SessionSlot}
 use Rattle.saned_core.specs.DaemonStates.{is_slot_number, on_session_slot, session_slot_of, session_in, session_let_go, with_session_slot}
-use Rattle.world_refines.specs.WorldRefinement.{IsBelow, IsFaithful, IsFaithfulLease, IsFaithfulPlace, IsFaithfulSessionSlot, IsFaithfulSession, IsFaithfulSlot, IsSteadyPage}
+use Rattle.world_refines.specs.WorldRefinement.{IsBelow, IsFaithful, IsFaithfulLease, IsFaithfulPlace, IsFaithfulSessionSlot, IsFaithfulSession, IsFaithfulSlot, IsFaithfulPage}
 
 -- ---- a device
 
-pub left_true : (b : Bool) (pages : List HeldPage) → AllByRecursion IsSteadyPage pages → AllByRecursion IsSteadyPage (left_behind b pages)
+pub left_true : (b : Bool) (pages : List HeldPage) → AllByRecursion IsFaithfulPage pages → AllByRecursion IsFaithfulPage (left_behind b pages)
 left_true false pages h = h
 left_true true [] h = h
 left_true true (p ∷ pages) h = h.1

@@ -1,10 +1,10 @@
--- A device that is read stays true to its pages; and its first page is one of these.
+-- A device that is read stays true to its pages.
 use Rattle.std.specs.Prelude.{Result, Ok, Err}
 use Rattle.std.specs.List.{AllByRecursion}
-use Rattle.std.proofs.Common.{◌≡◌, ◌≢◌, ◌∙◌, ℕ, zero, suc, List, [], ◌∷◌, Option, Some, None, true, refl, sym, ap, subst}
+use Rattle.std.proofs.Common.{◌≡◌, ℕ, zero, suc, List, [], ◌∷◌, Option, Some, None, sym, subst}
 use Rattle.sane_fixed.specs.declared.status.Status.{Status as Code}
 use Rattle.sane_fixed.specs.declared.status.Status.TheVariants as code
-use Rattle.device_api.specs.State.{DeviceState, FrameReads, HasStopped, HeldPage, Phase, Reads, ReadsIn, ReadsOn, after_pass, after_read_status, with_failure_count, feeds, first_page, goes_to, is_at_rest, steady_of, stopped_in, read_status_at, with_failures}
+use Rattle.device_api.specs.State.{DeviceState, FrameReads, HasStopped, HeldPage, Phase, Reads, ReadsIn, ReadsOn, after_pass, after_read_status, with_failure_count, feeds, goes_to, stopped_in, read_status_at, with_failures}
 use Rattle.device_api.specs.State.Phase.{AtRest, Between, Reading}
 use Rattle.dispatch.specs.declared.table.place.Lease.{Lease}
 use Rattle.saned_requests.specs.declared.session.DataPhase.{DataPhase as WordCarriage}
@@ -13,14 +13,7 @@ use Rattle.saned_requests.specs.declared.session.Session.{Session as DeskSession
 use Rattle.saned_requests.specs.Holding.{held_by, with_device}
 use Rattle.saned_core.specs.declared.session_slot.DataStep.{DataStep}
 use Rattle.saned_core.specs.Turns.{StreamsFrom, StreamsIn}
-use Rattle.daemon_refines.specs.ContextRefinement.{FrameIsRead, IsReadBy}
-use Rattle.daemon_refines.specs.Cores.{SessionRefines}
-use Rattle.daemon_refines.proofs.Moved.{unsome}
-use Rattle.system_model.specs.Devices.{Make}
-use Rattle.system_model.specs.AbstractDevices.{AbstractDevice}
-use Rattle.system_model.specs.AbstractSessions.{AbstractSession}
-use Rattle.saned_core.specs.DaemonStates.{Core}
-use Rattle.world_refines.specs.WorldRefinement.{IsFaithful, IsFaithfulLease, IsSteadyPage}
+use Rattle.world_refines.specs.WorldRefinement.{IsFaithful, IsFaithfulLease, IsFaithfulPage}
 use Rattle.world_refines.proofs.state.Faithful.{left_true, word_true}
 
 -- ---- a read
@@ -33,9 +26,9 @@ goes_true (AtRest c) s h = left_true (feeds s) s.pages h
 goes_true (Between n) s h = h
 goes_true (Reading pass given) s h = h
 
-counted_true : (n : ℕ) (pages : List HeldPage) → AllByRecursion IsSteadyPage pages → AllByRecursion IsSteadyPage (with_failure_count n pages)
+counted_true : (n : ℕ) (pages : List HeldPage) → AllByRecursion IsFaithfulPage pages → AllByRecursion IsFaithfulPage (with_failure_count n pages)
 counted_true n [] h = h
-counted_true n (held ∷ pages) h = h
+counted_true n (held ∷ pages) h = (h.0, h.1)
 
 pub stopped_true : (phase : Phase) (s : DeviceState) → IsFaithful s → IsFaithful (stopped_in phase s)
 stopped_true (AtRest c) s h = h
@@ -94,17 +87,3 @@ stream_true word.Quiet old new step buf g h = subst (λ (s : DeskSession DeviceS
 stream_true (word.Waiting w) old new step buf g h = subst (λ (s : DeskSession DeviceState). AllByRecursion IsFaithfulLease s.held) (sym g.1) h
 stream_true (word.Streaming w) old new step buf g h = from_true (held_by old.held w) w old new step buf (lease_at old.held w h) g h
 stream_true word.Ending old new step buf g h = subst (λ (s : DeskSession DeviceState). AllByRecursion IsFaithfulLease s.held) (sym g.1) h
-
--- ---- a device that is read is steady
-
-first_steady : (pages : List HeldPage) → AllByRecursion IsSteadyPage pages → pages ≢ [] → (first_page pages).steady ≡ true
-first_steady [] h n = absurd (n refl)
-first_steady (held ∷ pages) h n = h.0.0
-
-pub steady_read : (i : ℕ) (make : ℕ → Make) (d : Core) (n : ℕ) (table : ℕ → AbstractDevice) (s : AbstractSession) (w : ℕ) → (h : SessionRefines i make d n table s) → h.session.transfer ≡ word.Streaming w → AllByRecursion IsFaithfulLease h.session.held →
-    (l : Lease DeviceState) → held_by h.session.held w ≡ Some l → steady_of l.device ≡ true
-steady_read i make d n table s w h streams faithful l at =
-    let r : IsReadBy h.session.held w = subst (λ (c : WordCarriage). FrameIsRead c h.session.held) streams h.shows.frame in
-    let same : r.lease ≡ l = unsome r.lease l (sym r.stands ∙ at) in
-    let phase : l.device.phase ≡ Reading r.pass r.given = subst (λ (x : Lease DeviceState). x.device.phase ≡ Reading r.pass r.given) same r.phase in
-    first_steady l.device.pages (held_true h.session.held w l at faithful) ((h.shows.devices.leases w l at).made.in_scan.page (ap is_at_rest phase))

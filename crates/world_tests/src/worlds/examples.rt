@@ -1,7 +1,8 @@
 //! The worked examples of worlds whose calls promise, run to their bytes.
 
 use super::*;
-use world_contract::{scan_beside, scan_once};
+use page_picture::FailingPage;
+use world_contract::{scan_beside, scan_once, scan_with_another};
 
 /// A page of one gray dot, and its file.
 const DOT: &[u8] = b"P5\n1 1\n255\n\x07";
@@ -22,6 +23,21 @@ fn one_client_scans_a_dot(rt: HostRuntime) {
     let users = Users::parse(alloc, b"").expect(&rt, "users");
     let name = text(&rt, alloc, b"flatbed:0");
     let file = scan_once(alloc, name, page, users, job(&rt, alloc, &SCAN_DOT));
+    assert!(rt; file.expect(&rt, "a file").as_slice() == DOT_FILE);
+}
+
+/// The other flatbed's page fails as soon as it is read.
+#[test]
+fn one_client_scans_a_dot_beside_another_flatbed(rt: HostRuntime) {
+    let alloc = rt.alloc();
+    let page = read_page(alloc, DOT, 26).expect(&rt, "a page");
+    let other_page = read_page(alloc, DOT, 26).expect(&rt, "another page");
+    let other = Source::Failing(FailingPage::new(other_page, 1));
+    let users = Users::parse(alloc, b"").expect(&rt, "users");
+    let name = text(&rt, alloc, b"flatbed:0");
+    let other_name = text(&rt, alloc, b"flatbed:1");
+    let asked = job(&rt, alloc, &SCAN_DOT);
+    let file = scan_with_another(alloc, name, page, other_name, other, users, asked);
     assert!(rt; file.expect(&rt, "a file").as_slice() == DOT_FILE);
 }
 

@@ -4,7 +4,7 @@ use Rattle.std.proofs.lemmas.List.{append-nil, length-take}
 use Rattle.client_replies.specs.ProtocolStates.{turns}
 use Rattle.scan_job.specs.FileOutputs.{GivesBack}
 use Rattle.net_jobs.specs.JobJournal.{Gives, GivesFileBytes, given_by}
-use Rattle.net_jobs.specs.Paging.{PageGoesOn, TurnsOn}
+use Rattle.net_jobs.specs.Inside.{PageGoesOn, TurnsOn}
 use Rattle.net_jobs.proofs.Giving.{gives_by, gives_none, gives_more}
 use Rattle.net_jobs.proofs.Pages.{Pulls, begun, one_more, at_end, turned, stopped, never}
 use Rattle.net_jobs.proofs.net_batch.drain.Goals.{else-is_page-via-then-is_page+else-not-is_turning, else-is_page-via-else-is_page}
@@ -27,7 +27,7 @@ returns-then-n-eq0-clause-drained g c = λ done.
       gives_more c.args.client.now c.loop-i.client c.take_file-n.new.self c.loop-i.invariant.gave.0 piece c.loop-i.invariant.gave.1 gives,
       λ before outputs k past filing. inl (subst (λ (l : List ℕ). PageGoesOn past c.args.client.now k before outputs l c.take_file-n.new.self (g.S.Shelf.stock c.loop-i.shelf) (option_map g.S.Out.Write.contents c.loop-i.under)) same
           (at_end past c.args.client.now c.loop-i.client c.take_file-n.new.self k c.loop-i._i c.take_file-n.result before outputs _ _ (given_by c.loop-i.invariant.gave.0) piece none pulls
-          (λ q at alive joined p shows. (c.take_file-n.ensures.taken q at).denotes alive joined c.if-n-eq0.true (omega (arith, c.loop-i.invariant.room, c.requires)) p shows)
+          (λ q at alive joined p shows. (c.take_file-n.ensures.taken q at).denotes alive joined none (omega (arith, c.loop-i.invariant.room, c.requires)) p shows)
           (c.loop-i.invariant.gave.2 before outputs k past filing))),
     )
 

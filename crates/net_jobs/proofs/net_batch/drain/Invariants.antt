@@ -2,9 +2,8 @@ use Rattle.std.proofs.Common.{◌≡◌, ℕ, List, Option, length}
 use Rattle.std.specs.Prelude.{option_map}
 use Rattle.frame_join.specs.FrameHistory.{JoinHistory}
 use Rattle.scan_job.specs.Shelves.{Stock, ReturnedOutput}
-use Rattle.net_jobs.specs.JobJournal.{JobMove, GivesAll, given_by}
-use Rattle.net_jobs.specs.Paging.{IsFiling}
-use Rattle.net_jobs.specs.TurnSteps.{KeepsNotes}
+use Rattle.net_jobs.specs.JobJournal.{JobMove, given_by}
+use Rattle.net_jobs.specs.Inside.{GivesAll, IsFiling, KeepsNotes}
 use Rattle.net_jobs.proofs.Pages.{IsPulled}
 use Rattle.net_jobs.proofs.net_batch.drain.Given as goal
 

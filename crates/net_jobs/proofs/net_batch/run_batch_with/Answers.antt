@@ -4,7 +4,7 @@ use Rattle.scan_job.specs.declared.job.JobFault.{JobFault}
 use Rattle.scan_job.specs.declared.outcome.Outcome.{Outcome}
 use Rattle.scan_job.specs.Outcomes.{over_as}
 use Rattle.scan_job.specs.JobSize.{HasJobFault}
-use Rattle.net_jobs.specs.Batches.{HasBatchRun}
+use Rattle.net_jobs.specs.Inside.{HasBatchRun}
 use Rattle.net_jobs.specs.Links.{views_of}
 use Rattle.net_jobs.specs.RunPromises.{seen, streams}
 use Rattle.net_jobs.proofs.Batching.{close, batch_ok, batch_err}

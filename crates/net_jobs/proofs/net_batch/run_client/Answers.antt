@@ -4,8 +4,7 @@ use Rattle.std.specs.Result.{is_ok}
 use Rattle.std.proofs.lemmas.Result.{err_from_is_err_and}
 use Rattle.scan_job.specs.declared.outcome.Outcome.{Outcome}
 use Rattle.client_replies.specs.ProtocolStates.{is_running}
-use Rattle.net_jobs.specs.RunPromises.{StopsAs}
-use Rattle.net_jobs.specs.TurnSteps.{CallNotes}
+use Rattle.net_jobs.specs.Inside.{StopsAs, CallNotes}
 use Rattle.net_jobs.proofs.JobEnds.{leaves_links, err_of}
 use Rattle.net_jobs.proofs.RunInvariants.{going_on}
 use Rattle.net_jobs.proofs.Shelving.{lying_fresh, lying_gave, lying_went, laid_then, shut_parted}

@@ -5,7 +5,7 @@ use Rattle.scan_job.specs.JobSize.{HasCount}
 use Rattle.client_replies.specs.ProtocolStates.{is_running, scans}
 use Rattle.net_client.specs.ClientStates.{IsNewClient}
 use Rattle.net_jobs.specs.Links.{views_of}
-use Rattle.net_jobs.specs.TurnSteps.{notes_of, turns_to_go}
+use Rattle.net_jobs.specs.Inside.{notes_of, turns_to_go}
 use Rattle.net_jobs.proofs.Shelving.{Lying}
 use Rattle.net_jobs.proofs.net_batch.run_client.Given as goal
 

@@ -1,7 +1,7 @@
 use Rattle.std.proofs.Common.{◌≡◌, ◌∙◌, ap, sym, subst, rules, ◌++◌, take}
 use Rattle.std.specs.Prelude.{Option, None, option_map}
 use Rattle.std.specs.Io.KnownBytes.{Appends}
-use Rattle.net_jobs.specs.Outputs.{HasTaken}
+use Rattle.net_jobs.specs.Inside.{HasTaken}
 use Rattle.net_jobs.proofs.Shelves.{first_taken, nothing_taken}
 use Rattle.net_jobs.proofs.net_batch.shelve.Goals as goal
 

@@ -1,6 +1,6 @@
 use Rattle.std.proofs.Common.{refl, ap}
 use Rattle.net_jobs.specs.declared.calls.CallTally.{CallTally}
-use Rattle.net_jobs.specs.TurnSteps.{Made, Refused}
+use Rattle.net_jobs.specs.Inside.{Made, Refused}
 use Rattle.net_jobs.proofs.running.connect.Goals as goal
 
 pub returns-in-Ok-clause-dialled : goal.returns-in-Ok-clause-dialled

@@ -2,8 +2,7 @@ use Rattle.std.proofs.Common.{◌≡◌, ◌∙◌, ◌∷◌, rules, arith, ap,
 use Rattle.std.proofs.lemmas.List.{append-nil, length-take}
 use Rattle.std.specs.Io.KnownBytes.{Appends}
 use Rattle.net_jobs.specs.JobJournal.{Gives, GivesFileBytes, given_by}
-use Rattle.net_jobs.specs.NetDraining.{IsDrainedTo}
-use Rattle.net_jobs.specs.TurnSteps.{notes_of}
+use Rattle.net_jobs.specs.Inside.{IsDrainedTo, notes_of}
 use Rattle.net_jobs.specs.declared.calls.CallTally.{CallTally}
 use Rattle.net_jobs.proofs.Giving.{gives_by, gives_none, gives_more}
 use Rattle.net_jobs.proofs.NetDrains.{begun, one_more, at_end, stopped, never}
@@ -43,7 +42,7 @@ returns-then-n-eq0-clause-drained g c = λ done.
       gives_more c.args.client.now c.loop-i.client c.take_file-n.new.self c.loop-i.invariant.gave.0 piece c.loop-i.invariant.gave.1 gives,
       λ first past held. subst (λ (l : List ℕ). IsDrainedTo past c.args.client.now first l c.take_file-n.new.self (g.W.Write.contents c.loop-i.out)) same
           (at_end past first _ (given_by c.loop-i.invariant.gave.0) c.loop-i._i c.take_file-n.result c.args.client.now c.loop-i.client c.take_file-n.new.self _ c.if-n-eq0.true none (λ q at. (c.take_file-n.ensures.taken q at).carried) c.take_file-n.ensures.ended c.take_file-n.ensures.same
-          (λ q at alive joined p shows. (c.take_file-n.ensures.taken q at).denotes alive joined c.if-n-eq0.true (omega (arith, c.loop-i.invariant.room, c.requires)) p shows) held.scan (c.loop-i.invariant.gave.2 first past held)),
+          (λ q at alive joined p shows. (c.take_file-n.ensures.taken q at).denotes alive joined none (omega (arith, c.loop-i.invariant.room, c.requires)) p shows) held.scan (c.loop-i.invariant.gave.2 first past held)),
     )
 
 pub returns-then-not-put-clause-short : goal.returns-then-not-put-clause-short

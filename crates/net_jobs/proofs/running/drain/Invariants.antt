@@ -1,8 +1,7 @@
 use Rattle.std.proofs.Common.{◌≡◌, ℕ, List, Option, length}
 use Rattle.frame_join.specs.FrameHistory.{JoinHistory}
-use Rattle.net_jobs.specs.JobJournal.{JobMove, GivesAll, given_by}
-use Rattle.net_jobs.specs.NetDraining.{HoldsGiven}
-use Rattle.net_jobs.specs.TurnSteps.{KeepsNotes}
+use Rattle.net_jobs.specs.JobJournal.{JobMove, given_by}
+use Rattle.net_jobs.specs.Inside.{GivesAll, HoldsGiven, KeepsNotes}
 use Rattle.net_jobs.proofs.NetDrains.{IsUnderway}
 use Rattle.net_jobs.proofs.running.drain.Given as goal
 

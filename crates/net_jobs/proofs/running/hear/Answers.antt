@@ -4,7 +4,7 @@ use Rattle.std.specs.Io.KnownBytes.{Consumes}
 use Rattle.sane_fixed.specs.declared.status.Status.TheVariants as statuses
 use Rattle.scan_job.specs.declared.outcome.Why.TheVariants as whys
 use Rattle.net_client.specs.ClientStates.{ClientState, after_client_end}
-use Rattle.net_jobs.specs.TurnSteps.{Heard, Lost}
+use Rattle.net_jobs.specs.Inside.{Heard, Lost}
 use Rattle.net_jobs.proofs.Turning.{some_taken}
 use Rattle.net_jobs.proofs.running.hear.Goals as goal
 

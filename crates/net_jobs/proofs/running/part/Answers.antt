@@ -1,6 +1,6 @@
 use Rattle.std.proofs.Common.{◌∙◌, sym, ap}
 use Rattle.net_jobs.specs.declared.calls.CallTally.{CallTally}
-use Rattle.net_jobs.specs.TurnSteps.{Silent, notes_of}
+use Rattle.net_jobs.specs.Inside.{Silent, notes_of}
 use Rattle.net_jobs.proofs.Turning.{leaves_written}
 use Rattle.net_jobs.proofs.running.part.Goals.{then-not-has_write_failed, else-not-has_write_failed}
 use Rattle.net_jobs.proofs.running.part.Goals as goal

@@ -1,6 +1,6 @@
 use Rattle.std.proofs.Common.{◌≡◌, [], None, length}
 use Rattle.std.specs.Io.KnownBytes.{Consumes}
-use Rattle.net_jobs.specs.TurnSteps.{KeepsWrites}
+use Rattle.net_jobs.specs.Inside.{KeepsWrites}
 use Rattle.net_jobs.proofs.running.read_piece.Given as goal
 
 abbrev pub invariant-loop-tally : goal.invariant-loop-tally

@@ -3,8 +3,7 @@ use Rattle.std.specs.Result.{is_ok}
 use Rattle.std.proofs.lemmas.Result.{err_from_is_err_and}
 use Rattle.scan_job.specs.declared.outcome.Outcome.{Outcome}
 use Rattle.client_replies.specs.ProtocolStates.{is_running}
-use Rattle.net_jobs.specs.RunPromises.{StopsAs}
-use Rattle.net_jobs.specs.TurnSteps.{CallNotes}
+use Rattle.net_jobs.specs.Inside.{StopsAs, CallNotes}
 use Rattle.net_jobs.proofs.JobEnds.{pending_fresh, pending_gave, pending_went, given_more, closed_parted, leaves_links, run_done, run_sunk, run_stopped, err_of, scan_by}
 use Rattle.net_jobs.proofs.RunInvariants.{going_on}
 use Rattle.net_jobs.proofs.running.run_client.Goals.{else-not-is_over-via-then-not-is_over+else-not-give, else-not-is_over-via-else-not-is_over, else-is_ok-via-then-is_ok+else-not-give-2, else-is_ok-via-else-is_ok}

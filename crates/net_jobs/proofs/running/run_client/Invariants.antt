@@ -4,7 +4,7 @@ use Rattle.scan_job.specs.declared.job.Task.TheVariants as tasks
 use Rattle.client_replies.specs.ProtocolStates.{is_batch, is_running}
 use Rattle.net_client.specs.ClientStates.{IsNewClient}
 use Rattle.net_jobs.specs.Links.{views_of}
-use Rattle.net_jobs.specs.TurnSteps.{notes_of, turns_to_go}
+use Rattle.net_jobs.specs.Inside.{notes_of, turns_to_go}
 use Rattle.net_jobs.proofs.JobEnds.{Pending}
 use Rattle.net_jobs.proofs.running.run_client.Given as goal
 

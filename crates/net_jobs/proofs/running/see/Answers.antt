@@ -3,7 +3,7 @@ use Rattle.std.specs.Prelude.{if◌then◌else◌}
 use Rattle.sane_fixed.specs.declared.status.Status.TheVariants as statuses
 use Rattle.scan_job.specs.declared.outcome.Why.TheVariants as whys
 use Rattle.net_client.specs.ClientStates.{ClientState, after_client_end}
-use Rattle.net_jobs.specs.TurnSteps.{Took, Missed}
+use Rattle.net_jobs.specs.Inside.{Took, Missed}
 use Rattle.net_jobs.proofs.DataLoop.{lost_image}
 use Rattle.net_jobs.proofs.Turning.{some_taken}
 use Rattle.net_jobs.proofs.running.see.Goals as goal

@@ -1,6 +1,5 @@
 use Rattle.std.proofs.Common.{◌≡◌, false, length}
-use Rattle.net_jobs.specs.ControlWriting.{WritesTo}
-use Rattle.net_jobs.specs.TurnSteps.{KeepsReads}
+use Rattle.net_jobs.specs.Inside.{WritesTo, KeepsReads}
 use Rattle.net_jobs.proofs.running.write_out.Given as goal
 
 abbrev pub invariant-loop-n : goal.invariant-loop-n

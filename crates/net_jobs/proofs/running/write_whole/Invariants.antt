@@ -1,6 +1,6 @@
 use Rattle.std.proofs.Common.{◌≡◌, ◌≤◌, ◌+◌, ◌-◌, false, length, take}
 use Rattle.std.specs.Io.KnownBytes.{Appends}
-use Rattle.net_jobs.specs.TurnSteps.{KeepsReads}
+use Rattle.net_jobs.specs.Inside.{KeepsReads}
 use Rattle.net_jobs.proofs.running.write_whole.Given as goal
 
 abbrev pub invariant-loop-at : goal.invariant-loop-at

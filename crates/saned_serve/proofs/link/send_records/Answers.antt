@@ -1,6 +1,6 @@
 use Rattle.std.proofs.Common.{◌≡◌, true, false, Some, inl, inr, refl, sym, subst}
 use Rattle.saned_serve.specs.declared.sockets.Got.TheVariants.{Nothing}
-use Rattle.saned_serve.specs.JournalSteps.{SendsIn}
+use Rattle.saned_serve.specs.Inside.{SendsIn}
 use Rattle.saned_serve.proofs.link.send_records.Goals as goal
 
 pub returns-in-Some : goal.returns-in-Some

@@ -2,7 +2,7 @@ use Rattle.std.proofs.Common.{sym, ap, ◌∙◌, subst, Some, None, IsSome, ◌
 use Rattle.saned_core.specs.DaemonStates.{core}
 use Rattle.saned_serve.specs.ListenerTraces.{with_notice}
 use Rattle.saned_serve.specs.ListenerTraces.Notice.{Port, Shut, Back}
-use Rattle.saned_serve.specs.LoopInvariants.{Greets}
+use Rattle.saned_serve.specs.Inside.{Greets}
 use Rattle.saned_serve.proofs.Greeting.{greets_none, greets_refuses, greets_opens}
 use Rattle.saned_serve.proofs.link_slots.greet.Goals as goal
 
@@ -24,7 +24,7 @@ returns-in_default-open_session-clause-greets g c =
     let port = c.in-Some-open_data.port in
     let n = g.L.Listeners.trace c.args.net.now in
     let m = g.L.Listeners.trace c.close-in_default-open_session.new.self in
-    subst (λ e. Greets history (core g.D.Device.state c.args.daemon.now) n true e m c.args.slot.now.link) (sym c.in_default-open_session.ensures.full.1)
+    subst (λ e. Greets history (record { daemon = (core g.D.Device.state c.args.daemon.now); listeners = n }) true (record { daemon = e; listeners = m }) c.args.slot.now.link) (sym c.in_default-open_session.ensures.full.1)
     (greets_refuses history (core g.D.Device.state c.args.daemon.now) n m (Some port) conn c.args.slot.now.link c.requires.none c.in-Some-accept.ensures.fresh c.in_default-open_session.ensures.full.0
     (c.close-in_default-open_session.ensures ∙ ap (with_notice (Back (history conn))) (c.close_data.ensures ∙ ap (with_notice (Shut port)) (c.in-Some-open_data.ensures ∙ ap (with_notice (Port (Some port))) c.in-Some-accept.ensures.told))))
 

@@ -1,6 +1,6 @@
 use Rattle.std.proofs.Common.{◌≡◌, ℕ, zero, suc, None, IsSome, All, [], ◌∷◌, refl, sym, subst, arith, rules}
 use Rattle.std.proofs.lemmas.List.Elements.{All-append}
-use Rattle.saned_serve.specs.LoopInvariants.{link_at, HasRooms}
+use Rattle.saned_serve.specs.Inside.{link_at, HasRooms}
 use Rattle.saned_serve.specs.declared.link_slots.LinkSlot.{LinkSlot}
 use Rattle.saned_serve.proofs.SlotGreeting.{link_at_empty}
 use Rattle.saned_serve.proofs.link_slots.link_slots.Goals as goal

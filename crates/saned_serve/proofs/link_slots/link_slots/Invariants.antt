@@ -1,5 +1,5 @@
 use Rattle.std.proofs.Common.{ℕ, ◌≡◌, ◌≤◌, ◌+◌, None, All, vec_len, vec_capacity}
-use Rattle.saned_serve.specs.LoopInvariants.{link_at, HasRooms}
+use Rattle.saned_serve.specs.Inside.{link_at, HasRooms}
 use Rattle.saned_serve.proofs.link_slots.link_slots.Given as goal
 
 abbrev pub invariant-loop-i : goal.invariant-loop-i

@@ -1,6 +1,6 @@
 use Rattle.std.proofs.Common.{◌≡◌, refl, ◌∙◌, sym, ap, subst, Option, None, Some, false, true, is_some, not, inl, inr, arith, rules}
 use Rattle.saned_core.specs.DaemonStates.{core}
-use Rattle.saned_serve.specs.LoopInvariants.{one_link, link_at}
+use Rattle.saned_serve.specs.Inside.{one_link, link_at}
 use Rattle.saned_serve.specs.declared.link.SessionLink.{SessionLink}
 use Rattle.saned_serve.proofs.SlotCounts.{decide}
 use Rattle.saned_serve.proofs.SlotGreeting.{link_at_get, stands_full}
@@ -34,12 +34,12 @@ loop-i-preserved g c =
     }
 
 pub loop-i-init : goal.loop-i-init
-loop-i-init g c = record { taken = λ j few. absurd (omega (arith, few)); roomed = c.requires.roomed; stands = λ d0 n0 past was. was }
+loop-i-init g c = record { taken = λ j few. absurd (omega (arith, few)); roomed = c.requires.roomed; stands = λ start past was. was }
 
 pub returns-then-is_none-clause-went : goal.returns-then-is_none-clause-went
-returns-then-is_none-clause-went g c = λ d0 n0 past anew was. c.greet_at.ensures.went d0 n0 past anew (c.loop-i.invariant.stands d0 n0 past was)
+returns-then-is_none-clause-went g c = λ start past anew was. c.greet_at.ensures.went start past anew (c.loop-i.invariant.stands start past was)
 
 pub returns-clause-went : goal.returns-clause-went
-returns-clause-went g c = λ d0 n0 past anew was.
-    stands_full g.L.Conn.Socket.history d0 n0 past (core g.D.Device.state c.loop-i.daemon) (g.L.Listeners.trace c.loop-i.net) c.loop-i.slots anew (c.loop-i.invariant.stands d0 n0 past was)
+returns-clause-went g c = λ start past anew was.
+    stands_full g.L.Conn.Socket.history start.daemon start.listeners past (core g.D.Device.state c.loop-i.daemon) (g.L.Listeners.trace c.loop-i.net) c.loop-i.slots anew (c.loop-i.invariant.stands start past was)
     (λ j few. c.loop-i.invariant.taken j (let end = c.loop-i-test.false in let len = c.requires.len in omega (arith, few, end, len)))

@@ -1,14 +1,14 @@
-use Rattle.std.proofs.Common.{◌≡◌, ◌≤◌, false, All, List, Option}
-use Rattle.saned_core.specs.DaemonStates.{Core, core}
-use Rattle.saned_serve.specs.ListenerTraces.{ListenerTrace}
+use Rattle.std.proofs.Common.{◌≡◌, ◌≤◌, false, All, List}
+use Rattle.saned_core.specs.DaemonStates.{core}
 use Rattle.saned_serve.specs.Journal.{LoopAction, has_asked}
-use Rattle.saned_serve.specs.LoopInvariants.{LoopInvariant, WentOn, HasRooms}
+use Rattle.saned_serve.specs.Serving.{DaemonAndListeners}
+use Rattle.saned_serve.specs.Inside.{LoopInvariant, WentOn, HasRooms, serving_state}
 use Rattle.saned_serve.proofs.serving.take_turn.Given as goal
 
 abbrev pub invariant-loop-i : goal.invariant-loop-i
 invariant-loop-i g l = record {
-  turned : (d0 : Core) (n0 : Option ListenerTrace) (past : List LoopAction) → has_asked past ≡ false → LoopInvariant g.L.Conn.Socket.history d0 n0 past (core g.D.Device.state l.fn.daemon) (g.L.Listeners.trace l.fn.net) 0 l.fn.slots
-      → WentOn g.L.Conn.Socket.history d0 n0 past l.left l.has_moved (core g.D.Device.state l.daemon) (g.L.Listeners.trace l.net) l.i l.slots;
+  turned : (start : DaemonAndListeners) (past : List LoopAction) → has_asked past ≡ false → LoopInvariant g.L.Conn.Socket.history start past (serving_state (core g.D.Device.state l.fn.daemon) (g.L.Listeners.trace l.fn.net) 0 l.fn.slots)
+      → WentOn g.L.Conn.Socket.history start past (record { has_moved = l.has_moved; left = l.left }) (serving_state (core g.D.Device.state l.daemon) (g.L.Listeners.trace l.net) l.i l.slots);
   few : l.left ≤ l.i;
   roomed : All HasRooms l.slots;
 }

@@ -1,8 +1,8 @@
 use Rattle.std.proofs.Common.{◌≡◌, ◌*◌, rules, refl, sym, ap, length, drop, ◌++◌, subst}
 use Rattle.sane_fixed.specs.declared.frame_format.FrameFormat.TheVariants.{Rgb as RgbFrame}
-use Rattle.scan_frames.specs.ByteLines.{MakesOfRow}
+use Rattle.scan_frames.specs.ByteLines.{MakesOfRow, PutsGrayBits}
 use Rattle.scan_frames.specs.Frames.{format_at}
-use Rattle.scan_frames.proofs.ByteRows.{color_made, gray_made}
+use Rattle.scan_frames.proofs.ByteRows.{bits_made, color_made, gray_made}
 use Rattle.scan_frames.proofs.Lines.{gray_format}
 use Rattle.scan_frames.proofs.byte_lines.byte_line.Goals as goal
 
@@ -29,3 +29,14 @@ returns-in-Bytes-Color-Rgb-clause-made g c = λ made.
     let rgb : format_at setup c.args.pass ≡ RgbFrame = search rules in
     color_made s t setup c.args.pass c.in-Some.first c.args.tables.now columns part c.args.line.now (3 * length c.places-count.result.now) (search rules) (search rules) rgb c.requires.tables (search rules)
     c.requires.columns (search rules) (search rules) c.in-Some.ensures.each (ap (λ n. 3 * n) c.places-count.ensures.size) (search rules) (search rules) c.requires.size (λ i. (c.type_inv.line i).fits) c.requires.zeros (c.put_color_bytes.ensures.put made)
+
+pub returns-in-Bits-Gray-default-clause-made : goal.returns-in-Bits-Gray-default-clause-made
+returns-in-Bits-Gray-default-clause-made g c = λ made.
+    let s = g.S.PageSource.source c.args.source.now in
+    let t = g.S.PageSource.source c.put_gray_bits.new.source in
+    let setup = c.args.setup.now in
+    let columns = c.args.columns.now in
+    let line = c.put_gray_bits.new.line in
+    let first = c.in-Some.first in
+    let put : PutsGrayBits s setup.scene.gamma first columns.count t line = subst (λ n. PutsGrayBits s setup.scene.gamma first n t line) c.places-count.ensures.size (c.put_gray_bits.ensures.put made) in
+    bits_made s t setup c.args.pass first columns line (search rules) c.in-Bits-Gray-default.is-1 c.requires.columns (search rules) (search rules) c.in-Some.ensures.each (search rules) put

@@ -1,6 +1,6 @@
 use Rattle.std.proofs.Common.{ℕ, ◌<◌, ◌/◌, ◌%◌, ◌∙◌, get_or, arith, sym, ap, subst, w16}
 use Rattle.std.proofs.lemmas.Simd.{below_from_Fits, Each1-get_or}
-use Rattle.scan_frames.proofs.Eights.{length-turned, turned_lane}
+use Rattle.page_picture.proofs.EightLemmas.{length-turned, turned_lane}
 use Rattle.scan_frames.proofs.lanes.turned.Goals as goal
 
 pub returns-clause-size : goal.returns-clause-size

@@ -1,7 +1,8 @@
 use Rattle.std.proofs.Common.{ℕ, ◌<◌, ◌∙◌, get_or, sym, subst, w16}
 use Rattle.std.proofs.lemmas.List.{length-map}
 use Rattle.std.proofs.lemmas.Simd.{below_from_Fits, Each1-get_or}
-use Rattle.scan_frames.proofs.Eights.{cast_lane, length-splat, product_fits}
+use Rattle.page_picture.proofs.EightLemmas.{cast_lane, length-splat}
+use Rattle.scan_frames.proofs.Eights.{product_fits}
 use Rattle.scan_frames.proofs.lanes.weighted.Goals as goal
 
 pub returns-clause-size : goal.returns-clause-size

@@ -1,10 +1,10 @@
-use Rattle.std.proofs.Common.{◌≡◌, ◌∙◌, ℕ, List, rules, true, false, sym, subst, take}
-use Rattle.std.proofs.lemmas.List.{append-nil}
+use Rattle.std.proofs.Common.{◌≡◌, ◌∙◌, ℕ, List, rules, true, false, sym, subst, take, arith}
+use Rattle.std.proofs.lemmas.List.{append-nil, length-take}
 use Rattle.netpbm.specs.Pnm.{IsWhole}
 use Rattle.frame_join.specs.FrameHistory.{JoinHistory}
 use Rattle.client_replies.specs.ProtocolStates.{is_ended, turns}
 use Rattle.net_client.specs.ClientStates.{ClientRepresents}
-use Rattle.net_client.proofs.Ending.{ended_turns_none, fits_pulled, pulled_none}
+use Rattle.net_client.proofs.Ending.{ended_turns_none, fits_pulled, no_length, pulled_none}
 use Rattle.net_client.proofs.client.Client.take_file.Goals as goal
 
 pub returns-then-is_ended-clause-taken : goal.returns-then-is_ended-clause-taken
@@ -35,6 +35,6 @@ returns-clause-taken c =
     rw (← c.self.view_is) (λ past serves. record {
       carried = λ no_turn. record { stands = c.pull.ensures.carried past serves.stands; fits = fits_pulled _ _ _ past (take c.pull.result c.pull.new.buf) no_end no_turn serves.fits };
       page = λ on. absurd (let clash : true ≡ false = sym on ∙ off in cc);
-      denotes = λ alive. c.pull.ensures.denotes past serves.stands;
+      denotes = λ alive joined none. c.pull.ensures.denotes past serves.stands joined (omega (arith, length-take c.pull.result c.pull.new.buf, no_length _ none, c.pull.ensures.count, c.pull.auto.buf));
       whole = c.pull.ensures.whole past serves.stands;
     })

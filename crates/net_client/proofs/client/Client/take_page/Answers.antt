@@ -1,7 +1,8 @@
-use Rattle.std.proofs.Common.{◌≡◌, ◌∙◌, true, false, ap, sym, take}
+use Rattle.std.proofs.Common.{◌≡◌, ◌∙◌, true, false, ap, sym, take, arith}
+use Rattle.std.proofs.lemmas.List.{length-take}
 use Rattle.client_replies.specs.ProtocolStates.{turns}
 use Rattle.net_client.specs.ClientStates.{ClientState}
-use Rattle.net_client.proofs.Ending.{page_stays, page_turned}
+use Rattle.net_client.proofs.Ending.{no_length, page_stays, page_turned}
 use Rattle.net_client.proofs.client.Client.take_page.Goals as goal
 
 pub returns-then-has_given_all-clause-page : goal.returns-then-has_given_all-clause-page
@@ -18,7 +19,13 @@ returns-else-has_given_all-clause-page c = rw (← c.self.view_is) (λ past serv
     (λ whole. let clash : true ≡ false = sym ((c.has_given_all.ensures.whole _ stands).1 whole) ∙ c.if-has_given_all.false in cc))
 
 pub returns-then-has_given_all-clause-picture : goal.returns-then-has_given_all-clause-picture
-returns-then-has_given_all-clause-picture c = rw (← c.self.view_is) (λ past stands. record { denotes = c.pull-count.ensures.denotes past stands; whole = c.pull-count.ensures.whole past stands })
+returns-then-has_given_all-clause-picture c = rw (← c.self.view_is) (λ past stands. record {
+  denotes = λ joined none. c.pull-count.ensures.denotes past stands joined (omega (arith, length-take c.pull-count.result c.pull-count.new.buf, no_length _ none, c.pull-count.ensures.count, c.pull-count.auto.buf));
+  whole = c.pull-count.ensures.whole past stands;
+})
 
 pub returns-else-has_given_all-clause-picture : goal.returns-else-has_given_all-clause-picture
-returns-else-has_given_all-clause-picture c = rw (← c.self.view_is) (λ past stands. record { denotes = c.pull-count.ensures.denotes past stands; whole = c.pull-count.ensures.whole past stands })
+returns-else-has_given_all-clause-picture c = rw (← c.self.view_is) (λ past stands. record {
+  denotes = λ joined none. c.pull-count.ensures.denotes past stands joined (omega (arith, length-take c.pull-count.result c.pull-count.new.buf, no_length _ none, c.pull-count.ensures.count, c.pull-count.auto.buf));
+  whole = c.pull-count.ensures.whole past stands;
+})

@@ -12,7 +12,7 @@ returns-then-count-eq0-clause-pulls c = λ past pages scan less h.
     let still : turns old.client.outcome old.client.progress ≡ false = sym c.is_turning.ensures ∙ c.if-is_turning.false in
     let same = unmoved (is_ended old.client.outcome) old.client mid (λ e. (c.take_file-count.ensures.ended e).1) (λ e. c.take_file-count.ensures.same e still) in
     dry c.keep.result past pages (take c.take_file-count.result buf) old c.keep.new.self mid (ap (λ (n : ℕ). take n buf) c.if-count-eq0.true) c.keep.ensures same ((c.take_file-count.ensures.taken past h.serves).carried still) still
-    (λ alive joined p shows. (c.take_file-count.ensures.taken past h.serves).denotes alive joined c.if-count-eq0.true (search rules) p shows) h
+    (λ alive joined p shows. (c.take_file-count.ensures.taken past h.serves).denotes alive joined (ap (λ (n : ℕ). take n c.take_file-count.new.buf) c.if-count-eq0.true) (search rules) p shows) h
 
 pub returns-else-count-eq0-clause-pulls : goal.returns-else-count-eq0-clause-pulls
 returns-else-count-eq0-clause-pulls c = λ past pages scan less h.

@@ -15,7 +15,7 @@ returns-then-count-eq0-clause-pulls c = λ past pages scan less h.
     let old = c.args.self.now in
     let on : turns c.keep.new.self.client.outcome c.keep.new.self.client.progress ≡ true = sym c.is_turning.ensures ∙ c.if-not-is_turning.false in
     absurd (page_dry c.keep.result past (take c.take_file-count.result c.take_file-count.new.buf) old c.keep.new.self c.take_file-count.new.self ((c.take_file-count.ensures.taken past h.serves).page c.requires) c.keep.ensures on c.requires
-    (ap (λ (n : ℕ). take n c.take_file-count.new.buf) c.if-count-eq0.true) c.whole_shows.ensures (λ p joined alive shows. (c.take_file-count.ensures.taken past h.serves).denotes alive joined c.if-count-eq0.true (search rules) p shows) h.serves)
+    (ap (λ (n : ℕ). take n c.take_file-count.new.buf) c.if-count-eq0.true) c.whole_shows.ensures (λ p joined alive shows. (c.take_file-count.ensures.taken past h.serves).denotes alive joined (ap (λ (n : ℕ). take n c.take_file-count.new.buf) c.if-count-eq0.true) (search rules) p shows) h.serves)
 
 pub returns-else-count-eq0-clause-pulls : goal.returns-else-count-eq0-clause-pulls
 returns-else-count-eq0-clause-pulls c = λ past pages scan less h.

@@ -1,0 +1,178 @@
+-- The promise of a world, of the programs.
+use Rattle.std.specs.Prelude.{IsSome, min}
+use Rattle.std.proofs.Common.{◌≡◌, ◌∙◌, inl, inr, ℕ, true, false, Option, Some, None, option_map, option_and_then, List, [], ◌∷◌, slice_get, refl, sym, ap, subst}
+use Rattle.page_picture.specs.SourceView.{source_state}
+use Rattle.device_api.specs.State.{DeviceState, HeldPage}
+use Rattle.sane_fixed.specs.declared.device_info.DeviceInfo.{DeviceInfo}
+use Rattle.scan_job.specs.declared.job.Job.{Job}
+use Rattle.scan_job.specs.declared.outcome.Outcome.{Outcome}
+use Rattle.client_replies.specs.ProtocolStates.{is_running, wanted_port}
+use Rattle.client_replies.specs.declared.progress.Progress.{Progress}
+use Rattle.net_client.specs.ClientStates.{ClientState}
+use Rattle.saned_core.specs.declared.session_slot.SessionId.{SessionId}
+use Rattle.saned_core.specs.DaemonStates.{Core}
+use Rattle.system_model.specs.Client as model
+use Rattle.system_model.specs.Daemon.{TransferState, Streaming, Ending}
+use Rattle.system_model.specs.Devices.{Make}
+use Rattle.system_model.specs.Transitions.{IsImaging}
+use Rattle.daemon_refines.specs.ContextRefinement.{HaveSources}
+use Rattle.scan_world.specs.declared.event.Event.{Event}
+use Rattle.scan_world.specs.declared.event.Event.TheVariants.{Connect, ToDaemon, ToClient, DataConnect, DataTurn, DataToClient, LoseControl, LoseImage, Cancel, Load, Unplug}
+use Rattle.scan_world.specs.declared.endpoint.Endpoint.{Endpoint}
+use Rattle.scan_world.specs.Endpoints.{finished_page}
+use Rattle.scan_world.specs.JobMoves.{IsNextMove, moves_left_of}
+use Rattle.scan_world.specs.Worlds.{WorldCore}
+use Rattle.world_refines.specs.GhostStates.{Ghost, place_of_info}
+use Rattle.world_refines.specs.MainTheorem.{AreFittingLoads, AreTrueLoads, EventsFollow}
+use Rattle.world_refines.specs.NewWorlds.{HaveSourcesAt, IsNewDaemon, NewWorldsRefine, PageSources, initial_ghost, make_of}
+use Rattle.world_refines.specs.Wires.{FlightMatches}
+use Rattle.world_refines.specs.WorldRefinement.{IsServed, WorldRefines, session_by}
+use Rattle.world_refines.proofs.frames.Dialling.{wants_imaging}
+use Rattle.world_refines.proofs.frames.TurnEvents.{Started, started_by}
+use Rattle.world_contract.specs.Calls.{AnswersAre, MovesNext, finished_by, is_starved, moves_answered}
+use Rattle.world_contract.specs.Histories.{History, LedTo}
+use Rattle.world_contract.specs.Laws.{AllIsRight}
+use Rattle.world_contract.specs.Promise.{FileIsKept, JobAnswers, OutcomeIsKept}
+use Rattle.programs_refine.specs.Keeping.{history_of, AllLoopsAreKept, AreFit, LoopIsKept, ProgramsKeepAll, WorldsWantBeforeItFlows}
+use Rattle.programs_refine.specs.Programs.{Acts, ComeToAWorld, EndsAlike, IsWorldOf}
+use Rattle.programs_refine.specs.WorldHistory.{LeadsBy, AreOfConnections, WantsBeforeItFlows}
+use Rattle.programs_refine.proofs.Outgoing.{never_both}
+use Rattle.programs_refine.proofs.Programs.{programs_are}
+
+-- ---- a job that wants its data connection has no frame that flows
+
+flows_none : (stage : model.JobStage) (c : TransferState) (progress : Progress) (phase : _) (image : Option (List ℕ)) (flight : List ℕ) (ending : _) → IsImaging stage → Started c → FlightMatches stage c progress phase image flight ending → wanted_port progress ≡ None
+flows_none stage c progress phase image flight ending imaging (inl streaming) f =
+    let g : FlightMatches (model.Running (model.Imaging imaging.0 imaging.1)) Streaming progress phase image flight ending = subst (λ (x : TransferState). FlightMatches (model.Running (model.Imaging imaging.0 imaging.1)) x progress phase image flight ending) streaming (subst (λ (x : model.JobStage). FlightMatches x c progress phase image flight ending) imaging.2 f) in
+    g.wants
+flows_none stage c progress phase image flight ending imaging (inr ends) f =
+    let g : FlightMatches (model.Running (model.Imaging imaging.0 imaging.1)) Ending progress phase image flight ending = subst (λ (x : TransferState). FlightMatches (model.Running (model.Imaging imaging.0 imaging.1)) x progress phase image flight ending) ends (subst (λ (x : model.JobStage). FlightMatches x c progress phase image flight ending) imaging.2 f) in
+    g.wants
+
+wants_first : (t : Ghost) (w : WorldCore) → WorldRefines t w → WantsBeforeItFlows w
+wants_first t w h i p id at link runs wants flows =
+    let s = h.endpoints i p at in
+    let me = t.system.job i in
+    let imaging = wants_imaging (place_of_info t.infos) (t.jobs i) (t.history i) (t.pages i) me p s.talks wants in
+    let served : IsServed i t.system.make w.daemon (Some id) me.served t.system.device (session_by i t.system.device me) = subst (λ (l : Option SessionId). IsServed i t.system.make w.daemon l me.served t.system.device (session_by i t.system.device me)) link s.served in
+    let started = started_by i t.system.make w.daemon id me.served t.system.device me refl served flows in
+    let none = flows_none me.client.stage me.session.transfer p.client.progress p.client.phase (t.wires i).image me.session.flight me.session.ending imaging started.started s.means.flow in
+    let wrong : false ≡ true = subst IsSome none wants in cc
+
+-- whatever their pages are
+any_source : ℕ → PageSources
+any_source k = record { fallible = true; steady = false }
+
+any_pages : (make : Make) (pages : List HeldPage) → make.fallible ≡ true → make.steady ≡ false → HaveSources make pages
+any_pages make [] fallible steady = tt
+any_pages make (held ∷ pages) fallible steady = (record { infallible = λ e. never_both make.fallible fallible e; steady = λ e. never_both make.steady e steady }, any_pages make pages fallible steady)
+
+have_any : (devices : List DeviceState) → HaveSourcesAt any_source devices
+unfolding any_source
+have_any devices k s at = any_pages (make_of (any_source k) (Some s)) s.pages refl refl
+
+no_loads : (events : List Event) → AreOfConnections events → AreTrueLoads source_state events
+no_loads [] are = tt
+no_loads (Connect i ∷ events) are = (tt, no_loads events are.1)
+no_loads (ToDaemon i n ∷ events) are = (tt, no_loads events are.1)
+no_loads (ToClient i n ∷ events) are = (tt, no_loads events are.1)
+no_loads (DataConnect i ∷ events) are = (tt, no_loads events are.1)
+no_loads (DataTurn i ∷ events) are = (tt, no_loads events are.1)
+no_loads (DataToClient i n ∷ events) are = (tt, no_loads events are.1)
+no_loads (LoseControl i ∷ events) are = (tt, no_loads events are.1)
+no_loads (LoseImage i ∷ events) are = (tt, no_loads events are.1)
+no_loads (Cancel i ∷ events) are = absurd are.0
+no_loads (Load name page ∷ events) are = absurd are.0
+no_loads (Unplug name ∷ events) are = absurd are.0
+
+none_to_fit : (infos : List DeviceInfo) (make : ℕ → Make) (events : List Event) → AreOfConnections events → AreFittingLoads source_state infos make events
+none_to_fit infos make [] are = tt
+none_to_fit infos make (Connect i ∷ events) are = (tt, none_to_fit infos make events are.1)
+none_to_fit infos make (ToDaemon i n ∷ events) are = (tt, none_to_fit infos make events are.1)
+none_to_fit infos make (ToClient i n ∷ events) are = (tt, none_to_fit infos make events are.1)
+none_to_fit infos make (DataConnect i ∷ events) are = (tt, none_to_fit infos make events are.1)
+none_to_fit infos make (DataTurn i ∷ events) are = (tt, none_to_fit infos make events are.1)
+none_to_fit infos make (DataToClient i n ∷ events) are = (tt, none_to_fit infos make events are.1)
+none_to_fit infos make (LoseControl i ∷ events) are = (tt, none_to_fit infos make events are.1)
+none_to_fit infos make (LoseImage i ∷ events) are = (tt, none_to_fit infos make events are.1)
+none_to_fit infos make (Cancel i ∷ events) are = absurd are.0
+none_to_fit infos make (Load name page ∷ events) are = absurd are.0
+none_to_fit infos make (Unplug name ∷ events) are = absurd are.0
+
+pub always_first : NewWorldsRefine → EventsFollow → WorldsWantBeforeItFlows
+always_first new follows devices jobs other d w fit is events v leads =
+    let first = new any_source jobs other devices w is.endpoints (subst (IsNewDaemon devices) (sym is.daemon) fit.daemon) fit.names fit.limits (have_any devices) fit.fit in
+    let t = initial_ghost any_source jobs other devices w.daemon.users w.endpoints in
+    let run = follows source_state events t w v first (no_loads events leads.are) (none_to_fit t.infos t.system.make events leads.are) leads.runs in
+    wants_first run.ghost_then v run.stands
+
+-- ---- what a world answers of a job that is over
+
+abbrev answers_of : Endpoint → JobAnswers
+answers_of p = record { outcome = p.client.outcome; file = p.file; file_at = λ k. finished_page p k; finished = min p.finished 16; starved = p.out_of_memory; next_move = None; moves_left = moves_left_of p }
+
+answers_are : (w : WorldCore) (i : ℕ) (p : Endpoint) → slice_get w.endpoints i ≡ Some p → is_running p.client.outcome ≡ false → AnswersAre w i (answers_of p)
+answers_are w i p at over = record {
+  outcome = ap (option_map (λ (x : Endpoint). x.client.outcome)) at;
+  file = ap (option_and_then (λ (x : Endpoint). x.file)) at;
+  pages = λ k. ap (option_and_then (λ (x : Endpoint). finished_page x k)) at;
+  finished = ap finished_by at;
+  starved = ap is_starved at;
+  next_move = subst (λ (o : Option Endpoint). MovesNext w.daemon i o None) (sym at) none;
+  moves_left = ap moves_answered at;
+}
+  where
+    none : IsNextMove w.daemon i p None
+    none = record { job_event = None; event_is = refl; runs = λ on. never_both (is_running p.client.outcome) on over; over = λ off. refl }
+
+kept_by : (right : AllIsRight) (h : History) (v : WorldCore) (acts : Acts) (i : ℕ) (job : Job) (last : ClientState) → LedTo h v → slice_get h.jobs i ≡ Some job → is_running last.outcome ≡ false → EndsAlike v i acts last → LoopIsKept h v i job acts last
+kept_by right h v acts i job last led at over x =
+    let p = x.endpoint in
+    let k = right h v i job (answers_of p) (record { led = led; job_at = at }) (answers_are v i p x.at (ap is_running x.outcome ∙ over)) in
+    record {
+      ends = x;
+      outcome = subst (OutcomeIsKept h i job p.out_of_memory) x.outcome k.outcome;
+      file = subst (λ (f : Option (List ℕ)). FileIsKept h job p.out_of_memory last.outcome f) x.file (subst (λ (o : Outcome). FileIsKept h job p.out_of_memory o p.file) x.outcome k.file);
+    }
+
+led_by : (devices : List DeviceState) (jobs : List Job) (d : Core) (first v : WorldCore) (events : List Event) → AreFit devices jobs d → IsWorldOf d jobs first → LeadsBy source_state first events v → LedTo (history_of devices jobs d events) v
+led_by devices jobs d first v events fit is l = record {
+  first = first;
+  endpoints = is.endpoints;
+  daemon = subst (IsNewDaemon devices) (sym is.daemon) fit.daemon;
+  users_are = ap (λ (x : Core). x.users) is.daemon;
+  names = fit.names;
+  limits = fit.limits;
+  fit = fit.fit;
+  loads = no_loads events l.are;
+  runs = l.runs;
+}
+
+keeps : (right : AllIsRight) (devices : List DeviceState) (jobs : List Job) (d : Core) (acts : Acts) (end : Core) (last : ℕ → ClientState) → AreFit devices jobs d → ComeToAWorld source_state jobs d acts end last → AllLoopsAreKept devices jobs d acts last
+keeps right devices jobs d acts end last fit a =
+    let l = a.leads_on in
+    let led = led_by devices jobs d a.w l.v l.events fit a.is_of l.leads in
+    record {
+      events = l.events;
+      are = l.leads.are;
+      v = l.v;
+      led = led;
+      each = λ i job at over. kept_by right (history_of devices jobs d l.events) l.v acts i job (last i) led at over (l.jobs_are i job at over);
+    }
+
+-- of no job
+keeps_none : (devices : List DeviceState) (d : Core) (acts : Acts) (last : ℕ → ClientState) → AreFit devices [] d → AllLoopsAreKept devices [] d acts last
+keeps_none devices d acts last fit =
+    let w : WorldCore = record { daemon = d; endpoints = [] } in
+    record {
+      events = [];
+      are = tt;
+      v = w;
+      led = led_by devices [] d w w [] fit (record { daemon = refl; endpoints = tt }) (record { are = tt; runs = refl });
+      each = λ i job at over. absurd (let wrong : None ≡ Some job = at in cc);
+    }
+
+pub all_kept : NewWorldsRefine → EventsFollow → AllIsRight → ProgramsKeepAll
+all_kept new follows right devices [] owner d acts last fit r = keeps_none devices d acts last fit
+all_kept new follows right devices (job ∷ jobs) owner d acts last fit r =
+    keeps right devices (job ∷ jobs) d acts r.end last fit (programs_are source_state (job ∷ jobs) owner d acts last r (λ w is. always_first new follows devices (job ∷ jobs) job d w fit is))

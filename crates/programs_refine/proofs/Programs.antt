@@ -1,0 +1,54 @@
+-- The programs are a world.
+use Rattle.std.proofs.Common.{◌≡◌, ◌∙◌, ℕ, false, Some, List, length, slice_get, refl, sym, ap, subst, arith}
+use Rattle.std.proofs.lemmas.List.Elements.{All-get_or}
+use Rattle.std.proofs.lemmas.Option.{get_or_from_slice_get, slice_get_within}
+use Rattle.scan_job.specs.declared.job.Job.{Job}
+use Rattle.client_replies.specs.ProtocolStates.{is_batch}
+use Rattle.saned_serve.specs.Journal.{DaemonRuns, IsJournal, LoopAction}
+use Rattle.interleaving.specs.Interleavings.{job_journal}
+use Rattle.scan_world.specs.Worlds.{WorldCore}
+use Rattle.programs_refine.specs.JobSteps.{JobStep, StepsLead, given_by_steps}
+use Rattle.programs_refine.specs.Programs.{ProgramsAreAWorld}
+use Rattle.programs_refine.proofs.Finishing.{finish_all}
+use Rattle.programs_refine.proofs.Passed.{traffics_of}
+use Rattle.programs_refine.proofs.Serving.{Setting}
+use Rattle.programs_refine.proofs.Simulated.{ActsLead, stand_behind}
+use Rattle.programs_refine.proofs.Simulation.{are_new, endpoints_of, new_files, new_limits}
+use Rattle.programs_refine.proofs.Timely.{arrange}
+
+pub programs_are : ProgramsAreAWorld
+programs_are source jobs owner d acts last r wants =
+    let first = r.loops.first in
+    let w : WorldCore = record { daemon = d; endpoints = endpoints_of jobs first } in
+    let new = are_new jobs first r.loops.fresh in
+    let plain = λ (i : ℕ) (job : Job) (at : slice_get jobs i ≡ Some job). plain_at i job at in
+    let setting : Setting source w owner jobs = record { one = r.owns.one; within = r.owns.within; plain = plain; wants = wants w (record { daemon = refl; endpoints = new }) } in
+    let a = arrange owner (length jobs) acts d r.end (new_limits d r.new) r.new.opened r.owns.one r.owns.within r.serves.is_journal r.serves.run r.hands_on r.lost in
+    let same = a.arranged.same in
+    let led : ActsLead owner jobs first d a.new r.end last = record {
+      legal = subst IsJournal (sym same.server) r.serves.is_journal;
+      runs = subst (λ (l : List LoopAction). DaemonRuns d l r.end) (sym same.server) r.serves.run;
+      hands = a.arranged.hands;
+      lost = a.arranged.lost;
+      timely = a.timely;
+      loops = λ i job at. subst (λ (l : List JobStep). StepsLead (first i) l (last i)) (sym (same.jobs i)) (r.loops.loops i job at);
+    } in
+    let t = stand_behind source owner jobs first d a.new r.end last r.new r.loops.fresh setting (new_files jobs first plain new) led in
+    let f = finish_all source w owner jobs _ (λ i. traffics_of (job_journal i a.new)) r.end last t (length jobs) (omega arith) in
+    record {
+      w = w;
+      is_of = record { daemon = refl; endpoints = new };
+      leads_on = record {
+        serves = record { events = t.events; v = t.w; leads = t.leads; on_their_way = t.flying; daemon = t.differs };
+        events = f.events;
+        v = f.v;
+        leads = f.leads;
+        jobs_are = λ i job at over.
+            let low = slice_get_within jobs i job at in
+            let x = f.ended i low low in
+            record { endpoint = x.q; at = x.at; outcome = x.ended over; file = x.file ∙ ap (λ (l : List JobStep). Some (given_by_steps l)) (same.jobs i) };
+      };
+    }
+  where
+    plain_at : (i : ℕ) (job : Job) → slice_get jobs i ≡ Some job → is_batch job.task ≡ false
+    plain_at i job at = subst (λ (x : Job). is_batch x.task ≡ false) (get_or_from_slice_get jobs i job job at) (All-get_or (λ (x : Job). is_batch x.task ≡ false) jobs i job (slice_get_within jobs i job at) r.plain)

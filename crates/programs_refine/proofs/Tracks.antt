@@ -1,0 +1,210 @@
+-- How a world stands behind what the programs did so far: its daemon has the replies that are on their way still, and the client of each
+-- job is that of its loop, but for what the daemon has not seen yet.
+use Rattle.std.specs.Prelude.{◌<◌, ◌≤◌, ◌||◌, IsSome}
+use Rattle.std.proofs.Common.{◌≡◌, ◌≢◌, ◌∙◌, ◌⊎◌, inl, inr, ℕ, ◌+◌, Bool, true, false, cond, Option, Some, None, List, [], ◌∷◌, ◌++◌, slice_get, slice_set, refl, sym, ap, subst, arith}
+use Rattle.sane_fixed.specs.declared.status.Status.TheVariants as statuses
+use Rattle.page_picture.specs.Source.{SourceState}
+use Rattle.page_picture.specs.declared.sources.kinds.Source.{Source}
+use Rattle.scan_job.specs.declared.job.Job.{Job}
+use Rattle.scan_job.specs.declared.outcome.Outcome.{Outcome}
+use Rattle.scan_job.specs.declared.outcome.Outcome.TheVariants.{Ended}
+use Rattle.scan_job.specs.declared.outcome.Why.TheVariants as whys
+use Rattle.client_replies.specs.ProtocolStates.{is_batch, is_receiving, is_running, wanted_port}
+use Rattle.net_client.specs.ClientStates.{ClientState}
+use Rattle.saned_core.specs.declared.session_slot.SessionId.{SessionId}
+use Rattle.saned_core.specs.DaemonStates.{Core, session_slot_of}
+use Rattle.in_flight.specs.InFlight.{DiffersInFlight}
+use Rattle.interleaving.specs.HandingOn.{Owner}
+use Rattle.scan_world.specs.declared.event.Event.{Event}
+use Rattle.scan_world.specs.declared.event.JobEvent.{JobEvent}
+use Rattle.scan_world.specs.declared.endpoint.Endpoint.{Endpoint}
+use Rattle.scan_world.specs.declared.endpoint.Image.{Image}
+use Rattle.scan_world.specs.Endpoints.{IsNew, with_data_opened}
+use Rattle.scan_world.specs.JobEvents.{Can, Does, Happens, IsFlowing, frame_state_at}
+use Rattle.scan_world.specs.Worlds.{AtEndpoint, Leads, Runs, WorldCore}
+use Rattle.in_flight.proofs.Slots.{decide}
+use Rattle.programs_refine.specs.WorldHistory.{AreOfConnections, IsOfConnections, LeadsBy}
+use Rattle.programs_refine.proofs.Lists.{same_there, set_other, set_there, within}
+use Rattle.programs_refine.proofs.Passed.{Passed, Traffics, nothing_passed}
+
+-- ---- one client behind the other
+
+abbrev pub with_out : List ℕ → ClientState → ClientState
+with_out out c = record c { out = out }
+
+abbrev pub lost_outcome : Outcome
+lost_outcome = Ended statuses.IoError whys.Lost
+
+-- of a loop's client c and the world's q
+pub data Follows (pending dropped : Bool) (c q : ClientState) : Type 0 where
+  -- they differ by bytes on their way alone
+  Alike : pending ≡ false → q ≡ with_out q.out c → Follows pending dropped c q
+  -- the loop has made a data connection that the daemon did not accept yet
+  Dialled : pending ≡ true → IsSome (wanted_port q.progress) → is_running q.outcome ≡ true → c ≡ with_out c.out (with_data_opened q) → Follows pending dropped c q
+  -- the loop has lost a connection, and the daemon does not know
+  Lost : is_running q.outcome ≡ true → c.outcome ≡ lost_outcome → (pending ≡ true → IsSome (wanted_port q.progress)) → Follows pending dropped c q
+  -- the daemon knows that the data connection is lost, and the loop may not
+  Cut : pending ≡ false → dropped ≡ true → q.outcome ≡ lost_outcome → (is_receiving c.outcome c.progress ≡ true) ⊎ (c.outcome ≡ lost_outcome) → Follows pending dropped c q
+
+-- the requests that are on their way stand in front of those that are to go out
+pub record OutTracks (failed : Bool) (sent heard there here : List ℕ) : Type 0 where
+  pub up : List ℕ
+  pub rest : List ℕ
+  pub sent_is : sent ≡ heard ++ up
+  pub out_is : there ≡ up ++ rest
+  pub rest_is : failed ≡ false → rest ≡ here
+
+abbrev pub image_bytes : Option Image → List ℕ
+image_bytes None = []
+image_bytes (Some image) = image.bytes
+
+-- the records that are on their way wait in the world
+pub record ImageTracks (pending : Bool) (own : Passed) (taken : List ℕ) (image : Option Image) : Type 0 where
+  pub way : pending ≡ false → own.dropped ≡ false → own.shown ≡ taken ++ image_bytes image
+  pub stands : own.imaging ≡ true → own.last ≡ false → own.dropped ≡ false → IsSome image
+  pub last_is : (x : Image) → image ≡ Some x → x.is_last ≡ own.last
+
+abbrev pub count_of : Bool → ℕ
+count_of pending = cond pending 1 0
+
+-- ---- one job
+
+-- no session was opened for it
+pub record IsUnlinked (owner : Owner) (opened : ℕ) (passed : ℕ → Passed) (done : Traffics) (i : ℕ) (job : Job) (c : ClientState) (p : Endpoint) : Type 0 where
+  pub new : IsNew job p
+  pub none : (k : ℕ) → owner k ≡ Some i → opened ≤ k
+  pub silent : (k : ℕ) → owner k ≡ Some i → passed k ≡ nothing_passed
+  pub follows : Follows false false c p.client
+  pub out : OutTracks done.failed done.sent [] p.client.out c.out
+  pub rest : done ≡ record { sent = done.sent; heard = []; taken = []; made = 0; failed = done.failed; given = [] }
+
+-- its session is that of number k
+pub record IsLinked (own : Passed) (flying : List ℕ) (done : Traffics) (k : ℕ) (c : ClientState) (p : Endpoint) : Type 0 where
+  pub id : SessionId
+  pub link : p.link ≡ Some id
+  pub number : id.number ≡ k
+  pub is_open : own.is_open ≡ true
+  pub pending : Bool
+  pub made : done.made ≡ own.accepted + count_of pending
+  pub follows : Follows pending own.dropped c p.client
+  pub out : OutTracks done.failed done.sent own.heard p.client.out c.out
+  pub said : own.starved ≡ false → own.said ≡ done.heard ++ flying
+  pub image : ImageTracks pending own done.taken p.image
+  pub plain : is_batch p.task ≡ false
+  pub file : p.file ≡ Some done.given
+
+-- its session was left
+pub record HasLeft (done : Traffics) (c : ClientState) (p : Endpoint) : Type 0 where
+  pub ended : is_running c.outcome ≡ false → p.client.outcome ≡ c.outcome
+  pub file : p.file ≡ Some done.given
+
+pub data JobTracks (owner : Owner) (opened : ℕ) (flying : ℕ → List ℕ) (passed : ℕ → Passed) (done : Traffics) (i : ℕ) (job : Job) (c : ClientState) (p : Endpoint) : Type 0 where
+  Unlinked : IsUnlinked owner opened passed done i job c p → JobTracks owner opened flying passed done i job c p
+  Linked : (k : ℕ) → owner k ≡ Some i → k < opened → IsLinked (passed k) (flying k) done k c p → JobTracks owner opened flying passed done i job c p
+  Left : (k : ℕ) → owner k ≡ Some i → k < opened → (passed k).is_open ≡ false → HasLeft done c p → JobTracks owner opened flying passed done i job c p
+
+-- ---- all of them
+
+pub record Tracks (source : Source → SourceState) (first : WorldCore) (owner : Owner) (jobs : List Job) (passed : ℕ → Passed) (done : ℕ → Traffics) (d : Core) (c : ℕ → ClientState) : Type 0 where
+  pub events : List Event
+  pub w : WorldCore
+  pub leads : LeadsBy source first events w
+  pub flying : ℕ → List ℕ
+  pub differs : DiffersInFlight flying d w.daemon
+  pub slots : (n : ℕ) → session_slot_of w.daemon.slots n ≢ None → (passed n).is_open ≡ true
+  pub owned : (n : ℕ) → (passed n).is_open ≡ true → (i : ℕ) × (owner n ≡ Some i)
+  -- no frame flows behind its end, or behind the loss of its connection
+  pub calm : (n : ℕ) → ((passed n).dropped || (passed n).last) ≡ true → IsFlowing (frame_state_at w.daemon n) → ⊥
+  pub each : (i : ℕ) (job : Job) → slice_get jobs i ≡ Some job → (p : Endpoint) × (slice_get w.endpoints i ≡ Some p) × JobTracks owner d.opened flying passed (done i) i job (c i) p
+
+abbrev pub IsCalm : (ℕ → Passed) → Core → Type 0
+IsCalm passed e = (n : ℕ) → ((passed n).dropped || (passed n).last) ≡ true → IsFlowing (frame_state_at e n) → ⊥
+
+-- it is as it was where nothing of it changed
+pub stays : (owner : Owner) (o o_new : ℕ) (flying flying_new : ℕ → List ℕ) (passed passed_new : ℕ → Passed) (done : Traffics) (i : ℕ) (job : Job) (c : ClientState) (p : Endpoint) → o ≤ o_new
+    → ((k : ℕ) → owner k ≡ Some i → o ≤ k → o_new ≤ k) → ((k : ℕ) → owner k ≡ Some i → passed_new k ≡ passed k) → ((k : ℕ) → owner k ≡ Some i → flying_new k ≡ flying k)
+    → JobTracks owner o flying passed done i job c p → JobTracks owner o_new flying_new passed_new done i job c p
+stays owner o o_new flying flying_new passed passed_new done i job c p more above same alike (Unlinked u) = Unlinked (record {
+  new = u.new;
+  none = λ k own. above k own (u.none k own);
+  silent = λ k own. same k own ∙ u.silent k own;
+  follows = u.follows;
+  out = u.out;
+  rest = u.rest;
+})
+stays owner o o_new flying flying_new passed passed_new done i job c p more above same alike (Linked k own low l) =
+    Linked k own (omega (arith, low, more)) (subst (λ (x : Passed). IsLinked x (flying_new k) done k c p) (sym (same k own)) (subst (λ (x : List ℕ). IsLinked (passed k) x done k c p) (sym (alike k own)) l))
+stays owner o o_new flying flying_new passed passed_new done i job c p more above same alike (Left k own low shut l) = Left k own (omega (arith, low, more)) (ap (λ (x : Passed). x.is_open) (same k own) ∙ shut) l
+
+-- ---- an event of a world
+
+abbrev pub world_with : WorldCore → ℕ → Core → Endpoint → WorldCore
+world_with w i e q = record { daemon = e; endpoints = slice_set w.endpoints i q }
+
+pub at_endpoint : (w : WorldCore) (i : ℕ) (p : Endpoint) (event : JobEvent) (e : Core) (q : Endpoint) → slice_get w.endpoints i ≡ Some p → Can w.daemon p event → Does w.daemon p event e q → AtEndpoint w i event (world_with w i e q)
+at_endpoint w i p event e q at can does =
+    let happens : Happens w.daemon p event e q = record { does = λ _. does; cannot = λ no. absurd (no can) } in
+    record {
+      happens = λ r there. (q, subst (λ (x : Endpoint). Happens w.daemon x event e q) (same_there w.endpoints i p r at there) happens, refl);
+      beyond = λ far. absurd (let low = within w.endpoints i p at in omega (arith, far, low));
+    }
+
+runs_more : (source : Source → SourceState) (events : List Event) (event : Event) (first w v : WorldCore) → Runs source events first w → Leads source event w v → Runs source (events ++ event ∷ []) first v
+runs_more source [] event first w v r l = (v, subst (λ (x : WorldCore). Leads source event x v) r l, refl)
+runs_more source (e ∷ events) event first w v r l = (r.0, r.1, runs_more source events event r.0 w v r.2 l)
+
+are_more : (events : List Event) (event : Event) → AreOfConnections events → IsOfConnections event → AreOfConnections (events ++ event ∷ [])
+are_more [] event all is = (is, tt)
+are_more (e ∷ events) event all is = (all.0, are_more events event all.1 is)
+
+pub leads_more : (source : Source → SourceState) (events : List Event) (event : Event) (first w v : WorldCore) → LeadsBy source first events w → IsOfConnections event → Leads source event w v → LeadsBy source first (events ++ event ∷ []) v
+leads_more source events event first w v l is leads = record { are = are_more events event l.are is; runs = runs_more source events event first w v l.runs leads }
+
+-- a world to which nothing happened, or an event of job i alone
+pub record Moved (source : Source → SourceState) (first w : WorldCore) (i : ℕ) (q : Endpoint) (e : Core) : Type 0 where
+  pub events : List Event
+  pub v : WorldCore
+  pub leads : LeadsBy source first events v
+  pub daemon : v.daemon ≡ e
+  pub own : slice_get v.endpoints i ≡ Some q
+  pub others : (j : ℕ) → j ≢ i → slice_get v.endpoints j ≡ slice_get w.endpoints j
+
+pub not_moved : (source : Source → SourceState) (events : List Event) (first w : WorldCore) (i : ℕ) (p : Endpoint) → LeadsBy source first events w → slice_get w.endpoints i ≡ Some p → Moved source first w i p w.daemon
+not_moved source events first w i p l at = record { events = events; v = w; leads = l; daemon = refl; own = at; others = λ j off. refl }
+
+pub moved : (source : Source → SourceState) (events : List Event) (event : Event) (first w : WorldCore) (i : ℕ) (p q : Endpoint) (e : Core) → LeadsBy source first events w → slice_get w.endpoints i ≡ Some p → IsOfConnections event → Leads source event w (world_with w i e q)
+    → Moved source first w i q e
+moved source events event first w i p q e l at is leads = record {
+  events = events ++ event ∷ [];
+  v = world_with w i e q;
+  leads = leads_more source events event first w (world_with w i e q) l is leads;
+  daemon = refl;
+  own = set_there w.endpoints i p q at;
+  others = λ j off. set_other w.endpoints i j q (λ same. off (sym same));
+}
+
+-- ---- one job goes on, and the others stay
+
+pub goes_on : (source : Source → SourceState) (first : WorldCore) (owner : Owner) (jobs : List Job) (passed passed_new : ℕ → Passed) (done done_new : ℕ → Traffics) (d d_new : Core) (c c_new : ℕ → ClientState) (t : Tracks source first owner jobs passed done d c)
+    → (i : ℕ) (q : Endpoint) (e : Core) (m : Moved source first t.w i q e) (flying : ℕ → List ℕ) → DiffersInFlight flying d_new e → ((n : ℕ) → session_slot_of e.slots n ≢ None → (passed_new n).is_open ≡ true) → ((n : ℕ) → (passed_new n).is_open ≡ true → (j : ℕ) × (owner n ≡ Some j)) → IsCalm passed_new e → d.opened ≤ d_new.opened
+    → ((j : ℕ) → j ≢ i → (k : ℕ) → owner k ≡ Some j → (d.opened ≤ k → d_new.opened ≤ k) × (passed_new k ≡ passed k) × (flying k ≡ t.flying k)) → ((j : ℕ) → j ≢ i → (done_new j ≡ done j) × (c_new j ≡ c j))
+    → ((job : Job) → slice_get jobs i ≡ Some job → JobTracks owner d_new.opened flying passed_new (done_new i) i job (c_new i) q) → Tracks source first owner jobs passed_new done_new d_new c_new
+goes_on source first owner jobs passed passed_new done done_new d d_new c c_new t i q e m flying differs slots owned calm more others still mine = record {
+  events = m.events;
+  w = m.v;
+  leads = m.leads;
+  flying = flying;
+  differs = subst (λ (x : Core). DiffersInFlight flying d_new x) (sym m.daemon) differs;
+  slots = subst (λ (x : Core). (n : ℕ) → session_slot_of x.slots n ≢ None → (passed_new n).is_open ≡ true) (sym m.daemon) slots;
+  owned = owned;
+  calm = subst (IsCalm passed_new) (sym m.daemon) calm;
+  each = λ j job at. by j job at (decide j i);
+}
+  where
+    by : (j : ℕ) (job : Job) → slice_get jobs j ≡ Some job → (j ≡ i) ⊎ (j ≢ i) → (p : Endpoint) × (slice_get m.v.endpoints j ≡ Some p) × JobTracks owner d_new.opened flying passed_new (done_new j) j job (c_new j) p
+    by j job at (inl same) =
+        subst (λ (x : ℕ). slice_get jobs x ≡ Some job → (p : Endpoint) × (slice_get m.v.endpoints x ≡ Some p) × JobTracks owner d_new.opened flying passed_new (done_new x) x job (c_new x) p) (sym same) (λ here. (q, m.own, mine job here)) at
+    by j job at (inr off) =
+        let was = t.each j job at in
+        let kept = stays owner d.opened d_new.opened t.flying flying passed passed_new (done j) j job (c j) was.0 more (λ k own. (others j off k own).0) (λ k own. (others j off k own).1) (λ k own. (others j off k own).2) was.2 in
+        (was.0, m.others j off ∙ was.1, rw ((still j off).0, (still j off).1) kept)

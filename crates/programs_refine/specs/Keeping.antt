@@ -1,0 +1,55 @@
+-- The promise of a world, of what programs come to.
+use Rattle.std.specs.Prelude.{ℕ, ◌≡◌, false, Some, List, All, slice_get}
+use Rattle.page_picture.specs.SourceView.{source_state}
+use Rattle.device_api.specs.ScannerLimits.{HasLimits}
+use Rattle.device_api.specs.State.{DeviceState}
+use Rattle.dispatch.specs.RegistryFault.{HaveOwnNames}
+use Rattle.scan_job.specs.declared.job.Job.{Job}
+use Rattle.client_replies.specs.ProtocolStates.{is_running}
+use Rattle.net_client.specs.ClientStates.{ClientState}
+use Rattle.saned_core.specs.DaemonStates.{Core}
+use Rattle.interleaving.specs.Interleavings.{job_journal}
+use Rattle.interleaving.specs.HandingOn.{Owner}
+use Rattle.scan_world.specs.declared.event.Event.{Event}
+use Rattle.scan_world.specs.Worlds.{IsFitJob, WorldCore}
+use Rattle.world_refines.specs.NewWorlds.{IsNewDaemon}
+use Rattle.world_contract.specs.Histories.{History, LedTo}
+use Rattle.world_contract.specs.Promise.{FileIsKept, OutcomeIsKept}
+use Rattle.programs_refine.specs.JobSteps.{given_by_steps}
+use Rattle.programs_refine.specs.Programs.{Acts, EndsAlike, IsWorldOf, RunOverConnections}
+use Rattle.programs_refine.specs.WorldHistory.{AlwaysWantsBeforeItFlows, AreOfConnections}
+
+-- a new daemon of these devices, each within its limits, and jobs that a client takes
+pub record AreFit (devices : List DeviceState) (jobs : List Job) (d : Core) : Type 0 where
+  pub daemon : IsNewDaemon devices d
+  pub names : HaveOwnNames devices
+  pub limits : All HasLimits devices
+  pub fit : All IsFitJob jobs
+
+-- in a world of those, if there is any job at all (`other`), a job that wants the data connection of a frame has none that flows
+abbrev pub WorldsWantBeforeItFlows : Type 0
+WorldsWantBeforeItFlows = (devices : List DeviceState) (jobs : List Job) (other : Job) (d : Core) (w : WorldCore) → AreFit devices jobs d → IsWorldOf d jobs w → AlwaysWantsBeforeItFlows source_state w
+
+-- these devices, users and jobs, and these events
+abbrev pub history_of : List DeviceState → List Job → Core → List Event → History
+history_of devices jobs d events = record { devices = devices; users = d.users; jobs = jobs; events = events }
+
+-- a world's promise on the outcome and the file of a job, said of what its loop came to; memory ran out where it did in the world
+pub record LoopIsKept (h : History) (v : WorldCore) (i : ℕ) (job : Job) (acts : Acts) (last : ClientState) : Type 0 where
+  pub ends : EndsAlike v i acts last
+  pub outcome : OutcomeIsKept h i job ends.endpoint.out_of_memory last.outcome
+  pub file : FileIsKept h job ends.endpoint.out_of_memory last.outcome (Some (given_by_steps (job_journal i acts)))
+
+-- of each job that is over, in a world that events of connections led to
+pub record AllLoopsAreKept (devices : List DeviceState) (jobs : List Job) (d : Core) (acts : Acts) (last : ℕ → ClientState) : Type 0 where
+  pub events : List Event
+  pub are : AreOfConnections events
+  pub v : WorldCore
+  pub led : LedTo (history_of devices jobs d events) v
+  pub each : (i : ℕ) (job : Job) → slice_get jobs i ≡ Some job → is_running (last i).outcome ≡ false
+      → LoopIsKept (history_of devices jobs d events) v i job acts (last i)
+
+abbrev pub ProgramsKeepAll : Type 0
+ProgramsKeepAll =
+    (devices : List DeviceState) (jobs : List Job) (owner : Owner) (d : Core) (acts : Acts) (last : ℕ → ClientState)
+    → AreFit devices jobs d → RunOverConnections jobs owner d acts last → AllLoopsAreKept devices jobs d acts last

@@ -1,0 +1,4 @@
+pub mod JobSteps
+pub mod Programs
+pub mod WorldHistory
+pub mod Keeping

@@ -1,0 +1,109 @@
+-- What a server and the loops of jobs do over connections is what some list of events does to a world.
+use Rattle.std.specs.Prelude.{ℕ, ◌≡◌, ◌<◌, false, Option, Some, None, List, [], ◌∷◌, All, length, slice_get}
+use Rattle.page_picture.specs.Source.{SourceState}
+use Rattle.page_picture.specs.declared.sources.kinds.Source.{Source}
+use Rattle.scan_job.specs.declared.job.Job.{Job}
+use Rattle.client_replies.specs.ProtocolStates.{is_batch, is_running}
+use Rattle.net_client.specs.ClientStates.{ClientState, IsNewClient}
+use Rattle.saned_core.specs.DaemonStates.{Core}
+use Rattle.in_flight.specs.InFlight.{DiffersInFlight}
+use Rattle.saned_serve.specs.ListenerTraces.{ListenerTrace}
+use Rattle.saned_serve.specs.Journal.{JournalLeads, LoopAction, projection_of}
+use Rattle.interleaving.specs.Interleavings.{JointAction, Traffic, job_journal, server_journal}
+use Rattle.interleaving.specs.Interleavings.JointAction.{OfJob, OfServer}
+use Rattle.interleaving.specs.Interleavings.Traffic.{Takes}
+use Rattle.interleaving.specs.HandingOn.{HandsOn, HaveOneSession, Owner}
+use Rattle.scan_world.specs.declared.event.Event.{Event}
+use Rattle.scan_world.specs.declared.endpoint.Endpoint.{Endpoint}
+use Rattle.scan_world.specs.Worlds.{AreNew, WorldCore}
+use Rattle.programs_refine.specs.JobSteps.{JobStep, StepsLead, given_by_steps, traffic_of}
+use Rattle.programs_refine.specs.WorldHistory.{AlwaysWantsBeforeItFlows, LeadsBy}
+
+-- all that the server and the jobs did, the newest first
+abbrev pub Acts : Type 0
+Acts = List (JointAction JobStep)
+
+-- ---- the premises
+
+-- a daemon whose first session is still to come
+pub record HasOpenedNone (d : Core) : Type 0 where
+  pub slots : d.slots ≡ None ∷ None ∷ None ∷ None ∷ None ∷ None ∷ None ∷ None ∷ []
+  pub opened : d.opened ≡ 0
+
+-- the loop of each job began with a new client, and its steps, so many as there were, led to `last`
+pub record JobsLead (jobs : List Job) (acts : Acts) (last : ℕ → ClientState) : Type 0 where
+  pub first : ℕ → ClientState
+  pub fresh : (i : ℕ) (job : Job) → slice_get jobs i ≡ Some job → IsNewClient job (first i)
+  pub loops : (i : ℕ) (job : Job) → slice_get jobs i ≡ Some job → StepsLead (first i) (job_journal i acts) (last i)
+
+-- each control connection that the server has is that of a job, and no job has two
+pub record OwnersAreJobs (owner : Owner) (jobs : List Job) : Type 0 where
+  pub within : (k i : ℕ) → owner k ≡ Some i → i < length jobs
+  pub one : HaveOneSession owner
+
+-- a data connection of which the daemon was told that it is lost brings no more
+abbrev pub BringsNoMore : Owner → ℕ → Traffic → List LoopAction → Type 0
+BringsNoMore owner i (Takes bytes) journal = (k : ℕ) → owner k ≡ Some i → (projection_of k journal).dropped ≡ false
+BringsNoMore owner i other journal = Unit {0}
+
+abbrev pub LostBringNoMore : Owner → Acts → Type 0
+LostBringNoMore owner [] = Unit {0}
+LostBringNoMore owner (OfServer action ∷ past) = LostBringNoMore owner past
+LostBringNoMore owner (OfJob i step ∷ past) = LostBringNoMore owner past × BringsNoMore owner i (traffic_of step) (server_journal past)
+
+-- ---- what they come to
+
+-- a job that is over has that outcome in the world, and its file is what went out
+pub record EndsAlike (v : WorldCore) (i : ℕ) (acts : Acts) (last : ClientState) : Type 0 where
+  pub endpoint : Endpoint
+  pub at : slice_get v.endpoints i ≡ Some endpoint
+  pub outcome : endpoint.client.outcome ≡ last.outcome
+  pub file : endpoint.file ≡ Some (given_by_steps (job_journal i acts))
+
+-- events of connections lead to a world whose daemon is the server's, but for replies that are on their way to their jobs
+pub record HasDaemonOf (source : Source → SourceState) (w : WorldCore) (end : Core) : Type 0 where
+  pub events : List Event
+  pub v : WorldCore
+  pub leads : LeadsBy source w events v
+  pub on_their_way : ℕ → List ℕ
+  pub daemon : DiffersInFlight on_their_way end v.daemon
+
+-- and some to where each job that is over is as its loop has it
+pub record AreAWorld (source : Source → SourceState) (jobs : List Job) (w : WorldCore) (acts : Acts) (end : Core) (last : ℕ → ClientState) : Type 0 where
+  pub serves : HasDaemonOf source w end
+  pub events : List Event
+  pub v : WorldCore
+  pub leads : LeadsBy source w events v
+  pub jobs_are : (i : ℕ) (job : Job) → slice_get jobs i ≡ Some job → is_running (last i).outcome ≡ false → EndsAlike v i acts (last i)
+
+-- ---- the law
+
+-- a server and the loops of these jobs, over connections that hand on what they are given
+pub record RunOverConnections (jobs : List Job) (owner : Owner) (d : Core) (acts : Acts) (last : ℕ → ClientState) : Type 0 where
+  pub new : HasOpenedNone d
+  pub owns : OwnersAreJobs owner jobs
+  -- no job is a batch
+  pub plain : All (λ (job : Job). is_batch job.task ≡ false) jobs
+  pub loops : JobsLead jobs acts last
+  pub end : Core
+  pub before : Option ListenerTrace
+  pub after : Option ListenerTrace
+  pub serves : JournalLeads d before (server_journal acts) end after
+  pub hands_on : HandsOn traffic_of owner acts
+  pub lost : LostBringNoMore owner acts
+
+-- the world of a daemon and of jobs that were just begun
+pub record IsWorldOf (d : Core) (jobs : List Job) (w : WorldCore) : Type 0 where
+  pub daemon : w.daemon ≡ d
+  pub endpoints : AreNew jobs w.endpoints
+
+pub record ComeToAWorld (source : Source → SourceState) (jobs : List Job) (d : Core) (acts : Acts) (end : Core) (last : ℕ → ClientState) : Type 0 where
+  pub w : WorldCore
+  pub is_of : IsWorldOf d jobs w
+  pub leads_on : AreAWorld source jobs w acts end last
+
+abbrev pub ProgramsAreAWorld : Type 0
+ProgramsAreAWorld =
+    (source : Source → SourceState) (jobs : List Job) (owner : Owner) (d : Core) (acts : Acts) (last : ℕ → ClientState)
+    → (run : RunOverConnections jobs owner d acts last) → ((w : WorldCore) → IsWorldOf d jobs w → AlwaysWantsBeforeItFlows source w)
+    → ComeToAWorld source jobs d acts run.end last

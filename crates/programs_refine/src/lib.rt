@@ -1,0 +1,37 @@
+//! What a server and the loops of jobs do over connections that hand on what they are given is the history of a world, and so the
+//! promise of a world holds of them. Nothing here speaks of the programs' own loops over sockets: which steps a job takes is said.
+#![tactic(auto)]
+
+ghost use Rattle.programs_refine.specs.Keeping.{ProgramsKeepAll, WorldsWantBeforeItFlows};
+ghost use Rattle.programs_refine.specs.Programs.{ProgramsAreAWorld};
+
+use world_contract::all_is_right;
+use world_refines::{a_new_world_refines, a_run_refines};
+
+/// Whatever a server and any number of jobs' loops did over connections, in one order, some events of connections lead the new world
+/// of that daemon and these jobs to where each job that is over has the outcome and the file that its loop has. `RunOverConnections`
+/// has the premises.
+#[tactic(none)]
+pub fn programs_are_a_world()
+    ensures { ProgramsAreAWorld }
+{}
+
+/// In a world of devices within their limits a job that wants the data connection of a frame has none that flows.
+#[tactic(none)]
+pub fn worlds_want_before_it_flows()
+    ensures { WorldsWantBeforeItFlows }
+{
+    a_new_world_refines();
+    a_run_refines();
+}
+
+/// THE HEADLINE, OF LOOPS OVER CONNECTIONS. A job whose loop is over has the outcome that a world promises, and what went out of
+/// its file is what a world promises of a file.
+#[tactic(none)]
+pub fn programs_keep_all()
+    ensures { ProgramsKeepAll }
+{
+    a_new_world_refines();
+    a_run_refines();
+    all_is_right();
+}
