@@ -1,6 +1,6 @@
 //! Messages out of bytes that come in pieces.
 
-ghost use Rattle.std.specs.Prelude.{◌≡◌, ◌≢◌, ◌++◌, ◌∷◌, ◌≤◌, List, [], ℕ, IfOk, IfErr, IfSome, OnErr, OnOk, IsTrue, drop, length};
+ghost use Rattle.std.specs.Prelude.{◌≡◌, ◌≢◌, ◌==◌, ◌++◌, ◌∷◌, ◌≤◌, List, [], ℕ, IfOk, IfErr, IfSome, OnErr, OnOk, IsTrue, drop, length};
 ghost use Rattle.wire_format.specs.Format.{Gives, IsBytes};
 ghost use Rattle.wire_format.specs.Lawful.{SpellsFront};
 ghost use Rattle.wire_format.specs.Limit.{limited_format, NeedsMore, IsNoStart};
@@ -157,6 +157,13 @@ impl Decoder {
             pending: None,
             begun: none_begun(),
         }
+    }
+
+    /// Whether all that was fed was taken.
+    pub fn is_empty(&self) -> bool
+        ensures { result ≡ (length self.now.rest == 0) }
+    {
+        self.bytes[self.start..].is_empty()
     }
 
     /// Takes the next piece of the stream. A fault that was answered is answered again.
