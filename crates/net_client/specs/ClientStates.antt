@@ -1,5 +1,5 @@
 -- A client's value, and what it stands for.
-use Rattle.std.specs.Prelude.{ℕ, ◌≡◌, ◌++◌, true, false, Option, Some, None, List, []}
+use Rattle.std.specs.Prelude.{ℕ, ◌≡◌, ◌≢◌, ◌++◌, true, false, Option, Some, None, List, []}
 use Rattle.wire_format.specs.Writer.{behind}
 use Rattle.sane_fixed.specs.declared.status.Status.{Status}
 use Rattle.sane_fixed.specs.declared.status.Status.TheVariants as statuses
@@ -38,6 +38,10 @@ pub record ClientState : Type 0 where
   pub input : DecoderState
   pub phase : RecordPhase
   pub join : JoinState
+
+-- bytes of a reply came before the request that it answers was taken
+abbrev pub HasEarlyReply : ClientState → Type 0
+HasEarlyReply c = (c.out ≢ []) × (c.input.rest ≢ [])
 
 -- ---- how a job goes on
 

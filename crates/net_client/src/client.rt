@@ -75,7 +75,8 @@ impl Client {
     ghost use Rattle.net_client.specs.Sending.{optional_request_text, requests_text};
     ghost use Rattle.client_replies.specs.Asking.{request_for, goodbye, farewell};
     ghost use Rattle.client_replies.specs.ProtocolStates.{is_running, reports_of, options_shown, IsWait, heard_at, is_lost_by, wanted_port, progress_connected};
-    ghost use Rattle.net_client.specs.ClientStates.{GoesOnBy, after_client_end, after_out_of_memory, IsNewClient, ClientRepresents, phase_connected};
+    ghost use Rattle.net_client.specs.ClientStates.{GoesOnBy, HasEarlyReply, after_client_end, after_out_of_memory, IsNewClient, ClientRepresents, phase_connected};
+    ghost use Rattle.std.specs.Prelude.{IsTrue, ◌↔◌};
     ghost use Rattle.scan_job.specs.JobSize.{HasJobFault};
 
     fn is_running(&self) -> bool
@@ -158,6 +159,13 @@ impl Client {
         ensures { result ≡ not (length self.now.out == 0) }
     {
         !self.out.is_empty()
+    }
+
+    /// Whether bytes of a reply came before the request that it answers was taken.
+    pub fn has_early_reply(&self) -> bool
+        ensures { IsTrue result ↔ HasEarlyReply self.now }
+    {
+        self.has_out() && !self.decoder.is_empty()
     }
 
     /// The next bytes for the control connection.
