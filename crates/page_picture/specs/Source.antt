@@ -48,11 +48,16 @@ pub record GivesNextBytes (mode : Mode) (first : ℕ) (old new : SourceState) (b
   pub shows : old.steady ≡ true → (x k : ℕ) → k < 3 → byte_place mode x k < length bytes
       → page_sample_at old.page (first + x) old.given k ≡ 257 * slice_index bytes (byte_place mode x k)
 
+-- a source, and the bytes that a call of it may write
+pub record SourceAndBytes : Type 0 where
+  pub source : SourceState
+  pub bytes : List ℕ
+
 -- the next row as bytes, or nothing where the page has no such bytes or no row is left, or a failure
-abbrev pub GivesRowBytes : Mode → ℕ → SourceState → List ℕ → Result Bool SourceFault → SourceState → List ℕ → Type 0
-GivesRowBytes mode first old before (Ok true) new bytes = GivesNextBytes mode first old new bytes
-GivesRowBytes mode first old before (Ok false) new bytes = (new ≡ old) × (bytes ≡ before)
-GivesRowBytes mode first old before (Err _) new bytes = Fails old new
+abbrev pub GivesRowBytes : Mode → ℕ → SourceAndBytes → Result Bool SourceFault → SourceAndBytes → Type 0
+GivesRowBytes mode first was (Ok true) now = GivesNextBytes mode first was.source now.source now.bytes
+GivesRowBytes mode first was (Ok false) now = (now.source ≡ was.source) × (now.bytes ≡ was.bytes)
+GivesRowBytes mode first was (Err _) now = Fails was.source now.source
 
 -- from the top again, or a failure
 abbrev pub Rewinds : {Done : Type 0} → SourceState → Result Done SourceFault → SourceState → Type 0

@@ -69,6 +69,7 @@ pub trait ByteRows: PageSource {
     fn next_bytes(&mut self, mode: Mode, first: u32, bytes: &mut [u8]) -> Result<bool, SourceFault>
         requires { byte_place mode first 0 + length bytes.old
             ≤ byte_place mode (Self.source self.old).page.width 0 }
-        ensures { GivesRowBytes mode first (Self.source self.old) bytes.old result
-            (Self.source self.new) bytes.new };
+        ensures { GivesRowBytes mode first
+            (record { source = Self.source self.old; bytes = bytes.old }) result
+            (record { source = Self.source self.new; bytes = bytes.new }) };
 }

@@ -56,7 +56,7 @@ more_to_give s setup f is counted more =
 
 -- ---- a piece of a line
 
-pub gives_of_line : (s t : SourceState) (setup : Setup) (old mid new : FrameProgress) (n : ℕ) (buf : List ℕ) → 0 < length buf → HasLineBytes s setup old t mid → GivesLine mid n new buf → GivesOfLine s setup old n t new buf
+pub gives_of_line : (s t : SourceState) (setup : Setup) (old mid new : FrameProgress) (n : ℕ) (buf : List ℕ) → 0 < length buf → HasLineBytes s setup old t mid → GivesLine mid n new buf → GivesOfLine setup (record { source = s; frame = old }) n (record { source = t; frame = new }) buf
 gives_of_line s t setup old mid new n buf room has gives =
     let is = has.frame in
     let b = bytes_per_line setup mid.pass in

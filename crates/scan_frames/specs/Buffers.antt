@@ -7,7 +7,7 @@ use Rattle.scan_frames.specs.Frames.{bytes_per_line, payload}
 use Rattle.scan_frames.specs.Samples.{IsZeroFrom}
 use Rattle.scan_frames.specs.Tables.{AreComposed}
 use Rattle.scan_frames.specs.Rows.{IsWhiteBehind, TakesRows}
-use Rattle.scan_frames.specs.PassReading.{FrameProgress, IsFrame, IsLineCounted, given_in}
+use Rattle.scan_frames.specs.PassReading.{FrameAndSource, FrameProgress, IsFrame, IsLineCounted, given_in}
 use Rattle.scan_frames.specs.declared.buffers.Buffers.{Buffers}
 use Rattle.scan_frames.specs.declared.setup.Setup.{Setup}
 
@@ -86,7 +86,7 @@ pub record HasGivenOfFrame (s : SourceState) (setup : Setup) (old : FrameProgres
   pub bytes : s.steady ≡ true → take n buf ≡ take n (drop (given_in old) (payload setup s.page old.pass))
 
 -- they are all that is left of a line, but no more than the buffer holds
-pub record GivesOfLine (s : SourceState) (setup : Setup) (old : FrameProgress) (n : ℕ) (t : SourceState) (new : FrameProgress) (buf : List ℕ) : Type 0 where
-  pub count : n ≡ min (left_of_line old) (length buf)
+pub record GivesOfLine (setup : Setup) (was : FrameAndSource) (n : ℕ) (now : FrameAndSource) (buf : List ℕ) : Type 0 where
+  pub count : n ≡ min (left_of_line was.frame) (length buf)
   pub some : 0 < n
-  pub given : HasGivenOfFrame s setup old n t new buf
+  pub given : HasGivenOfFrame was.source setup was.frame n now.source now.frame buf

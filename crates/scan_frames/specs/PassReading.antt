@@ -91,8 +91,15 @@ pub record GivesFrameBytes (s : SourceState) (setup : Setup) (old : FrameProgres
   pub source : TakesRows s t
   pub frame : IsFrame t setup new
 
+-- a frame, and the source that it is read from
+pub record FrameAndSource : Type 0 where
+  pub source : SourceState
+  pub frame : FrameProgress
+
 -- what a read may answer, what it leaves, and what it wrote
-abbrev pub ReadsFrame : SourceState → Setup → FrameProgress → Result ℕ ReadEnd → SourceState → FrameProgress → List ℕ → Type 0
-ReadsFrame s setup old (Ok n) t new buf = GivesFrameBytes s setup old n t new buf
-ReadsFrame s setup old (Err End) t new buf = (given_in old ≡ pass_length setup s.page old.pass) × (t ≡ s) × (new ≡ old)
-ReadsFrame s setup old (Err SourceFailedIn) t new buf = (given_in old < pass_length setup s.page old.pass) × StopsFailing s t
+abbrev pub ReadsFrame : Setup → FrameAndSource → Result ℕ ReadEnd → FrameAndSource → List ℕ → Type 0
+ReadsFrame setup was (Ok n) now buf = GivesFrameBytes was.source setup was.frame n now.source now.frame buf
+ReadsFrame setup was (Err End) now buf =
+    (given_in was.frame ≡ pass_length setup was.source.page was.frame.pass) × (now.source ≡ was.source) × (now.frame ≡ was.frame)
+ReadsFrame setup was (Err SourceFailedIn) now buf =
+    (given_in was.frame < pass_length setup was.source.page was.frame.pass) × StopsFailing was.source now.source

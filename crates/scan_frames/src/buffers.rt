@@ -267,8 +267,9 @@ fn give_of_line<S: ByteRows>(
     requires counted { IsLineCounted (state_of buffers.old) }
     requires more { is_frame_over (state_of buffers.old) ≡ false }
     requires buf { 0 < length buf.old }
-    ensures ok { IfOk result (λ n. GivesOfLine (S.source source.old) setup.now
-        (state_of buffers.old) n (S.source source.new) (state_of buffers.new) buf.new) }
+    ensures ok { IfOk result (λ n. GivesOfLine setup.now
+        (record { source = S.source source.old; frame = state_of buffers.old }) n
+        (record { source = S.source source.new; frame = state_of buffers.new }) buf.new) }
     ensures err { OnErr result (StopsFailing (S.source source.old) (S.source source.new)) }
     ensures counted { OnErr result (IsLineCounted (state_of buffers.new)) }
 {
@@ -294,8 +295,9 @@ pub fn read_on<S: ByteRows>(
     requires frame { IsFrame (S.source source.old) setup.now (state_of buffers.old) }
     requires counted { IsLineCounted (state_of buffers.old) }
     requires buf { 0 < length buf.old }
-    ensures read { ReadsFrame (S.source source.old) setup.now
-        (state_of buffers.old) result (S.source source.new) (state_of buffers.new) buf.new }
+    ensures read { ReadsFrame setup.now
+        (record { source = S.source source.old; frame = state_of buffers.old }) result
+        (record { source = S.source source.new; frame = state_of buffers.new }) buf.new }
     ensures counted { IsLineCounted (state_of buffers.new) }
 {
     let most = buf.len().min(setup.limit as usize);

@@ -74,8 +74,9 @@ impl FrameRows {
         requires setup { IsSetup setup.now }
         requires frame { IsFrame (S.source source.old) setup.now self.old }
         requires buf { 0 < length buf.old }
-        ensures { ReadsFrame (S.source source.old) setup.now self.old result
-            (S.source source.new) self.new buf.new }
+        ensures { ReadsFrame setup.now
+            (record { source = S.source source.old; frame = self.old }) result
+            (record { source = S.source source.new; frame = self.new }) buf.new }
     {
         read_on(&mut self.buffers, source, setup, buf)
     }

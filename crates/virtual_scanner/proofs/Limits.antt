@@ -1,5 +1,5 @@
 -- The limits of a scanner through its calls.
-use Rattle.std.proofs.Common.{◌≡◌, ◌∙◌, ◌+◌, ◌≤◌, ◌<◌, sym, ap, subst, refl, arith, ℕ, suc, Bool, true, false, List, [], ◌∷◌, ◌++◌, map, length, drop, slice_index_or}
+use Rattle.std.proofs.Common.{◌≡◌, ◌∙◌, ◌+◌, ◌≤◌, ◌<◌, sym, ap, subst, refl, arith, ℕ, suc, Bool, true, false, List, [], ◌∷◌, ◌++◌, map, length, drop, slice_index_or, slice_set}
 use Rattle.std.specs.Prelude.{Option, Some, None, Result, Ok, Err, IfOk, OnOk, OnErr, All, Vec, vec_capacity, vec_len}
 use Rattle.std.specs.Global.{Global}
 use Rattle.page_picture.specs.declared.scene.DeviceKind.{DeviceKind}
@@ -25,7 +25,7 @@ use Rattle.device_api.specs.State.{Phase, held_from, is_feeder, left_behind, pag
 use Rattle.device_api.specs.State.Phase.{AtRest}
 use Rattle.device_api.specs.Values.{defaults, setup_after}
 use Rattle.sane_fixed.specs.declared.device_info.DeviceInfo.{DeviceInfo}
-use Rattle.virtual_scanner.specs.Answers.{AnswersRead}
+use Rattle.virtual_scanner.specs.Answers.{AnswersUnless}
 use Rattle.virtual_scanner.specs.First.{OfFirst, OnFirst}
 use Rattle.virtual_scanner.specs.Inside.{HasFrameOfFirst, device_on}
 use Rattle.virtual_scanner.specs.Phases.{IsStill, phase_of, pass_to_start}
@@ -46,11 +46,11 @@ begins_same s t setup pass (Err NoPicture) h = same_page s t s h.1 refl refl
 begins_same s t setup pass (Err NoMem) h = same_page s t s h.1 refl refl
 begins_same s t setup pass (Err NotBegun) h = same_page s t _ h.1.rest refl refl
 
-ends_same : (s t : SourceState) (setup : Setup) (f g : FrameProgress) (end : ReadEnd) (buf : List ℕ) → ReadsFrame s setup f (Err end) t g buf → IsSamePage s t
+ends_same : (s t : SourceState) (setup : Setup) (f g : FrameProgress) (end : ReadEnd) (buf : List ℕ) → ReadsFrame setup (record { source = s; frame = f }) (Err end) (record { source = t; frame = g }) buf → IsSamePage s t
 ends_same s t setup f g End buf h = same_page s t s h.1 refl refl
 ends_same s t setup f g SourceFailed buf h = same_page s t _ h.1.after refl refl
 
-pub answers_same : (s t : SourceState) (setup : Setup) (f g : FrameProgress) (told : Option Status) (result : Result ℕ Status) (buf : List ℕ) → AnswersRead told s setup f result t g buf → IsSamePage s t
+pub answers_same : (s t : SourceState) (setup : Setup) (f g : FrameProgress) (told : Option Status) (result : Result ℕ Status) (buf : List ℕ) → AnswersUnless told setup (record { source = s; frame = f }) result (record { source = t; frame = g }) buf → IsSamePage s t
 answers_same s t setup f g None (Ok n) buf h = same_page s t _ h.source.after refl refl
 answers_same s t setup f g None (Err status) buf h = ends_same s t setup f g h.reason buf h.ends
 answers_same s t setup f g (Some told) result buf h = same_page s t s h.1 refl refl
@@ -140,11 +140,11 @@ pub frame_begun : (setup : Setup) (pass : ℕ) (f : FrameProgress) (xs ys : List
 frame_begun setup pass f [] ys h = absurd h
 frame_begun setup pass f (s ∷ more) ys h = subst (λ (zs : List SourceState). OfFirst (λ s. IsFrame s setup f) zs) (sym h.2) h.1.frame
 
-frame_read : (setup : Setup) (s t : SourceState) (f g : FrameProgress) (told : Option Status) (n : ℕ) (buf : List ℕ) → AnswersRead told s setup f (Ok n) t g buf → IsFrame t setup g
+frame_read : (setup : Setup) (s t : SourceState) (f g : FrameProgress) (told : Option Status) (n : ℕ) (buf : List ℕ) → AnswersUnless told setup (record { source = s; frame = f }) (Ok n) (record { source = t; frame = g }) buf → IsFrame t setup g
 frame_read setup s t f g None n buf h = h.frame
 frame_read setup s t f g (Some status) n buf h = absurd (let e : Ok n ≡ Err status = h.0 in (cc))
 
-pub frame_goes_on : (setup : Setup) (f g : FrameProgress) (told : Option Status) (n : ℕ) (buf : List ℕ) (xs ys : List SourceState) → OnFirst (λ s t. AnswersRead told s setup f (Ok n) t g buf) xs ys → OfFirst (λ s. IsFrame s setup g) ys
+pub frame_goes_on : (setup : Setup) (f g : FrameProgress) (told : Option Status) (n : ℕ) (buf : List ℕ) (xs ys : List SourceState) → OnFirst (λ s t. AnswersUnless told setup (record { source = s; frame = f }) (Ok n) (record { source = t; frame = g }) buf) xs ys → OfFirst (λ s. IsFrame s setup g) ys
 frame_goes_on setup f g told n buf [] ys h = absurd h
 frame_goes_on setup f g told n buf (s ∷ more) ys h = subst (λ (zs : List SourceState). OfFirst (λ s. IsFrame s setup g) zs) (sym h.2) (frame_read setup s h.0 f g told n buf h.1)
 
@@ -163,6 +163,11 @@ waiting_frame (IsReading _) pass setup xs e = absurd (cc)
 pub frame_at : (setup : Setup) (f : FrameProgress) (xs : List Source) (x : Source) → x ≡ slice_index_or xs 0 x → OfFirst (λ s. IsFrame s setup f) (map source_state xs) → IsFrame (source_state x) setup f
 frame_at setup f [] x e h = absurd h
 frame_at setup f (y ∷ ys) x e h = subst (λ (z : Source). IsFrame (source_state z) setup f) (sym e) h
+
+-- what was done with it
+pub first_did : (did : SourceState → SourceState → Type 0) (there : SourceState → Type 0) (xs : List Source) (x y : Source) → x ≡ slice_index_or xs 0 x → OfFirst there (map source_state xs) → did (source_state x) (source_state y) → OnFirst did (map source_state xs) (map source_state (slice_set xs 0 y))
+first_did did there [] x y e h d = absurd h
+first_did did there (z ∷ zs) x y e h d = (source_state y, subst (λ (w : Source). did (source_state w) (source_state y)) e d, refl)
 
 -- ---- one page after another
 

@@ -15,7 +15,7 @@ use Rattle.scan_frames.specs.declared.setup.Setup.{Setup}
 use Rattle.device_api.specs.State.{DeviceState, Phase, FrameReads, StartsOn, Starts, after_read_status, goes_to, held_from, next_pass, state_at_rest, after_stop}
 use Rattle.device_api.specs.State.Phase.{AtRest, Between, Reading}
 use Rattle.sane_fixed.specs.declared.device_info.DeviceInfo.{DeviceInfo}
-use Rattle.virtual_scanner.specs.Answers.{AnswersRead}
+use Rattle.virtual_scanner.specs.Answers.{AnswersUnless}
 use Rattle.virtual_scanner.specs.First.{OnFirst}
 use Rattle.virtual_scanner.specs.Inside.{device_on}
 use Rattle.virtual_scanner.specs.Phases.{pass_to_start}
@@ -74,7 +74,7 @@ refuses info setup xs ys phase pass fault e h =
 
 -- ---- a read
 
-gives_on : (info : DeviceInfo) (setup : Setup) (s t : SourceState) (more : List SourceState) (f g : FrameProgress) (told : Option Status) (n : ℕ) (buf : List ℕ) → AnswersRead told s setup f (Ok n) t g buf → FrameReads told (device_on info setup (s ∷ more) (Reading f.pass (given_in f))) f.pass (given_in f) (Ok n) (device_on info setup (t ∷ more) (Reading g.pass (given_in g))) buf
+gives_on : (info : DeviceInfo) (setup : Setup) (s t : SourceState) (more : List SourceState) (f g : FrameProgress) (told : Option Status) (n : ℕ) (buf : List ℕ) → AnswersUnless told setup (record { source = s; frame = f }) (Ok n) (record { source = t; frame = g }) buf → FrameReads told (device_on info setup (s ∷ more) (Reading f.pass (given_in f))) f.pass (given_in f) (Ok n) (device_on info setup (t ∷ more) (Reading g.pass (given_in g))) buf
 gives_on info setup s t more f g (Some status) n buf h = absurd (let e : Ok n ≡ Err status = h.0 in (cc))
 gives_on info setup s t more f g None n buf h = record {
   count = h.count;
@@ -88,7 +88,7 @@ gives_on info setup s t more f g None n buf h = record {
       ∙ ap (λ (k : ℕ). device_on info setup (s ∷ more) (Reading f.pass k)) h.further;
 }
 
-pub gives : (info : DeviceInfo) (setup : Setup) (xs ys : List SourceState) (f g : FrameProgress) (told : Option Status) (n : ℕ) (buf : List ℕ) → OnFirst (λ s t. AnswersRead told s setup f (Ok n) t g buf) xs ys → FrameReads told (device_on info setup xs (Reading f.pass (given_in f))) f.pass (given_in f) (Ok n) (device_on info setup ys (Reading g.pass (given_in g))) buf
+pub gives : (info : DeviceInfo) (setup : Setup) (xs ys : List SourceState) (f g : FrameProgress) (told : Option Status) (n : ℕ) (buf : List ℕ) → OnFirst (λ s t. AnswersUnless told setup (record { source = s; frame = f }) (Ok n) (record { source = t; frame = g }) buf) xs ys → FrameReads told (device_on info setup xs (Reading f.pass (given_in f))) f.pass (given_in f) (Ok n) (device_on info setup ys (Reading g.pass (given_in g))) buf
 gives info setup [] ys f g told n buf h = absurd h
 gives info setup (s ∷ more) ys f g told n buf h =
     subst (λ (zs : List SourceState). FrameReads told (device_on info setup (s ∷ more) (Reading f.pass (given_in f))) f.pass (given_in f) (Ok n) (device_on info setup zs (Reading g.pass (given_in g))) buf) (sym h.2)
@@ -100,7 +100,7 @@ moves info setup xs from (AtRest _) = refl
 moves info setup xs from (Between _) = refl
 moves info setup xs from (Reading _ _) = refl
 
-ends_on : (info : DeviceInfo) (setup : Setup) (s t : SourceState) (more : List SourceState) (f g : FrameProgress) (end : ReadEnd) (buf : List ℕ) → ReadsFrame s setup f (Err end) t g buf → FrameReads None (device_on info setup (s ∷ more) (Reading f.pass (given_in f))) f.pass (given_in f) (Err (end_status end)) (goes_to (device_on info setup (t ∷ more) (after_read_status setup f.pass (end_status end))) (after_read_status setup f.pass (end_status end))) buf
+ends_on : (info : DeviceInfo) (setup : Setup) (s t : SourceState) (more : List SourceState) (f g : FrameProgress) (end : ReadEnd) (buf : List ℕ) → ReadsFrame setup (record { source = s; frame = f }) (Err end) (record { source = t; frame = g }) buf → FrameReads None (device_on info setup (s ∷ more) (Reading f.pass (given_in f))) f.pass (given_in f) (Err (end_status end)) (goes_to (device_on info setup (t ∷ more) (after_read_status setup f.pass (end_status end))) (after_read_status setup f.pass (end_status end))) buf
 ends_on info setup s t more f g End buf h = (
   h.0,
   ap (λ (u : SourceState). goes_to (device_on info setup (u ∷ more) (after_read_status setup f.pass Eof)) (after_read_status setup f.pass Eof)) h.1
@@ -116,7 +116,7 @@ ends_on info setup s t more f g SourceFailed buf h = (
   },
 )
 
-answers_on : (info : DeviceInfo) (setup : Setup) (s t : SourceState) (more : List SourceState) (f g : FrameProgress) (told : Option Status) (status : Status) (buf : List ℕ) → AnswersRead told s setup f (Err status) t g buf → FrameReads told (device_on info setup (s ∷ more) (Reading f.pass (given_in f))) f.pass (given_in f) (Err status) (goes_to (device_on info setup (t ∷ more) (after_read_status setup f.pass status)) (after_read_status setup f.pass status)) buf
+answers_on : (info : DeviceInfo) (setup : Setup) (s t : SourceState) (more : List SourceState) (f g : FrameProgress) (told : Option Status) (status : Status) (buf : List ℕ) → AnswersUnless told setup (record { source = s; frame = f }) (Err status) (record { source = t; frame = g }) buf → FrameReads told (device_on info setup (s ∷ more) (Reading f.pass (given_in f))) f.pass (given_in f) (Err status) (goes_to (device_on info setup (t ∷ more) (after_read_status setup f.pass status)) (after_read_status setup f.pass status)) buf
 answers_on info setup s t more f g None status buf h =
     subst (λ (st : Status). FrameReads None (device_on info setup (s ∷ more) (Reading f.pass (given_in f))) f.pass (given_in f) (Err st) (goes_to (device_on info setup (t ∷ more) (after_read_status setup f.pass st)) (after_read_status setup f.pass st)) buf) (sym h.told)
     (ends_on info setup s t more f g h.reason buf h.ends)
@@ -128,7 +128,7 @@ answers_on info setup s t more f g (Some told) status buf h =
           ∙ ap (λ (st : Status). goes_to (device_on info setup (s ∷ more) (Reading f.pass (given_in f))) (after_read_status setup f.pass st)) same,
     )
 
-pub answers : (info : DeviceInfo) (setup : Setup) (xs ys : List SourceState) (f g : FrameProgress) (told : Option Status) (status : Status) (phase : Phase) (buf : List ℕ) → phase ≡ after_read_status setup f.pass status → OnFirst (λ s t. AnswersRead told s setup f (Err status) t g buf) xs ys → FrameReads told (device_on info setup xs (Reading f.pass (given_in f))) f.pass (given_in f) (Err status) (goes_to (device_on info setup ys phase) phase) buf
+pub answers : (info : DeviceInfo) (setup : Setup) (xs ys : List SourceState) (f g : FrameProgress) (told : Option Status) (status : Status) (phase : Phase) (buf : List ℕ) → phase ≡ after_read_status setup f.pass status → OnFirst (λ s t. AnswersUnless told setup (record { source = s; frame = f }) (Err status) (record { source = t; frame = g }) buf) xs ys → FrameReads told (device_on info setup xs (Reading f.pass (given_in f))) f.pass (given_in f) (Err status) (goes_to (device_on info setup ys phase) phase) buf
 answers info setup [] ys f g told status phase buf e h = absurd h
 answers info setup (s ∷ more) ys f g told status phase buf e h =
     subst (λ (p : Phase). FrameReads told (device_on info setup (s ∷ more) (Reading f.pass (given_in f))) f.pass (given_in f) (Err status) (goes_to (device_on info setup ys p) p) buf) (sym e)

@@ -1,24 +1,28 @@
 -- What a read in a frame answers.
 use Rattle.std.specs.Prelude.{ℕ, ◌≡◌, List, Option, Some, None, Result, Ok, Err}
 use Rattle.sane_fixed.specs.declared.status.Status.{Status}
-use Rattle.page_picture.specs.Source.{SourceState}
 use Rattle.scan_frames.specs.StatusOf.{end_status}
-use Rattle.scan_frames.specs.PassReading.{FrameProgress, ReadsFrame}
+use Rattle.scan_frames.specs.PassReading.{FrameAndSource, ReadsFrame, given_in}
 use Rattle.scan_frames.specs.declared.faults.ReadEnd.{ReadEnd}
 use Rattle.scan_frames.specs.declared.setup.Setup.{Setup}
+use Rattle.device_api.specs.State.{read_status_at}
 
 -- the frame gave no byte, for a reason that the status tells
-pub record FrameEndsWith (s : SourceState) (setup : Setup) (old : FrameProgress) (status : Status) (t : SourceState) (new : FrameProgress) (buf : List ℕ) : Type 0 where
+pub record FrameEndsWith (setup : Setup) (was : FrameAndSource) (status : Status) (now : FrameAndSource) (buf : List ℕ) : Type 0 where
   pub reason : ReadEnd
   pub told : status ≡ end_status reason
-  pub ends : ReadsFrame s setup old (Err reason) t new buf
+  pub ends : ReadsFrame setup was (Err reason) now buf
 
 -- what the frame gives
-abbrev pub AnswersFrame : SourceState → Setup → FrameProgress → Result ℕ Status → SourceState → FrameProgress → List ℕ → Type 0
-AnswersFrame s setup old (Ok n) t new buf = ReadsFrame s setup old (Ok n) t new buf
-AnswersFrame s setup old (Err status) t new buf = FrameEndsWith s setup old status t new buf
+abbrev pub AnswersFrame : Setup → FrameAndSource → Result ℕ Status → FrameAndSource → List ℕ → Type 0
+AnswersFrame setup was (Ok n) now buf = ReadsFrame setup was (Ok n) now buf
+AnswersFrame setup was (Err status) now buf = FrameEndsWith setup was status now buf
 
--- what the options tell in its place, or what the frame gives
-abbrev pub AnswersRead : Option Status → SourceState → Setup → FrameProgress → Result ℕ Status → SourceState → FrameProgress → List ℕ → Type 0
-AnswersRead None s setup old result t new buf = AnswersFrame s setup old result t new buf
-AnswersRead (Some status) s setup old result t new buf = (result ≡ Err status) × (t ≡ s)
+-- a status that is told in its place, or what the frame gives
+abbrev pub AnswersUnless : Option Status → Setup → FrameAndSource → Result ℕ Status → FrameAndSource → List ℕ → Type 0
+AnswersUnless None setup was result now buf = AnswersFrame setup was result now buf
+AnswersUnless (Some status) setup was result now buf = (result ≡ Err status) × (now.source ≡ was.source)
+
+-- the status that the options tell in place of the first bytes, or what the frame gives
+abbrev pub AnswersRead : Setup → FrameAndSource → Result ℕ Status → FrameAndSource → List ℕ → Type 0
+AnswersRead setup was result now buf = AnswersUnless (read_status_at setup.told (given_in was.frame)) setup was result now buf

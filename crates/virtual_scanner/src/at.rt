@@ -1,8 +1,8 @@
 ghost use Rattle.std.specs.Prelude.{◌≡◌, ◌<◌, length};
 ghost use Rattle.page_picture.specs.SourceView.{source_state};
 ghost use Rattle.scan_frames.specs.Frames.{IsSetup};
-ghost use Rattle.scan_frames.specs.PassReading.{IsFrame, given_in};
-ghost use Rattle.device_api.specs.State.{after_read_status, reported_pass, read_status_at};
+ghost use Rattle.scan_frames.specs.PassReading.{IsFrame};
+ghost use Rattle.device_api.specs.State.{after_read_status, reported_pass};
 ghost use Rattle.virtual_scanner.specs.Phases.{IsStill, pass_to_start, phase_of};
 ghost use Rattle.virtual_scanner.specs.Answers.{AnswersRead};
 
@@ -66,9 +66,9 @@ pub fn answer_read(
     requires setup { IsSetup setup.now }
     requires frame { IsFrame (source_state source.old) setup.now frame.old }
     requires buf { 0 < length buf.old }
-    ensures { AnswersRead (read_status_at setup.now.told (given_in frame.old))
-        (source_state source.old) setup.now frame.old result
-        (source_state source.new) frame.new buf.new }
+    ensures { AnswersRead setup.now
+        (record { source = source_state source.old; frame = frame.old }) result
+        (record { source = source_state source.new; frame = frame.new }) buf.new }
 {
     if frame.is_new() {
         if let Some(status) = setup.told {

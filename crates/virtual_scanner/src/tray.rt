@@ -3,9 +3,9 @@
 ghost use Rattle.std.specs.Prelude.{◌≡◌, ◌≢◌, ◌<◌, ◌≤◌, ◌-◌, [], map, true, false, All, IsOk, OnOk, OnErr, vec_len, vec_capacity, length};
 ghost use Rattle.page_picture.specs.SourceView.{source_state};
 ghost use Rattle.scan_frames.specs.Frames.{IsSetup};
-ghost use Rattle.scan_frames.specs.PassReading.{BeginsPass, IsFrame, given_in};
+ghost use Rattle.scan_frames.specs.PassReading.{BeginsPass, IsFrame};
 ghost use Rattle.device_api.specs.ScannerLimits.{IsHeldPage};
-ghost use Rattle.device_api.specs.State.{held_from, is_feeder, left_behind, pages_with, params_in, tray_room, read_status_at};
+ghost use Rattle.device_api.specs.State.{held_from, is_feeder, left_behind, pages_with, params_in, tray_room};
 ghost use Rattle.virtual_scanner.specs.Answers.{AnswersRead};
 ghost use Rattle.virtual_scanner.specs.First.{OfFirst, OnFirst};
 
@@ -66,8 +66,9 @@ pub fn read_frame(
     requires frame { OfFirst (λ s. IsFrame s setup.now frame.old)
         (map source_state tray.old.items) }
     requires buf { 0 < length buf.old }
-    ensures answers { OnFirst (λ s t. AnswersRead (read_status_at setup.now.told
-        (given_in frame.old)) s setup.now frame.old result t frame.new buf.new)
+    ensures answers { OnFirst (λ s t. AnswersRead setup.now
+        (record { source = s; frame = frame.old }) result
+        (record { source = t; frame = frame.new }) buf.new)
         (map source_state tray.old.items) (map source_state tray.new.items) }
     ensures room { vec_capacity tray.new ≡ vec_capacity tray.old }
 {

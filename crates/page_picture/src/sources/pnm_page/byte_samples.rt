@@ -37,8 +37,9 @@ impl<R: Rereadable + Drop> ByteRows for PnmPage<R> {
     fn next_bytes(&mut self, mode: Mode, first: u32, bytes: &mut [u8]) -> Result<bool, SourceFault>
         requires { byte_place mode first 0 + length bytes.old
             ≤ byte_place mode self.old.shown.page.width 0 }
-        ensures bytes { GivesRowBytes mode first self.old.shown bytes.old result
-            self.new.shown bytes.new }
+        ensures bytes { GivesRowBytes mode first
+            (record { source = self.old.shown; bytes = bytes.old }) result
+            (record { source = self.new.shown; bytes = bytes.new }) }
         ensures lost { LosesRows result self.new }
         // As `next_row`: over a reader that keeps its bytes only where a call of the reader fails, or the rows are lost.
         ensures failed { OnErr result (self.old.shown.steady ≡ true

@@ -25,7 +25,7 @@ invariant_of-self-in-Ok c =
     let told : Option Status = read_status_at setup.told (given_in f) in
     let buf : List ℕ = c.read_frame.new.buf in
     record {
-      limits = limits_on c.self.inside.info setup (λ s t. AnswersRead told s setup f (Ok c.in-Ok.n) t g buf) xs ys (phase_of c.self.inside.at) (Reading g.pass (given_in g)) (λ s t h. answers_same s t setup f g told (Ok c.in-Ok.n) buf h) c.in-Ok.ensures.answers c.self.invariant.limits;
+      limits = limits_on c.self.inside.info setup (λ s t. AnswersRead setup (record { source = s; frame = f }) (Ok c.in-Ok.n) (record { source = t; frame = g }) buf) xs ys (phase_of c.self.inside.at) (Reading g.pass (given_in g)) (λ s t h. answers_same s t setup f g told (Ok c.in-Ok.n) buf h) c.in-Ok.ensures.answers c.self.invariant.limits;
       room = same_room c.self.inside.tray c.read_frame.new.tray setup.scene.kind c.read_frame.ensures.room c.self.invariant.room;
       frame = frame_goes_on setup f g told c.in-Ok.n buf xs ys c.in-Ok.ensures.answers;
     }
@@ -40,7 +40,7 @@ invariant_of-self-in-Err c =
     let told : Option Status = read_status_at setup.told (given_in f) in
     let buf : List ℕ = c.read_frame.new.buf in
     record {
-      limits = limits_on c.self.inside.info setup (λ s t. AnswersRead told s setup f (Err c.in-Err.status) t g buf) xs ys (phase_of c.self.inside.at) (phase_of c.after.result) (λ s t h. answers_same s t setup f g told (Err c.in-Err.status) buf h) c.in-Err.ensures.answers c.self.invariant.limits;
+      limits = limits_on c.self.inside.info setup (λ s t. AnswersRead setup (record { source = s; frame = f }) (Err c.in-Err.status) (record { source = t; frame = g }) buf) xs ys (phase_of c.self.inside.at) (phase_of c.after.result) (λ s t h. answers_same s t setup f g told (Err c.in-Err.status) buf h) c.in-Err.ensures.answers c.self.invariant.limits;
       room = same_room c.self.inside.tray c.read_frame.new.tray setup.scene.kind c.read_frame.ensures.room c.self.invariant.room;
       frame = still_frame c.after.result setup ys c.after.ensures.still;
     }
