@@ -17,7 +17,7 @@ use Rattle.local_job.specs.LocalBatch.{IsBatchDone, IsBatchEndedBy, IsBatchPut, 
 use Rattle.local_job.specs.LocalRun.{devices_reported, options_reported, settings_put}
 use Rattle.local_job.specs.LocalPages.{AreScanned, EndsPage, RefusesLast, EndsBehind, StopsAt, after_pages}
 use Rattle.scan_job.specs.FileOutputs.{TakesBack}
-use Rattle.local_job.specs.Putting.{put_all}
+use Rattle.local_job.specs.Inside.{put_all}
 use Rattle.local_job.specs.LocalStops.{bad_setting}
 use Rattle.scan_job.specs.Stops.{no_memory}
 use Rattle.local_job.proofs.Batches.{at_rest_behind, takes_none}

@@ -12,7 +12,8 @@ use Rattle.scan_job.specs.declared.outcome.Why.TheVariants.{Answer, Memory, Sink
 use Rattle.scan_job.specs.declared.stop.Stop.{Stop}
 use Rattle.local_job.specs.ScanCauses.{ScanHasCause}
 use Rattle.local_job.specs.FrameReading.{KeepsDevice}
-use Rattle.local_job.specs.LocalPages.{AreScanned, ArePageFiles, EndsPage, FilesPage, IsFileOfFirstPage, LeavesPage, RefusesLast, EndsBehind, StopsAt, after_pages, outputs_from}
+use Rattle.local_job.specs.LocalPages.{AreScanned, ArePageFiles, EndsPage, IsFileOfFirstPage, RefusesLast, EndsBehind, StopsAt, after_pages, outputs_from}
+use Rattle.local_job.specs.Inside.{FilesPage, LeavesPage}
 use Rattle.scan_job.specs.FileOutputs.{AreLeft, TakesBack, output_of, refused_output}
 use Rattle.local_job.specs.LocalStops.{stop_by_status}
 use Rattle.scan_job.specs.Stops.{no_memory, failed_output}

@@ -6,7 +6,7 @@ use Rattle.std.proofs.lemmas.List.{append_assoc, append-nil, take-append-drop, l
 use Rattle.netpbm.specs.Picture.{Picture}
 use Rattle.netpbm.specs.Pnm.{Denotes, IsWhole}
 use Rattle.page_picture.specs.Shows.{ShowsFrames}
-use Rattle.local_job.specs.LocalDraining.{JoinIsDrainedTo}
+use Rattle.local_job.specs.Inside.{JoinIsDrainedTo}
 use Rattle.scan_job.specs.FileOutputs.{StopsShort}
 use Rattle.frame_join.specs.FrameHistory.{JoinHistory, IsJoined, after_pull}
 use Rattle.frame_join.specs.JoinStates.{JoinState, Represents}

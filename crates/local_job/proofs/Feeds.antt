@@ -8,9 +8,8 @@ use Rattle.frame_join.specs.declared.join_stage.JoinFault.TheVariants.{Long, NoM
 use Rattle.frame_join.specs.AloneFrame.{most_bytes}
 use Rattle.frame_join.specs.FrameHistory.{JoinHistory, after_feed_at, with_fault, after_feed}
 use Rattle.frame_join.specs.JoinStates.{JoinState}
-use Rattle.local_job.specs.LocalStops.{stop_of_join}
+use Rattle.local_job.specs.Inside.{stop_of_join, JoinIsDrainedTo, FeedsJoin}
 use Rattle.scan_job.specs.Stops.{no_memory}
-use Rattle.local_job.specs.LocalDraining.{JoinIsDrainedTo, FeedsJoin}
 
 -- the history with more bytes in its frame
 abbrev grown : JoinHistory → Frame → List ℕ → JoinHistory

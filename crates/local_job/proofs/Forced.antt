@@ -21,7 +21,8 @@ use Rattle.scan_laws.proofs.NearestSet.{set_nearest}
 use Rattle.scan_laws.proofs.Sets.{tells}
 use Rattle.scan_job.specs.declared.report.Report.{Report}
 use Rattle.scan_job.specs.declared.stop.Stop.{Stop}
-use Rattle.local_job.specs.Putting.{value_of_setting, put_answered, put_read, put_found, put_one, with_first, then_more, put_all}
+use Rattle.local_job.specs.Putting.{value_of_setting}
+use Rattle.local_job.specs.Inside.{put_answered, put_read, put_found, put_one, with_first, then_more, put_all}
 use Rattle.local_job.specs.SettingReports.{SettingsAreReported, FailsAt, SettingIsRefusedAs, IsReported}
 
 -- ---- one setting

@@ -12,7 +12,7 @@ use Rattle.device_api.specs.State.{DeviceState, Phase, AtRest, Between, Reading,
 use Rattle.frame_join.specs.declared.join_stage.JoinFault.{JoinFault}
 use Rattle.frame_join.specs.FrameHistory.{JoinHistory, IsJoined, answer_by}
 use Rattle.frame_join.specs.JoinStates.{JoinState, Represents}
-use Rattle.local_job.specs.LocalDraining.{FeedsJoin}
+use Rattle.local_job.specs.Inside.{FeedsJoin, read_refused, IsAllOrNone, JoinIsInside, IsReadTo}
 use Rattle.scan_job.specs.FileOutputs.{StopsShort}
 use Rattle.std.proofs.Common.{cond, Bool, inl, inr}
 use Rattle.std.specs.Prelude.{◌==◌}
@@ -20,12 +20,11 @@ use Rattle.std.proofs.lemmas.Bool.{eqb-true}
 use Rattle.std.specs.Prelude.{◌≢◌}
 use Rattle.page_picture.specs.Source.{CountsFailure}
 use Rattle.local_job.specs.ScanCauses.{ScanHasCause}
-use Rattle.local_job.specs.LocalStops.{read_refused}
 use Rattle.scan_job.specs.Stops.{no_memory, failed_output}
 use Rattle.scan_job.specs.declared.stop.Stop.{Stop}
 use Rattle.std.proofs.Common.{◌≤◌, ◌⊎◌, length}
 use Rattle.std.proofs.lemmas.Bool.{false≢true}
-use Rattle.local_job.specs.FrameReading.{IsAllOrNone, JoinIsInside, IsReadTo, KeepsDevice}
+use Rattle.local_job.specs.FrameReading.{KeepsDevice}
 use Rattle.local_job.proofs.Lets.{cause_before, failed, further, of_failure, of_goes, of_nothing, of_phase}
 
 -- the pass under way, and how many of its bytes were given

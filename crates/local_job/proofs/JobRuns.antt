@@ -20,10 +20,10 @@ use Rattle.scan_job.specs.declared.stop.Stop.{Stop}
 use Rattle.local_job.specs.ScanCauses.{ScanHasCause, IsCause}
 use Rattle.local_job.specs.FrameReading.{KeepsDevice}
 use Rattle.local_job.specs.SettingReports.{SettingsAreReported, FailsAt}
-use Rattle.local_job.specs.LocalRun.{devices_reported, left_by, settings_put, IsDone, IsEndedBy, IsPut, IsTakenJob, KeepsPages, ChangesDevice, Writes}
+use Rattle.local_job.specs.LocalRun.{devices_reported, left_by, settings_put, IsDone, IsEndedBy, IsPut, IsTakenJob, ChangesDevice, Writes}
+use Rattle.local_job.specs.Inside.{KeepsPages, put_all}
 use Rattle.scan_laws.specs.Stays.{AreSamePages, LetsGo}
 use Rattle.local_job.proofs.Lets.{cancel_rests, cause_after, left_same}
-use Rattle.local_job.specs.Putting.{put_all}
 use Rattle.local_job.specs.LocalStops.{bad_setting, stop_by_status}
 use Rattle.scan_job.specs.Stops.{no_memory}
 use Rattle.local_job.proofs.Forced.{AllIs, all_is, fails_is, forced_is}

@@ -22,9 +22,8 @@ use Rattle.frame_join.specs.AloneFrame.{most_bytes}
 use Rattle.frame_join.specs.declared.join_stage.JoinFault.{JoinFault}
 use Rattle.device_api.proofs.RunLaws.{length-payload}
 use Rattle.scan_laws.specs.Joins.{JoinTakes, TakesAll}
-use Rattle.local_job.specs.LocalStops.{stop_of_join}
+use Rattle.local_job.specs.Inside.{stop_of_join, bytes_of_pass, frames_came, AreOfPasses, FrameEndsAs, JoinIsBetween}
 use Rattle.scan_job.specs.Stops.{no_memory}
-use Rattle.local_job.specs.FrameReading.{bytes_of_pass, frames_came, AreOfPasses, FrameEndsAs, JoinIsBetween}
 
 -- ---- a frame begins, and ends
 

@@ -7,7 +7,8 @@ use Rattle.device_api.specs.State.{DeviceState, Phase, AtRest, Between, Reading,
 use Rattle.frame_join.specs.FrameHistory.{JoinHistory, empty_history, IsJoined}
 use Rattle.frame_join.specs.JoinStates.{JoinState, Represents}
 use Rattle.scan_job.specs.FileOutputs.{StopsShort}
-use Rattle.local_job.specs.FrameReading.{AreOfPasses, HasJoined, HasScannedPass, IsScanned, KeepsDevice}
+use Rattle.local_job.specs.FrameReading.{IsScanned, KeepsDevice}
+use Rattle.local_job.specs.Inside.{AreOfPasses, HasJoined, HasScannedPass}
 use Rattle.std.proofs.KnownBytes.{Appends-nil}
 use Rattle.std.specs.Prelude.{◌≢◌}
 use Rattle.local_job.proofs.Lets.{of_phase}

@@ -31,12 +31,12 @@ use Rattle.scan_job.specs.declared.stop.Stop.{Stop}
 use Rattle.local_job.specs.ScanCauses.{IsCause, ScanHasCause}
 use Rattle.local_job.specs.LocalStops.{stop_by_status}
 use Rattle.scan_job.specs.Stops.{no_memory, failed_output}
-use Rattle.local_job.specs.LocalDraining.{JoinIsDrainedTo}
+use Rattle.local_job.specs.Inside.{JoinIsDrainedTo, bytes_of_pass, frames_came, AreOfPasses, IsAllOrNone, IsReadTo, FrameEndsAs, JoinsFrame, JoinIsBetween, HasJoined, HasScannedPass}
 use Rattle.scan_job.specs.FileOutputs.{StopsShort}
 use Rattle.std.specs.Prelude.{◌≢◌}
 use Rattle.sane_fixed.specs.declared.params.Params.{Params}
 use Rattle.local_job.proofs.Lets.{cause_before, failed, of_failure, of_nothing, of_stop, some_shaped, some_told, steady_sheet}
-use Rattle.local_job.specs.FrameReading.{KeepsDevice, bytes_of_pass, frames_came, AreOfPasses, IsAllOrNone, IsReadTo, IsScanned, FrameEndsAs, JoinsFrame, JoinIsBetween, HasJoined, HasScannedPass}
+use Rattle.local_job.specs.FrameReading.{KeepsDevice, IsScanned}
 use Rattle.local_job.proofs.FrameReads.{so_far}
 use Rattle.std.proofs.Common.{suc}
 use Rattle.local_job.proofs.JoinedPasses.{begun, not_joined, more_come, was_last, accepted_next, taken_at, full_with, all_frames, frames_more, right_more}

@@ -19,7 +19,7 @@ use Rattle.std.proofs.Common.{subst}
 use Rattle.local_job.specs.FrameReading.{IsRefusal}
 use Rattle.local_job.specs.LocalStops.{stop_by_status}
 use Rattle.scan_job.specs.Stops.{no_memory}
-use Rattle.local_job.specs.Putting.{put_one, put_all, with_first, with_done}
+use Rattle.local_job.specs.Inside.{put_one, put_all, with_first, with_done}
 
 with_one : (done : List Report) (report : Report) (more : Result (Setup × List Report) Stop) → with_done done (with_first report more) ≡ with_done (done ++ report ∷ []) more
 with_one done report (Ok more) = ap (λ (all : List Report). Ok (more.0, all)) (sym (append_assoc done (report ∷ []) more.1))

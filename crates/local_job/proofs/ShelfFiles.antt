@@ -9,7 +9,8 @@ use Rattle.scan_job.specs.Shelves.{Stock, ReturnedOutput, Shelves}
 use Rattle.local_job.specs.OutputRequests.{IsAsked, bytes_held}
 use Rattle.scan_job.specs.FileOutputs.{GivesBack, StopsShort, AreLeft, TakesBack, returned_output}
 use Rattle.local_job.specs.FrameReading.{IsScanned}
-use Rattle.local_job.specs.LocalPages.{FilesPage, IsFileOfFirstPage, LeavesPage}
+use Rattle.local_job.specs.LocalPages.{IsFileOfFirstPage}
+use Rattle.local_job.specs.Inside.{FilesPage, LeavesPage}
 
 -- before it, the shelf was asked for nothing
 pub asked_none : (before : Option Stock) (k : ℕ) → IsAsked before None k before

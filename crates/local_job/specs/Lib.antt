@@ -1,7 +1,6 @@
 pub mod LocalStops
 pub mod Putting
 pub mod SettingReports
-pub mod LocalDraining
 pub mod FrameReading
 pub mod ScanCauses
 pub mod Showing
@@ -9,3 +8,4 @@ pub mod LocalRun
 pub mod OutputRequests
 pub mod LocalPages
 pub mod LocalBatch
+pub mod Inside

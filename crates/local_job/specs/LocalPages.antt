@@ -1,5 +1,5 @@
 -- Pages scanned one after another, each to an output of its own that a shelf gives.
-use Rattle.std.specs.Prelude.{ℕ, zero, suc, ◌+◌, ◌<◌, ◌≤◌, ◌≡◌, ◌≢◌, ◌⊎◌, Bool, Option, Some, List, [], ◌∷◌, ◌++◌, true, false, length, IsSomeAnd}
+use Rattle.std.specs.Prelude.{ℕ, zero, suc, ◌+◌, ◌<◌, ◌≤◌, ◌≡◌, ◌≢◌, ◌⊎◌, Option, List, [], ◌∷◌, ◌++◌, true, false, length, IsSomeAnd}
 use Rattle.netpbm.specs.Pnm.{Denotes, IsWhole}
 use Rattle.page_picture.specs.Meaning.{meaning_of}
 use Rattle.sane_fixed.specs.declared.status.Status.TheVariants.{Inval, NoDocs}
@@ -11,7 +11,7 @@ use Rattle.local_job.specs.LocalStops.{stop_by_status}
 use Rattle.scan_job.specs.Stops.{no_memory, failed_output}
 use Rattle.local_job.specs.FrameReading.{KeepsDevice}
 use Rattle.local_job.specs.ScanCauses.{ScanHasCause}
-use Rattle.scan_job.specs.FileOutputs.{AreLeft, TakesBack, output_of, refused_output, returned_output}
+use Rattle.scan_job.specs.FileOutputs.{AreLeft, TakesBack, output_of, refused_output}
 
 -- ---- files and the scanner
 
@@ -36,20 +36,6 @@ ArePageFiles s (text ∷ more) = IsFileOfFirstPage s text × ArePageFiles (state
 abbrev pub outputs_from : ℕ → List (List ℕ) → List ReturnedOutput
 outputs_from k [] = []
 outputs_from k (text ∷ more) = output_of k text ∷ outputs_from (suc k) more
-
--- the page of that number was scanned and its output given back, and the shelf kept or refused it
-pub record FilesPage (s : DeviceState) (k : ℕ) (kept : Bool) (before after : Option Stock) : Type 0 where
-  pub text : List ℕ
-  pub file : IsFileOfFirstPage s text
-  pub outputs : TakesBack before (returned_output k text kept ∷ []) after
-
--- it was not, and no whole file is left of it
-pub record LeavesPage (k : ℕ) (before after : Option Stock) : Type 0 where
-  pub text : List ℕ
-  pub not_whole : IsWhole text → ⊥
-  pub left : List ReturnedOutput
-  pub is_left : AreLeft k text left
-  pub outputs : TakesBack before left after
 
 -- ---- how pages end
 

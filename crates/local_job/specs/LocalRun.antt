@@ -15,7 +15,7 @@ use Rattle.scan_job.specs.declared.job.Job.{Job}
 use Rattle.scan_job.specs.declared.job.Task.{Task}
 use Rattle.scan_job.specs.declared.job.Task.TheVariants.{List as ListTask, Show, SetOnly, Scan, Batch}
 use Rattle.scan_job.specs.declared.report.Reports.{Reports}
-use Rattle.scan_laws.specs.Stays.{AreSamePages, LetsGo}
+use Rattle.scan_laws.specs.Stays.{AreSamePages}
 use Rattle.scan_job.specs.declared.stop.Stop.{Stop}
 use Rattle.local_job.specs.LocalStops.{bad_setting, stop_by_status}
 use Rattle.scan_job.specs.Stops.{no_memory}
@@ -109,12 +109,6 @@ pub record IsEndedBy (old : DeviceState) (job : Job) (new : DeviceState) (stop :
 -- the output took no whole file
 abbrev pub LeavesNoFile : Option (List ℕ) → Option (List ℕ) → Type 0
 LeavesNoFile before after = (first : Option (List ℕ)) → Appends first before [] → StopsShort first after
-
--- of a device that was reset only the options, the phase and the count of failures changed, and a feeder that is at rest
--- let go of its first page
-pub record KeepsPages (old new : DeviceState) : Type 0 where
-  pub info : new.info ≡ old.info
-  pub pages : AreSamePages old.pages new.pages ⊎ LetsGo (with_setup old new.setup) new
 
 -- Of a device only its options, its phase and its count of failures changed, and a feeder let go of the page that was
 -- scanned; the reset before let go of one under way.

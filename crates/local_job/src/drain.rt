@@ -3,7 +3,7 @@ ghost use Rattle.std.specs.Io.KnownBytes.{Appends};
 ghost use Rattle.netpbm.specs.Pnm.{IsWhole};
 ghost use Rattle.frame_join.specs.FrameHistory.{JoinHistory};
 ghost use Rattle.frame_join.specs.JoinStates.{Represents};
-ghost use Rattle.local_job.specs.LocalDraining.{JoinIsDrainedTo};
+ghost use Rattle.local_job.specs.Inside.{JoinIsDrainedTo};
 ghost use Rattle.scan_job.specs.FileOutputs.{StopsShort};
 
 use crate::outlet::Outlet;

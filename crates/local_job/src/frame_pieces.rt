@@ -3,12 +3,12 @@ ghost use Rattle.page_picture.specs.Shows.{Frame};
 ghost use Rattle.frame_join.specs.FrameHistory.{JoinHistory};
 ghost use Rattle.frame_join.specs.AloneFrame.{most_bytes};
 ghost use Rattle.scan_frames.specs.Frames.{pass_length};
-ghost use Rattle.local_job.specs.LocalDraining.{FeedsJoin};
+ghost use Rattle.local_job.specs.Inside.{FeedsJoin, IsAllOrNone, FrameHasBegun, JoinIsInside, IsReadTo};
 ghost use Rattle.scan_job.specs.FileOutputs.{StopsShort};
 ghost use Rattle.std.specs.Prelude.{◌≢◌, IfErr};
 ghost use Rattle.sane_fixed.specs.declared.status.Status.TheVariants.{Good, NoDocs};
 ghost use Rattle.device_api.specs.State.{Reading, after_pass, goes_to, page_of};
-ghost use Rattle.local_job.specs.FrameReading.{IsAllOrNone, FrameHasBegun, JoinIsInside, IsReadTo, IsRefusal, KeepsDevice};
+ghost use Rattle.local_job.specs.FrameReading.{IsRefusal, KeepsDevice};
 ghost use Rattle.local_job.specs.ScanCauses.{ScanHasCause};
 ghost use Rattle.scan_job.specs.Stops.{no_memory, failed_output};
 

@@ -1,5 +1,6 @@
 ghost use Rattle.std.specs.Prelude.{◌≡◌};
-ghost use Rattle.local_job.specs.LocalStops.{bad_setting, stop_by_status, read_refused, stop_of_join, malformed_frames};
+ghost use Rattle.local_job.specs.LocalStops.{bad_setting, stop_by_status};
+ghost use Rattle.local_job.specs.Inside.{read_refused, stop_of_join, malformed_frames};
 
 use frame_join::JoinFault;
 use sane_fixed::Status;

@@ -4,7 +4,8 @@ ghost use Rattle.scan_frames.specs.Frames.{has_picture};
 ghost use Rattle.device_api.specs.State.{is_at_rest, page_of, state_at_rest, with_phase, AtRest};
 ghost use Rattle.local_job.specs.ScanCauses.{ScanHasCause};
 ghost use Rattle.local_job.specs.FrameReading.{IsRefusal, KeepsDevice};
-ghost use Rattle.local_job.specs.LocalPages.{AreScanned, FilesPage, LeavesPage, StopsAt};
+ghost use Rattle.local_job.specs.LocalPages.{AreScanned, StopsAt};
+ghost use Rattle.local_job.specs.Inside.{FilesPage, LeavesPage};
 ghost use Rattle.local_job.specs.LocalStops.{stop_by_status};
 
 use crate::page_out::{PageOut, give_back};

@@ -5,7 +5,8 @@ ghost use Rattle.device_api.specs.State.{is_at_rest, after_reset};
 ghost use Rattle.scan_job.specs.Outcomes.{IfDone, IfEnded, IsOver};
 ghost use Rattle.local_job.specs.FrameReading.{IsRefusal};
 ghost use Rattle.scan_job.specs.Stops.{no_memory};
-ghost use Rattle.local_job.specs.LocalRun.{settings_put, devices_reported, options_reported, IsDone, IsEndedBy, IsTakenJob, KeepsPages, LeavesNoFile, ChangesDevice};
+ghost use Rattle.local_job.specs.LocalRun.{settings_put, devices_reported, options_reported, IsDone, IsEndedBy, IsTakenJob, LeavesNoFile, ChangesDevice};
+ghost use Rattle.local_job.specs.Inside.{KeepsPages};
 
 use crate::local_stop::bad_setting;
 use crate::option_showing::show_options;

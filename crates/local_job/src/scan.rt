@@ -10,7 +10,8 @@ ghost use Rattle.device_api.specs.State.{goes_to, is_at_rest, is_reading, next_p
 ghost use Rattle.scan_job.specs.FileOutputs.{StopsShort};
 ghost use Rattle.local_job.specs.LocalStops.{stop_by_status};
 ghost use Rattle.scan_job.specs.Stops.{no_memory};
-ghost use Rattle.local_job.specs.FrameReading.{JoinIsBetween, JoinIsInside, IsRefusal, KeepsDevice, IsScanned, FrameEndsAs, JoinsFrame, HasJoined, HasScannedPass};
+ghost use Rattle.local_job.specs.FrameReading.{IsRefusal, KeepsDevice, IsScanned};
+ghost use Rattle.local_job.specs.Inside.{JoinIsBetween, JoinIsInside, FrameEndsAs, JoinsFrame, HasJoined, HasScannedPass};
 ghost use Rattle.local_job.specs.ScanCauses.{ScanHasCause};
 
 use crate::drain::drain;

@@ -4,9 +4,9 @@ ghost use Rattle.device_api.specs.State.{is_at_rest, with_setup};
 ghost use Rattle.device_api.specs.Values.{option_set, setup_after};
 ghost use Rattle.sane_fixed.specs.declared.status.Status.{Status as AnyStatus};
 ghost use Rattle.device_api.specs.InForce.{number_named};
-ghost use Rattle.local_job.specs.LocalStops.{bad_setting, stop_unread, stop_by_status};
+ghost use Rattle.local_job.specs.LocalStops.{bad_setting, stop_by_status};
+ghost use Rattle.local_job.specs.Inside.{stop_unread, put_one, put_all};
 ghost use Rattle.scan_job.specs.Stops.{no_memory};
-ghost use Rattle.local_job.specs.Putting.{put_one, put_all};
 ghost use Rattle.local_job.specs.FrameReading.{IsRefusal};
 
 use crate::local_stop::{bad_setting, stop_by_status};
@@ -74,7 +74,7 @@ fn set_option(
 }
 
 /// Finds the option of a setting's name, reads its text, and sets the value.
-#[tactic(auto, unfolding(crate::specs::Putting::put_one))]
+#[tactic(auto, unfolding(crate::specs::Inside::put_one))]
 fn put_setting(
     alloc: Global,
     device: &mut dyn Device,

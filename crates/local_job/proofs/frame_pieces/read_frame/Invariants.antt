@@ -4,7 +4,8 @@ use Rattle.sane_fixed.specs.declared.status.Status.TheVariants.{NoDocs}
 use Rattle.page_picture.specs.Shows.{Frame}
 use Rattle.device_api.specs.State.{DeviceState, Reading, with_phase}
 use Rattle.frame_join.specs.FrameHistory.{JoinHistory}
-use Rattle.local_job.specs.FrameReading.{JoinIsInside, IsReadTo, KeepsDevice}
+use Rattle.local_job.specs.FrameReading.{KeepsDevice}
+use Rattle.local_job.specs.Inside.{JoinIsInside, IsReadTo}
 use Rattle.local_job.proofs.FrameReads.{left_in}
 use Rattle.local_job.proofs.frame_pieces.read_frame.Given as goal
 

@@ -3,7 +3,7 @@ use Rattle.std.proofs.lemmas.Result.{err_from_is_err_and}
 use Rattle.device_api.specs.State.{DeviceState}
 use Rattle.scan_job.specs.JobSize.{HasJobFault}
 use Rattle.local_job.specs.LocalRun.{settings_put}
-use Rattle.local_job.specs.Putting.{put_all}
+use Rattle.local_job.specs.Inside.{put_all}
 use Rattle.local_job.proofs.BatchRuns.{batch_done, ended_by_fault, ended_by_memory, ended_by_pages, ended_by_setting}
 use Rattle.local_job.proofs.local_batch.do_batch.Goals as goal
 

@@ -3,7 +3,7 @@ use Rattle.std.specs.Prelude.{Option}
 use Rattle.std.proofs.lemmas.Bool.{false≢true}
 use Rattle.device_api.specs.State.{DeviceState}
 use Rattle.scan_job.specs.Shelves.{Stock}
-use Rattle.local_job.specs.LocalPages.{FilesPage}
+use Rattle.local_job.specs.Inside.{FilesPage}
 use Rattle.local_job.proofs.Batches.{HasRun, all_scanned, last_refused, no_memory_first, none_run, if_ok_has, ok_has, one_run, out_of_pages, page_ended, rests_run}
 use Rattle.local_job.proofs.pages.scan_each.Goals.{then-behind-gt0+else-is_no_page, else-behind-gt0}
 use Rattle.local_job.proofs.pages.scan_each.Goals as goal

@@ -2,7 +2,7 @@ use Rattle.std.proofs.Common.{◌≡◌, ◌∙◌, ap, refl, sym, subst, None, 
 use Rattle.std.specs.Prelude.{Option, option_map}
 use Rattle.device_api.specs.State.{DeviceState}
 use Rattle.scan_job.specs.Shelves.{Stock}
-use Rattle.local_job.specs.LocalPages.{FilesPage, LeavesPage}
+use Rattle.local_job.specs.Inside.{FilesPage, LeavesPage}
 use Rattle.local_job.proofs.ShelfFiles.{asked_none, given_none, page_filed, page_left}
 use Rattle.local_job.proofs.pages.scan_page.Goals as goal
 

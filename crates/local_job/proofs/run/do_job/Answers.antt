@@ -6,7 +6,7 @@ use Rattle.local_job.proofs.JobRuns.{ended_by_scan, ended_by_setting, was_put, l
 use Rattle.local_job.proofs.Shows.{scan_writes, others_write}
 use Rattle.local_job.specs.FrameReading.{IsScanned}
 use Rattle.local_job.specs.LocalRun.{devices_reported, settings_put, IsTakenJob}
-use Rattle.local_job.specs.Putting.{put_all}
+use Rattle.local_job.specs.Inside.{put_all}
 use Rattle.local_job.proofs.run.do_job.Goals.{then-eq+in_ok-scan_picture, else-eq}
 use Rattle.local_job.proofs.run.do_job.Goals as goal
 

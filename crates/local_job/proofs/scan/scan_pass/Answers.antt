@@ -6,7 +6,7 @@ use Rattle.page_picture.specs.Shows.{Frame}
 use Rattle.device_api.specs.State.{DeviceState, Reading, next_pass, with_phase, page_of}
 use Rattle.frame_join.specs.FrameHistory.{JoinHistory}
 use Rattle.frame_join.specs.JoinStates.{Represents}
-use Rattle.local_job.specs.FrameReading.{bytes_of_pass, HasJoined}
+use Rattle.local_job.specs.Inside.{bytes_of_pass, HasJoined}
 use Rattle.local_job.proofs.FrameReads.{so_far}
 use Rattle.local_job.proofs.Lets.{cause_before, keeps_before}
 use Rattle.local_job.proofs.Pictures.{begun_on, went_to, cause_of_memory, end_cause_of, next_pass_of, on_device, only_phase, stops, underway, waiting, pass_scanned, before_start, reads_no_more, on_ok_const, if_ok_map, if_err_map, on_err_map}

@@ -1,7 +1,7 @@
 use Rattle.std.proofs.Common.{◌≡◌, rules, arith, drop, ◌∷◌, ◌+◌}
 use Rattle.std.proofs.Math.ListN.{drop_of_length-le}
 use Rattle.device_api.specs.State.{DeviceState}
-use Rattle.local_job.specs.Putting.{put_all}
+use Rattle.local_job.specs.Inside.{put_all}
 use Rattle.local_job.proofs.Puts.{put_more, put_stops, put_ends, setups, cut_at}
 use Rattle.local_job.proofs.settings.put_settings.Goals as goal
 

@@ -1,6 +1,6 @@
 use Rattle.std.proofs.Common.{◌≡◌, drop}
 use Rattle.device_api.specs.State.{DeviceState, with_setup}
-use Rattle.local_job.specs.Putting.{put_all, with_done}
+use Rattle.local_job.specs.Inside.{put_all, with_done}
 use Rattle.local_job.proofs.settings.put_settings.Given as goal
 
 abbrev pub invariant-loop-setting : goal.invariant-loop-setting

@@ -1,0 +1,213 @@
+-- What private functions promise of a job on a scanner: of its settings, of the frames on their way from the scanner to the
+-- output, and of the pages of a batch.
+use Rattle.std.specs.Prelude.{ℕ, Option, Some, None, Result, Ok, Err, List, [], ◌∷◌, ◌++◌, slice_get, suc, ◌+◌, ◌≡◌, ◌≤◌, ◌⊎◌, take, length, Bool, true, false}
+use Rattle.std.specs.Option.{option_map_or}
+use Rattle.std.specs.Io.KnownBytes.{Appends}
+use Rattle.sane_fixed.specs.declared.status.Status.{Status}
+use Rattle.sane_fixed.specs.declared.status.Status.TheVariants.{IoError, NoMem, Eof}
+use Rattle.scan_job.specs.declared.outcome.Why.TheVariants.{Answer, Malformed, Short, Long}
+use Rattle.frame_join.specs.declared.join_stage.JoinFault.{JoinFault}
+use Rattle.scan_job.specs.declared.stop.Stop.{Stop}
+use Rattle.scan_job.specs.Stops.{no_memory, failed_output}
+use Rattle.local_job.specs.LocalStops.{bad_setting, stop_by_status}
+use Rattle.sane_fixed.specs.declared.info.Info.{Info}
+use Rattle.sane_fixed.specs.declared.kind.Kind.{Kind}
+use Rattle.option_desc.specs.declared.value.Value.{Value}
+use Rattle.scan_frames.specs.declared.setup.Setup.{Setup}
+use Rattle.device_api.specs.Options.{descriptors_of}
+use Rattle.device_api.specs.Values.{option_set, setup_after}
+use Rattle.device_api.specs.InForce.{number_named}
+use Rattle.scan_job.specs.declared.report.Report.{Report}
+use Rattle.local_job.specs.Putting.{value_of_setting}
+use Rattle.netpbm.specs.Picture.{Picture}
+use Rattle.netpbm.specs.Pnm.{Denotes, IsWhole}
+use Rattle.page_picture.specs.Shows.{Frame, ShowsFrames}
+use Rattle.frame_join.specs.FrameHistory.{JoinHistory, IsJoined, after_pull, is_full, is_joined}
+use Rattle.frame_join.specs.JoinStates.{JoinState, Represents}
+use Rattle.page_picture.specs.Page.{PageView}
+use Rattle.scan_frames.specs.Frames.{payload, pass_length, params_at, last_pass}
+use Rattle.device_api.specs.State.{DeviceState, AtRest, Between, Reading, page_of, steady_of, with_setup}
+use Rattle.frame_join.specs.declared.join_stage.JoinFault.TheVariants.{Short as JoinShort}
+use Rattle.local_job.specs.FrameReading.{IsScanned}
+use Rattle.scan_job.specs.Shelves.{Stock, ReturnedOutput}
+use Rattle.scan_job.specs.FileOutputs.{AreLeft, TakesBack, returned_output}
+use Rattle.local_job.specs.LocalPages.{IsFileOfFirstPage}
+use Rattle.scan_laws.specs.Stays.{AreSamePages, LetsGo}
+use Rattle.frame_join.specs.declared.join_stage.JoinFault.TheVariants as fault
+use Rattle.sane_fixed.specs.declared.kind.Kind.TheVariants as kinds
+
+-- ---- what ends a job
+
+-- a read takes no memory, so what it refuses with is its answer
+abbrev pub read_refused : Status → Stop
+read_refused status = record { status = status; why = Answer }
+
+-- a text that does not read
+abbrev pub stop_unread : Status → Stop
+stop_unread NoMem = no_memory
+stop_unread _ = bad_setting
+
+-- frames that make no picture
+abbrev pub stop_of_join : JoinFault → Stop
+stop_of_join fault.Shape = record { status = IoError; why = Malformed }
+stop_of_join fault.Long = record { status = IoError; why = Long }
+stop_of_join fault.Short = record { status = IoError; why = Short }
+stop_of_join fault.NoMem = no_memory
+
+-- frames that are none, or not those of a picture
+abbrev pub malformed_frames : Stop
+malformed_frames = record { status = IoError; why = Malformed }
+
+-- ---- settings, each put after those before it
+
+-- the kind of the option of that number; where there is none, none is asked for
+abbrev pub option_kind_at : Setup → ℕ → Kind
+option_kind_at s n = option_map_or (λ desc. desc.kind) (slice_get (descriptors_of s) n) kinds.Group
+
+-- a setting put, or what ends the job, out of memory aside
+abbrev pub put_answered : Setup → List ℕ → ℕ → Value → Result (Value × Info) Status → Result (Setup × Report) Stop
+put_answered s name n asked (Err status) = Err (stop_by_status status)
+put_answered s name n asked (Ok got) = Ok (setup_after s n got.0, record { name = name; kind = option_kind_at s n; asked = asked; given = got.0; info = got.1 })
+
+abbrev pub put_read : Setup → List ℕ → ℕ → Option Value → Result (Setup × Report) Stop
+put_read s name n None = Err bad_setting
+put_read s name n (Some asked) = put_answered s name n asked (option_set s n asked)
+
+abbrev pub put_found : Setup → List ℕ × List ℕ → Option ℕ → Result (Setup × Report) Stop
+put_found s setting None = Err bad_setting
+put_found s setting (Some n) = put_read s setting.0 n (value_of_setting s n setting.1)
+
+-- the option of the setting's name is found, its text is read, and the value is set
+unfoldable pub put_one : Setup → List ℕ × List ℕ → Result (Setup × Report) Stop
+put_one s setting = put_found s setting (number_named setting.0 (descriptors_of s))
+
+abbrev pub with_first : Report → Result (Setup × List Report) Stop → Result (Setup × List Report) Stop
+with_first report (Ok more) = Ok (more.0, report ∷ more.1)
+with_first report (Err stop) = Err stop
+
+abbrev pub then_more : Result (Setup × Report) Stop → (Setup → Result (Setup × List Report) Stop) → Result (Setup × List Report) Stop
+then_more (Err stop) more = Err stop
+then_more (Ok first) more = with_first first.1 (more first.0)
+
+-- the setup in force after all settings, and a report of each, or what ends the job at the first that fails
+unfoldable pub put_all : Setup → List (List ℕ × List ℕ) → Result (Setup × List Report) Stop
+put_all s [] = Ok (s, [])
+put_all s (setting ∷ settings) = then_more (put_one s setting) (λ next. put_all next settings)
+
+-- the same after reports of settings before them
+abbrev pub with_done : List Report → Result (Setup × List Report) Stop → Result (Setup × List Report) Stop
+with_done done (Ok more) = Ok (more.0, done ++ more.1)
+with_done done (Err stop) = Err stop
+
+-- ---- the bytes of a file on their way from a join to the output
+
+-- more bytes were given, the output took all that were given so far, and once the picture is whole they denote it
+pub record JoinIsDrainedTo (past : JoinHistory) (first : Option (List ℕ)) (join : JoinState) (contents : Option (List ℕ)) : Type 0 where
+  pub bytes : List ℕ
+  pub stands : Represents (after_pull bytes past) join
+  pub taken : Appends first contents (past.given ++ bytes)
+  pub denotes : IsJoined past → (p : Picture) → ShowsFrames past.ended p → Denotes (past.given ++ bytes) p
+
+-- bytes came into the frame under way, and the output took what was given
+pub record FeedsJoin (past : JoinHistory) (frame : Frame) (first : Option (List ℕ)) (join : JoinState) (contents : Option (List ℕ)) : Type 0 where
+  pub given : List ℕ
+  pub stands : Represents (record past { under = Some frame; given = given }) join
+  pub taken : Appends first contents given
+
+-- ---- frames on their way from the scanner to the join
+
+-- the join is between two frames of a picture that is not whole, and no fault stands
+pub record JoinIsBetween (past : JoinHistory) (join : JoinState) : Type 0 where
+  pub stands : Represents past join
+  pub no_fault : past.fault ≡ None
+  pub none_under : past.under ≡ None
+  pub not_whole : is_joined past.ended ≡ false
+
+-- the join is inside this frame, no fault stands, and the output took what was given
+pub record JoinIsInside (past : JoinHistory) (frame : Frame) (first : Option (List ℕ)) (join : JoinState) (contents : Option (List ℕ)) : Type 0 where
+  pub stands : Represents past join
+  pub no_fault : past.fault ≡ None
+  pub under : past.under ≡ Some frame
+  pub taken : Appends first contents past.given
+
+-- a frame has begun, on the scanner and in the join
+pub record FrameHasBegun (s : DeviceState) (pass : ℕ) (past : JoinHistory) (frame : Frame) (first : Option (List ℕ)) (join : JoinState) (contents : Option (List ℕ)) : Type 0 where
+  pub at : s.phase ≡ Reading pass 0
+  pub inside : JoinIsInside past frame first join contents
+  pub empty : frame.payload ≡ []
+
+-- of the frame under way so many bytes came; they are the front of the pass's bytes where the page's source is steady
+pub record IsReadTo (s : DeviceState) (pass given : ℕ) (past : JoinHistory) (frame : Frame) (first : Option (List ℕ)) (join : JoinState) (contents : Option (List ℕ)) : Type 0 where
+  pub bytes : List ℕ
+  pub count : length bytes ≡ given
+  pub feeds : FeedsJoin past (record frame { payload = bytes }) first join contents
+  pub right : (steady_of s) ≡ true → bytes ≡ take given (payload s.setup (page_of s) pass)
+
+-- the frame of a pass with the bytes that came of it
+abbrev pub bytes_of_pass : Setup → PageView → ℕ → List ℕ → Frame
+bytes_of_pass s page pass bytes = record { params = params_at s page pass; order = s.order; payload = bytes }
+
+-- the frames of passes from that number on, each with the bytes that came of it
+abbrev pub frames_came : Setup → PageView → ℕ → List (List ℕ) → List Frame
+frames_came s page pass [] = []
+frames_came s page pass (bytes ∷ more) = bytes_of_pass s page pass bytes ∷ frames_came s page (suc pass) more
+
+-- the bytes that came of passes from that number on are those of the passes where the page's source is steady
+abbrev pub AreOfPasses : DeviceState → ℕ → List (List ℕ) → Type 0
+AreOfPasses s pass [] = Unit {0}
+AreOfPasses s pass (bytes ∷ more) = ((steady_of s) ≡ true → bytes ≡ payload s.setup (page_of s) pass) × AreOfPasses s (suc pass) more
+
+-- so many passes were joined, there is one more to come, and the output took what was given
+pub record HasJoined (s : DeviceState) (pass : ℕ) (first : Option (List ℕ)) (join : JoinState) (contents : Option (List ℕ)) : Type 0 where
+  pub passes : List (List ℕ)
+  pub count : length passes ≡ pass
+  pub more : pass ≤ last_pass s.setup
+  pub right : AreOfPasses s 0 passes
+  pub given : List ℕ
+  pub stands : Represents (record { ended = frames_came s.setup (page_of s) 0 passes; under = None; fault = None; given = given }) join
+  pub taken : Appends first contents given
+
+-- so many bytes are all of a pass, or none, where `read-return-value` tells of its end
+abbrev pub IsAllOrNone : DeviceState → ℕ → ℕ → Type 0
+IsAllOrNone s pass given = (given ≡ pass_length s.setup (page_of s) pass) ⊎ ((given ≡ 0) × (s.setup.told ≡ Some Eof))
+
+-- the frame had all its bytes, and the output took what was given; the picture is whole or not
+pub record JoinsFrame (past : JoinHistory) (frame : Frame) (is_whole : Bool) (first : Option (List ℕ)) (join : JoinState) (contents : Option (List ℕ)) : Type 0 where
+  pub full : is_full frame ≡ true
+  pub joined : is_joined (past.ended ++ frame ∷ []) ≡ is_whole
+  pub drained : JoinIsDrainedTo (record past { ended = past.ended ++ frame ∷ []; under = None }) first join contents
+
+-- The pass of that number was read and joined: the picture is whole, its file went out and the scanner is at rest, or the
+-- scanner waits for the next pass.
+abbrev pub HasScannedPass : DeviceState → ℕ → Bool → Option (List ℕ) → DeviceState → JoinState → Option (List ℕ) → Type 0
+HasScannedPass s pass true first new join contents = (new.phase ≡ AtRest false) × IsScanned s first contents
+HasScannedPass s pass false first new join contents = (new.phase ≡ Between (pass + 1)) × HasJoined s (pass + 1) first join contents
+
+-- where the end of a frame is refused: one that has all its bytes, by the output alone, and another is short
+abbrev pub FrameEndsAs : Bool → Stop → Type 0
+FrameEndsAs true stop = stop ≡ failed_output
+FrameEndsAs false stop = stop ≡ stop_of_join JoinShort
+
+-- ---- a page of a batch
+
+-- the page of that number was scanned and its output given back, and the shelf kept or refused it
+pub record FilesPage (s : DeviceState) (k : ℕ) (kept : Bool) (before after : Option Stock) : Type 0 where
+  pub text : List ℕ
+  pub file : IsFileOfFirstPage s text
+  pub outputs : TakesBack before (returned_output k text kept ∷ []) after
+
+-- it was not, and no whole file is left of it
+pub record LeavesPage (k : ℕ) (before after : Option Stock) : Type 0 where
+  pub text : List ℕ
+  pub not_whole : IsWhole text → ⊥
+  pub left : List ReturnedOutput
+  pub is_left : AreLeft k text left
+  pub outputs : TakesBack before left after
+
+-- ---- the device of a job
+
+-- of a device that was reset only the options, the phase and the count of failures changed, and a feeder that is at rest
+-- let go of its first page
+pub record KeepsPages (old new : DeviceState) : Type 0 where
+  pub info : new.info ≡ old.info
+  pub pages : AreSamePages old.pages new.pages ⊎ LetsGo (with_setup old new.setup) new
