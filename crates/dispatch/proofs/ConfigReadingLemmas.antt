@@ -10,8 +10,7 @@ use Rattle.text_lines.specs.Limits.{IsWithin}
 use Rattle.dispatch.specs.declared.config_line.ConfigLine.{ConfigLine}
 use Rattle.dispatch.specs.declared.config_fault.ConfigReason.{ConfigReason}
 use Rattle.dispatch.specs.declared.config_fault.ConfigReason.TheVariants.{TooManyLines, LineTooLong, BadByte, WrongFields, UnknownKind, BadIndex, BadDpi, SameName, TooManyDevices, NoMem}
-use Rattle.page_picture.specs.declared.scene.DeviceKind.{DeviceKind}
-use Rattle.dispatch.specs.ConfigLines.{config_limits, is_telling, TellsFields, TellsDevice, RefusesName, NamesSameDevice, AddsDevice, HasConfigReason, HasConfigFault, TellLines, TellsConfig}
+use Rattle.dispatch.specs.ConfigLines.{config_limits, is_telling, DeviceFields, TellsFields, TellsDevice, RefusesName, NamesSameDevice, AddsDevice, HasConfigReason, HasConfigFault, TellLines, TellsConfig}
 
 -- what stands before the rest of a text: so many lines, and the devices that they tell of
 pub record IsReadTo (text rest : List ℕ) (number : ℕ) (devices : List ConfigLine) : Type 0 where
@@ -113,14 +112,14 @@ read_fault text rest line after number devices reason r cut bad = record {
 }
 
 -- a name that is refused is a reason to refuse its line
-pub line_refused : (reason : ConfigReason) (devices : List ConfigLine) (number : ℕ) (line : List ℕ) (kind : DeviceKind) (index dpi : ℕ) (pages : List (List ℕ)) → TellsFields number line kind index dpi pages → RefusesName reason devices kind index → HasConfigReason reason devices number line
-line_refused SameName devices number line kind index dpi pages tells bad = (kind, index, dpi, pages, tells, bad)
-line_refused TooManyDevices devices number line kind index dpi pages tells bad = (kind, index, dpi, pages, tells, bad)
-line_refused TooManyLines devices number line kind index dpi pages tells bad = absurd bad
-line_refused LineTooLong devices number line kind index dpi pages tells bad = absurd bad
-line_refused BadByte devices number line kind index dpi pages tells bad = absurd bad
-line_refused WrongFields devices number line kind index dpi pages tells bad = absurd bad
-line_refused UnknownKind devices number line kind index dpi pages tells bad = absurd bad
-line_refused BadIndex devices number line kind index dpi pages tells bad = absurd bad
-line_refused BadDpi devices number line kind index dpi pages tells bad = absurd bad
-line_refused NoMem devices number line kind index dpi pages tells bad = absurd bad
+pub line_refused : (reason : ConfigReason) (devices : List ConfigLine) (number : ℕ) (line : List ℕ) (told : DeviceFields) → TellsFields number line told → RefusesName reason devices told.kind told.index → HasConfigReason reason devices number line
+line_refused SameName devices number line told tells bad = (told, tells, bad)
+line_refused TooManyDevices devices number line told tells bad = (told, tells, bad)
+line_refused TooManyLines devices number line told tells bad = absurd bad
+line_refused LineTooLong devices number line told tells bad = absurd bad
+line_refused BadByte devices number line told tells bad = absurd bad
+line_refused WrongFields devices number line told tells bad = absurd bad
+line_refused UnknownKind devices number line told tells bad = absurd bad
+line_refused BadIndex devices number line told tells bad = absurd bad
+line_refused BadDpi devices number line told tells bad = absurd bad
+line_refused NoMem devices number line told tells bad = absurd bad
