@@ -4,7 +4,8 @@ use Rattle.std.specs.List.{position, position_or_len, list_any}
 use Rattle.std.proofs.lemmas.List.Quantifiers.{position-Some}
 use Rattle.std.proofs.lemmas.List.Sums.{fails_before_first}
 use Rattle.std.proofs.lemmas.Bool.Decides.{nat_tests}
-use Rattle.saned_core.specs.Loading.{first_answer_of, on_first, IsFirstOf, IsNoneOf}
+use Rattle.saned_core.specs.Loading.{first_answer_of, on_first}
+use Rattle.saned_core.specs.Inside.{IsFirstOf, IsNoneOf}
 use Rattle.saned_core.proofs.SlotNumbers.{not_some}
 
 pub first_found : {A : Type 0} (p : A → Bool) (xs : List A) (k : ℕ) → position p xs ≡ Some k → IsFirstOf p xs k

@@ -7,8 +7,9 @@ use Rattle.std.proofs.lemmas.List.Sums.{fails_before_first}
 use Rattle.std.proofs.lemmas.Bool.Decides.{nat_tests}
 use Rattle.saned_core.specs.declared.session_slot.SessionSlot.{SessionSlot}
 use Rattle.wire_codec.specs.Decoders.{DecoderState}
-use Rattle.saned_core.specs.DaemonStates.{seen_session_slot, seen_session_slots, IsFirstSlot, IsMissing, is_slot_number, session_slot_of, on_session_slot, session_in, with_session, no_more, kept_if_open, slot_if_open, after_taken, after_reply_bytes, is_vacant, all_slots_taken, with_session_slot}
-use Rattle.saned_core.specs.Turns.{TurnsSession, TurnsSessions, TurnsSlot, TurnsSlots}
+use Rattle.saned_core.specs.DaemonStates.{seen_session_slot, seen_session_slots, is_slot_number, session_slot_of, on_session_slot, session_in, with_session, no_more, kept_if_open, slot_if_open, after_taken, after_reply_bytes, all_slots_taken, with_session_slot}
+use Rattle.saned_core.specs.Inside.{IsFirstSlot, IsMissing, is_vacant, TurnsSession, TurnsSlot}
+use Rattle.saned_core.specs.Turns.{TurnsSessions, TurnsSlots}
 use Rattle.saned_requests.specs.declared.session.Session.{Session}
 use Rattle.saned_core.specs.declared.session_slot.DataStep.{DataStep}
 use Rattle.device_api.specs.State.{DeviceState}

@@ -14,7 +14,8 @@ use Rattle.saned_core.specs.declared.session_slot.DataStep.TheVariants.{Idle}
 use Rattle.saned_requests.specs.declared.session.Session.{Session}
 use Rattle.saned_requests.specs.Holding.{held_by, on_word}
 use Rattle.saned_requests.proofs.LeaseWords.{on_word-none}
-use Rattle.saned_core.specs.Turns.{ReadsLease, ReadsWord, Records, data_phase_after, StreamsFrom, StreamsIn, TurnsStream}
+use Rattle.saned_core.specs.Turns.{Records, data_phase_after, StreamsFrom, StreamsIn, TurnsStream}
+use Rattle.saned_core.specs.Inside.{ReadsLease, ReadsWord}
 
 -- a read that gave an answer
 answered : (l lease : Option (Lease DeviceState)) (s : Session DeviceState) (word : ℕ) (answer : Result ℕ Status) (window buf : List ℕ) (step : DataStep)

@@ -12,9 +12,9 @@ use Rattle.saned_requests.specs.declared.session.Session.{Session}
 use Rattle.saned_core.specs.declared.session_slot.Fed.{Fed}
 use Rattle.saned_core.specs.declared.session_slot.Fed.TheVariants.{Over}
 use Rattle.saned_core.specs.declared.session_slot.SessionSlot.{SessionSlot}
-use Rattle.saned_core.specs.DaemonStates.{IsFirstSlot, kept_if_open, seen_session_slot, seen_session_slots, session_in}
+use Rattle.saned_core.specs.DaemonStates.{kept_if_open, seen_session_slot, seen_session_slots, session_in}
+use Rattle.saned_core.specs.Inside.{IsFirstSlot, FeedsAmong, FeedsIf, FeedsPlace, place_state, slot_after_feed, slot_or_none_after_feed}
 use Rattle.saned_core.specs.Feeding.{input_in}
-use Rattle.saned_core.specs.Inside.{FeedsAmong, FeedsIf, FeedsPlace, place_state, slot_after_feed, slot_or_none_after_feed}
 use Rattle.saned_core.proofs.SlotNumbers.{first_seat, on_first_seat, same_seat, standing-seen}
 
 kept_after : (g : SessionSlot DeviceState → SessionSlot DeviceState) (o : Option (SessionSlot DeviceState)) → option_and_then kept_if_open (option_map g o) ≡ option_and_then (λ (slot : SessionSlot DeviceState). kept_if_open (g slot)) o

@@ -1,5 +1,5 @@
 -- What a daemon is to its callers: the table of devices, and the sessions that stand.
-use Rattle.std.specs.Prelude.{ℕ, ◌+◌, ◌||◌, ◌<◌, ◌≡◌, ◌==◌, Bool, true, false, if◌then◌else◌, Option, Some, None, option_map, option_and_then, List, [], ◌∷◌, map, length, slice_index_or, drop}
+use Rattle.std.specs.Prelude.{ℕ, ◌+◌, ◌||◌, ◌==◌, Bool, true, false, if◌then◌else◌, Option, Some, None, option_map, option_and_then, List, [], ◌∷◌, map, drop}
 use Rattle.rand_chacha.specs.ChaCha.{ChaCha}
 use Rattle.device_api.specs.State.{DeviceState}
 use Rattle.md5_auth.specs.declared.users.Entry.{Entry}
@@ -51,15 +51,6 @@ unfoldable pub session_slot_of : {S : Type 0} → List (Option (SessionSlot S)) 
 session_slot_of [] n = None
 session_slot_of (slot ∷ slots) n = if is_slot_number n slot then slot else session_slot_of slots n
 
--- the first slot of that number, and that there is none
-pub record IsFirstSlot {S : Type 0} (n : ℕ) (slots : List (Option (SessionSlot S))) (k : ℕ) : Type 0 where
-  pub within : k < length slots
-  pub is : (d : Option (SessionSlot S)) → is_slot_number n (slice_index_or slots k d) ≡ true
-  pub before : (j : ℕ) (d : Option (SessionSlot S)) → j < k → is_slot_number n (slice_index_or slots j d) ≡ false
-
-abbrev pub IsMissing : {S : Type 0} → ℕ → List (Option (SessionSlot S)) → Type 0
-IsMissing {S = S} n slots = (k : ℕ) (d : Option (SessionSlot S)) → k < length slots → is_slot_number n (slice_index_or slots k d) ≡ false
-
 -- the session of that number, where it goes on
 abbrev pub session_in : {S : Type 0} → Option (SessionSlot S) → Option (Session S)
 session_in None = None
@@ -72,10 +63,6 @@ session_of d n = session_in (session_slot_of d.slots n)
 unfoldable pub on_session_slot : {S : Type 0} → (SessionSlot S → Option (SessionSlot S)) → ℕ → List (Option (SessionSlot S)) → List (Option (SessionSlot S))
 on_session_slot f n [] = []
 on_session_slot f n (slot ∷ slots) = if is_slot_number n slot then option_and_then f slot ∷ slots else slot ∷ on_session_slot f n slots
-
-abbrev pub is_vacant : {S : Type 0} → Option (SessionSlot S) → Bool
-is_vacant None = true
-is_vacant (Some slot) = false
 
 -- a session in the first place that is free
 abbrev pub all_slots_taken : {S : Type 0} → List (Option (SessionSlot S)) → Bool

@@ -1,18 +1,25 @@
--- What private functions promise of a piece of bytes, case by case of what becomes of its session.
-use Rattle.std.specs.Prelude.{ℕ, ◌≡◌, true, Option, Some, None, option_map, List, [], ◌++◌}
+-- What private functions promise: of a piece of bytes, case by case of what becomes of its session; of places, leases and
+-- reads of a device.
+use Rattle.std.specs.Prelude.{◌<◌, ◌≡◌, Bool, true, false, Option, Some, None, List, length, slice_index_or, Result, option_and_then, ℕ, option_map, [], ◌++◌}
+use Rattle.saned_core.specs.declared.session_slot.SessionSlot.{SessionSlot}
+use Rattle.saned_core.specs.DaemonStates.{is_slot_number, session_in, with_session, seen_session_slot, session_slot_of, on_session_slot, kept_if_open}
+use Rattle.sane_fixed.specs.declared.status.Status.{Status}
+use Rattle.device_api.specs.State.{DeviceState, Reads}
+use Rattle.dispatch.specs.declared.table.place.Lease.{Lease}
+use Rattle.saned_core.specs.declared.session_slot.DataStep.{DataStep}
+use Rattle.saned_core.specs.declared.session_slot.DataStep.TheVariants.{Idle}
+use Rattle.saned_requests.specs.declared.session.Session.{Session}
+use Rattle.saned_requests.specs.Holding.{held_by, on_word, with_device}
+use Rattle.saned_core.specs.Turns.{TurnsStream}
 use Rattle.rand_chacha.specs.ChaCha.{ChaCha}
 use Rattle.md5_auth.specs.declared.users.Entry.{Entry}
-use Rattle.device_api.specs.State.{DeviceState}
 use Rattle.dispatch.specs.declared.table.place.Place.{Place}
 use Rattle.dispatch.specs.Table.{Table, table}
 use Rattle.wire_message.specs.declared.message.Reply.{Reply}
 use Rattle.saned_requests.specs.declared.request_answer.RequestAnswer.{RequestAnswer}
 use Rattle.saned_core.specs.declared.session_slot.Fed.{Fed}
 use Rattle.saned_core.specs.declared.session_slot.Fed.TheVariants.{Standing, Over, Starved}
-use Rattle.saned_requests.specs.declared.session.Session.{Session}
-use Rattle.saned_core.specs.declared.session_slot.SessionSlot.{SessionSlot}
 use Rattle.saned_requests.specs.RequestAnswers.{RequestContext}
-use Rattle.saned_core.specs.DaemonStates.{seen_session_slot, session_slot_of, on_session_slot, kept_if_open, session_in}
 use Rattle.saned_core.specs.Feeding.{Says, SaysAll, EndsWith, session_goes_on, replies_to, FedPiece, FeedProgress, AnsweredSoFar, FeedsOn, FeedsOver, FeedOutOfMemory, input_in, no_input, table_let_go}
 
 -- its bytes stand behind those that wait
@@ -122,3 +129,58 @@ pub record SlotsState : Type 0 where
 abbrev pub FeedsAmong : ℕ → SlotsState → List ℕ → Fed → SlotsState → Type 0
 FeedsAmong n was piece fed now =
     FeedsIf (session_in (session_slot_of was.slots n)) was.users n (input_in (session_slot_of was.slots n)) was.slots was.registry was.stream piece fed now.slots now.registry now.stream
+
+-- ---- of a place among the slots
+
+-- the first slot of that number, and that there is none
+pub record IsFirstSlot {S : Type 0} (n : ℕ) (slots : List (Option (SessionSlot S))) (k : ℕ) : Type 0 where
+  pub within : k < length slots
+  pub is : (d : Option (SessionSlot S)) → is_slot_number n (slice_index_or slots k d) ≡ true
+  pub before : (j : ℕ) (d : Option (SessionSlot S)) → j < k → is_slot_number n (slice_index_or slots j d) ≡ false
+
+abbrev pub IsMissing : {S : Type 0} → ℕ → List (Option (SessionSlot S)) → Type 0
+IsMissing {S = S} n slots = (k : ℕ) (d : Option (SessionSlot S)) → k < length slots → is_slot_number n (slice_index_or slots k d) ≡ false
+
+-- no session has the place
+abbrev pub is_vacant : {S : Type 0} → Option (SessionSlot S) → Bool
+is_vacant None = true
+is_vacant (Some slot) = false
+
+-- ---- of the first of a list that is so
+
+-- it stands at place k, and that there is none
+pub record IsFirstOf {A : Type 0} (p : A → Bool) (xs : List A) (k : ℕ) : Type 0 where
+  pub within : k < length xs
+  pub is : (d : A) → p (slice_index_or xs k d) ≡ true
+  pub before : (j : ℕ) (d : A) → j < k → p (slice_index_or xs j d) ≡ false
+
+abbrev pub IsNoneOf : {A : Type 0} → (A → Bool) → List A → Type 0
+IsNoneOf {A = A} p xs = (k : ℕ) (d : A) → k < length xs → p (slice_index_or xs k d) ≡ false
+
+-- ---- of a read of a device, and of a slot's turn
+
+-- one read of a device, where there is one
+pub record ReadsDevice (lease : Lease DeviceState) (told : Option (Result ℕ Status)) (new : Option (Lease DeviceState)) (window : List ℕ) : Type 0 where
+  pub answer : Result ℕ Status
+  pub after : DeviceState
+  pub told_is : told ≡ Some answer
+  pub reads : Reads lease.device answer after window
+  pub new_is : new ≡ with_device lease after
+
+abbrev pub ReadsLease : Option (Lease DeviceState) → Option (Result ℕ Status) → Option (Lease DeviceState) → List ℕ → Type 0
+ReadsLease None told new window = (told ≡ None) × (new ≡ None)
+ReadsLease (Some lease) told new window = ReadsDevice lease told new window
+
+-- one read of the device that a word stands for
+pub record ReadsWord (held : List (Option (Lease DeviceState))) (word : ℕ) (told : Option (Result ℕ Status)) (new : List (Option (Lease DeviceState))) (window : List ℕ) : Type 0 where
+  pub lease : Option (Lease DeviceState)
+  pub reads : ReadsLease (held_by held word) told lease window
+  pub new_is : new ≡ on_word (λ _. lease) held word
+
+-- a turn of a slot's data connection; one whose session is over does nothing
+abbrev pub TurnsSession : Option (Session DeviceState) → Option (SessionSlot DeviceState) → DataStep → Option (SessionSlot DeviceState) → List ℕ → Type 0
+TurnsSession None old step new buf = (step ≡ Idle) × (new ≡ old)
+TurnsSession (Some s) old step new buf = (t : Session DeviceState) × TurnsStream s step t buf × (new ≡ option_and_then (with_session t) old)
+
+abbrev pub TurnsSlot : Option (SessionSlot DeviceState) → DataStep → Option (SessionSlot DeviceState) → List ℕ → Type 0
+TurnsSlot old step new buf = TurnsSession (session_in old) old step new buf

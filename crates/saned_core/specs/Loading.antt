@@ -1,5 +1,5 @@
 -- Another page for a device, in its place or leased.
-use Rattle.std.specs.Prelude.{ℕ, nat_eq, ◌<◌, ◌≡◌, Bool, true, false, if◌then◌else◌, Option, Some, None, Result, Err, List, [], ◌∷◌, length, slice_index_or}
+use Rattle.std.specs.Prelude.{ℕ, nat_eq, Bool, false, if◌then◌else◌, Option, Some, None, Result, Err, List, [], ◌∷◌}
 use Rattle.std.specs.List.{list_any}
 use Rattle.std.specs.Cmp.Lexicographic.{pointwise}
 use Rattle.sane_fixed.specs.declared.status.Status.{Status}
@@ -24,15 +24,6 @@ first_answer_of p tells (x ∷ xs) other = if p x then tells x else first_answer
 unfoldable pub on_first : {A : Type 0} → (A → Bool) → (A → A) → List A → List A
 on_first p f [] = []
 on_first p f (x ∷ xs) = if p x then f x ∷ xs else x ∷ on_first p f xs
-
--- it stands at place k
-pub record IsFirstOf {A : Type 0} (p : A → Bool) (xs : List A) (k : ℕ) : Type 0 where
-  pub within : k < length xs
-  pub is : (d : A) → p (slice_index_or xs k d) ≡ true
-  pub before : (j : ℕ) (d : A) → j < k → p (slice_index_or xs j d) ≡ false
-
-abbrev pub IsNoneOf : {A : Type 0} → (A → Bool) → List A → Type 0
-IsNoneOf {A = A} p xs = (k : ℕ) (d : A) → k < length xs → p (slice_index_or xs k d) ≡ false
 
 -- ---- a lease of the device of that name
 

@@ -1,5 +1,5 @@
 -- What a turn of a session's data connection does.
-use Rattle.std.specs.Prelude.{ℕ, ◌+◌, ◌≡◌, min, Option, Some, None, Result, Ok, Err, option_and_then, List, ◌++◌, take, length}
+use Rattle.std.specs.Prelude.{ℕ, ◌+◌, ◌≡◌, min, Option, Some, None, Result, Ok, Err, List, ◌++◌, take, length}
 use Rattle.std.specs.Int.{w32, to_be_bytes}
 use Rattle.sane_fixed.specs.declared.status.Status.{Status}
 use Rattle.sane_fixed.specs.declared.status.Status.TheVariants.{Cancelled}
@@ -15,24 +15,6 @@ use Rattle.saned_requests.specs.declared.session.Session.{Session}
 use Rattle.saned_core.specs.declared.session_slot.SessionSlot.{SessionSlot}
 use Rattle.saned_requests.specs.Holding.{held_by, on_word, with_device}
 use Rattle.saned_core.specs.DaemonStates.{Core, session_slot_of, session_in, on_session_slot, with_session}
-
--- one read of a device, where there is one
-pub record ReadsDevice (lease : Lease DeviceState) (told : Option (Result ℕ Status)) (new : Option (Lease DeviceState)) (window : List ℕ) : Type 0 where
-  pub answer : Result ℕ Status
-  pub after : DeviceState
-  pub told_is : told ≡ Some answer
-  pub reads : Reads lease.device answer after window
-  pub new_is : new ≡ with_device lease after
-
-abbrev pub ReadsLease : Option (Lease DeviceState) → Option (Result ℕ Status) → Option (Lease DeviceState) → List ℕ → Type 0
-ReadsLease None told new window = (told ≡ None) × (new ≡ None)
-ReadsLease (Some lease) told new window = ReadsDevice lease told new window
-
--- one read of the device that a word stands for
-pub record ReadsWord (held : List (Option (Lease DeviceState))) (word : ℕ) (told : Option (Result ℕ Status)) (new : List (Option (Lease DeviceState))) (window : List ℕ) : Type 0 where
-  pub lease : Option (Lease DeviceState)
-  pub reads : ReadsLease (held_by held word) told lease window
-  pub new_is : new ≡ on_word (λ _. lease) held word
 
 -- the status that ends the data, behind the length that no record has
 abbrev pub WritesEndRecord : Status → DataStep → List ℕ → Type 0
@@ -69,14 +51,6 @@ StreamsIn Ending old step new buf = WritesEndRecord Cancelled step buf × (new �
 
 abbrev pub TurnsStream : Session DeviceState → DataStep → Session DeviceState → List ℕ → Type 0
 TurnsStream old step new buf = StreamsIn old.transfer old step new buf
-
--- the same of a slot; one whose session is over does nothing
-abbrev pub TurnsSession : Option (Session DeviceState) → Option (SessionSlot DeviceState) → DataStep → Option (SessionSlot DeviceState) → List ℕ → Type 0
-TurnsSession None old step new buf = (step ≡ Idle) × (new ≡ old)
-TurnsSession (Some s) old step new buf = (t : Session DeviceState) × TurnsStream s step t buf × (new ≡ option_and_then (with_session t) old)
-
-abbrev pub TurnsSlot : Option (SessionSlot DeviceState) → DataStep → Option (SessionSlot DeviceState) → List ℕ → Type 0
-TurnsSlot old step new buf = TurnsSession (session_in old) old step new buf
 
 -- the same of one among those that stand
 abbrev pub TurnsSessions : Option (Session DeviceState) → ℕ → List (Option (SessionSlot DeviceState)) → DataStep → List (Option (SessionSlot DeviceState)) → List ℕ → Type 0

@@ -6,7 +6,8 @@ ghost use Rattle.page_picture.specs.Source.{SourceState};
 ghost use Rattle.dispatch.specs.Table.{seen_lease, without_return};
 ghost use Rattle.saned_requests.specs.Holding.{seen_held};
 ghost use Rattle.saned_core.specs.DaemonStates.{seen_session_slot, seen_session_slots};
-ghost use Rattle.saned_core.specs.Loading.{first_answer_of, on_first, held_load, held_with, holds, is_lease_named, lease_load, lease_with, slot_load_answer, slot_with_page, IsFirstOf, IsNoneOf};
+ghost use Rattle.saned_core.specs.Loading.{first_answer_of, on_first, held_load, held_with, holds, is_lease_named, lease_load, lease_with, slot_load_answer, slot_with_page};
+ghost use Rattle.saned_core.specs.Inside.{IsFirstOf, IsNoneOf};
 
 use crate::session_slot::SessionSlot;
 use device_api::Device;

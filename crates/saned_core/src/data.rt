@@ -5,7 +5,8 @@ ghost use Rattle.sane_fixed.specs.Status.{status_code};
 ghost use Rattle.data_records.specs.Records.{end_record};
 ghost use Rattle.saned_requests.specs.Holding.{cancelled_lease, seen_held, seen_session, with_cancelled, held_by};
 ghost use Rattle.saned_core.specs.DaemonStates.{after_connected, after_lost, frame_state_of, data_phase_connected};
-ghost use Rattle.saned_core.specs.Turns.{ReadsWord, TurnsStream, WritesEndRecord};
+ghost use Rattle.saned_core.specs.Turns.{TurnsStream, WritesEndRecord};
+ghost use Rattle.saned_core.specs.Inside.{ReadsWord};
 
 use crate::session_slot::{DataStep, FrameState};
 use device_api::Device;

@@ -3,8 +3,8 @@
 ghost use Rattle.std.specs.Prelude.{not, ◌==◌, ◌⊎◌, ◌++◌, take, drop, None, ◌<◌, slice_index_or, slice_set, ◌≡◌, ◌≤◌, length, option_map, option_and_then, IfSome, IfNone, position};
 ghost use Rattle.dispatch.specs.Table.{table};
 ghost use Rattle.saned_requests.specs.Holding.{seen_session};
-ghost use Rattle.saned_core.specs.DaemonStates.{is_vacant, all_slots_taken, with_session_slot, new_session_slot, after_reply_bytes, after_taken, no_more, replies_in, session_let_go, kept_if_open, IsFirstSlot, IsMissing, is_slot_number, session_slot_of, on_session_slot, on_session, frame_in, frame_state_of, is_waiting, after_connected, after_lost, seen_session_slot, seen_session_slots, session_in};
-ghost use Rattle.saned_core.specs.Inside.{FeedsAmong};
+ghost use Rattle.saned_core.specs.DaemonStates.{all_slots_taken, with_session_slot, new_session_slot, after_reply_bytes, after_taken, no_more, replies_in, session_let_go, kept_if_open, is_slot_number, session_slot_of, on_session_slot, on_session, frame_in, frame_state_of, is_waiting, after_connected, after_lost, seen_session_slot, seen_session_slots, session_in};
+ghost use Rattle.saned_core.specs.Inside.{is_vacant, IsFirstSlot, IsMissing, FeedsAmong};
 ghost use Rattle.saned_core.specs.Turns.{TurnsSlots};
 
 use crate::data::{data_phase_connected, lose, state_of, turn};

@@ -4,7 +4,8 @@ use Rattle.std.proofs.lemmas.List.Quantifiers.{position-Some}
 use Rattle.device_api.specs.State.{DeviceState}
 use Rattle.dispatch.specs.Table.{table}
 use Rattle.saned_core.specs.declared.session_slot.SessionSlot.{SessionSlot}
-use Rattle.saned_core.specs.DaemonStates.{is_vacant, seen_session_slot, seen_session_slots, with_session_slot, session_in, session_let_go, new_session_slot}
+use Rattle.saned_core.specs.DaemonStates.{seen_session_slot, seen_session_slots, with_session_slot, session_in, session_let_go, new_session_slot}
+use Rattle.saned_core.specs.Inside.{is_vacant}
 use Rattle.saned_core.proofs.SlotNumbers.{found_full, full_seats, vacant_seat}
 use Rattle.saned_core.proofs.session_slots.put_in_first_slot.Goals as goal
 
