@@ -166,7 +166,7 @@ abbrev pub so_far : JoinHistory → Frame → List ℕ → List ℕ → JoinHist
 so_far past frame bytes given = record past { under = Some (record frame { payload = bytes }); given = given }
 
 pub first_bytes : (s : DeviceState) (pass : ℕ) (past : JoinHistory) (frame : Frame) (first contents : Option (List ℕ)) (join : JoinState) → JoinIsInside past frame first join contents → frame.payload ≡ []
-    → IsReadTo s pass 0 past frame first join contents
+    → IsReadTo s pass 0 (record { past = past; frame = frame; first = first }) (record { join = join; contents = contents })
 first_bytes s pass past frame first contents join is empty =
     let same : past ≡ record past { under = Some (record frame { payload = [] }) } =
     ap (λ (u : Option Frame). record past { under = u }) (is.under ∙ ap (λ (l : List ℕ). Some (record frame { payload = l })) empty) in
@@ -178,7 +178,7 @@ first_bytes s pass past frame first contents join is empty =
     }
 
 -- so the join is inside the frame with the bytes so far
-pub still_inside : (s : DeviceState) (pass given : ℕ) (past : JoinHistory) (frame : Frame) (first contents : Option (List ℕ)) (join : JoinState) → past.fault ≡ None → (r : IsReadTo s pass given past frame first join contents)
+pub still_inside : (s : DeviceState) (pass given : ℕ) (past : JoinHistory) (frame : Frame) (first contents : Option (List ℕ)) (join : JoinState) → past.fault ≡ None → (r : IsReadTo s pass given (record { past = past; frame = frame; first = first }) (record { join = join; contents = contents }))
     → JoinIsInside (so_far past frame r.bytes r.feeds.given) (record frame { payload = r.bytes }) first join contents
 still_inside s pass given past frame first contents join no_fault r = record { stands = r.feeds.stands; no_fault = no_fault; under = refl; taken = r.feeds.taken }
 
@@ -194,8 +194,8 @@ pub still : (old now new : DeviceState) (pass given n : ℕ) (buf : List ℕ) �
 still old now new pass given n buf is g = g.after ∙ ap (λ (s : DeviceState). with_phase s (Reading pass (given + n))) is
 
 pub more_bytes : (old now new : DeviceState) (pass given n : ℕ) (buf : List ℕ) (past : JoinHistory) (frame : Frame) (first before after : Option (List ℕ)) (was join : JoinState)
-    → now ≡ with_phase old (Reading pass given) → GivesBytes now pass given n new buf → (r : IsReadTo old pass given past frame first was before)
-    → FeedsJoin (so_far past frame r.bytes r.feeds.given) (record frame { payload = r.bytes ++ take n buf }) first join after → IsReadTo old pass (given + n) past frame first join after
+    → now ≡ with_phase old (Reading pass given) → GivesBytes now pass given n new buf → (r : IsReadTo old pass given (record { past = past; frame = frame; first = first }) (record { join = was; contents = before }))
+    → FeedsJoin (so_far past frame r.bytes r.feeds.given) (record frame { payload = r.bytes ++ take n buf }) first join after → IsReadTo old pass (given + n) (record { past = past; frame = frame; first = first }) (record { join = join; contents = after })
 more_bytes old now new pass given n buf past frame first before after was join is g r f = record {
   bytes = r.bytes ++ take n buf;
   count = omega (arith, length-append r.bytes (take n buf), r.count, length-take n buf, g.room);
@@ -208,7 +208,7 @@ more_bytes old now new pass given n buf past frame first before after was join i
 }
 
 pub cut_off : (s : DeviceState) (pass given : ℕ) (past : JoinHistory) (frame : Frame) (first contents : Option (List ℕ)) (join : JoinState) → past.fault ≡ None
-    → ((q : JoinHistory) (j : JoinState) → Represents q j → (IsJoined q → ⊥) → IsWhole q.given → ⊥) → IsReadTo s pass given past frame first join contents → StopsShort first contents
+    → ((q : JoinHistory) (j : JoinState) → Represents q j → (IsJoined q → ⊥) → IsWhole q.given → ⊥) → IsReadTo s pass given (record { past = past; frame = frame; first = first }) (record { join = join; contents = contents }) → StopsShort first contents
 cut_off s pass given past frame first contents join no_fault law r = record {
   text = r.feeds.given;
   taken = r.feeds.taken;

@@ -73,32 +73,32 @@ between_only old new n well at = well ∙ ap (λ (p : Phase). goes_to old p) at 
 
 pub one_gone : (old now new : DeviceState) (pass : ℕ) (before contents after : Option (List ℕ)) (join more : JoinState) → HasGone old now pass before join contents → new ≡ goes_to now new.phase → is_reading new.phase ≡ false
     → now.pages ≢ [] → has_picture now.setup (page_of now) ≡ true
-    → (is_whole : Bool) → is_whole ≡ false → ((first : Option (List ℕ)) → HasJoined now (next_pass now.phase) first join contents → HasScannedPass now (next_pass now.phase) is_whole first new more after) → HasGone old new (pass + 1) before more after
+    → (is_whole : Bool) → is_whole ≡ false → ((first : Option (List ℕ)) → HasJoined now (next_pass now.phase) first join contents → HasScannedPass now (next_pass now.phase) is_whole first (record { device = new; join = more; contents = after })) → HasGone old new (pass + 1) before more after
 one_gone old now new pass before contents after join more gone well rest some there is_whole is scanned =
-    let at : new.phase ≡ Between (next_pass now.phase + 1) = (subst (λ (b : Bool). HasScannedPass now (next_pass now.phase) b before new more after) is (scanned before (so_joined old now pass before before contents join gone (Appends-nil before)))).0 in
+    let at : new.phase ≡ Between (next_pass now.phase + 1) = (subst (λ (b : Bool). HasScannedPass now (next_pass now.phase) b before (record { device = new; join = more; contents = after })) is (scanned before (so_joined old now pass before before contents join gone (Appends-nil before)))).0 in
     record {
       well = phases old now new gone.well (between_only now new _ well at);
       rest = rest;
       picture = λ _. picture_same now old true old.phase (back old now now.phase gone.well) there;
       some = λ _ none. some (pages_same old now now.phase gone.well ∙ none);
       joined = λ first taken.
-          let s = subst (λ (b : Bool). HasScannedPass now (next_pass now.phase) b first new more after) is (scanned first (so_joined old now pass before first contents join gone taken)) in
+          let s = subst (λ (b : Bool). HasScannedPass now (next_pass now.phase) b first (record { device = new; join = more; contents = after })) is (scanned first (so_joined old now pass before first contents join gone taken)) in
           let count : next_pass now.phase ≡ pass = (gone.joined first taken).0 in
           let next : next_pass new.phase ≡ pass + 1 = ap next_pass s.0 ∙ ap (λ (n : ℕ). n + 1) count in
           (next, on_same now old (pass + 1) first after more old.phase (back old now now.phase gone.well) (subst (λ (n : ℕ). HasJoined now (n + 1) first more after) count s.1));
     }
 
 pub all_gone : (old now new : DeviceState) (pass : ℕ) (before contents after first : Option (List ℕ)) (join more : JoinState) → HasGone old now pass before join contents
-    → (is_whole : Bool) → is_whole ≡ true → ((first : Option (List ℕ)) → HasJoined now (next_pass now.phase) first join contents → HasScannedPass now (next_pass now.phase) is_whole first new more after)
+    → (is_whole : Bool) → is_whole ≡ true → ((first : Option (List ℕ)) → HasJoined now (next_pass now.phase) first join contents → HasScannedPass now (next_pass now.phase) is_whole first (record { device = new; join = more; contents = after }))
     → Appends first before [] → (new.phase ≡ AtRest false) × IsScanned old first after
 all_gone old now new pass before contents after first join more gone is_whole is scanned taken =
-    let s = subst (λ (b : Bool). HasScannedPass now (next_pass now.phase) b first new more after) is (scanned first (so_joined old now pass before first contents join gone taken)) in
+    let s = subst (λ (b : Bool). HasScannedPass now (next_pass now.phase) b first (record { device = new; join = more; contents = after })) is (scanned first (so_joined old now pass before first contents join gone taken)) in
     let here : IsScanned (with_phase old now.phase) first after = subst (λ (x : DeviceState). IsScanned x first after) gone.well s.1 in
     (s.0, record { text = here.text; taken = here.taken; whole = here.whole; picture = here.picture })
 
 -- the scanner is at rest where the picture is whole
 pub at_rest : (old now new : DeviceState) (pass : ℕ) (before contents after : Option (List ℕ)) (join more : JoinState) → HasGone old now pass before join contents
-    → (is_whole : Bool) → is_whole ≡ true → ((first : Option (List ℕ)) → HasJoined now (next_pass now.phase) first join contents → HasScannedPass now (next_pass now.phase) is_whole first new more after)
+    → (is_whole : Bool) → is_whole ≡ true → ((first : Option (List ℕ)) → HasJoined now (next_pass now.phase) first join contents → HasScannedPass now (next_pass now.phase) is_whole first (record { device = new; join = more; contents = after }))
     → new ≡ goes_to now new.phase → new ≡ state_at_rest old false
 at_rest old now new pass before contents after join more gone is_whole is scanned well =
     let at : new.phase ≡ AtRest false = (all_gone old now new pass before contents after before join more gone is_whole is scanned (Appends-nil before)).0 in

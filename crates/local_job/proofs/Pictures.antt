@@ -164,7 +164,7 @@ goes_to_rest s pass true e last = absurd (omega (arith, last, ltb-true pass (las
 by_whole : (is_whole : Bool) (s new : DeviceState) (pass : ℕ) (passes : List (List ℕ)) (bytes given : List ℕ) (first contents : Option (List ℕ)) (join : JoinState) → HasLimits s → has_picture s.setup (page_of s) ≡ true → Law
     → ((q : JoinHistory) (j : JoinState) → Represents q j → IsJoined q → (p : Picture) × ShowsFrames q.ended p)
     → length passes ≡ pass → pass ≤ last_pass s.setup → AreOfPasses s 0 (passes ++ bytes ∷ []) → is_joined (frames_came s.setup (page_of s) 0 (passes ++ bytes ∷ [])) ≡ is_whole
-    → new.phase ≡ after_pass s.setup pass → (d : JoinIsDrainedTo (more_ended s passes bytes given) first join contents) → HasScannedPass s pass is_whole first new join contents
+    → new.phase ≡ after_pass s.setup pass → (d : JoinIsDrainedTo (more_ended s passes bytes given) first join contents) → HasScannedPass s pass is_whole first (record { device = new; join = join; contents = contents })
 by_whole true s new pass passes bytes given first contents join limits there law shows count few right joined phase d =
     let last : last_pass s.setup ≤ length passes = was_last s.setup (page_of s) passes bytes (omega (arith, count, few)) joined in (
       phase ∙ goes_to_rest s pass (nat_lt pass (last_pass s.setup)) refl (omega (arith, count, last)),
@@ -178,9 +178,9 @@ by_whole false s new pass passes bytes given first contents join limits there la
 pub pass_scanned : (is_whole : Bool) (s new : DeviceState) (pass given : ℕ) (passes : List (List ℕ)) (out : List ℕ) (first before contents : Option (List ℕ)) (mid join : JoinState) → HasLimits s → has_picture s.setup (page_of s) ≡ true → Law
     → ((q : JoinHistory) (j : JoinState) → Represents q j → IsJoined q → (p : Picture) × ShowsFrames q.ended p)
     → length passes ≡ pass → pass ≤ last_pass s.setup → AreOfPasses s 0 passes → new.phase ≡ after_pass s.setup pass → IsAllOrNone s pass given
-    → (r : IsReadTo s pass given (underway s pass passes out) (bytes_of_pass s.setup (page_of s) pass []) first mid before)
-    → JoinsFrame (so_far (underway s pass passes out) (bytes_of_pass s.setup (page_of s) pass []) r.bytes r.feeds.given) (bytes_of_pass s.setup (page_of s) pass r.bytes) is_whole first join contents
-    → HasScannedPass s pass is_whole first new join contents
+    → (r : IsReadTo s pass given (record { past = underway s pass passes out; frame = bytes_of_pass s.setup (page_of s) pass []; first = first }) (record { join = mid; contents = before }))
+    → JoinsFrame (so_far (underway s pass passes out) (bytes_of_pass s.setup (page_of s) pass []) r.bytes r.feeds.given) (bytes_of_pass s.setup (page_of s) pass r.bytes) is_whole first (record { join = join; contents = contents })
+    → HasScannedPass s pass is_whole first (record { device = new; join = join; contents = contents })
 pass_scanned is_whole s new pass given passes out first before contents mid join limits there law shows count few right phase either r e =
     let frames : frames_came s.setup (page_of s) 0 passes ++ bytes_of_pass s.setup (page_of s) pass r.bytes ∷ [] ≡ frames_came s.setup (page_of s) 0 (passes ++ r.bytes ∷ []) = frames_more s.setup (page_of s) pass passes r.bytes count in
     let joined : is_joined (frames_came s.setup (page_of s) 0 (passes ++ r.bytes ∷ [])) ≡ is_whole = subst (λ (fs : List Frame). is_joined fs ≡ is_whole) frames e.joined in
@@ -191,7 +191,7 @@ pass_scanned is_whole s new pass given passes out first before contents mid join
 
 -- the same on the scanner before it started the pass
 pub before_start : (is_whole : Bool) (old mid new : DeviceState) (phase : Phase) (pass : ℕ) (first contents : Option (List ℕ)) (join : JoinState) → mid ≡ with_phase old phase
-    → HasScannedPass mid pass is_whole first new join contents → HasScannedPass old pass is_whole first new join contents
+    → HasScannedPass mid pass is_whole first (record { device = new; join = join; contents = contents }) → HasScannedPass old pass is_whole first (record { device = new; join = join; contents = contents })
 before_start true old mid new phase pass first contents join is scanned =
     let now : IsScanned (with_phase old phase) first contents = subst (λ (s : DeviceState). IsScanned s first contents) is scanned.1 in
     (scanned.0, record { text = now.text; taken = now.taken; whole = now.whole; picture = now.picture })

@@ -130,17 +130,28 @@ pub record JoinIsInside (past : JoinHistory) (frame : Frame) (first : Option (Li
   pub under : past.under ≡ Some frame
   pub taken : Appends first contents past.given
 
+-- a frame under way: what was told to the join, the frame, and what the output held first
+pub record FrameUnderWay : Type 0 where
+  pub past : JoinHistory
+  pub frame : Frame
+  pub first : Option (List ℕ)
+
+-- a join, and what its output holds
+pub record JoinAndOutput : Type 0 where
+  pub join : JoinState
+  pub contents : Option (List ℕ)
+
 -- a frame has begun, on the scanner and in the join
-pub record FrameHasBegun (s : DeviceState) (pass : ℕ) (past : JoinHistory) (frame : Frame) (first : Option (List ℕ)) (join : JoinState) (contents : Option (List ℕ)) : Type 0 where
+pub record FrameHasBegun (s : DeviceState) (pass : ℕ) (under : FrameUnderWay) (now : JoinAndOutput) : Type 0 where
   pub at : s.phase ≡ Reading pass 0
-  pub inside : JoinIsInside past frame first join contents
-  pub empty : frame.payload ≡ []
+  pub inside : JoinIsInside under.past under.frame under.first now.join now.contents
+  pub empty : under.frame.payload ≡ []
 
 -- of the frame under way so many bytes came; they are the front of the pass's bytes where the page's source is steady
-pub record IsReadTo (s : DeviceState) (pass given : ℕ) (past : JoinHistory) (frame : Frame) (first : Option (List ℕ)) (join : JoinState) (contents : Option (List ℕ)) : Type 0 where
+pub record IsReadTo (s : DeviceState) (pass given : ℕ) (under : FrameUnderWay) (now : JoinAndOutput) : Type 0 where
   pub bytes : List ℕ
   pub count : length bytes ≡ given
-  pub feeds : FeedsJoin past (record frame { payload = bytes }) first join contents
+  pub feeds : FeedsJoin under.past (record under.frame { payload = bytes }) under.first now.join now.contents
   pub right : (steady_of s) ≡ true → bytes ≡ take given (payload s.setup (page_of s) pass)
 
 -- the frame of a pass with the bytes that came of it
@@ -172,16 +183,22 @@ abbrev pub IsAllOrNone : DeviceState → ℕ → ℕ → Type 0
 IsAllOrNone s pass given = (given ≡ pass_length s.setup (page_of s) pass) ⊎ ((given ≡ 0) × (s.setup.told ≡ Some Eof))
 
 -- the frame had all its bytes, and the output took what was given; the picture is whole or not
-pub record JoinsFrame (past : JoinHistory) (frame : Frame) (is_whole : Bool) (first : Option (List ℕ)) (join : JoinState) (contents : Option (List ℕ)) : Type 0 where
+pub record JoinsFrame (past : JoinHistory) (frame : Frame) (is_whole : Bool) (first : Option (List ℕ)) (now : JoinAndOutput) : Type 0 where
   pub full : is_full frame ≡ true
   pub joined : is_joined (past.ended ++ frame ∷ []) ≡ is_whole
-  pub drained : JoinIsDrainedTo (record past { ended = past.ended ++ frame ∷ []; under = None }) first join contents
+  pub drained : JoinIsDrainedTo (record past { ended = past.ended ++ frame ∷ []; under = None }) first now.join now.contents
+
+-- a scanner, the join of its scan, and what the output holds
+pub record ScanState : Type 0 where
+  pub device : DeviceState
+  pub join : JoinState
+  pub contents : Option (List ℕ)
 
 -- The pass of that number was read and joined: the picture is whole, its file went out and the scanner is at rest, or the
 -- scanner waits for the next pass.
-abbrev pub HasScannedPass : DeviceState → ℕ → Bool → Option (List ℕ) → DeviceState → JoinState → Option (List ℕ) → Type 0
-HasScannedPass s pass true first new join contents = (new.phase ≡ AtRest false) × IsScanned s first contents
-HasScannedPass s pass false first new join contents = (new.phase ≡ Between (pass + 1)) × HasJoined s (pass + 1) first join contents
+abbrev pub HasScannedPass : DeviceState → ℕ → Bool → Option (List ℕ) → ScanState → Type 0
+HasScannedPass s pass true first now = (now.device.phase ≡ AtRest false) × IsScanned s first now.contents
+HasScannedPass s pass false first now = (now.device.phase ≡ Between (pass + 1)) × HasJoined s (pass + 1) first now.join now.contents
 
 -- where the end of a frame is refused: one that has all its bytes, by the output alone, and another is short
 abbrev pub FrameEndsAs : Bool → Stop → Type 0

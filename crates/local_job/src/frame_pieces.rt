@@ -3,7 +3,7 @@ ghost use Rattle.page_picture.specs.Shows.{Frame};
 ghost use Rattle.frame_join.specs.FrameHistory.{JoinHistory};
 ghost use Rattle.frame_join.specs.AloneFrame.{most_bytes};
 ghost use Rattle.scan_frames.specs.Frames.{pass_length};
-ghost use Rattle.local_job.specs.Inside.{FeedsJoin, IsAllOrNone, FrameHasBegun, JoinIsInside, IsReadTo};
+ghost use Rattle.local_job.specs.Inside.{FeedsJoin, IsAllOrNone, FrameUnderWay, FrameHasBegun, JoinIsInside, IsReadTo};
 ghost use Rattle.scan_job.specs.FileOutputs.{StopsShort};
 ghost use Rattle.std.specs.Prelude.{◌≢◌, IfErr};
 ghost use Rattle.sane_fixed.specs.declared.status.Status.TheVariants.{Good, NoDocs};
@@ -71,15 +71,16 @@ pub fn read_frame<W: Outlet>(
     requires told { (state device.old).setup.told ≢ Some Good }
     ensures room { length room.new ≡ length room.old }
     ensures becomes { (first : W) → W.Becomes first out.old → W.Becomes first out.new }
-    ensures read { OnOk result
-        ((pass : ℕ) (past : JoinHistory) (frame : Frame) (first : Option (List ℕ))
-        → FrameHasBegun (state device.old) pass past frame first join.old (W.contents out.old)
+    ensures read { OnOk result ((pass : ℕ) (under : FrameUnderWay)
+        → FrameHasBegun (state device.old) pass under
+        (record { join = join.old; contents = W.contents out.old })
         → (given : ℕ) × IsAllOrNone (state device.old) pass given
-        × IsReadTo (state device.old) pass given past frame first join.new (W.contents out.new)) }
-    ensures short { OnErr result
-        ((pass : ℕ) (past : JoinHistory) (frame : Frame) (first : Option (List ℕ))
-        → FrameHasBegun (state device.old) pass past frame first join.old (W.contents out.old)
-        → StopsShort first (W.contents out.new)) }
+        × IsReadTo (state device.old) pass given under
+        (record { join = join.new; contents = W.contents out.new })) }
+    ensures short { OnErr result ((pass : ℕ) (under : FrameUnderWay)
+        → FrameHasBegun (state device.old) pass under
+        (record { join = join.old; contents = W.contents out.old })
+        → StopsShort under.first (W.contents out.new)) }
     ensures ended { OnOk result ((pass : ℕ)
         → (state device.old).phase ≡ Reading pass 0 → state device.new
         ≡ goes_to (state device.old) (after_pass (state device.old).setup pass)) }
@@ -89,11 +90,12 @@ pub fn read_frame<W: Outlet>(
     ensures untold { OnOk result ((pass : ℕ)
         → (state device.old).phase ≡ Reading pass 0 → (state device.old).setup.told ≢ Some NoDocs) }
     // Where the frame has room for the bytes of its pass.
-    ensures cause { IfErr result
-        (λ stop. (pass : ℕ) (past : JoinHistory) (frame : Frame) (first : Option (List ℕ))
-        → FrameHasBegun (state device.old) pass past frame first join.old (W.contents out.old)
+    ensures cause { IfErr result (λ stop. (pass : ℕ) (under : FrameUnderWay)
+        → FrameHasBegun (state device.old) pass under
+        (record { join = join.old; contents = W.contents out.old })
         → pass_length (state device.old).setup (page_of (state device.old)) pass
-        ≤ most_bytes frame.params → ScanHasCause stop (state device.old) (state device.new)) }
+        ≤ most_bytes under.frame.params
+        → ScanHasCause stop (state device.old) (state device.new)) }
     ensures same { KeepsDevice (state device.old) (state device.new) }
 {
     not_whole_before();

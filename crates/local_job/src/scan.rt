@@ -99,7 +99,8 @@ fn end_frame<W: Outlet>(
     ensures becomes { (first : W) → W.Becomes first out.old → W.Becomes first out.new }
     ensures ended { IfOk result (λ is_whole. (first : Option (List ℕ)) (past : JoinHistory)
         (frame : Frame) → JoinIsInside past frame first join.old (W.contents out.old)
-        → JoinsFrame past frame is_whole first join.new (W.contents out.new)) }
+        → JoinsFrame past frame is_whole first
+        (record { join = join.new; contents = W.contents out.new })) }
     ensures short { OnErr result ((first : Option (List ℕ)) (past : JoinHistory) (frame : Frame)
         → JoinIsInside past frame first join.old (W.contents out.old)
         → StopsShort first (W.contents out.new)) }
@@ -147,7 +148,7 @@ fn scan_pass<W: Outlet>(
     ensures scanned { IfOk result (λ is_whole. (first : Option (List ℕ)) → HasJoined
         (state device.old) (next_pass (state device.old).phase) first join.old (W.contents out.old)
         → HasScannedPass (state device.old) (next_pass (state device.old).phase) is_whole first
-        (state device.new) join.new (W.contents out.new)) }
+        (record { device = state device.new; join = join.new; contents = W.contents out.new })) }
     ensures short { OnErr result ((first : Option (List ℕ))
         → HasJoined (state device.old) (next_pass (state device.old).phase) first join.old
         (W.contents out.old) → StopsShort first (W.contents out.new)) }

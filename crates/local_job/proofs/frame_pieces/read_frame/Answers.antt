@@ -20,13 +20,13 @@ loop-n-init g c =
     }
 
 pub returns-in-Err-clause-read : goal.returns-in-Err-clause-read
-returns-in-Err-clause-read g c = λ pass past frame first begun.
+returns-in-Err-clause-read g c = λ pass under begun.
     let old : DeviceState = (goal.Device-dyn g c.args.device.now).state c.args.device.now.1 in
     let now : DeviceState = (goal.Device-dyn g c.loop-n.device.now).state c.loop-n.device.now.1 in
     let new : DeviceState = (goal.Device-dyn g c.loop-n.device.now).state c.read.new.self in
     let r = c.loop-n.invariant.read pass begun.at in
     let e : Reads now (Err Eof) new c.read.new.buf = search rules in
-    (r.0, all_or_none old now new pass r.0 c.read.new.buf r.1 e, r.2 past frame first begun.inside begun.empty)
+    (r.0, all_or_none old now new pass r.0 c.read.new.buf r.1 e, r.2 under.past under.frame under.first begun.inside begun.empty)
 
 pub returns-in-Err-clause-ended : goal.returns-in-Err-clause-ended
 returns-in-Err-clause-ended g c = λ pass at.
@@ -47,13 +47,13 @@ returns-in-Err-clause-untold g c = λ pass at.
     not_told old now new pass r.0 (Err Eof) c.read.new.buf NoDocs r.1 e (λ clash. absurd (cc)) r.3
 
 pub returns-in-Err-2-clause-short : goal.returns-in-Err-2-clause-short
-returns-in-Err-2-clause-short g c = λ pass past frame first begun.
+returns-in-Err-2-clause-short g c = λ pass under begun.
     let old : DeviceState = (goal.Device-dyn g c.args.device.now).state c.args.device.now.1 in
     let r = c.loop-n.invariant.read pass begun.at in
-    cut_off old pass r.0 past frame first _ _ begun.inside.no_fault c.not_whole_before.ensures (r.2 past frame first begun.inside begun.empty)
+    cut_off old pass r.0 under.past under.frame under.first _ _ begun.inside.no_fault c.not_whole_before.ensures (r.2 under.past under.frame under.first begun.inside begun.empty)
 
 pub returns-in-Err-2-clause-cause : goal.returns-in-Err-2-clause-cause
-returns-in-Err-2-clause-cause g c = rw c.read_refused.ensures (λ pass past frame first begun room.
+returns-in-Err-2-clause-cause g c = rw c.read_refused.ensures (λ pass under begun room.
     let old : DeviceState = (goal.Device-dyn g c.args.device.now).state c.args.device.now.1 in
     let now : DeviceState = (goal.Device-dyn g c.loop-n.device.now).state c.loop-n.device.now.1 in
     let new : DeviceState = (goal.Device-dyn g c.loop-n.device.now).state c.read.new.self in
@@ -88,10 +88,10 @@ pub returns-in_err-take_piece-clause-short : goal.returns-in_err-take_piece-clau
 returns-in_err-take_piece-clause-short g c =
     let p = err_from_is_err_and c.from_residual.result c.from_residual.ensures.1 in
     let old : DeviceState = (goal.Device-dyn g c.args.device.now).state c.args.device.now.1 in
-    rw p.1 (λ pass past frame first begun.
+    rw p.1 (λ pass under begun.
     let r = c.loop-n.invariant.read pass begun.at in
-    let so = r.2 past frame first begun.inside begun.empty in
-    c.in_err-take_piece.ensures.short first (so_far past frame so.bytes so.feeds.given) (record frame { payload = so.bytes }) (still_inside old pass r.0 past frame first _ _ begun.inside.no_fault so))
+    let so = r.2 under.past under.frame under.first begun.inside begun.empty in
+    c.in_err-take_piece.ensures.short under.first (so_far under.past under.frame so.bytes so.feeds.given) (record under.frame { payload = so.bytes }) (still_inside old pass r.0 under.past under.frame under.first _ _ begun.inside.no_fault so))
 
 pub returns-in_err-take_piece-clause-cause : goal.returns-in_err-take_piece-clause-cause
 returns-in_err-take_piece-clause-cause g c =
@@ -99,12 +99,12 @@ returns-in_err-take_piece-clause-cause g c =
     let old : DeviceState = (goal.Device-dyn g c.args.device.now).state c.args.device.now.1 in
     let now : DeviceState = (goal.Device-dyn g c.loop-n.device.now).state c.loop-n.device.now.1 in
     let new : DeviceState = (goal.Device-dyn g c.loop-n.device.now).state c.read.new.self in
-    rw (p.1, p.2) (λ pass past frame first begun room.
+    rw (p.1, p.2) (λ pass under begun room.
     let r = c.loop-n.invariant.read pass begun.at in
     let b = gives old now new pass r.0 c.in-Ok.n c.read.new.buf r.1 c.in-Ok.ensures.0 in
-    let so = r.2 past frame first begun.inside begun.empty in
-    piece_cause old now new pass r.0 c.in-Ok.n c.read.new.buf so.bytes (most_bytes frame.params) _ r.1 b so.count room
-    (c.in_err-take_piece.ensures.cause first (so_far past frame so.bytes so.feeds.given) (record frame { payload = so.bytes }) (still_inside old pass r.0 past frame first _ _ begun.inside.no_fault so)))
+    let so = r.2 under.past under.frame under.first begun.inside begun.empty in
+    piece_cause old now new pass r.0 c.in-Ok.n c.read.new.buf so.bytes (most_bytes under.frame.params) _ r.1 b so.count room
+    (c.in_err-take_piece.ensures.cause under.first (so_far under.past under.frame so.bytes so.feeds.given) (record under.frame { payload = so.bytes }) (still_inside old pass r.0 under.past under.frame under.first _ _ begun.inside.no_fault so)))
 
 pub returns-in_err-take_piece-clause-refusal : goal.returns-in_err-take_piece-clause-refusal
 returns-in_err-take_piece-clause-refusal g c =

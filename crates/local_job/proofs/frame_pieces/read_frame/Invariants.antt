@@ -19,7 +19,7 @@ invariant-loop-n g l =
       same : KeepsDevice old now;
       read : (pass : ℕ) → old.phase ≡ Reading pass 0 → (given : ℕ) × (now ≡ with_phase old (Reading pass given))
           × ((past : JoinHistory) (frame : Frame) (first : Option (List ℕ)) → JoinIsInside past frame first l.initial.join (g.W.Outlet.contents l.initial.out) → frame.payload ≡ []
-          → IsReadTo old pass given past frame first l.join (g.W.Outlet.contents l.out))
+          → IsReadTo old pass given (record { past = past; frame = frame; first = first }) (record { join = l.join; contents = g.W.Outlet.contents l.out }))
           × (0 < given → old.setup.told ≢ Some NoDocs);
       becomes : (first : _) → g.W.Outlet.Becomes first l.initial.out → g.W.Outlet.Becomes first l.out;
     }

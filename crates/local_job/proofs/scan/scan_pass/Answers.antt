@@ -38,7 +38,7 @@ returns-in_err-read_frame-clause-short g c =
     let past : JoinHistory = underway mid pass j.passes j.given in
     let frame : Frame = bytes_of_pass mid.setup (page_of mid) pass [] in
     let stands : Represents past c.begin_frame.new.join = begun_on mid pass j.passes j.given _ at some (c.in_ok-begin_frame.ensures.begun _ (waiting mid pass first _ _ j)) in
-    c.in_err-read_frame.ensures.short pass past frame first (record { at = at; inside = record { stands = stands; no_fault = refl; under = refl; taken = j.taken }; empty = refl }))
+    c.in_err-read_frame.ensures.short pass (record { past = past; frame = frame; first = first }) (record { at = at; inside = record { stands = stands; no_fault = refl; under = refl; taken = j.taken }; empty = refl }))
 
 pub returns-clause-scanned : goal.returns-clause-scanned
 returns-clause-scanned g c =
@@ -56,7 +56,7 @@ returns-clause-scanned g c =
     let past : JoinHistory = underway mid pass j.passes j.given in
     let frame : Frame = bytes_of_pass mid.setup (page_of mid) pass [] in
     let stands : Represents past c.begin_frame.new.join = begun_on mid pass j.passes j.given _ at some (c.in_ok-begin_frame.ensures.begun _ (waiting mid pass first _ _ j)) in
-    let read = c.in_ok-read_frame.ensures.read pass past frame first (record { at = at; inside = record { stands = stands; no_fault = refl; under = refl; taken = j.taken }; empty = refl }) in
+    let read = c.in_ok-read_frame.ensures.read pass (record { past = past; frame = frame; first = first }) (record { at = at; inside = record { stands = stands; no_fault = refl; under = refl; taken = j.taken }; empty = refl }) in
     let r = read.2 in
     let e = ends first (so_far past frame r.bytes r.feeds.given) (bytes_of_pass mid.setup (page_of mid) pass r.bytes) (record { stands = r.feeds.stands; no_fault = refl; under = refl; taken = r.feeds.taken }) in
     before_start is_whole old mid new (Reading pass 0) pass first _ _ is
@@ -75,7 +75,7 @@ returns-clause-short g c =
     let past : JoinHistory = underway mid pass j.passes j.given in
     let frame : Frame = bytes_of_pass mid.setup (page_of mid) pass [] in
     let stands : Represents past c.begin_frame.new.join = begun_on mid pass j.passes j.given _ at some (c.in_ok-begin_frame.ensures.begun _ (waiting mid pass first _ _ j)) in
-    let read = c.in_ok-read_frame.ensures.read pass past frame first (record { at = at; inside = record { stands = stands; no_fault = refl; under = refl; taken = j.taken }; empty = refl }) in
+    let read = c.in_ok-read_frame.ensures.read pass (record { past = past; frame = frame; first = first }) (record { at = at; inside = record { stands = stands; no_fault = refl; under = refl; taken = j.taken }; empty = refl }) in
     let r = read.2 in
     short first (so_far past frame r.bytes r.feeds.given) (bytes_of_pass mid.setup (page_of mid) pass r.bytes) (record { stands = r.feeds.stands; no_fault = refl; under = refl; taken = r.feeds.taken })) c.end_frame.ensures.short
 
@@ -138,7 +138,7 @@ returns-in_err-read_frame-clause-cause g c =
     let frame : Frame = bytes_of_pass mid.setup (page_of mid) pass [] in
     let stands : Represents past c.begin_frame.new.join = begun_on mid pass j.passes j.given _ at some (c.in_ok-begin_frame.ensures.begun _ next.between) in
     cause_before old mid new (Reading pass 0) _ is
-    (c.in_err-read_frame.ensures.cause pass past frame first (record { at = at; inside = record { stands = stands; no_fault = refl; under = refl; taken = j.taken }; empty = refl }) next.room))
+    (c.in_err-read_frame.ensures.cause pass (record { past = past; frame = frame; first = first }) (record { at = at; inside = record { stands = stands; no_fault = refl; under = refl; taken = j.taken }; empty = refl }) next.room))
 
 pub returns-clause-cause : goal.returns-clause-cause
 returns-clause-cause g c =
@@ -156,7 +156,7 @@ returns-clause-cause g c =
     let past : JoinHistory = underway mid pass j.passes j.given in
     let frame : Frame = bytes_of_pass mid.setup (page_of mid) pass [] in
     let stands : Represents past c.begin_frame.new.join = begun_on mid pass j.passes j.given _ at some (c.in_ok-begin_frame.ensures.begun _ next.between) in
-    let read = c.in_ok-read_frame.ensures.read pass past frame first (record { at = at; inside = record { stands = stands; no_fault = refl; under = refl; taken = j.taken }; empty = refl }) in
+    let read = c.in_ok-read_frame.ensures.read pass (record { past = past; frame = frame; first = first }) (record { at = at; inside = record { stands = stands; no_fault = refl; under = refl; taken = j.taken }; empty = refl }) in
     let r = read.2 in
     cause_before old mid new (Reading pass 0) stop is
     (end_cause_of mid new pass read.0 r.bytes stop
