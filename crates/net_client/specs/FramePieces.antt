@@ -47,10 +47,22 @@ pub record ReadsFault (old : RecordPhase) (past : JoinHistory) (frame : Frame) (
   pub stands : Represents (after_feed last starved (with_payload past frame before)) join
   pub fails : (after_feed last starved (with_payload past frame before)).fault ≡ Some fault
 
-abbrev pub HasRead : RecordPhase → JoinHistory → Frame → List ℕ → PieceResult → RecordPhase → JoinState → Type 0
-HasRead old past frame piece More new join = ReadsTo old past frame piece new join
-HasRead old past frame piece (End status) new join = ReadsEnd old past frame piece status join
-HasRead old past frame piece (Fault fault) new join = ReadsFault old past frame piece fault new join
+-- a reader, what was told to the join, and the frame that is under way
+pub record ReaderInFrame : Type 0 where
+  pub reader : RecordPhase
+  pub past : JoinHistory
+  pub frame : Frame
+
+-- a reader, and the join
+pub record ReaderAndJoin : Type 0 where
+  pub reader : RecordPhase
+  pub join : JoinState
+
+-- what a piece of the records brought, and what it left
+abbrev pub HasRead : ReaderInFrame → List ℕ → PieceResult → ReaderAndJoin → Type 0
+HasRead was piece More now = ReadsTo was.reader was.past was.frame piece now.reader now.join
+HasRead was piece (End status) now = ReadsEnd was.reader was.past was.frame piece status now.join
+HasRead was piece (Fault fault) now = ReadsFault was.reader was.past was.frame piece fault now.reader now.join
 
 -- a reader that gave no end has not ended
 abbrev pub HasNotEnded : PieceResult → RecordPhase → Type 0

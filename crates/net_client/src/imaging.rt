@@ -22,7 +22,8 @@ pub enum PieceResult {
 pub(crate) fn read_on(reader: &mut RecordReader, join: &mut FrameJoin, piece: &[u8]) -> PieceResult
     requires { HasEnded reader.old → ⊥ }
     ensures read { (past : JoinHistory) (frame : Frame) → RepresentsWithin past frame join.old
-        → HasRead reader.old past frame piece.now result reader.new join.new }
+        → HasRead (record { reader = reader.old; past = past; frame = frame }) piece.now result
+        (record { reader = reader.new; join = join.new }) }
     ensures open { HasNotEnded result reader.new }
 {
     let mut at = 0;
