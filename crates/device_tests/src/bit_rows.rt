@@ -2,43 +2,21 @@
 
 ghost use Rattle.scan_frames.specs.Frames.{IsSetup};
 
-use crate::byte_rows::turned;
+use crate::byte_rows::{file, turned, upper};
 use crate::frames::{flatbed, mm, shows};
 use page_picture::Mode;
 use scan_frames::{Packing, Setup};
 use std::alloc::Global;
 use std::process::Abort;
 
-/// Number `i` of a raster of two rows, up to the greatest value.
-fn number(maxval: u32, i: usize) -> u32 {
-    let noise = u32::try_from(i).unwrap_or(0).wrapping_mul(40503);
-    noise % maxval.saturating_add(1).max(1)
-}
-
-/// A page file of two rows of such numbers.
-fn file(rt: &impl Abort, alloc: Global, maxval: u32, width: usize) -> Vec<u8> {
-    let head = format!(in alloc; "P5\n{width} 2\n{maxval}\n").expect(rt, "memory");
-    let mut text = Vec::from_slice(alloc, head.as_bytes()).expect(rt, "memory");
-    drop(head);
-    for i in 0..width.saturating_mul(2) {
-        let number = number(maxval, i);
-        if maxval > 255 {
-            text.push((number / 256 % 256) as u8).expect(rt, "memory");
-        }
-        text.push((number % 256) as u8).expect(rt, "memory");
-    }
-    text
-}
-
 /// The bit of column `x` of the page in row `y`: white lies beyond the page.
 fn bit(setup: &Setup, maxval: u32, width: usize, x: usize, y: usize) -> u8 {
     let seen = if x < width {
-        let number = number(maxval, y.saturating_mul(width).saturating_add(x));
-        u64::from(number) * 65535 / u64::from(maxval.max(1)) / 256
+        upper(maxval, y.saturating_mul(width).saturating_add(x))
     } else {
         255
     };
-    u8::from(setup.scene.gamma[(seen % 256) as usize] < 128)
+    u8::from(setup.scene.gamma[seen as usize] < 128)
 }
 
 /// The lines of a window from column `left` on, of so many dots, with zeros behind the last of each.
@@ -110,7 +88,7 @@ fn bits_of_every_width(rt: HostRuntime) {
         let setup = with_table(is_changed);
         for maxval in [1u32, 100, 255, 1023, 65535] {
             for width in 1..18usize {
-                let text = file(&rt, rt.alloc(), maxval, width);
+                let text = file(&rt, rt.alloc(), "P5", maxval, width, width);
                 expect_windows(&rt, rt.alloc(), &setup, &text, (maxval, width), 0);
                 expect_windows(&rt, rt.alloc(), &setup, &text, (maxval, width), 1);
                 drop(text);
@@ -122,7 +100,7 @@ fn bits_of_every_width(rt: HostRuntime) {
 #[test]
 fn bits_of_a_long_line(rt: HostRuntime) {
     let setup = with_table(true);
-    let text = file(&rt, rt.alloc(), 255, 42);
+    let text = file(&rt, rt.alloc(), "P5", 255, 42, 42);
     let mut window = setup;
     window.scene.tl_x = mm(1);
     window.scene.br_x = mm(42);

@@ -1,4 +1,4 @@
-//! Frames of depth 8 of page files whose samples are bytes: each is that of its byte by the tables, whatever way it goes.
+//! Frames of depth 8 of page files of any greatest value: each byte is that of its sample by the tables, whatever way it goes.
 
 ghost use Rattle.scan_frames.specs.Frames.{IsSetup};
 
@@ -8,27 +8,49 @@ use scan_frames::{Packing, Setup};
 use std::alloc::Global;
 use std::process::Abort;
 
-/// Byte `i` of a raster.
-fn noise(i: usize) -> u8 {
-    (i.wrapping_mul(89).wrapping_add(7) % 256) as u8
+/// Greatest values of a byte and of two.
+const GREATEST: &[u32] = &[1, 2, 3, 100, 254, 255, 256, 1000, 1023, 4095, 65535];
+
+/// Number `i` of a raster, up to the greatest value.
+fn number(maxval: u32, i: usize) -> u32 {
+    let noise = u32::try_from(i).unwrap_or(0).wrapping_mul(40503);
+    noise % maxval.saturating_add(1).max(1)
 }
 
-/// A page file of two rows of such bytes.
-fn file(rt: &impl Abort, alloc: Global, kind: &str, width: usize, size: usize) -> Vec<u8> {
-    let head = format!(in alloc; "{kind}\n{width} 2\n255\n").expect(rt, "memory");
+/// The upper byte of the sample of that number.
+pub fn upper(maxval: u32, i: usize) -> u8 {
+    let sample = u64::from(number(maxval, i)) * 65535 / u64::from(maxval.max(1));
+    (sample / 256 % 256) as u8
+}
+
+/// A page file of two rows of such numbers, of so many each.
+pub fn file(
+    rt: &impl Abort,
+    alloc: Global,
+    kind: &str,
+    maxval: u32,
+    width: usize,
+    size: usize,
+) -> Vec<u8> {
+    let head = format!(in alloc; "{kind}\n{width} 2\n{maxval}\n").expect(rt, "memory");
     let mut text = Vec::from_slice(alloc, head.as_bytes()).expect(rt, "memory");
     drop(head);
     for i in 0..size.saturating_mul(2) {
-        text.push(noise(i)).expect(rt, "memory");
+        let number = number(maxval, i);
+        if maxval > 255 {
+            text.push((number / 256 % 256) as u8).expect(rt, "memory");
+        }
+        text.push((number % 256) as u8).expect(rt, "memory");
     }
     text
 }
 
-/// What the bytes of two rows become behind the first `from` of each, with so many zeros behind each row.
+/// What the samples of two rows become behind the first `from` of each, with so many zeros behind each row.
 fn lines(
     rt: &impl Abort,
     alloc: Global,
     setup: &Setup,
+    maxval: u32,
     from: usize,
     size: usize,
     zeros: usize,
@@ -36,7 +58,8 @@ fn lines(
     let mut bytes = Vec::new(alloc);
     for y in 0..2usize {
         for i in from..size {
-            let toned = setup.scene.gamma[noise(y.saturating_mul(size).saturating_add(i)) as usize];
+            let seen = upper(maxval, y.saturating_mul(size).saturating_add(i));
+            let toned = setup.scene.gamma[seen as usize];
             let byte = match setup.scene.mode {
                 Mode::Gray => toned,
                 Mode::Color => setup.scene.channel_gamma[i % 3][toned as usize],
@@ -78,6 +101,7 @@ fn expect_windows(
     alloc: Global,
     setup: &Setup,
     text: &[u8],
+    maxval: u32,
     width: usize,
     channels: usize,
 )
@@ -91,23 +115,37 @@ fn expect_windows(
         let zeros = channels.saturating_mul(window.loss as usize);
         let from = channels.saturating_mul(left);
         let size = channels.saturating_mul(width);
-        let bytes = lines(rt, alloc, &window, from, size, zeros);
+        let bytes = lines(rt, alloc, &window, maxval, from, size, zeros);
         shows(rt, alloc, &window, (text, 26), &bytes, None);
         drop(bytes);
     }
 }
 
+/// The windows of pages of each width up to two eights and one, in gray and in color.
+fn expect_widths(rt: &impl Abort, alloc: Global, maxval: u32, changed: u32) {
+    for (kind, mode, channels) in [("P5", Mode::Gray, 1usize), ("P6", Mode::Color, 3)] {
+        let setup = with_tables(mode, changed);
+        for width in 1..18usize {
+            let size = width.saturating_mul(channels);
+            let text = file(rt, alloc, kind, maxval, width, size);
+            expect_windows(rt, alloc, &setup, &text, maxval, width, channels);
+            drop(text);
+        }
+    }
+}
+
 #[test]
 fn windows_of_every_width(rt: HostRuntime) {
-    for (kind, mode, channels) in [("P5", Mode::Gray, 1usize), ("P6", Mode::Color, 3)] {
-        for changed in 0..3u32 {
-            let setup = with_tables(mode, changed);
-            for width in 1..18usize {
-                let text = file(&rt, rt.alloc(), kind, width, width.saturating_mul(channels));
-                expect_windows(&rt, rt.alloc(), &setup, &text, width, channels);
-                drop(text);
-            }
-        }
+    for changed in 0..3u32 {
+        expect_widths(&rt, rt.alloc(), 255, changed);
+        expect_widths(&rt, rt.alloc(), 1000, changed);
+    }
+}
+
+#[test]
+fn windows_of_every_greatest_value(rt: HostRuntime) {
+    for &maxval in GREATEST {
+        expect_widths(&rt, rt.alloc(), maxval, 0);
     }
 }
 
@@ -126,7 +164,7 @@ fn a_mode_that_the_file_has_not(rt: HostRuntime) {
     let red = (b"P6\n1 1\n255\n\xff\x00\x00".as_slice(), 26);
     let sums = flatbed(Mode::Gray, Packing::Bytes, 1, 1);
     shows(&rt, rt.alloc(), &sums, red, &[0x4C], None);
-    // Bytes of which 255 is not the greatest are no samples of depth 8.
+    // Numbers of which 255 is not the greatest are no bytes of depth 8.
     let dark = (b"P5\n2 1\n100\n\x00\x64".as_slice(), 26);
     let two = flatbed(Mode::Gray, Packing::Bytes, 2, 1);
     shows(&rt, rt.alloc(), &two, dark, &[0, 255], None);

@@ -1,5 +1,5 @@
 -- Eight lanes of a vector, and products in parts.
-use Rattle.std.proofs.Common.{Fits, w16, Bool, true, false, cond, ltb, map, replicate, subst, sym, ◌≡◌, ℕ, ◌+◌, ◌-◌, ◌*◌, ◌/◌, ◌%◌, ◌^◌, ◌<◌, ◌≤◌, ◌⊎◌, List, [], ◌∷◌, inl, inr, length, get_or, arith, refl, ap, ◌∙◌}
+use Rattle.std.proofs.Common.{Fits, w16, Bool, true, false, cond, ltb, map, replicate, subst, sym, ◌≡◌, ℕ, zero, suc, ◌+◌, ◌-◌, ◌*◌, ◌/◌, ◌%◌, ◌^◌, ◌<◌, ◌≤◌, ◌⊎◌, List, [], ◌∷◌, inl, inr, length, get_or, take, drop, arith, refl, ap, ◌∙◌}
 use Rattle.std.specs.Prelude.{slice_index, nat_lt, MatchBool}
 use Rattle.netpbm.specs.Pnm.{number_in}
 use Rattle.netpbm.specs.Raster.{NoneAbove, SomeAbove}
@@ -7,7 +7,7 @@ use Rattle.std.specs.Simd.Lanes.{chunk, zip2, sel_l, Each1, number_l, digits_l}
 use Rattle.std.proofs.lemmas.Bool.{cases_lt}
 use Rattle.std.proofs.lemmas.Bool.Decides.{nat_tests}
 use Rattle.std.proofs.Math.Nat.{mul-add, mul_assoc, mul-le-mul}
-use Rattle.std.proofs.lemmas.List.{length-map, get_or-map}
+use Rattle.std.proofs.lemmas.List.{length-map, get_or-map, get_or-take, get_or-drop}
 use Rattle.std.proofs.lemmas.Simd.{length-chunk, get_or-chunk, length-zip2, get_or-zip2, get_or-replicate, get_or_wider, get_or-sel_l, length-sel_l, Each1-from_get_or}
 use Rattle.page_picture.proofs.ScalingLemmas.{scaled_by_factor, scaled_fits}
 
@@ -31,6 +31,19 @@ lane_of_two f xs ys i lx ly less =
 
 pub length-of_two : (f : ℕ → ℕ → ℕ) (xs ys : List ℕ) → length xs ≡ 8 → length ys ≡ 8 → length (zip2 f xs ys) ≡ 8
 length-of_two f xs ys lx ly = length-zip2 f xs ys (lx ∙ sym ly) ∙ lx
+
+-- a list of eight, lane by lane
+pub eighth : (f g : ℕ → ℕ) → ((j : ℕ) → j < 8 → f j ≡ g j) → (i : ℕ) → i < 8
+    → slice_index (f 0 ∷ f 1 ∷ f 2 ∷ f 3 ∷ f 4 ∷ f 5 ∷ f 6 ∷ f 7 ∷ []) i ≡ g i
+eighth f g each zero less = each 0 less
+eighth f g each (suc zero) less = each 1 less
+eighth f g each (suc (suc zero)) less = each 2 less
+eighth f g each (suc (suc (suc zero))) less = each 3 less
+eighth f g each (suc (suc (suc (suc zero)))) less = each 4 less
+eighth f g each (suc (suc (suc (suc (suc zero))))) less = each 5 less
+eighth f g each (suc (suc (suc (suc (suc (suc zero)))))) less = each 6 less
+eighth f g each (suc (suc (suc (suc (suc (suc (suc zero))))))) less = each 7 less
+eighth f g each (suc (suc (suc (suc (suc (suc (suc (suc n)))))))) less = absurd (omega arith)
 
 pub lt_holds : (x y : ℕ) → x < y → ltb x y ≡ true
 lt_holds x y low = grind (arith, nat_tests, low)
@@ -231,6 +244,32 @@ number_is_word : (m : ℕ) (bytes : List ℕ) (i : ℕ) → 256 ≤ m → number
 number_is_word m bytes i two =
     let test : nat_lt m 256 ≡ false = grind (arith, nat_tests, two) in
     ap (λ (t : Bool). cond t (slice_index bytes i) (256 * slice_index bytes (2 * i) + slice_index bytes (2 * i + 1))) test
+
+-- ---- a part of a row
+
+-- a byte of a part
+part_byte : (bytes : List ℕ) (from to i : ℕ) → i < to - from → slice_index (take (to - from) (drop from bytes)) i ≡ slice_index bytes (from + i)
+part_byte bytes from to i less = get_or-take (to - from) (drop from bytes) i 0 less ∙ get_or-drop from bytes i 0
+
+pub byte_of_part : (m : ℕ) (bytes : List ℕ) (at count i : ℕ) → m < 256 → i < count → slice_index (take (at + count - at) (drop at bytes)) i ≡ number_in m bytes (at + i)
+byte_of_part m bytes at count i one less =
+    let test : nat_lt m 256 ≡ true = grind (arith, nat_tests, one) in
+    part_byte bytes at (at + count) i (omega (arith, less))
+    ∙ sym (ap (λ (t : Bool). cond t (slice_index bytes (at + i)) (256 * slice_index bytes (2 * (at + i)) + slice_index bytes (2 * (at + i) + 1))) test)
+
+pub word_of_part : (m : ℕ) (bytes : List ℕ) (at count i : ℕ) → 256 ≤ m → i < count
+    → 256 * slice_index (take (2 * (at + count) - 2 * at) (drop (2 * at) bytes)) (2 * i) + slice_index (take (2 * (at + count) - 2 * at) (drop (2 * at) bytes)) (2 * i + 1) ≡ number_in m bytes (at + i)
+word_of_part m bytes at count i two less =
+    let part = take (2 * (at + count) - 2 * at) (drop (2 * at) bytes) in
+    let upper : 2 * at + 2 * i ≡ 2 * (at + i) = omega arith in
+    let lower : 2 * at + (2 * i + 1) ≡ 2 * (at + i) + 1 = omega arith in
+    let first : slice_index part (2 * i) ≡ slice_index bytes (2 * (at + i)) = part_byte bytes (2 * at) (2 * (at + count)) (2 * i) (omega (arith, less)) ∙ ap (slice_index bytes) upper in
+    let second : slice_index part (2 * i + 1) ≡ slice_index bytes (2 * (at + i) + 1) = part_byte bytes (2 * at) (2 * (at + count)) (2 * i + 1) (omega (arith, less)) ∙ ap (slice_index bytes) lower in
+    ap (λ (v : ℕ). 256 * v + slice_index part (2 * i + 1)) first
+    ∙ (ap (λ (v : ℕ). 256 * slice_index bytes (2 * (at + i)) + v) second
+    ∙ sym (number_is_word m bytes (at + i) two))
+
+-- ---- the greatest of each lane
 
 -- the greatest of each lane tell whether all fit
 pub greatest_tell : (fits : Bool) (m eights : ℕ) (bytes greatest : List ℕ) → 256 ≤ m

@@ -1,5 +1,5 @@
 -- Rows of a raster: reading them one by one agrees with the whole raster.
-use Rattle.std.proofs.Common.{append_assoc, le_refl, ◌≡◌, ℕ, ◌+◌, ◌-◌, ◌*◌, ◌<◌, ◌≤◌, ◌⊎◌, inl, inr, List, ◌++◌, arith, length, take, drop, slice_range, get_or, sym, ap, ◌∙◌, subst, refl, drop_at, length-take-le, take-append-drop, length-append, Bool, true, false, cond, suc}
+use Rattle.std.proofs.Common.{append_assoc, le_refl, ◌≡◌, ℕ, ◌+◌, ◌-◌, ◌*◌, ◌/◌, ◌<◌, ◌≤◌, ◌⊎◌, inl, inr, List, ◌++◌, arith, length, take, drop, slice_range, get_or, sym, ap, ◌∙◌, subst, refl, drop_at, length-take-le, take-append-drop, length-append, Bool, true, false, cond, suc}
 use Rattle.std.specs.Prelude.{slice_index, nat_lt, ◌&&◌, MatchBool, IfErr, Result, Ok, Err}
 use Rattle.std.proofs.Math.Seq.{take-add, take-append-le, take-append_seam, drop-append_seam}
 use Rattle.std.proofs.lemmas.List.{drop-drop, length-drop, get_or-drop, get_or_append_left}
@@ -16,7 +16,7 @@ use Rattle.netpbm.specs.Raster.{NoneAbove, SomeAbove, raster_size, sample_count}
 use Rattle.page_picture.specs.declared.sources.open_fault.OpenFault.{OpenFault}
 use Rattle.page_picture.specs.declared.sources.open_fault.OpenFault.TheVariants.{Device}
 use Rattle.page_picture.specs.PageFile.{IsPageFormat}
-use Rattle.page_picture.specs.PageRows.{file_row_size, row_count, GivesRowOf, HasRows, IsPageHeader, IsRaster, ReadsRaster, ShowsRow, unused_bytes}
+use Rattle.page_picture.specs.PageRows.{file_row_size, row_count, GivesPartOf, GivesRowOf, HasRows, IsPageHeader, IsRaster, ReadsRaster, ShowsRow, unused_bytes}
 
 -- what holds wherever the fault is the reader's
 pub of_device : {A : Type 0} (r : Result A OpenFault) (X : Type 0) → X → IfErr r (λ fault. fault ≡ Device → X)
@@ -73,6 +73,13 @@ pub length-row_taken : (size held next : ℕ) (room : List ℕ) → held ≡ nex
 length-row_taken size held next room e within =
     let from = length room - held * size in
     let all : held * size ≡ next * size + size = ap (λ k. k * size) e ∙ omega arith in
+    let same : (from + size) - from ≡ size = omega arith in
+    let rest = length-drop from room in
+    let fits : (from + size) - from ≤ length (drop from room) = omega arith in
+    length-take-le ((from + size) - from) (drop from room) fits ∙ same
+
+pub length-row_at : (size from : ℕ) (room : List ℕ) → from + size ≤ length room → length (slice_range room from (from + size)) ≡ size
+length-row_at size from room within =
     let same : (from + size) - from ≡ size = omega arith in
     let rest = length-drop from room in
     let fits : (from + size) - from ≤ length (drop from room) = omega arith in
@@ -231,6 +238,16 @@ gives_row h left bytes more row e size shows =
       size = let both = ap length e ∙ length-append bytes more in omega arith;
       after_is = sym (ap (drop (file_row_size h)) e ∙ ap (λ n. drop n (bytes ++ more)) (sym size) ∙ drop-append_seam bytes more);
       shows = subst (λ l. ShowsRow h l row) (sym front) shows;
+    }
+
+-- the same, and these are upper bytes of its samples
+pub gives_part : (h : Header) (at : ℕ) (left bytes more part : List ℕ) → left ≡ bytes ++ more → length bytes ≡ file_row_size h → ((i : ℕ) → i < length part → slice_index part i ≡ number_in h.maxval bytes (at + i) * 65535 / h.maxval / 256) → GivesPartOf h at left more part
+gives_part h at left bytes more part e size each =
+    let front : take (file_row_size h) left ≡ bytes = ap (take (file_row_size h)) e ∙ ap (λ n. take n (bytes ++ more)) (sym size) ∙ take-append_seam bytes more in
+    record {
+      size = let both = ap length e ∙ length-append bytes more in omega arith;
+      after_is = sym (ap (drop (file_row_size h)) e ∙ ap (λ n. drop n (bytes ++ more)) (sym size) ∙ drop-append_seam bytes more);
+      part_is = λ i less. each i less ∙ ap (λ row. number_in h.maxval row (at + i) * 65535 / h.maxval / 256) (sym front);
     }
 
 -- the next rows of a whole raster stand at the front of what is left

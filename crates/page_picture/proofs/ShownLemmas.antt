@@ -21,7 +21,7 @@ use Rattle.page_picture.specs.declared.scene.Mode.{Mode}
 use Rattle.page_picture.specs.declared.scene.Mode.TheVariants.{Gray, Color}
 use Rattle.page_picture.specs.PageFile.{BeginsPage, IsDpi, IsPageFormat, TellsPage}
 use Rattle.page_picture.specs.PageReading.{ArePageSamples, page_number, source}
-use Rattle.page_picture.specs.PageRows.{HasByteSamples, IsPageHeader, IsRaster, ShowsRow, page_shown, samples_shown, row_count, file_row_size}
+use Rattle.page_picture.specs.PageRows.{HasSamplesOf, IsPageHeader, IsRaster, ShowsRow, page_shown, samples_shown, row_count, file_row_size}
 use Rattle.page_picture.specs.Opening.{HasHeaderFault, HasOpenFault, HasOpenFaultAfter}
 use Rattle.page_picture.proofs.PageLemmas.{tells_page}
 use Rattle.page_picture.proofs.RowLemmas.{drop-row, number_in_row, row_size-count}
@@ -88,39 +88,35 @@ shown_row h dpi y raster bytes more row page less e size shows = record {
       shows.each j (omega arith) ∙ ap (λ n. n * 65535 / h.maxval) (sym number) ∙ sym (numbers_at (page_number h raster) (h.width * h.height * 3) far inside);
 }
 
--- the byte of a place's sample, where a sample is a byte
-byte_number : (mode : Mode) (h : Header) (bytes : List ℕ) (first x k : ℕ) → HasByteSamples mode h → k < 3 → page_number h bytes (3 * (first + x) + k) ≡ 257 * slice_index bytes (byte_place mode first 0 + byte_place mode x k)
-byte_number Gray h bytes first x k has less =
+-- the number of a place's sample
+number_of : (mode : Mode) (h : Header) (bytes : List ℕ) (first x k : ℕ) → HasSamplesOf mode h → k < 3 → page_number h bytes (3 * (first + x) + k) ≡ number_in h.maxval bytes (byte_place mode first 0 + byte_place mode x k) * 65535 / h.maxval
+number_of Gray h bytes first x k own less =
     let place : 3 * (first + x) + k ≡ (first + x) * 3 + k = omega arith in
     let at : (3 * (first + x) + k) / 3 ≡ first + x = ap (λ n. n / 3) place ∙ div-mul-add (first + x) 3 k less in
-    ap (λ (f : PnmFormat). number_in h.maxval bytes (source f (3 * (first + x) + k)) * 65535 / h.maxval) has.0
-    ∙ ap (λ m. number_in m bytes ((3 * (first + x) + k) / 3) * 65535 / m) has.1
-    ∙ ap (λ i. slice_index bytes i * 65535 / 255) at
-    ∙ (let v = slice_index bytes (first + x) in let e : v * 65535 / 255 ≡ 257 * v = omega arith in e)
-byte_number Color h bytes first x k has less =
+    ap (λ (f : PnmFormat). number_in h.maxval bytes (source f (3 * (first + x) + k)) * 65535 / h.maxval) own
+    ∙ ap (λ i. number_in h.maxval bytes i * 65535 / h.maxval) at
+number_of Color h bytes first x k own less =
     let place : 3 * (first + x) + k ≡ 3 * first + 0 + (3 * x + k) = omega arith in
-    ap (λ (f : PnmFormat). number_in h.maxval bytes (source f (3 * (first + x) + k)) * 65535 / h.maxval) has.0
-    ∙ ap (λ m. number_in m bytes (3 * (first + x) + k) * 65535 / m) has.1
-    ∙ ap (λ i. slice_index bytes i * 65535 / 255) place
-    ∙ (let v = slice_index bytes (3 * first + 0 + (3 * x + k)) in let e : v * 65535 / 255 ≡ 257 * v = omega arith in e)
+    ap (λ (f : PnmFormat). number_in h.maxval bytes (source f (3 * (first + x) + k)) * 65535 / h.maxval) own
+    ∙ ap (λ i. number_in h.maxval bytes i * 65535 / h.maxval) place
 
 -- a place whose byte is among those that end within the row is one of the page
 byte_column : (mode : Mode) (width first count x k : ℕ) → byte_place mode first 0 + count ≤ byte_place mode width 0 → byte_place mode x k < count → first + x < width
 byte_column Gray width first count x k room less = omega arith
 byte_column Color width first count x k room less = omega arith
 
-pub shown_bytes : (h : Header) (dpi y : ℕ) (mode : Mode) (first : ℕ) (raster bytes more part : List ℕ) → IsPageHeader h → y < h.height → drop (y * file_row_size h) raster ≡ bytes ++ more → length bytes ≡ file_row_size h → HasByteSamples mode h → byte_place mode first 0 + length part ≤ byte_place mode h.width 0
-    → ((i : ℕ) → i < length part → slice_index part i ≡ slice_index bytes (byte_place mode first 0 + i))
-    → (x k : ℕ) → k < 3 → byte_place mode x k < length part → page_sample_at (page_shown h dpi raster) (first + x) y k ≡ 257 * slice_index part (byte_place mode x k)
-shown_bytes h dpi y mode first raster bytes more part page less e size has room same x k channel inside =
+pub shown_bytes : (h : Header) (dpi y : ℕ) (mode : Mode) (first : ℕ) (raster bytes more part : List ℕ) → IsPageHeader h → y < h.height → drop (y * file_row_size h) raster ≡ bytes ++ more → length bytes ≡ file_row_size h → HasSamplesOf mode h → byte_place mode first 0 + length part ≤ byte_place mode h.width 0
+    → ((i : ℕ) → i < length part → slice_index part i ≡ number_in h.maxval bytes (byte_place mode first 0 + i) * 65535 / h.maxval / 256)
+    → (x k : ℕ) → k < 3 → byte_place mode x k < length part → slice_index part (byte_place mode x k) ≡ page_sample_at (page_shown h dpi raster) (first + x) y k / 256
+shown_bytes h dpi y mode first raster bytes more part page less e size own room same x k channel inside =
     let row = concat_up_to (λ j. page_number h bytes j ∷ []) (3 * h.width) in
     let shows : ShowsRow h bytes row = record { each = numbers_at (page_number h bytes) (3 * h.width) } in
     let column = byte_column mode h.width first (length part) x k room inside in
     let is = shown_row h dpi y raster bytes more row page less e size shows in
-    sym (is.each (first + x) k column channel)
-    ∙ numbers_at (page_number h bytes) (3 * h.width) (3 * (first + x) + k) (omega arith)
-    ∙ byte_number mode h bytes first x k has channel
-    ∙ ap (λ v. 257 * v) (sym (same (byte_place mode x k) inside))
+    same (byte_place mode x k) inside
+    ∙ ap (λ v. v / 256) (sym (number_of mode h bytes first x k own channel)
+    ∙ (sym (numbers_at (page_number h bytes) (3 * h.width) (3 * (first + x) + k) (omega arith))
+    ∙ is.each (first + x) k column channel))
 
 -- the next row begins where the one before ended
 pub rest_after_row : (given size : ℕ) (raster bytes more : List ℕ) → drop (given * size) raster ≡ bytes ++ more → length bytes ≡ size → more ≡ drop ((given + 1) * size) raster

@@ -1,10 +1,11 @@
 -- The rows of a page file: what its raster has for each row of the page.
-use Rattle.std.specs.Prelude.{ℕ, ◌-◌, ◌+◌, ◌*◌, ◌++◌, ◌^◌, ◌<◌, ◌≤◌, ◌≡◌, Some, List, [], ◌∷◌, length, take, drop, slice_index}
+use Rattle.std.specs.Prelude.{ℕ, ◌-◌, ◌+◌, ◌*◌, ◌/◌, ◌++◌, ◌^◌, ◌<◌, ◌≤◌, ◌≡◌, Some, List, [], ◌∷◌, length, take, drop, slice_index}
 use Rattle.netpbm.specs.declared.format.Header.{Header}
 use Rattle.netpbm.specs.declared.format.PnmFormat.TheVariants.{Pgm, Ppm}
 use Rattle.page_picture.specs.declared.scene.Mode.{Mode}
 use Rattle.page_picture.specs.declared.scene.Mode.TheVariants.{Gray, Color}
 use Rattle.netpbm.specs.Raster.{raster_size, sample_count, NoneAbove}
+use Rattle.netpbm.specs.Pnm.{number_in}
 use Rattle.netpbm.specs.FileText.{concat_up_to}
 use Rattle.page_picture.specs.Page.{PageView}
 use Rattle.page_picture.specs.PageFile.{IsPageFormat}
@@ -31,10 +32,10 @@ pub record IsPageHeader (h : Header) : Type 0 where
   pub maxval_some : 1 ≤ h.maxval
   pub maxval_most : h.maxval ≤ 65535
 
--- a sample is a byte, of which 255 is the greatest, in a file of that kind
-abbrev pub HasByteSamples : Mode → Header → Type 0
-HasByteSamples Gray h = (h.format ≡ Pgm) × (h.maxval ≡ 255)
-HasByteSamples Color h = (h.format ≡ Ppm) × (h.maxval ≡ 255)
+-- the file has one sample for each place in gray, and three in color
+abbrev pub HasSamplesOf : Mode → Header → Type 0
+HasSamplesOf Gray h = h.format ≡ Pgm
+HasSamplesOf Color h = h.format ≡ Ppm
 
 -- these are the samples that the bytes of one row show
 pub record ShowsRow (h : Header) (bytes row : List ℕ) : Type 0 where
@@ -50,11 +51,12 @@ pub record GivesRowOf (h : Header) (before after row : List ℕ) : Type 0 where
   pub after_is : after ≡ drop (file_row_size h) before
   pub shows : ShowsRow h (take (file_row_size h) before) row
 
--- of the bytes that were not used yet those of one row were, and these are some of them, from there on
+-- of the bytes that were not used yet those of one row were, and these are the upper bytes of the samples that its numbers
+-- show, from there on
 pub record GivesPartOf (h : Header) (at : ℕ) (before after part : List ℕ) : Type 0 where
   pub size : file_row_size h ≤ length before
   pub after_is : after ≡ drop (file_row_size h) before
-  pub part_is : (i : ℕ) → i < length part → slice_index part i ≡ slice_index (take (file_row_size h) before) (at + i)
+  pub part_is : (i : ℕ) → i < length part → slice_index part i ≡ number_in h.maxval (take (file_row_size h) before) (at + i) * 65535 / h.maxval / 256
 
 -- so many rows stand at the front of these bytes, fewer than 2^40, and no number of the first is above the greatest
 pub record HasRows (h : Header) (rows : ℕ) (bytes : List ℕ) : Type 0 where

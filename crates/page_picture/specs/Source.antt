@@ -1,5 +1,5 @@
 -- A source of a page's rows, as contracts see it, and what each of its calls does.
-use Rattle.std.specs.Prelude.{ℕ, ◌+◌, ◌-◌, ◌*◌, ◌^◌, ◌<◌, ◌≡◌, ◌⊎◌, Bool, true, false, List, length, slice_index, Result, Ok, Err}
+use Rattle.std.specs.Prelude.{ℕ, ◌+◌, ◌-◌, ◌*◌, ◌/◌, ◌^◌, ◌<◌, ◌≡◌, ◌⊎◌, Bool, true, false, List, length, slice_index, Result, Ok, Err}
 use Rattle.page_picture.specs.Page.{PageView, IsRow, page_sample_at}
 use Rattle.page_picture.specs.declared.scene.Mode.{Mode}
 use Rattle.page_picture.specs.declared.scene.Mode.TheVariants.{Gray, Color}
@@ -41,19 +41,19 @@ abbrev pub byte_place : Mode → ℕ → ℕ → ℕ
 byte_place Gray x k = x
 byte_place Color x k = 3 * x + k
 
--- the next row was given as bytes, from place `first` on: each of the page's samples is 257 times its byte
+-- the upper bytes of the next row were given, from place `first` on: each is that of the page's sample
 pub record GivesNextBytes (mode : Mode) (first : ℕ) (old new : SourceState) (bytes : List ℕ) : Type 0 where
   pub more : old.given < old.page.height
   pub after : new ≡ record old { given = old.given + 1 }
   pub shows : old.steady ≡ true → (x k : ℕ) → k < 3 → byte_place mode x k < length bytes
-      → page_sample_at old.page (first + x) old.given k ≡ 257 * slice_index bytes (byte_place mode x k)
+      → slice_index bytes (byte_place mode x k) ≡ page_sample_at old.page (first + x) old.given k / 256
 
 -- a source, and the bytes that a call of it may write
 pub record SourceAndBytes : Type 0 where
   pub source : SourceState
   pub bytes : List ℕ
 
--- the next row as bytes, or nothing where the page has no such bytes or no row is left, or a failure
+-- the upper bytes of the next row, or nothing where the page gives none or no row is left, or a failure
 abbrev pub GivesRowBytes : Mode → ℕ → SourceAndBytes → Result Bool SourceFault → SourceAndBytes → Type 0
 GivesRowBytes mode first was (Ok true) now = GivesNextBytes mode first was.source now.source now.bytes
 GivesRowBytes mode first was (Ok false) now = (now.source ≡ was.source) × (now.bytes ≡ was.bytes)

@@ -16,6 +16,7 @@ mod raster_rows;
 mod read_fault;
 mod read_room;
 mod scaling;
+mod upper_rows;
 
 use crate::scene::Mode;
 pub use failing_page::FailingPage;
@@ -62,10 +63,10 @@ pub trait PageSource: Drop {
         ensures { Rewinds (source self.old) result (source self.new) };
 }
 
-/// A page whose rows may be had as bytes too: where a sample of its file is a byte, and 255 the greatest.
+/// A page of whose rows the upper bytes of the samples may be had alone: depths 1 and 8 show no more of them.
 pub trait ByteRows: PageSource {
-    /// Writes the next row as bytes, from place `first` on: one for each place in gray, three in color. False where the page
-    /// has none of that kind, and after the last row; nothing was done then. All of them must lie within the row.
+    /// Writes the upper bytes of the next row, from place `first` on: one for each place in gray, three in color. False where
+    /// the page gives none of that kind, and after the last row; nothing was done then. All of them must lie within the row.
     fn next_bytes(&mut self, mode: Mode, first: u32, bytes: &mut [u8]) -> Result<bool, SourceFault>
         requires { byte_place mode first 0 + length bytes.old
             ≤ byte_place mode (Self.source self.old).page.width 0 }

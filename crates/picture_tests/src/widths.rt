@@ -7,7 +7,8 @@ use std::process::Abort;
 
 /// Greatest values of a byte and of two.
 const GREATEST: &[u32] = &[
-    1, 2, 99, 100, 127, 254, 255, 256, 257, 999, 1023, 4095, 32767, 32768, 40000, 65534, 65535,
+    1, 2, 3, 99, 100, 127, 254, 255, 256, 257, 511, 999, 1000, 1023, 2047, 4095, 8191, 16383,
+    32767, 32768, 40000, 65534, 65535,
 ];
 
 /// How a page file of grays begins, and one of colors, and how many samples a dot has in it.
@@ -114,7 +115,7 @@ fn a_last_sample_above_the_greatest(rt: HostRuntime) {
     }
 }
 
-/// Whether the next row is given as bytes, from a place to the page's last one.
+/// Whether the upper bytes of the next row are given, from a place to the page's last one.
 fn gives_rest<S: ByteRows>(
     rt: &impl Abort,
     page: &mut S,
@@ -135,7 +136,7 @@ fn gives_rest<S: ByteRows>(
     }
 }
 
-/// Whether it gives no row as bytes.
+/// Whether it gives no row's upper bytes.
 fn gives_none<S: ByteRows>(page: &mut S, mode: Mode) -> bool {
     match mode {
         Mode::Gray => page.next_bytes(Mode::Gray, 0, &mut []) == Ok(false),
@@ -143,11 +144,12 @@ fn gives_none<S: ByteRows>(page: &mut S, mode: Mode) -> bool {
     }
 }
 
-/// The bytes of a page's only row from each place on; then no row is left.
+/// The upper bytes of a page's only row from each place on; then no row is left.
 fn expect_bytes(
     rt: &impl Abort,
     alloc: Global,
     text: &[u8],
+    maxval: u32,
     mode: Mode,
     channels: usize,
     width: usize,
@@ -165,7 +167,9 @@ fn expect_bytes(
         assert!(rt; gives_rest(rt, &mut page, mode, place, &mut bytes));
         for (i, byte) in bytes.iter().enumerate() {
             let i = from.saturating_add(i);
-            assert!(rt; u32::from(*byte) == number(255, i, size), "{i} of {size}");
+            let number = u64::from(number(maxval, i, size));
+            let sample = number * 65535 / u64::from(maxval.max(1));
+            assert!(rt; u64::from(*byte) == sample / 256, "{i} of {size}");
         }
         assert!(rt; gives_none(&mut page, mode));
         drop(bytes);
@@ -181,23 +185,24 @@ fn bytes_of_every_width(rt: HostRuntime) {
         } else {
             Mode::Color
         };
-        for width in 1..18usize {
-            let count = width.saturating_mul(channels);
-            let text = file(&rt, rt.alloc(), kind, width, 255, count, 0);
-            expect_bytes(&rt, rt.alloc(), &text, mode, channels, width);
-            drop(text);
+        for &maxval in GREATEST {
+            for width in 1..18usize {
+                let count = width.saturating_mul(channels);
+                let text = file(&rt, rt.alloc(), kind, width, maxval, count, 0);
+                expect_bytes(&rt, rt.alloc(), &text, maxval, mode, channels, width);
+                drop(text);
+            }
         }
     }
 }
 
-/// A page of another kind or of another greatest value has no such bytes, and its row is still there.
+/// A page of another kind gives no such bytes, and its row is still there.
 #[test]
 fn no_bytes_of_another_kind(rt: HostRuntime) {
     for (text, mode) in [
         (b"P5\n1 1\n255\n\x07".as_slice(), Mode::Color),
         (b"P6\n1 1\n255\n\x07\x07\x07", Mode::Gray),
-        (b"P5\n1 1\n254\n\x07", Mode::Gray),
-        (b"P5\n1 1\n65535\n\x07\x07", Mode::Gray),
+        (b"P5\n1 1\n65535\n\x07\x07", Mode::Color),
     ] {
         let mut page = match PnmPage::open(rt.alloc(), Cursor::new(text), 50) {
             Ok(page) => page,

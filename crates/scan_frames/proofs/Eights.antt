@@ -13,19 +13,6 @@ use Rattle.std.proofs.lemmas.List.{length-map, get_or-map}
 use Rattle.std.proofs.lemmas.Grind.{common_steps}
 use Rattle.std.proofs.lemmas.Simd.{mask_l-lt, bit_mask_l, length-chunk, get_or-chunk, length-zip2, get_or-zip2, Each1-from_get_or}
 
--- a list of eight, lane by lane
-pub eighth : (f g : ℕ → ℕ) → ((j : ℕ) → j < 8 → f j ≡ g j) → (i : ℕ) → i < 8
-    → slice_index (f 0 ∷ f 1 ∷ f 2 ∷ f 3 ∷ f 4 ∷ f 5 ∷ f 6 ∷ f 7 ∷ []) i ≡ g i
-eighth f g each zero less = each 0 less
-eighth f g each (suc zero) less = each 1 less
-eighth f g each (suc (suc zero)) less = each 2 less
-eighth f g each (suc (suc (suc zero))) less = each 3 less
-eighth f g each (suc (suc (suc (suc zero)))) less = each 4 less
-eighth f g each (suc (suc (suc (suc (suc zero))))) less = each 5 less
-eighth f g each (suc (suc (suc (suc (suc (suc zero)))))) less = each 6 less
-eighth f g each (suc (suc (suc (suc (suc (suc (suc zero))))))) less = each 7 less
-eighth f g each (suc (suc (suc (suc (suc (suc (suc (suc n)))))))) less = absurd (omega arith)
-
 -- a lane of a load, in its first copy
 pub of_load : (at n : ℕ) (xs : List ℕ) → at + n ≤ length xs → (j : ℕ) → j < n → get_or (chunk at n xs ++ chunk at n xs) j 0 ≡ get_or xs (at + j) 0
 of_load at n xs room j less =

@@ -5,9 +5,17 @@ ghost use Rattle.std.specs.Prelude.{◌≡◌, ◌≤◌, ◌<◌, ◌+◌, ◌*
 use crate::sources::scaling::Scaling;
 use std::simd::prelude::*;
 
+/// The number of two bytes at place `i`.
+pub fn word(bytes: &[u8], i: usize) -> u16
+    requires { 2 * i + 1 < length bytes.now }
+    ensures { result ≡ 256 * slice_index bytes.now (2 * i) + slice_index bytes.now (2 * i + 1) }
+{
+    256 * u16::from(bytes[2 * i]) + u16::from(bytes[2 * i + 1])
+}
+
 /// The numbers from byte `at` on.
 #[inline(always)]
-fn numbers_at(bytes: &[u8], at: usize) -> u16x8
+pub fn numbers_at(bytes: &[u8], at: usize) -> u16x8
     requires { at + 16 ≤ length bytes.now }
     ensures size { length result ≡ 8 }
     ensures each { (i : ℕ) → i < 8 → slice_index result i
@@ -67,7 +75,7 @@ fn ones_below(numbers: u16x8, others: u16x8) -> u16x8
 /// Eight numbers up to a greatest value as numbers up to 65,535. Each is multiplied by parts of two bytes, since as many
 /// lanes of two bytes are worked on at once as of four in two steps; what these lose is carried.
 #[inline(always)]
-fn scaled(scaling: &Scaling, numbers: u16x8) -> u16x8
+pub fn scaled(scaling: &Scaling, numbers: u16x8) -> u16x8
     requires size { length numbers ≡ 8 }
     requires limit { (i : ℕ) → i < 8 → slice_index numbers i ≤ scaling.now }
     ensures size { length result ≡ 8 }

@@ -6,11 +6,12 @@ ghost use Rattle.page_picture.specs.Opening.{HasOpenFaultAfter, IsOfFile};
 
 use crate::page_file::PageFault;
 use crate::rereadable::Rereadable;
-use crate::sources::eights::{eight_numbers, eight_scaled};
+use crate::sources::eights::{eight_numbers, eight_scaled, word};
 use crate::sources::fitting::all_fit;
 use crate::sources::open_fault::OpenFault;
 use crate::sources::read_fault::{MOST_READS, ReadFault};
 use crate::sources::scaling::{ByteScaling, Scaling};
+use crate::sources::upper_rows::put_upper_bytes;
 use netpbm::{Header, PnmFormat, raster_size, sample_count};
 
 /// The header of one row of a page alone.
@@ -169,14 +170,6 @@ fn put_eight_grays(grays: [u16; 8], x: usize, row: &mut [u16])
     for i in 0..8 {
         put_gray(grays[i], x + i, row);
     }
-}
-
-/// The number of two bytes at place `i`.
-fn word(bytes: &[u8], i: usize) -> u16
-    requires { 2 * i + 1 < length bytes.now }
-    ensures { result ≡ 256 * slice_index bytes.now (2 * i) + slice_index bytes.now (2 * i + 1) }
-{
-    256 * u16::from(bytes[2 * i]) + u16::from(bytes[2 * i + 1])
 }
 
 /// Writes the samples of a row of colors of two bytes each, of which 65,535 is the greatest; eight at once, since the bytes
@@ -382,7 +375,7 @@ pub fn read_row<R: Rereadable>(
     Ok(())
 }
 
-/// Writes the next row's bytes from the `at`-th on, as `read_row` writes its samples.
+/// Writes the upper bytes of the samples that the next row's numbers show, from the `at`-th on, as `read_row` writes samples.
 pub fn read_row_bytes<R: Rereadable>(
     reader: &mut R,
     header: &Header,
@@ -397,7 +390,7 @@ pub fn read_row_bytes<R: Rereadable>(
     requires rows { 1 ≤ rows }
     requires held { held.old ≤ rows }
     requires within { held.old * file_row_size header.now ≤ length bytes.old }
-    requires inside { at + length part.old ≤ file_row_size header.now }
+    requires inside { at + length part.old ≤ row_count header.now }
     ensures kept { R.is_kept reader.new ≡ R.is_kept reader.old }
     ensures text { R.text reader.new ≡ R.text reader.old }
     ensures held { held.new ≤ rows }
@@ -411,9 +404,9 @@ pub fn read_row_bytes<R: Rereadable>(
         (unused_bytes (file_row_size header.now) held.old bytes.old (R.left reader.old))
         → R.faults reader.old < R.faults reader.new) }
 {
+    let size = raster_size(&row_header(header));
     let from = take_row(reader, header, rows, held, bytes)?;
-    let start = from + at;
-    part.copy_from_slice(&bytes[start..start + part.len()]);
+    put_upper_bytes(header.maxval, &bytes[from..from + size], at, part);
     Ok(())
 }
 

@@ -1,9 +1,9 @@
-//! A page file whose samples are bytes gives its rows as such.
+//! A page file gives the upper bytes of its rows, in gray or in color as it is.
 
 ghost use Rattle.std.specs.Prelude.{◌≡◌, ◌≤◌, ◌<◌, ◌+◌, true, false, length, OnErr};
 ghost use Rattle.page_picture.specs.Source.{GivesRowBytes, byte_place};
 ghost use Rattle.page_picture.specs.PnmState.{LosesRows};
-ghost use Rattle.page_picture.specs.PageRows.{HasByteSamples};
+ghost use Rattle.page_picture.specs.PageRows.{HasSamplesOf};
 
 use crate::rereadable::Rereadable;
 use crate::scene::Mode;
@@ -12,19 +12,19 @@ use crate::sources::raster_rows::read_row_bytes;
 use crate::sources::{ByteRows, SourceFault};
 use netpbm::{Header, PnmFormat};
 
-/// Whether a sample of the file is a byte, of which 255 is the greatest, and the file of that kind.
-fn has_byte_samples(header: &Header, mode: Mode) -> bool
-    ensures bytes { result ≡ true → HasByteSamples mode header.now }
-    ensures other { result ≡ false → HasByteSamples mode header.now → ⊥ }
+/// Whether the file has one sample for each place in gray, and three in color.
+fn has_samples_of(header: &Header, mode: Mode) -> bool
+    ensures own { result ≡ true → HasSamplesOf mode header.now }
+    ensures other { result ≡ false → HasSamplesOf mode header.now → ⊥ }
 {
     match (mode, header.format) {
-        (Mode::Gray, PnmFormat::Pgm) | (Mode::Color, PnmFormat::Ppm) => header.maxval == 255,
+        (Mode::Gray, PnmFormat::Pgm) | (Mode::Color, PnmFormat::Ppm) => true,
         _ => false,
     }
 }
 
-/// The place of a row's byte of the first sample of a place.
-fn first_byte(mode: Mode, place: u32) -> usize
+/// The place in a row of the first sample of a place.
+fn first_sample(mode: Mode, place: u32) -> usize
     ensures { result ≡ byte_place mode place 0 }
 {
     match mode {
@@ -48,7 +48,7 @@ impl<R: Rereadable + Drop> ByteRows for PnmPage<R> {
         if self.is_lost {
             return Err(self.fail());
         }
-        if self.given >= self.header.height || !has_byte_samples(&self.header, mode) {
+        if self.given >= self.header.height || !has_samples_of(&self.header, mode) {
             return Ok(false);
         }
         self.is_lost = true;
@@ -59,7 +59,7 @@ impl<R: Rereadable + Drop> ByteRows for PnmPage<R> {
             rows,
             &mut self.held,
             &mut self.bytes,
-            first_byte(mode, first),
+            first_sample(mode, first),
             bytes,
         ) {
             Ok(()) => {

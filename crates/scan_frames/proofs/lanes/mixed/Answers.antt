@@ -1,6 +1,7 @@
 use Rattle.std.proofs.Common.{◌+◌, ◌*◌, ◌%◌, ◌++◌, get_or, arith}
 use Rattle.std.specs.Simd.Lanes.{chunk}
-use Rattle.scan_frames.proofs.Eights.{eighth, of_load}
+use Rattle.page_picture.proofs.EightLemmas.{eighth}
+use Rattle.scan_frames.proofs.Eights.{of_load}
 use Rattle.scan_frames.proofs.lanes.mixed.Goals as goal
 
 pub returns-clause-each : goal.returns-clause-each

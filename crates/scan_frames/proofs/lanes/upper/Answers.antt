@@ -2,7 +2,7 @@ use Rattle.std.proofs.Common.{◌+◌, ◌*◌, ◌/◌, ◌%◌, ◌<◌, ◌�
 use Rattle.std.specs.Simd.Lanes.{digits_l, number_l}
 use Rattle.std.proofs.lemmas.List.{get_or_append_left}
 use Rattle.std.proofs.lemmas.Simd.{get_or_narrower, below_from_Fits, Each1-get_or}
-use Rattle.scan_frames.proofs.Eights.{eighth}
+use Rattle.page_picture.proofs.EightLemmas.{eighth}
 use Rattle.scan_frames.proofs.lanes.upper.Goals as goal
 
 pub returns-clause-each : goal.returns-clause-each

@@ -1,5 +1,5 @@
-use Rattle.std.proofs.Common.{◌≡◌, ◌+◌, ◌-◌, ◌*◌, rules, arith, refl, sym, ap, ◌∙◌, drop, take, length-take-le, take-append-drop}
-use Rattle.std.specs.Prelude.{slice_index}
+use Rattle.std.proofs.Common.{◌≡◌, ◌+◌, ◌-◌, ◌*◌, ◌/◌, rules, arith, refl, sym, ap, ◌∙◌, drop, take, length-take-le, take-append-drop}
+use Rattle.netpbm.specs.Pnm.{number_in}
 use Rattle.page_picture.specs.PageRows.{file_row_size, unused_bytes}
 use Rattle.page_picture.proofs.RowLemmas.{has_rows}
 use Rattle.page_picture.proofs.ShownLemmas.{shown_bytes}
@@ -20,7 +20,7 @@ returns-in-Ok-clause-bytes g c =
           let is : left ≡ drop (inside.given * n) raster = ap (λ room. unused_bytes n inside.held room (g.R.Rereadable.left inside.reader)) whole ∙ before.5 kept (search rules) in
           let gives = c.in-Ok.ensures.read kept in
           shown_bytes inside.header inside.dpi inside.given c.args.mode c.args.first raster (take n left) (drop n left) c.read_row_bytes.new.part
-          before.0 (omega arith) (sym is ∙ sym (take-append-drop n left)) (length-take-le n left gives.size) (c.if-not-has_byte_samples.ensures.bytes refl) (search rules) (λ i h. gives.part_is i h ∙ ap (λ at. slice_index (take n left) (at + i)) c.first_byte.ensures) x k;
+          before.0 (omega arith) (sym is ∙ sym (take-append-drop n left)) (length-take-le n left gives.size) (c.if-not-has_samples_of.ensures.own refl) (search rules) (λ i h. gives.part_is i h ∙ ap (λ at. number_in inside.header.maxval (take n left) (at + i) * 65535 / inside.header.maxval / 256) c.first_sample.ensures) x k;
     }
 
 pub returns-in-Err-clause-failed : goal.returns-in-Err-clause-failed
