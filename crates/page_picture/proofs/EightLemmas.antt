@@ -1,5 +1,5 @@
 -- Eight lanes of a vector, and products in parts.
-use Rattle.std.proofs.Common.{Fits, w16, Bool, true, false, cond, ltb, map, replicate, subst, sym, ◌≡◌, ℕ, zero, suc, ◌+◌, ◌-◌, ◌*◌, ◌/◌, ◌%◌, ◌^◌, ◌<◌, ◌≤◌, ◌⊎◌, List, [], ◌∷◌, inl, inr, length, get_or, take, drop, arith, refl, ap, ◌∙◌}
+use Rattle.std.proofs.Common.{Fits, w16, Bool, true, false, cond, ltb, leb, ◌&&◌, map, replicate, subst, sym, ◌≡◌, ℕ, zero, suc, ◌+◌, ◌-◌, ◌*◌, ◌/◌, ◌%◌, ◌^◌, ◌<◌, ◌≤◌, ◌⊎◌, List, [], ◌∷◌, inl, inr, length, get_or, take, drop, arith, refl, ap, ◌∙◌}
 use Rattle.std.specs.Prelude.{slice_index, nat_lt, MatchBool}
 use Rattle.netpbm.specs.Pnm.{number_in}
 use Rattle.netpbm.specs.Raster.{NoneAbove, SomeAbove}
@@ -59,23 +59,23 @@ abbrev pub nones : List ℕ
 nones = replicate 8 0
 
 -- a lane where one of two stands by a test
-pub chosen_lane : (a b xs ys : List ℕ) (i : ℕ) → length a ≡ 8 → length b ≡ 8 → length xs ≡ 8 → length ys ≡ 8 → i < 8
+pub chosen_lane : (n : ℕ) (a b xs ys : List ℕ) (i : ℕ) → length a ≡ n → length b ≡ n → length xs ≡ n → length ys ≡ n → i < n
     → get_or (sel_l (zip2 ltb a b) xs ys) i 0 ≡ cond (ltb (get_or a i 0) (get_or b i 0)) (get_or xs i 0) (get_or ys i 0)
-chosen_lane a b xs ys i la lb lx ly less =
+chosen_lane n a b xs ys i la lb lx ly less =
     let tests = zip2 ltb a b in
-    let long : length tests ≡ 8 = length-zip2 ltb a b (la ∙ sym lb) ∙ la in
-    let in_a : i < length a = subst (λ (n : ℕ). i < n) (sym la) less in
-    let in_b : i < length b = subst (λ (n : ℕ). i < n) (sym lb) less in
-    let in_xs : i < length xs = subst (λ (n : ℕ). i < n) (sym lx) less in
-    let in_ys : i < length ys = subst (λ (n : ℕ). i < n) (sym ly) less in
-    let in_tests : i < length tests = subst (λ (n : ℕ). i < n) (sym long) less in
+    let long : length tests ≡ n = length-zip2 ltb a b (la ∙ sym lb) ∙ la in
+    let in_a : i < length a = subst (λ (m : ℕ). i < m) (sym la) less in
+    let in_b : i < length b = subst (λ (m : ℕ). i < m) (sym lb) less in
+    let in_xs : i < length xs = subst (λ (m : ℕ). i < m) (sym lx) less in
+    let in_ys : i < length ys = subst (λ (m : ℕ). i < m) (sym ly) less in
+    let in_tests : i < length tests = subst (λ (m : ℕ). i < m) (sym long) less in
     let test : get_or tests i false ≡ ltb (get_or a i 0) (get_or b i 0) = get_or-zip2 ltb a b i 0 0 false in_a in_b in
     get_or-sel_l tests xs ys i 0 in_tests in_xs in_ys
     ∙ ap (λ (t : Bool). cond t (get_or xs i 0) (get_or ys i 0)) test
 
-pub length-chosen : (a b xs ys : List ℕ) → length a ≡ 8 → length b ≡ 8 → length xs ≡ 8 → length ys ≡ 8 → length (sel_l (zip2 ltb a b) xs ys) ≡ 8
-length-chosen a b xs ys la lb lx ly =
-    let long : length (zip2 ltb a b) ≡ 8 = length-zip2 ltb a b (la ∙ sym lb) ∙ la in
+pub length-chosen : (n : ℕ) (a b xs ys : List ℕ) → length a ≡ n → length b ≡ n → length xs ≡ n → length ys ≡ n → length (sel_l (zip2 ltb a b) xs ys) ≡ n
+length-chosen n a b xs ys la lb lx ly =
+    let long : length (zip2 ltb a b) ≡ n = length-zip2 ltb a b (la ∙ sym lb) ∙ la in
     length-sel_l (zip2 ltb a b) xs ys (long ∙ sym lx) (long ∙ sym ly) ∙ long
 
 pub tested_lane : (a b : List ℕ) (i : ℕ) → length a ≡ 8 → length b ≡ 8 → i < 8
@@ -83,7 +83,7 @@ pub tested_lane : (a b : List ℕ) (i : ℕ) → length a ≡ 8 → length b ≡
 tested_lane a b i la lb less =
     let one : get_or ones i 0 ≡ 1 = get_or-replicate 8 i 1 0 less in
     let none : get_or nones i 0 ≡ 0 = get_or-replicate 8 i 0 0 less in
-    chosen_lane a b ones nones i la lb refl refl less
+    chosen_lane 8 a b ones nones i la lb refl refl less
     ∙ (ap (λ (v : ℕ). cond (ltb (get_or a i 0) (get_or b i 0)) v (get_or nones i 0)) one
     ∙ ap (λ (v : ℕ). cond (ltb (get_or a i 0) (get_or b i 0)) 1 v) none)
 
@@ -286,3 +286,41 @@ greatest_tell false m eights bytes greatest two most one within above =
     let (k, few, more) = above refl in
     let (i, inside, is) = one k few (omega (arith, more)) in
     (i, inside, omega (arith, more, is, number_is_word m bytes i two))
+
+-- the greatest of each lane's bytes tell whether all fit under one whose lower byte is the greatest
+pub uppers_tell : (fits : Bool) (m eights : ℕ) (bytes greatest : List ℕ) → 256 ≤ m → m % 256 ≡ 255 → ((i : ℕ) → slice_index bytes i < 256)
+    → ((i : ℕ) → i < 16 * eights → slice_index bytes i ≤ slice_index greatest (i % 16))
+    → ((k : ℕ) → k < 16 → 0 < slice_index greatest k → (n : ℕ) × (n < eights) × (slice_index greatest k ≡ slice_index bytes (16 * n + k)))
+    → (fits ≡ true → (k : ℕ) → k < 8 → slice_index greatest (2 * k) ≤ m / 256)
+    → (fits ≡ false → (k : ℕ) × (k < 8) × (m / 256 < slice_index greatest (2 * k)))
+    → MatchBool fits (NoneAbove m bytes (8 * eights)) (SomeAbove m bytes (8 * eights))
+uppers_tell true m eights bytes greatest two last small most one within above = λ i inside.
+    let lane : 2 * i % 16 ≡ 2 * (i % 8) = omega arith in
+    let below = most (2 * i) (omega (arith, inside)) in
+    let upper = subst (λ (k : ℕ). slice_index bytes (2 * i) ≤ slice_index greatest k) lane below in
+    let fit = within refl (i % 8) (omega arith) in
+    omega (arith, upper, fit, last, small (2 * i + 1), number_is_word m bytes i two)
+uppers_tell false m eights bytes greatest two last small most one within above =
+    let (k, few, more) = above refl in
+    let (n, inside, is) = one (2 * k) (omega (arith, few)) (omega (arith, more)) in
+    let place : 16 * n + 2 * k ≡ 2 * (8 * n + k) = omega arith in
+    let upper : slice_index greatest (2 * k) ≡ slice_index bytes (2 * (8 * n + k)) = is ∙ ap (slice_index bytes) place in
+    (8 * n + k, omega (arith, inside, few), omega (arith, more, upper, last, number_is_word m bytes (8 * n + k) two))
+
+-- one number more is tested
+pub fits_next : (fit : Bool) (m i v : ℕ) (bytes : List ℕ) → v ≡ number_in m bytes i → MatchBool fit (NoneAbove m bytes i) (SomeAbove m bytes i) → MatchBool (fit && leb v m) (NoneAbove m bytes (i + 1)) (SomeAbove m bytes (i + 1))
+fits_next true m i v bytes is none =
+    let P : Bool → Type 0 = λ t. leb v m ≡ t → MatchBool (true && t) (NoneAbove m bytes (i + 1)) (SomeAbove m bytes (i + 1)) in
+    (elim (leb v m) as P [
+      | true ↦ λ e. λ j less. elim (cases_lt j i) as (λ _. number_in m bytes j ≤ m) [
+        | inl low ↦ none j low
+        | inr high ↦
+            let here : i ≡ j = omega (arith, less, high) in
+            let below : v ≤ m = grind (arith, nat_tests, e) in
+            subst (λ (k : ℕ). number_in m bytes k ≤ m) here (omega (arith, below, is))
+      ]
+      | false ↦ λ e. let above : m < v = grind (arith, nat_tests, e) in (i, omega arith, omega (arith, above, is))
+    ]) refl
+fits_next false m i v bytes is some =
+    let (j, inside, above) = some in
+    (j, omega (arith, inside), above)

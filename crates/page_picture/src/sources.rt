@@ -17,6 +17,7 @@ mod read_fault;
 mod read_room;
 mod scaling;
 mod upper_rows;
+mod uppers_fit;
 
 use crate::scene::Mode;
 pub use failing_page::FailingPage;

@@ -5,6 +5,7 @@ ghost use Rattle.netpbm.specs.Pnm.{sample_bytes};
 ghost use Rattle.netpbm.specs.Raster.{NoneAbove, SomeAbove};
 
 use crate::sources::eights::greatest_of;
+use crate::sources::uppers_fit::uppers_fit;
 use netpbm::{none_above, number_at};
 
 /// Whether none of eight numbers is above the greatest.
@@ -43,6 +44,7 @@ pub fn all_fit(maxval: u32, bytes: &[u8], count: usize) -> bool
         (NoneAbove maxval bytes.now count) (SomeAbove maxval bytes.now count) }
 {
     match maxval {
+        256..=65534 if maxval % 256 == 255 => uppers_fit(maxval, bytes, count),
         256..=65534 => words_fit(maxval, bytes, count),
         _ => none_above(maxval, bytes, count),
     }
