@@ -466,7 +466,7 @@ stage_image_lost left_of job moves more read_ wrote left coming0 coming given st
     stage_lost left_of job moves more read_ wrote left coming0 coming given stream after_ old new (receiving_runs old.outcome old.progress receives) new_is loss asks s
 
 -- while its connection is not made
-lost_wanted : (outcome : Outcome) (progress : Progress) (port : ℕ) → is_running outcome ≡ true → wanted_port progress ≡ Some port → is_lost_by links.Image outcome progress ≡ true
+pub lost_wanted : (outcome : Outcome) (progress : Progress) (port : ℕ) → is_running outcome ≡ true → wanted_port progress ≡ Some port → is_lost_by links.Image outcome progress ≡ true
 lost_wanted outcome (stages.Imaging other opened) port running e = ap (λ (b : Bool). b && true) running
 lost_wanted outcome progress port running e = absurd (let clash : None ≡ Some port = e in cc)
 

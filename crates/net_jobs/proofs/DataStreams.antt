@@ -1,10 +1,12 @@
 -- The data connections of a job, and the records that they bring.
-use Rattle.std.proofs.Common.{◌≡◌, ◌∙◌, ℕ, Option, Some, None, List, [], ◌∷◌, ◌++◌, refl, sym, ap, subst, append_assoc}
-use Rattle.std.proofs.lemmas.List.{append-nil}
-use Rattle.std.proofs.KnownBytes.{Consumes-trans}
-use Rattle.std.specs.Io.KnownBytes.{Consumes}
+use Rattle.std.proofs.Common.{◌≡◌, ◌∙◌, ◌+◌, ◌-◌, ◌≤◌, ◌<◌, ℕ, take, drop, length, arith, Option, Some, None, List, [], ◌∷◌, ◌++◌, refl, sym, ap, subst, append_assoc}
+use Rattle.std.proofs.Math.Seq.{take-add}
+use Rattle.std.proofs.lemmas.List.{append-nil, drop-drop, length-drop, length-take}
+use Rattle.std.proofs.KnownBytes.{Consumes-trans, prepend_known-nil}
+use Rattle.std.specs.Io.KnownBytes.{Consumes, prepend_known}
 use Rattle.data_records.specs.declared.records.RecordPhase.TheVariants as phases
 use Rattle.data_records.specs.Records.{CarriesRecords, IsRecords}
+use Rattle.net_jobs.specs.JobJournal.{IsPiece}
 use Rattle.net_jobs.specs.Links.{DialBrings, HasBrought, BeginWith}
 use Rattle.net_jobs.specs.Inside.{HasReadOf}
 
@@ -44,3 +46,31 @@ begin_more [] [] whole stream b front = (front, tt)
 begin_more [] (s ∷ ss) whole stream b front = absurd b
 begin_more (w ∷ ws) [] whole stream b front = absurd b
 begin_more (w ∷ ws) (s ∷ ss) whole stream b front = (b.0, begin_more ws ss whole stream b.1 front)
+
+-- ---- bytes that are read ahead
+
+-- a read leaves what is to be taken as it was
+pub ahead_more : (was now : Option (List ℕ)) (bytes : List ℕ) → Consumes was now bytes → Consumes (prepend_known [] was) (prepend_known bytes now) []
+ahead_more None now bytes p = tt
+ahead_more (Some x) None bytes p = absurd p
+ahead_more (Some x) (Some y) bytes p = p
+
+-- so the first of them are taken
+pub ahead_taken : (known : Option (List ℕ)) (all front rest : List ℕ) → all ≡ front ++ rest → Consumes (prepend_known all known) (prepend_known rest known) front
+ahead_taken None all front rest e = tt
+ahead_taken (Some x) all front rest e = ap (λ (l : List ℕ). l ++ x) e ∙ append_assoc front rest x
+
+pub next_taken : (room : List ℕ) (at end n : ℕ) → at + n ≤ end → take (end - at) (drop at room) ≡ take n (drop at room) ++ take (end - (at + n)) (drop (at + n) room)
+next_taken room at end n fits =
+    let split : end - at ≡ n + (end - (at + n)) = omega (arith, fits) in
+    ap (λ (k : ℕ). take k (drop at room)) split ∙ take-add n (end - (at + n)) (drop at room) ∙ ap (λ (l : List ℕ). take n (drop at room) ++ take (end - (at + n)) l) (drop-drop n at room)
+
+pub first_piece : (n at : ℕ) (room : List ℕ) → 0 < n → at < length room → n ≤ 4096 → IsPiece (take n (drop at room))
+first_piece n at room some within few = (
+  λ none. omega (arith, some, within, length-take n (drop at room), length-drop at room, ap (λ (l : List ℕ). length l) none),
+  omega (arith, few, length-take n (drop at room)),
+)
+
+-- of a connection that was just made nothing is read
+pub brings_ahead : (was now : Option (List (List ℕ))) (remaining : Option (List ℕ)) → DialBrings was now remaining → DialBrings was now (prepend_known [] remaining)
+brings_ahead was now remaining b = subst (λ (o : Option (List ℕ)). DialBrings was now o) (sym (prepend_known-nil remaining)) b

@@ -1,6 +1,7 @@
 -- How a job over streams is over.
 use Rattle.std.proofs.Common.{◌≡◌, ◌≢◌, ◌∙◌, ◌⊎◌, ◌<◌, ◌↔◌, ℕ, Bool, true, false, Option, Some, None, Ok, Err, Result, List, [], ◌∷◌, ◌++◌, length, take, drop, refl, sym, ap, subst, append_assoc, inl, inr, arith}
 use Rattle.std.specs.Prelude.{if◌then◌else◌, IsTrue, IfOk, IfErr}
+use Rattle.std.specs.Result.{is_ok}
 use Rattle.std.specs.Io.KnownBytes.{Appends}
 use Rattle.std.proofs.KnownBytes.{Appends-nil}
 use Rattle.std.proofs.lemmas.List.{append-nil, take-append-drop}
@@ -28,10 +29,11 @@ use Rattle.client_replies.specs.declared.progress.Notes.{Notes}
 use Rattle.scan_job.specs.declared.stop.Stop.{Stop}
 use Rattle.client_replies.proofs.Fitting.{may_end}
 use Rattle.client_replies.specs.ReplyTurns.{stop_unjoined, frame_ended_by, status_of}
-use Rattle.client_replies.specs.ProtocolStates.{ProtocolState, target_of, is_running, is_ended, is_batch, turns, next_outcome, HistoryFits, FitsEnded}
+use Rattle.client_replies.specs.ProtocolStates.{ProtocolState, target_of, is_running, is_ended, is_batch, scans, turns, next_outcome, HistoryFits, FitsEnded}
 use Rattle.net_client.specs.ClientStates.{ClientState, ClientRepresents, IsNewClient, after_client_end}
 use Rattle.net_jobs.specs.JobTraces.{TraceEvent, Replied, Opened, Came, Finished, Gave, Turned, JobTrace, BytesMatchTrace, EventsLead, EndWell}
 use Rattle.net_jobs.specs.JobJournal.{JobMove, MovesLead, WritesShort, Writes, Fails, given_by, bytes_written_by, heard_by, dialled_by, has_write_failed}
+use Rattle.net_jobs.specs.JobSteps.{AreSteps, FileRunsOut}
 use Rattle.net_jobs.specs.Inside.{GivesAll, CallNotes, NotesMatch, HasRunNoted, no_notes, TakesLeave, StopsAs, HoldsGiven, IsDrainedTo, StopsBehind, Silent, Whole, Short}
 use Rattle.net_jobs.specs.Links.{JobLinks, LinkViews, views_of, Calls, Called, HasBrought, BeginWith}
 use Rattle.net_jobs.proofs.InvariantRecords.{LinkMatchesTrace, ClientFollowsTrace, Falls, GivenFiles, no_files_given, RunInvariant, FullRunInvariant, AsksPorts}
@@ -40,6 +42,7 @@ use Rattle.net_jobs.proofs.Tracing.{did_quiet}
 use Rattle.net_jobs.proofs.KeepingInvariant.{lets_go, stage_on}
 use Rattle.net_jobs.specs.Outputs.{files_text}
 use Rattle.net_jobs.proofs.FileNumbers.{IsFew, counts}
+use Rattle.net_jobs.proofs.Steps.{AllGiven, AreStepsSoFar, LastDelivers, StepsBy, ended_not_done, running_not_done, steps_given, steps_over, steps_quiet}
 use Rattle.net_jobs.proofs.RunInvariants.{stage_wrote, going_begun, gave_on}
 use Rattle.net_jobs.proofs.Turning.{some_left}
 use Rattle.net_jobs.proofs.Asking.{asked_for}
@@ -155,6 +158,7 @@ pub record Drained {C R : Type 0} (views : LinkViews C) (left_of : R → Option 
   pub going : FullRunInvariant views left_of job first coming0 given notes control coming stream c
   pub taken : Appends held holds given.bytes
   pub none : (job.task ≡ tasks.Scan → ⊥) → given.bytes ≡ []
+  pub steps : StepsBy whole job.task going.fresh going.moves c
   pub shown : whole ≡ true → job.task ≡ tasks.Scan → is_ended c.outcome ≡ false → IsJoined going.stage.history → (p : Picture) → ShowsFrames going.stage.history.ended p → Denotes given.bytes p
 
 pub drained_first : {C R : Type 0} (views : LinkViews C) (left_of : R → Option (List ℕ)) (job : Job) (control : C) (coming : Option (List (List ℕ))) (held : Option (List ℕ)) (c : ClientState) → IsNewClient job c
@@ -166,15 +170,17 @@ drained_first views left_of job control coming held c f =
       going = g.0;
       taken = Appends-nil held;
       none = λ other. refl;
+      steps = AllGiven g.2 (ended_not_done c.outcome Running (ap (λ (v : ClientState). v.outcome) f.value) tt);
       shown = λ w scan alive joined. absurd (let clash : Ok false ≡ Ok true = subst (λ (q : JoinHistory). IsJoined q) g.1 joined in cc);
     }
 
 -- a turn in which the output took what was given
 pub drained_more : {C R : Type 0} (views : LinkViews C) (left_of : R → Option (List ℕ)) (job : Job) (first : C) (coming0 : Option (List (List ℕ))) (held : Option (List ℕ)) (notes : CallNotes) (control : C) (coming : Option (List (List ℕ))) (stream : Option R) (c now : ClientState) (was holds : Option (List ℕ)) (given : GivenFiles) (gives : List JobMove)
-    → job.task ≡ tasks.Scan → Appends held was given.bytes → (g : FullRunInvariant views left_of job first coming0 given notes control coming stream c) → GivesAll c gives now
+    → job.task ≡ tasks.Scan → Appends held was given.bytes → (g : FullRunInvariant views left_of job first coming0 given notes control coming stream c) → LastDelivers job.task g.fresh g.moves c → FileRunsOut c gives now
     → ((first : Option (List ℕ)) (past : JoinHistory) → HoldsGiven past c first was → IsDrainedTo past c first (given_by gives) now holds)
     → Drained views left_of job first coming0 held notes true control coming stream now holds
-drained_more {C} {R} views left_of job first coming0 held notes control coming stream c now was holds given gives scan taken g all drains =
+drained_more {C} {R} views left_of job first coming0 held notes control coming stream c now was holds given gives scan taken g last out drains =
+    let all : GivesAll c gives now = record { are = out.are; leads = out.leads } in
     let s = g.stage in
     let bytes : List ℕ = given_by gives in
     let d = drains held s.history (record { scan = ap (λ (e : JobTarget). e.task) s.target ∙ scan; serves = s.serves; taken = subst (λ (l : List ℕ). Appends held was l) (sym s.given_is) taken }) in
@@ -183,25 +189,36 @@ drained_more {C} {R} views left_of job first coming0 held notes control coming s
     let at = subst (λ (v : ClientState). (t : RunInvariant left_of job g.moves (heard_by g.moves) (bytes_written_by g.moves) g.left coming0 coming (more_given given bytes) stream v) × (t.history ≡ after_pull bytes s.history)) (sym d.rest) gave in
     let h = gave_on views left_of job first coming0 given (more_given given bytes) notes control coming stream c now gives g.left all g at.0 (λ e. g.left_is e ∙ sym (ap (λ (v : ClientState). v.out) d.rest)) (sym (append_assoc (files_text given.pages) given.bytes bytes)) in
     let past_is = h.1 ∙ at.1 in
+    let steps = steps_given job.task g.fresh g.moves c gives now true (ap scans scan) last (inl out) in
     record {
       given = more_given given bytes;
       going = h.0;
       taken = subst (λ (l : List ℕ). Appends held holds (l ++ bytes)) s.given_is d.taken;
       none = λ other. absurd (other scan);
-      shown = λ w scans alive joined p shows.
+      steps = subst (λ (l : List JobMove). AreSteps h.0.fresh l now) (sym h.2) (subst (λ (v : ClientState). AreSteps v (gives ++ g.moves) now) (sym h.3) steps);
+      shown = λ w is_scan alive joined p shows.
           subst (λ (l : List ℕ). Denotes (l ++ bytes) p) s.given_is
           (d.denotes (sym (ap (λ (v : ClientState). is_ended v.outcome) d.rest) ∙ alive) (subst (λ (q : JoinHistory). IsJoined q) past_is joined) p (subst (λ (q : JoinHistory). ShowsFrames q.ended p) past_is shows));
     }
 
+-- of all jobs but batches only scans scan
+scans_none : (task : Task) → is_batch task ≡ false → (task ≡ tasks.Scan → ⊥) → scans task ≡ false
+scans_none tasks.List single other = refl
+scans_none tasks.Show single other = refl
+scans_none tasks.SetOnly single other = refl
+scans_none tasks.Scan single other = absurd (other refl)
+scans_none (tasks.Batch count) single other = absurd (let clash : true ≡ false = single in cc)
+
 -- one that writes nothing
 pub drained_none : {C R : Type 0} (views : LinkViews C) (left_of : R → Option (List ℕ)) (job : Job) (first : C) (coming0 : Option (List (List ℕ))) (held : Option (List ℕ)) (notes : CallNotes) (control : C) (coming : Option (List (List ℕ))) (stream : Option R) (c : ClientState) (holds : Option (List ℕ)) (given : GivenFiles)
-    → (job.task ≡ tasks.Scan → ⊥) → given.bytes ≡ [] → Appends held holds given.bytes → FullRunInvariant views left_of job first coming0 given notes control coming stream c
+    → is_batch job.task ≡ false → (job.task ≡ tasks.Scan → ⊥) → given.bytes ≡ [] → Appends held holds given.bytes → (g : FullRunInvariant views left_of job first coming0 given notes control coming stream c) → LastDelivers job.task g.fresh g.moves c
     → Drained views left_of job first coming0 held notes true control coming stream c holds
-drained_none views left_of job first coming0 held notes control coming stream c holds given other none taken g = record {
+drained_none views left_of job first coming0 held notes control coming stream c holds given single other none taken g last = record {
   given = given;
   going = g;
   taken = taken;
   none = λ o. none;
+  steps = steps_given job.task g.fresh g.moves c [] c false (scans_none job.task single other) last (refl, refl);
   shown = λ w scan alive joined p shows. absurd (other scan);
 }
 
@@ -220,6 +237,7 @@ pub record Closed {C R : Type 0} (views : LinkViews C) (left_of : R → Option (
   pub is_fresh : IsNewClient job fresh
   pub leads : MovesLead fresh moves last
   pub ends : last.outcome ≡ c.outcome
+  pub steps : (whole ≡ true) ⊎ (is_ended c.outcome ≡ true) → AreSteps fresh moves last
   pub gave : files_text given.pages ++ given.bytes ≡ given_by moves
   pub all : has_write_failed moves ≡ false → left ≡ []
   pub taken : Appends held holds given.bytes
@@ -254,6 +272,12 @@ stops_over Running stop ends = absurd ends
 stops_over (Done reports) stop ends = refl
 stops_over (Ended status why) stop ends = refl
 
+-- all moves are steps, where all bytes of the file went out, or no more will
+steps_at : (whole : Bool) (task : Task) (first : ClientState) (moves : List JobMove) (c : ClientState) → StepsBy whole task first moves c → (whole ≡ true) ⊎ (is_ended c.outcome ≡ true) → AreSteps first moves c
+steps_at true task first moves c s either = s
+steps_at false task first moves c s (inl e) = absurd (let clash : false ≡ true = e in cc)
+steps_at false task first moves c s (inr ended) = steps_over task first moves c ended s
+
 -- leave was taken of the daemon: the last bytes were written
 pub closed_parted : {C R : Type 0} {whole : Bool} (views : LinkViews C) (left_of : R → Option (List ℕ)) (job : Job) (first : C) (coming0 : Option (List (List ℕ))) (held : Option (List ℕ)) (was now : CallNotes) (control then_ : C) (coming : Option (List (List ℕ))) (stream : Option R) (c : ClientState) (holds : Option (List ℕ))
     → is_running c.outcome ≡ false → Leaves views control was c.out then_ now → (d : Drained views left_of job first coming0 held was whole control coming stream c holds)
@@ -271,6 +295,7 @@ closed_parted {whole = whole} views left_of job first coming0 held was now contr
     is_fresh = d.going.is_fresh;
     leads = d.going.leads;
     ends = refl;
+    steps = steps_at whole job.task d.going.fresh d.going.moves c d.steps;
     gave = d.going.gave;
     all = λ e. absurd (let clash : true ≡ false = sym up ∙ sym d.going.notes_are.write_failed ∙ e in cc);
     taken = d.taken;
@@ -296,6 +321,7 @@ closed_parted {whole = whole} views left_of job first coming0 held was now contr
         is_fresh = g.is_fresh;
         leads = (c, g.leads, record { all = refl; new_is = refl });
         ends = refl;
+        steps = λ either. steps_quiet g.fresh g.moves c (Writes c.out) (record c { out = [] }) (steps_at whole job.task g.fresh g.moves c d.steps either) (g.notes_are.write_failed ∙ up) tt (record { all = refl; new_is = refl });
         gave = g.gave;
         all = λ e. refl;
         taken = d.taken;
@@ -321,6 +347,7 @@ closed_parted {whole = whole} views left_of job first coming0 held was now contr
         is_fresh = g.is_fresh;
         leads = (c, g.leads, falls_short c n over short);
         ends = refl;
+        steps = λ either. steps_quiet g.fresh g.moves c (Fails (take n c.out)) (record c { out = drop n c.out }) (steps_at whole job.task g.fresh g.moves c d.steps either) (g.notes_are.write_failed ∙ up) tt (falls_short c n over short);
         gave = g.gave;
         all = λ e. absurd (let clash : true ≡ false = e in cc);
         taken = d.taken;
@@ -411,6 +438,7 @@ run_done views left_of job first coming0 held notes control coming stream c hold
         };
         told = told;
         last_told = d.ends ∙ done;
+        steps = d.steps (inl refl);
         all = d.all;
         read_all = refl;
         end_well = ends_well (target_of job) _ s.did.events s.trace s.did.runs (ap is_ended told);
@@ -431,18 +459,19 @@ ended_unjoined (tasks.Batch count) past single f = absurd (let clash : true ≡ 
 ended_unjoined task past single f = f
 
 -- what a job did, whether it follows its trace or not
-pub record RanBy {L O : Type 0} (views : LinkViews L) (job : Job) (was now : SeenStreams L O) (outcome : Outcome) (given : GivenFiles) (moves : List JobMove) (left : List ℕ) (last : ClientState) : Type 0 where
+pub record RanBy {L O : Type 0} (views : LinkViews L) (job : Job) (was now : SeenStreams L O) (outcome : Outcome) (given : GivenFiles) (moves : List JobMove) (left : List ℕ) (fresh last : ClientState) : Type 0 where
   pub ran : RanWithTrace views job was now
   pub cause : (ran.trace.protocol.outcome ≡ outcome) ⊎ EndsBy ran.moves ran.trace.protocol ran.rest outcome
   pub pages_is : ran.trace.pages ≡ given.pages
   pub moves_is : ran.moves ≡ moves
   pub left_is : ran.left ≡ left
+  pub first_is : ran.first ≡ fresh
   pub last_is : ran.last ≡ last
 
 pub ran_by : {L O R : Type 0} (views : LinkViews L) (left_of : R → Option (List ℕ)) (job : Job) (was now : SeenStreams L O) (stream : Option R) (c : ClientState) (given : GivenFiles) (moves : List JobMove) (left : List ℕ) (fresh last : ClientState)
     → IsNewClient job fresh → MovesLead fresh moves last → Calls views was.links moves now.links → (s : RunInvariant left_of job moves (heard_by moves) (bytes_written_by moves) left was.coming now.coming given stream c)
     → (stands : ClientFollowsTrace left_of was.coming now.coming s.trace s.rest stream c s.history ⊎ Falls moves was.coming now.coming s.trace s.rest c)
-    → RanBy views job was now c.outcome given moves left last
+    → RanBy views job was now c.outcome given moves left fresh last
 ran_by views left_of job was now stream c given moves left fresh last is_fresh leads calls s (inl f) =
     let l = lets_go left_of was.coming now.coming s.trace.streams stream c s.history f.linked in
     record {
@@ -468,6 +497,7 @@ ran_by views left_of job was now stream c given moves left fresh last is_fresh l
       pages_is = s.pages_is;
       moves_is = refl;
       left_is = refl;
+      first_is = refl;
       last_is = refl;
     }
 ran_by views left_of job was now stream c given moves left fresh last is_fresh leads calls s (inr f) = record {
@@ -493,12 +523,17 @@ ran_by views left_of job was now stream c given moves left fresh last is_fresh l
   pages_is = s.pages_is;
   moves_is = refl;
   left_is = refl;
+  first_is = refl;
   last_is = refl;
 }
 
 pub cause_of : (moves : List JobMove) (protocol : ProtocolState) (rest : List ℕ) (outcome told : Outcome) → outcome ≡ told → (protocol.outcome ≡ outcome) ⊎ EndsBy moves protocol rest outcome → HasEndingCause moves protocol rest told
 cause_of moves protocol rest outcome told e (inl x) = inl (x ∙ e)
 cause_of moves protocol rest outcome told e (inr x) = inr (inl (subst (λ (o : Outcome). EndsBy moves protocol rest o) e x))
+
+same_steps : (a b : ClientState) (moves more : List JobMove) (c d : ClientState) → b ≡ a → more ≡ moves → d ≡ c → AreSteps a moves c → AreSteps b more d
+same_steps a b moves more c d first all last s =
+    subst (λ (v : ClientState). AreSteps v more d) (sym first) (subst (λ (l : List JobMove). AreSteps a l d) (sym all) (subst (λ (v : ClientState). AreSteps a moves v) (sym last) s))
 
 -- a job that has ended otherwise has another status than GOOD
 abbrev pub HasRefusal : Outcome → Type 0
@@ -541,6 +576,7 @@ run_ended views left_of job first coming0 held notes links coming stream c holds
         ran = r.ran;
         cause = cause_of r.ran.moves r.ran.trace.protocol r.ran.rest c.outcome (Ended status why) over r.cause;
         last_told = inl (ap (λ (v : ClientState). v.outcome) r.last_is ∙ d.ends ∙ over);
+        steps = λ told. same_steps d.fresh r.ran.first d.moves r.ran.moves d.last r.ran.last r.first_is r.moves_is r.last_is (d.steps (inr (ap is_ended over)));
         all = λ other. all_written d.moves r.ran.moves d.left r.ran.left r.moves_is r.left_is d.all;
         refusal = subst HasRefusal over (ran_refuses job r.ran.moves r.ran.trace _ _ r.ran.rest r.ran.left c.outcome r.ran.did r.cause);
         text = d.given.bytes;
@@ -555,14 +591,14 @@ run_ended views left_of job first coming0 held notes links coming stream c holds
 
 -- the output did not take the file
 pub run_sunk : {L R : Type 0} (views : LinkViews L) (left_of : R → Option (List ℕ)) (job : Job) (first : L) (coming0 : Option (List (List ℕ))) (held was : Option (List ℕ)) (notes : CallNotes) (links : L) (coming : Option (List (List ℕ))) (stream : Option R) (c : ClientState) (holds : Option (List ℕ)) (given : GivenFiles)
-    → is_batch job.task ≡ false → job.task ≡ tasks.Scan → Appends held was given.bytes → (g : FullRunInvariant views left_of job first coming0 given notes links coming stream c)
+    → is_batch job.task ≡ false → job.task ≡ tasks.Scan → is_ended c.outcome ≡ false → Appends held was given.bytes → (g : FullRunInvariant views left_of job first coming0 given notes links coming stream c)
     → ((past : JoinHistory) → HoldsGiven past c held was → StopsBehind past.given held holds)
     → HasRunNoted views job (record { links = first; coming = coming0; output = held }) (record { links = links; coming = coming; output = holds }) (Ended statuses.IoError whys.Sink) notes
-run_sunk views left_of job first coming0 held was notes links coming stream c holds given single scan taken g stops =
+run_sunk views left_of job first coming0 held was notes links coming stream c holds given single scan alive taken g stops =
     let s = g.stage in
     let r = ran_by views left_of job (record { links = first; coming = coming0; output = held }) (record { links = links; coming = coming; output = holds }) stream c given g.moves g.left g.fresh c g.is_fresh g.leads g.calls s s.stands in
     let short = stops s.history (record { scan = task_is c job s.target ∙ scan; serves = s.serves; taken = subst (λ (l : List ℕ). Appends held was l) (sym s.given_is) taken }) in (
-      record { single = single; ran = r.ran; cause = inr (inr refl); last_told = inr (inr refl); all = λ other. absurd (other refl); refusal = λ e. cc; text = s.history.given ++ short.behind; taken = short.taken; behind = short.behind; gave = ap (λ (l : List ℕ). l ++ short.behind) (s.given_is ∙ one_file_given job s.trace _ _ s.rest g.left given (given_by g.moves) single s.did s.pages_is g.gave ∙ ap (λ (m : List JobMove). given_by m) (sym r.moves_is)); none_behind = λ other. absurd (other refl); not_whole = short.not_whole },
+      record { single = single; ran = r.ran; cause = inr (inr refl); last_told = inr (inr refl); steps = λ told. absurd (let clash : true ≡ false = sym (ap is_ended (sym (ap (λ (v : ClientState). v.outcome) r.last_is) ∙ told)) ∙ alive in cc); all = λ other. absurd (other refl); refusal = λ e. cc; text = s.history.given ++ short.behind; taken = short.taken; behind = short.behind; gave = ap (λ (l : List ℕ). l ++ short.behind) (s.given_is ∙ one_file_given job s.trace _ _ s.rest g.left given (given_by g.moves) single s.did s.pages_is g.gave ∙ ap (λ (m : List JobMove). given_by m) (sym r.moves_is)); none_behind = λ other. absurd (other refl); not_whole = short.not_whole },
       subst (λ (m : List JobMove). NotesMatch m notes) (sym r.moves_is) g.notes_are,
     )
 
@@ -604,16 +640,16 @@ pub pending_gave : {C R : Type 0} (views : LinkViews C) (left_of : R → Option 
 pending_gave views left_of job first coming0 held notes control coming stream c holds law single runs d =
     let s = d.going.stage in
     record {
-      drained = record { given = d.given; going = d.going; taken = d.taken; none = d.none; shown = λ w. absurd (let clash : false ≡ true = w in cc) };
+      drained = record { given = d.given; going = d.going; taken = d.taken; none = d.none; steps = AllGiven d.steps (running_not_done c.outcome runs); shown = λ w. absurd (let clash : false ≡ true = w in cc) };
       not_whole = not_given law s.history c.join d.given.bytes s.given_is s.serves.stands (running_unjoined left_of job d.going.moves (heard_by d.going.moves) (bytes_written_by d.going.moves) d.going.left coming0 coming d.given stream c single runs s);
     }
 
 -- one in which nothing was given
 pub pending_went : {C R : Type 0} (views : LinkViews C) (left_of : R → Option (List ℕ)) (job : Job) (first : C) (coming0 : Option (List (List ℕ))) (held : Option (List ℕ)) (notes then_ : CallNotes) (control now : C) (coming come : Option (List (List ℕ))) (stream next : Option R) (c new : ClientState) (holds : Option (List ℕ))
-    → (p : Pending views left_of job first coming0 held notes control coming stream c holds) → FullRunInvariant views left_of job first coming0 p.drained.given then_ now come next new
+    → (p : Pending views left_of job first coming0 held notes control coming stream c holds) → (g : FullRunInvariant views left_of job first coming0 p.drained.given then_ now come next new) → AreStepsSoFar job.task g.fresh g.moves new
     → Pending views left_of job first coming0 held then_ now come next new holds
-pending_went views left_of job first coming0 held notes then_ control now coming come stream next c new holds p g = record {
-  drained = record { given = p.drained.given; going = g; taken = p.drained.taken; none = p.drained.none; shown = λ w. absurd (let clash : false ≡ true = w in cc) };
+pending_went views left_of job first coming0 held notes then_ control now coming come stream next c new holds p g s = record {
+  drained = record { given = p.drained.given; going = g; taken = p.drained.taken; none = p.drained.none; steps = s; shown = λ w. absurd (let clash : false ≡ true = w in cc) };
   not_whole = p.not_whole;
 }
 
@@ -629,6 +665,7 @@ run_untold views left_of job first coming0 held notes links coming stream c hold
         ran = r.ran;
         cause = inr (inl (ByMemory refl));
         last_told = inr (inl (reports, ap (λ (v : ClientState). v.outcome) r.last_is ∙ d.ends ∙ done, refl));
+        steps = λ told. absurd (let clash : Done reports ≡ Ended statuses.NoMem whys.Memory = sym (ap (λ (v : ClientState). v.outcome) r.last_is ∙ d.ends ∙ done) ∙ told in cc);
         all = λ other. all_written d.moves r.ran.moves d.left r.ran.left r.moves_is r.left_is d.all;
         refusal = λ e. cc;
         text = d.given.bytes;
@@ -665,6 +702,11 @@ run_stopped views left_of job first coming0 held was notes links then_ coming st
 pub ok_of : {T E : Type 0} (r : Result T E) (t : T) (P : T → Type 0) → r ≡ Ok t → IfOk r P → P t
 ok_of r t P e is = subst (λ x. IfOk x P) e is
 
+-- what is told is of a job that is done
+pub done_told : {T E : Type 0} (outcome : Outcome) (r : Result T E) (Told : Reports → T → Type 0) → is_ok r ≡ true → IfOk r (λ t. (reports : Reports) × (outcome ≡ Done reports) × Told reports t) → (reports : Reports) × (outcome ≡ Done reports)
+done_told outcome (Ok t) Told is told = (told.0, told.1)
+done_told outcome (Err e) Told is told = absurd (let clash : false ≡ true = is in cc)
+
 pub err_of : {T E : Type 0} (r : Result T E) (stop : E) (P : E → Type 0) → r ≡ Err stop → IfErr r P → P stop
 err_of r stop P e is = subst (λ x. IfErr x P) e is
 
@@ -685,27 +727,27 @@ scan_by false result none failed = absurd (let clash : true ≡ false = sym (non
 
 -- ---- a turn's end: what a job gave of its file, if it is a scan
 
-gave_by : {C R : Type 0} (views : LinkViews C) (left_of : R → Option (List ℕ)) (job : Job) (first : C) (coming0 : Option (List (List ℕ))) (held : Option (List ℕ)) (notes : CallNotes) (control : C) (coming : Option (List (List ℕ))) (stream : Option R) (c now : ClientState) (was holds : Option (List ℕ)) (given : GivenFiles) (is_scan : Bool) (scans : Bool)
-    → is_scan ≡ scans → is_scan ≡ true ↔ job.task ≡ tasks.Scan → Appends held was given.bytes → ((job.task ≡ tasks.Scan → ⊥) → given.bytes ≡ []) → FullRunInvariant views left_of job first coming0 given notes control coming stream c
+gave_by : {C R : Type 0} (views : LinkViews C) (left_of : R → Option (List ℕ)) (job : Job) (first : C) (coming0 : Option (List (List ℕ))) (held : Option (List ℕ)) (notes : CallNotes) (control : C) (coming : Option (List (List ℕ))) (stream : Option R) (c now : ClientState) (was holds : Option (List ℕ)) (given : GivenFiles) (is_scan : Bool) (b : Bool)
+    → is_scan ≡ b → is_batch job.task ≡ false → is_scan ≡ true ↔ job.task ≡ tasks.Scan → Appends held was given.bytes → ((job.task ≡ tasks.Scan → ⊥) → given.bytes ≡ []) → (g : FullRunInvariant views left_of job first coming0 given notes control coming stream c) → LastDelivers job.task g.fresh g.moves c
     → (is_scan ≡ false → (now ≡ c) × (holds ≡ was))
-    → (is_scan ≡ true → (gives : List JobMove) × GivesAll c gives now × ((first : Option (List ℕ)) (past : JoinHistory) → HoldsGiven past c first was → IsDrainedTo past c first (given_by gives) now holds))
+    → (is_scan ≡ true → (gives : List JobMove) × FileRunsOut c gives now × ((first : Option (List ℕ)) (past : JoinHistory) → HoldsGiven past c first was → IsDrainedTo past c first (given_by gives) now holds))
     → Drained views left_of job first coming0 held notes true control coming stream now holds
-gave_by views left_of job first coming0 held notes control coming stream c now was holds given is_scan true e scan taken none g same drains =
+gave_by views left_of job first coming0 held notes control coming stream c now was holds given is_scan true e single scan taken none g last same drains =
     let gives = drains e in
-    drained_more views left_of job first coming0 held notes control coming stream c now was holds given gives.0 (scan.0 e) taken g gives.1 gives.2
-gave_by views left_of job first coming0 held notes control coming stream c now was holds given is_scan false e scan taken none g same drains =
+    drained_more views left_of job first coming0 held notes control coming stream c now was holds given gives.0 (scan.0 e) taken g last gives.1 gives.2
+gave_by views left_of job first coming0 held notes control coming stream c now was holds given is_scan false e single scan taken none g last same drains =
     let other : job.task ≡ tasks.Scan → ⊥ = λ s. (let clash : true ≡ false = sym (scan.1 s) ∙ e in cc) in
     let kept = same e in
     subst (λ (v : ClientState). Drained views left_of job first coming0 held notes true control coming stream v holds) (sym kept.0)
-    (drained_none views left_of job first coming0 held notes control coming stream c holds given other (none other) (subst (λ (o : Option (List ℕ)). Appends held o given.bytes) (sym kept.1) taken) g)
+    (drained_none views left_of job first coming0 held notes control coming stream c holds given single other (none other) (subst (λ (o : Option (List ℕ)). Appends held o given.bytes) (sym kept.1) taken) g last)
 
 pub given_more : {C R : Type 0} (views : LinkViews C) (left_of : R → Option (List ℕ)) (job : Job) (first : C) (coming0 : Option (List (List ℕ))) (held : Option (List ℕ)) (notes : CallNotes) (control : C) (coming : Option (List (List ℕ))) (stream : Option R) (c now : ClientState) (was holds : Option (List ℕ)) (given : GivenFiles) (is_scan : Bool)
-    → is_scan ≡ true ↔ job.task ≡ tasks.Scan → Appends held was given.bytes → ((job.task ≡ tasks.Scan → ⊥) → given.bytes ≡ []) → FullRunInvariant views left_of job first coming0 given notes control coming stream c
+    → is_batch job.task ≡ false → is_scan ≡ true ↔ job.task ≡ tasks.Scan → Appends held was given.bytes → ((job.task ≡ tasks.Scan → ⊥) → given.bytes ≡ []) → (g : FullRunInvariant views left_of job first coming0 given notes control coming stream c) → LastDelivers job.task g.fresh g.moves c
     → (is_scan ≡ false → (now ≡ c) × (holds ≡ was))
-    → (is_scan ≡ true → (gives : List JobMove) × GivesAll c gives now × ((first : Option (List ℕ)) (past : JoinHistory) → HoldsGiven past c first was → IsDrainedTo past c first (given_by gives) now holds))
+    → (is_scan ≡ true → (gives : List JobMove) × FileRunsOut c gives now × ((first : Option (List ℕ)) (past : JoinHistory) → HoldsGiven past c first was → IsDrainedTo past c first (given_by gives) now holds))
     → Drained views left_of job first coming0 held notes true control coming stream now holds
-given_more views left_of job first coming0 held notes control coming stream c now was holds given is_scan scan taken none g same drains =
-    gave_by views left_of job first coming0 held notes control coming stream c now was holds given is_scan is_scan refl scan taken none g same drains
+given_more views left_of job first coming0 held notes control coming stream c now was holds given is_scan single scan taken none g last same drains =
+    gave_by views left_of job first coming0 held notes control coming stream c now was holds given is_scan is_scan refl single scan taken none g last same drains
 
 -- ---- a job that is no batch
 

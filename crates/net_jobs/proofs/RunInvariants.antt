@@ -8,6 +8,7 @@ use Rattle.frame_join.specs.FrameHistory.{JoinHistory, empty_history}
 use Rattle.scan_job.specs.declared.job.Job.{Job}
 use Rattle.scan_job.specs.declared.outcome.Why.TheVariants as whys
 use Rattle.scan_job.specs.declared.outcome.Outcome.{Outcome}
+use Rattle.client_replies.specs.declared.progress.JobTarget.{JobTarget}
 use Rattle.client_replies.specs.declared.progress.Progress.{Progress}
 use Rattle.client_replies.specs.declared.progress.Link.{Link}
 use Rattle.client_replies.specs.declared.progress.Link.TheVariants as links
@@ -15,12 +16,14 @@ use Rattle.client_replies.specs.ProtocolStates.{is_running, is_receiving, is_ima
 use Rattle.net_client.specs.ClientStates.{ClientState, after_client_end, IsNewClient}
 use Rattle.net_jobs.specs.declared.calls.Loss.TheVariants.{DialFailed}
 use Rattle.net_jobs.specs.JobJournal.{AreGives, JobMove, Writes, Fails, Hears, Resumes, Dials, Takes, Gives, Loses, given_by, HearsPiece, TakesPiece, LosesLink, after_loss, dialled_by, heard_by, bytes_written_by, HasLoss}
-use Rattle.net_jobs.specs.Inside.{GivesAll, CallNotes, NotesMatch, no_notes, LoopState, Moves, MovesAll}
+use Rattle.net_jobs.specs.JobSteps.{AreSteps}
+use Rattle.net_jobs.specs.Inside.{AreOfTurn, AreQuiet, Quiet, Delivered, IsDelivery, GivesAll, CallNotes, NotesMatch, no_notes, LoopState, Moves, MovesAll}
 use Rattle.net_jobs.specs.JobTraces.{JobTrace}
 use Rattle.net_jobs.specs.Links.{LinkViews}
 use Rattle.net_jobs.specs.Outputs.{files_text}
 use Rattle.net_jobs.proofs.InvariantRecords.{LinkMatchesTrace, ClientFollowsTrace, Falls, GivenFiles, no_files_given, RunInvariant, FullRunInvariant}
 use Rattle.net_jobs.proofs.Giving.{leads_on, calls_on, heard_on_gives, written_on_gives, dialled_on_gives, loss_on_gives, failed_on_gives, lost_on_gives, given_on_gives}
+use Rattle.net_jobs.proofs.Steps.{AllGiven, AreStepsSoFar, LastDelivers, NotDone, ToBeGiven, all_given, quiet_not_done, running_not_done, steps_begin, steps_quiet}
 use Rattle.net_jobs.proofs.Tracing.{did_write}
 use Rattle.net_jobs.proofs.KeepingInvariant.{following, stage_begun, stage_heard, stage_on}
 use Rattle.net_jobs.proofs.DataLoop.{stage_lost, stage_missed, stage_opened, stage_received, stage_let_go, receiving_runs}
@@ -95,10 +98,10 @@ stage_wrote left_of job moves read_ wrote left piece after_ coming0 coming given
 -- ---- the control connection
 
 pub going_begun : {C R : Type 0} (views : LinkViews C) (left_of : R → Option (List ℕ)) (job : Job) (control : C) (coming : Option (List (List ℕ))) (c : ClientState) → IsNewClient job c
-    → (g : FullRunInvariant views left_of job control coming no_files_given no_notes control coming None c) × (g.stage.history ≡ empty_history)
+    → (g : FullRunInvariant views left_of job control coming no_files_given no_notes control coming None c) × (g.stage.history ≡ empty_history) × AreSteps g.fresh g.moves c
 going_begun views left_of job control coming c f =
     let s = stage_begun left_of job coming c f in
-    (record { moves = []; left = c.out; calls = refl; stage = s.0; left_is = λ e. refl; notes_are = record { loss = refl; write_failed = refl }; fresh = c; is_fresh = f; leads = refl; gave = refl }, s.1)
+    (record { moves = []; left = c.out; calls = refl; stage = s.0; left_is = λ e. refl; notes_are = record { loss = refl; write_failed = refl }; fresh = c; is_fresh = f; leads = refl; gave = refl }, s.1, steps_begin c)
 
 -- a piece is heard while no data connection is open
 stage_hears : {R : Type 0} (left_of : R → Option (List ℕ)) (job : Job) (moves : List JobMove) (read_ wrote : List ℕ) (coming0 coming : Option (List (List ℕ))) (given : GivenFiles) (stream : Option R) (old new : ClientState) (piece : List ℕ)
@@ -219,7 +222,7 @@ going_moved views left_of job first coming0 given was now (Hears piece) m g =
     }
 going_moved views left_of job first coming0 given was now Resumes m g =
     let moves : List JobMove = g.moves in
-    let heard = stage_hears left_of job moves (heard_by moves) (bytes_written_by moves) coming0 was.coming given was.stream was.client now.client [] m.client (here views left_of job first coming0 given was m.up g) in
+    let heard = stage_hears left_of job moves (heard_by moves) (bytes_written_by moves) coming0 was.coming given was.stream was.client now.client [] m.client.0 (here views left_of job first coming0 given was m.up g) in
     let none = subst (λ (l : List ℕ). RunInvariant left_of job moves l (bytes_written_by moves) now.client.out coming0 was.coming given was.stream now.client) (append-nil (heard_by moves)) heard in
     let on = stage_on left_of job moves (Resumes ∷ moves) (heard_by moves) (bytes_written_by moves) now.client.out coming0 was.coming given was.stream now.client refl (λ l. l) none in
     record {
@@ -314,7 +317,7 @@ gave_stage left_of job gives moves left coming0 coming given stream c are s =
 pub gave_on : {L R : Type 0} (views : LinkViews L) (left_of : R → Option (List ℕ)) (job : Job) (first : L) (coming0 : Option (List (List ℕ))) (given more : GivenFiles) (notes : CallNotes) (links : L) (coming : Option (List (List ℕ))) (stream : Option R) (c now : ClientState) (gives : List JobMove) (left : List ℕ)
     → GivesAll c gives now → (g : FullRunInvariant views left_of job first coming0 given notes links coming stream c) → (s : RunInvariant left_of job g.moves (heard_by g.moves) (bytes_written_by g.moves) left coming0 coming more stream now)
     → (notes.write_failed ≡ false → left ≡ now.out) → files_text more.pages ++ more.bytes ≡ (files_text given.pages ++ given.bytes) ++ given_by gives
-    → (h : FullRunInvariant views left_of job first coming0 more notes links coming stream now) × (h.stage.history ≡ s.history)
+    → (h : FullRunInvariant views left_of job first coming0 more notes links coming stream now) × (h.stage.history ≡ s.history) × (h.moves ≡ gives ++ g.moves) × (h.fresh ≡ g.fresh)
 gave_on views left_of job first coming0 given more notes links coming stream c now gives left all g s left_is files =
     let t = gave_stage left_of job gives g.moves left coming0 coming more stream now all.are s in (
       record {
@@ -330,6 +333,8 @@ gave_on views left_of job first coming0 given more notes links coming stream c n
         gave = files ∙ ap (λ (l : List ℕ). l ++ given_by gives) g.gave ∙ sym (given_on_gives gives g.moves all.are);
       },
       t.1,
+      refl,
+      refl,
     )
 
 -- ---- a turn
@@ -340,3 +345,100 @@ going_on {L} {R} views left_of job first coming0 given was now [] same g =
     subst (λ (s : LoopState L R). FullRunInvariant views left_of job first coming0 given s.notes s.links s.coming s.stream s.client) (sym same) g
 going_on views left_of job first coming0 given was now (move ∷ moves) m g =
     going_moved views left_of job first coming0 given m.0 now move m.2 (going_on views left_of job first coming0 given was m.0 moves m.1 g)
+
+-- ---- the moves of a turn are steps
+
+moved_adds : {L R : Type 0} (views : LinkViews L) (left_of : R → Option (List ℕ)) (job : Job) (first : L) (coming0 : Option (List (List ℕ))) (given : GivenFiles) (was now : LoopState L R) (move : JobMove) (m : Moves views left_of was move now)
+    (g : FullRunInvariant views left_of job first coming0 given was.notes was.links was.coming was.stream was.client)
+    → ((going_moved views left_of job first coming0 given was now move m g).moves ≡ move ∷ g.moves) × ((going_moved views left_of job first coming0 given was now move m g).fresh ≡ g.fresh)
+unfolding going_moved
+moved_adds views left_of job first coming0 given was now (Writes bytes) m g = (refl, refl)
+moved_adds views left_of job first coming0 given was now (Fails bytes) m g = (refl, refl)
+moved_adds views left_of job first coming0 given was now (Hears piece) m g = (refl, refl)
+moved_adds views left_of job first coming0 given was now Resumes m g = (refl, refl)
+moved_adds views left_of job first coming0 given was now (Dials port true) m g = (refl, refl)
+moved_adds views left_of job first coming0 given was now (Dials port false) m g = (refl, refl)
+moved_adds views left_of job first coming0 given was now (Takes piece) m g = (refl, refl)
+moved_adds views left_of job first coming0 given was now (Loses link reason) m g = (refl, refl)
+moved_adds views left_of job first coming0 given was now (Gives bytes) m g = absurd m.of_links
+
+-- how far a job is that made steps alone, and is not done
+record StandsBySteps {L R : Type 0} (views : LinkViews L) (left_of : R → Option (List ℕ)) (job : Job) (first : L) (coming0 : Option (List (List ℕ))) (given : GivenFiles) (now : LoopState L R) : Type 0 where
+  going : FullRunInvariant views left_of job first coming0 given now.notes now.links now.coming now.stream now.client
+  steps : AreSteps going.fresh going.moves now.client
+  not_done : NotDone now.client.outcome
+
+quiet_turn : {L R : Type 0} (views : LinkViews L) (left_of : R → Option (List ℕ)) (job : Job) (first : L) (coming0 : Option (List (List ℕ))) (given : GivenFiles) (was now : LoopState L R) (moves : List JobMove) → AreQuiet moves → MovesAll views left_of was moves now
+    → StandsBySteps views left_of job first coming0 given was → StandsBySteps views left_of job first coming0 given now
+quiet_turn views left_of job first coming0 given was now [] quiet same s = subst (StandsBySteps views left_of job first coming0 given) (sym same) s
+quiet_turn views left_of job first coming0 given was now (move ∷ moves) quiet m s =
+    let r = quiet_turn views left_of job first coming0 given was m.0 moves quiet.1 m.1 s in
+    let h = going_moved views left_of job first coming0 given m.0 now move m.2 r.going in
+    let adds = moved_adds views left_of job first coming0 given m.0 now move m.2 r.going in
+    let steps = steps_quiet r.going.fresh r.going.moves m.0.client move now.client r.steps (r.going.notes_are.write_failed ∙ m.2.up) quiet.0 m.2.client in
+    record {
+      going = h;
+      steps = subst (λ (l : List JobMove). AreSteps h.fresh l now.client) (sym adds.0) (subst (λ (c : ClientState). AreSteps c (move ∷ r.going.moves) now.client) (sym adds.1) steps);
+      not_done = quiet_not_done m.0.client move now.client quiet.0 m.2.client r.not_done;
+    }
+
+-- how far a job is behind a turn: all that came brought its bytes of the file, or what came last has still to
+pub record HasTurned {L R : Type 0} (views : LinkViews L) (left_of : R → Option (List ℕ)) (job : Job) (first : L) (coming0 : Option (List (List ℕ))) (given : GivenFiles) (came : Bool) (now : LoopState L R) : Type 0 where
+  pub going : FullRunInvariant views left_of job first coming0 given now.notes now.links now.coming now.stream now.client
+  pub steps : (AreSteps going.fresh going.moves now.client × NotDone now.client.outcome × (came ≡ true → is_running now.client.outcome ≡ false)) ⊎ (LastDelivers job.task going.fresh going.moves now.client × (came ≡ true))
+
+delivers_turn : {L R : Type 0} (views : LinkViews L) (left_of : R → Option (List ℕ)) (job : Job) (first : L) (coming0 : Option (List (List ℕ))) (given : GivenFiles) (came : Bool) (was now : LoopState L R) (move : JobMove) (before : List JobMove) → IsDelivery move → AreQuiet before → came ≡ true → MovesAll views left_of was (move ∷ before) now
+    → StandsBySteps views left_of job first coming0 given was → HasTurned views left_of job first coming0 given came now
+delivers_turn views left_of job first coming0 given came was now move before delivers quiet is m s =
+    let r = quiet_turn views left_of job first coming0 given was m.0 before quiet m.1 s in
+    let h = going_moved views left_of job first coming0 given m.0 now move m.2 r.going in
+    let adds = moved_adds views left_of job first coming0 given m.0 now move m.2 r.going in
+    record {
+      going = h;
+      steps = inr (
+        record {
+          before = r.going.moves;
+          move = move;
+          mid = m.0.client;
+          moves_are = adds.0;
+          steps = subst (λ (c : ClientState). AreSteps c r.going.moves m.0.client) (sym adds.1) r.steps;
+          up = r.going.notes_are.write_failed ∙ m.2.up;
+          delivers = delivers;
+          leads = m.2.client;
+          task_is = ap (λ (x : JobTarget). x.task) r.going.stage.target;
+        },
+        is,
+      );
+    }
+
+pub turns_on : {L R : Type 0} (views : LinkViews L) (left_of : R → Option (List ℕ)) (job : Job) (first : L) (coming0 : Option (List (List ℕ))) (given : GivenFiles) (came : Bool) (was now : LoopState L R) (moves : List JobMove) → AreOfTurn came now.client moves → MovesAll views left_of was moves now
+    → is_running was.client.outcome ≡ true → (g : FullRunInvariant views left_of job first coming0 given was.notes was.links was.coming was.stream was.client) → AreStepsSoFar job.task g.fresh g.moves was.client → HasTurned views left_of job first coming0 given came now
+turns_on views left_of job first coming0 given came was now moves turn m runs g s = by turn
+  where
+    from : StandsBySteps views left_of job first coming0 given was
+    from = record { going = g; steps = all_given job.task g.fresh g.moves was.client runs s; not_done = running_not_done was.client.outcome runs }
+
+    by : AreOfTurn came now.client moves → HasTurned views left_of job first coming0 given came now
+    by (Quiet quiet over) = let r = quiet_turn views left_of job first coming0 given was now moves quiet m from in record { going = r.going; steps = inl (r.steps, r.not_done, over) }
+    by (Delivered move before e delivers quiet is) = delivers_turn views left_of job first coming0 given came was now move before delivers quiet is (subst (λ (l : List JobMove). MovesAll views left_of was l now) e m) from
+
+-- ---- behind it
+
+-- nothing goes out: nothing came, or the job is over
+pub turned_still : {L R : Type 0} (views : LinkViews L) (left_of : R → Option (List ℕ)) (job : Job) (first : L) (coming0 : Option (List (List ℕ))) (given : GivenFiles) (came : Bool) (now : LoopState L R) (t : HasTurned views left_of job first coming0 given came now) → (came ≡ false) ⊎ (is_running now.client.outcome ≡ false)
+    → AreStepsSoFar job.task t.going.fresh t.going.moves now.client
+turned_still views left_of job first coming0 given came now t none = by t.steps none
+  where
+    by : (AreSteps t.going.fresh t.going.moves now.client × NotDone now.client.outcome × (came ≡ true → is_running now.client.outcome ≡ false)) ⊎ (LastDelivers job.task t.going.fresh t.going.moves now.client × (came ≡ true)) → (came ≡ false) ⊎ (is_running now.client.outcome ≡ false)
+        → AreStepsSoFar job.task t.going.fresh t.going.moves now.client
+    by (inl all) either = AllGiven all.0 all.1
+    by (inr last) (inl off) = absurd (let clash : true ≡ false = sym last.1 ∙ off in cc)
+    by (inr last) (inr over) = ToBeGiven last.0 over
+
+pub turned_delivers : {L R : Type 0} (views : LinkViews L) (left_of : R → Option (List ℕ)) (job : Job) (first : L) (coming0 : Option (List (List ℕ))) (given : GivenFiles) (came : Bool) (now : LoopState L R) (t : HasTurned views left_of job first coming0 given came now) → came ≡ true → is_running now.client.outcome ≡ true
+    → LastDelivers job.task t.going.fresh t.going.moves now.client
+turned_delivers views left_of job first coming0 given came now t is runs = by t.steps
+  where
+    by : (AreSteps t.going.fresh t.going.moves now.client × NotDone now.client.outcome × (came ≡ true → is_running now.client.outcome ≡ false)) ⊎ (LastDelivers job.task t.going.fresh t.going.moves now.client × (came ≡ true)) → LastDelivers job.task t.going.fresh t.going.moves now.client
+    by (inl all) = absurd (let clash : true ≡ false = sym runs ∙ all.2 is in cc)
+    by (inr last) = last.0

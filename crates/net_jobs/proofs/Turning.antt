@@ -7,12 +7,13 @@ use Rattle.sane_fixed.specs.declared.status.Status.TheVariants as statuses
 use Rattle.scan_job.specs.declared.outcome.Why.TheVariants as whys
 use Rattle.client_replies.specs.declared.progress.Link.TheVariants as links
 use Rattle.client_replies.specs.ProtocolStates.{is_running}
-use Rattle.net_client.specs.ClientStates.{ClientState, after_client_end}
+use Rattle.net_client.specs.ClientStates.{ClientState, HasEarlyReply, after_client_end}
 use Rattle.net_jobs.specs.declared.calls.Loss.{Loss}
 use Rattle.net_jobs.specs.declared.calls.Loss.TheVariants.{UsedUp, DialFailed}
 use Rattle.net_jobs.specs.JobJournal.{JobMove, Writes, Fails, Hears, Resumes, Dials, Takes, Loses, HearsPiece, after_loss}
 use Rattle.net_jobs.specs.Links.{JobLinks, LinkViews, views_of, with_port}
-use Rattle.net_jobs.specs.Inside.{Heard, Lost, Took, Missed, Made, Refused, Whole, Short, CallNotes, LoopState, MovesAll, HearsOrLoses, TakesOrLoses, DialsOrLoses, TakesLeave}
+use Rattle.net_jobs.specs.Inside.{Heard, Lost, Took, Missed, Made, Refused, Whole, Short, CallNotes, LoopState, MovesAll, AreOfTurn, AreQuiet, Quiet, Delivered, HearsOrLoses, TakesOrLoses, DialsOrLoses, TakesLeave}
+use Rattle.net_jobs.proofs.DataLoop.{lost_wanted}
 use Rattle.net_jobs.proofs.RunInvariants.{out_lost}
 
 abbrev pub noted_as : Option Loss → Bool → CallNotes
@@ -21,21 +22,49 @@ noted_as loss failed = record { loss = loss; write_failed = failed }
 abbrev pub loop_at : {L R : Type 0} → ClientState → L → Option (List (List ℕ)) → Option R → Option Loss → Bool → LoopState L R
 loop_at c links coming stream loss failed = record { client = c; links = links; coming = coming; stream = stream; notes = noted_as loss failed }
 
-same_notes : (a b : Option Loss) (f g : Bool) → a ≡ b → f ≡ g → noted_as a f ≡ noted_as b g
+pub same_notes : (a b : Option Loss) (f g : Bool) → a ≡ b → f ≡ g → noted_as a f ≡ noted_as b g
 same_notes a b f g loss failed = ap (λ (l : Option Loss). noted_as l f) loss ∙ ap (λ (x : Bool). noted_as b x) failed
 
 -- some bytes are not none
 pub some_taken : (n : ℕ) (xs : List ℕ) → n ≤ length xs → (n ≡ 0 → ⊥) → take n xs ≢ []
 some_taken n xs within some e = some (omega (arith, length-take n xs, ap (λ (l : List ℕ). length l) e))
 
+pub few_taken : (n most : ℕ) (xs : List ℕ) → length xs ≤ most → length (take n xs) ≤ most
+few_taken n most xs few = omega (arith, few, length-take n xs)
+
 pub some_left : (n : ℕ) (xs : List ℕ) → n < length xs → drop n xs ≢ []
 some_left n xs short e = absurd (omega (arith, length-drop n xs, ap (λ (l : List ℕ). length l) e))
 
 -- ---- one call after another
 
-pub turn_resumes : {L R : Type 0} (views : LinkViews L) (left_of : R → Option (List ℕ)) (old fed : ClientState) (at_links : L) (coming : Option (List (List ℕ))) (stream : Option R) (loss : Option Loss) (failed : Bool) → failed ≡ false → HearsPiece old [] fed
-    → MovesAll views left_of (loop_at old at_links coming stream loss failed) (Resumes ∷ []) (loop_at fed at_links coming stream loss failed)
-turn_resumes views left_of old fed at_links coming stream loss failed up hears = (loop_at old at_links coming stream loss failed, refl, record { of_links = tt; up = up; client = hears; links = refl; data_is = (refl, refl); notes = refl })
+pub turn_resumes : {L R : Type 0} (views : LinkViews L) (left_of : R → Option (List ℕ)) (old fed : ClientState) (at_links : L) (coming : Option (List (List ℕ))) (stream : Option R) (loss : Option Loss) (failed : Bool) → failed ≡ false → HearsPiece old [] fed → HasEarlyReply old
+    → (more : List JobMove) × AreOfTurn true fed more × MovesAll views left_of (loop_at old at_links coming stream loss failed) more (loop_at fed at_links coming stream loss failed)
+turn_resumes views left_of old fed at_links coming stream loss failed up hears early = (
+  Resumes ∷ [],
+  Delivered Resumes [] refl tt tt refl,
+  (loop_at old at_links coming stream loss failed, refl, record { of_links = tt; up = up; client = (hears, early); links = refl; data_is = (refl, refl); notes = refl }),
+)
+
+-- a job that is not over runs
+pub runs_by : (b result : Bool) → result ≡ not b → result ≡ false → b ≡ true
+runs_by true result e off = refl
+runs_by false result e off = absurd (let clash : true ≡ false = sym e ∙ off in cc)
+
+pub is_over_by : (b result : Bool) → result ≡ not b → result ≡ true → b ≡ false
+is_over_by true result e on = absurd (let clash : true ≡ false = sym on ∙ e in cc)
+is_over_by false result e on = refl
+
+-- nothing came
+pub never_came : {b : Bool} → false ≡ true → b ≡ false
+never_came e = absurd (let clash : false ≡ true = e in cc)
+
+-- nothing is done
+pub turn_idles : {L R : Type 0} (views : LinkViews L) (left_of : R → Option (List ℕ)) (old : ClientState) (s : LoopState L R) → (more : List JobMove) × AreOfTurn false old more × MovesAll views left_of s more s
+turn_idles views left_of old s = ([], Quiet tt never_came, refl)
+
+-- a job that has lost a connection is over
+lost_over : (old new : ClientState) → new ≡ after_client_end statuses.IoError whys.Lost old → is_running new.outcome ≡ false
+lost_over old new e = ap (λ (v : ClientState). is_running v.outcome) e
 
 pub turn_writes : {C D R : Type 0} (remaining contents : C → Option (List ℕ)) (ports : D → Option (List ℕ)) (left_of : R → Option (List ℕ)) (first : LoopState (JobLinks C D) R) (moves : List JobMove) (old new : ClientState) (control now : C) (dial : D) (coming : Option (List (List ℕ))) (stream : Option R) (loss lost : Option Loss) (failed fails : Bool)
     → failed ≡ false → lost ≡ loss → fails ≡ false → Appends (contents control) (contents now) old.out → new.out ≡ [] → new ≡ record old { out = new.out }
@@ -75,17 +104,19 @@ turn_fails remaining contents ports left_of first moves old short new control no
 pub turn_dials : {C D R : Type 0} (remaining contents : C → Option (List ℕ)) (ports : D → Option (List ℕ)) (left_of : R → Option (List ℕ)) (first : LoopState (JobLinks C D) R) (moves : List JobMove) (old new : ClientState) (control : C) (dial then_ : D) (was now : Option (List (List ℕ))) (stream made : Option R) (lost : Option Loss) (failed fails : Bool) (port : ℕ)
     → failed ≡ false → fails ≡ failed → ports then_ ≡ with_port port (ports dial) → DialsOrLoses left_of old was port new now made lost
     → MovesAll (views_of remaining contents ports) left_of first moves (loop_at old (record { control = control; dial = dial }) was stream None failed)
-    → (more : List JobMove) × MovesAll (views_of remaining contents ports) left_of first more (loop_at new (record { control = control; dial = then_ }) now made lost fails)
-turn_dials remaining contents ports left_of first moves old new control dial then_ was now stream made lost failed fails port up still asked (Made conn made_is brings dials none) m = (
+    → AreQuiet moves → (more : List JobMove) × AreOfTurn false new more × MovesAll (views_of remaining contents ports) left_of first more (loop_at new (record { control = control; dial = then_ }) now made lost fails)
+turn_dials remaining contents ports left_of first moves old new control dial then_ was now stream made lost failed fails port up still asked (Made conn made_is brings dials none) m quiet = (
   Dials port true ∷ moves,
+  Quiet (tt, quiet) never_came,
   (
     loop_at old (record { control = control; dial = dial }) was stream None failed,
     m,
     record { of_links = tt; up = up; client = dials; links = (refl, refl, asked); data_is = (conn, made_is, brings); notes = same_notes lost None fails failed none still },
   ),
 )
-turn_dials remaining contents ports left_of first moves old new control dial then_ was now stream made lost failed fails port up still asked (Refused same misses is) m = (
+turn_dials remaining contents ports left_of first moves old new control dial then_ was now stream made lost failed fails port up still asked (Refused same misses is) m quiet = (
   Dials port false ∷ moves,
+  Quiet (tt, quiet) never_came,
   (
     loop_at old (record { control = control; dial = dial }) was stream None failed,
     m,
@@ -96,17 +127,19 @@ turn_dials remaining contents ports left_of first moves old new control dial the
 pub turn_hears : {C D R : Type 0} (remaining contents : C → Option (List ℕ)) (ports : D → Option (List ℕ)) (left_of : R → Option (List ℕ)) (first : LoopState (JobLinks C D) R) (moves : List JobMove) (old new : ClientState) (control now : C) (dial : D) (coming : Option (List (List ℕ))) (stream : Option R) (lost : Option Loss) (failed fails : Bool)
     → failed ≡ false → fails ≡ failed → HearsOrLoses old (remaining control) new (remaining now) lost
     → MovesAll (views_of remaining contents ports) left_of first moves (loop_at old (record { control = control; dial = dial }) coming stream None failed)
-    → (more : List JobMove) × MovesAll (views_of remaining contents ports) left_of first more (loop_at new (record { control = now; dial = dial }) coming stream lost fails)
-turn_hears remaining contents ports left_of first moves old new control now dial coming stream lost failed fails up still (Heard piece some consumed hears none) m = (
+    → AreQuiet moves → (more : List JobMove) × AreOfTurn true new more × MovesAll (views_of remaining contents ports) left_of first more (loop_at new (record { control = now; dial = dial }) coming stream lost fails)
+turn_hears remaining contents ports left_of first moves old new control now dial coming stream lost failed fails up still (Heard piece some consumed hears none) m quiet = (
   Hears piece ∷ moves,
+  Delivered (Hears piece) moves refl tt quiet refl,
   (
     loop_at old (record { control = control; dial = dial }) coming stream None failed,
     m,
     record { of_links = tt; up = up; client = (hears, some); links = (consumed, refl); data_is = (refl, refl); notes = same_notes lost None fails failed none still },
   ),
 )
-turn_hears remaining contents ports left_of first moves old new control now dial coming stream lost failed fails up still (Lost reason consumed loses is) m = (
+turn_hears remaining contents ports left_of first moves old new control now dial coming stream lost failed fails up still (Lost reason consumed loses is) m quiet = (
   Loses links.Control reason ∷ moves,
+  Quiet (tt, quiet) (λ _. lost_over old new loses.new_is),
   (
     loop_at old (record { control = control; dial = dial }) coming stream None failed,
     m,
@@ -116,9 +149,10 @@ turn_hears remaining contents ports left_of first moves old new control now dial
 
 pub turn_sees : {L R : Type 0} (views : LinkViews L) (left_of : R → Option (List ℕ)) (old new : ClientState) (at_links : L) (coming : Option (List (List ℕ))) (stream kept : Option R) (conn : R) (lost : Option Loss) (failed fails : Bool) → Consumes (views.remaining at_links) (views.remaining at_links) [] → stream ≡ Some conn
     → failed ≡ false → fails ≡ failed → TakesOrLoses left_of old conn new kept lost
-    → (more : List JobMove) × MovesAll views left_of (loop_at old at_links coming stream None failed) more (loop_at new at_links coming kept lost fails)
+    → (more : List JobMove) × AreOfTurn true new more × MovesAll views left_of (loop_at old at_links coming stream None failed) more (loop_at new at_links coming kept lost fails)
 turn_sees views left_of old new at_links coming stream kept conn lost failed fails none_read is_open up still (Took piece behind some consumed takes kept_is none) = (
   Takes piece ∷ [],
+  Delivered (Takes piece) [] refl tt tt refl,
   (
     loop_at old at_links coming stream None failed,
     refl,
@@ -127,6 +161,7 @@ turn_sees views left_of old new at_links coming stream kept conn lost failed fai
 )
 turn_sees views left_of old new at_links coming stream kept conn lost failed fails none_read is_open up still (Missed reason loses is) = (
   Loses links.Image reason ∷ [],
+  Quiet (tt, tt) (λ _. lost_over old new loses.new_is),
   (
     loop_at old at_links coming stream None failed,
     refl,
@@ -136,18 +171,22 @@ turn_sees views left_of old new at_links coming stream kept conn lost failed fai
 
 pub turn_used_up : {L R : Type 0} (views : LinkViews L) (left_of : R → Option (List ℕ)) (old new : ClientState) (at_links : L) (coming : Option (List (List ℕ))) (stream : Option R) (loss lost : Option Loss) (failed fails : Bool) → Consumes (views.remaining at_links) (views.remaining at_links) []
     → failed ≡ false → fails ≡ failed → lost ≡ Some UsedUp → is_running old.outcome ≡ true → new ≡ after_loss links.Control old
-    → MovesAll views left_of (loop_at old at_links coming stream loss failed) (Loses links.Control UsedUp ∷ []) (loop_at new at_links coming stream lost fails)
+    → (more : List JobMove) × AreOfTurn false new more × MovesAll views left_of (loop_at old at_links coming stream loss failed) more (loop_at new at_links coming stream lost fails)
 turn_used_up views left_of old new at_links coming stream loss lost failed fails none_read up still is running lost_is = (
-  loop_at old at_links coming stream loss failed,
-  refl,
-  record {
-    of_links = tt;
-    up = up;
-    client = record { lost = running; new_is = lost_is ∙ ap (λ (b : Bool). if b then after_client_end statuses.IoError whys.Lost old else old) running };
-    links = (none_read, refl);
-    data_is = refl;
-    notes = same_notes lost (Some UsedUp) fails failed is still;
-  },
+  Loses links.Control UsedUp ∷ [],
+  Quiet (tt, tt) never_came,
+  (
+    loop_at old at_links coming stream loss failed,
+    refl,
+    record {
+      of_links = tt;
+      up = up;
+      client = record { lost = running; new_is = lost_is ∙ ap (λ (b : Bool). if b then after_client_end statuses.IoError whys.Lost old else old) running };
+      links = (none_read, refl);
+      data_is = refl;
+      notes = same_notes lost (Some UsedUp) fails failed is still;
+    },
+  ),
 )
 
 -- ---- while the job runs nothing is lost
@@ -158,6 +197,12 @@ over_by old new e running = let clash : false ≡ true = sym (ap (λ (v : Client
 pub hears_held : (old new : ClientState) (was now : Option (List ℕ)) (lost : Option Loss) → HearsOrLoses old was new now lost → is_running new.outcome ≡ true → lost ≡ None
 hears_held old new was now lost (Heard piece some consumed hears none) running = none
 hears_held old new was now lost (Lost reason consumed loses is) running = absurd (over_by old new loses.new_is running)
+
+pub dials_held : {R : Type 0} (left_of : R → Option (List ℕ)) (old new : ClientState) (was now : Option (List (List ℕ))) (port : ℕ) (made : Option R) (lost : Option Loss) → DialsOrLoses left_of old was port new now made lost → is_running new.outcome ≡ true → lost ≡ None
+dials_held left_of old new was now port made lost (Made conn is brings dials none) running = none
+dials_held left_of old new was now port made lost (Refused same misses is) running =
+    let new_is = misses.new_is ∙ ap (λ (b : Bool). if b then after_client_end statuses.IoError whys.Lost old else old) (lost_wanted old.outcome old.progress port misses.running misses.wanted) in
+    absurd (over_by old new new_is running)
 
 pub takes_held : {R : Type 0} (left_of : R → Option (List ℕ)) (old new : ClientState) (conn : R) (kept : Option R) (lost : Option Loss) → TakesOrLoses left_of old conn new kept lost → is_running new.outcome ≡ true → lost ≡ None
 takes_held left_of old new conn kept lost (Took piece behind some consumed takes kept_is none) running = none
@@ -172,10 +217,10 @@ pub cut_over : (old new : ClientState) → new ≡ after_loss links.Control old 
 cut_over old new e running = over_if (is_running old.outcome) old new refl e running
 
 -- the same notes to begin with
-pub turn_from : {L R : Type 0} (views : LinkViews L) (left_of : R → Option (List ℕ)) (old : ClientState) (at_links : L) (coming : Option (List (List ℕ))) (stream : Option R) (was loss : Option Loss) (before failed : Bool) (now : LoopState L R) → loss ≡ was → failed ≡ before
-    → (moves : List JobMove) × MovesAll views left_of (loop_at old at_links coming stream loss failed) moves now → (moves : List JobMove) × MovesAll views left_of (loop_at old at_links coming stream was before) moves now
-turn_from views left_of old at_links coming stream was loss before failed now same still m =
-    subst (λ (n : CallNotes). (moves : List JobMove) × MovesAll views left_of (record { client = old; links = at_links; coming = coming; stream = stream; notes = n }) moves now) (same_notes loss was failed before same still) m
+pub turn_from : {L R : Type 0} (views : LinkViews L) (left_of : R → Option (List ℕ)) (came : Bool) (old : ClientState) (at_links : L) (coming : Option (List (List ℕ))) (stream : Option R) (was loss : Option Loss) (before failed : Bool) (now : LoopState L R) → loss ≡ was → failed ≡ before
+    → (moves : List JobMove) × AreOfTurn came now.client moves × MovesAll views left_of (loop_at old at_links coming stream loss failed) moves now → (moves : List JobMove) × AreOfTurn came now.client moves × MovesAll views left_of (loop_at old at_links coming stream was before) moves now
+turn_from views left_of came old at_links coming stream was loss before failed now same still m =
+    subst (λ (n : CallNotes). (moves : List JobMove) × AreOfTurn came now.client moves × MovesAll views left_of (record { client = old; links = at_links; coming = coming; stream = stream; notes = n }) moves now) (same_notes loss was failed before same still) m
 
 -- ---- leave is taken
 

@@ -1,10 +1,10 @@
 -- What private functions promise: one turn of a job, bytes written and read, files drained, pages filed.
-use Rattle.std.specs.Prelude.{ℕ, zero, suc, Bool, true, false, Option, None, Some, Result, Ok, Err, ◌≡◌, ◌≤◌, List, length, take, drop, [], ◌∷◌, ◌+◌, ◌≢◌, ◌<◌, if◌then◌else◌, ◌++◌, ⊤, ◌⊎◌, All}
+use Rattle.std.specs.Prelude.{ℕ, zero, suc, Bool, true, false, Option, None, Some, Result, Ok, Err, ◌≡◌, ◌≤◌, List, length, take, drop, [], ◌∷◌, ◌+◌, ◌-◌, ◌≢◌, ◌<◌, if◌then◌else◌, ◌++◌, ⊤, ◌⊎◌, All, IfSome, option_map}
 use Rattle.std.specs.IoError.{error_kind}
 use Rattle.std.specs.declared.io.Error.{Error}
 use Rattle.std.specs.declared.io.ErrorKind.{ErrorKind}
 use Rattle.std.specs.declared.io.ErrorKind.TheVariants.{Interrupted}
-use Rattle.std.specs.Io.KnownBytes.{Appends, Consumes}
+use Rattle.std.specs.Io.KnownBytes.{Appends, Consumes, prepend_known}
 use Rattle.net_client.specs.ClientStates.{ClientState, ClientRepresents, TurnsPage}
 use Rattle.scan_job.specs.declared.job.Job.{Job}
 use Rattle.scan_job.specs.declared.outcome.Outcome.{Outcome}
@@ -26,10 +26,11 @@ use Rattle.sane_fixed.specs.declared.status.Status.TheVariants as statuses
 use Rattle.scan_job.specs.declared.outcome.Why.TheVariants as whys
 use Rattle.net_jobs.specs.declared.calls.Loss.{Loss}
 use Rattle.net_jobs.specs.declared.calls.Loss.TheVariants.{ReadFailed, StreamEnded, DialFailed}
-use Rattle.net_jobs.specs.JobJournal.{AreGives, JobMove, MovesLead, Fails, Dials, Takes, Gives, Loses, MoveLeads, HearsPiece, TakesPiece, DialsPort, MissesPort, LosesLink, has_write_failed, given_by}
+use Rattle.net_jobs.specs.JobJournal.{AreGives, IsPiece, JobMove, Hears, Resumes, MovesLead, Fails, Dials, Takes, Gives, Loses, MoveLeads, HearsPiece, TakesPiece, DialsPort, MissesPort, LosesLink, has_write_failed, given_by}
 use Rattle.net_jobs.specs.JobTraces.{TraceEvent, EndWell}
 use Rattle.net_jobs.specs.JobTraces.TraceEvent.{Opened}
 use Rattle.net_jobs.specs.declared.calls.CallTally.{CallTally}
+use Rattle.net_jobs.specs.declared.running.DataStream.{DataStream}
 use Rattle.net_jobs.specs.Links.{JobLinks, LinkViews, Called, DialBrings}
 use Rattle.net_jobs.specs.RunPromises.{SeenStreams, RanDone, RanEnded, RanWithTrace, HasEndingCause, IsToldAs}
 use Rattle.net_jobs.specs.Batches.{BatchDone, BatchEnded, IsPageFile, MayScan, RefusesLastPage, pages_of}
@@ -111,6 +112,28 @@ no_notes = record { loss = None; write_failed = false }
 abbrev pub notes_of : CallTally → CallNotes
 notes_of tally = record { loss = tally.loss; write_failed = tally.write_failed }
 
+-- a data connection, with the bytes that were read of it and are not taken yet
+pub record ReadAhead (R : Type 0) : Type 0 where
+  pub conn : R
+  pub ahead : List ℕ
+
+-- by where these lie among the bytes that the loop has room for
+abbrev pub read_ahead : {R : Type 0} → List ℕ → DataStream R → ReadAhead R
+read_ahead room stream = record { conn = stream.conn; ahead = take (stream.end - stream.at) (drop stream.at room) }
+
+abbrev pub ahead_of : {R : Type 0} → Option (DataStream R) → List ℕ → Option (ReadAhead R)
+ahead_of stream room = option_map (read_ahead room) stream
+
+-- what of a connection is still to be taken
+abbrev pub left_ahead : {R : Type 0} → (R → Option (List ℕ)) → ReadAhead R → Option (List ℕ)
+left_ahead left_of stream = prepend_known stream.ahead (left_of stream.conn)
+
+abbrev pub LiesWithin : {R : Type 0} → DataStream R → List ℕ → Type 0
+LiesWithin stream room = (stream.at ≤ stream.end) × (stream.end ≤ length room)
+
+abbrev pub IfOpenLiesWithin : {R : Type 0} → Option (DataStream R) → List ℕ → Type 0
+IfOpenLiesWithin stream room = IfSome stream (λ s. LiesWithin s room)
+
 -- where a loop is: its client, its links, the bytes of the data connections to come, the one that is open, and what became of
 -- its calls
 pub record LoopState (L R : Type 0) : Type 0 where
@@ -120,7 +143,7 @@ pub record LoopState (L R : Type 0) : Type 0 where
   pub stream : Option R
   pub notes : CallNotes
 
-abbrev pub loop_state : {C D R : Type 0} → (D → Option (List (List ℕ))) → ClientState → C → D → Option R → CallTally → LoopState (JobLinks C D) R
+abbrev pub loop_state : {C D R : Type 0} → (D → Option (List (List ℕ))) → ClientState → C → D → Option (ReadAhead R) → CallTally → LoopState (JobLinks C D) (ReadAhead R)
 loop_state coming client control dial stream tally = record {
   client = client;
   links = record { control = control; dial = dial };
@@ -158,6 +181,30 @@ pub record Moves {L R : Type 0} (views : LinkViews L) (left_of : R → Option (L
   pub data_is : DataCalled left_of was move now
   pub notes : now.notes ≡ notes_after move was.notes
 
+-- a move by which nothing comes and no byte of a file goes out
+abbrev pub IsQuiet : JobMove → Type 0
+IsQuiet (Hears piece) = ⊥
+IsQuiet (Takes piece) = ⊥
+IsQuiet (Gives bytes) = ⊥
+IsQuiet Resumes = ⊥
+IsQuiet move = Unit {0}
+
+-- one by which a piece comes, or what came too soon
+abbrev pub IsDelivery : JobMove → Type 0
+IsDelivery (Hears piece) = Unit {0}
+IsDelivery (Takes piece) = Unit {0}
+IsDelivery Resumes = Unit {0}
+IsDelivery move = ⊥
+
+abbrev pub AreQuiet : List JobMove → Type 0
+AreQuiet [] = Unit {0}
+AreQuiet (move ∷ moves) = IsQuiet move × AreQuiet moves
+
+-- the moves of a turn that leads to that client: with its newest something comes, if that is told, or it ends the job
+pub data AreOfTurn (came : Bool) (now : ClientState) (moves : List JobMove) : Type 0 where
+  Quiet : AreQuiet moves → (came ≡ true → is_running now.outcome ≡ false) → AreOfTurn came now moves
+  Delivered : (move : JobMove) (before : List JobMove) → moves ≡ move ∷ before → IsDelivery move → AreQuiet before → came ≡ true → AreOfTurn came now moves
+
 -- moves one after another, the newest first
 abbrev pub MovesAll : {L R : Type 0} → LinkViews L → (R → Option (List ℕ)) → LoopState L R → List JobMove → LoopState L R → Type 0
 MovesAll views left_of first [] now = now ≡ first
@@ -179,12 +226,12 @@ IsLost loss = (reason : Loss) × (loss ≡ Some reason)
 
 -- a read of the control connection: a piece that the client hears, or none, and the connection is lost
 pub data HearsOrLoses (old : ClientState) (was : Option (List ℕ)) (new : ClientState) (now : Option (List ℕ)) (loss : Option Loss) : Type 0 where
-  Heard : (piece : List ℕ) → piece ≢ [] → Consumes was now piece → HearsPiece old piece new → loss ≡ None → HearsOrLoses old was new now loss
+  Heard : (piece : List ℕ) → IsPiece piece → Consumes was now piece → HearsPiece old piece new → loss ≡ None → HearsOrLoses old was new now loss
   Lost : (reason : Loss) → Consumes was now [] → LosesLink old links.Control new → loss ≡ Some reason → HearsOrLoses old was new now loss
 
 -- one of a data connection, which is let go where no more of its frame is to come
 pub data TakesOrLoses {R : Type 0} (left_of : R → Option (List ℕ)) (old : ClientState) (conn : R) (new : ClientState) (kept : Option R) (loss : Option Loss) : Type 0 where
-  Took : (piece : List ℕ) (behind : R) → piece ≢ [] → Consumes (left_of conn) (left_of behind) piece → TakesPiece old piece new → kept ≡ (if is_receiving new.outcome new.progress then Some behind else None) → loss ≡ None
+  Took : (piece : List ℕ) (behind : R) → IsPiece piece → Consumes (left_of conn) (left_of behind) piece → TakesPiece old piece new → kept ≡ (if is_receiving new.outcome new.progress then Some behind else None) → loss ≡ None
       → TakesOrLoses left_of old conn new kept loss
   Missed : (reason : Loss) → LosesLink old links.Image new → loss ≡ Some reason → TakesOrLoses left_of old conn new kept loss
 

@@ -1,12 +1,12 @@
 -- What the loop of a job does, one move after another, and what each makes of the client by the client's own contracts.
-use Rattle.std.specs.Prelude.{ℕ, ◌≡◌, ◌≢◌, ◌<◌, if◌then◌else◌, Bool, true, false, Some, List, [], ◌∷◌, ◌++◌, length}
+use Rattle.std.specs.Prelude.{ℕ, ◌≡◌, ◌≢◌, ◌<◌, ◌≤◌, if◌then◌else◌, Bool, true, false, Some, List, [], ◌∷◌, ◌++◌, length}
 use Rattle.sane_fixed.specs.declared.status.Status.TheVariants as statuses
 use Rattle.frame_join.specs.FrameHistory.{JoinHistory}
 use Rattle.scan_job.specs.declared.outcome.Why.TheVariants as whys
 use Rattle.client_replies.specs.declared.progress.Link.{Link}
 use Rattle.client_replies.specs.declared.progress.Link.TheVariants as links
 use Rattle.client_replies.specs.ProtocolStates.{is_ended, is_lost_by, is_receiving, is_running, progress_connected, turns, wanted_port}
-use Rattle.net_client.specs.ClientStates.{ClientState, ClientRepresents, after_client_end, phase_connected}
+use Rattle.net_client.specs.ClientStates.{ClientState, ClientRepresents, HasEarlyReply, after_client_end, phase_connected}
 use Rattle.net_client.specs.FramePieces.{Receives}
 use Rattle.net_client.specs.ReplyPieces.{Heeds}
 use Rattle.net_client.specs.Taking.{TakesFile}
@@ -19,7 +19,7 @@ pub data JobMove : Type 0 where
   Fails : (bytes : List ℕ) → JobMove
   -- a piece of the control connection is heard
   Hears : (piece : List ℕ) → JobMove
-  -- what came of it too soon is looked at again
+  -- what came of it before it was asked for is looked at again
   Resumes : JobMove
   -- a data connection at that port is asked for, and made; or it is not, and is lost
   Dials : (port : ℕ) (made : Bool) → JobMove
@@ -80,14 +80,18 @@ pub record GivesFileBytes (old : ClientState) (bytes : List ℕ) (new : ClientSt
   pub same : is_ended old.outcome ≡ false → turns old.outcome old.progress ≡ false → new ≡ record old { join = new.join }
   pub taken : (past : JoinHistory) → ClientRepresents past old → TakesFile old past room bytes new
 
+-- 1 to 4,096 bytes
+abbrev pub IsPiece : List ℕ → Type 0
+IsPiece piece = (piece ≢ []) × (length piece ≤ 4096)
+
 abbrev pub MoveLeads : ClientState → JobMove → ClientState → Type 0
 MoveLeads c (Writes bytes) e = WritesAll c bytes e
 MoveLeads c (Fails bytes) e = WritesShort c bytes e
-MoveLeads c (Hears piece) e = HearsPiece c piece e × (piece ≢ [])
-MoveLeads c Resumes e = HearsPiece c [] e
+MoveLeads c (Hears piece) e = HearsPiece c piece e × IsPiece piece
+MoveLeads c Resumes e = HearsPiece c [] e × HasEarlyReply c
 MoveLeads c (Dials port true) e = DialsPort c port e
 MoveLeads c (Dials port false) e = MissesPort c port e
-MoveLeads c (Takes piece) e = TakesPiece c piece e × (piece ≢ [])
+MoveLeads c (Takes piece) e = TakesPiece c piece e × IsPiece piece
 MoveLeads c (Gives bytes) e = GivesFileBytes c bytes e
 MoveLeads c (Loses link reason) e = LosesLink c link e
 

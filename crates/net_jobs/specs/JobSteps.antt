@@ -1,32 +1,14 @@
 -- What the loop of a job does, step by step: a move, and the bytes of the job's file that go out behind it.
-use Rattle.std.specs.Prelude.{ℕ, ◌≡◌, ◌≢◌, ◌≤◌, ◌||◌, Bool, true, false, List, [], ◌∷◌, ◌++◌, length}
-use Rattle.client_replies.specs.ProtocolStates.{scans}
-use Rattle.net_client.specs.ClientStates.{ClientState}
-use Rattle.net_jobs.specs.JobJournal.{AreGives, HearsPiece, JobMove, MoveLeads, MovesLead, TakesPiece, given_by}
+use Rattle.std.specs.Prelude.{ℕ, ◌≡◌, ◌⊎◌, ◌||◌, Bool, true, false, List, [], ◌∷◌, ◌++◌}
+use Rattle.client_replies.specs.ProtocolStates.{is_ended, scans}
+use Rattle.net_client.specs.ClientStates.{ClientState, HasEarlyReply}
+use Rattle.net_jobs.specs.JobJournal.{AreGives, HearsPiece, IsPiece, JobMove, MoveLeads, MovesLead, TakesPiece, given_by}
 use Rattle.net_jobs.specs.JobJournal.JobMove.{Writes, Fails, Hears, Resumes, Dials, Takes, Gives, Loses}
-use Rattle.interleaving.specs.Interleavings.{Traffic}
-use Rattle.interleaving.specs.Interleavings.Traffic.{Writes as WritesBytes, Reads as ReadsBytes, Dials as MakesConnection, Takes as TakesBytes, NoTraffic}
 
 -- a move, and the moves by which bytes of the job's file go out behind it, the newest first
 pub record JobStep : Type 0 where
   pub move : JobMove
   pub gives : List JobMove
-
--- ---- what a step does on the job's connections
-
-abbrev pub traffic_of_move : JobMove → Traffic
-traffic_of_move (Writes bytes) = WritesBytes bytes
-traffic_of_move (Fails bytes) = WritesBytes bytes
-traffic_of_move (Hears piece) = ReadsBytes piece
-traffic_of_move Resumes = NoTraffic
-traffic_of_move (Dials port true) = MakesConnection
-traffic_of_move (Dials port false) = NoTraffic
-traffic_of_move (Takes piece) = TakesBytes piece
-traffic_of_move (Gives bytes) = NoTraffic
-traffic_of_move (Loses link reason) = NoTraffic
-
-abbrev pub traffic_of : JobStep → Traffic
-traffic_of step = traffic_of_move step.move
 
 -- ---- what a step makes of the client
 
@@ -37,14 +19,13 @@ pub record FileRunsOut (old : ClientState) (gives : List JobMove) (new : ClientS
   pub before : List JobMove
   pub dry : gives ≡ Gives [] ∷ before
 
--- a job that scans nothing has no file
-abbrev pub GivesOut : Bool → ClientState → List JobMove → ClientState → Type 0
-GivesOut true old gives new = FileRunsOut old gives new
-GivesOut false old gives new = (gives ≡ []) × (new ≡ old)
+abbrev pub GivesNone : ClientState → List JobMove → ClientState → Type 0
+GivesNone old gives new = (gives ≡ []) × (new ≡ old)
 
--- 1 to 4,096 bytes
-abbrev pub IsPiece : List ℕ → Type 0
-IsPiece piece = (piece ≢ []) × (length piece ≤ 4096)
+-- a job that scans nothing has no file, and one that has ended gives nothing more of it
+abbrev pub GivesOut : Bool → ClientState → List JobMove → ClientState → Type 0
+GivesOut true old gives new = FileRunsOut old gives new ⊎ ((is_ended old.outcome ≡ true) × GivesNone old gives new)
+GivesOut false old gives new = GivesNone old gives new
 
 -- a piece comes, and then bytes of the file go out
 pub record HearsAndGives (old : ClientState) (piece : List ℕ) (gives : List JobMove) (new : ClientState) : Type 0 where
@@ -59,12 +40,19 @@ pub record TakesAndGives (old : ClientState) (piece : List ℕ) (gives : List Jo
   pub takes : TakesPiece old piece taken
   pub gives_out : GivesOut (scans old.target.task) taken gives new
 
--- Looking again at what came too soon changes nothing; bytes of the file go out behind a piece alone.
+-- so they do where a reply came before its request was written
+pub record ResumesAndGives (old : ClientState) (gives : List JobMove) (new : ClientState) : Type 0 where
+  pub early : HasEarlyReply old
+  pub heard : ClientState
+  pub hears : HearsPiece old [] heard
+  pub gives_out : GivesOut (scans old.target.task) heard gives new
+
+-- bytes of the file go out behind no other move
 abbrev pub MoveAndGives : ClientState → JobMove → List JobMove → ClientState → Type 0
 MoveAndGives old (Hears piece) gives new = HearsAndGives old piece gives new
 MoveAndGives old (Takes piece) gives new = TakesAndGives old piece gives new
+MoveAndGives old Resumes gives new = ResumesAndGives old gives new
 MoveAndGives old (Gives bytes) gives new = ⊥
-MoveAndGives old Resumes gives new = (gives ≡ []) × (new ≡ old)
 MoveAndGives old move gives new = (gives ≡ []) × MoveLeads old move new
 
 abbrev pub StepLeads : ClientState → JobStep → ClientState → Type 0
@@ -88,3 +76,15 @@ StepsLead first (step ∷ steps) last = (mid : ClientState) × StepsLead first s
 abbrev pub given_by_steps : List JobStep → List ℕ
 given_by_steps [] = []
 given_by_steps (step ∷ steps) = given_by_steps steps ++ given_by step.gives
+
+-- ---- the moves of steps
+
+abbrev pub moves_of : List JobStep → List JobMove
+moves_of [] = []
+moves_of (step ∷ steps) = step.gives ++ step.move ∷ moves_of steps
+
+-- the moves are steps one after another
+pub record AreSteps (first : ClientState) (moves : List JobMove) (last : ClientState) : Type 0 where
+  pub steps : List JobStep
+  pub moves_are : moves ≡ moves_of steps
+  pub lead : StepsLead first steps last

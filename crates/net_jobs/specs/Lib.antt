@@ -1,4 +1,5 @@
 pub mod JobJournal
+pub mod JobSteps
 pub mod JobTraces
 pub mod Links
 pub mod RunPromises

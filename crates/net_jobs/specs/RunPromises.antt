@@ -23,6 +23,7 @@ use Rattle.scan_job.specs.declared.outcome.Why.TheVariants as whys
 use Rattle.scan_job.specs.declared.report.Reports.{Reports}
 use Rattle.scan_job.specs.declared.stop.Stop.{Stop}
 use Rattle.net_jobs.specs.JobJournal.{JobMove, MovesLead, bytes_written_by, heard_by, given_by, dialled_by, has_write_failed, HasLoss}
+use Rattle.net_jobs.specs.JobSteps.{AreSteps}
 use Rattle.net_jobs.specs.JobTraces.{JobTrace, BytesMatchTrace, EndWell, ports_named}
 use Rattle.net_jobs.specs.Links.{JobLinks, LinkViews, Calls, HasBrought, BeginWith}
 
@@ -80,12 +81,14 @@ pub record RanWithTrace {L O : Type 0} (views : LinkViews L) (job : Job) (was no
 
 -- The job is done, as the client's rules have it for these replies and frames. All was written, with CLOSE and EXIT, unless a
 -- write failed; each data connection began with its frame's records, which ended with EOF; and the output took the file of the
--- picture that the frames show, or nothing, where the job is no scan.
+-- picture that the frames show, or nothing, where the job is no scan. Each piece that came was followed by the bytes of the file
+-- that it brought.
 pub record RanDone {L : Type 0} (views : LinkViews L) (job : Job) (was now : SeenStreams L (Option (List ℕ))) (reports : Reports) : Type 0 where
   pub single : is_batch job.task ≡ false
   pub ran : RanWithTrace views job was now
   pub told : ran.trace.protocol.outcome ≡ Done reports
   pub last_told : ran.last.outcome ≡ Done reports
+  pub steps : AreSteps ran.first ran.moves ran.last
   pub all : has_write_failed ran.moves ≡ false → ran.left ≡ []
   pub read_all : ran.unread ≡ []
   pub end_well : EndWell ran.did.events
@@ -114,12 +117,14 @@ IsToldAs last told =
     (last ≡ told) ⊎ (((reports : Reports) × (last ≡ Done reports) × (told ≡ Ended statuses.NoMem whys.Memory)) ⊎ (told ≡ Ended statuses.IoError whys.Sink))
 
 -- The job has ended otherwise, with a cause. All that was to go out was written, unless a write failed, or the output did. The
--- output took what was given, or where it failed bytes more, and no whole file.
+-- output took what was given, or where it failed bytes more, and no whole file. Where it is told as the client ended, each piece
+-- that came was followed by the bytes of the file that it brought.
 pub record RanEnded {L : Type 0} (views : LinkViews L) (job : Job) (was now : SeenStreams L (Option (List ℕ))) (stop : Stop) : Type 0 where
   pub single : is_batch job.task ≡ false
   pub ran : RanWithTrace views job was now
   pub cause : HasEndingCause ran.moves ran.trace.protocol ran.rest (Ended stop.status stop.why)
   pub last_told : IsToldAs ran.last.outcome (Ended stop.status stop.why)
+  pub steps : ran.last.outcome ≡ Ended stop.status stop.why → AreSteps ran.first ran.moves ran.last
   pub all : stop.why ≢ whys.Sink → has_write_failed ran.moves ≡ false → ran.left ≡ []
   pub refusal : stop.status ≢ statuses.Good
   pub text : List ℕ

@@ -1,4 +1,4 @@
-ghost use Rattle.std.specs.Prelude.{◌≡◌, ◌<◌, ◌⊎◌, ◌+◌, ℕ, None, List, Option, true, false, length, option_map, [], Ok, IfOk, IfErr};
+ghost use Rattle.std.specs.Prelude.{◌≡◌, ◌<◌, ◌≤◌, ◌⊎◌, ◌+◌, ℕ, None, List, Option, true, false, length, option_map, [], Ok, IfOk, IfErr};
 ghost use Rattle.std.specs.Fn.{FnOnceReturnsAt};
 ghost use Rattle.scan_job.specs.declared.job.Job.{Job as JobValue};
 ghost use Rattle.scan_job.specs.JobSize.{HasCount};
@@ -171,7 +171,7 @@ fn run_client<C, D, S, T, F>(
     shelf: &mut S,
     under: &mut Option<S::Out>,
     is_scanning: bool,
-    piece: &mut [u8],
+    ahead: &mut [u8],
     room: &mut [u8],
     tally: &mut CallTally,
     tell: F,
@@ -182,7 +182,7 @@ where
     S: Shelf,
     T: Drop,
     F: FnOnce(&Reports) -> Result<T, NoMem> + Drop,
-    requires room { 0 < length room.old }
+    requires room { 4096 ≤ length room.old }
     requires new { notes_of tally.old ≡ no_notes }
     requires tell { F.IsAlwaysCallable tell }
     ensures came { (job : JobValue) → IsNewClient job client → HasCount job.task
@@ -197,7 +197,7 @@ where
     whole_shows();
     let mut stream = None;
     while !client.is_over() {
-        go_on(&mut client, control, dial, &mut stream, piece, room, tally);
+        go_on(&mut client, control, dial, &mut stream, ahead, room, tally);
         if !client.is_over() && !fill(&mut client, is_scanning, room, shelf, under, tally) {
             return Err(Stop::failed_output());
         }
@@ -262,7 +262,7 @@ where
     if let Some(fault) = job.fault() {
         return Err(stop_of_fault(fault));
     }
-    let mut read = piece(alloc)?;
+    let mut ahead = piece(alloc)?;
     let mut room = piece(alloc)?;
     let is_scanning = is_scanning(job.task);
     let client = match Client::new(alloc, job) {
@@ -278,7 +278,7 @@ where
         shelf,
         &mut under,
         is_scanning,
-        read.as_mut_slice(),
+        ahead.as_mut_slice(),
         room.as_mut_slice(),
         &mut tally,
         tell,

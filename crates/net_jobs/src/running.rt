@@ -10,7 +10,8 @@ ghost use Rattle.frame_join.specs.FrameHistory.{JoinHistory};
 ghost use Rattle.client_replies.specs.ProtocolStates.{is_running, is_receiving, is_batch, wanted_port};
 ghost use Rattle.net_client.specs.ClientStates.{IsNewClient};
 ghost use Rattle.net_jobs.specs.JobJournal.{JobMove, given_by};
-ghost use Rattle.net_jobs.specs.Inside.{GivesAll, HoldsGiven, IsDrainedTo, StopsBehind, StopsAs, DialsOrLoses, HasRunNoted, HearsOrLoses, IsLost, KeepsNotes, KeepsReads, KeepsWrites, MovesAll, TakesLeave, TakesOrLoses, loop_state, no_notes, notes_of, turns_to_go};
+ghost use Rattle.net_jobs.specs.JobSteps.{FileRunsOut};
+ghost use Rattle.net_jobs.specs.Inside.{AreOfTurn, HoldsGiven, IfOpenLiesWithin, LiesWithin, ahead_of, left_ahead, read_ahead, IsDrainedTo, StopsBehind, StopsAs, DialsOrLoses, HasRunNoted, HearsOrLoses, IsLost, KeepsNotes, KeepsReads, KeepsWrites, MovesAll, TakesLeave, TakesOrLoses, loop_state, no_notes, notes_of, turns_to_go};
 ghost use Rattle.net_jobs.specs.Links.{views_of, with_port};
 ghost use Rattle.net_jobs.specs.RunPromises.{RanDone, RanEnded, RefusesJob, refused_as, seen, streams};
 
@@ -28,6 +29,17 @@ pub(crate) const MOST_PULLS: u64 = 1 << 40;
 
 /// The most bytes that are read or written at once: a record of 65,540 bytes, as saned writes them, comes in one read.
 const PIECE: usize = 131_072;
+
+/// The most bytes that a client is given at once.
+const MOST_GIVEN: usize = 4096;
+
+/// A data connection, and where the bytes lie that were read of it and that its client has not taken yet.
+#[derive(Drop)]
+pub(crate) struct DataStream<R: Drop> {
+    conn: R,
+    at: usize,
+    end: usize,
+}
 
 /// Room for a piece.
 pub(crate) fn piece(alloc: Global) -> Result<Vec<u8>, AllocError>
@@ -140,6 +152,7 @@ fn read_piece<R: Read>(stream: &mut R, piece: &mut [u8], tally: &mut CallTally) 
 
 /// Reads the control connection once.
 fn hear<C: Read>(client: &mut Client, control: &mut C, piece: &mut [u8], tally: &mut CallTally)
+    requires few { length piece.old ≤ 4096 }
     requires running { is_running client.old.outcome ≡ true }
     requires quiet { is_receiving client.old.outcome client.old.progress ≡ false }
     requires held { tally.old.loss ≡ None }
@@ -154,28 +167,57 @@ fn hear<C: Read>(client: &mut Client, control: &mut C, piece: &mut [u8], tally: 
     }
 }
 
-/// Reads the data connection once, and lets it go after the end record.
-fn see<R: Read + Drop>(
-    client: &mut Client,
-    conn: R,
-    piece: &mut [u8],
+/// Reads the data connection once, where all that was read of it is taken. Says whether there are bytes to take.
+fn read_on<R: Read + Drop>(
+    stream: &mut DataStream<R>,
+    room: &mut [u8],
     tally: &mut CallTally,
-) -> Option<R>
-    requires receiving { is_receiving client.old.outcome client.old.progress ≡ true }
+) -> bool
+    requires within { LiesWithin stream.old room.old }
     requires held { tally.old.loss ≡ None }
-    ensures room { length piece.new ≡ length piece.old }
-    ensures seen { TakesOrLoses R.remaining client.old conn client.new result tally.new.loss }
+    ensures room { length room.new ≡ length room.old }
+    ensures within { LiesWithin stream.new room.new }
+    ensures bytes { Consumes (left_ahead R.remaining (read_ahead room.old stream.old))
+        (left_ahead R.remaining (read_ahead room.new stream.new)) [] }
+    ensures some { result ≡ true → stream.new.at < stream.new.end }
+    ensures held { result ≡ true → tally.new.loss ≡ None }
+    ensures none { result ≡ false → IsLost tally.new.loss }
     ensures writes { KeepsWrites tally.old tally.new }
 {
-    let mut conn = conn;
-    let n = read_piece(&mut conn, piece, tally);
-    if n == 0 {
+    if stream.at < stream.end {
+        return true;
+    }
+    stream.at = 0;
+    stream.end = read_piece(&mut stream.conn, room, tally);
+    stream.end > 0
+}
+
+/// Gives the client the next bytes of the data connection, and lets this go after the end record.
+fn see<R: Read + Drop>(
+    client: &mut Client,
+    stream: DataStream<R>,
+    room: &mut [u8],
+    tally: &mut CallTally,
+) -> Option<DataStream<R>>
+    requires receiving { is_receiving client.old.outcome client.old.progress ≡ true }
+    requires within { LiesWithin stream room.old }
+    requires held { tally.old.loss ≡ None }
+    ensures room { length room.new ≡ length room.old }
+    ensures within { IfOpenLiesWithin result room.new }
+    ensures seen { TakesOrLoses (left_ahead R.remaining) client.old (read_ahead room.old stream)
+        client.new (ahead_of result room.new) tally.new.loss }
+    ensures writes { KeepsWrites tally.old tally.new }
+{
+    let mut stream = stream;
+    if !read_on(&mut stream, room, tally) {
         client.link_lost(Link::Image);
         return None;
     }
-    client.feed_data(&piece[..n]);
+    let n = (stream.end - stream.at).min(MOST_GIVEN);
+    client.feed_data(&room[stream.at..stream.at + n]);
+    stream.at += n;
     if client.is_receiving() {
-        Some(conn)
+        Some(stream)
     } else {
         None
     }
@@ -187,19 +229,25 @@ fn connect<D: Dial>(
     dial: &mut D,
     port: u16,
     tally: &mut CallTally,
-) -> Option<D::Conn>
+) -> Option<DataStream<D::Conn>>
     requires running { is_running client.old.outcome ≡ true }
     requires wanted { wanted_port client.old.progress ≡ Some port }
     requires held { tally.old.loss ≡ None }
     ensures asked { D.ports dial.new ≡ with_port port (D.ports dial.old) }
-    ensures dialled { DialsOrLoses D.Conn.remaining client.old (D.coming dial.old) port
-        client.new (D.coming dial.new) result tally.new.loss }
+    ensures dialled { (room : List ℕ)
+        → DialsOrLoses (left_ahead D.Conn.remaining) client.old (D.coming dial.old) port
+        client.new (D.coming dial.new) (ahead_of result room) tally.new.loss }
+    ensures within { (room : List ℕ) → IfOpenLiesWithin result room }
     ensures writes { KeepsWrites tally.old tally.new }
 {
     match tally.dial(dial, port) {
         Ok(conn) => {
             client.data_opened();
-            Some(conn)
+            Some(DataStream {
+                conn,
+                at: 0,
+                end: 0,
+            })
         }
         Err(_) => {
             client.link_lost(Link::Image);
@@ -208,80 +256,91 @@ fn connect<D: Dial>(
     }
 }
 
-/// Writes what is to go out, and then makes the data connection that is wanted or reads the control connection once.
+/// Writes what is to go out, and then makes the data connection that is wanted or reads the control connection once. Says
+/// whether it read it.
 fn talk<C: Read + Write, D: Dial>(
     client: &mut Client,
     control: &mut C,
     dial: &mut D,
-    stream: &mut Option<D::Conn>,
-    piece: &mut [u8],
+    stream: &mut Option<DataStream<D::Conn>>,
+    ahead: &[u8],
     room: &mut [u8],
     tally: &mut CallTally,
-)
-    requires room { 0 < length room.old }
+) -> bool
+    requires room { 4096 ≤ length room.old }
+    requires within { IfOpenLiesWithin stream.old ahead.now }
     requires running { is_running client.old.outcome ≡ true }
     requires quiet { is_receiving client.old.outcome client.old.progress ≡ false }
     requires held { tally.old.loss ≡ None }
     requires up { tally.old.write_failed ≡ false }
-    ensures piece { length piece.new ≡ length piece.old }
     ensures room { length room.new ≡ length room.old }
-    ensures moved { (moves : List JobMove) × MovesAll
-        (views_of C.remaining C.contents D.ports) D.Conn.remaining
-        (loop_state D.coming client.old control.old dial.old stream.old tally.old)
-        moves (loop_state D.coming client.new control.new dial.new stream.new tally.new) }
+    ensures within { IfOpenLiesWithin stream.new ahead.now }
+    ensures moved { (moves : List JobMove) × AreOfTurn result client.new moves × MovesAll
+        (views_of C.remaining C.contents D.ports) (left_ahead D.Conn.remaining) (loop_state D.coming
+        client.old control.old dial.old (ahead_of stream.old ahead.now) tally.old) moves
+        (loop_state D.coming
+        client.new control.new dial.new (ahead_of stream.new ahead.now) tally.new) }
     ensures held { is_running client.new.outcome ≡ true → tally.new.loss ≡ None }
     ensures up { is_running client.new.outcome ≡ true → tally.new.write_failed ≡ false }
     ensures turns { tally.new.turns ≡ tally.old.turns }
 {
-    // A reply may have come before it was waited for.
-    client.feed_control(&[]);
     if !write_out(client, control, room, tally) {
         client.link_lost(Link::Control);
-        return;
-    }
-    if client.is_over() {
-        return;
+        return false;
     }
     if let Some(port) = client.data_wanted() {
         *stream = connect(client, dial, port, tally);
-    } else if !client.is_receiving() {
-        hear(client, control, piece, tally);
+        return false;
     }
+    hear(client, control, &mut room[..MOST_GIVEN], tally);
+    true
 }
 
-/// A turn of a job that runs: reads the data connection of its frame, or talks with the daemon.
+/// A turn of a job that runs: takes bytes of the data connection of its frame, looks again at what came before it was asked
+/// for, or talks with the daemon. Says whether something came, unless the job is over.
 pub(crate) fn go_on<C: Read + Write, D: Dial>(
     client: &mut Client,
     control: &mut C,
     dial: &mut D,
-    stream: &mut Option<D::Conn>,
-    piece: &mut [u8],
+    stream: &mut Option<DataStream<D::Conn>>,
+    ahead: &mut [u8],
     room: &mut [u8],
     tally: &mut CallTally,
-)
-    requires room { 0 < length room.old }
+) -> bool
+    requires room { 4096 ≤ length room.old }
+    requires within { IfOpenLiesWithin stream.old ahead.old }
     requires running { is_running client.old.outcome ≡ true }
     requires held { tally.old.loss ≡ None }
     requires up { tally.old.write_failed ≡ false }
-    ensures piece { length piece.new ≡ length piece.old }
+    ensures ahead { length ahead.new ≡ length ahead.old }
     ensures room { length room.new ≡ length room.old }
-    ensures moved { (moves : List JobMove) × MovesAll
-        (views_of C.remaining C.contents D.ports) D.Conn.remaining
-        (loop_state D.coming client.old control.old dial.old stream.old tally.old)
-        moves (loop_state D.coming client.new control.new dial.new stream.new tally.new) }
+    ensures within { IfOpenLiesWithin stream.new ahead.new }
+    ensures moved { (moves : List JobMove) × AreOfTurn result client.new moves × MovesAll
+        (views_of C.remaining C.contents D.ports) (left_ahead D.Conn.remaining) (loop_state D.coming
+        client.old control.old dial.old (ahead_of stream.old ahead.old) tally.old) moves
+        (loop_state D.coming
+        client.new control.new dial.new (ahead_of stream.new ahead.new) tally.new) }
     ensures held { is_running client.new.outcome ≡ true → tally.new.loss ≡ None }
     ensures up { is_running client.new.outcome ≡ true → tally.new.write_failed ≡ false }
     ensures turns { turns_to_go client.new.outcome tally.new.turns
         < turns_to_go client.old.outcome tally.old.turns }
 {
     if !tally.take_turn() {
-        return client.link_lost(Link::Control);
+        client.link_lost(Link::Control);
+        return false;
     }
-    if !client.is_receiving() {
-        talk(client, control, dial, stream, piece, room, tally);
-    } else if let Some(conn) = stream.take() {
-        *stream = see(client, conn, piece, tally);
+    if client.is_receiving() {
+        let Some(open) = stream.take() else {
+            return false;
+        };
+        *stream = see(client, open, ahead, tally);
+        return true;
     }
+    if client.has_early_reply() {
+        client.feed_control(&[]);
+        return true;
+    }
+    talk(client, control, dial, stream, ahead, room, tally)
 }
 
 /// Writes all bytes of a scan's file that may go out. Says whether the output took them; if not, what it took in all is no
@@ -292,7 +351,7 @@ fn drain<W: Write>(client: &mut Client, room: &mut [u8], out: &mut W, tally: &mu
     ensures calls { KeepsNotes tally.old tally.new }
     ensures outcome { client.new.outcome ≡ client.old.outcome }
     // `first` is what the output held before the file, and `past` what the client was told and gave.
-    ensures drained { result ≡ true → (gives : List JobMove) × GivesAll client.old gives client.new
+    ensures drained { result ≡ true → (gives : List JobMove) × FileRunsOut client.old gives client.new
         × ((first : Option (List ℕ)) (past : JoinHistory)
         → HoldsGiven past client.old first (W.contents out.old) → IsDrainedTo past
         client.old first (given_by gives) client.new (W.contents out.new)) }
@@ -329,7 +388,7 @@ fn give<W: Write>(
     ensures none { is_scan ≡ false
         → (result ≡ true) × (client.new ≡ client.old) × (W.contents out.new ≡ W.contents out.old) }
     ensures drained { is_scan ≡ true
-        → result ≡ true → (gives : List JobMove) × GivesAll client.old gives client.new
+        → result ≡ true → (gives : List JobMove) × FileRunsOut client.old gives client.new
         × ((first : Option (List ℕ)) (past : JoinHistory)
         → HoldsGiven past client.old first (W.contents out.old) → IsDrainedTo past
         client.old first (given_by gives) client.new (W.contents out.new)) }
@@ -394,7 +453,7 @@ fn run_client<C, D, W, T, F>(
     dial: &mut D,
     out: &mut W,
     is_scan: bool,
-    piece: &mut [u8],
+    ahead: &mut [u8],
     room: &mut [u8],
     tally: &mut CallTally,
     tell: F,
@@ -405,7 +464,7 @@ where
     W: Write,
     T: Drop,
     F: FnOnce(&Reports) -> Result<T, NoMem> + Drop,
-    requires room { 0 < length room.old }
+    requires room { 4096 ≤ length room.old }
     requires new { notes_of tally.old ≡ no_notes }
     requires tell { F.IsAlwaysCallable tell }
     ensures ran { (job : JobValue) → IsNewClient job client → is_batch job.task ≡ false
@@ -420,8 +479,8 @@ where
     whole_shows();
     let mut stream = None;
     while !client.is_over() {
-        go_on(&mut client, control, dial, &mut stream, piece, room, tally);
-        if !client.is_over() && !give(&mut client, is_scan, room, out, tally) {
+        let came = go_on(&mut client, control, dial, &mut stream, ahead, room, tally);
+        if came && !client.is_over() && !give(&mut client, is_scan, room, out, tally) {
             return Err(Stop::failed_output());
         }
     }
@@ -472,7 +531,7 @@ where
             why: Why::Setting,
         });
     }
-    let mut read = piece(alloc)?;
+    let mut ahead = piece(alloc)?;
     let mut room = piece(alloc)?;
     let is_scan = is_scan(job.task);
     let mut tally = CallTally::new();
@@ -483,7 +542,7 @@ where
             dial,
             out,
             is_scan,
-            read.as_mut_slice(),
+            ahead.as_mut_slice(),
             room.as_mut_slice(),
             &mut tally,
             tell,

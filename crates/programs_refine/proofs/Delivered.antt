@@ -8,6 +8,7 @@ use Rattle.net_client.specs.ClientStates.{ClientRepresents, ClientState}
 use Rattle.net_client.specs.ReplyPieces.{Heeds}
 use Rattle.net_client.specs.FramePieces.{Receives}
 use Rattle.net_jobs.specs.JobJournal.{JobMove, given_by}
+use Rattle.net_jobs.specs.JobSteps.{HearsAndGives, TakesAndGives}
 use Rattle.saned_core.specs.declared.session_slot.SessionId.{SessionId}
 use Rattle.saned_core.specs.DaemonLimits.{HaveOwnNumbers}
 use Rattle.saned_core.specs.DaemonStates.{Core, after_taken, on_session_slot, replies_of, session_slot_of}
@@ -24,7 +25,6 @@ use Rattle.scan_world.specs.declared.endpoint.Endpoint.{Endpoint}
 use Rattle.scan_world.specs.declared.endpoint.Image.{Image}
 use Rattle.scan_world.specs.Endpoints.{after_move, laid_by}
 use Rattle.scan_world.specs.JobEvents.{Can, Does, HasImage, HeedsPiece, IfLinked, TakesDataPiece, bytes_not_delivered, delivered_bytes, is_done, still_open, with_image, with_last_page, without_ended_image, without_taken}
-use Rattle.programs_refine.specs.JobSteps.{HearsAndGives, TakesAndGives}
 use Rattle.programs_refine.proofs.Giving.{Holds, drains_to, laid, more_of}
 use Rattle.programs_refine.proofs.Lists.{delivers, keeps_rest, left_of, moves_on, some_bytes, some_wait}
 use Rattle.programs_refine.proofs.Outgoing.{dialled_receives, never_both, not_over, receiving_at}

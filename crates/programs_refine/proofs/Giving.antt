@@ -1,5 +1,5 @@
 -- What a loop gives of a file behind a piece is laid down in the world.
-use Rattle.std.proofs.Common.{◌≡◌, ◌∙◌, ℕ, Bool, true, false, Option, Some, None, option_map, List, [], ◌∷◌, ◌++◌, length, append_assoc, append-nil, refl, sym, ap, subst}
+use Rattle.std.proofs.Common.{◌≡◌, ◌∙◌, ◌⊎◌, inl, inr, ℕ, Bool, true, false, Option, Some, None, option_map, List, [], ◌∷◌, ◌++◌, length, append_assoc, append-nil, refl, sym, ap, subst}
 use Rattle.netpbm.specs.Picture.{Picture}
 use Rattle.netpbm.specs.Pnm.{Denotes}
 use Rattle.page_picture.specs.Shows.{ShowsFrames}
@@ -13,12 +13,12 @@ use Rattle.client_replies.specs.ProtocolStates.{HistoryFits, is_batch, is_ended,
 use Rattle.net_client.specs.ClientStates.{ClientRepresents, ClientState}
 use Rattle.net_jobs.specs.JobJournal.{AreGives, GivesFileBytes, JobMove, MovesLead, given_by}
 use Rattle.net_jobs.specs.JobJournal.JobMove.{Writes, Fails, Hears, Resumes, Dials, Takes, Gives, Loses}
+use Rattle.net_jobs.specs.JobSteps.{GivesNone, GivesOut, FileRunsOut}
 use Rattle.in_flight.specs.Requests.{with_unheard}
 use Rattle.in_flight.proofs.Requests.{histories_alike}
 use Rattle.scan_world.specs.declared.endpoint.Endpoint.{Endpoint}
 use Rattle.scan_world.specs.FileDraining.{Drains, HasDrained, HasFiles, HoldsHistory, KeepsFile, RunsDry}
 use Rattle.scan_world.specs.FileInvariant.{AllLaid, FilesRepresent, Underway}
-use Rattle.programs_refine.specs.JobSteps.{GivesOut, FileRunsOut}
 
 abbrev pub more_of : List ℕ → Option (List ℕ) → Option (List ℕ)
 more_of given file = option_map (λ (f : List ℕ). f ++ given) file
@@ -108,12 +108,17 @@ keeps_more starved given more (Some f) k = ap (λ (x : List ℕ). x ++ more) k
 files_more : (given more : List ℕ) (pages : List JoinHistory) (old : Endpoint) (c d : ClientState) → HasFiles given pages (record old { client = d }) → HasFiles (given ++ more) pages (laid old c more)
 files_more given more pages old c d h = record { file = keeps_more old.out_of_memory given more old.file h.file; each = h.each; count = h.count; room = h.room }
 
-runs_dry : (p : Endpoint) (up : List ℕ) (mid c : ClientState) (gives : List JobMove) (past : JoinHistory) (pages : List JoinHistory) → is_batch p.task ≡ false → FileRunsOut mid gives c → HoldsHistory past pages (record p { client = with_unheard up mid })
+-- whatever of a whole picture these bytes denote
+DenoteAll : (past : JoinHistory) (mid : ClientState) (gives : List JobMove) → Type 0
+DenoteAll past mid gives = turns mid.outcome mid.progress ≡ false → ClientRepresents past mid → is_ended mid.outcome ≡ false → IsJoined past → (q : Picture) → ShowsFrames past.ended q → Denotes (past.given ++ given_by gives) q
+
+runs_dry : (p : Endpoint) (up : List ℕ) (mid c : ClientState) (gives : List JobMove) (past : JoinHistory) (pages : List JoinHistory) → is_batch p.task ≡ false → AreGives gives → MovesLead mid gives c → DenoteAll past mid gives → HoldsHistory past pages (record p { client = with_unheard up mid })
     → RunsDry past pages (record p { client = with_unheard up mid }) (laid p (with_unheard up c) (given_by gives))
-runs_dry p up mid c gives past pages batch g h =
+unfolding DenoteAll
+runs_dry p up mid c gives past pages batch are leads denote h =
     let still : turns mid.outcome mid.progress ≡ false = still_by mid.target.task mid.outcome mid.progress past (ap is_batch (sym h.task) ∙ batch) h.serves.fits in
     let serves : ClientRepresents past mid = (histories_alike up past mid).1 h.serves in
-    let on = gives_on past mid gives c still serves g.are g.leads in
+    let on = gives_on past mid gives c still serves are leads in
     record {
       still = still;
       bytes = given_by gives;
@@ -123,18 +128,26 @@ runs_dry p up mid c gives past pages batch g h =
         files = files_more past.given (given_by gives) pages p (with_unheard up c) (with_unheard up mid) h.files;
       };
       given = record { client = ap (with_unheard up) on.rest; rest = refl };
-      denotes = λ running joined q shows. all_given past mid gives g.before c still serves g.are g.leads g.dry running joined q shows;
+      denotes = λ running joined q shows. denote still serves running joined q shows;
     }
 
-drains_on : (p : Endpoint) (up : List ℕ) (mid c : ClientState) (gives : List JobMove) → is_batch p.task ≡ false → scans p.task ≡ true → FileRunsOut mid gives c → Drains (record p { client = with_unheard up mid }) (laid p (with_unheard up c) (given_by gives))
-drains_on p up mid c gives batch scanning g = record {
+drains_by : (p : Endpoint) (up : List ℕ) (mid c : ClientState) (gives : List JobMove) → is_batch p.task ≡ false → scans p.task ≡ true → AreGives gives → MovesLead mid gives c → ((past : JoinHistory) → DenoteAll past mid gives)
+    → Drains (record p { client = with_unheard up mid }) (laid p (with_unheard up c) (given_by gives))
+drains_by p up mid c gives batch scanning are leads denote = record {
   none = λ e. absurd (let wrong : true ≡ false = sym scanning ∙ e in cc);
   rest = refl;
   starved = λ s. s;
   drains = λ past pages s place h.
-      let dry = runs_dry p up mid c gives past pages batch g h in
+      let dry = runs_dry p up mid c gives past pages batch are leads (denote past) h in
       subst (λ (t : Bool). HasDrained t past pages (record p { client = with_unheard up mid }) (laid p (with_unheard up c) (given_by gives))) (sym dry.still) dry;
 }
+
+-- the file ran out, or the job has ended
+drains_on : (p : Endpoint) (up : List ℕ) (mid c : ClientState) (gives : List JobMove) → is_batch p.task ≡ false → scans p.task ≡ true → FileRunsOut mid gives c ⊎ ((is_ended mid.outcome ≡ true) × GivesNone mid gives c) → Drains (record p { client = with_unheard up mid }) (laid p (with_unheard up c) (given_by gives))
+unfolding DenoteAll
+drains_on p up mid c gives batch scanning (inl g) = drains_by p up mid c gives batch scanning g.are g.leads (λ past still serves running joined q shows. all_given past mid gives g.before c still serves g.are g.leads g.dry running joined q shows)
+drains_on p up mid c gives batch scanning (inr (ended, (none, same))) =
+    drains_by p up mid c gives batch scanning (subst AreGives (sym none) tt) (subst (λ (l : List JobMove). MovesLead mid l c) (sym none) same) (λ past still serves running joined q shows. absurd (let wrong : true ≡ false = sym ended ∙ running in cc))
 
 no_more : (file : Option (List ℕ)) (given : List ℕ) → given ≡ [] → more_of given file ≡ file
 no_more None given e = refl

@@ -33,7 +33,7 @@ use Rattle.world_contract.specs.Calls.{AnswersAre, MovesNext, finished_by, is_st
 use Rattle.world_contract.specs.Histories.{History, LedTo}
 use Rattle.world_contract.specs.Laws.{AllIsRight}
 use Rattle.world_contract.specs.Promise.{FileIsKept, JobAnswers, OutcomeIsKept}
-use Rattle.programs_refine.specs.Keeping.{history_of, AllLoopsAreKept, AreFit, LoopIsKept, ProgramsKeepAll, WorldsWantBeforeItFlows}
+use Rattle.programs_refine.specs.Keeping.{history_of, AllLoopsAreKept, AreFit, LoopIsKept, ProgramsKeepAll, WorldsHearInTurn, WorldsWantBeforeItFlows}
 use Rattle.programs_refine.specs.Programs.{Acts, ComeToAWorld, EndsAlike, IsWorldOf}
 use Rattle.programs_refine.specs.WorldHistory.{LeadsBy, AreOfConnections, WantsBeforeItFlows}
 use Rattle.programs_refine.proofs.Outgoing.{never_both}
@@ -60,18 +60,18 @@ wants_first t w h i p id at link runs wants flows =
     let wrong : false ≡ true = subst IsSome none wants in cc
 
 -- whatever their pages are
-any_source : ℕ → PageSources
+pub any_source : ℕ → PageSources
 any_source k = record { fallible = true; steady = false }
 
 any_pages : (make : Make) (pages : List HeldPage) → make.fallible ≡ true → make.steady ≡ false → HaveSources make pages
 any_pages make [] fallible steady = tt
 any_pages make (held ∷ pages) fallible steady = (record { infallible = λ e. never_both make.fallible fallible e; steady = λ e. never_both make.steady e steady }, any_pages make pages fallible steady)
 
-have_any : (devices : List DeviceState) → HaveSourcesAt any_source devices
+pub have_any : (devices : List DeviceState) → HaveSourcesAt any_source devices
 unfolding any_source
 have_any devices k s at = any_pages (make_of (any_source k) (Some s)) s.pages refl refl
 
-no_loads : (events : List Event) → AreOfConnections events → AreTrueLoads source_state events
+pub no_loads : (events : List Event) → AreOfConnections events → AreTrueLoads source_state events
 no_loads [] are = tt
 no_loads (Connect i ∷ events) are = (tt, no_loads events are.1)
 no_loads (ToDaemon i n ∷ events) are = (tt, no_loads events are.1)
@@ -85,7 +85,7 @@ no_loads (Cancel i ∷ events) are = absurd are.0
 no_loads (Load name page ∷ events) are = absurd are.0
 no_loads (Unplug name ∷ events) are = absurd are.0
 
-none_to_fit : (infos : List DeviceInfo) (make : ℕ → Make) (events : List Event) → AreOfConnections events → AreFittingLoads source_state infos make events
+pub none_to_fit : (infos : List DeviceInfo) (make : ℕ → Make) (events : List Event) → AreOfConnections events → AreFittingLoads source_state infos make events
 none_to_fit infos make [] are = tt
 none_to_fit infos make (Connect i ∷ events) are = (tt, none_to_fit infos make events are.1)
 none_to_fit infos make (ToDaemon i n ∷ events) are = (tt, none_to_fit infos make events are.1)
@@ -172,7 +172,7 @@ keeps_none devices d acts last fit =
       each = λ i job at over. absurd (let wrong : None ≡ Some job = at in cc);
     }
 
-pub all_kept : NewWorldsRefine → EventsFollow → AllIsRight → ProgramsKeepAll
-all_kept new follows right devices [] owner d acts last fit r = keeps_none devices d acts last fit
-all_kept new follows right devices (job ∷ jobs) owner d acts last fit r =
-    keeps right devices (job ∷ jobs) d acts r.end last fit (programs_are source_state (job ∷ jobs) owner d acts last r (λ w is. always_first new follows devices (job ∷ jobs) job d w fit is))
+pub all_kept : NewWorldsRefine → EventsFollow → WorldsHearInTurn → AllIsRight → ProgramsKeepAll
+all_kept new follows hears right devices [] owner d acts last fit r = keeps_none devices d acts last fit
+all_kept new follows hears right devices (job ∷ jobs) owner d acts last fit r =
+    keeps right devices (job ∷ jobs) d acts r.end last fit (programs_are source_state (job ∷ jobs) owner d acts last r (λ w is. (always_first new follows devices (job ∷ jobs) job d w fit is, hears devices (job ∷ jobs) job d w fit is)))

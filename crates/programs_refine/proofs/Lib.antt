@@ -16,3 +16,4 @@ mod Starving
 mod Timely
 mod Programs
 mod Keeping
+mod InTurn

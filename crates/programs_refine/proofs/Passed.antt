@@ -12,9 +12,10 @@ use Rattle.saned_serve.specs.Journal.LoopAction.{Of, Full, Waits, Refuses, Turne
 use Rattle.saned_serve.proofs.ActionSteps.{eqb_off, life_at, life_off}
 use Rattle.saned_serve.proofs.Summing.{nobody}
 use Rattle.net_jobs.specs.JobJournal.{given_by}
+use Rattle.net_jobs.specs.JobSteps.{JobStep, given_by_steps, has_failed, is_failed_write}
 use Rattle.interleaving.specs.Interleavings.{JointAction, accepted_after, accepted_with, bytes_heard, bytes_sent, bytes_taken, connections_accepted, connections_made, heard_with, job_journal, made_with, sent_with, taken_with}
 use Rattle.interleaving.specs.Interleavings.JointAction.{OfJob}
-use Rattle.programs_refine.specs.JobSteps.{JobStep, given_by_steps, has_failed, is_failed_write, traffic_of}
+use Rattle.programs_refine.specs.StepTraffic.{traffic_of}
 
 -- ---- of a session, as the server's journal has it
 

@@ -4,10 +4,10 @@ use Rattle.std.proofs.lemmas.List.Elements.{All-get_or}
 use Rattle.std.proofs.lemmas.Option.{get_or_from_slice_get, slice_get_within}
 use Rattle.scan_job.specs.declared.job.Job.{Job}
 use Rattle.client_replies.specs.ProtocolStates.{is_batch}
+use Rattle.net_jobs.specs.JobSteps.{JobStep, StepsLead, given_by_steps}
 use Rattle.saned_serve.specs.Journal.{DaemonRuns, IsJournal, LoopAction}
 use Rattle.interleaving.specs.Interleavings.{job_journal}
 use Rattle.scan_world.specs.Worlds.{WorldCore}
-use Rattle.programs_refine.specs.JobSteps.{JobStep, StepsLead, given_by_steps}
 use Rattle.programs_refine.specs.Programs.{ProgramsAreAWorld}
 use Rattle.programs_refine.proofs.Finishing.{finish_all}
 use Rattle.programs_refine.proofs.Passed.{traffics_of}
@@ -22,7 +22,7 @@ programs_are source jobs owner d acts last r wants =
     let w : WorldCore = record { daemon = d; endpoints = endpoints_of jobs first } in
     let new = are_new jobs first r.loops.fresh in
     let plain = λ (i : ℕ) (job : Job) (at : slice_get jobs i ≡ Some job). plain_at i job at in
-    let setting : Setting source w owner jobs = record { one = r.owns.one; within = r.owns.within; plain = plain; wants = wants w (record { daemon = refl; endpoints = new }) } in
+    let setting : Setting source w owner jobs = record { one = r.owns.one; within = r.owns.within; plain = plain; wants = (wants w (record { daemon = refl; endpoints = new })).0; hears = (wants w (record { daemon = refl; endpoints = new })).1 } in
     let a = arrange owner (length jobs) acts d r.end (new_limits d r.new) r.new.opened r.owns.one r.owns.within r.serves.is_journal r.serves.run r.hands_on r.lost in
     let same = a.arranged.same in
     let led : ActsLead owner jobs first d a.new r.end last = record {

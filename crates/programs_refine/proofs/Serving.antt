@@ -56,6 +56,7 @@ pub record Setting (source : Source → SourceState) (first : WorldCore) (owner 
   pub within : (k i : ℕ) → owner k ≡ Some i → i < length jobs
   pub plain : (i : ℕ) (job : Job) → slice_get jobs i ≡ Some job → is_batch job.task ≡ false
   pub wants : AlwaysWantsBeforeItFlows source first
+  pub hears : AlwaysHearsInTurn source first
 
 abbrev pub TracksBehind : (source : Source → SourceState) (first : WorldCore) (owner : Owner) (jobs : List Job) → List LoopAction → (ℕ → Traffics) → Core → (ℕ → ClientState) → Type 0
 TracksBehind source first owner jobs journal done d c = Tracks source first owner jobs (passed_of journal) done d c

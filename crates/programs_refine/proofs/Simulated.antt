@@ -7,6 +7,7 @@ use Rattle.page_picture.specs.declared.sources.kinds.Source.{Source}
 use Rattle.scan_job.specs.declared.job.Job.{Job}
 use Rattle.net_client.specs.ClientStates.{ClientState, IsNewClient}
 use Rattle.saned_core.specs.DaemonStates.{Core}
+use Rattle.net_jobs.specs.JobSteps.{JobStep, StepLeads, StepsLead, has_failed}
 use Rattle.saned_serve.specs.Journal.{DaemonRuns, IsJournal, LoopAction, Steps}
 use Rattle.saned_serve.specs.Journal.LoopAction.{Of, Full, Waits, Refuses, Turned, Stops}
 use Rattle.saned_serve.proofs.ActionSteps.{eqb_off}
@@ -18,7 +19,7 @@ use Rattle.interleaving.proofs.Sooner.{of_other}
 use Rattle.scan_world.specs.FileInvariant.{AllFilesRepresent}
 use Rattle.scan_world.specs.Worlds.{WorldCore}
 use Rattle.scan_world.proofs.Events.{stands_run}
-use Rattle.programs_refine.specs.JobSteps.{JobStep, StepLeads, StepsLead, has_failed, traffic_of}
+use Rattle.programs_refine.specs.StepTraffic.{traffic_of}
 use Rattle.programs_refine.specs.Programs.{Acts, HasOpenedNone, LostBringNoMore}
 use Rattle.programs_refine.proofs.Passed.{Traffics, own_journal, passed_of, passes_full, passes_refuses, passes_stops, passes_turned, passes_waits, traffics_of, traffics_on}
 use Rattle.programs_refine.proofs.Serving.{Setting, acts_on, same_done}
@@ -116,7 +117,7 @@ by_job : (source : Source → SourceState) (owner : Owner) (jobs : List Job) (fi
 unfolding server_journal HandsOn
 by_job source owner jobs first new i job step past d c setting files none at l s t =
     let was = client_before i s.mid c in
-    steps_on source (start_world jobs new first) owner jobs (passed_of (server_journal past)) (λ j. traffics_of (job_journal j past)) (λ j. traffics_of (job_journal j (OfJob i step ∷ past))) d was c t i job step.move step.gives setting.one (λ k own. not_starved owner i k (server_journal past) own l.timely.1)
+    steps_on source (start_world jobs new first) owner jobs (passed_of (server_journal past)) (λ j. traffics_of (job_journal j past)) (λ j. traffics_of (job_journal j (OfJob i step ∷ past))) d was c t i job step.move step.gives setting.one setting.hears (λ k own. not_starved owner i k (server_journal past) own l.timely.1)
     (stands_run source t.events (start_world jobs new first) t.w t.leads.runs files) at (one_steps i step past s.mid c)
     (λ k own low. stands (server_journal past) new d k none l.runs low (not_left owner i k (server_journal past) own l.timely.1)) s.whole (may_step owner i past (traffic_of step) l.hands.1) (stands_step owner i (server_journal past) (traffic_of step) l.lost.1)
     (subst (λ (z : ClientState). StepLeads z step (c i)) (sym (before_own i s.mid c)) s.leads)

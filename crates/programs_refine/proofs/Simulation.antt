@@ -36,7 +36,7 @@ use Rattle.scan_world.specs.Endpoints.{budget_of, no_pages}
 use Rattle.scan_world.specs.FileInvariant.{AllFilesRepresent}
 use Rattle.scan_world.specs.Worlds.{AreNew}
 use Rattle.scan_world.proofs.Events.{new_posts}
-use Rattle.programs_refine.specs.JobSteps.{traffic_of}
+use Rattle.programs_refine.specs.StepTraffic.{traffic_of}
 use Rattle.programs_refine.specs.Programs.{Acts, BringsNoMore, HasOpenedNone}
 use Rattle.programs_refine.proofs.Passed.{Passed, Traffics, has_starved, is_starved, starved_with, no_traffics, only_sent, passed_after, passed_first, passed_of, passes_full, passes_other, passes_own, passes_refuses, passes_stops, passes_turned, passes_waits, traffics_of}
 use Rattle.programs_refine.proofs.Outgoing.{never_both}

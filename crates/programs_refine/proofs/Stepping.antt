@@ -4,9 +4,11 @@ use Rattle.std.proofs.Common.{◌≡◌, ◌≢◌, ◌∙◌, ℕ, true, false,
 use Rattle.page_picture.specs.Source.{SourceState}
 use Rattle.page_picture.specs.declared.sources.kinds.Source.{Source}
 use Rattle.scan_job.specs.declared.job.Job.{Job}
-use Rattle.net_client.specs.ClientStates.{ClientState}
+use Rattle.client_replies.specs.ProtocolStates.{is_receiving, is_running}
+use Rattle.net_client.specs.ClientStates.{ClientState, HasEarlyReply}
 use Rattle.net_jobs.specs.JobJournal.{JobMove, MoveLeads}
 use Rattle.net_jobs.specs.JobJournal.JobMove.{Writes, Fails, Hears, Resumes, Dials, Takes, Gives, Loses}
+use Rattle.net_jobs.specs.JobSteps.{HearsAndGives, JobStep, StepLeads, TakesAndGives}
 use Rattle.saned_core.specs.DaemonStates.{Core}
 use Rattle.saned_serve.specs.Journal.{IsFront}
 use Rattle.in_flight.specs.InFlight.{undelivered_with}
@@ -16,18 +18,22 @@ use Rattle.interleaving.specs.Interleavings.Traffic.{Reads as ReadsBytes, Takes 
 use Rattle.interleaving.specs.HandingOn.{HaveOneSession, Owner}
 use Rattle.scan_world.specs.declared.event.JobEvent.TheVariants as events
 use Rattle.scan_world.specs.declared.endpoint.Endpoint.{Endpoint}
+use Rattle.scan_world.specs.Endpoints.{IsNew}
 use Rattle.scan_world.specs.FileInvariant.{AllFilesRepresent}
 use Rattle.scan_world.specs.JobEvents.{IsFlowing}
 use Rattle.scan_world.specs.Worlds.{WorldCore}
-use Rattle.programs_refine.specs.JobSteps.{HearsAndGives, JobStep, StepLeads, TakesAndGives, traffic_of}
+use Rattle.world_refines.proofs.state.ListEntries.{nil_both}
+use Rattle.programs_refine.specs.WorldHistory.{AlwaysHearsInTurn}
+use Rattle.programs_refine.specs.StepTraffic.{traffic_of}
 use Rattle.programs_refine.proofs.Delivered.{hears, takes}
 use Rattle.programs_refine.proofs.Giving.{holds_some}
 use Rattle.programs_refine.proofs.Lists.{front_of_none}
-use Rattle.programs_refine.proofs.Outgoing.{never_both}
+use Rattle.programs_refine.proofs.Outgoing.{dialled_receives, never_both, not_over}
 use Rattle.programs_refine.proofs.Passed.{Passed, Traffics, traffics_after}
 use Rattle.programs_refine.proofs.Quiet.{IsQuiet, IsTimely, gave_none, quiet_move}
 use Rattle.programs_refine.proofs.Serving.{comes}
-use Rattle.programs_refine.proofs.Tracks.{IsLinked, IsUnlinked, JobTracks, Tracks, goes_on, not_moved}
+use Rattle.programs_refine.proofs.Tracks.{Follows, IsLinked, IsUnlinked, JobTracks, OutTracks, Tracks, goes_on, not_moved, with_out}
+use Rattle.programs_refine.proofs.Tracks.Follows.{Alike, Dialled, Lost, Cut}
 use Rattle.programs_refine.proofs.Tracks.JobTracks.{Unlinked, Linked, Left}
 
 -- what connections that hand on allow a step
@@ -139,19 +145,53 @@ takes_step source first owner jobs passed done done_new d c c_new t i job piece 
         linked p there k own low (subst (λ (n : ℕ). (passed n).accepted ≡ (done i).made) same may.2) (subst (λ (n : ℕ). IsFront ((done i).taken ++ piece) (passed n).shown) same may.3) l
     by p there (Left k own low shut l) = never_both (passed k).is_open (timely k own low) shut
 
+-- ---- no reply comes before its request was taken
+
+-- the client waits, and a reply came before its request was written
+abbrev IsEarly : ClientState → Type 0
+IsEarly c = HasEarlyReply c × (is_running c.outcome ≡ true) × (is_receiving c.outcome c.progress ≡ false)
+
+-- nor does it in a world
+early_there : (c q : ClientState) (failed : Bool) (sent heard : List ℕ) → OutTracks failed sent heard q.out c.out → q ≡ with_out q.out c → failed ≡ false → HasEarlyReply c → HasEarlyReply q
+early_there c q failed sent heard o same ok early = (
+  λ none. early.0 (nil_both o.up c.out (ap (λ (l : List ℕ). o.up ++ l) (sym (o.rest_is ok)) ∙ sym o.out_is ∙ none)).1,
+  λ none. early.1 (sym (ap (λ (v : ClientState). v.input.rest) same) ∙ none),
+)
+
+new_hears : (job : Job) (c : ClientState) (p : Endpoint) → IsNew job p → Follows false false c p.client → IsEarly c → ⊥
+new_hears job c p n (Alike off same) early = early.0.1 (sym (ap (λ (v : ClientState). v.input.rest) same) ∙ ap (λ (v : ClientState). v.input.rest) n.client.value)
+new_hears job c p n (Dialled on wants runs same) early = never_both false on refl
+new_hears job c p n (Lost runs over wants) early = not_over c.outcome over early.1
+new_hears job c p n (Cut off told over either) early = never_both false told refl
+
+never_early : (source : Source → SourceState) (first : WorldCore) (owner : Owner) (jobs : List Job) (passed : ℕ → Passed) (done : ℕ → Traffics) (d : Core) (c : ℕ → ClientState) (t : Behind source first owner jobs passed done d c) (i : ℕ) (job : Job) → AlwaysHearsInTurn source first → slice_get jobs i ≡ Some job → IsTimely owner d.opened passed i
+    → (done i).failed ≡ false → IsEarly (c i) → ⊥
+never_early source first owner jobs passed done d c t i job hears at timely ok early = let e = t.each i job at in by e.0 e.1 e.2
+  where
+    linked : (k : ℕ) (p : Endpoint) → slice_get t.w.endpoints i ≡ Some p → (l : IsLinked (passed k) (t.flying k) (done i) k (c i) p) → Follows l.pending (passed k).dropped (c i) p.client → ⊥
+    linked k p there l (Alike off same) =
+        hears t.events t.w t.leads i p l.id there l.link (ap (λ (v : ClientState). is_running v.outcome) same ∙ early.1) (early_there (c i) p.client (done i).failed (done i).sent (passed k).heard l.out same ok early.0)
+    linked k p there l (Dialled on wants runs same) = never_both (is_receiving (c i).outcome (c i).progress) (ap (λ (v : ClientState). is_receiving v.outcome v.progress) same ∙ dialled_receives p.client runs wants) early.2
+    linked k p there l (Lost runs over wants) = not_over (c i).outcome over early.1
+    linked k p there l (Cut off told over (inl receives)) = never_both (is_receiving (c i).outcome (c i).progress) receives early.2
+    linked k p there l (Cut off told over (inr lost)) = not_over (c i).outcome lost early.1
+
+    by : (p : Endpoint) → slice_get t.w.endpoints i ≡ Some p → JobTracks owner d.opened t.flying passed (done i) i job (c i) p → ⊥
+    by p there (Unlinked u) = new_hears job (c i) p u.new u.follows early
+    by p there (Linked k own low l) = linked k p there l l.follows
+    by p there (Left k own low shut l) = never_both (passed k).is_open (timely k own low) shut
+
 -- ---- every step
 
-pub steps_on : (source : Source → SourceState) (first : WorldCore) (owner : Owner) (jobs : List Job) (passed : ℕ → Passed) (done done_new : ℕ → Traffics) (d : Core) (c c_new : ℕ → ClientState) (t : Behind source first owner jobs passed done d c) (i : ℕ) (job : Job) (move : JobMove) (gives : List JobMove) → HaveOneSession owner → HasMemoryFor owner passed i → AllFilesRepresent t.w.endpoints
+pub steps_on : (source : Source → SourceState) (first : WorldCore) (owner : Owner) (jobs : List Job) (passed : ℕ → Passed) (done done_new : ℕ → Traffics) (d : Core) (c c_new : ℕ → ClientState) (t : Behind source first owner jobs passed done d c) (i : ℕ) (job : Job) (move : JobMove) (gives : List JobMove) → HaveOneSession owner → AlwaysHearsInTurn source first → HasMemoryFor owner passed i → AllFilesRepresent t.w.endpoints
     → slice_get jobs i ≡ Some job → OneSteps done done_new c c_new i (record { move = move; gives = gives }) → IsTimely owner d.opened passed i → (done i).failed ≡ false → MayStep owner passed (done i) i (traffic_of (record { move = move; gives = gives })) → Standing owner passed i (traffic_of (record { move = move; gives = gives }))
     → StepLeads (c i) (record { move = move; gives = gives }) (c_new i) → Behind source first owner jobs passed done_new d c_new
-steps_on source first owner jobs passed done done_new d c c_new t i job (Writes bytes) gives only memory files at one timely ok may stands s = by_quiet_move source first owner jobs passed done done_new d c c_new t i job (Writes bytes) gives at one tt timely ok s.0 s.1
-steps_on source first owner jobs passed done done_new d c c_new t i job (Fails bytes) gives only memory files at one timely ok may stands s = by_quiet_move source first owner jobs passed done done_new d c c_new t i job (Fails bytes) gives at one tt timely ok s.0 s.1
-steps_on source first owner jobs passed done done_new d c c_new t i job (Dials port true) gives only memory files at one timely ok may stands s = by_quiet_move source first owner jobs passed done done_new d c c_new t i job (Dials port true) gives at one tt timely ok s.0 s.1
-steps_on source first owner jobs passed done done_new d c c_new t i job (Dials port false) gives only memory files at one timely ok may stands s = by_quiet_move source first owner jobs passed done done_new d c c_new t i job (Dials port false) gives at one tt timely ok s.0 s.1
-steps_on source first owner jobs passed done done_new d c c_new t i job (Loses link reason) gives only memory files at one timely ok may stands s = by_quiet_move source first owner jobs passed done done_new d c c_new t i job (Loses link reason) gives at one tt timely ok s.0 s.1
-steps_on source first owner jobs passed done done_new d c c_new t i job (Hears piece) gives only memory files at one timely ok may stands s = hears_step source first owner jobs passed done done_new d c c_new t i job piece gives only memory files at one timely ok may s
-steps_on source first owner jobs passed done done_new d c c_new t i job (Takes piece) gives only memory files at one timely ok may stands s = takes_step source first owner jobs passed done done_new d c c_new t i job piece gives only files at one timely ok may stands s
-steps_on source first owner jobs passed done done_new d c c_new t i job (Gives bytes) gives only memory files at one timely ok may stands s = absurd s
-steps_on source first owner jobs passed done done_new d c c_new t i job Resumes gives only memory files at one timely ok may stands s =
-    quietly source first owner jobs passed done done_new d c c_new t i job (record { move = Resumes; gives = gives }) at one
-    (λ p tracks. subst (λ (x : Traffics). JobTracks owner d.opened t.flying passed x i job (c_new i) p) (sym (gave_none Resumes gives (done i) s.0)) (subst (λ (z : ClientState). JobTracks owner d.opened t.flying passed (done i) i job z p) (sym s.1) tracks))
+steps_on source first owner jobs passed done done_new d c c_new t i job (Writes bytes) gives only hears memory files at one timely ok may stands s = by_quiet_move source first owner jobs passed done done_new d c c_new t i job (Writes bytes) gives at one tt timely ok s.0 s.1
+steps_on source first owner jobs passed done done_new d c c_new t i job (Fails bytes) gives only hears memory files at one timely ok may stands s = by_quiet_move source first owner jobs passed done done_new d c c_new t i job (Fails bytes) gives at one tt timely ok s.0 s.1
+steps_on source first owner jobs passed done done_new d c c_new t i job (Dials port true) gives only hears memory files at one timely ok may stands s = by_quiet_move source first owner jobs passed done done_new d c c_new t i job (Dials port true) gives at one tt timely ok s.0 s.1
+steps_on source first owner jobs passed done done_new d c c_new t i job (Dials port false) gives only hears memory files at one timely ok may stands s = by_quiet_move source first owner jobs passed done done_new d c c_new t i job (Dials port false) gives at one tt timely ok s.0 s.1
+steps_on source first owner jobs passed done done_new d c c_new t i job (Loses link reason) gives only hears memory files at one timely ok may stands s = by_quiet_move source first owner jobs passed done done_new d c c_new t i job (Loses link reason) gives at one tt timely ok s.0 s.1
+steps_on source first owner jobs passed done done_new d c c_new t i job (Hears piece) gives only hears memory files at one timely ok may stands s = hears_step source first owner jobs passed done done_new d c c_new t i job piece gives only memory files at one timely ok may s
+steps_on source first owner jobs passed done done_new d c c_new t i job (Takes piece) gives only hears memory files at one timely ok may stands s = takes_step source first owner jobs passed done done_new d c c_new t i job piece gives only files at one timely ok may stands s
+steps_on source first owner jobs passed done done_new d c c_new t i job (Gives bytes) gives only hears memory files at one timely ok may stands s = absurd s
+steps_on source first owner jobs passed done done_new d c c_new t i job Resumes gives only hears memory files at one timely ok may stands s = absurd (never_early source first owner jobs passed done d c t i job hears at timely ok (s.early, s.hears.running, s.hears.quiet))

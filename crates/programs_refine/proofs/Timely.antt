@@ -9,6 +9,7 @@ use Rattle.saned_core.specs.declared.session_slot.Fed.TheVariants as feds
 use Rattle.saned_core.specs.DaemonLimits.{HasDaemonLimits}
 use Rattle.saned_core.specs.DaemonStates.{Core}
 use Rattle.saned_core.specs.Feeding.{Feeds}
+use Rattle.net_jobs.specs.JobSteps.{JobStep}
 use Rattle.saned_serve.specs.SessionActions.{ActsOn, SessionAction}
 use Rattle.saned_serve.specs.SessionActions.SessionAction.{Opens, Hears, Feed, Forgets, Take, Says, Looks, Misses, Connect, Turn, Shows, Lose, HangsUp, Leaves}
 use Rattle.saned_serve.specs.Journal.{DaemonRuns, IsEnabledAfter, IsJournal, LoopAction, MayDo, SessionProjection, has_stopped, projection_of}
@@ -23,7 +24,7 @@ use Rattle.interleaving.specs.Interleavings.Traffic.{Writes as WritesBytes, Read
 use Rattle.interleaving.specs.HandingOn.{HandsOn, HaveOneSession, Owner}
 use Rattle.interleaving.specs.Orders.{AllGiveNothing, GivesJobNothing, GivesNothing, HaveSameJournals, moves_among, others_among}
 use Rattle.interleaving.proofs.Ahead.{all_sooner}
-use Rattle.programs_refine.specs.JobSteps.{JobStep, traffic_of}
+use Rattle.programs_refine.specs.StepTraffic.{traffic_of}
 use Rattle.programs_refine.specs.Programs.{Acts, BringsNoMore, LostBringNoMore}
 use Rattle.programs_refine.proofs.Outgoing.{never_both}
 use Rattle.programs_refine.proofs.Passed.{Passed, passed_after, passed_of, passes_full, passes_other, passes_own, passes_refuses, passes_stops, passes_turned, passes_waits}

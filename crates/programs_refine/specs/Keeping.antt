@@ -8,6 +8,7 @@ use Rattle.scan_job.specs.declared.job.Job.{Job}
 use Rattle.client_replies.specs.ProtocolStates.{is_running}
 use Rattle.net_client.specs.ClientStates.{ClientState}
 use Rattle.saned_core.specs.DaemonStates.{Core}
+use Rattle.net_jobs.specs.JobSteps.{given_by_steps}
 use Rattle.interleaving.specs.Interleavings.{job_journal}
 use Rattle.interleaving.specs.HandingOn.{Owner}
 use Rattle.scan_world.specs.declared.event.Event.{Event}
@@ -15,9 +16,8 @@ use Rattle.scan_world.specs.Worlds.{IsFitJob, WorldCore}
 use Rattle.world_refines.specs.NewWorlds.{IsNewDaemon}
 use Rattle.world_contract.specs.Histories.{History, LedTo}
 use Rattle.world_contract.specs.Promise.{FileIsKept, OutcomeIsKept}
-use Rattle.programs_refine.specs.JobSteps.{given_by_steps}
 use Rattle.programs_refine.specs.Programs.{Acts, EndsAlike, IsWorldOf, RunOverConnections}
-use Rattle.programs_refine.specs.WorldHistory.{AlwaysWantsBeforeItFlows, AreOfConnections}
+use Rattle.programs_refine.specs.WorldHistory.{AlwaysHearsInTurn, AlwaysWantsBeforeItFlows, AreOfConnections}
 
 -- a new daemon of these devices, each within its limits, and jobs that a client takes
 pub record AreFit (devices : List DeviceState) (jobs : List Job) (d : Core) : Type 0 where
@@ -29,6 +29,10 @@ pub record AreFit (devices : List DeviceState) (jobs : List Job) (d : Core) : Ty
 -- in a world of those, if there is any job at all (`other`), a job that wants the data connection of a frame has none that flows
 abbrev pub WorldsWantBeforeItFlows : Type 0
 WorldsWantBeforeItFlows = (devices : List DeviceState) (jobs : List Job) (other : Job) (d : Core) (w : WorldCore) → AreFit devices jobs d → IsWorldOf d jobs w → AlwaysWantsBeforeItFlows source_state w
+
+-- nor does any job that runs hear what it did not ask for
+abbrev pub WorldsHearInTurn : Type 0
+WorldsHearInTurn = (devices : List DeviceState) (jobs : List Job) (other : Job) (d : Core) (w : WorldCore) → AreFit devices jobs d → IsWorldOf d jobs w → AlwaysHearsInTurn source_state w
 
 -- these devices, users and jobs, and these events
 abbrev pub history_of : List DeviceState → List Job → Core → List Event → History

@@ -1,4 +1,4 @@
-pub mod JobSteps
+pub mod StepTraffic
 pub mod Programs
 pub mod WorldHistory
 pub mod Keeping

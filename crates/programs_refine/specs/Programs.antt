@@ -6,6 +6,7 @@ use Rattle.scan_job.specs.declared.job.Job.{Job}
 use Rattle.client_replies.specs.ProtocolStates.{is_batch, is_running}
 use Rattle.net_client.specs.ClientStates.{ClientState, IsNewClient}
 use Rattle.saned_core.specs.DaemonStates.{Core}
+use Rattle.net_jobs.specs.JobSteps.{JobStep, StepsLead, given_by_steps}
 use Rattle.in_flight.specs.InFlight.{DiffersInFlight}
 use Rattle.saned_serve.specs.ListenerTraces.{ListenerTrace}
 use Rattle.saned_serve.specs.Journal.{JournalLeads, LoopAction, projection_of}
@@ -16,8 +17,8 @@ use Rattle.interleaving.specs.HandingOn.{HandsOn, HaveOneSession, Owner}
 use Rattle.scan_world.specs.declared.event.Event.{Event}
 use Rattle.scan_world.specs.declared.endpoint.Endpoint.{Endpoint}
 use Rattle.scan_world.specs.Worlds.{AreNew, WorldCore}
-use Rattle.programs_refine.specs.JobSteps.{JobStep, StepsLead, given_by_steps, traffic_of}
-use Rattle.programs_refine.specs.WorldHistory.{AlwaysWantsBeforeItFlows, LeadsBy}
+use Rattle.programs_refine.specs.StepTraffic.{traffic_of}
+use Rattle.programs_refine.specs.WorldHistory.{AlwaysHearsInTurn, AlwaysWantsBeforeItFlows, LeadsBy}
 
 -- all that the server and the jobs did, the newest first
 abbrev pub Acts : Type 0
@@ -105,5 +106,5 @@ pub record ComeToAWorld (source : Source → SourceState) (jobs : List Job) (d :
 abbrev pub ProgramsAreAWorld : Type 0
 ProgramsAreAWorld =
     (source : Source → SourceState) (jobs : List Job) (owner : Owner) (d : Core) (acts : Acts) (last : ℕ → ClientState)
-    → (run : RunOverConnections jobs owner d acts last) → ((w : WorldCore) → IsWorldOf d jobs w → AlwaysWantsBeforeItFlows source w)
+    → (run : RunOverConnections jobs owner d acts last) → ((w : WorldCore) → IsWorldOf d jobs w → AlwaysWantsBeforeItFlows source w × AlwaysHearsInTurn source w)
     → ComeToAWorld source jobs d acts run.end last

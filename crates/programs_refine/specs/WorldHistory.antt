@@ -4,6 +4,7 @@ use Rattle.page_picture.specs.Source.{SourceState}
 use Rattle.page_picture.specs.declared.sources.kinds.Source.{Source}
 use Rattle.saned_core.specs.declared.session_slot.SessionId.{SessionId}
 use Rattle.client_replies.specs.ProtocolStates.{is_running, wanted_port}
+use Rattle.net_client.specs.ClientStates.{HasEarlyReply}
 use Rattle.scan_world.specs.declared.event.Event.{Event}
 use Rattle.scan_world.specs.declared.event.Event.TheVariants.{Connect, ToDaemon, ToClient, DataConnect, DataTurn, DataToClient, LoseControl, LoseImage, Cancel, Load, Unplug}
 use Rattle.scan_world.specs.declared.endpoint.Endpoint.{Endpoint}
@@ -39,6 +40,14 @@ WantsBeforeItFlows w =
     (i : ℕ) (endpoint : Endpoint) (id : SessionId) → slice_get w.endpoints i ≡ Some endpoint → endpoint.link ≡ Some id
     → is_running endpoint.client.outcome ≡ true → IsSome (wanted_port endpoint.client.progress) → IsFlowing (frame_state_at w.daemon id.number) → ⊥
 
+-- no reply comes to a job before the request that it answers was taken
+abbrev pub HearsInTurn : WorldCore → Type 0
+HearsInTurn w =
+    (i : ℕ) (endpoint : Endpoint) (id : SessionId) → slice_get w.endpoints i ≡ Some endpoint → endpoint.link ≡ Some id → is_running endpoint.client.outcome ≡ true → HasEarlyReply endpoint.client → ⊥
+
 -- so it is of each world that connections lead to
 abbrev pub AlwaysWantsBeforeItFlows : (Source → SourceState) → WorldCore → Type 0
 AlwaysWantsBeforeItFlows source w = (events : List Event) (v : WorldCore) → LeadsBy source w events v → WantsBeforeItFlows v
+
+abbrev pub AlwaysHearsInTurn : (Source → SourceState) → WorldCore → Type 0
+AlwaysHearsInTurn source w = (events : List Event) (v : WorldCore) → LeadsBy source w events v → HearsInTurn v

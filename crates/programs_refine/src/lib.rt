@@ -1,8 +1,8 @@
 //! What a server and the loops of jobs do over connections that hand on what they are given is the history of a world, and so the
-//! promise of a world holds of them. Nothing here speaks of the programs' own loops over sockets: which steps a job takes is said.
+//! promise of a world holds of them. `run_job` of `net_jobs` ensures that its moves are such steps.
 #![tactic(auto)]
 
-ghost use Rattle.programs_refine.specs.Keeping.{ProgramsKeepAll, WorldsWantBeforeItFlows};
+ghost use Rattle.programs_refine.specs.Keeping.{ProgramsKeepAll, WorldsHearInTurn, WorldsWantBeforeItFlows};
 ghost use Rattle.programs_refine.specs.Programs.{ProgramsAreAWorld};
 
 use world_contract::all_is_right;
@@ -20,6 +20,15 @@ pub fn programs_are_a_world()
 #[tactic(none)]
 pub fn worlds_want_before_it_flows()
     ensures { WorldsWantBeforeItFlows }
+{
+    a_new_world_refines();
+    a_run_refines();
+}
+
+/// In such a world no reply comes to a job before the request that it answers was taken.
+#[tactic(none)]
+pub fn worlds_hear_in_turn()
+    ensures { WorldsHearInTurn }
 {
     a_new_world_refines();
     a_run_refines();

@@ -4,7 +4,7 @@ use Rattle.std.specs.Result.{is_ok}
 use Rattle.std.proofs.lemmas.Result.{err_from_is_err_and}
 use Rattle.scan_job.specs.declared.outcome.Outcome.{Outcome}
 use Rattle.client_replies.specs.ProtocolStates.{is_running}
-use Rattle.net_jobs.specs.Inside.{StopsAs, CallNotes}
+use Rattle.net_jobs.specs.Inside.{StopsAs, CallNotes, ahead_of, left_ahead}
 use Rattle.net_jobs.proofs.JobEnds.{leaves_links, err_of}
 use Rattle.net_jobs.proofs.RunInvariants.{going_on}
 use Rattle.net_jobs.proofs.Shelving.{lying_fresh, lying_gave, lying_went, laid_then, shut_parted}
@@ -15,21 +15,23 @@ use Rattle.net_jobs.proofs.net_batch.run_client.Goals as goal
 pub loop-client-init : goal.loop-client-init
 loop-client-init g c = record {
   room = refl;
+  within = tt;
   held = λ e. ap (λ (n : CallNotes). n.loss) c.requires.new;
   up = λ e. ap (λ (n : CallNotes). n.write_failed) c.requires.new;
-  lying = λ job fresh count scanning none. lying_fresh _ g.D.Conn.Read.remaining job _ _ _ _ _ c.args.client c.requires.new c.not_whole_before.ensures fresh none;
+  lying = λ job fresh count scanning none. lying_fresh _ (left_ahead g.D.Conn.Read.remaining) job _ _ _ _ _ c.args.client c.requires.new c.not_whole_before.ensures fresh none;
 }
 
 pub returns-then-not-fill-clause-came : goal.returns-then-not-fill-clause-came
 returns-then-not-fill-clause-came g c = λ job fresh count scanning none.
     let p = c.loop-client.invariant.lying job fresh count scanning none in
-    let going = going_on _ g.D.Conn.Read.remaining job _ _ p.laid.given _ _ c.go_on.ensures.moved.0 c.go_on.ensures.moved.1 p.laid.going in
-    rw (c.failed_output.ensures, c.fill.ensures.calls.0) (came_sunk _ g.D.Conn.Read.remaining job _ _ _ _ _ _ _ c.go_on.new.stream c.go_on.new.client c.loop-client.client c.fill.new.client _ _ _ p.laid.given p.laid.going.stage.history c.args.is_scanning c.fill.result scanning count c.whole_shows.ensures p.laid.shelf
+    let going = going_on _ (left_ahead g.D.Conn.Read.remaining) job _ _ p.laid.given _ _ c.go_on.ensures.moved.0 c.go_on.ensures.moved.2 p.laid.going in
+    rw (c.failed_output.ensures, c.fill.ensures.calls.0) (came_sunk _ (left_ahead g.D.Conn.Read.remaining) job _ _ _ _ _ _ _ (ahead_of c.go_on.new.stream c.go_on.new.ahead) c.go_on.new.client c.loop-client.client c.fill.new.client _ _ _ p.laid.given p.laid.going.stage.history c.args.is_scanning c.fill.result scanning count c.whole_shows.ensures p.laid.shelf
     going c.if-not-fill.true (λ e. (c.fill.ensures.none e).0) (c.fill.ensures.short c.if-not-fill.true))
 
 pub loop-client-preserved : goal.loop-client-preserved
 loop-client-preserved g c = record {
   room = search rules;
+  within = search rules;
   held = elim c.else-not-is_over.branch [
     | else-not-is_over-via-then-not-is_over+else-not-fill w ↦ rw (w.client-is, w.tally-is) (λ e. ap (λ (n : CallNotes). n.loss) w.fill.ensures.calls.0 ∙ c.go_on.ensures.held (sym (ap is_running w.fill.ensures.outcome) ∙ e))
     | else-not-is_over-via-else-not-is_over w ↦ rw (w.client-is, w.tally-is) c.go_on.ensures.held
@@ -40,22 +42,22 @@ loop-client-preserved g c = record {
   ];
   lying = λ job fresh count scanning none.
       let p = c.loop-client.invariant.lying job fresh count scanning none in
-      let going = going_on _ g.D.Conn.Read.remaining job _ _ p.laid.given _ _ c.go_on.ensures.moved.0 c.go_on.ensures.moved.1 p.laid.going in
+      let going = going_on _ (left_ahead g.D.Conn.Read.remaining) job _ _ p.laid.given _ _ c.go_on.ensures.moved.0 c.go_on.ensures.moved.2 p.laid.going in
       elim c.else-not-is_over.branch [
         | else-not-is_over-via-then-not-is_over+else-not-fill w ↦
             (let runs : is_running c.go_on.new.client.outcome ≡ true = search rules in
-            rw (w.client-is, w.shelf-is, w.under-is, w.tally-is, w.fill.ensures.calls.0) (lying_gave _ g.D.Conn.Read.remaining job _ _ _ _ _ _ c.go_on.new.stream w.fill.new.client _ _ c.not_whole_before.ensures (ap is_running w.fill.ensures.outcome ∙ runs)
-            (laid_then _ g.D.Conn.Read.remaining job _ _ _ _ _ _ _ c.go_on.new.stream c.go_on.new.client c.loop-client.client w.fill.new.client _ _ _ p.laid.given p.laid.going.stage.history c.args.is_scanning scanning count c.whole_shows.ensures p.laid.shelf going
+            rw (w.client-is, w.shelf-is, w.under-is, w.tally-is, w.fill.ensures.calls.0) (lying_gave _ (left_ahead g.D.Conn.Read.remaining) job _ _ _ _ _ _ (ahead_of c.go_on.new.stream c.go_on.new.ahead) w.fill.new.client _ _ c.not_whole_before.ensures (ap is_running w.fill.ensures.outcome ∙ runs)
+            (laid_then _ (left_ahead g.D.Conn.Read.remaining) job _ _ _ _ _ _ _ (ahead_of c.go_on.new.stream c.go_on.new.ahead) c.go_on.new.client c.loop-client.client w.fill.new.client _ _ _ p.laid.given p.laid.going.stage.history c.args.is_scanning scanning count c.whole_shows.ensures p.laid.shelf going
             (λ e. ((w.fill.ensures.none e).1, ap (λ (x : g.row.S.Denot). g.S.Shelf.stock x) (w.fill.ensures.none e).2, ap (λ (o : Option g.row.S-Out.Denot). option_map g.S.Out.Write.contents o) (w.fill.ensures.none e).3))
             (λ is. w.fill.ensures.drained is w.if-not-fill.false))))
-        | else-not-is_over-via-else-not-is_over w ↦ rw (w.client-is, w.shelf-is, w.under-is, w.tally-is) (lying_went _ g.D.Conn.Read.remaining job _ _ _ _ _ _ _ _ _ c.loop-client.stream c.go_on.new.stream c.loop-client.client c.go_on.new.client _ _ p going)
+        | else-not-is_over-via-else-not-is_over w ↦ rw (w.client-is, w.shelf-is, w.under-is, w.tally-is) (lying_went _ (left_ahead g.D.Conn.Read.remaining) job _ _ _ _ _ _ _ _ _ (ahead_of c.loop-client.stream c.loop-client.ahead) (ahead_of c.go_on.new.stream c.go_on.new.ahead) c.loop-client.client c.go_on.new.client _ _ p going)
       ];
 }
 
 pub returns-then-not-fill-2-clause-came : goal.returns-then-not-fill-2-clause-came
 returns-then-not-fill-2-clause-came g c = λ job fresh count scanning none.
     let p = c.loop-client.invariant.lying job fresh count scanning none in
-    rw (c.failed_output-then-not-fill-2.ensures, c.fill-then-is_ok.ensures.calls.0) (came_sunk _ g.D.Conn.Read.remaining job _ _ _ _ _ _ _ c.loop-client.stream c.loop-client.client c.loop-client.client c.fill-then-is_ok.new.client _ _ _ p.laid.given p.laid.going.stage.history c.args.is_scanning c.fill-then-is_ok.result scanning count c.whole_shows.ensures p.laid.shelf
+    rw (c.failed_output-then-not-fill-2.ensures, c.fill-then-is_ok.ensures.calls.0) (came_sunk _ (left_ahead g.D.Conn.Read.remaining) job _ _ _ _ _ _ _ (ahead_of c.loop-client.stream c.loop-client.ahead) c.loop-client.client c.loop-client.client c.fill-then-is_ok.new.client _ _ _ p.laid.given p.laid.going.stage.history c.args.is_scanning c.fill-then-is_ok.result scanning count c.whole_shows.ensures p.laid.shelf
     p.laid.going c.if-not-fill-2.true (λ e. (c.fill-then-is_ok.ensures.none e).0) (c.fill-then-is_ok.ensures.short c.if-not-fill-2.true))
 
 pub returns-in_err-told-clause-came : goal.returns-in_err-told-clause-came
@@ -66,7 +68,7 @@ returns-in_err-told-clause-came g c = λ job fresh count scanning none.
     rw (q.1, q.2) (elim c.else-is_ok.branch [
       | else-is_ok-via-then-is_ok+else-not-fill-2 w ↦ absurd (let clash : true ≡ false = sym w.if-is_ok.true ∙ c.is_ok.ensures.value ∙ ap is_ok c.in_err-told.was in cc)
       | else-is_ok-via-else-is_ok w ↦
-          rw (w.shelf-is, w.under-is) (came_stopped _ g.D.Conn.Read.remaining job _ _ _ _ _ _ _ _ c.loop-client.stream c.loop-client.client _ _ c.in_err-told.field-0.0 c.not_whole_before.ensures ends
+          rw (w.shelf-is, w.under-is) (came_stopped _ (left_ahead g.D.Conn.Read.remaining) job _ _ _ _ _ _ _ _ (ahead_of c.loop-client.stream c.loop-client.ahead) c.loop-client.client _ _ c.in_err-told.field-0.0 c.not_whole_before.ensures ends
           (leaves_links g.C.Read.remaining g.C.Write.contents g.D.Dial.ports c.loop-client.control c.part-outcome.new.control c.loop-client.dial _ _ _ (rw (w.client-is, w.tally-is) at c.part-outcome.ensures.left)) p)
     ])
 
@@ -75,10 +77,10 @@ returns-clause-came g c = λ job fresh count scanning none.
     let p = c.loop-client.invariant.lying job fresh count scanning none in
     elim c.else-is_ok.branch [
       | else-is_ok-via-then-is_ok+else-not-fill-2 w ↦
-          rw (w.shelf-is, w.under-is) (came_done _ g.D.Conn.Read.remaining job _ _ _ _ _ _ c.loop-client.stream w.fill-then-is_ok.new.client _ _ c.in-Done.reports count c.whole_shows.ensures (sym (rw w.client-is at c.part-outcome.ensures.outcome) ∙ c.in-Done.is)
-          (shut_parted _ g.D.Conn.Read.remaining job _ _ _ _ _ _ _ _ c.loop-client.stream w.fill-then-is_ok.new.client _ _ (ap is_running (sym (rw w.client-is at c.part-outcome.ensures.outcome) ∙ c.in-Done.is))
+          rw (w.shelf-is, w.under-is) (came_done _ (left_ahead g.D.Conn.Read.remaining) job _ _ _ _ _ _ (ahead_of c.loop-client.stream c.loop-client.ahead) w.fill-then-is_ok.new.client _ _ c.in-Done.reports count c.whole_shows.ensures (sym (rw w.client-is at c.part-outcome.ensures.outcome) ∙ c.in-Done.is)
+          (shut_parted _ (left_ahead g.D.Conn.Read.remaining) job _ _ _ _ _ _ _ _ (ahead_of c.loop-client.stream c.loop-client.ahead) w.fill-then-is_ok.new.client _ _ (ap is_running (sym (rw w.client-is at c.part-outcome.ensures.outcome) ∙ c.in-Done.is))
           (leaves_links g.C.Read.remaining g.C.Write.contents g.D.Dial.ports c.loop-client.control c.part-outcome.new.control c.loop-client.dial _ _ _ (rw (w.client-is, w.tally-is, w.fill-then-is_ok.ensures.calls.0) at c.part-outcome.ensures.left))
-          (laid_then _ g.D.Conn.Read.remaining job _ _ _ _ _ _ _ c.loop-client.stream c.loop-client.client c.loop-client.client w.fill-then-is_ok.new.client _ _ _ p.laid.given p.laid.going.stage.history c.args.is_scanning scanning count c.whole_shows.ensures p.laid.shelf p.laid.going
+          (laid_then _ (left_ahead g.D.Conn.Read.remaining) job _ _ _ _ _ _ _ (ahead_of c.loop-client.stream c.loop-client.ahead) c.loop-client.client c.loop-client.client w.fill-then-is_ok.new.client _ _ _ p.laid.given p.laid.going.stage.history c.args.is_scanning scanning count c.whole_shows.ensures p.laid.shelf p.laid.going
           (λ e. ((w.fill-then-is_ok.ensures.none e).1, ap (λ (x : g.row.S.Denot). g.S.Shelf.stock x) (w.fill-then-is_ok.ensures.none e).2, ap (λ (o : Option g.row.S-Out.Denot). option_map g.S.Out.Write.contents o) (w.fill-then-is_ok.ensures.none e).3))
           (λ is. w.fill-then-is_ok.ensures.drained is w.if-not-fill-2.false))).0)
       | else-is_ok-via-else-is_ok w ↦ absurd (let clash : true ≡ false = sym (c.is_ok.ensures.value ∙ ap is_ok c.in_ok-told.was) ∙ w.if-is_ok.false in cc)

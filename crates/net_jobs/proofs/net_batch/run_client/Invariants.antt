@@ -5,18 +5,19 @@ use Rattle.scan_job.specs.JobSize.{HasCount}
 use Rattle.client_replies.specs.ProtocolStates.{is_running, scans}
 use Rattle.net_client.specs.ClientStates.{IsNewClient}
 use Rattle.net_jobs.specs.Links.{views_of}
-use Rattle.net_jobs.specs.Inside.{notes_of, turns_to_go}
+use Rattle.net_jobs.specs.Inside.{IfOpenLiesWithin, ahead_of, left_ahead, notes_of, turns_to_go}
 use Rattle.net_jobs.proofs.Shelving.{Lying}
 use Rattle.net_jobs.proofs.net_batch.run_client.Given as goal
 
 abbrev pub invariant-loop-client : goal.invariant-loop-client
 invariant-loop-client g l = record {
   room : length l.room ≡ length l.initial.room;
+  within : IfOpenLiesWithin l.stream l.ahead;
   held : is_running l.client.outcome ≡ true → l.tally.loss ≡ None;
   up : is_running l.client.outcome ≡ true → l.tally.write_failed ≡ false;
   lying : (job : Job) → IsNewClient job l.fn.client → HasCount job.task → l.fn.is_scanning ≡ scans job.task → option_map g.S.Out.Write.contents l.initial.under ≡ None
-      → Lying (views_of g.C.Read.remaining g.C.Write.contents g.D.Dial.ports) g.D.Conn.Read.remaining job (record { control = l.initial.control; dial = l.initial.dial }) (g.D.Dial.coming l.initial.dial) (g.S.Shelf.stock l.initial.shelf)
-      (notes_of l.tally) (record { control = l.control; dial = l.dial }) (g.D.Dial.coming l.dial) l.stream l.client (g.S.Shelf.stock l.shelf) (option_map g.S.Out.Write.contents l.under);
+      → Lying (views_of g.C.Read.remaining g.C.Write.contents g.D.Dial.ports) (left_ahead g.D.Conn.Read.remaining) job (record { control = l.initial.control; dial = l.initial.dial }) (g.D.Dial.coming l.initial.dial) (g.S.Shelf.stock l.initial.shelf)
+      (notes_of l.tally) (record { control = l.control; dial = l.dial }) (g.D.Dial.coming l.dial) (ahead_of l.stream l.ahead) l.client (g.S.Shelf.stock l.shelf) (option_map g.S.Out.Write.contents l.under);
 }
 
 abbrev pub decreases-loop-client : goal.decreases-loop-client

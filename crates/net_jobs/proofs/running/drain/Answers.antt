@@ -37,9 +37,10 @@ returns-then-n-eq0-clause-drained g c = λ done.
     let size : length piece ≡ c.take_file-n.result = omega (arith, length-take c.take_file-n.result c.take_file-n.new.buf, c.take_file-n.ensures.count, c.take_file-n.auto.buf) in
     let gives : GivesFileBytes c.loop-i.client piece c.take_file-n.new.self =
     gives_by c.loop-i.client c.take_file-n.new.self piece c.take_file-n.result _ size (omega (arith, c.loop-i.invariant.room, c.requires)) c.take_file-n.ensures.outcome c.take_file-n.ensures.ended c.take_file-n.ensures.same c.take_file-n.ensures.taken in
+    let all = gives_more c.args.client.now c.loop-i.client c.take_file-n.new.self c.loop-i.invariant.gave.0 piece c.loop-i.invariant.gave.1 gives in
     let same : given_by c.loop-i.invariant.gave.0 ≡ given_by (Gives piece ∷ c.loop-i.invariant.gave.0) = sym (append-nil (given_by c.loop-i.invariant.gave.0)) ∙ ap (λ (l : List ℕ). given_by (Gives l ∷ c.loop-i.invariant.gave.0)) (sym none) in (
       Gives piece ∷ c.loop-i.invariant.gave.0,
-      gives_more c.args.client.now c.loop-i.client c.take_file-n.new.self c.loop-i.invariant.gave.0 piece c.loop-i.invariant.gave.1 gives,
+      record { are = all.are; leads = all.leads; before = c.loop-i.invariant.gave.0; dry = ap (λ (l : List ℕ). Gives l ∷ c.loop-i.invariant.gave.0) none },
       λ first past held. subst (λ (l : List ℕ). IsDrainedTo past c.args.client.now first l c.take_file-n.new.self (g.W.Write.contents c.loop-i.out)) same
           (at_end past first _ (given_by c.loop-i.invariant.gave.0) c.loop-i._i c.take_file-n.result c.args.client.now c.loop-i.client c.take_file-n.new.self _ c.if-n-eq0.true none (λ q at. (c.take_file-n.ensures.taken q at).carried) c.take_file-n.ensures.ended c.take_file-n.ensures.same
           (λ q at alive joined p shows. (c.take_file-n.ensures.taken q at).denotes alive joined none (omega (arith, c.loop-i.invariant.room, c.requires)) p shows) held.scan (c.loop-i.invariant.gave.2 first past held)),

@@ -5,7 +5,7 @@ use Rattle.sane_fixed.specs.declared.status.Status.TheVariants as statuses
 use Rattle.scan_job.specs.declared.outcome.Why.TheVariants as whys
 use Rattle.net_client.specs.ClientStates.{ClientState, after_client_end}
 use Rattle.net_jobs.specs.Inside.{Heard, Lost}
-use Rattle.net_jobs.proofs.Turning.{some_taken}
+use Rattle.net_jobs.proofs.Turning.{few_taken, some_taken}
 use Rattle.net_jobs.proofs.running.hear.Goals as goal
 
 pub returns-in-0-clause-heard : goal.returns-in-0-clause-heard
@@ -21,5 +21,6 @@ returns-in_default-clause-heard g c =
     let not_zero : c.read_piece.result ≢ 0 = search rules in
     let piece : List ℕ = take c.read_piece.result c.read_piece.new.piece in
     let some : piece ≢ [] = some_taken c.read_piece.result c.read_piece.new.piece (omega (arith, c.read_piece.ensures.count, c.read_piece.auto.piece)) not_zero in
-    Heard piece some c.read_piece.ensures.bytes (record { running = c.requires.running; quiet = c.requires.quiet; heeds = λ past serves. c.feed_control.ensures.heeds c.requires.running past serves })
+    let few = few_taken c.read_piece.result 4096 c.read_piece.new.piece (omega (arith, c.requires.few, c.read_piece.ensures.room)) in
+    Heard piece (some, few) c.read_piece.ensures.bytes (record { running = c.requires.running; quiet = c.requires.quiet; heeds = λ past serves. c.feed_control.ensures.heeds c.requires.running past serves })
     (c.read_piece.ensures.some (omega (arith, not_zero)))
