@@ -33,7 +33,7 @@ use Rattle.client_replies.specs.ProtocolStates.{ProtocolState, target_of, is_run
 use Rattle.net_client.specs.ClientStates.{ClientState, ClientRepresents, IsNewClient, after_client_end}
 use Rattle.net_jobs.specs.JobTraces.{TraceEvent, Replied, Opened, Came, Finished, Gave, Turned, JobTrace, BytesMatchTrace, EventsLead, EndWell}
 use Rattle.net_jobs.specs.JobJournal.{JobMove, MovesLead, WritesShort, Writes, Fails, given_by, bytes_written_by, heard_by, dialled_by, has_write_failed}
-use Rattle.net_jobs.specs.JobSteps.{AreSteps, FileRunsOut}
+use Rattle.net_jobs.specs.JobSteps.{MovesAreSteps, FileRunsOut}
 use Rattle.net_jobs.specs.Inside.{GivesAll, CallNotes, NotesMatch, HasRunNoted, no_notes, TakesLeave, StopsAs, HoldsGiven, IsDrainedTo, StopsBehind, Silent, Whole, Short}
 use Rattle.net_jobs.specs.Links.{JobLinks, LinkViews, views_of, Calls, Called, HasBrought, BeginWith}
 use Rattle.net_jobs.proofs.InvariantRecords.{LinkMatchesTrace, ClientFollowsTrace, Falls, GivenFiles, no_files_given, RunInvariant, FullRunInvariant, AsksPorts}
@@ -195,7 +195,7 @@ drained_more {C} {R} views left_of job first coming0 held notes control coming s
       going = h.0;
       taken = subst (λ (l : List ℕ). Appends held holds (l ++ bytes)) s.given_is d.taken;
       none = λ other. absurd (other scan);
-      steps = subst (λ (l : List JobMove). AreSteps h.0.fresh l now) (sym h.2) (subst (λ (v : ClientState). AreSteps v (gives ++ g.moves) now) (sym h.3) steps);
+      steps = subst (λ (l : List JobMove). MovesAreSteps h.0.fresh l now) (sym h.2) (subst (λ (v : ClientState). MovesAreSteps v (gives ++ g.moves) now) (sym h.3) steps);
       shown = λ w is_scan alive joined p shows.
           subst (λ (l : List ℕ). Denotes (l ++ bytes) p) s.given_is
           (d.denotes (sym (ap (λ (v : ClientState). is_ended v.outcome) d.rest) ∙ alive) (subst (λ (q : JoinHistory). IsJoined q) past_is joined) p (subst (λ (q : JoinHistory). ShowsFrames q.ended p) past_is shows));
@@ -237,7 +237,7 @@ pub record Closed {C R : Type 0} (views : LinkViews C) (left_of : R → Option (
   pub is_fresh : IsNewClient job fresh
   pub leads : MovesLead fresh moves last
   pub ends : last.outcome ≡ c.outcome
-  pub steps : (whole ≡ true) ⊎ (is_ended c.outcome ≡ true) → AreSteps fresh moves last
+  pub steps : (whole ≡ true) ⊎ (is_ended c.outcome ≡ true) → MovesAreSteps fresh moves last
   pub gave : files_text given.pages ++ given.bytes ≡ given_by moves
   pub all : has_write_failed moves ≡ false → left ≡ []
   pub taken : Appends held holds given.bytes
@@ -273,7 +273,7 @@ stops_over (Done reports) stop ends = refl
 stops_over (Ended status why) stop ends = refl
 
 -- all moves are steps, where all bytes of the file went out, or no more will
-steps_at : (whole : Bool) (task : Task) (first : ClientState) (moves : List JobMove) (c : ClientState) → StepsBy whole task first moves c → (whole ≡ true) ⊎ (is_ended c.outcome ≡ true) → AreSteps first moves c
+steps_at : (whole : Bool) (task : Task) (first : ClientState) (moves : List JobMove) (c : ClientState) → StepsBy whole task first moves c → (whole ≡ true) ⊎ (is_ended c.outcome ≡ true) → MovesAreSteps first moves c
 steps_at true task first moves c s either = s
 steps_at false task first moves c s (inl e) = absurd (let clash : false ≡ true = e in cc)
 steps_at false task first moves c s (inr ended) = steps_over task first moves c ended s
@@ -531,9 +531,9 @@ pub cause_of : (moves : List JobMove) (protocol : ProtocolState) (rest : List �
 cause_of moves protocol rest outcome told e (inl x) = inl (x ∙ e)
 cause_of moves protocol rest outcome told e (inr x) = inr (inl (subst (λ (o : Outcome). EndsBy moves protocol rest o) e x))
 
-same_steps : (a b : ClientState) (moves more : List JobMove) (c d : ClientState) → b ≡ a → more ≡ moves → d ≡ c → AreSteps a moves c → AreSteps b more d
+same_steps : (a b : ClientState) (moves more : List JobMove) (c d : ClientState) → b ≡ a → more ≡ moves → d ≡ c → MovesAreSteps a moves c → MovesAreSteps b more d
 same_steps a b moves more c d first all last s =
-    subst (λ (v : ClientState). AreSteps v more d) (sym first) (subst (λ (l : List JobMove). AreSteps a l d) (sym all) (subst (λ (v : ClientState). AreSteps a moves v) (sym last) s))
+    subst (λ (v : ClientState). MovesAreSteps v more d) (sym first) (subst (λ (l : List JobMove). MovesAreSteps a l d) (sym all) (subst (λ (v : ClientState). MovesAreSteps a moves v) (sym last) s))
 
 -- a job that has ended otherwise has another status than GOOD
 abbrev pub HasRefusal : Outcome → Type 0

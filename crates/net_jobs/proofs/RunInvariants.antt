@@ -16,7 +16,7 @@ use Rattle.client_replies.specs.ProtocolStates.{is_running, is_receiving, is_ima
 use Rattle.net_client.specs.ClientStates.{ClientState, after_client_end, IsNewClient}
 use Rattle.net_jobs.specs.declared.calls.Loss.TheVariants.{DialFailed}
 use Rattle.net_jobs.specs.JobJournal.{AreGives, JobMove, Writes, Fails, Hears, Resumes, Dials, Takes, Gives, Loses, given_by, HearsPiece, TakesPiece, LosesLink, after_loss, dialled_by, heard_by, bytes_written_by, HasLoss}
-use Rattle.net_jobs.specs.JobSteps.{AreSteps}
+use Rattle.net_jobs.specs.JobSteps.{MovesAreSteps}
 use Rattle.net_jobs.specs.Inside.{AreOfTurn, AreQuiet, Quiet, Delivered, IsDelivery, GivesAll, CallNotes, NotesMatch, no_notes, LoopState, Moves, MovesAll}
 use Rattle.net_jobs.specs.JobTraces.{JobTrace}
 use Rattle.net_jobs.specs.Links.{LinkViews}
@@ -98,7 +98,7 @@ stage_wrote left_of job moves read_ wrote left piece after_ coming0 coming given
 -- ---- the control connection
 
 pub going_begun : {C R : Type 0} (views : LinkViews C) (left_of : R → Option (List ℕ)) (job : Job) (control : C) (coming : Option (List (List ℕ))) (c : ClientState) → IsNewClient job c
-    → (g : FullRunInvariant views left_of job control coming no_files_given no_notes control coming None c) × (g.stage.history ≡ empty_history) × AreSteps g.fresh g.moves c
+    → (g : FullRunInvariant views left_of job control coming no_files_given no_notes control coming None c) × (g.stage.history ≡ empty_history) × MovesAreSteps g.fresh g.moves c
 going_begun views left_of job control coming c f =
     let s = stage_begun left_of job coming c f in
     (record { moves = []; left = c.out; calls = refl; stage = s.0; left_is = λ e. refl; notes_are = record { loss = refl; write_failed = refl }; fresh = c; is_fresh = f; leads = refl; gave = refl }, s.1, steps_begin c)
@@ -365,7 +365,7 @@ moved_adds views left_of job first coming0 given was now (Gives bytes) m g = abs
 -- how far a job is that made steps alone, and is not done
 record StandsBySteps {L R : Type 0} (views : LinkViews L) (left_of : R → Option (List ℕ)) (job : Job) (first : L) (coming0 : Option (List (List ℕ))) (given : GivenFiles) (now : LoopState L R) : Type 0 where
   going : FullRunInvariant views left_of job first coming0 given now.notes now.links now.coming now.stream now.client
-  steps : AreSteps going.fresh going.moves now.client
+  steps : MovesAreSteps going.fresh going.moves now.client
   not_done : NotDone now.client.outcome
 
 quiet_turn : {L R : Type 0} (views : LinkViews L) (left_of : R → Option (List ℕ)) (job : Job) (first : L) (coming0 : Option (List (List ℕ))) (given : GivenFiles) (was now : LoopState L R) (moves : List JobMove) → AreQuiet moves → MovesAll views left_of was moves now
@@ -378,14 +378,14 @@ quiet_turn views left_of job first coming0 given was now (move ∷ moves) quiet 
     let steps = steps_quiet r.going.fresh r.going.moves m.0.client move now.client r.steps (r.going.notes_are.write_failed ∙ m.2.up) quiet.0 m.2.client in
     record {
       going = h;
-      steps = subst (λ (l : List JobMove). AreSteps h.fresh l now.client) (sym adds.0) (subst (λ (c : ClientState). AreSteps c (move ∷ r.going.moves) now.client) (sym adds.1) steps);
+      steps = subst (λ (l : List JobMove). MovesAreSteps h.fresh l now.client) (sym adds.0) (subst (λ (c : ClientState). MovesAreSteps c (move ∷ r.going.moves) now.client) (sym adds.1) steps);
       not_done = quiet_not_done m.0.client move now.client quiet.0 m.2.client r.not_done;
     }
 
 -- how far a job is behind a turn: all that came brought its bytes of the file, or what came last has still to
 pub record HasTurned {L R : Type 0} (views : LinkViews L) (left_of : R → Option (List ℕ)) (job : Job) (first : L) (coming0 : Option (List (List ℕ))) (given : GivenFiles) (came : Bool) (now : LoopState L R) : Type 0 where
   pub going : FullRunInvariant views left_of job first coming0 given now.notes now.links now.coming now.stream now.client
-  pub steps : (AreSteps going.fresh going.moves now.client × NotDone now.client.outcome × (came ≡ true → is_running now.client.outcome ≡ false)) ⊎ (LastDelivers job.task going.fresh going.moves now.client × (came ≡ true))
+  pub steps : (MovesAreSteps going.fresh going.moves now.client × NotDone now.client.outcome × (came ≡ true → is_running now.client.outcome ≡ false)) ⊎ (LastDelivers job.task going.fresh going.moves now.client × (came ≡ true))
 
 delivers_turn : {L R : Type 0} (views : LinkViews L) (left_of : R → Option (List ℕ)) (job : Job) (first : L) (coming0 : Option (List (List ℕ))) (given : GivenFiles) (came : Bool) (was now : LoopState L R) (move : JobMove) (before : List JobMove) → IsDelivery move → AreQuiet before → came ≡ true → MovesAll views left_of was (move ∷ before) now
     → StandsBySteps views left_of job first coming0 given was → HasTurned views left_of job first coming0 given came now
@@ -401,7 +401,7 @@ delivers_turn views left_of job first coming0 given came was now move before del
           move = move;
           mid = m.0.client;
           moves_are = adds.0;
-          steps = subst (λ (c : ClientState). AreSteps c r.going.moves m.0.client) (sym adds.1) r.steps;
+          steps = subst (λ (c : ClientState). MovesAreSteps c r.going.moves m.0.client) (sym adds.1) r.steps;
           up = r.going.notes_are.write_failed ∙ m.2.up;
           delivers = delivers;
           leads = m.2.client;
@@ -429,7 +429,7 @@ pub turned_still : {L R : Type 0} (views : LinkViews L) (left_of : R → Option 
     → AreStepsSoFar job.task t.going.fresh t.going.moves now.client
 turned_still views left_of job first coming0 given came now t none = by t.steps none
   where
-    by : (AreSteps t.going.fresh t.going.moves now.client × NotDone now.client.outcome × (came ≡ true → is_running now.client.outcome ≡ false)) ⊎ (LastDelivers job.task t.going.fresh t.going.moves now.client × (came ≡ true)) → (came ≡ false) ⊎ (is_running now.client.outcome ≡ false)
+    by : (MovesAreSteps t.going.fresh t.going.moves now.client × NotDone now.client.outcome × (came ≡ true → is_running now.client.outcome ≡ false)) ⊎ (LastDelivers job.task t.going.fresh t.going.moves now.client × (came ≡ true)) → (came ≡ false) ⊎ (is_running now.client.outcome ≡ false)
         → AreStepsSoFar job.task t.going.fresh t.going.moves now.client
     by (inl all) either = AllGiven all.0 all.1
     by (inr last) (inl off) = absurd (let clash : true ≡ false = sym last.1 ∙ off in cc)
@@ -439,6 +439,6 @@ pub turned_delivers : {L R : Type 0} (views : LinkViews L) (left_of : R → Opti
     → LastDelivers job.task t.going.fresh t.going.moves now.client
 turned_delivers views left_of job first coming0 given came now t is runs = by t.steps
   where
-    by : (AreSteps t.going.fresh t.going.moves now.client × NotDone now.client.outcome × (came ≡ true → is_running now.client.outcome ≡ false)) ⊎ (LastDelivers job.task t.going.fresh t.going.moves now.client × (came ≡ true)) → LastDelivers job.task t.going.fresh t.going.moves now.client
+    by : (MovesAreSteps t.going.fresh t.going.moves now.client × NotDone now.client.outcome × (came ≡ true → is_running now.client.outcome ≡ false)) ⊎ (LastDelivers job.task t.going.fresh t.going.moves now.client × (came ≡ true)) → LastDelivers job.task t.going.fresh t.going.moves now.client
     by (inl all) = absurd (let clash : true ≡ false = sym runs ∙ all.2 is in cc)
     by (inr last) = last.0

@@ -13,7 +13,7 @@ use Rattle.client_replies.specs.ProtocolStates.{is_ended, is_lost_by, is_running
 use Rattle.net_client.specs.ClientStates.{ClientState, after_client_end}
 use Rattle.net_jobs.specs.JobJournal.{AreGives, JobMove, MoveLeads, after_loss, has_write_failed}
 use Rattle.net_jobs.specs.JobJournal.JobMove.{Writes, Fails, Hears, Resumes, Dials, Takes, Gives, Loses}
-use Rattle.net_jobs.specs.JobSteps.{AreSteps, GivesNone, GivesOut, JobStep, StepLeads, StepsLead, has_failed, is_failed_write, moves_of}
+use Rattle.net_jobs.specs.JobSteps.{MovesAreSteps, GivesNone, GivesOut, JobStep, StepLeads, StepsLead, has_failed, is_failed_write, moves_of}
 use Rattle.net_jobs.specs.Inside.{IsDelivery, IsQuiet}
 use Rattle.net_jobs.proofs.Giving.{failed_on_gives}
 
@@ -49,12 +49,12 @@ failed_alike first [] last l = refl
 failed_alike first (step ∷ steps) last l =
     failed_on_gives step.gives (step.move ∷ moves_of steps) (gives_are l.0 step.move step.gives last l.3) ∙ failed_with step.move (moves_of steps) ∙ ap (λ (b : Bool). is_failed_write step.move || b) (failed_alike first steps l.0 l.1)
 
-none_failed : (first : ClientState) (moves : List JobMove) (last : ClientState) → has_write_failed moves ≡ false → (s : AreSteps first moves last) → has_failed s.steps ≡ false
+none_failed : (first : ClientState) (moves : List JobMove) (last : ClientState) → has_write_failed moves ≡ false → (s : MovesAreSteps first moves last) → has_failed s.steps ≡ false
 none_failed first moves last up s = sym (failed_alike first s.steps last s.lead) ∙ sym (ap has_write_failed s.moves_are) ∙ up
 
 -- ---- a move by which nothing comes
 
-pub steps_begin : (first : ClientState) → AreSteps first [] first
+pub steps_begin : (first : ClientState) → MovesAreSteps first [] first
 steps_begin first = record { steps = []; moves_are = refl; lead = refl }
 
 quiet_leads : (old : ClientState) (move : JobMove) (new : ClientState) → IsQuiet move → MoveLeads old move new → StepLeads old (record { move = move; gives = [] }) new
@@ -68,7 +68,7 @@ quiet_leads old (Takes piece) new is m = absurd is
 quiet_leads old (Gives bytes) new is m = absurd is
 quiet_leads old Resumes new is m = absurd is
 
-pub steps_quiet : (first : ClientState) (moves : List JobMove) (was : ClientState) (move : JobMove) (now : ClientState) → AreSteps first moves was → has_write_failed moves ≡ false → IsQuiet move → MoveLeads was move now → AreSteps first (move ∷ moves) now
+pub steps_quiet : (first : ClientState) (moves : List JobMove) (was : ClientState) (move : JobMove) (now : ClientState) → MovesAreSteps first moves was → has_write_failed moves ≡ false → IsQuiet move → MoveLeads was move now → MovesAreSteps first (move ∷ moves) now
 steps_quiet first moves was move now s up is m = record {
   steps = record { move = move; gives = [] } ∷ s.steps;
   moves_are = ap (λ (l : List JobMove). move ∷ l) s.moves_are;
@@ -83,7 +83,7 @@ pub record LastDelivers (task : Task) (first : ClientState) (moves : List JobMov
   pub move : JobMove
   pub mid : ClientState
   pub moves_are : moves ≡ move ∷ before
-  pub steps : AreSteps first before mid
+  pub steps : MovesAreSteps first before mid
   pub up : has_write_failed before ≡ false
   pub delivers : IsDelivery move
   pub leads : MoveLeads mid move last
@@ -99,7 +99,7 @@ delivery_leads old (Dials port made) mid gives new b e is m out = absurd is
 delivery_leads old (Gives bytes) mid gives new b e is m out = absurd is
 delivery_leads old (Loses link reason) mid gives new b e is m out = absurd is
 
-pub steps_given : (task : Task) (first : ClientState) (moves : List JobMove) (last : ClientState) (gives : List JobMove) (now : ClientState) (b : Bool) → scans task ≡ b → LastDelivers task first moves last → GivesOut b last gives now → AreSteps first (gives ++ moves) now
+pub steps_given : (task : Task) (first : ClientState) (moves : List JobMove) (last : ClientState) (gives : List JobMove) (now : ClientState) (b : Bool) → scans task ≡ b → LastDelivers task first moves last → GivesOut b last gives now → MovesAreSteps first (gives ++ moves) now
 steps_given task first moves last gives now b e d out = record {
   steps = record { move = d.move; gives = gives } ∷ d.steps.steps;
   moves_are = ap (λ (l : List JobMove). gives ++ l) (d.moves_are ∙ ap (λ (l : List JobMove). d.move ∷ l) d.steps.moves_are);
@@ -111,7 +111,7 @@ ended_gives true c e = inr (e, (refl, refl))
 ended_gives false c e = (refl, refl)
 
 -- a job that has ended gives nothing more
-pub steps_ended : (task : Task) (first : ClientState) (moves : List JobMove) (last : ClientState) → is_ended last.outcome ≡ true → LastDelivers task first moves last → AreSteps first moves last
+pub steps_ended : (task : Task) (first : ClientState) (moves : List JobMove) (last : ClientState) → is_ended last.outcome ≡ true → LastDelivers task first moves last → MovesAreSteps first moves last
 steps_ended task first moves last e d = steps_given task first moves last [] last (scans task) refl d (ended_gives (scans task) last e)
 
 -- ---- between two turns
@@ -150,10 +150,10 @@ quiet_not_done old Resumes new is m n = absurd is
 
 -- all that came brought its bytes of the file; or the job is over, and what came last has still to
 pub data AreStepsSoFar (task : Task) (first : ClientState) (moves : List JobMove) (last : ClientState) : Type 0 where
-  AllGiven : AreSteps first moves last → NotDone last.outcome → AreStepsSoFar task first moves last
+  AllGiven : MovesAreSteps first moves last → NotDone last.outcome → AreStepsSoFar task first moves last
   ToBeGiven : LastDelivers task first moves last → is_running last.outcome ≡ false → AreStepsSoFar task first moves last
 
-pub all_given : (task : Task) (first : ClientState) (moves : List JobMove) (last : ClientState) → is_running last.outcome ≡ true → AreStepsSoFar task first moves last → AreSteps first moves last
+pub all_given : (task : Task) (first : ClientState) (moves : List JobMove) (last : ClientState) → is_running last.outcome ≡ true → AreStepsSoFar task first moves last → MovesAreSteps first moves last
 all_given task first moves last runs (AllGiven s n) = s
 all_given task first moves last runs (ToBeGiven d over) = absurd (let clash : true ≡ false = sym runs ∙ over in cc)
 
@@ -161,10 +161,10 @@ pub to_be_given : (task : Task) (first : ClientState) (moves : List JobMove) (la
 to_be_given task first moves last reports done (AllGiven s n) = absurd (subst NotDone done n)
 to_be_given task first moves last reports done (ToBeGiven d over) = d
 
-pub steps_over : (task : Task) (first : ClientState) (moves : List JobMove) (last : ClientState) → is_ended last.outcome ≡ true → AreStepsSoFar task first moves last → AreSteps first moves last
+pub steps_over : (task : Task) (first : ClientState) (moves : List JobMove) (last : ClientState) → is_ended last.outcome ≡ true → AreStepsSoFar task first moves last → MovesAreSteps first moves last
 steps_over task first moves last e (AllGiven s n) = s
 steps_over task first moves last e (ToBeGiven d over) = steps_ended task first moves last e d
 
 abbrev pub StepsBy : Bool → Task → ClientState → List JobMove → ClientState → Type 0
-StepsBy true task first moves last = AreSteps first moves last
+StepsBy true task first moves last = MovesAreSteps first moves last
 StepsBy false task first moves last = AreStepsSoFar task first moves last

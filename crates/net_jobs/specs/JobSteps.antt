@@ -83,8 +83,8 @@ abbrev pub moves_of : List JobStep → List JobMove
 moves_of [] = []
 moves_of (step ∷ steps) = step.gives ++ step.move ∷ moves_of steps
 
--- the moves are steps one after another
-pub record AreSteps (first : ClientState) (moves : List JobMove) (last : ClientState) : Type 0 where
+-- the moves are those of steps one after another
+pub record MovesAreSteps (first : ClientState) (moves : List JobMove) (last : ClientState) : Type 0 where
   pub steps : List JobStep
   pub moves_are : moves ≡ moves_of steps
   pub lead : StepsLead first steps last

@@ -23,7 +23,7 @@ use Rattle.scan_job.specs.declared.outcome.Why.TheVariants as whys
 use Rattle.scan_job.specs.declared.report.Reports.{Reports}
 use Rattle.scan_job.specs.declared.stop.Stop.{Stop}
 use Rattle.net_jobs.specs.JobJournal.{JobMove, MovesLead, bytes_written_by, heard_by, given_by, dialled_by, has_write_failed, HasLoss}
-use Rattle.net_jobs.specs.JobSteps.{AreSteps}
+use Rattle.net_jobs.specs.JobSteps.{MovesAreSteps}
 use Rattle.net_jobs.specs.JobTraces.{JobTrace, BytesMatchTrace, EndWell, ports_named}
 use Rattle.net_jobs.specs.Links.{JobLinks, LinkViews, Calls, HasBrought, BeginWith}
 
@@ -88,7 +88,7 @@ pub record RanDone {L : Type 0} (views : LinkViews L) (job : Job) (was now : See
   pub ran : RanWithTrace views job was now
   pub told : ran.trace.protocol.outcome ≡ Done reports
   pub last_told : ran.last.outcome ≡ Done reports
-  pub steps : AreSteps ran.first ran.moves ran.last
+  pub steps : MovesAreSteps ran.first ran.moves ran.last
   pub all : has_write_failed ran.moves ≡ false → ran.left ≡ []
   pub read_all : ran.unread ≡ []
   pub end_well : EndWell ran.did.events
@@ -124,7 +124,7 @@ pub record RanEnded {L : Type 0} (views : LinkViews L) (job : Job) (was now : Se
   pub ran : RanWithTrace views job was now
   pub cause : HasEndingCause ran.moves ran.trace.protocol ran.rest (Ended stop.status stop.why)
   pub last_told : IsToldAs ran.last.outcome (Ended stop.status stop.why)
-  pub steps : ran.last.outcome ≡ Ended stop.status stop.why → AreSteps ran.first ran.moves ran.last
+  pub steps : ran.last.outcome ≡ Ended stop.status stop.why → MovesAreSteps ran.first ran.moves ran.last
   pub all : stop.why ≢ whys.Sink → has_write_failed ran.moves ≡ false → ran.left ≡ []
   pub refusal : stop.status ≢ statuses.Good
   pub text : List ℕ

@@ -351,7 +351,8 @@ fn drain<W: Write>(client: &mut Client, room: &mut [u8], out: &mut W, tally: &mu
     ensures calls { KeepsNotes tally.old tally.new }
     ensures outcome { client.new.outcome ≡ client.old.outcome }
     // `first` is what the output held before the file, and `past` what the client was told and gave.
-    ensures drained { result ≡ true → (gives : List JobMove) × FileRunsOut client.old gives client.new
+    ensures drained { result ≡ true
+        → (gives : List JobMove) × FileRunsOut client.old gives client.new
         × ((first : Option (List ℕ)) (past : JoinHistory)
         → HoldsGiven past client.old first (W.contents out.old) → IsDrainedTo past
         client.old first (given_by gives) client.new (W.contents out.new)) }
