@@ -11,8 +11,8 @@ use Rattle.system_model.specs.AbstractMessages.{AbstractReply, AbstractRequest}
 use Rattle.system_model.specs.Client.{JobStage, Idle, Running, Done, Ended}
 use Rattle.system_model.specs.Devices.{Make}
 use Rattle.system_model.specs.Invariants.{StageInvariant}
-use Rattle.system_model.specs.SystemStates.{JobState}
-use Rattle.system_model.specs.Transitions.{IsUnderWay, device_for, make_for}
+use Rattle.system_model.specs.SystemStates.{JobState, device_for, make_for}
+use Rattle.system_model.specs.Transitions.{IsUnderWay}
 use Rattle.scan_world.specs.declared.endpoint.Endpoint.{Endpoint}
 use Rattle.scan_world.specs.Worlds.{WorldCore}
 use Rattle.world_refines.specs.GhostStates.{Ghost, place_of_info}
@@ -39,24 +39,25 @@ answered_by i k p dev (Running g) u n (inr (inr dead)) = inl dead.due
 answered_by i k p dev Done u n h = absurd u
 answered_by i k p dev (Ended status why) u n h = absurd u
 
+said_all : (t : Ghost) (i : ℕ) (p : Endpoint) → (t.system.job i).due ≡ [] → SpellsReplies (place_of_info t.infos) p.client.progress (t.system.job i).due ((t.wires i).telling ++ (t.wires i).down) → (t.wires i).telling ≡ []
+said_all t i p none spelled = (nil_both (t.wires i).telling (t.wires i).down (subst (λ (due : List AbstractReply). SpellsReplies (place_of_info t.infos) p.client.progress due ((t.wires i).telling ++ (t.wires i).down)) none spelled)).0
+
+asked_all : (t : Ghost) (i : ℕ) → (t.system.job i).todo ≡ [] → SpellsAsked (t.jobs i) (t.system.job i).client (t.system.job i).todo ((t.wires i).asking ++ (t.wires i).up) → (t.wires i).up ≡ []
+asked_all t i none spelled =
+    (nil_both (t.wires i).asking (t.wires i).up (nothing_said (target_of (t.jobs i)) ((t.wires i).asking ++ (t.wires i).up) (subst (λ (todo : List AbstractRequest). SpellsAsked (t.jobs i) (t.system.job i).client todo ((t.wires i).asking ++ (t.wires i).up)) none spelled))).1
+
 in_turn : (t : Ghost) (w : WorldCore) → WorldRefines t w → HearsInTurn w
-in_turn t w h i p id at link runs early = by (answered_by i (make_for t.system i) me (device_for t.system i) me.client.stage under begun (h.sound.talks i))
+in_turn t w h i p id at link runs early =
+    let s = h.endpoints i p at in
+    let me = t.system.job i in
+    let under = runs_under (place_of_info t.infos) (target_of (t.jobs i)) me.session.job (map (λ (q : JoinHistory). q.ended) (t.pages i)) (protocol_of p.client (t.history i)) me.client s.talks.reads runs in
+    let begun : me.client.stage ≡ Idle → ⊥ = λ idle. (let clash : None ≡ Some id = sym (s.means.before (s.talks.idle idle)).0 ∙ link in cc) in
+    by s.carries.telling s.carries.up (s.means.down under) s.means.up (answered_by i (make_for t.system i) me (device_for t.system i) me.client.stage under begun (h.sound.talks i))
   where
-    me = t.system.job i
-    x = t.wires i
-    s = h.endpoints i p at
-    under = runs_under (place_of_info t.infos) (target_of (t.jobs i)) me.session.job (map (λ (q : JoinHistory). q.ended) (t.pages i)) (protocol_of p.client (t.history i)) me.client s.talks.reads runs
-
-    begun : me.client.stage ≡ Idle → ⊥
-    begun idle = let clash : None ≡ Some id = sym (s.means.before (s.talks.idle idle)).0 ∙ link in cc
-
-    by : IsAnswered me → ⊥
-    by (inl none) =
-        let text : x.telling ++ x.down ≡ [] = subst (λ (due : List AbstractReply). SpellsReplies (place_of_info t.infos) p.client.progress due (x.telling ++ x.down)) none (s.means.down under) in
-        early.1 (s.carries.telling ∙ (nil_both x.telling x.down text).0)
-    by (inr answered) =
-        let quiet : x.asking ++ x.up ≡ [] = nothing_said (target_of (t.jobs i)) (x.asking ++ x.up) (subst (λ (todo : List AbstractRequest). SpellsAsked (t.jobs i) me.client todo (x.asking ++ x.up)) answered.0 (s.means.up answered.1)) in
-        early.0 (s.carries.up ∙ (nil_both x.asking x.up quiet).1)
+    by : p.client.input.rest ≡ (t.wires i).telling → p.client.out ≡ (t.wires i).up → SpellsReplies (place_of_info t.infos) p.client.progress (t.system.job i).due ((t.wires i).telling ++ (t.wires i).down)
+        → ((t.system.job i).served ≡ true → SpellsAsked (t.jobs i) (t.system.job i).client (t.system.job i).todo ((t.wires i).asking ++ (t.wires i).up)) → IsAnswered (t.system.job i) → ⊥
+    by rest out down up (inl none) = early.1 (rest ∙ said_all t i p none down)
+    by rest out down up (inr answered) = early.0 (out ∙ asked_all t i answered.0 (up answered.1))
 
 pub always_in_turn : NewWorldsRefine → EventsFollow → WorldsHearInTurn
 always_in_turn new follows devices jobs other d w fit is events v leads =

@@ -39,7 +39,7 @@ use Rattle.scan_world.specs.declared.endpoint.Endpoint.{Endpoint}
 use Rattle.scan_world.specs.Endpoints.{after_move, with_link}
 use Rattle.scan_world.specs.JobEvents.{Can, Connects, Does, IsFlowing, frame_state_at, image_lost}
 use Rattle.scan_world.specs.Worlds.{AtEndpoint, Leads, WorldCore}
-use Rattle.programs_refine.specs.WorldHistory.{AlwaysWantsBeforeItFlows, IsOfConnections, LeadsBy}
+use Rattle.programs_refine.specs.WorldHistory.{AlwaysHearsInTurn, AlwaysWantsBeforeItFlows, IsOfConnections, LeadsBy}
 use Rattle.programs_refine.proofs.Delivered.{slot_was}
 use Rattle.programs_refine.proofs.Flowing.{feeds_flow, flows_or_not, frame_apart, frame_same, last_ends, lost_ends, loses_nothing, on_number, turn_apart, turn_slots, turns_nothing}
 use Rattle.programs_refine.proofs.Lists.{there}
