@@ -1,6 +1,6 @@
 -- The moves of a job's loop are steps: behind what comes the job's file goes out.
 use Rattle.std.specs.Prelude.{◌||◌, if◌then◌else◌}
-use Rattle.std.proofs.Common.{◌≡◌, ◌∙◌, ◌⊎◌, inl, inr, Bool, true, false, List, [], ◌∷◌, ◌++◌, refl, sym, ap, subst}
+use Rattle.std.proofs.Common.{◌≡◌, ◌∙◌, inl, inr, Bool, true, false, List, [], ◌∷◌, ◌++◌, refl, sym, ap, subst}
 use Rattle.sane_fixed.specs.declared.status.Status.TheVariants as statuses
 use Rattle.scan_job.specs.declared.job.Task.{Task}
 use Rattle.scan_job.specs.declared.outcome.Outcome.{Outcome}
@@ -13,7 +13,7 @@ use Rattle.client_replies.specs.ProtocolStates.{is_ended, is_lost_by, is_running
 use Rattle.net_client.specs.ClientStates.{ClientState, after_client_end}
 use Rattle.net_jobs.specs.JobJournal.{AreGives, JobMove, MoveLeads, after_loss, has_write_failed}
 use Rattle.net_jobs.specs.JobJournal.JobMove.{Writes, Fails, Hears, Resumes, Dials, Takes, Gives, Loses}
-use Rattle.net_jobs.specs.JobSteps.{MovesAreSteps, GivesNone, GivesOut, JobStep, StepLeads, StepsLead, has_failed, is_failed_write, moves_of}
+use Rattle.net_jobs.specs.JobSteps.{MovesAreSteps, GivesOut, JobStep, StepLeads, StepsLead, has_failed, is_failed_write, moves_of}
 use Rattle.net_jobs.specs.Inside.{IsDelivery, IsQuiet}
 use Rattle.net_jobs.proofs.Giving.{failed_on_gives}
 

@@ -3,7 +3,7 @@ use Rattle.std.specs.Prelude.{ℕ, ◌≡◌, ◌⊎◌, ◌||◌, Bool, true, f
 use Rattle.client_replies.specs.ProtocolStates.{is_ended, scans}
 use Rattle.net_client.specs.ClientStates.{ClientState, HasEarlyReply}
 use Rattle.net_jobs.specs.JobJournal.{AreGives, HearsPiece, IsPiece, JobMove, MoveLeads, MovesLead, TakesPiece, given_by}
-use Rattle.net_jobs.specs.JobJournal.JobMove.{Writes, Fails, Hears, Resumes, Dials, Takes, Gives, Loses}
+use Rattle.net_jobs.specs.JobJournal.JobMove.{Fails, Hears, Resumes, Takes, Gives}
 
 -- a move, and the moves by which bytes of the job's file go out behind it, the newest first
 pub record JobStep : Type 0 where

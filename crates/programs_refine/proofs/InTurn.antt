@@ -1,11 +1,10 @@
 -- A job that runs and has a request to send has heard all that was said to it.
 use Rattle.std.specs.Prelude.{map}
-use Rattle.std.proofs.Common.{◌≡◌, ◌≢◌, ◌∙◌, ◌⊎◌, inl, inr, ℕ, true, false, Option, Some, None, List, [], ◌∷◌, ◌++◌, slice_get, sym, ap, subst}
+use Rattle.std.proofs.Common.{◌≡◌, ◌∙◌, ◌⊎◌, inl, inr, ℕ, true, Some, None, List, [], ◌++◌, sym, subst}
 use Rattle.page_picture.specs.SourceView.{source_state}
 use Rattle.frame_join.specs.FrameHistory.{JoinHistory}
-use Rattle.client_replies.specs.ProtocolStates.{is_running, target_of}
-use Rattle.net_client.specs.ClientStates.{HasEarlyReply, protocol_of}
-use Rattle.saned_core.specs.declared.session_slot.SessionId.{SessionId}
+use Rattle.client_replies.specs.ProtocolStates.{target_of}
+use Rattle.net_client.specs.ClientStates.{protocol_of}
 use Rattle.system_model.specs.AbstractDevices.{AbstractDevice}
 use Rattle.system_model.specs.AbstractMessages.{AbstractReply, AbstractRequest}
 use Rattle.system_model.specs.Client.{JobStage, Idle, Running, Done, Ended}

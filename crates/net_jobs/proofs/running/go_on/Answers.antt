@@ -1,9 +1,9 @@
-use Rattle.std.proofs.Common.{◌≡◌, ◌∙◌, [], None, Option, true, false, refl, rules, sym, ap}
+use Rattle.std.proofs.Common.{◌≡◌, ◌∙◌, [], None, true, refl, rules, sym, ap}
 use Rattle.std.proofs.KnownBytes.{Consumes-nil}
-use Rattle.net_jobs.specs.Inside.{CallNotes, Quiet, ReadAhead, ahead_of, left_ahead}
+use Rattle.net_jobs.specs.Inside.{CallNotes, Quiet, ahead_of, left_ahead}
 use Rattle.net_jobs.specs.Links.{views_of}
 use Rattle.net_jobs.specs.declared.calls.CallTally.{CallTally}
-use Rattle.net_jobs.proofs.Turning.{loop_at, never_came, noted_as, same_notes, turn_from, turn_resumes, turn_sees, turn_used_up}
+use Rattle.net_jobs.proofs.Turning.{loop_at, never_came, same_notes, turn_from, turn_resumes, turn_sees, turn_used_up}
 use Rattle.net_jobs.proofs.running.go_on.Goals as goal
 
 pub returns-then-not-take_turn-clause-moved : goal.returns-then-not-take_turn-clause-moved
