@@ -17,6 +17,7 @@ use Rattle.daemon_refines.specs.Spelling.{Manner}
 use Rattle.daemon_refines.specs.Agreeing.{Agrees, manner}
 use Rattle.daemon_refines.specs.WholeSessions.{IsGuarded, IsJudged, IsLast, IsOtherRequest}
 use Rattle.daemon_refines.specs.DeviceWords.{MayFailAt}
+use Rattle.daemon_refines.specs.Failures.{IsCounted}
 use Rattle.daemon_refines.specs.ModelRequests.{IsAwaitedCall, IsCallBy, IsFreeCall, RequestServed, RequestsAgree, with_chance, device_word_of}
 use Rattle.daemon_refines.proofs.Sources.{no_failure}
 use Rattle.daemon_refines.proofs.SessionEndings.{devices_agree, ends_agree, init_agrees, others_end}
@@ -45,10 +46,10 @@ for_request i make d table s q x call request said new e h = subst (λ (r : Abst
 -- a session that awaits nothing
 abbrev FreeBound : ℕ → (ℕ → Make) → RequestContext → (ℕ → AbstractDevice) → AbstractSession → Asked → AddressedRequest → (ℕ → Environment) → RequestAnswer → RequestContext → Type 0
 FreeBound i make d table s q call x said new =
-    (challenge : Challenge) × (fault : Option FailureCounts) × MayFailAt make (s.words call.word) fault × Agrees i make (manner d (device_word_of q)) q (answer_call i make table s (with_chance x call.place challenge fault) None call) said new
+    (challenge : Challenge) × (fault : Option FailureCounts) × MayFailAt make (s.words call.word) fault × IsCounted d.session.held new.session.held call.word fault × Agrees i make (manner d (device_word_of q)) q (answer_call i make table s (with_chance x call.place challenge fault) None call) said new
 
 plain : (i : ℕ) (make : ℕ → Make) (d : RequestContext) (table : ℕ → AbstractDevice) (s : AbstractSession) (q : Asked) (call : AddressedRequest) (x : ℕ → Environment) (said : RequestAnswer) (new : RequestContext) → Agrees i make (manner d (device_word_of q)) q (answer_call i make table s (with_chance x call.place [] None) None call) said new → FreeBound i make d table s q call x said new
-plain i make d table s q call x said new h = ([], None, no_failure make (s.words call.word), h)
+plain i make d table s q call x said new h = ([], None, no_failure make (s.words call.word), tt, h)
 
 -- what is served at a place of the call
 here : (x : ℕ → Environment) (place : ℕ) (challenge : Challenge) (fault : Option FailureCounts) → with_chance x place challenge fault place ≡ record (x place) { challenge = challenge; fault = fault }
@@ -70,6 +71,7 @@ free_call i make users d table s (requests.Open name) call x said new old none i
       challenge,
       None,
       no_failure make (s.words call.word),
+      tt,
       for_request i make d table s (requests.Open name) now call Open said new is.0
           (law.1 now (ap (λ (a : Environment). a.challenge) (here x call.place challenge None))
           (λ free found. subst (λ (b : Bool). IsGuarded users name b) (sym (ap (λ (a : Environment). a.guarded) (here x call.place challenge None))) (is.2 free found))),
@@ -95,7 +97,7 @@ free_call i make users d table s (requests.Start w) call x said new old none is 
     let law = start_agrees i make d table s w call.place said new old none g in
     let fault = law.0 in
     let now = with_chance x call.place [] fault in
-    ([], fault, subst (λ (n : ℕ). MayFailAt make (s.words n) fault) (sym is.1) law.1, for_word i make d table s (requests.Start w) now call Start w said new is.0 is.1 (law.2 now (ap (λ (a : Environment). a.fault) (here x call.place [] fault))))
+    ([], fault, subst (λ (n : ℕ). MayFailAt make (s.words n) fault) (sym is.1) law.1, subst (λ (n : ℕ). IsCounted d.session.held new.session.held n fault) (sym is.1) law.2, for_word i make d table s (requests.Start w) now call Start w said new is.0 is.1 (law.3 now (ap (λ (a : Environment). a.fault) (here x call.place [] fault))))
 free_call i make users d table s (requests.Cancel w) call x said new old none is g =
     plain i make d table s (requests.Cancel w) call x said new (for_word i make d table s (requests.Cancel w) (with_chance x call.place [] None) call Cancel w said new is.0 is.1
     (given i make (manner d w) (requests.Cancel w) _ (cancel d w) said new g (cancel_agrees i make d table s (with_chance x call.place [] None) w call.place old none)))
@@ -149,7 +151,8 @@ by_awaited i make users d table s None sent q call x said new old e f awaits is 
       challenge = bound.0;
       fault = bound.1;
       may = bound.2;
-      agrees = subst (λ (o : Option (Challenge × ℕ)). Agrees i make (manner d (device_word_of q)) q (answer_call i make table s (with_chance x call.place bound.0 bound.1) o call) said new) (sym (f ∙ awaits)) bound.3;
+      counted = bound.3;
+      agrees = subst (λ (o : Option (Challenge × ℕ)). Agrees i make (manner d (device_word_of q)) q (answer_call i make table s (with_chance x call.place bound.0 bound.1) o call) said new) (sym (f ∙ awaits)) bound.4;
     }
 by_awaited i make users d table s (Some aw) None q call x said new old e f awaits is g = absurd is
 by_awaited i make users d table s (Some aw) (Some sent) q call x said new old e f awaits is g =
@@ -157,6 +160,7 @@ by_awaited i make users d table s (Some aw) (Some sent) q call x said new old e 
       challenge = [];
       fault = None;
       may = no_failure make (s.words call.word);
+      counted = tt;
       agrees = subst (λ (o : Option (Challenge × ℕ)). Agrees i make (manner d (device_word_of q)) q (answer_call i make table s (with_chance x call.place [] None) o call) said new) (sym f)
           (awaited_call_is i make users d table s aw sent.0 sent.1 q call x said new old e f is g);
     }

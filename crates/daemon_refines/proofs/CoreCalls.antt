@@ -22,6 +22,7 @@ use Rattle.system_model.specs.AbstractSessions.{AbstractSession}
 use Rattle.daemon_refines.specs.ContextRefinement.{ContextRefines, TableRefines}
 use Rattle.daemon_refines.specs.DataRefinement.{transfer_connected, off_at}
 use Rattle.daemon_refines.specs.OtherSessions.{IsHeldByNoOther, LeavesOthers}
+use Rattle.daemon_refines.specs.Failures.{IsCountedAt}
 use Rattle.daemon_refines.specs.Feeds.{IsSessionBegun}
 use Rattle.daemon_refines.specs.Streams.{SendsAs, StreamServed}
 use Rattle.daemon_refines.specs.Cores.{SessionRefines}
@@ -130,14 +131,21 @@ turn_kept i k listed p dev step buf (actions.Breaks memory) sends own = absurd s
 turn_kept i k listed p dev step buf actions.RunsOutOfMemory sends own = absurd sends
 turn_kept i k listed p dev step buf actions.Stops sends own = absurd sends
 
+same_session : (a b : DeskSession DeviceState) → ◌≡◌ {A = Option (DeskSession DeviceState)} (Some a) (Some b) → a ≡ b
+same_session a b e = cc
+
 turned : (i : ℕ) (make : ℕ → Make) (n : ℕ) (old new : Core) (table : ℕ → AbstractDevice) (s : AbstractSession) (listed : List ℕ) (p : JobState) (place : ℕ) (step : DataStep) (buf : List ℕ) (now : DeskSession DeviceState) → (stands : SessionRefines i make old n table s) → new ≡ record old { slots = on_session_slot (with_session now) n old.slots } → IsSessionBegun (core_context old now) →
     (t : StreamServed i make (core_context old stands.session) table s listed p place step now buf) → IsKept i (table place) (device_after i (make place) listed p (table place) t.action) → CoreTurned i make n old new table s listed p place step buf
 turned i make n old new table s listed p place step buf now stands is begun t keeps =
     let dev = device_after i (make place) listed p (table place) t.action in
+    let there : session_of new n ≡ Some now = ap (λ (c : Core). session_of c n) is ∙ session_behind (with_session now) n old.slots (session_slot_of old.slots n) stands.session now refl stands.stands (λ slot going. (record slot { session = Some now }, refl, refl, refl)) in
     record {
       action = t.action;
       may = t.may;
       sends = t.sends;
+      counted = λ a b first last.
+          subst (λ (x : DeskSession DeviceState). IsCountedAt x.held b.held s.words place t.action) (same_session stands.session a (sym stands.stands ∙ first))
+          (subst (λ (x : DeskSession DeviceState). IsCountedAt stands.session.held x.held s.words place t.action) (same_session now b (sym there ∙ last)) t.counted);
       stands = one_changed (with_session now) i make n old new table (with_entry table place dev) s _ now stands is (λ slot next e. ap (λ (x : SessionSlot DeviceState). x.number) (sym (unsome (record slot { session = Some now }) next e)))
           (λ slot going. (record slot { session = Some now }, refl, refl, refl)) t.shows begun (leaves_kept i old.registry table (with_entry table place dev) (put_one i table place dev keeps));
     }

@@ -174,6 +174,7 @@ gives_turn i k listed p s after pass given n window f rest more is told g made =
       device = ap (λ (q : scan.ScanPlace). abstract_device_as (Some i) s.setup (tray_of s) (read_on (phase_at q) bytes)) here ∙ ap (λ (r : List ℕ). abstract_device_as (Some i) s.setup (tray_of s) (Reading f r more)) (without_front bytes meant left many)
           ∙ goes_is (Some i) s after pass given (Read pass (given + n)) (Reading f left more) is.at g.after (ap phase_at there);
       made = made;
+      counted = tt;
     }
 
 failed_turn : (i : ℕ) (k : Make) (listed : List ℕ) (p : JobState) (s after : DeviceState) (window : List ℕ) (pass given : ℕ) (f : Frame) (rest : List ℕ) (more : List Frame) → IsRead k p s pass given f rest more → HasStopped s after → IsMade k after → TurnServed i k listed p s (Err code.IoError) after window
@@ -184,6 +185,7 @@ failed_turn i k listed p s after window pass given f rest more is h made =
       may = (f, rest, more, streaming i k p s pass given f rest more is, (failing_is_fallible k s is.made (is.made.in_scan.page (ap is_at_rest is.at)) h.can_fail, is_fault (failures_of s) h.failures h.counted));
       device = failed_is (Some i) s after h;
       made = made;
+      counted = record { stopped = h; before = refl; after = refl };
     }
 
 -- an end, with the phase behind it
@@ -201,6 +203,7 @@ last_turn i k listed p s after window pass given f rest more phase is told now m
       may = (f, more, (is.streams, refl, ap phase_at (is.place ∙ ap (λ (r : List ℕ). scan.Giving f r more) h.0)), told_none k s.setup told);
       device = ended_device i k p s after pass given f rest more phase is now h.1;
       made = made;
+      counted = tt;
     }
 last_turn i k listed p s after window pass given f rest more phase is told now made (inr h) = let clash : None ≡ Some code.Eof = sym told ∙ h.0 in absurd (cc)
 
@@ -217,6 +220,7 @@ short_turn i k listed p s after window pass given f rest more phase is told now 
       may = (f, rest, more, streaming i k p s pass given f rest more is, told_some k s.setup code.Eof told);
       device = ended_device i k p s after pass given f rest more phase is now (behind_end s after f rest more h);
       made = made;
+      counted = tt;
     }
 
 named_turn : (i : ℕ) (k : Make) (listed : List ℕ) (p : JobState) (s after : DeviceState) (window : List ℕ) (pass given : ℕ) (status : Code) (f : Frame) (rest : List ℕ) (more : List Frame) → IsRead k p s pass given f rest more → s.setup.told ≡ Some status → after ≡ goes_to s (Rest false) → IsMade k after →
@@ -228,6 +232,7 @@ named_turn i k listed p s after window pass given status f rest more is told now
       may = (f, rest, more, streaming i k p s pass given f rest more is, told_some k s.setup status told, n, m);
       device = goes_is (Some i) s after pass given (Rest false) Resting is.at now (ap (λ (d : DeviceState). phase_at (scan.place_of d)) now);
       made = made;
+      counted = tt;
     }
 
 -- ---- by what was answered

@@ -23,6 +23,7 @@ use Rattle.system_model.specs.AbstractDevices.{Resting, Reading, after_start, pu
 use Rattle.system_model.specs.Transitions.{IsFault, MayFail}
 use Rattle.system_model.specs.Daemon.{TransferState, Quiet, Waiting, FailureCounts, AnswerEffect, begin_page, begin_pass, start_at, start_or_fail, start_page}
 use Rattle.daemon_refines.specs.ContextRefinement.{IsMade, pages_to_come, phase_at, abstract_device, abstract_device_as, page_views, tray_of}
+use Rattle.daemon_refines.specs.Failures.{IsFailureIn}
 use Rattle.daemon_refines.proofs.Sources.{failing_is_fallible, start_sources}
 use Rattle.daemon_refines.proofs.Scanning.{reads_at, waits_at}
 
@@ -42,10 +43,11 @@ pub record Served_as (s : DeviceState) (answer : Result Unit Code) (after : Devi
   pub device : v.device ≡ abstract_device holder after
   pub transfer : v.transfer ≡ carriage_by answer
 
--- with some fault of the page's source, or none
+-- with the failure that the page's source counted, or none
 pub record StartServed (k : Make) (s : DeviceState) (answer : Result Unit Code) (after : DeviceState) (holder : Option ℕ) : Type 0 where
   pub fault : Option FailureCounts
   pub may : MayFail k fault
+  pub counted : IsFailureIn s after fault
   pub serves : (again : Bool) → Served_as s answer after holder (start_or_fail k (abstract_device holder s) Quiet again fault)
 
 -- ---- pages
@@ -100,6 +102,7 @@ failed k s after holder made some h =
     record {
       fault = Some (record { before = failures_of s; after = h.failures });
       may = (failing_is_fallible k s made some h.can_fail, is_fault (failures_of s) h.failures h.counted);
+      counted = record { stopped = h; before = refl; after = refl };
       serves = λ again. record { told = refl; on = refl; device = failed_is holder s after h; transfer = refl };
     }
 
@@ -184,11 +187,12 @@ page_starts k s after holder c (Ok u) held pages made at e h n =
     record {
       fault = None;
       may = tt;
+      counted = tt;
       serves = λ again. at_rest k s after holder c (Ok tt) again (page_of s ∷ page_views pages) at (first_sheet s held pages e)
           (page_begun k s after holder c made at h.0 (h.1 ∙ ap (λ (p : AnyPhase). with_phase s (Read (next_pass p) 0)) at));
     }
 page_starts k s after holder c (Err code.Inval) held pages made at e h n =
-    record { fault = None; may = tt; serves = λ again. at_rest k s after holder c (Err code.Inval) again (page_of s ∷ page_views pages) at (first_sheet s held pages e) (page_refused k s after holder c at h.0 h.1) }
+    record { fault = None; may = tt; counted = tt; serves = λ again. at_rest k s after holder c (Err code.Inval) again (page_of s ∷ page_views pages) at (first_sheet s held pages e) (page_refused k s after holder c at h.0 h.1) }
 page_starts k s after holder c (Err code.IoError) held pages made at e h n = failed k s after holder made (λ none. let clash : held ∷ pages ≡ [] = sym e ∙ none in cc) h.1
 page_starts k s after holder c (Err code.NoMem) held pages made at e h n = absurd (n refl)
 page_starts k s after holder c (Err code.Good) held pages made at e h n = absurd h
@@ -204,7 +208,7 @@ page_starts k s after holder c (Err code.AccessDenied) held pages made at e h n 
 rest_starts : (k : Make) (s after : DeviceState) (holder : Option ℕ) (c : Bool) (answer : Result Unit Code) (pages : List HeldPage) → IsMade k s → s.phase ≡ Rest c → s.pages ≡ pages → StartsOn pages s answer after → answer ≢ Err code.NoMem → StartServed k s answer after holder
 rest_starts k s after holder c answer [] made at e h n =
     subst (λ (r : Result Unit Code). StartServed k s r after holder) (sym h.0)
-    (record { fault = None; may = tt; serves = λ again. at_rest k s after holder c (Err code.NoDocs) again [] at (ap page_views e) (record { told = refl; on = refl; device = stopped_is holder s after c at h.1; transfer = refl }) })
+    (record { fault = None; may = tt; counted = tt; serves = λ again. at_rest k s after holder c (Err code.NoDocs) again [] at (ap page_views e) (record { told = refl; on = refl; device = stopped_is holder s after c at h.1; transfer = refl }) })
 rest_starts k s after holder c answer (held ∷ pages) made at e h n = page_starts k s after holder c answer held pages made at e h n
 
 -- between passes there is a page, and a picture
@@ -217,6 +221,7 @@ amid_starts k s after holder ended (Ok u) made some at in_scan h n =
     record {
       fault = None;
       may = tt;
+      counted = tt;
       serves = λ again.
           by_phase k s after holder (Ok tt) again (Amid ended) _ at (waits_at s.setup (page_of s) ended in_scan.1 in_scan.2)
           (pass_begun k s after holder ended at in_scan.2 (h.1 ∙ ap (λ (p : AnyPhase). with_phase s (Read (next_pass p) 0)) at));
@@ -240,6 +245,7 @@ busy_start k s after holder pass given answer at few busy same =
     (record {
       fault = None;
       may = tt;
+      counted = tt;
       serves = λ again.
           by_phase k s after holder (Err code.DeviceBusy) again (Read pass given) _ at (reads_at s.setup (page_of s) pass given few)
           (record { told = refl; on = refl; device = sym (ap (λ (d : DeviceState). abstract_device holder d) same); transfer = refl });

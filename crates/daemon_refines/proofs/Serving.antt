@@ -47,7 +47,7 @@ by_rules i make users d table s q said new call x old g on is r begun =
     record {
       devices = comes.table;
       session = comes.session;
-      serves = ByTheRules call x r.challenge r.fault is r.may r.agrees refl refl;
+      serves = ByTheRules call x r.challenge r.fault is r.may r.counted r.agrees refl refl;
       shows = r.agrees.stands on;
       begun = begun;
       others = requests_leave i make users d table s q call (with_chance x call.place r.challenge r.fault) said new old g;
@@ -111,7 +111,7 @@ init_first i make users d table s version user said new old none g on gives =
     let agrees = subst (λ (o : Option (Challenge × ℕ)). Agrees i make (manner d 0) q (answer_call i make table s (with_chance x 0 [] None) o call) said new) (sym sent)
     (given i make (manner d 0) q (answer_call i make table s (with_chance x 0 [] None) None call) (greet d version) said new gives (init_agrees i make d table s (with_chance x 0 [] None) version 0 0 user old none major)) in
     let is : IsCall users d table s q call x = subst (λ (a : Option AwaitedAuthorization). IsCallBy users d table a s.awaited q call x) (sym none) (refl, major) in
-    by_rules i make users d table s q said new call x old g on is (record { challenge = []; fault = None; may = no_failure make (s.words call.word); agrees = agrees }) (inl (ap (λ (t : RequestContext). t.session.greeted) gives.1))
+    by_rules i make users d table s q said new call x old g on is (record { challenge = []; fault = None; may = no_failure make (s.words call.word); counted = tt; agrees = agrees }) (inl (ap (λ (t : RequestContext). t.session.greeted) gives.1))
 
 served_first : (i : ℕ) (make : ℕ → Make) (users : List Entry) (d : RequestContext) (table : ℕ → AbstractDevice) (s : AbstractSession) (q : Asked) (said : RequestAnswer) (new : RequestContext) → ContextRefines i make d table s → d.session.awaited ≡ None → Answers users d q said new → session_goes_on said ≡ true → IsContextOutcome (first_answer d q) said new → Served i make users d table s q said new
 served_first i make users d table s (requests.Init version user) said new old none g on gives = init_first i make users d table s version user said new old none g on gives

@@ -28,6 +28,8 @@ use Rattle.system_model.specs.Actions.{Action, device_after, job_after_action}
 use Rattle.daemon_refines.specs.ContextRefinement.{FrameIsRead, TransferRefines, IsReadBy, ContextRefines, abstract_device}
 use Rattle.daemon_refines.specs.DataRefinement.{IsTurnOf}
 use Rattle.daemon_refines.specs.Streams.{EndingsAgree, SendsAs, StreamServed, StreamsAgree}
+use Rattle.daemon_refines.specs.Failures.{IsCountedAt, IsTurnCounted}
+use Rattle.daemon_refines.proofs.Changes.{Held}
 use Rattle.daemon_refines.proofs.FramesAreRead.{frame_behind}
 use Rattle.daemon_refines.proofs.DataLinks.{listed_by, still_awaited}
 use Rattle.daemon_refines.proofs.SessionEndings.{same_tables}
@@ -103,6 +105,11 @@ framed_behind (Err status) window i k listed p dev action w f is c e = end_quiet
 
 -- ---- a frame that streams
 
+-- the failure of the device that is read is that of its word
+counted_at : (held now : Held) (words : ℕ → Option ℕ) (place w : ℕ) (l : Lease DeviceState) (after : DeviceState) (action : Action) → words w ≡ Some place → held_by held w ≡ Some l → held_by now w ≡ Some (record l { device = after }) → IsTurnCounted l.device after action → IsCountedAt held now words place action
+counted_at held now words place w l after (actions.TurnsFault fault) named stood stands h = (w, named, record { lease = l; stood = stood; after = after; stands = stands; failed = h })
+counted_at held now words place w l after action named stood stands h = tt
+
 turn_served : (i : ℕ) (make : ℕ → Make) (d : RequestContext) (table : ℕ → AbstractDevice) (s : AbstractSession) (listed : List ℕ) (p : JobState) (w : ℕ) (l : Lease DeviceState) (pass given : ℕ) (step : DataStep) (buf : List ℕ) → ContextRefines i make d table s → p.session.transfer ≡ s.transfer → d.session.transfer ≡ word.Streaming w → held_by d.session.held w ≡ Some l → l.device.phase ≡ Reading pass given →
     (new : DeskSession DeviceState) → StreamsOn l w d.session step new buf → StreamServed i make d table s listed p l.place step new buf
 turn_served i make d table s listed p w l pass given step buf old same is e at new g =
@@ -134,6 +141,8 @@ turn_served i make d table s listed p w l pass given step buf old same is e at n
       action = t.action;
       may = subst (λ (x : AbstractDevice). IsActionEnabled i k p x t.action) (sym shown.device) t.may;
       sends = sent g.answer l.device g.after pass given g.window step buf t.action at g.reads t.is g.written;
+      counted = subst (λ (x : DeskSession DeviceState). IsCountedAt d.session.held x.held s.words l.place t.action) (sym g.new_is)
+          (counted_at d.session.held after.session.held s.words l.place w l g.after t.action (old.words w ∙ ap place_in e) e (on_same (λ _. with_device l g.after) d.session.held w l e) t.counted);
       shows = subst (λ (x : DeskSession DeviceState). ContextRefines i make (record d { session = x }) (with_entry table l.place dev) (record s { transfer = job_state.session.transfer })) (sym g.new_is) (record {
         words = words;
         four = four;
@@ -169,6 +178,7 @@ endings_agree i make d table s listed p place step new buf old same is g =
         action = actions.TurnsOff;
         may = same ∙ transfer;
         sends = ended.0;
+        counted = tt;
         shows = subst (λ (x : DeskSession DeviceState). ContextRefines i make (record d { session = x }) (with_entry table place (table place)) (record s { transfer = Quiet })) (sym ended.1) (record {
           words = old.words;
           four = old.four;

@@ -27,6 +27,7 @@ use Rattle.daemon_refines.specs.Spelling.{Spells, order_by}
 use Rattle.daemon_refines.specs.Agreeing.{Agrees, manner}
 use Rattle.daemon_refines.specs.DeviceWords.{MayFailAt, StartAgrees}
 use Rattle.daemon_refines.proofs.FramesAreRead.{frame_still, all_same, frame_begun}
+use Rattle.daemon_refines.specs.Failures.{IsCounted, IsFailureIn}
 use Rattle.daemon_refines.proofs.Changes.{Held}
 use Rattle.daemon_refines.proofs.WordsAndPlaces.{on_length, on_nothing, on_other, on_same}
 use Rattle.daemon_refines.proofs.Moved.{moved, place_in}
@@ -51,7 +52,7 @@ refield i make d table s held c old e f =
 -- what is to be shown of a start
 abbrev pub StartBound : ℕ → (ℕ → Make) → RequestContext → (ℕ → AbstractDevice) → AbstractSession → ℕ → Option ℕ → Wire → RequestContext → Type 0
 StartBound i make d table s w p reply new =
-    (fault : Option FailureCounts) × MayFailAt make p fault × ((x : Environment) → x.fault ≡ fault → Agrees i make (manner d w) (requests.Start w) (word_call i make table s x Start w p) (One reply) new)
+    (fault : Option FailureCounts) × MayFailAt make p fault × IsCounted d.session.held new.session.held w fault × ((x : Environment) → x.fault ≡ fault → Agrees i make (manner d w) (requests.Start w) (word_call i make table s x Start w p) (One reply) new)
 
 starts : (b : Bool) (i : ℕ) (k : Make) (dev : AbstractDevice) (c : TransferState) (x : Environment) → serve_word b i k dev c x Start ≡ start_effect k dev x c
 starts true i k dev c x = refl
@@ -69,6 +70,7 @@ busy_at : (i : ℕ) (make : ℕ → Make) (d : RequestContext) (table : ℕ → 
 busy_at i make d table s w l wc old none e is busy =
     let shown = old.devices.leases w l e in (
       None,
+      tt,
       tt,
       λ x f.
           answered i make (manner d w) _ table s x Start w l.place (Refused Busy) _ (desk_with d (Some l) w wc) (reply_effect (Refused Busy) (table l.place) s.transfer)
@@ -104,6 +106,11 @@ spelled_by : (d : RequestContext) (w : ℕ) (l : Lease DeviceState) (answer : Re
 spelled_by d w l (Ok u) e = refl
 spelled_by d w l (Err y) e = (y, refl, ap (λ (h : Option (Lease DeviceState)). reply_of_start y 0 (order_by h)) (sym e))
 
+-- the failure of the device is that of the word
+counted_there : (held now : Held) (w : ℕ) (l : Lease DeviceState) (after : DeviceState) (fault : Option FailureCounts) → held_by held w ≡ Some l → held_by now w ≡ Some (record l { device = after }) → IsFailureIn l.device after fault → IsCounted held now w fault
+counted_there held now w l after None stood stands h = tt
+counted_there held now w l after (Some f) stood stands h = record { lease = l; stood = stood; after = after; stands = stands; failed = h }
+
 device_at : (i : ℕ) (make : ℕ → Make) (d : RequestContext) (table : ℕ → AbstractDevice) (s : AbstractSession) (w : ℕ) (l : Lease DeviceState) (answer : Result Unit Code) (after : DeviceState) → ContextRefines i make d table s → d.session.awaited ≡ None → held_by d.session.held w ≡ Some l → s.transfer ≡ Quiet →
     Starts l.device answer after → answer ≢ Err code.NoMem →
     StartBound i make d table s w (Some l.place) (start_answer word.Quiet d.session.port w l.device.setup.order answer).0 (desk_with d (with_device l after) w (start_answer word.Quiet d.session.port w l.device.setup.order answer).1)
@@ -115,6 +122,7 @@ device_at i make d table s w l answer after old none e quiet h n =
     let new = desk_with d (with_device l after) w c2 in (
       done.fault,
       done.may,
+      counted_there d.session.held new.session.held w l after done.fault e (on_same (λ _. with_device l after) d.session.held w l e) done.counted,
       λ x f.
           let v = start_or_fail k (abstract_device (Some i) l.device) Quiet x.again done.fault in
           let serves = done.serves x.again in
@@ -145,6 +153,7 @@ start_at_word i make d table s w None wc told lease old none e is transfer h =
     let same = told_is told (r, wc) h.0 in (
       None,
       refl,
+      tt,
       λ x f.
           subst (λ (t : Told). Agrees i make (manner d w) (requests.Start w) (word_call i make table s x Start w None) (One t.0) (desk_with d lease w t.1)) (sym same)
           (subst (λ (n : Option (Lease DeviceState)). Agrees i make (manner d w) (requests.Start w) (word_call i make table s x Start w None) (One r) (desk_with d n w wc)) (sym h.1)
@@ -179,8 +188,9 @@ start_agrees i make d table s w place said new shows none begins =
     let new_is : new ≡ desk_with d begins.starts.lease w begins.transfer = begins.gives.1 ∙ ap (λ (t : RequestContext). with_data_phase t begins.transfer) begins.starts.new_is in (
       found.0,
       subst (λ (p : Option ℕ). MayFailAt make p found.0) (sym (shows.words w)) found.1,
+      subst (λ (t : RequestContext). IsCounted d.session.held t.session.held w found.0) (sym new_is) found.2,
       λ x f.
           subst (λ (p : Option ℕ). Agrees i make (manner d w) (requests.Start w) (word_call i make table s (x place) Start w p) said new) (sym (shows.words w))
           (subst (λ (t : RequestAnswer). Agrees i make (manner d w) (requests.Start w) (word_call i make table s (x place) Start w (place_in (held_by d.session.held w))) t new) (sym begins.gives.0)
-          (subst (λ (t : RequestContext). Agrees i make (manner d w) (requests.Start w) (word_call i make table s (x place) Start w (place_in (held_by d.session.held w))) (One begins.reply) t) (sym new_is) (found.2 (x place) f))),
+          (subst (λ (t : RequestContext). Agrees i make (manner d w) (requests.Start w) (word_call i make table s (x place) Start w (place_in (held_by d.session.held w))) (One begins.reply) t) (sym new_is) (found.3 (x place) f))),
     )

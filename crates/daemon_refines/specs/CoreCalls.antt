@@ -2,7 +2,9 @@
 use Rattle.std.specs.Prelude.{ℕ, ◌≡◌, ◌≢◌, Some, List, []}
 use Rattle.saned_requests.specs.declared.session.DataPhase.TheVariants as word
 use Rattle.saned_core.specs.declared.session_slot.DataStep.{DataStep}
-use Rattle.saned_core.specs.DaemonStates.{Core, after_connected, after_lost, after_end_session, on_session_slot, on_session}
+use Rattle.saned_requests.specs.declared.session.Session.{Session as DeskSession}
+use Rattle.device_api.specs.State.{DeviceState}
+use Rattle.saned_core.specs.DaemonStates.{Core, after_connected, after_lost, after_end_session, on_session_slot, on_session, session_of}
 use Rattle.saned_core.specs.Turns.{Turns}
 use Rattle.system_model.specs.Devices.{Make}
 use Rattle.system_model.specs.AbstractDevices.{AbstractDevice, device_let_go}
@@ -12,6 +14,7 @@ use Rattle.system_model.specs.Transitions.{IsActionEnabled}
 use Rattle.system_model.specs.AbstractSessions.{AbstractSession}
 use Rattle.daemon_refines.specs.ContextRefinement.{TableRefines}
 use Rattle.daemon_refines.specs.DataRefinement.{transfer_connected, off_at}
+use Rattle.daemon_refines.specs.Failures.{IsCountedAt}
 use Rattle.daemon_refines.specs.Streams.{SendsAs}
 use Rattle.daemon_refines.specs.Cores.{SessionRefines}
 
@@ -41,6 +44,8 @@ pub record CoreTurned (i : ℕ) (make : ℕ → Make) (n : ℕ) (old new : Core)
   pub action : Action
   pub may : IsActionEnabled i (make place) p (table place) action
   pub sends : SendsAs step buf action
+  -- a failure is counted at a device that the session of that number held before and holds behind it
+  pub counted : (a b : DeskSession DeviceState) → session_of old n ≡ Some a → session_of new n ≡ Some b → IsCountedAt a.held b.held s.words place action
   pub stands : SessionRefinesAs i make n old new table (with_entry table place (device_after i (make place) listed p (table place) action)) (record s { transfer = (job_after_action i (make place) listed p (table place) action).session.transfer })
 
 abbrev pub CoreTurns : Type 0

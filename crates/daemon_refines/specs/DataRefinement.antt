@@ -14,6 +14,7 @@ use Rattle.system_model.specs.AbstractSessions.{AbstractSession}
 use Rattle.system_model.specs.Transitions.{IsActionEnabled}
 use Rattle.system_model.specs.Actions.{Action, Turns, TurnsLast, TurnsNamed, TurnsShort, TurnsFault, device_after, image_off, left_by_loss}
 use Rattle.daemon_refines.specs.ContextRefinement.{abstract_device, IsMade, ContextRefines, TableRefines}
+use Rattle.daemon_refines.specs.Failures.{IsTurnCounted}
 
 -- the end record of a turn has this status
 abbrev pub EndRecordIs : Code → Action → Type 0
@@ -35,6 +36,7 @@ pub record TurnServed (i : ℕ) (k : Make) (listed : List ℕ) (p : JobState) (s
   pub may : IsActionEnabled i k p (abstract_device (Some i) s) action
   pub device : device_after i k listed p (abstract_device (Some i) s) action ≡ abstract_device (Some i) after
   pub made : IsMade k after
+  pub counted : IsTurnCounted s after action
 
 -- a device that is read
 abbrev pub TurnsAgree : Type 0

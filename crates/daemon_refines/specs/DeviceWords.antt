@@ -25,6 +25,7 @@ use Rattle.system_model.specs.Daemon.{Environment, FailureCounts}
 use Rattle.system_model.specs.AbstractSessions.{AbstractSession, answer_call}
 use Rattle.daemon_refines.specs.ContextRefinement.{ContextRefines}
 use Rattle.daemon_refines.specs.Agreeing.{Agrees, AgreesOn, manner}
+use Rattle.daemon_refines.specs.Failures.{IsCounted}
 
 -- a request for a device word, and how the daemon answers it
 abbrev pub WordAgrees : (ℕ → Asked) → AbstractRequest → (RequestContext → ℕ → ContextOutcome) → Type 0
@@ -79,10 +80,10 @@ abbrev pub MayFailAt : (ℕ → Make) → Option ℕ → Option FailureCounts �
 MayFailAt make None fault = fault ≡ None
 MayFailAt make (Some k) fault = MayFail (make k) fault
 
--- START: whatever the device answers, the model answers with some fault of the page's source, or none
+-- START: whatever the device answers, the model answers with the failure that the page's source counted, or none
 abbrev pub StartAgrees : Type 0
 StartAgrees =
     (i : ℕ) (make : ℕ → Make) (d : RequestContext) (table : ℕ → AbstractDevice) (s : AbstractSession) (word place : ℕ) (said : RequestAnswer) (new : RequestContext) →
     ContextRefines i make d table s → d.session.awaited ≡ None → AnswersStart d word said new →
-    (fault : Option FailureCounts) × MayFailAt make (s.words word) fault × ((x : ℕ → Environment) → (x place).fault ≡ fault →
+    (fault : Option FailureCounts) × MayFailAt make (s.words word) fault × IsCounted d.session.held new.session.held word fault × ((x : ℕ → Environment) → (x place).fault ≡ fault →
     Agrees i make (manner d word) (requests.Start word) (answer_call i make table s x None (record { request = Start; word = word; place = place })) said new)

@@ -24,6 +24,7 @@ use Rattle.system_model.specs.AbstractSessions.{AddressedRequest, FullEffect, Ab
 use Rattle.daemon_refines.specs.ContextRefinement.{ContextRefines, TableRefines}
 use Rattle.daemon_refines.specs.Agreeing.{Agrees, manner}
 use Rattle.daemon_refines.specs.DeviceWords.{AsksNone, MayFailAt}
+use Rattle.daemon_refines.specs.Failures.{IsCounted}
 use Rattle.daemon_refines.specs.ModelRequests.{IsCall, with_chance, device_word_of}
 use Rattle.daemon_refines.specs.OtherSessions.{LeavesOthers}
 
@@ -37,7 +38,7 @@ effect_by_model i make table s x call challenge fault = answer_call i make table
 
 -- a request that the session goes on behind: it is a call by the model, or a SET whose value is not of its option's type
 pub data ServesRequest (i : ℕ) (make : ℕ → Make) (users : List Entry) (d : RequestContext) (table : ℕ → AbstractDevice) (s : AbstractSession) (q : Asked) (said : RequestAnswer) (new : RequestContext) (t : ℕ → AbstractDevice) (u : AbstractSession) : Type 0 where
-  ByTheRules : (call : AddressedRequest) → (x : ℕ → Environment) → (challenge : Challenge) → (fault : Option FailureCounts) → IsCall users d table s q call x → MayFailAt make (s.words call.word) fault →
+  ByTheRules : (call : AddressedRequest) → (x : ℕ → Environment) → (challenge : Challenge) → (fault : Option FailureCounts) → IsCall users d table s q call x → MayFailAt make (s.words call.word) fault → IsCounted d.session.held new.session.held call.word fault →
       Agrees i make (manner d (device_word_of q)) q (effect_by_model i make table s x call challenge fault) said new →
       t ≡ (effect_by_model i make table s x call challenge fault).table → u ≡ (effect_by_model i make table s x call challenge fault).session → ServesRequest i make users d table s q said new t u
   OfAnotherType : (word n : ℕ) → (kind : Kind) → (value : WireValue) → q ≡ requests.ControlOption word n SetValue kind value → AsksNone (held_by d.session.held word) n kind value →

@@ -1,6 +1,7 @@
 pub mod ContextRefinement
 pub mod Spelling
 pub mod Agreeing
+pub mod Failures
 pub mod DeviceWords
 pub mod WholeSessions
 pub mod DataRefinement

@@ -18,6 +18,7 @@ use Rattle.system_model.specs.AbstractSessions.{AddressedRequest, AbstractSessio
 use Rattle.daemon_refines.specs.ContextRefinement.{Names, ContextRefines}
 use Rattle.daemon_refines.specs.Agreeing.{Agrees, manner}
 use Rattle.daemon_refines.specs.DeviceWords.{AsksFor, MayFailAt}
+use Rattle.daemon_refines.specs.Failures.{IsCounted}
 use Rattle.daemon_refines.specs.WholeSessions.{IsGuardedAt, IsJudged, IsOtherRequest}
 
 -- the device word that a request has
@@ -67,11 +68,12 @@ IsCall users d table s q call x = IsCallBy users d table d.session.awaited s.awa
 abbrev pub with_chance : (ℕ → Environment) → ℕ → Challenge → Option FailureCounts → ℕ → Environment
 with_chance x place challenge fault = with_entry x place (record (x place) { challenge = challenge; fault = fault })
 
--- some challenge is drawn, and the page's source fails or not
+-- some challenge is drawn, and the page's source fails and counts that, or not
 pub record RequestServed (i : ℕ) (make : ℕ → Make) (d : RequestContext) (table : ℕ → AbstractDevice) (s : AbstractSession) (q : Asked) (call : AddressedRequest) (x : ℕ → Environment) (said : RequestAnswer) (new : RequestContext) : Type 0 where
   pub challenge : Challenge
   pub fault : Option FailureCounts
   pub may : MayFailAt make (s.words call.word) fault
+  pub counted : IsCounted d.session.held new.session.held call.word fault
   pub agrees : Agrees i make (manner d (device_word_of q)) q (answer_call i make table s (with_chance x call.place challenge fault) s.awaited call) said new
 
 -- any request that is a call is answered as the model says

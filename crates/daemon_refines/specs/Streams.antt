@@ -17,6 +17,7 @@ use Rattle.system_model.specs.AbstractSessions.{AbstractSession}
 use Rattle.system_model.specs.Transitions.{IsActionEnabled}
 use Rattle.system_model.specs.Actions.{Action, Turns, TurnsLast, TurnsNamed, TurnsShort, TurnsFault, TurnsOff, device_after, job_after_action}
 use Rattle.daemon_refines.specs.ContextRefinement.{ContextRefines}
+use Rattle.daemon_refines.specs.Failures.{IsCountedAt}
 
 -- the record that is sent: the bytes of the action behind their number, or the end with its status
 abbrev pub SendsAs : DataStep → List ℕ → Action → Type 0
@@ -33,6 +34,7 @@ pub record StreamServed (i : ℕ) (make : ℕ → Make) (d : RequestContext) (ta
   pub action : Action
   pub may : IsActionEnabled i (make place) p (table place) action
   pub sends : SendsAs step buf action
+  pub counted : IsCountedAt d.session.held new.held s.words place action
   pub shows : ContextRefines i make (record d { session = new }) (with_entry table place (device_after i (make place) listed p (table place) action)) (record s { transfer = (job_after_action i (make place) listed p (table place) action).session.transfer })
 
 -- a frame that streams

@@ -34,7 +34,7 @@ use Rattle.world_refines.proofs.state.Infos.{place_is}
 use Rattle.daemon_refines.proofs.Moved.{own}
 use Rattle.world_contract.specs.Histories.{History}
 use Rattle.world_contract.specs.Page.{Settled, CameFor}
-use Rattle.world_contract.specs.Endings.{AreFeeders, IsShared, IsUnlisted, MeansNoPicture, WasServed}
+use Rattle.world_contract.specs.Endings.{AreFeeders, Came, IsShared, IsUnlisted, MeansNoPicture}
 use Rattle.world_contract.proofs.Sources.{CanFail, can_fail_there, fallible_at, sources_of, make_at}
 use Rattle.world_contract.proofs.Lists.{In, all_each, all_then, contains_at, contains_in}
 use Rattle.world_contract.proofs.Mine.{IsMine, deed_mine}
@@ -45,6 +45,7 @@ use Rattle.world_contract.proofs.Begun.{job_same, party_stays, wants_same}
 use Rattle.world_contract.proofs.Pages.{HasDevice, IsOfDevice, IsOfOne, loads_if, name_there}
 use Rattle.world_contract.proofs.Options.{IsForced, streaming}
 use Rattle.world_contract.proofs.NoPictures.{IsSet, no_meaning, starting}
+use Rattle.world_contract.proofs.Connected.{IsBehind, IsFree, came_behind}
 use Rattle.world_contract.proofs.Evident.{Comes, IsAnswer, all_come, causes_by, met_by}
 use Rattle.world_contract.proofs.Events.{answers_event, chokes_event, fault_event, image_event, loses_event, named_event, short_event, stops_event}
 use Rattle.world_contract.proofs.Nearest.{nearest_for}
@@ -139,14 +140,18 @@ fine_then legal h job s x sound l of f = record {
 abbrev pub IsTold : History → Job → Status → Type 0
 IsTold h job status = (s : Settled h job) × (option_map abstract_status s.setup.told ≡ Some status)
 
+-- requests of the job came to the daemon, behind its connection
+abbrev pub WasServed : History → ℕ → Type 0
+WasServed h i = (n : ℕ) × Came h i (ToDaemon i n)
+
 abbrev pub Evid : History → ℕ → Job → Cause → Type 0
 Evid h i job GaveUp = Contains h.events (Cancel i)
-Evid h i job LinkLost = Contains h.events (LoseControl i) ⊎ Contains h.events (LoseImage i)
+Evid h i job LinkLost = Came h i (LoseControl i) ⊎ Came h i (LoseImage i)
 Evid h i job LinkOutOfMemory = Unit {0}
 Evid h i job WasUnsaid = HadUnsaidReply h job
-Evid h i job SourceFailed = (WasServed h i ⊎ Contains h.events (DataTurn i)) × CanFail h job.device
-Evid h i job NamesEof = Contains h.events (DataTurn i) × IsTold h job Eof
-Evid h i job (Names status) = Contains h.events (DataTurn i) × IsTold h job status
+Evid h i job SourceFailed = ((n : ℕ) × (Came h i (ToDaemon i n) ⊎ Came h i (DataTurn i))) × CanFail h job.device
+Evid h i job NamesEof = Came h i (DataTurn i) × IsTold h job Eof
+Evid h i job (Names status) = Came h i (DataTurn i) × IsTold h job status
 Evid h i job Unforced = ⊥
 Evid h i job WasUnlisted = WasServed h i × IsUnlisted h job.device
 Evid h i job HadNoPicture = WasServed h i × MeansNoPicture h job
@@ -154,7 +159,7 @@ Evid h i job WasHeld = WasServed h i × IsShared h i job
 Evid h i job Disallowed = WasServed h i × (is_guarded h.users (backend_of job.device) ≡ true)
 Evid h i job TrayWasEmpty = WasServed h i × AreFeeders h job.device
 Evid h i job TrayRanOut = Unit {0}
-Evid h i job ClientOutOfMemory = (n : ℕ) × (Contains h.events (ToClient i n) ⊎ Contains h.events (DataToClient i n))
+Evid h i job ClientOutOfMemory = (n : ℕ) × (Came h i (ToClient i n) ⊎ Came h i (DataToClient i n))
 
 -- what is fixed of the job
 pub record Own (h : History) (i : ℕ) (job : Job) : Type 0 where
@@ -276,16 +281,45 @@ own_of h i x = IsOfOne h (By i x)
 of_deed : (h : History) (i : ℕ) (x y : Action) → x ≡ y → own_of h i x → own_of h i y
 of_deed h i x y e o = subst (own_of h i) e o
 
+-- the event of a step comes behind the connection of the job
+behind_of : (h : History) (i : ℕ) (x : Action) → (IsFree x → ⊥) → own_of h i x → IsBehind (infos_of h) h.events i x
+behind_of h i x other o = o.behind other
+
 served_by_answer : (h : History) (i : ℕ) (x : Action) → IsAnswer x → own_of h i x → WasServed h i
-served_by_answer h i x a of = let o = of_deed h i x (Actions.Answers a.0 a.1) a.2 of in answers_event h.events (map info_of_state h.devices) i a.0 a.1 o.event o.among o.is
+served_by_answer h i x a of =
+    let deed = Actions.Answers a.0 a.1 in
+    let b = behind_of h i deed (λ free. free) (of_deed h i x deed a.2 of) in
+    answers_event (Came h i) (infos_of h) i a.0 a.1 b.event (came_behind h (infos_of h) i deed b) b.is
 
-failed_by : (h : History) (i : ℕ) (x : Action) → IsAnswer x ⊎ ((fault : _) × (x ≡ Actions.TurnsFault fault)) → own_of h i x → WasServed h i ⊎ Contains h.events (DataTurn i)
-failed_by h i x (inl a) of = inl (served_by_answer h i x a of)
-failed_by h i x (inr a) of = let o = of_deed h i x (Actions.TurnsFault a.0) a.1 of in inr (fault_event h.events (map info_of_state h.devices) i a.0 o.event o.among o.is)
+failed_by : (h : History) (i : ℕ) (x : Action) → IsAnswer x ⊎ ((fault : _) × (x ≡ Actions.TurnsFault fault)) → own_of h i x → (n : ℕ) × (Came h i (ToDaemon i n) ⊎ Came h i (DataTurn i))
+failed_by h i x (inl a) of = let served = served_by_answer h i x a of in (served.0, inl served.1)
+failed_by h i x (inr a) of =
+    let deed = Actions.TurnsFault a.0 in
+    let b = behind_of h i deed (λ free. free) (of_deed h i x deed a.1 of) in
+    (0, inr (fault_event (Came h i) (infos_of h) i a.0 b.event (came_behind h (infos_of h) i deed b) b.is))
 
-lost_by : (h : History) (i : ℕ) (x : Action) → (x ≡ Actions.Loses false) ⊎ (x ≡ Actions.LosesImage false) → own_of h i x → Contains h.events (LoseControl i) ⊎ Contains h.events (LoseImage i)
-lost_by h i x (inl a) of = let o = of_deed h i x (Actions.Loses false) a of in inl (loses_event h.events (map info_of_state h.devices) i o.event o.among o.is)
-lost_by h i x (inr a) of = let o = of_deed h i x (Actions.LosesImage false) a of in inr (image_event h.events (map info_of_state h.devices) i o.event o.among o.is)
+short_by : (h : History) (i : ℕ) (x : Action) → x ≡ Actions.TurnsShort → own_of h i x → Came h i (DataTurn i)
+short_by h i x is of =
+    let b = behind_of h i Actions.TurnsShort (λ free. free) (of_deed h i x Actions.TurnsShort is of) in
+    short_event (Came h i) (infos_of h) i b.event (came_behind h (infos_of h) i Actions.TurnsShort b) b.is
+
+named_by : (h : History) (i : ℕ) (x : Action) (status : Status) → x ≡ Actions.TurnsNamed status → own_of h i x → Came h i (DataTurn i)
+named_by h i x status is of =
+    let b = behind_of h i (Actions.TurnsNamed status) (λ free. free) (of_deed h i x (Actions.TurnsNamed status) is of) in
+    named_event (Came h i) (infos_of h) i status b.event (came_behind h (infos_of h) i (Actions.TurnsNamed status) b) b.is
+
+lost_by : (h : History) (i : ℕ) (x : Action) → (x ≡ Actions.Loses false) ⊎ (x ≡ Actions.LosesImage false) → own_of h i x → Came h i (LoseControl i) ⊎ Came h i (LoseImage i)
+lost_by h i x (inl a) of =
+    let b = behind_of h i (Actions.Loses false) (λ free. free) (of_deed h i x (Actions.Loses false) a of) in
+    inl (loses_event (Came h i) (infos_of h) i b.event (came_behind h (infos_of h) i (Actions.Loses false) b) b.is)
+lost_by h i x (inr a) of =
+    let b = behind_of h i (Actions.LosesImage false) (λ free. free) (of_deed h i x (Actions.LosesImage false) a of) in
+    inr (image_event (Came h i) (infos_of h) i b.event (came_behind h (infos_of h) i (Actions.LosesImage false) b) b.is)
+
+chokes_by : (h : History) (i : ℕ) (x : Action) → x ≡ Actions.RunsOutOfMemory → own_of h i x → (n : ℕ) × (Came h i (ToClient i n) ⊎ Came h i (DataToClient i n))
+chokes_by h i x is of =
+    let b = behind_of h i Actions.RunsOutOfMemory (λ free. free) (of_deed h i x Actions.RunsOutOfMemory is of) in
+    chokes_event (Came h i) (infos_of h) i b.event (came_behind h (infos_of h) i Actions.RunsOutOfMemory b) b.is
 
 -- what a step of it needs
 pub record Here (h : History) (i : ℕ) (job : Job) (s : SystemState) : Type 0 where
@@ -296,17 +330,15 @@ pub record Here (h : History) (i : ℕ) (job : Job) (s : SystemState) : Type 0 w
   pub sound : Invariant s
 
 evid : (h : History) (i : ℕ) (job : Job) (s : SystemState) (x : Action) → Here h i job s → IsUnderWay (s.job i).client.stage → own_of h i x → (c : Cause) → Comes i (make_for s i) (s.job i) (device_for s i) x c → Evid h i job c
-evid h i job s x e on of GaveUp c = let o = of_deed h i x Actions.Stops c of in stops_event h.events (map info_of_state h.devices) i o.event o.among o.is
+evid h i job s x e on of GaveUp c = let o = of_deed h i x Actions.Stops c of in stops_event (Contains h.events) (infos_of h) i o.event (contains_in h.events o.event o.among) o.is
 evid h i job s x e on of LinkLost c = lost_by h i x c of
 evid h i job s x e on of LinkOutOfMemory c = tt
 evid h i job s x e on of WasUnsaid c = (of_deed h i x (Actions.Breaks false) c of).cut job e.own_job.at
 evid h i job s x e on of SourceFailed c = (failed_by h i x c.0 of, fallible_by h i job s e.own_job e.fine c.1)
 evid h i job s x e on of NamesEof c =
-    let o = of_deed h i x Actions.TurnsShort c.0 of in
-    (short_event h.events (map info_of_state h.devices) i o.event o.among o.is, told_by h i job s Eof e.own_job e.fine e.is c.2 (streaming i (make_for s i) (s.job i) (device_for s i) (s.job i).client.stage on (e.sound.talks i) c.1) c.3)
+    (short_by h i x c.0 of, told_by h i job s Eof e.own_job e.fine e.is c.2 (streaming i (make_for s i) (s.job i) (device_for s i) (s.job i).client.stage on (e.sound.talks i) c.1) c.3)
 evid h i job s x e on of (Names status) c =
-    let o = of_deed h i x (Actions.TurnsNamed status) c.0 of in
-    (named_event h.events (map info_of_state h.devices) i status o.event o.among o.is, told_by h i job s status e.own_job e.fine e.is c.2 (streaming i (make_for s i) (s.job i) (device_for s i) (s.job i).client.stage on (e.sound.talks i) c.1) c.3)
+    (named_by h i x status c.0 of, told_by h i job s status e.own_job e.fine e.is c.2 (streaming i (make_for s i) (s.job i) (device_for s i) (s.job i).client.stage on (e.sound.talks i) c.1) c.3)
 evid h i job s x e on of Unforced c = absurd c
 evid h i job s x e on of WasUnlisted c = (served_by_answer h i x c.0 of, unlisted_by h i job s e.own_job e.fine c.1)
 evid h i job s x e on of HadNoPicture c = (
@@ -318,7 +350,7 @@ evid h i job s x e on of Disallowed c =
     (served_by_answer h i x c.0 of, ap (λ (j : RuledJob). j.guarded) (sym e.is) ∙ e.asks c.1.0 c.1.1)
 evid h i job s x e on of TrayWasEmpty c = (served_by_answer h i x c.0 of, feeders_by h i job s e.own_job e.fine e.sound c.1)
 evid h i job s x e on of TrayRanOut c = tt
-evid h i job s x e on of ClientOutOfMemory c = let o = of_deed h i x Actions.RunsOutOfMemory c of in chokes_event h.events (map info_of_state h.devices) i o.event o.among o.is
+evid h i job s x e on of ClientOutOfMemory c = chokes_by h i x c of
 
 -- ---- what the job met
 

@@ -41,7 +41,7 @@ use Rattle.system_model.specs.Client as rules
 use Rattle.std.proofs.lemmas.Option.{get_or_from_slice_get}
 use Rattle.world_refines.specs.GhostStates.{job_state, place_named, place_of_info, abstract_job}
 use Rattle.world_contract.proofs.Pages.{all_of_one, first_slot}
-use Rattle.world_contract.proofs.Scanned.{at_first, infos_of, kept_by, untouched_at_first}
+use Rattle.world_contract.proofs.Scanned.{at_first, behind_there, infos_of, kept_by, untouched_at_first}
 use Rattle.world_contract.proofs.OfJobs.{all_of_jobs}
 use Rattle.world_contract.proofs.Traced.{each_of, traced}
 use Rattle.world_contract.proofs.Slots.{Owned}
@@ -151,17 +151,17 @@ row h i job starved status why w GaveUp is z e x = GaveUpRow (both_are status wh
 row h i job starved status why w LinkLost is z e x = LostLink (both_are status why words.IoError words.Lost w is x) e
 row h i job starved status why w WasUnsaid is z e x = absurd x
 row h i job starved status why w LinkOutOfMemory is z e x = Starved (both_are status why words.IoError words.Lost w is x) (z refl)
-row h i job starved status why w SourceFailed is z e x = SourceFailedRow (both_are status why words.IoError words.Answer w is x) e.0 e.1.0 e.1.1 e.1.2
+row h i job starved status why w SourceFailed is z e x = SourceFailedRow (both_are status why words.IoError words.Answer w is x) e.0.0 e.0.1 e.1.0 e.1.1 e.1.2
 row h i job starved status why w NamesEof is z e x = NamesEofRow (both_are status why words.IoError words.Short w is x) e.0 e.1.0 (code_in e.1.0.setup.told words.Eof e.1.1)
 row h i job starved status why w (Names s) is z e x =
     NamesStatus (λ eof. x.1 (sym x.0 ∙ ap abstract_status eof), why_is why words.Answer (is ∙ ap (λ (y : Why). Some y) x.2)) e.0 e.1.0
     (code_in e.1.0.setup.told s e.1.1 ∙ ap (λ (y : Code). Some y) (sym (code_is status s x.0)))
 row h i job starved status why w Unforced is z e x = absurd e
-row h i job starved status why w WasUnlisted is z e x = Unlisted (both_are status why words.Inval words.Answer w is x) e.0 e.1
-row h i job starved status why w HadNoPicture is z e x = HadNoPictureRow (both_are status why words.Inval words.Answer w is x) e.0 e.1
-row h i job starved status why w WasHeld is z e x = WasHeldRow (both_are status why words.Busy words.Answer w is x) e.0 e.1
-row h i job starved status why w Disallowed is z e x = DisallowedRow (both_are status why words.AccessDenied words.Answer w is x) e.0 e.1
-row h i job starved status why w TrayWasEmpty is z e x = TrayWasEmptyRow (both_are status why words.NoDocs words.Answer w is x) e.0 e.1
+row h i job starved status why w WasUnlisted is z e x = Unlisted (both_are status why words.Inval words.Answer w is x) e.0.0 e.0.1 e.1
+row h i job starved status why w HadNoPicture is z e x = HadNoPictureRow (both_are status why words.Inval words.Answer w is x) e.0.0 e.0.1 e.1
+row h i job starved status why w WasHeld is z e x = WasHeldRow (both_are status why words.Busy words.Answer w is x) e.0.0 e.0.1 e.1
+row h i job starved status why w Disallowed is z e x = DisallowedRow (both_are status why words.AccessDenied words.Answer w is x) e.0.0 e.0.1 e.1
+row h i job starved status why w TrayWasEmpty is z e x = TrayWasEmptyRow (both_are status why words.NoDocs words.Answer w is x) e.0.0 e.0.1 e.1
 row h i job starved status why w TrayRanOut is z e x = absurd x
 row h i job starved status why w ClientOutOfMemory is z e x = ClientStarvedRow (both_are status why words.NoMem words.Memory w is x) e.0 e.1
 
@@ -203,7 +203,7 @@ judged_there below h w i job endpoint j =
     let fine : Fine h job t.system = record { makes = refl; places = λ n. refl; slots = λ d. first_slot h (t.system.make d) d; owned = λ d. first_owned h job (t.system.make d) d (slice_get h.devices d) refl } in
     let here : Here h i job t.system = record { own_job = o; fine = fine; is = ap (λ (users : List Entry). abstract_job users (infos_of h) (slice_index_or h.jobs i job)) l.users_are ∙ ap (λ (x : Job). abstract_job h.users (infos_of h) x) (get_or_from_slice_get h.jobs i job job j.job_at); asks = λ c is. absurd (let clash : None ≡ Some c = is in cc); sound = new.sound } in
     let laws : Laws = record { legal = below.marks; sound = below.histories; last = below.last; grounds = below.grounds } in
-    let of = all_of_one h steps (each_of t.infos h.events steps (traced h.events t steps u k.run.comes)) (all_of_jobs h.events t steps u (untouched_at_first h w job l) k.run.comes) (cut_of_history h t u job steps l.users_are refl refl k.run.comes) in
+    let of = all_of_one h steps (each_of t.infos h.events steps (traced h.events t steps u k.run.comes)) (all_of_jobs h.events t steps u (untouched_at_first h w job l) k.run.comes) (cut_of_history h t u job steps l.users_are refl refl k.run.comes) (behind_there h w job l k.run) in
     subst (JudgedAt h i job) (sym k.run.rules_are) (all_judged laws h i job steps t.system here of k.run.legal tt)
 
 pub at_end : Below → (h : History) (w : WorldCore) (i : ℕ) (job : Job) (endpoint : Endpoint) (status : Code) (why : Reason) → IsJob h w i job endpoint → endpoint.client.outcome ≡ outcomes.Ended status why → IsEndingExplained h i job endpoint.out_of_memory status why

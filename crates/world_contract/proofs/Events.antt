@@ -1,5 +1,4 @@
--- The events that steps come from.
-use Rattle.std.specs.Prelude.{Contains}
+-- The events that steps come from: what is so of the event of a step is so of that one.
 use Rattle.std.proofs.Common.{◌⊎◌, ℕ, List, false, Option, inl, inr, sym, subst}
 use Rattle.sane_fixed.specs.declared.device_info.DeviceInfo.{DeviceInfo}
 use Rattle.system_model.specs.AbstractMessages.{Challenge, Status}
@@ -8,109 +7,108 @@ use Rattle.system_model.specs.Actions as deeds
 use Rattle.system_model.specs.Transitions.{By}
 use Rattle.scan_world.specs.declared.event.Event.{Event}
 use Rattle.scan_world.specs.declared.event.Event.TheVariants.{Connect, ToDaemon, ToClient, DataConnect, DataTurn, DataToClient, LoseControl, LoseImage, Cancel, Load, Unplug}
-use Rattle.world_contract.proofs.Lists.{In, contains_in}
 use Rattle.world_contract.proofs.Traced.{StepOf}
 
-pub stops_event : (es : List Event) (infos : List DeviceInfo) (i : ℕ) (e : Event) → In e es → StepOf infos e (By i deeds.Stops) → Contains es (Cancel i)
-stops_event es infos i (Connect j) among of = absurd of.1
-stops_event es infos i (ToDaemon j n) among of = absurd of.1
-stops_event es infos i (ToClient j n) among of = absurd of.1
-stops_event es infos i (DataConnect j) among of = absurd of.1
-stops_event es infos i (DataTurn j) among of = absurd of.1
-stops_event es infos i (DataToClient j n) among of = absurd of.1
-stops_event es infos i (LoseControl j) among of = absurd of.1
-stops_event es infos i (LoseImage j) among of = absurd of.1
-stops_event es infos i (Cancel j) among of = contains_in es (Cancel i) (subst (λ (m : ℕ). In (Cancel m) es) (sym of.0) among)
-stops_event es infos i (Load name source) among of = absurd of
-stops_event es infos i (Unplug name) among of = absurd of
+pub stops_event : (P : Event → Type 0) (infos : List DeviceInfo) (i : ℕ) (e : Event) → P e → StepOf infos e (By i deeds.Stops) → P (Cancel i)
+stops_event P infos i (Connect j) so of = absurd of.1
+stops_event P infos i (ToDaemon j n) so of = absurd of.1
+stops_event P infos i (ToClient j n) so of = absurd of.1
+stops_event P infos i (DataConnect j) so of = absurd of.1
+stops_event P infos i (DataTurn j) so of = absurd of.1
+stops_event P infos i (DataToClient j n) so of = absurd of.1
+stops_event P infos i (LoseControl j) so of = absurd of.1
+stops_event P infos i (LoseImage j) so of = absurd of.1
+stops_event P infos i (Cancel j) so of = subst (λ (m : ℕ). P (Cancel m)) (sym of.0) so
+stops_event P infos i (Load name source) so of = absurd of
+stops_event P infos i (Unplug name) so of = absurd of
 
-pub loses_event : (es : List Event) (infos : List DeviceInfo) (i : ℕ) (e : Event) → In e es → StepOf infos e (By i (deeds.Loses false)) → Contains es (LoseControl i)
-loses_event es infos i (Connect j) among of = absurd of.1
-loses_event es infos i (ToDaemon j n) among of = absurd of.1
-loses_event es infos i (ToClient j n) among of = absurd of.1
-loses_event es infos i (DataConnect j) among of = absurd of.1
-loses_event es infos i (DataTurn j) among of = absurd of.1
-loses_event es infos i (DataToClient j n) among of = absurd of.1
-loses_event es infos i (LoseControl j) among of = contains_in es (LoseControl i) (subst (λ (m : ℕ). In (LoseControl m) es) (sym of.0) among)
-loses_event es infos i (LoseImage j) among of = absurd of.1
-loses_event es infos i (Cancel j) among of = absurd of.1
-loses_event es infos i (Load name source) among of = absurd of
-loses_event es infos i (Unplug name) among of = absurd of
+pub loses_event : (P : Event → Type 0) (infos : List DeviceInfo) (i : ℕ) (e : Event) → P e → StepOf infos e (By i (deeds.Loses false)) → P (LoseControl i)
+loses_event P infos i (Connect j) so of = absurd of.1
+loses_event P infos i (ToDaemon j n) so of = absurd of.1
+loses_event P infos i (ToClient j n) so of = absurd of.1
+loses_event P infos i (DataConnect j) so of = absurd of.1
+loses_event P infos i (DataTurn j) so of = absurd of.1
+loses_event P infos i (DataToClient j n) so of = absurd of.1
+loses_event P infos i (LoseControl j) so of = subst (λ (m : ℕ). P (LoseControl m)) (sym of.0) so
+loses_event P infos i (LoseImage j) so of = absurd of.1
+loses_event P infos i (Cancel j) so of = absurd of.1
+loses_event P infos i (Load name source) so of = absurd of
+loses_event P infos i (Unplug name) so of = absurd of
 
-pub image_event : (es : List Event) (infos : List DeviceInfo) (i : ℕ) (e : Event) → In e es → StepOf infos e (By i (deeds.LosesImage false)) → Contains es (LoseImage i)
-image_event es infos i (Connect j) among of = absurd of.1
-image_event es infos i (ToDaemon j n) among of = absurd of.1
-image_event es infos i (ToClient j n) among of = absurd of.1
-image_event es infos i (DataConnect j) among of = absurd of.1
-image_event es infos i (DataTurn j) among of = absurd of.1
-image_event es infos i (DataToClient j n) among of = absurd of.1
-image_event es infos i (LoseControl j) among of = absurd of.1
-image_event es infos i (LoseImage j) among of = contains_in es (LoseImage i) (subst (λ (m : ℕ). In (LoseImage m) es) (sym of.0) among)
-image_event es infos i (Cancel j) among of = absurd of.1
-image_event es infos i (Load name source) among of = absurd of
-image_event es infos i (Unplug name) among of = absurd of
+pub image_event : (P : Event → Type 0) (infos : List DeviceInfo) (i : ℕ) (e : Event) → P e → StepOf infos e (By i (deeds.LosesImage false)) → P (LoseImage i)
+image_event P infos i (Connect j) so of = absurd of.1
+image_event P infos i (ToDaemon j n) so of = absurd of.1
+image_event P infos i (ToClient j n) so of = absurd of.1
+image_event P infos i (DataConnect j) so of = absurd of.1
+image_event P infos i (DataTurn j) so of = absurd of.1
+image_event P infos i (DataToClient j n) so of = absurd of.1
+image_event P infos i (LoseControl j) so of = absurd of.1
+image_event P infos i (LoseImage j) so of = subst (λ (m : ℕ). P (LoseImage m)) (sym of.0) so
+image_event P infos i (Cancel j) so of = absurd of.1
+image_event P infos i (Load name source) so of = absurd of
+image_event P infos i (Unplug name) so of = absurd of
 
-pub answers_event : (es : List Event) (infos : List DeviceInfo) (i : ℕ) (challenge : Challenge) (fault : Option FailureCounts) (e : Event) → In e es → StepOf infos e (By i (deeds.Answers challenge fault)) → (n : ℕ) × Contains es (ToDaemon i n)
-answers_event es infos i challenge fault (Connect j) among of = absurd of.1
-answers_event es infos i challenge fault (ToDaemon j n) among of = (n, contains_in es (ToDaemon i n) (subst (λ (m : ℕ). In (ToDaemon m n) es) (sym of.0) among))
-answers_event es infos i challenge fault (ToClient j n) among of = absurd of.1
-answers_event es infos i challenge fault (DataConnect j) among of = absurd of.1
-answers_event es infos i challenge fault (DataTurn j) among of = absurd of.1
-answers_event es infos i challenge fault (DataToClient j n) among of = absurd of.1
-answers_event es infos i challenge fault (LoseControl j) among of = absurd of.1
-answers_event es infos i challenge fault (LoseImage j) among of = absurd of.1
-answers_event es infos i challenge fault (Cancel j) among of = absurd of.1
-answers_event es infos i challenge fault (Load name source) among of = absurd of
-answers_event es infos i challenge fault (Unplug name) among of = absurd of
+pub answers_event : (P : Event → Type 0) (infos : List DeviceInfo) (i : ℕ) (challenge : Challenge) (fault : Option FailureCounts) (e : Event) → P e → StepOf infos e (By i (deeds.Answers challenge fault)) → (n : ℕ) × P (ToDaemon i n)
+answers_event P infos i challenge fault (Connect j) so of = absurd of.1
+answers_event P infos i challenge fault (ToDaemon j n) so of = (n, subst (λ (m : ℕ). P (ToDaemon m n)) (sym of.0) so)
+answers_event P infos i challenge fault (ToClient j n) so of = absurd of.1
+answers_event P infos i challenge fault (DataConnect j) so of = absurd of.1
+answers_event P infos i challenge fault (DataTurn j) so of = absurd of.1
+answers_event P infos i challenge fault (DataToClient j n) so of = absurd of.1
+answers_event P infos i challenge fault (LoseControl j) so of = absurd of.1
+answers_event P infos i challenge fault (LoseImage j) so of = absurd of.1
+answers_event P infos i challenge fault (Cancel j) so of = absurd of.1
+answers_event P infos i challenge fault (Load name source) so of = absurd of
+answers_event P infos i challenge fault (Unplug name) so of = absurd of
 
-pub named_event : (es : List Event) (infos : List DeviceInfo) (i : ℕ) (status : Status) (e : Event) → In e es → StepOf infos e (By i (deeds.TurnsNamed status)) → Contains es (DataTurn i)
-named_event es infos i status (Connect j) among of = absurd of.1
-named_event es infos i status (ToDaemon j n) among of = absurd of.1
-named_event es infos i status (ToClient j n) among of = absurd of.1
-named_event es infos i status (DataConnect j) among of = absurd of.1
-named_event es infos i status (DataTurn j) among of = contains_in es (DataTurn i) (subst (λ (m : ℕ). In (DataTurn m) es) (sym of.0) among)
-named_event es infos i status (DataToClient j n) among of = absurd of.1
-named_event es infos i status (LoseControl j) among of = absurd of.1
-named_event es infos i status (LoseImage j) among of = absurd of.1
-named_event es infos i status (Cancel j) among of = absurd of.1
-named_event es infos i status (Load name source) among of = absurd of
-named_event es infos i status (Unplug name) among of = absurd of
+pub named_event : (P : Event → Type 0) (infos : List DeviceInfo) (i : ℕ) (status : Status) (e : Event) → P e → StepOf infos e (By i (deeds.TurnsNamed status)) → P (DataTurn i)
+named_event P infos i status (Connect j) so of = absurd of.1
+named_event P infos i status (ToDaemon j n) so of = absurd of.1
+named_event P infos i status (ToClient j n) so of = absurd of.1
+named_event P infos i status (DataConnect j) so of = absurd of.1
+named_event P infos i status (DataTurn j) so of = subst (λ (m : ℕ). P (DataTurn m)) (sym of.0) so
+named_event P infos i status (DataToClient j n) so of = absurd of.1
+named_event P infos i status (LoseControl j) so of = absurd of.1
+named_event P infos i status (LoseImage j) so of = absurd of.1
+named_event P infos i status (Cancel j) so of = absurd of.1
+named_event P infos i status (Load name source) so of = absurd of
+named_event P infos i status (Unplug name) so of = absurd of
 
-pub short_event : (es : List Event) (infos : List DeviceInfo) (i : ℕ) (e : Event) → In e es → StepOf infos e (By i deeds.TurnsShort) → Contains es (DataTurn i)
-short_event es infos i (Connect j) among of = absurd of.1
-short_event es infos i (ToDaemon j n) among of = absurd of.1
-short_event es infos i (ToClient j n) among of = absurd of.1
-short_event es infos i (DataConnect j) among of = absurd of.1
-short_event es infos i (DataTurn j) among of = contains_in es (DataTurn i) (subst (λ (m : ℕ). In (DataTurn m) es) (sym of.0) among)
-short_event es infos i (DataToClient j n) among of = absurd of.1
-short_event es infos i (LoseControl j) among of = absurd of.1
-short_event es infos i (LoseImage j) among of = absurd of.1
-short_event es infos i (Cancel j) among of = absurd of.1
-short_event es infos i (Load name source) among of = absurd of
-short_event es infos i (Unplug name) among of = absurd of
+pub short_event : (P : Event → Type 0) (infos : List DeviceInfo) (i : ℕ) (e : Event) → P e → StepOf infos e (By i deeds.TurnsShort) → P (DataTurn i)
+short_event P infos i (Connect j) so of = absurd of.1
+short_event P infos i (ToDaemon j n) so of = absurd of.1
+short_event P infos i (ToClient j n) so of = absurd of.1
+short_event P infos i (DataConnect j) so of = absurd of.1
+short_event P infos i (DataTurn j) so of = subst (λ (m : ℕ). P (DataTurn m)) (sym of.0) so
+short_event P infos i (DataToClient j n) so of = absurd of.1
+short_event P infos i (LoseControl j) so of = absurd of.1
+short_event P infos i (LoseImage j) so of = absurd of.1
+short_event P infos i (Cancel j) so of = absurd of.1
+short_event P infos i (Load name source) so of = absurd of
+short_event P infos i (Unplug name) so of = absurd of
 
-pub fault_event : (es : List Event) (infos : List DeviceInfo) (i : ℕ) (fault : FailureCounts) (e : Event) → In e es → StepOf infos e (By i (deeds.TurnsFault fault)) → Contains es (DataTurn i)
-fault_event es infos i fault (Connect j) among of = absurd of.1
-fault_event es infos i fault (ToDaemon j n) among of = absurd of.1
-fault_event es infos i fault (ToClient j n) among of = absurd of.1
-fault_event es infos i fault (DataConnect j) among of = absurd of.1
-fault_event es infos i fault (DataTurn j) among of = contains_in es (DataTurn i) (subst (λ (m : ℕ). In (DataTurn m) es) (sym of.0) among)
-fault_event es infos i fault (DataToClient j n) among of = absurd of.1
-fault_event es infos i fault (LoseControl j) among of = absurd of.1
-fault_event es infos i fault (LoseImage j) among of = absurd of.1
-fault_event es infos i fault (Cancel j) among of = absurd of.1
-fault_event es infos i fault (Load name source) among of = absurd of
-fault_event es infos i fault (Unplug name) among of = absurd of
+pub fault_event : (P : Event → Type 0) (infos : List DeviceInfo) (i : ℕ) (fault : FailureCounts) (e : Event) → P e → StepOf infos e (By i (deeds.TurnsFault fault)) → P (DataTurn i)
+fault_event P infos i fault (Connect j) so of = absurd of.1
+fault_event P infos i fault (ToDaemon j n) so of = absurd of.1
+fault_event P infos i fault (ToClient j n) so of = absurd of.1
+fault_event P infos i fault (DataConnect j) so of = absurd of.1
+fault_event P infos i fault (DataTurn j) so of = subst (λ (m : ℕ). P (DataTurn m)) (sym of.0) so
+fault_event P infos i fault (DataToClient j n) so of = absurd of.1
+fault_event P infos i fault (LoseControl j) so of = absurd of.1
+fault_event P infos i fault (LoseImage j) so of = absurd of.1
+fault_event P infos i fault (Cancel j) so of = absurd of.1
+fault_event P infos i fault (Load name source) so of = absurd of
+fault_event P infos i fault (Unplug name) so of = absurd of
 
-pub chokes_event : (es : List Event) (infos : List DeviceInfo) (i : ℕ) (e : Event) → In e es → StepOf infos e (By i deeds.RunsOutOfMemory) → (n : ℕ) × (Contains es (ToClient i n) ⊎ Contains es (DataToClient i n))
-chokes_event es infos i (Connect j) among of = absurd of.1
-chokes_event es infos i (ToDaemon j n) among of = absurd of.1
-chokes_event es infos i (ToClient j n) among of = (n, inl (contains_in es (ToClient i n) (subst (λ (m : ℕ). In (ToClient m n) es) (sym of.0) among)))
-chokes_event es infos i (DataConnect j) among of = absurd of.1
-chokes_event es infos i (DataTurn j) among of = absurd of.1
-chokes_event es infos i (DataToClient j n) among of = (n, inr (contains_in es (DataToClient i n) (subst (λ (m : ℕ). In (DataToClient m n) es) (sym of.0) among)))
-chokes_event es infos i (LoseControl j) among of = absurd of.1
-chokes_event es infos i (LoseImage j) among of = absurd of.1
-chokes_event es infos i (Cancel j) among of = absurd of.1
-chokes_event es infos i (Load name source) among of = absurd of
-chokes_event es infos i (Unplug name) among of = absurd of
+pub chokes_event : (P : Event → Type 0) (infos : List DeviceInfo) (i : ℕ) (e : Event) → P e → StepOf infos e (By i deeds.RunsOutOfMemory) → (n : ℕ) × (P (ToClient i n) ⊎ P (DataToClient i n))
+chokes_event P infos i (Connect j) so of = absurd of.1
+chokes_event P infos i (ToDaemon j n) so of = absurd of.1
+chokes_event P infos i (ToClient j n) so of = (n, inl (subst (λ (m : ℕ). P (ToClient m n)) (sym of.0) so))
+chokes_event P infos i (DataConnect j) so of = absurd of.1
+chokes_event P infos i (DataTurn j) so of = absurd of.1
+chokes_event P infos i (DataToClient j n) so of = (n, inr (subst (λ (m : ℕ). P (DataToClient m n)) (sym of.0) so))
+chokes_event P infos i (LoseControl j) so of = absurd of.1
+chokes_event P infos i (LoseImage j) so of = absurd of.1
+chokes_event P infos i (Cancel j) so of = absurd of.1
+chokes_event P infos i (Load name source) so of = absurd of
+chokes_event P infos i (Unplug name) so of = absurd of

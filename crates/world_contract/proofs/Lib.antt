@@ -6,6 +6,7 @@ pub mod Begun
 pub mod Asked
 pub mod Traced
 pub mod OfJobs
+pub mod Connected
 pub mod Cuts
 pub mod Pages
 pub mod Sources
@@ -26,4 +27,5 @@ pub mod Showing
 pub mod Shown
 pub mod Calls
 pub mod Over
+pub mod Timely
 pub mod Examples

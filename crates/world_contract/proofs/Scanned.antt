@@ -23,7 +23,7 @@ use Rattle.scan_world.specs.Worlds.{WorldCore}
 use Rattle.world_refines.specs.GhostStates.{Ghost, place_or_length, job_state, place_named}
 use Rattle.world_refines.specs.NewWorlds.{info_of_state, make_of, initial_ghost}
 use Rattle.world_refines.specs.WorldPromises.{IsMeant}
-use Rattle.world_refines.specs.MainTheorem.{AllIsKept, PromisesAreKept}
+use Rattle.world_refines.specs.MainTheorem.{AllIsKept, PromisesAreKept, RunRefines}
 use Rattle.world_refines.proofs.job_events.Constant.{Fixed, all_fixed, makes_stay}
 use Rattle.world_refines.proofs.state.Infos.{is_name, name_here}
 use Rattle.world_contract.proofs.Nearest.{nearest_for}
@@ -39,7 +39,9 @@ use Rattle.world_contract.proofs.OfJobs.{AreUntouched, all_of_jobs, no_image_at_
 use Rattle.world_contract.proofs.Traced.{each_of, traced}
 use Rattle.page_picture.specs.Page.{PageView}
 use Rattle.page_picture.specs.Meaning.{meaning_of}
+use Rattle.world_contract.proofs.Connected.{ComesBehind, IsUnlinked, all_behind}
 use Rattle.world_contract.proofs.Cuts.{cut_of_history}
+use Rattle.system_model.specs.Client.{Idle, Running}
 
 -- ---- what all that happened stands for
 
@@ -52,13 +54,24 @@ kept_by all h w job l = all source_state h.events (sources_of h) h.jobs job h.de
 pub untouched_at_first : (h : History) (w : WorldCore) (job : Job) (l : LedTo h w) → AreUntouched (at_first h w job l)
 untouched_at_first h w job l = λ j n. record { linked = refl; quiet = refl; no_image = no_image_at_first (slice_get l.first.endpoints j) }
 
+-- ---- each step comes behind the connection of its job
+
+-- at first no job was connected
+pub fresh_there : (h : History) (w : WorldCore) (job : Job) (l : LedTo h w) (i : ℕ) → IsUnlinked ((at_first h w job l).system.job i)
+fresh_there h w job l i = record { linked = refl; image = refl; served = refl; quiet = refl; still = λ runs. let clash : Idle ≡ Running runs.0 = runs.1 in cc }
+
+pub behind_there : (h : History) (w : WorldCore) (job : Job) (l : LedTo h w) (r : RunRefines source_state h.events (at_first h w job l) l.first w) → AllByRecursion (ComesBehind (map info_of_state h.devices) h.events) r.steps
+behind_there h w job l r =
+    let t = at_first h w job l in
+    all_behind (map info_of_state h.devices) h.events r.steps t.system (fresh_there h w job l) (traced h.events t r.steps r.ghost_then r.comes) r.legal
+
 -- ---- each start is of a page that was in the device
 
 pub begun_there : NotesAreTrue → (h : History) (w : WorldCore) (job : Job) (l : LedTo h w) (k : PromisesAreKept source_state h.events (at_first h w job l) l.first w) (i : ℕ) → AllByRecursion (IsBegun h (wanted_place (at_first h w job l).system i)) (job_state k.run.ghost_then i).session.started
 begun_there notes h w job l k i =
     let t = at_first h w job l in
     let steps = k.run.steps in
-    let of = all_of_one h steps (each_of t.infos h.events steps (traced h.events t steps k.run.ghost_then k.run.comes)) (all_of_jobs h.events t steps k.run.ghost_then (untouched_at_first h w job l) k.run.comes) (cut_of_history h t k.run.ghost_then job steps l.users_are refl refl k.run.comes) in
+    let of = all_of_one h steps (each_of t.infos h.events steps (traced h.events t steps k.run.ghost_then k.run.comes)) (all_of_jobs h.events t steps k.run.ghost_then (untouched_at_first h w job l) k.run.comes) (cut_of_history h t k.run.ghost_then job steps l.users_are refl refl k.run.comes) (behind_there h w job l k.run) in
     let starts = λ (d : ℕ). starts_there (HasDevice h d) (IsOfDevice h d) (all_marks d t.system steps) (device_view (t.system.make d) (t.system.device d)) (device_view (t.system.make d) ((after_all t.system steps).device d)) (k.run.marks d) (all_loads h steps t.system of d) (first_slot h (t.system.make d) d) in
     let begun = all_begun notes (IsBegun h) steps t.system starts (λ j. tt) i in
     subst (λ (s : SystemState). AllByRecursion (IsBegun h (wanted_place t.system i)) (s.job i).session.started) (sym k.run.rules_are)

@@ -1,7 +1,7 @@
 -- Each mark is shown in its event, and the starts of a job are those of its marks.
-use Rattle.std.specs.Prelude.{cond, eqb}
+use Rattle.std.specs.Prelude.{Contains, cond, eqb}
 use Rattle.std.specs.List.{AllByRecursion}
-use Rattle.std.proofs.Common.{◌≡◌, ◌∙◌, ℕ, List, [], ◌∷◌, ◌++◌, Bool, true, false, Some, refl, sym, ap, subst, append_assoc, eqb-true}
+use Rattle.std.proofs.Common.{◌≡◌, ◌∙◌, ℕ, inr, List, [], ◌∷◌, ◌++◌, Bool, true, false, Some, refl, sym, ap, subst, append_assoc, eqb-true}
 use Rattle.std.proofs.lemmas.List.{append-nil}
 use Rattle.sane_fixed.specs.declared.device_info.DeviceInfo.{DeviceInfo}
 use Rattle.system_model.specs.Devices.{Make}
@@ -9,7 +9,7 @@ use Rattle.system_model.specs.AbstractDevices.{Begin, AbstractDevice, ended_phas
 use Rattle.system_model.specs.Daemon.{TransferState, Quiet, Waiting, Streaming, Ending}
 use Rattle.system_model.specs.SystemStates.{JobState, SystemState, listed_devices, make_for, device_for, wanted_place}
 use Rattle.system_model.specs.Actions
-use Rattle.system_model.specs.Transitions.{By, Loads, Transition, Unplugs, after_transition, after_all}
+use Rattle.system_model.specs.Transitions.{By, IsEnabled, IsHistory, Loads, Transition, Unplugs, after_transition, after_all}
 use Rattle.system_model.specs.Marks.{Mark, Took, Started, Rested, Returned, Loaded, Removed, action_marks, is_busy, left_marks, lost_marks, marks, off_marks, rested_if, starts_in, touched_device}
 use Rattle.system_model.specs.MoveRuns.{all_marks, marks_at}
 use Rattle.system_model.specs.ModelPromises.{NotesAreTrue}
@@ -19,7 +19,8 @@ use Rattle.scan_world.specs.declared.event.JobEvent.TheVariants as events
 use Rattle.world_refines.specs.GhostStates.{name_at}
 use Rattle.daemon_refines.proofs.Moved.{own}
 use Rattle.world_contract.specs.Marks.{IsLeft, IsMarkOf, IsRest, MayShow, ShowsMarks, starts_by}
-use Rattle.world_contract.proofs.Lists.{all_each, all_then}
+use Rattle.world_contract.proofs.Connected.{AreLinked, IsUnlinked, front_of, history_first, history_rest, last_in, linked_all, linked_more, linked_then, unfree}
+use Rattle.world_contract.proofs.Lists.{In, all_each, all_then, contains_in}
 use Rattle.world_contract.proofs.Mine.{IsMine, AreMine, deed_mine}
 use Rattle.world_contract.proofs.Begun.{party_stays, wants_same}
 use Rattle.world_contract.proofs.Traced.{AreOf, DeedOf, StepOf, Traced}
@@ -225,57 +226,77 @@ by_name : (infos : List DeviceInfo) (d place : ℕ) (name other : List ℕ) → 
 by_name infos d place name other is same there =
     let both : Some other ≡ Some name = sym there ∙ (ap (name_at infos) (sym same) ∙ is) in cc
 
-step_shows : (infos : List DeviceInfo) (name : List ℕ) (d : ℕ) → name_at infos d ≡ Some name → (e : Event) (s : SystemState) (x : Transition) → StepOf infos e x → d ≡ touched_device s x → AllByRecursion (MayShow name e) (marks s x)
-step_shows infos name d is (Connect i) s (By j x) of same = subst (λ (m : ℕ). AllByRecursion (MayShow name (Connect m)) (marks s (By j x))) of.0 (connect_left j 0 (wanted_place s j) (make_for s j) (listed_devices s) (s.job j) (device_for s j) x of.1)
-step_shows infos name d is (Connect i) s (Loads place page) of same = absurd of
-step_shows infos name d is (Connect i) s (Unplugs place) of same = absurd of
-step_shows infos name d is (DataConnect i) s (By j x) of same = subst (λ (m : ℕ). AllByRecursion (MayShow name (DataConnect m)) (marks s (By j x))) of.0 (dial_none j 0 (wanted_place s j) (make_for s j) (listed_devices s) (s.job j) (device_for s j) x of.1)
-step_shows infos name d is (DataConnect i) s (Loads place page) of same = absurd of
-step_shows infos name d is (DataConnect i) s (Unplugs place) of same = absurd of
-step_shows infos name d is (DataTurn i) s (By j x) of same = subst (λ (m : ℕ). AllByRecursion (MayShow name (DataTurn m)) (marks s (By j x))) of.0 (turn_rest j 0 (wanted_place s j) (make_for s j) (listed_devices s) (s.job j) (device_for s j) x of.1)
-step_shows infos name d is (DataTurn i) s (Loads place page) of same = absurd of
-step_shows infos name d is (DataTurn i) s (Unplugs place) of same = absurd of
-step_shows infos name d is (LoseControl i) s (By j x) of same = subst (λ (m : ℕ). AllByRecursion (MayShow name (LoseControl m)) (marks s (By j x))) of.0 (lose_left j 0 (wanted_place s j) (make_for s j) (listed_devices s) (s.job j) (device_for s j) x of.1)
-step_shows infos name d is (LoseControl i) s (Loads place page) of same = absurd of
-step_shows infos name d is (LoseControl i) s (Unplugs place) of same = absurd of
-step_shows infos name d is (LoseImage i) s (By j x) of same = subst (λ (m : ℕ). AllByRecursion (MayShow name (LoseImage m)) (marks s (By j x))) of.0 (image_rest j 0 (wanted_place s j) (make_for s j) (listed_devices s) (s.job j) (device_for s j) x of.1)
-step_shows infos name d is (LoseImage i) s (Loads place page) of same = absurd of
-step_shows infos name d is (LoseImage i) s (Unplugs place) of same = absurd of
-step_shows infos name d is (Cancel i) s (By j x) of same = subst (λ (m : ℕ). AllByRecursion (MayShow name (Cancel m)) (marks s (By j x))) of.0 (cancel_none j 0 (wanted_place s j) (make_for s j) (listed_devices s) (s.job j) (device_for s j) x of.1)
-step_shows infos name d is (Cancel i) s (Loads place page) of same = absurd of
-step_shows infos name d is (Cancel i) s (Unplugs place) of same = absurd of
-step_shows infos name d is (ToClient i n) s (By j x) of same = subst (λ (m : ℕ). AllByRecursion (MayShow name (ToClient m n)) (marks s (By j x))) of.0 (client_none j n (wanted_place s j) (make_for s j) (listed_devices s) (s.job j) (device_for s j) x of.1)
-step_shows infos name d is (ToClient i n) s (Loads place page) of same = absurd of
-step_shows infos name d is (ToClient i n) s (Unplugs place) of same = absurd of
-step_shows infos name d is (DataToClient i n) s (By j x) of same = subst (λ (m : ℕ). AllByRecursion (MayShow name (DataToClient m n)) (marks s (By j x))) of.0 (data_none j n (wanted_place s j) (make_for s j) (listed_devices s) (s.job j) (device_for s j) x of.1)
-step_shows infos name d is (DataToClient i n) s (Loads place page) of same = absurd of
-step_shows infos name d is (DataToClient i n) s (Unplugs place) of same = absurd of
-step_shows infos name d is (ToDaemon i n) s (By j x) of same = subst (λ (m : ℕ). AllByRecursion (IsMarkOf m) (marks s (By j x))) of.0 (all_each (IsMine j (wanted_place s j)) (IsMarkOf j) (marks s (By j x)) (mine_of j (wanted_place s j)) (deed_mine j (wanted_place s j) (make_for s j) (listed_devices s) (s.job j) (device_for s j) x))
-step_shows infos name d is (ToDaemon i n) s (Loads place page) of same = absurd of
-step_shows infos name d is (ToDaemon i n) s (Unplugs place) of same = absurd of
-step_shows infos name d is (Load other source) s (By j x) of same = absurd of
-step_shows infos name d is (Load other source) s (Loads place page) of same = ((by_name infos d place name other is same of.0, of.1), tt)
-step_shows infos name d is (Load other source) s (Unplugs place) of same = absurd of
-step_shows infos name d is (Unplug other) s (By j x) of same = absurd of
-step_shows infos name d is (Unplug other) s (Loads place page) of same = absurd of
-step_shows infos name d is (Unplug other) s (Unplugs place) of same = (by_name infos d place name other is same of, tt)
+behind_front : (P : Mark → Type 0) (i : ℕ) (ms : List Mark) (front : List Event) → In (Connect i) front → AllByRecursion P ms → AllByRecursion (λ (m : Mark). P m × Contains front (Connect i)) ms
+behind_front P i ms front there a = all_each P (λ (m : Mark). P m × Contains front (Connect i)) ms (λ m p. (p, contains_in front (Connect i) there)) a
 
-shows_if : (infos : List DeviceInfo) (name : List ℕ) (d : ℕ) → name_at infos d ≡ Some name → (e : Event) (s : SystemState) (x : Transition) → StepOf infos e x → (b : Bool) → eqb d (touched_device s x) ≡ b → AllByRecursion (MayShow name e) (cond b (marks s x) [])
-shows_if infos name d is e s x of false same = tt
-shows_if infos name d is e s x of true same = step_shows infos name d is e s x of (eqb-true d (touched_device s x) same)
+step_shows : (infos : List DeviceInfo) (name : List ℕ) (d : ℕ) → name_at infos d ≡ Some name → (front : List Event) (e : Event) (s : SystemState) (x : Transition) → StepOf infos e x → IsEnabled s x → AreLinked (front ++ e ∷ []) s → d ≡ touched_device s x → AllByRecursion (MayShow name front e) (marks s x)
+step_shows infos name d is front (Connect i) s (By j x) of may known same = subst (λ (m : ℕ). AllByRecursion (MayShow name front (Connect m)) (marks s (By j x))) of.0 (connect_left j 0 (wanted_place s j) (make_for s j) (listed_devices s) (s.job j) (device_for s j) x of.1)
+step_shows infos name d is front (Connect i) s (Loads place page) of may known same = absurd of
+step_shows infos name d is front (Connect i) s (Unplugs place) of may known same = absurd of
+step_shows infos name d is front (DataConnect i) s (By j x) of may known same = subst (λ (m : ℕ). AllByRecursion (MayShow name front (DataConnect m)) (marks s (By j x))) of.0 (dial_none j 0 (wanted_place s j) (make_for s j) (listed_devices s) (s.job j) (device_for s j) x of.1)
+step_shows infos name d is front (DataConnect i) s (Loads place page) of may known same = absurd of
+step_shows infos name d is front (DataConnect i) s (Unplugs place) of may known same = absurd of
+step_shows infos name d is front (DataTurn i) s (By j x) of may known same = subst (λ (m : ℕ). AllByRecursion (MayShow name front (DataTurn m)) (marks s (By j x))) of.0
+    (behind_front (IsRest j) j (marks s (By j x)) front (front_of infos front (DataTurn i) s j x (unfree events.DataTurn x tt of.1) of may known) (turn_rest j 0 (wanted_place s j) (make_for s j) (listed_devices s) (s.job j) (device_for s j) x of.1))
+step_shows infos name d is front (DataTurn i) s (Loads place page) of may known same = absurd of
+step_shows infos name d is front (DataTurn i) s (Unplugs place) of may known same = absurd of
+step_shows infos name d is front (LoseControl i) s (By j x) of may known same = subst (λ (m : ℕ). AllByRecursion (MayShow name front (LoseControl m)) (marks s (By j x))) of.0
+    (behind_front (IsLeft j) j (marks s (By j x)) front (front_of infos front (LoseControl i) s j x (unfree events.LoseControl x tt of.1) of may known) (lose_left j 0 (wanted_place s j) (make_for s j) (listed_devices s) (s.job j) (device_for s j) x of.1))
+step_shows infos name d is front (LoseControl i) s (Loads place page) of may known same = absurd of
+step_shows infos name d is front (LoseControl i) s (Unplugs place) of may known same = absurd of
+step_shows infos name d is front (LoseImage i) s (By j x) of may known same = subst (λ (m : ℕ). AllByRecursion (MayShow name front (LoseImage m)) (marks s (By j x))) of.0
+    (behind_front (IsRest j) j (marks s (By j x)) front (front_of infos front (LoseImage i) s j x (unfree events.LoseImage x tt of.1) of may known) (image_rest j 0 (wanted_place s j) (make_for s j) (listed_devices s) (s.job j) (device_for s j) x of.1))
+step_shows infos name d is front (LoseImage i) s (Loads place page) of may known same = absurd of
+step_shows infos name d is front (LoseImage i) s (Unplugs place) of may known same = absurd of
+step_shows infos name d is front (Cancel i) s (By j x) of may known same = subst (λ (m : ℕ). AllByRecursion (MayShow name front (Cancel m)) (marks s (By j x))) of.0 (cancel_none j 0 (wanted_place s j) (make_for s j) (listed_devices s) (s.job j) (device_for s j) x of.1)
+step_shows infos name d is front (Cancel i) s (Loads place page) of may known same = absurd of
+step_shows infos name d is front (Cancel i) s (Unplugs place) of may known same = absurd of
+step_shows infos name d is front (ToClient i n) s (By j x) of may known same = subst (λ (m : ℕ). AllByRecursion (MayShow name front (ToClient m n)) (marks s (By j x))) of.0 (client_none j n (wanted_place s j) (make_for s j) (listed_devices s) (s.job j) (device_for s j) x of.1)
+step_shows infos name d is front (ToClient i n) s (Loads place page) of may known same = absurd of
+step_shows infos name d is front (ToClient i n) s (Unplugs place) of may known same = absurd of
+step_shows infos name d is front (DataToClient i n) s (By j x) of may known same = subst (λ (m : ℕ). AllByRecursion (MayShow name front (DataToClient m n)) (marks s (By j x))) of.0 (data_none j n (wanted_place s j) (make_for s j) (listed_devices s) (s.job j) (device_for s j) x of.1)
+step_shows infos name d is front (DataToClient i n) s (Loads place page) of may known same = absurd of
+step_shows infos name d is front (DataToClient i n) s (Unplugs place) of may known same = absurd of
+step_shows infos name d is front (ToDaemon i n) s (By j x) of may known same = subst (λ (m : ℕ). AllByRecursion (MayShow name front (ToDaemon m n)) (marks s (By j x))) of.0
+    (behind_front (IsMarkOf j) j (marks s (By j x)) front (front_of infos front (ToDaemon i n) s j x (unfree (events.ToDaemon n) x tt of.1) of may known) (all_each (IsMine j (wanted_place s j)) (IsMarkOf j) (marks s (By j x)) (mine_of j (wanted_place s j)) (deed_mine j (wanted_place s j) (make_for s j) (listed_devices s) (s.job j) (device_for s j) x)))
+step_shows infos name d is front (ToDaemon i n) s (Loads place page) of may known same = absurd of
+step_shows infos name d is front (ToDaemon i n) s (Unplugs place) of may known same = absurd of
+step_shows infos name d is front (Load other source) s (By j x) of may known same = absurd of
+step_shows infos name d is front (Load other source) s (Loads place page) of may known same = ((by_name infos d place name other is same of.0, of.1), tt)
+step_shows infos name d is front (Load other source) s (Unplugs place) of may known same = absurd of
+step_shows infos name d is front (Unplug other) s (By j x) of may known same = absurd of
+step_shows infos name d is front (Unplug other) s (Loads place page) of may known same = absurd of
+step_shows infos name d is front (Unplug other) s (Unplugs place) of may known same = (by_name infos d place name other is same of, tt)
 
-first_shows : (infos : List DeviceInfo) (name : List ℕ) (d : ℕ) → name_at infos d ≡ Some name → (e : Event) (xs : List Transition) (s : SystemState) → AreOf infos e xs → AllByRecursion (MayShow name e) (all_marks d s xs)
-first_shows infos name d is e [] s of = tt
-first_shows infos name d is e (x ∷ xs) s of = all_then (MayShow name e) (marks_at d s x) (all_marks d (after_transition s x) xs) (shows_if infos name d is e s x of.0 (eqb d (touched_device s x)) refl) (first_shows infos name d is e xs (after_transition s x) of.1)
+shows_if : (infos : List DeviceInfo) (name : List ℕ) (d : ℕ) → name_at infos d ≡ Some name → (front : List Event) (e : Event) (s : SystemState) (x : Transition) → StepOf infos e x → IsEnabled s x → AreLinked (front ++ e ∷ []) s → (b : Bool) → eqb d (touched_device s x) ≡ b → AllByRecursion (MayShow name front e) (cond b (marks s x) [])
+shows_if infos name d is front e s x of may known false same = tt
+shows_if infos name d is front e s x of may known true same = step_shows infos name d is front e s x of may known (eqb-true d (touched_device s x) same)
+
+first_shows : (infos : List DeviceInfo) (name : List ℕ) (d : ℕ) → name_at infos d ≡ Some name → (front : List Event) (e : Event) (xs : List Transition) (s : SystemState) → AreOf infos e xs → IsHistory s xs → AreLinked (front ++ e ∷ []) s → AllByRecursion (MayShow name front e) (all_marks d s xs)
+first_shows infos name d is front e [] s of legal known = tt
+first_shows infos name d is front e (x ∷ xs) s of legal known =
+    all_then (MayShow name front e) (marks_at d s x) (all_marks d (after_transition s x) xs) (shows_if infos name d is front e s x of.0 legal.0 known (eqb d (touched_device s x)) refl)
+    (first_shows infos name d is front e xs (after_transition s x) of.1 legal.1 (linked_then (front ++ e ∷ []) infos e s x (last_in e front) of.0 legal.0 known))
 
 marks_then : (d : ℕ) (xs ys : List Transition) (s : SystemState) → all_marks d s (xs ++ ys) ≡ all_marks d s xs ++ all_marks d (after_all s xs) ys
 marks_then d [] ys s = refl
 marks_then d (x ∷ xs) ys s = ap (λ (ms : List Mark). marks_at d s x ++ ms) (marks_then d xs ys (after_transition s x)) ∙ sym (append_assoc (marks_at d s x) (all_marks d (after_transition s x) xs) (all_marks d (after_all (after_transition s x) xs) ys))
 
-pub all_shows : (infos : List DeviceInfo) (name : List ℕ) (d : ℕ) → name_at infos d ≡ Some name → (es : List Event) (steps : List Transition) (s : SystemState) → Traced infos es steps → ShowsMarks name es (all_marks d s steps)
-all_shows infos name d is [] steps s h = ap (all_marks d s) h
-all_shows infos name d is (e ∷ es) steps s (first, more, split, of, rest) =
-    (all_marks d s first, all_marks d (after_all s first) more, ap (all_marks d s) split ∙ marks_then d first more s, first_shows infos name d is e first s of, all_shows infos name d is es more (after_all s first) rest)
+shows_from : (infos : List DeviceInfo) (name : List ℕ) (d : ℕ) → name_at infos d ≡ Some name → (front es : List Event) (steps : List Transition) (s : SystemState) → Traced infos es steps → IsHistory s steps → AreLinked front s → ShowsMarks name front es (all_marks d s steps)
+shows_from infos name d is front [] steps s h legal known = ap (all_marks d s) h
+shows_from infos name d is front (e ∷ es) steps s (first, more, split, of, rest) legal known =
+    let whole : IsHistory s (first ++ more) = subst (IsHistory s) split legal in
+    let begins = history_first s first more whole in
+    let now = linked_more front e s known in (
+      all_marks d s first,
+      all_marks d (after_all s first) more,
+      ap (all_marks d s) split ∙ marks_then d first more s,
+      first_shows infos name d is front e first s of begins now,
+      shows_from infos name d is (front ++ e ∷ []) es more (after_all s first) rest (history_rest s first more whole) (linked_all infos (front ++ e ∷ []) e first s (last_in e front) of begins now),
+    )
+
+pub all_shows : (infos : List DeviceInfo) (name : List ℕ) (d : ℕ) → name_at infos d ≡ Some name → (es : List Event) (steps : List Transition) (s : SystemState) → Traced infos es steps → IsHistory s steps → ((i : ℕ) → IsUnlinked (s.job i)) → ShowsMarks name [] es (all_marks d s steps)
+all_shows infos name d is es steps s h legal fresh = shows_from infos name d is [] es steps s h legal (λ i. inr (fresh i))
 
 -- ---- the starts
 

@@ -25,7 +25,7 @@ use Rattle.world_contract.proofs.Along.{get_at}
 use Rattle.world_contract.proofs.Lists.{contains_at}
 use Rattle.world_contract.proofs.Pages.{HasDevice, IsBegun, name_there}
 use Rattle.world_contract.proofs.Nearest.{nearest_for}
-use Rattle.world_contract.proofs.Scanned.{at_first, begun_there, infos_of, job_there, kept_by, meant_there, name_of, wants_there, steady_for}
+use Rattle.world_contract.proofs.Scanned.{at_first, begun_there, fresh_there, infos_of, job_there, kept_by, meant_there, name_of, wants_there, steady_for}
 use Rattle.world_contract.proofs.Lists.{at_all}
 use Rattle.world_contract.proofs.Showing.{all_shows, all_started}
 use Rattle.world_contract.proofs.Traced.{traced}
@@ -47,7 +47,7 @@ marks_at_place h w job l k d device at =
     let last = device_view (t.system.make d) ((after_all t.system steps).device d) in (
       record {
         marks = all_marks d t.system steps;
-        shows = all_shows t.infos device.info.name d (name_there h.devices d device at) h.events steps t.system (traced h.events t steps k.run.ghost_then k.run.comes);
+        shows = all_shows t.infos device.info.name d (name_there h.devices d device at) h.events steps t.system (traced h.events t steps k.run.ghost_then k.run.comes) k.run.legal (fresh_there h w job l);
         last = last;
         legal = subst (λ (o : Option DeviceState). MarksLead (device_view (make_of (sources_of h d) o) (fresh_device o)) (all_marks d t.system steps) last) at (k.run.marks d);
       },

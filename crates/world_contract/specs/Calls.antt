@@ -1,10 +1,12 @@
 -- What the calls of a world answer, and what each promises, for whatever history led to the world.
-use Rattle.std.specs.Prelude.{ℕ, ◌≡◌, ◌≢◌, ◌⊎◌, ◌<◌, ◌≤◌, Bool, false, min, Option, Some, None, option_map, option_and_then, List, [], ◌∷◌, Contains, length, slice_get, true, map}
+use Rattle.std.specs.Prelude.{ℕ, ◌≡◌, ◌≢◌, ◌⊎◌, ◌<◌, ◌≤◌, Bool, false, min, Option, Some, None, option_map, option_and_then, List, [], ◌∷◌, ◌++◌, Contains, length, slice_get, true, map}
 use Rattle.std.specs.List.{AllByRecursion}
 use Rattle.scan_job.specs.declared.job.Job.{Job}
 use Rattle.scan_job.specs.declared.outcome.Outcome.{Outcome}
 use Rattle.scan_job.specs.declared.outcome.Outcome.TheVariants.{Running, Ended}
+use Rattle.scan_job.specs.declared.outcome.Why.{Why}
 use Rattle.scan_job.specs.declared.outcome.Why.TheVariants as whys
+use Rattle.sane_fixed.specs.declared.status.Status.{Status}
 use Rattle.sane_fixed.specs.declared.status.Status.TheVariants as statuses
 use Rattle.saned_core.specs.DaemonStates.{Core}
 use Rattle.scan_world.specs.declared.event.Event.{Event}
@@ -15,8 +17,10 @@ use Rattle.scan_world.specs.Endpoints.{finished_page}
 use Rattle.scan_world.specs.JobEvents.{job_event_of}
 use Rattle.scan_world.specs.JobMoves.{IsNextMove, moves_left_of}
 use Rattle.scan_world.specs.Rounds.{total_left}
-use Rattle.scan_world.specs.Worlds.{WorldCore}
+use Rattle.scan_world.specs.Worlds.{Runs, WorldCore}
+use Rattle.page_picture.specs.SourceView.{source_state}
 use Rattle.world_contract.specs.Histories.{History, LedTo, and_then}
+use Rattle.world_contract.specs.Endings.{IsEndingExplained}
 use Rattle.world_contract.specs.Promise.{JobAnswers, CountIsKept, FileIsKept, MoveIsKept, MovesAreKept, OutcomeIsKept, PageIsKept}
 use Rattle.world_refines.specs.Answering.{HasUnsaidReply}
 use Rattle.world_refines.specs.NewWorlds.{info_of_state}
@@ -85,6 +89,31 @@ ForEach w i Promise = (h : History) (job : Job) → IsJobAt h w i job → Promis
 -- `outcome`: there is one
 abbrev pub KeepsOutcome : WorldCore → ℕ → Option Outcome → Type 0
 KeepsOutcome w i given = ForEach w i (λ h job. (outcome : Outcome) × (given ≡ Some outcome) × OutcomeIsKept h i job (starved_at w i) outcome)
+
+-- the same, of these events alone
+abbrev pub up_to : History → List Event → History
+up_to h events = record h { events = events }
+
+-- It ended in one of the events: the world that those in front of it led to had it running, and the world behind it had it ended so, by a
+-- cause among the events up to it.
+pub record EndedIn (h : History) (w : WorldCore) (i : ℕ) (job : Job) (status : Status) (why : Why) : Type 0 where
+  pub front : List Event
+  pub event : Event
+  pub back : List Event
+  pub split : h.events ≡ front ++ event ∷ back
+  pub before : WorldCore
+  pub led_before : LedTo (up_to h front) before
+  pub ran : outcome_at before i ≡ Some Running
+  pub after : WorldCore
+  pub leads : Runs source_state (event ∷ []) before after
+  pub led_after : LedTo (up_to h (front ++ event ∷ [])) after
+  pub ended : outcome_at after i ≡ Some (Ended status why)
+  pub rest : Runs source_state back after w
+  pub caused : IsEndingExplained (up_to h (front ++ event ∷ [])) i job (starved_at after i) status why
+
+-- so did each that ended
+abbrev pub KeepsEnding : WorldCore → ℕ → Option Outcome → Type 0
+KeepsEnding w i given = ForEach w i (λ h job. (status : Status) (why : Why) → given ≡ Some (Ended status why) → EndedIn h w i job status why)
 
 abbrev pub KeepsScanFile : WorldCore → ℕ → Option (List ℕ) → Type 0
 KeepsScanFile w i given = ForEach w i (λ h job. (outcome : Outcome) → outcome_at w i ≡ Some outcome → FileIsKept h job (starved_at w i) outcome given)

@@ -1,5 +1,5 @@
 -- WHAT EXPLAINS AN ENDING.
-use Rattle.std.specs.Prelude.{ℕ, ◌≡◌, ◌≢◌, ◌⊎◌, Bool, true, false, Some, None, List, Contains, slice_get}
+use Rattle.std.specs.Prelude.{ℕ, ◌≡◌, ◌≢◌, ◌⊎◌, ◌++◌, Bool, true, false, Some, None, List, ◌∷◌, Contains, slice_get}
 use Rattle.sane_fixed.specs.declared.status.Status.{Status}
 use Rattle.sane_fixed.specs.declared.status.Status.TheVariants.{Cancelled, DeviceBusy, Inval, Eof, NoDocs, IoError, NoMem, AccessDenied}
 use Rattle.md5_auth.specs.ChallengeReading.{challenge_of}
@@ -11,14 +11,15 @@ use Rattle.device_api.specs.InForce.{Placement}
 use Rattle.scan_job.specs.declared.job.Job.{Job}
 use Rattle.scan_job.specs.declared.outcome.Why.{Why}
 use Rattle.scan_job.specs.declared.outcome.Why.TheVariants as whys
-use Rattle.scan_world.specs.declared.event.Event.TheVariants.{ToDaemon, ToClient, DataTurn, DataToClient, LoseControl, LoseImage, Cancel, Unplug}
+use Rattle.scan_world.specs.declared.event.Event.{Event}
+use Rattle.scan_world.specs.declared.event.Event.TheVariants.{Connect, ToDaemon, ToClient, DataTurn, DataToClient, LoseControl, LoseImage, Cancel, Unplug}
 use Rattle.world_refines.specs.GhostStates.{backend_of, is_allowed_for, is_guarded}
 use Rattle.world_contract.specs.Histories.{History}
 use Rattle.world_contract.specs.Page.{AreInForce, CameFor, Settled}
 
--- requests of the job came to the daemon
-abbrev pub WasServed : History → ℕ → Type 0
-WasServed h i = (n : ℕ) × Contains h.events (ToDaemon i n)
+-- the event came, behind the connection of job i
+abbrev pub Came : History → ℕ → Event → Type 0
+Came h i event = (front back : List Event) × (h.events ≡ front ++ event ∷ back) × Contains front (Connect i)
 
 -- each device of the name was taken out
 abbrev pub IsUnlisted : History → List ℕ → Type 0
@@ -47,15 +48,15 @@ JobIsPermitted h job = (is_guarded h.users (backend_of job.device) ≡ false) �
 -- THE TABLE: by each of these a job may end so
 pub data IsEndingExplained (h : History) (i : ℕ) (job : Job) (starved : Bool) (status : Status) (why : Why) : Type 0 where
   GaveUp : (status ≡ Cancelled) × (why ≡ whys.Cancelled) → Contains h.events (Cancel i) → IsEndingExplained h i job starved status why
-  LostLink : (status ≡ IoError) × (why ≡ whys.Lost) → Contains h.events (LoseControl i) ⊎ Contains h.events (LoseImage i) → IsEndingExplained h i job starved status why
+  LostLink : (status ≡ IoError) × (why ≡ whys.Lost) → Came h i (LoseControl i) ⊎ Came h i (LoseImage i) → IsEndingExplained h i job starved status why
   Starved : (status ≡ IoError) × (why ≡ whys.Lost) → starved ≡ true → IsEndingExplained h i job starved status why
-  SourceFailed : (status ≡ IoError) × (why ≡ whys.Answer) → WasServed h i ⊎ Contains h.events (DataTurn i) → (held : HeldPage) → CameFor h job.device held → held.infallible ≡ false → IsEndingExplained h i job starved status why
-  NamesEof : (status ≡ IoError) × (why ≡ whys.Short) → Contains h.events (DataTurn i) → (s : Settled h job) → s.setup.told ≡ Some Eof → IsEndingExplained h i job starved status why
-  NamesStatus : (status ≢ Eof) × (why ≡ whys.Answer) → Contains h.events (DataTurn i) → (s : Settled h job) → s.setup.told ≡ Some status → IsEndingExplained h i job starved status why
+  SourceFailed : (status ≡ IoError) × (why ≡ whys.Answer) → (n : ℕ) → Came h i (ToDaemon i n) ⊎ Came h i (DataTurn i) → (held : HeldPage) → CameFor h job.device held → held.infallible ≡ false → IsEndingExplained h i job starved status why
+  NamesEof : (status ≡ IoError) × (why ≡ whys.Short) → Came h i (DataTurn i) → (s : Settled h job) → s.setup.told ≡ Some Eof → IsEndingExplained h i job starved status why
+  NamesStatus : (status ≢ Eof) × (why ≡ whys.Answer) → Came h i (DataTurn i) → (s : Settled h job) → s.setup.told ≡ Some status → IsEndingExplained h i job starved status why
   Unforced : (status ≡ Inval) × ((why ≡ whys.Setting) ⊎ (why ≡ whys.Answer)) → IsUnforced h job → IsEndingExplained h i job starved status why
-  Unlisted : (status ≡ Inval) × (why ≡ whys.Answer) → WasServed h i → IsUnlisted h job.device → IsEndingExplained h i job starved status why
-  HadNoPicture : (status ≡ Inval) × (why ≡ whys.Answer) → WasServed h i → MeansNoPicture h job → IsEndingExplained h i job starved status why
-  WasHeld : (status ≡ DeviceBusy) × (why ≡ whys.Answer) → WasServed h i → IsShared h i job → IsEndingExplained h i job starved status why
-  Disallowed : (status ≡ AccessDenied) × (why ≡ whys.Answer) → WasServed h i → is_guarded h.users (backend_of job.device) ≡ true → IsEndingExplained h i job starved status why
-  TrayWasEmpty : (status ≡ NoDocs) × (why ≡ whys.Answer) → WasServed h i → AreFeeders h job.device → IsEndingExplained h i job starved status why
-  ClientStarved : (status ≡ NoMem) × (why ≡ whys.Memory) → (n : ℕ) → Contains h.events (ToClient i n) ⊎ Contains h.events (DataToClient i n) → IsEndingExplained h i job starved status why
+  Unlisted : (status ≡ Inval) × (why ≡ whys.Answer) → (n : ℕ) → Came h i (ToDaemon i n) → IsUnlisted h job.device → IsEndingExplained h i job starved status why
+  HadNoPicture : (status ≡ Inval) × (why ≡ whys.Answer) → (n : ℕ) → Came h i (ToDaemon i n) → MeansNoPicture h job → IsEndingExplained h i job starved status why
+  WasHeld : (status ≡ DeviceBusy) × (why ≡ whys.Answer) → (n : ℕ) → Came h i (ToDaemon i n) → IsShared h i job → IsEndingExplained h i job starved status why
+  Disallowed : (status ≡ AccessDenied) × (why ≡ whys.Answer) → (n : ℕ) → Came h i (ToDaemon i n) → is_guarded h.users (backend_of job.device) ≡ true → IsEndingExplained h i job starved status why
+  TrayWasEmpty : (status ≡ NoDocs) × (why ≡ whys.Answer) → (n : ℕ) → Came h i (ToDaemon i n) → AreFeeders h job.device → IsEndingExplained h i job starved status why
+  ClientStarved : (status ≡ NoMem) × (why ≡ whys.Memory) → (n : ℕ) → Came h i (ToClient i n) ⊎ Came h i (DataToClient i n) → IsEndingExplained h i job starved status why

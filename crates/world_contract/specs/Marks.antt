@@ -1,5 +1,5 @@
 -- PAGE TWO: what the events show of a device, and of whose start a page is.
-use Rattle.std.specs.Prelude.{ℕ, ◌≡◌, true, false, cond, eqb, Some, None, List, [], ◌∷◌, ◌++◌, map, slice_get}
+use Rattle.std.specs.Prelude.{ℕ, ◌≡◌, true, false, cond, eqb, Some, None, List, [], ◌∷◌, ◌++◌, Contains, map, slice_get}
 use Rattle.std.specs.List.{AllByRecursion}
 use Rattle.netpbm.specs.Picture.{Picture}
 use Rattle.netpbm.specs.Pnm.{Denotes}
@@ -31,21 +31,21 @@ abbrev pub IsRest : ℕ → Mark → Type 0
 IsRest i (Rested j d) = j ≡ i
 IsRest i m = ⊥
 
--- the marks that an event may show of the device of that name
-abbrev pub MayShow : List ℕ → Event → Mark → Type 0
-MayShow name (ToDaemon i n) m = IsMarkOf i m
-MayShow name (Connect i) m = IsLeft i m
-MayShow name (LoseControl i) m = IsLeft i m
-MayShow name (LoseImage i) m = IsRest i m
-MayShow name (DataTurn i) m = IsRest i m
-MayShow name (Load other source) (Loaded d page) = (other ≡ name) × ((source_state source).page ≡ page)
-MayShow name (Unplug other) (Removed d) = other ≡ name
-MayShow name e m = ⊥
+-- the marks that an event may show of the device of that name, behind these events: a job's come behind its connection
+abbrev pub MayShow : List ℕ → List Event → Event → Mark → Type 0
+MayShow name front (ToDaemon i n) m = IsMarkOf i m × Contains front (Connect i)
+MayShow name front (Connect i) m = IsLeft i m
+MayShow name front (LoseControl i) m = IsLeft i m × Contains front (Connect i)
+MayShow name front (LoseImage i) m = IsRest i m × Contains front (Connect i)
+MayShow name front (DataTurn i) m = IsRest i m × Contains front (Connect i)
+MayShow name front (Load other source) (Loaded d page) = (other ≡ name) × ((source_state source).page ≡ page)
+MayShow name front (Unplug other) (Removed d) = other ≡ name
+MayShow name front e m = ⊥
 
--- each mark in its event
-abbrev pub ShowsMarks : List ℕ → List Event → List Mark → Type 0
-ShowsMarks name [] ms = ms ≡ []
-ShowsMarks name (e ∷ es) ms = (first more : List Mark) × (ms ≡ first ++ more) × AllByRecursion (MayShow name e) first × ShowsMarks name es more
+-- each mark in its event, of those behind the front
+abbrev pub ShowsMarks : List ℕ → List Event → List Event → List Mark → Type 0
+ShowsMarks name front [] ms = ms ≡ []
+ShowsMarks name front (e ∷ es) ms = (first more : List Mark) × (ms ≡ first ++ more) × AllByRecursion (MayShow name front e) first × ShowsMarks name (front ++ e ∷ []) es more
 
 -- a new device is listed, held by nobody and at rest
 abbrev pub new_view : DeviceState → DeviceView
@@ -54,7 +54,7 @@ new_view device = record { model = device.setup.scene.kind; listed = true; holde
 -- of all events these marks are shown, and each was legal: one holder at a time, a start takes the page that is next, none is laid in within a scan
 pub record HasMarks (h : History) (device : DeviceState) : Type 0 where
   pub marks : List Mark
-  pub shows : ShowsMarks device.info.name h.events marks
+  pub shows : ShowsMarks device.info.name [] h.events marks
   pub last : DeviceView
   pub legal : MarksLead (new_view device) marks last
 

@@ -7,7 +7,7 @@ ghost use Rattle.page_picture.specs.SourceView.{source_state};
 ghost use Rattle.world_refines.specs.MainTheorem.{IsTrueLoad};
 ghost use Rattle.scan_world.specs.Worlds.{HasFaultAmong, IsInitialWorld, MayRun, Runs, seen_world};
 ghost use Rattle.world_contract.specs.Histories.{History, LedTo, and_then, begun};
-ghost use Rattle.world_contract.specs.Calls.{CancelEnds, IsMoveAt, KeepsPageCount, KeepsScanFile, KeepsMemory, KeepsMove, KeepsMoves, KeepsOutcome, KeepsPage, KeepsRunning, LossEnds, MovesFall, OthersStay, OverStays, file_answered, finished_at, left_at, outcome_at, page_answered, starved_at};
+ghost use Rattle.world_contract.specs.Calls.{CancelEnds, IsMoveAt, KeepsPageCount, KeepsScanFile, KeepsMemory, KeepsEnding, KeepsMove, KeepsMoves, KeepsOutcome, KeepsPage, KeepsRunning, LossEnds, MovesFall, OthersStay, OverStays, file_answered, finished_at, left_at, outcome_at, page_answered, starved_at};
 
 use crate::laws::what_stands_below;
 use device_api::Device;
@@ -134,12 +134,14 @@ impl World {
     }
 
     /// How far job i is; none where there is no such job. One that is done was answered as it should be, and one that ended
-    /// otherwise has its cause.
+    /// otherwise did so in one of the events and has its cause among those up to that one.
     pub fn outcome(&self, i: usize) -> Option<&Outcome>
         ensures is { let w = seen_world ⟦<Box<dyn Device> as Device>⟧.state self.now.inner in
             option_map (λ o. o.now) result ≡ outcome_at w i }
         ensures kept { let w = seen_world ⟦<Box<dyn Device> as Device>⟧.state self.now.inner in
             KeepsOutcome w i (option_map (λ o. o.now) result) }
+        ensures ended { let w = seen_world ⟦<Box<dyn Device> as Device>⟧.state self.now.inner in
+            KeepsEnding w i (option_map (λ o. o.now) result) }
     {
         what_stands_below();
         self.inner.outcome(i)

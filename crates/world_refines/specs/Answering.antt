@@ -1,5 +1,5 @@
 -- What a delivery of requests to the daemon does: each that is whole with it is answered, and the session goes on or is over.
-use Rattle.std.specs.Prelude.{ℕ, ◌≡◌, ◌++◌, Bool, true, false, cond, List, [], ◌∷◌, length, map}
+use Rattle.std.specs.Prelude.{ℕ, ◌≡◌, ◌++◌, Bool, true, false, cond, Some, List, [], ◌∷◌, length, map, slice_get}
 use Rattle.wire_format.specs.Limit.{NeedsMore}
 use Rattle.wire_message.specs.Message.{message_limit, request as request_format}
 use Rattle.system_model.specs.AbstractMessages.{AbstractRequest}
@@ -11,11 +11,17 @@ use Rattle.world_refines.specs.GhostStates.{Ghost, job_state, wires}
 use Rattle.world_refines.specs.Wires.{SpellsAsked}
 use Rattle.world_refines.specs.GhostEvents.{GhostTakes}
 use Rattle.md5_auth.specs.declared.users.Entry.{Entry}
+use Rattle.device_api.specs.ScannerLimits.{IsAllowed}
+use Rattle.device_api.specs.State.{DeviceState}
+use Rattle.dispatch.specs.declared.table.place.Lease.{Lease}
+use Rattle.dispatch.specs.declared.table.place.Place.{Place}
+use Rattle.dispatch.specs.declared.table.place.Slot.TheVariants.{In}
 use Rattle.sane_fixed.specs.declared.device_info.DeviceInfo.{DeviceInfo}
 use Rattle.option_desc.specs.declared.descriptor.Descriptor.{Descriptor}
 use Rattle.wire_message.specs.declared.message.Request.{Request}
 use Rattle.wire_message.specs.declared.message.Reply.{Reply}
 use Rattle.saned_requests.specs.declared.request_answer.RequestAnswer.{RequestAnswer}
+use Rattle.saned_requests.specs.Holding.{held_by}
 use Rattle.saned_requests.specs.RequestAnswers.{Answers, RequestContext}
 use Rattle.saned_core.specs.Feeding.{IsUnsaid, replies_to}
 use Rattle.scan_job.specs.declared.job.Job.{Job}
@@ -37,11 +43,17 @@ pub record AnswersEach (i : ℕ) (asked : List AbstractRequest) (steps : List Tr
   pub count : length chances ≡ length asked
   pub steps_are : steps ≡ answers i chances
 
--- These users are asked something by the job, among devices of these infos, and a reply to it passes a limit of the wire, or has no
--- spelling.
+-- each device in its place, and each that the session holds, has options within their limits
+pub record HasAllowedOptions (context : RequestContext) : Type 0 where
+  pub lying : (k : ℕ) (p : Place DeviceState) (s : DeviceState) → slice_get context.registry k ≡ Some p → p.slot ≡ In s → IsAllowed s.setup
+  pub held : (w : ℕ) (l : Lease DeviceState) → held_by context.session.held w ≡ Some l → IsAllowed l.device.setup
+
+-- These users are asked something by the job, among devices of these infos with options within their limits, and a reply to it passes a
+-- limit of the wire, or has no spelling.
 pub record HasUnsaidReply (users : List Entry) (infos : List DeviceInfo) (job : Job) : Type 0 where
   pub context : RequestContext
   pub devices : infos ≡ map info_at context.registry
+  pub allowed : HasAllowedOptions context
   pub request : Request
   pub known : List Descriptor
   pub asked : AbstractRequest

@@ -19,12 +19,16 @@ use Rattle.saned_core.specs.Feeding.{EndsWith as ends}
 use Rattle.scan_job.specs.declared.job.Job.{Job}
 use Rattle.net_client.specs.Sending.{requests_text}
 use Rattle.client_replies.specs.ProtocolStates.{ProtocolState, target_of}
+use Rattle.system_model.specs.AbstractDevices.{AbstractDevice}
 use Rattle.system_model.specs.AbstractMessages.{AbstractRequest}
+use Rattle.system_model.specs.AbstractSessions.{AbstractSession}
+use Rattle.system_model.specs.Devices.{Make}
 use Rattle.system_model.specs.Client.{ClientView}
 use Rattle.system_model.specs.Deliveries.{Chance, answers}
 use Rattle.system_model.specs.SystemStates.{SystemState as Rules}
 use Rattle.system_model.specs.Transitions.{IsUnderWay, MayBreak, Transition, after_all}
 use Rattle.client_refines.specs.RequestRefinement.{AreRequests, IsRequest, asks_of}
+use Rattle.daemon_refines.specs.ContextRefinement.{ContextRefines, PlaceRefines, SlotRefines}
 use Rattle.daemon_refines.proofs.FeedRefines.{Back, back_same, faltered}
 use Rattle.daemon_refines.proofs.Greeted.{answers_end, same_words}
 use Rattle.scan_world.specs.JobEvents.{bytes_not_delivered, delivered_bytes}
@@ -37,7 +41,7 @@ use Rattle.world_refines.proofs.requests.Folding.{AnswersOne, Desked, IsReadAs, 
 use Rattle.world_refines.proofs.requests.AnswersKeep.{stays}
 use Rattle.world_refines.proofs.requests.Spelling.{spell_behind}
 use Rattle.world_refines.specs.Speaks.{WaitsQuietly}
-use Rattle.world_refines.specs.Answering.{HasUnsaidReply, IsCutShort}
+use Rattle.world_refines.specs.Answering.{HasAllowedOptions, HasUnsaidReply, IsCutShort}
 
 -- ---- the piece
 
@@ -273,6 +277,14 @@ pub record IsOverSo (t : Ghost) (i : ℕ) (d new : RequestContext) (came text : 
   pub parts : Parts t i d (t.system.job i).todo came false new
   pub silent : IsSilent t i text
 
+-- the devices of a request context have options within their limits
+allowed_there : (i : ℕ) (make : ℕ → Make) (d : RequestContext) (table : ℕ → AbstractDevice) (s : AbstractSession) → ContextRefines i make d table s → HasAllowedOptions d
+allowed_there i make d table s shows =
+    record {
+      lying = λ k p t at is. (subst (SlotRefines i (make k) d.session.held k (table k) p.info.name) is (subst (PlaceRefines i (make k) d.session.held k (table k)) at (shows.devices.places k))).1.allowed;
+      held = λ w l at. (shows.devices.leases w l at).made.allowed;
+    }
+
 -- a session that its request did not end was cut short at a reply to it
 cut_by : (t : Ghost) (i : ℕ) (d mid new : RequestContext) (todo : List AbstractRequest) (came : List ℕ) (q : Asked) (said : RequestAnswer) (last : List Reply) → OneMore t i d mid todo came q → Answers t.users mid q said new → daemon.session_goes_on said ≡ true → daemon.EndsWith said last → HasUnsaidReply t.users t.infos (t.jobs i)
 cut_by t i d mid new todo came q said last o g on (ends.Done off is) = absurd (let clash : true ≡ false = sym on ∙ off in cc)
@@ -280,6 +292,7 @@ cut_by t i d mid new todo came q said last o g on (ends.Cut before behind reply 
     record {
       context = mid;
       devices = o.ran.desked.infos;
+      allowed = allowed_there i (after_all t.system (answers i o.ran.chances)).make mid (after_all t.system (answers i o.ran.chances)).device _ o.ran.desked.shows;
       request = q;
       known = (t.system.job i).client.known;
       asked = o.next;
