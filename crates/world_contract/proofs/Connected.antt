@@ -42,7 +42,7 @@ IsFree x = ⊥
 -- ---- what may come to it
 
 off : {b : Bool} → b ≡ true → b ≡ false → ⊥
-off on no = let clash : true ≡ false = sym on ∙ no in cc
+off on nay = let clash : true ≡ false = sym on ∙ nay in cc
 
 runs : (stage : JobStage) → IsImaging stage → IsRunning stage
 runs stage (params, heard, is) = (Imaging params heard, is)
@@ -54,9 +54,9 @@ free_only i k p dev (deeds.Hears reply) u may = absurd (u.still may.0)
 free_only i k p dev deeds.Dials u may = absurd (u.still (runs p.client.stage may.0))
 free_only i k p dev (deeds.Turns bytes) u (f, rest, more, sends, named, some) = absurd (let clash : Streaming ≡ Quiet = sym sends.reads.0 ∙ u.quiet in cc)
 free_only i k p dev deeds.TurnsLast u (f, more, reads, named) = absurd (let clash : Streaming ≡ Quiet = sym reads.0 ∙ u.quiet in cc)
-free_only i k p dev (deeds.TurnsNamed status) u (f, rest, more, reads, named) = absurd (let clash : Streaming ≡ Quiet = sym reads.0 ∙ u.quiet in cc)
+free_only i k p dev (deeds.TurnsNamed status) u (f, rest, more, reads, named, other, bad) = absurd (let clash : Streaming ≡ Quiet = sym reads.0 ∙ u.quiet in cc)
 free_only i k p dev deeds.TurnsShort u (f, rest, more, reads, named) = absurd (let clash : Streaming ≡ Quiet = sym reads.0 ∙ u.quiet in cc)
-free_only i k p dev (deeds.TurnsFault fault) u (f, rest, more, reads, can) = absurd (let clash : Streaming ≡ Quiet = sym reads.0 ∙ u.quiet in cc)
+free_only i k p dev (deeds.TurnsFault fault) u (f, rest, more, reads, (can, counts)) = absurd (let clash : Streaming ≡ Quiet = sym reads.0 ∙ u.quiet in cc)
 free_only i k p dev deeds.TurnsOff u may = absurd (let clash : Ending ≡ Quiet = sym may ∙ u.quiet in cc)
 free_only i k p dev (deeds.Reads bytes) u may = absurd (u.still (runs p.client.stage may.0))
 free_only i k p dev (deeds.Finishes status) u may = absurd (u.still (runs p.client.stage may.0))
@@ -171,7 +171,7 @@ connects_free infos i j x of = absurd of.1
 
 in_front : (e f : Event) (front : List Event) → In e (front ++ f ∷ []) → In e front ⊎ (e ≡ f)
 in_front e f [] (inl is) = inr is
-in_front e f [] (inr no) = absurd no
+in_front e f [] (inr none) = absurd none
 in_front e f (g ∷ front) (inl is) = inl (inl is)
 in_front e f (g ∷ front) (inr among) = by_case (in_front e f front among)
   where
@@ -203,7 +203,7 @@ last_in e [] = inl refl
 last_in e (f ∷ front) = inr (last_in e front)
 
 more_in : (e f : Event) (front : List Event) → In e front → In e (front ++ f ∷ [])
-more_in e f [] no = absurd no
+more_in e f [] none = absurd none
 more_in e f (g ∷ front) (inl is) = inl is
 more_in e f (g ∷ front) (inr among) = inr (more_in e f front among)
 
