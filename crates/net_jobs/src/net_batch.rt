@@ -196,8 +196,18 @@ where
     not_whole_before();
     whole_shows();
     let mut stream = None;
+    let mut has_looked = false;
     while !client.is_over() {
-        go_on(&mut client, control, dial, &mut stream, ahead, room, tally);
+        go_on(
+            &mut client,
+            control,
+            dial,
+            &mut stream,
+            ahead,
+            room,
+            &mut has_looked,
+            tally,
+        );
         if !client.is_over() && !fill(&mut client, is_scanning, room, shelf, under, tally) {
             return Err(Stop::failed_output());
         }

@@ -8,7 +8,7 @@ ghost use Rattle.scan_job.specs.declared.report.Reports.{Reports as ReportsValue
 ghost use Rattle.scan_job.specs.Outcomes.{IfDone, IfEnded, IsOver, over_as};
 ghost use Rattle.frame_join.specs.FrameHistory.{JoinHistory};
 ghost use Rattle.client_replies.specs.ProtocolStates.{is_running, is_receiving, is_batch, wanted_port};
-ghost use Rattle.net_client.specs.ClientStates.{IsNewClient};
+ghost use Rattle.net_client.specs.ClientStates.{HasEarlyReply, IsNewClient};
 ghost use Rattle.net_jobs.specs.JobJournal.{JobMove, given_by};
 ghost use Rattle.net_jobs.specs.JobSteps.{FileRunsOut};
 ghost use Rattle.net_jobs.specs.Inside.{AreOfTurn, HoldsGiven, IfOpenLiesWithin, LiesWithin, ahead_of, left_ahead, read_ahead, IsDrainedTo, StopsBehind, StopsAs, DialsOrLoses, HasRunNoted, HearsOrLoses, IsLost, KeepsNotes, KeepsReads, KeepsWrites, MovesAll, TakesLeave, TakesOrLoses, loop_state, no_notes, notes_of, turns_to_go};
@@ -296,6 +296,16 @@ fn talk<C: Read + Write, D: Dial>(
     true
 }
 
+/// Whether what came before it was asked for is to be looked at again: not in two turns in a row, since a daemon that spoke too
+/// early may have said less than a reply.
+fn looks_again(client: &Client, has_looked: &mut bool) -> bool
+    ensures { result ≡ true → HasEarlyReply client.now }
+{
+    let is_early = !*has_looked && client.has_early_reply();
+    *has_looked = is_early;
+    is_early
+}
+
 /// A turn of a job that runs: takes bytes of the data connection of its frame, looks again at what came before it was asked
 /// for, or talks with the daemon. Says whether something came, unless the job is over.
 pub(crate) fn go_on<C: Read + Write, D: Dial>(
@@ -305,6 +315,7 @@ pub(crate) fn go_on<C: Read + Write, D: Dial>(
     stream: &mut Option<DataStream<D::Conn>>,
     ahead: &mut [u8],
     room: &mut [u8],
+    has_looked: &mut bool,
     tally: &mut CallTally,
 ) -> bool
     requires room { 4096 ≤ length room.old }
@@ -336,7 +347,7 @@ pub(crate) fn go_on<C: Read + Write, D: Dial>(
         *stream = see(client, open, ahead, tally);
         return true;
     }
-    if client.has_early_reply() {
+    if looks_again(client, has_looked) {
         client.feed_control(&[]);
         return true;
     }
@@ -479,8 +490,18 @@ where
     not_whole_before();
     whole_shows();
     let mut stream = None;
+    let mut has_looked = false;
     while !client.is_over() {
-        let came = go_on(&mut client, control, dial, &mut stream, ahead, room, tally);
+        let came = go_on(
+            &mut client,
+            control,
+            dial,
+            &mut stream,
+            ahead,
+            room,
+            &mut has_looked,
+            tally,
+        );
         if came && !client.is_over() && !give(&mut client, is_scan, room, out, tally) {
             return Err(Stop::failed_output());
         }
