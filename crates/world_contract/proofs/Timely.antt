@@ -13,7 +13,7 @@ use Rattle.scan_world.specs.declared.event.Event.{Event}
 use Rattle.scan_world.specs.Worlds.{AreNew, Runs, WorldCore}
 use Rattle.world_refines.specs.MainTheorem.{AreTrueLoads}
 use Rattle.world_contract.specs.Histories.{History, LedTo}
-use Rattle.world_contract.specs.Calls.{EndedIn, KeepsEnding, outcome_at, starved_at, up_to}
+use Rattle.world_contract.specs.Calls.{EndedIn, KeepsEnding, outcome_at, starved_at, history_up_to}
 use Rattle.world_contract.specs.Laws.{Below}
 use Rattle.world_contract.specs.Promise.{OutcomeIsKept}
 use Rattle.world_contract.proofs.Calls.{led_then, outcome_call}
@@ -45,8 +45,8 @@ abbrev Kept : History → WorldCore → ℕ → Job → Type 0
 Kept h v i job = (o : Outcome) × (outcome_at v i ≡ Some o) × OutcomeIsKept h i job (starved_at v i) o
 
 -- in this event, or where it still runs behind it in a later one
-here_or_later : (h : History) (w u v : WorldCore) (i : ℕ) (job : Job) (status : Status) (why : Why) (e : Event) (es seen : List Event) → outcome_at w i ≡ Some (Ended status why) → h.events ≡ seen ++ e ∷ es → LedTo (up_to h seen) u → outcome_at u i ≡ Some Running → Runs source_state (e ∷ []) u v → LedTo (up_to h (seen ++ e ∷ [])) v → Runs source_state es v w →
-    (outcome_at v i ≡ Some Running → EndedIn h w i job status why) → Kept (up_to h (seen ++ e ∷ [])) v i job → EndedIn h w i job status why
+here_or_later : (h : History) (w u v : WorldCore) (i : ℕ) (job : Job) (status : Status) (why : Why) (e : Event) (es seen : List Event) → outcome_at w i ≡ Some (Ended status why) → h.events ≡ seen ++ e ∷ es → LedTo (history_up_to h seen) u → outcome_at u i ≡ Some Running → Runs source_state (e ∷ []) u v → LedTo (history_up_to h (seen ++ e ∷ [])) v → Runs source_state es v w →
+    (outcome_at v i ≡ Some Running → EndedIn h w i job status why) → Kept (history_up_to h (seen ++ e ∷ [])) v i job → EndedIn h w i job status why
 here_or_later h w u v i job status why e es seen is split led ran leads led_on rest later (Running, there, keeps) = later there
 here_or_later h w u v i job status why e es seen is split led ran leads led_on rest later (Done reports, there, keeps) =
     let stays = (over_stays es v w rest i (Done reports) there (λ r. cc)).outcome in
@@ -70,17 +70,17 @@ here_or_later h w u v i job status why e es seen is split led ran leads led_on r
       caused = (keeps.ended status why (is_ended status other why reason same)).caused;
     }
 
-ends_from : Below → (h : History) (w : WorldCore) (i : ℕ) (job : Job) (status : Status) (why : Why) → slice_get h.jobs i ≡ Some job → outcome_at w i ≡ Some (Ended status why) → (es seen : List Event) (u : WorldCore) → h.events ≡ seen ++ es → LedTo (up_to h seen) u → AreTrueLoads source_state es → Runs source_state es u w → outcome_at u i ≡ Some Running → EndedIn h w i job status why
+ends_from : Below → (h : History) (w : WorldCore) (i : ℕ) (job : Job) (status : Status) (why : Why) → slice_get h.jobs i ≡ Some job → outcome_at w i ≡ Some (Ended status why) → (es seen : List Event) (u : WorldCore) → h.events ≡ seen ++ es → LedTo (history_up_to h seen) u → AreTrueLoads source_state es → Runs source_state es u w → outcome_at u i ≡ Some Running → EndedIn h w i job status why
 ends_from below h w i job status why at is [] seen u split led loads run ran =
     absurd (let clash : ◌≡◌ {A = Option Outcome} (Some (Ended status why)) (Some Running) = sym is ∙ (ap (λ (x : WorldCore). outcome_at x i) run ∙ ran) in cc)
 ends_from below h w i job status why at is (e ∷ es) seen u split led loads (v, leads, rest) ran =
-    let on : LedTo (up_to h (seen ++ e ∷ [])) v = led_then (up_to h seen) (e ∷ []) u v led (loads.0, tt) (v, leads, refl) in
+    let on : LedTo (history_up_to h (seen ++ e ∷ [])) v = led_then (history_up_to h seen) (e ∷ []) u v led (loads.0, tt) (v, leads, refl) in
     here_or_later h w u v i job status why e es seen is split led ran (v, leads, refl) on rest
     (ends_from below h w i job status why at is es (seen ++ e ∷ []) v (split ∙ sym (append_assoc seen (e ∷ []) es)) on loads.1 rest)
-    (outcome_call below v i (outcome_at v i) refl (up_to h (seen ++ e ∷ [])) job (record { led = on; job_at = at }))
+    (outcome_call below v i (outcome_at v i) refl (history_up_to h (seen ++ e ∷ [])) job (record { led = on; job_at = at }))
 
 pub ending_call : Below → (w : WorldCore) (i : ℕ) (given : Option Outcome) → given ≡ outcome_at w i → KeepsEnding w i given
 ending_call below w i given is h job at status why ended =
     let l = at.led in
-    let first : LedTo (up_to h []) l.first = record { first = l.first; endpoints = l.endpoints; daemon = l.daemon; users_are = l.users_are; names = l.names; limits = l.limits; fit = l.fit; loads = tt; runs = refl } in
+    let first : LedTo (history_up_to h []) l.first = record { first = l.first; endpoints = l.endpoints; daemon = l.daemon; users_are = l.users_are; names = l.names; limits = l.limits; fit = l.fit; loads = tt; runs = refl } in
     ends_from below h w i job status why at.job_at (sym is ∙ ended) h.events [] l.first refl first l.loads l.runs (runs_first h w l i job at.job_at)

@@ -91,8 +91,8 @@ abbrev pub KeepsOutcome : WorldCore → ℕ → Option Outcome → Type 0
 KeepsOutcome w i given = ForEach w i (λ h job. (outcome : Outcome) × (given ≡ Some outcome) × OutcomeIsKept h i job (starved_at w i) outcome)
 
 -- the same, of these events alone
-abbrev pub up_to : History → List Event → History
-up_to h events = record h { events = events }
+abbrev pub history_up_to : History → List Event → History
+history_up_to h events = record h { events = events }
 
 -- It ended in one of the events: the world that those in front of it led to had it running, and the world behind it had it ended so, by a
 -- cause among the events up to it.
@@ -102,14 +102,14 @@ pub record EndedIn (h : History) (w : WorldCore) (i : ℕ) (job : Job) (status :
   pub back : List Event
   pub split : h.events ≡ front ++ event ∷ back
   pub before : WorldCore
-  pub led_before : LedTo (up_to h front) before
+  pub led_before : LedTo (history_up_to h front) before
   pub ran : outcome_at before i ≡ Some Running
   pub after : WorldCore
   pub leads : Runs source_state (event ∷ []) before after
-  pub led_after : LedTo (up_to h (front ++ event ∷ [])) after
+  pub led_after : LedTo (history_up_to h (front ++ event ∷ [])) after
   pub ended : outcome_at after i ≡ Some (Ended status why)
   pub rest : Runs source_state back after w
-  pub caused : IsEndingExplained (up_to h (front ++ event ∷ [])) i job (starved_at after i) status why
+  pub caused : IsEndingExplained (history_up_to h (front ++ event ∷ [])) i job (starved_at after i) status why
 
 -- so did each that ended
 abbrev pub KeepsEnding : WorldCore → ℕ → Option Outcome → Type 0
