@@ -49,6 +49,30 @@ class Definitions:
 definitions = functools.cache(Definitions)
 
 
+def file_of(crate, at):
+    """The file of specs/ that a path begins with, and what of the path stands behind it: a type, whose cases are meant."""
+    steps = at.split(".")
+    for end in range(len(steps), 0, -1):
+        path = f"{ROOT}/crates/{crate}/specs/{'/'.join(steps[:end])}.antt"
+        if os.path.isfile(path):
+            return path, ".".join(steps[end:])
+    return "", at
+
+
+def wherever_it_stands(line):
+    """A line, and of a use of definitions only what says which are meant: a name that is this project's alone (the gate counts
+    those of two files) means the same in whatever file it stands; an operator, another name for it or a type's case does not."""
+    use = SPECS.match(line.strip().removeprefix("ghost ").removeprefix("pub ").removeprefix("use "))
+    path, of = file_of(use[1], use[2]) if use and use[4] else ("", "")
+    if not path or use[2].startswith("declared"):
+        return line
+    names = [it.strip() for it in use[4].split(",")]
+    if of:
+        return f"use {of}.{{{', '.join(sorted(names))}}}"
+    named = sorted(it for it in names if "◌" in it or " as " in it)
+    return f"use {use[1]}.{use[2]}.{{{', '.join(named)}}}" if named else ""
+
+
 def named_in(text):
     """The definitions that a text names: of each the file, and its name or nothing for all of the file."""
     found = set()

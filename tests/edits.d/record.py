@@ -14,9 +14,12 @@ RECORD = f"{ROOT}/tests/edits.record"
 
 
 def whole_texts(folder, below):
-    """All that decides of a crate: its own text without comments, and what its functions turn on."""
-    own = [it for part in ("src", "specs", "proofs") for it in files_below(f"{folder}/{part}") if it.endswith((".rt", ".antt"))]
+    """All that decides of a crate: its own text without comments, and what its functions turn on; of a file of specs/ each
+    definition, since the file that it stands in decides nothing."""
+    own = [it for part in ("src", "proofs") for it in files_below(f"{folder}/{part}") if it.endswith((".rt", ".antt"))]
     texts = {without_comments(kept_text(it)) for it in own}
+    told = [definitions(it) for it in files_below(f"{folder}/specs") if it.endswith(".antt") and not it.endswith("/Lib.antt")]
+    texts |= {it.each_text(i) for it in told for i in range(len(it.each))}
     texts |= {definitions(path).each_text(i) for path, i in reached_from(texts)}
     return texts.union(*(texts_of(folder, below, it, "") for some in items_of(folder).values() for it in some if it.kind == "fn"))
 

@@ -7,7 +7,7 @@ import hashlib
 import os
 import re
 
-from definitions import definitions, reached_from
+from definitions import definitions, reached_from, wherever_it_stands
 from items import items_of, uses_of, with_needed_names
 from text import ROOT, files_below, kept_text, without_comments
 
@@ -138,8 +138,8 @@ def texts_of(folder, below, item, changed):
 
 
 def digest(texts):
-    """The sum of texts, whatever the lines that they are broken into."""
+    """The sum of texts, whatever the lines that they are broken into, and in whatever file a definition stands."""
     made = hashlib.sha256()
-    for text in sorted({" ".join(it.split()) for it in texts}):
+    for text in sorted({" ".join(" ".join(map(wherever_it_stands, it.split("\n"))).split()) for it in texts}):
         made.update(hashlib.sha256(text.encode()).digest())
     return made.hexdigest()[:24]
