@@ -7,6 +7,8 @@ from text import FUNCTION, files_below, kept_text
 
 # a use, in one line, and the names that it takes
 USE = re.compile(r"^(\s*(?:pub )?(?:ghost )?use [\w.:]*(?:\.|::))(?:\{([^{}]*)\}|(\w+));?$")
+# a use of a file, or of a type's cases, by a name of its own
+NAMED_USE = re.compile(r"^\s*use [\w.]+ as (\w+)$")
 # a use of the kit's names, which mean one thing wherever they stand
 OF_KIT = re.compile(r"^\s*(?:ghost )?use (?:Rattle\.)?std\b")
 STARTS = re.compile(r"^(?:pub(?:\([^)]*\))? )?(?:unsafe )?(?:const |static |ghost )?(fn|struct|enum|union|trait|impl|const|static|type|mod|use)\b(.*)$")
@@ -123,13 +125,16 @@ def uses_of(path):
 
 def with_needed_names(lines):
     """These lines, of whose uses only the names stay that a line which is no use has in it; none of the kit's."""
-    rest, kept = " ".join(it for it in lines if not USE.match(it)), []
+    rest, kept = " ".join(it for it in lines if not USE.match(it) and not NAMED_USE.match(it)), []
+    words = set(re.findall(r"[\w']+", rest))
     for line in lines:
-        use = USE.match(line)
+        use, named_use = USE.match(line), NAMED_USE.match(line)
+        if named_use and named_use[1] not in words:
+            continue
         if use and not OF_KIT.match(line):
             # the mark of a place for an operand is no part of an operator in use
             names = [it.strip() for it in (use[2] or use[3]).split(",")]
-            names = [it for it in names if all(part in rest for part in it.split(" as ")[-1].split("◌") if part)]
+            names = [it for it in names if it.split(" as ")[-1] in words or "◌" in it and all(part in rest for part in it.split("◌"))]
             kept += [f"{use[1]}{{{', '.join(names)}}}"] if names else []
         elif not OF_KIT.match(line):
             kept.append(line)

@@ -16,9 +16,13 @@ WORD = re.compile(r"[A-Za-z_]\w+|[A-Za-z]")
 CALLED = re.compile(r"\.(\w+)(?:::<[^()]*>)?\(|(?:(\w+)(?:::<[^()]*>)?)?::(\w+)")
 
 
+# of a use of definitions the files that it names
+FILES = re.compile(r"\bRattle\.\w+\.specs(?:\.(?!declared\b)\w+)+(?=\.\{)")
+
+
 @functools.cache
 def words_of(text):
-    return frozenset(WORD.findall(text))
+    return frozenset(WORD.findall(FILES.sub("", text)))
 
 
 @functools.cache
@@ -137,9 +141,16 @@ def texts_of(folder, below, item, changed):
     return texts | reached | {without_comments(kept_text(it)) for it in own_proofs(folder, item.name)}
 
 
+def in_any_file(text):
+    """The lines of a text: its uses in an order of their own, without the files that they name."""
+    lines = text.split("\n")
+    uses = [it for it in lines if it.lstrip().startswith(("use ", "ghost use "))]
+    return [*sorted(set(map(wherever_it_stands, uses))), *(it for it in lines if it not in uses)]
+
+
 def digest(texts):
     """The sum of texts, whatever the lines that they are broken into, and in whatever file a definition stands."""
     made = hashlib.sha256()
-    for text in sorted({" ".join(" ".join(map(wherever_it_stands, it.split("\n"))).split()) for it in texts}):
+    for text in sorted({" ".join(" ".join(in_any_file(it)).split()) for it in texts}):
         made.update(hashlib.sha256(text.encode()).digest())
     return made.hexdigest()[:24]

@@ -13,7 +13,7 @@ use Rattle.frame_join.specs.KeptFrame.{color_number, is_unknown, is_open_ended, 
 use Rattle.frame_join.specs.ColorPlanes.{Plane, Planes, no_plane, plane_in, plane_of, planes_of, nth_plane}
 use Rattle.frame_join.specs.FrameHistory.{is_accepted}
 use Rattle.frame_join.specs.PixelJoinStates.{PixelJoinState, IsColor}
-use Rattle.frame_join.specs.JoinSteps.{put_plane, is_there, has_two, accepts_next}
+use Rattle.frame_join.specs.Inside.{put_plane, is_there, has_two, accepts_next}
 use Rattle.frame_join.proofs.TestLemmas.{lt_true, eq_true, eq_from, or_false, or_other, not_true}
 use Rattle.frame_join.proofs.KeptLaws.{pass_parts}
 

@@ -18,7 +18,7 @@ use Rattle.frame_join.specs.FrameHistory.{JoinHistory, after_feed, after_end, af
 use Rattle.frame_join.specs.FrameFile.{file_front, file_of, AllGone, with_height, frame_height}
 use Rattle.frame_join.specs.JoinStages.{fault_in, is_under}
 use Rattle.frame_join.specs.PixelJoinStates.{PixelJoinState, PixelRepresents, AreColors, IsPartOfColors}
-use Rattle.frame_join.specs.JoinSteps.{value_ended, answer_at}
+use Rattle.frame_join.specs.Inside.{value_ended, answer_at}
 use Rattle.frame_join.proofs.AcceptLaws.{alone_is}
 use Rattle.frame_join.proofs.FrameLaws.{denotes_shown}
 use Rattle.frame_join.proofs.StreamLaws.{grown, goes_is_not_whole, nothing_is_not_whole, frame_picture, frame_sample_small, alone_channels}

@@ -6,7 +6,7 @@ use Rattle.page_picture.specs.Shows.{Frame, ShowsFrames}
 use Rattle.frame_join.specs.FrameFile.{AllGone, file_of}
 use Rattle.frame_join.specs.FrameHistory.{JoinHistory, IsJoined, after_pull}
 use Rattle.frame_join.specs.PixelJoinStates.{PixelJoinState, PixelRepresents}
-use Rattle.frame_join.specs.JoinSteps.{answer_at, may_go}
+use Rattle.frame_join.specs.Inside.{answer_at, may_go}
 use Rattle.frame_join.proofs.EndLaws.{answers, gone_denotes, joined_no_fault, joined_shows, joined_under, not_whole}
 use Rattle.frame_join.proofs.FrontLaws.{no_front}
 use Rattle.frame_join.proofs.PullLaws.{after_next, next_byte, next_carries, spent}

@@ -20,7 +20,7 @@ use Rattle.frame_join.specs.FrameHistory.{JoinHistory, after_begin, after_feed, 
 use Rattle.frame_join.specs.FrameFile.{header_alone, rows_front, row_front, with_height}
 use Rattle.frame_join.specs.JoinStages.{fault_in, is_under, is_keeping}
 use Rattle.frame_join.specs.PixelJoinStates.{PixelJoinState, PixelRepresents, PixelRepresentsAt, HasGoneOut, StreamsRows, IsSilent, KeepsFrame, IsPartOfColors, IsColor, AreColors}
-use Rattle.frame_join.specs.JoinSteps.{value_fed, value_ended, value_ended_at, kept_ended, with_known_height, color_put, color_ended, headed_by, put_plane, value_begun, value_begun_at, accepts_next, new_pixel_join, new_keeping_join}
+use Rattle.frame_join.specs.Inside.{value_fed, value_ended, value_ended_at, kept_ended, with_known_height, color_put, color_ended, headed_by, put_plane, value_begun, value_begun_at, accepts_next, new_pixel_join, new_keeping_join}
 use Rattle.frame_join.proofs.TestLemmas.{lt_true, lt_false, not_lt_from, same_test, or_cases, or_other}
 use Rattle.frame_join.proofs.FrameLaws.{alone_parts}
 use Rattle.frame_join.proofs.StreamLaws.{grown, held_length, bytes_come, small_append, goes_is_not_whole, nothing_is_not_whole, row_front-zero, rows_front-zero}

@@ -10,7 +10,7 @@ use Rattle.frame_join.specs.KeptFrame.{is_open_ended, is_pass}
 use Rattle.frame_join.specs.FrameFile.{file_of, file_front, gone_under, rows_to_go, AllGone, GoesThrough}
 use Rattle.frame_join.specs.FrameHistory.{JoinHistory, is_full, answer_of_end, after_pull, history_frames, with_last, IsJoined}
 use Rattle.frame_join.specs.JoinStages.{is_keeping, fault_in}
-use Rattle.frame_join.specs.JoinSteps.{answer_at}
+use Rattle.frame_join.specs.Inside.{answer_at}
 use Rattle.frame_join.specs.PixelJoinStates.{PixelJoinState, PixelRepresents, PixelRepresentsAt, AreColors, IsPartOfColors}
 use Rattle.frame_join.specs.Pixels.{is_kept, pixels_of, pixel_history}
 use Rattle.frame_join.specs.JoinStates.{JoinState, Represents, IsComing, AreEnded}

@@ -12,9 +12,9 @@ use Rattle.frame_join.specs.declared.join_stage.Stage.TheVariants.{Idle, Under, 
 use Rattle.sane_fixed.specs.declared.byte_order.ByteOrder.{ByteOrder}
 use Rattle.frame_join.specs.KeptFrame.{is_alike, color_number}
 use Rattle.frame_join.specs.ColorPlanes.{nth_plane}
-use Rattle.frame_join.specs.JoinStages.{is_keeping, is_between, is_colors, is_whole}
+use Rattle.frame_join.specs.JoinStages.{is_keeping, is_between, is_colors}
 use Rattle.frame_join.specs.PixelJoinStates.{PixelJoinState}
-use Rattle.frame_join.specs.JoinSteps.{can_give, is_ready, is_held, accepts_next, has_two, is_there}
+use Rattle.frame_join.specs.Inside.{is_whole, can_give, is_ready, is_held, accepts_next, has_two, is_there}
 use Rattle.frame_join.proofs.TestLemmas.{lt_from, le_from, or_cases, or_left, or_right, not_true}
 use Rattle.frame_join.proofs.FrameLaws.{shape_parts, known_parts}
 

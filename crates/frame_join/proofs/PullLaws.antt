@@ -15,9 +15,9 @@ use Rattle.frame_join.specs.AloneFrame.{is_alone, lines_in, most_lines, most_byt
 use Rattle.frame_join.specs.ColorPlanes.{Planes, planes_of, side_by_side, side_byte}
 use Rattle.frame_join.specs.FrameHistory.{JoinHistory, after_pull}
 use Rattle.frame_join.specs.FrameFile.{header_alone, rows_front, row_front, file_front, raster_byte, trimmed_byte, place_in, AllGone, GoesThrough, file_of, gone_under, rows_to_go, with_height, frame_height}
-use Rattle.frame_join.specs.JoinStages.{fault_in, is_under, is_keeping, is_whole, is_colors}
+use Rattle.frame_join.specs.JoinStages.{fault_in, is_under, is_keeping, is_colors}
 use Rattle.frame_join.specs.PixelJoinStates.{PixelJoinState, PixelRepresents, PixelRepresentsAt, HasGoneOut, StreamsRows, HasColors, IsPixelDrained, AreColors, IsPartOfColors}
-use Rattle.frame_join.specs.JoinSteps.{can_give, may_go, sample_at, after_samples, after_row, is_ready, is_held}
+use Rattle.frame_join.specs.Inside.{is_whole, can_give, may_go, sample_at, after_samples, after_row, is_ready, is_held}
 use Rattle.frame_join.proofs.TestLemmas.{lt_true, lt_false, not_lt_from, le_true, eq_true, eq_false, or_false, or_other, or_right}
 use Rattle.frame_join.proofs.StreamLaws.{head_goes, column_goes, row_goes, goes_head, goes_column, goes_row, ready_is, held_byte, held_length, row_front-zero}
 use Rattle.frame_join.proofs.KeptLaws.{ready_row, pass_parts}

@@ -24,9 +24,9 @@ use Rattle.page_picture.specs.Meaning.{greatest_at}
 use Rattle.page_picture.specs.Shows.{Frame, row_size, frame_sample, two_bytes, channels_within, channels_alone}
 use Rattle.frame_join.specs.AloneFrame.{AloneParts, row_bytes, lines_in, is_alone_format, most_bytes}
 use Rattle.frame_join.specs.FrameFile.{header_alone, raster_byte, row_front, rows_front, file_front, place_in, trimmed_byte}
-use Rattle.frame_join.specs.JoinStages.{is_under, is_whole, is_colors}
+use Rattle.frame_join.specs.JoinStages.{is_under, is_colors}
 use Rattle.frame_join.specs.PixelJoinStates.{PixelJoinState, HasGoneOut, StreamsRows}
-use Rattle.frame_join.specs.JoinSteps.{is_ready}
+use Rattle.frame_join.specs.Inside.{is_whole, is_ready}
 use Rattle.frame_join.proofs.KeptLaws.{ready_row, ready_held}
 use Rattle.frame_join.proofs.FrameLaws.{length-row_front, length-rows_front, denotes_front}
 

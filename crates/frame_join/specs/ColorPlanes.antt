@@ -1,5 +1,5 @@
 -- What three frames of one color each hold, and the one frame that has the colors side by side.
-use Rattle.std.specs.Prelude.{ℕ, ◌+◌, ◌*◌, ◌/◌, ◌%◌, ◌==◌, true, if◌then◌else◌, List, [], ◌∷◌, slice_index}
+use Rattle.std.specs.Prelude.{ℕ, ◌+◌, ◌*◌, ◌/◌, ◌%◌, ◌==◌, true, if◌then◌else◌, List, ◌∷◌, slice_index}
 use Rattle.netpbm.specs.FileText.{concat_up_to}
 use Rattle.sane_fixed.specs.declared.frame_format.FrameFormat.TheVariants.{Rgb}
 use Rattle.sane_fixed.specs.declared.params.Params.{Params}
@@ -19,9 +19,6 @@ pub record Planes : Type 0 where
 
 abbrev pub no_plane : Plane
 no_plane = record { line = 0; bytes = [] }
-
-abbrev pub no_planes : Planes
-no_planes = record { red = no_plane; green = no_plane; blue = no_plane }
 
 -- what a frame of one color holds
 abbrev pub plane_in : Frame → Plane

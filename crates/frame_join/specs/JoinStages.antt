@@ -59,16 +59,6 @@ is_between Whole = false
 is_between WholeColors = false
 is_between (Failed _) = false
 
--- the picture of one frame is whole
-abbrev pub is_whole : Stage → Bool
-is_whole Idle = false
-is_whole Under = false
-is_whole Keeping = false
-is_whole Between = false
-is_whole Whole = true
-is_whole WholeColors = false
-is_whole (Failed _) = false
-
 -- the picture of three frames is whole
 abbrev pub is_colors : Stage → Bool
 is_colors Idle = false

@@ -5,10 +5,10 @@ pub mod FrameHistory
 pub mod FrameFile
 pub mod JoinStages
 pub mod PixelJoinStates
-pub mod JoinSteps
 pub mod PlaneInside
 pub mod PlanesInside
 pub mod PixelInside
 pub mod Pixels
 pub mod JoinStates
 pub mod JoinInside
+pub mod Inside

@@ -10,7 +10,7 @@ ghost use Rattle.frame_join.specs.declared.join_stage.Stage.TheVariants.{Idle, U
 ghost use Rattle.frame_join.specs.JoinStages.{is_under, is_keeping, is_colors};
 ghost use Rattle.frame_join.specs.PixelJoinStates.{PixelRepresents, is_pixel_out_of_memory, IsPixelDrained};
 ghost use Rattle.frame_join.specs.declared.join_stage.JoinFault.{JoinFault};
-ghost use Rattle.frame_join.specs.JoinSteps.{can_give, is_ready, sample_at, may_go, after_samples, value_fed, under_ended, kept_ended, color_ended, value_ended, first_begun, next_begun, value_begun, accepts_next, answer_at, new_pixel_join, new_keeping_join};
+ghost use Rattle.frame_join.specs.Inside.{can_give, is_ready, sample_at, may_go, after_samples, value_fed, under_ended, kept_ended, color_ended, value_ended, first_begun, next_begun, value_begun, accepts_next, answer_at, new_pixel_join, new_keeping_join};
 
 use crate::alone_frame::{
     header_alone, is_alone, lines_in, most_lines, put_trimmed, put_turned, row_size,

@@ -1,8 +1,8 @@
 ghost use Rattle.std.specs.Prelude.{ℕ, ◌≡◌, ◌≤◌, ◌<◌, ◌+◌, ◌-◌, ◌*◌, ◌/◌, ◌%◌, ◌⊎◌, IfSome, false, is_some, length, slice_index};
 ghost use Rattle.frame_join.specs.KeptFrame.{color_number};
-ghost use Rattle.frame_join.specs.ColorPlanes.{no_plane, no_planes, nth_plane, side_byte};
+ghost use Rattle.frame_join.specs.ColorPlanes.{no_plane, nth_plane, side_byte};
 ghost use Rattle.frame_join.specs.FrameFile.{place_in};
-ghost use Rattle.frame_join.specs.JoinSteps.{is_there, has_two, put_plane};
+ghost use Rattle.frame_join.specs.Inside.{no_planes, is_there, has_two, put_plane};
 
 use crate::alone_frame::place_in;
 use crate::kept_frame::color_number;

@@ -29,9 +29,10 @@ use Rattle.client_replies.specs.declared.progress.Next.TheVariants.{Wait, Finish
 use Rattle.client_replies.specs.Asking.{request_for}
 use Rattle.client_replies.specs.ReplyTurns.{turn, stop_unjoined, page_whole, frame_joined, frame_ended_by, frame_ended, status_of, FrameEnd}
 use Rattle.net_client.specs.Sending.{optional_request_text}
-use Rattle.net_client.specs.ClientStates.{TurnsPage, TakesPage, Stays, Turns, ClientState, ClientRepresents, GoesOnBy, after_client_end}
+use Rattle.net_client.specs.ClientStates.{TurnsPage, TakesPage, Stays, Turns, ClientState, ClientRepresents, after_client_end}
 use Rattle.client_replies.specs.ProtocolStates.{is_batch, is_ended, is_turning, turns, is_running, scans, IsWithinFrame, FitsAt, HistoryFits, FitsDone, NextFits, next_outcome, is_receiving, with_payload}
-use Rattle.net_client.specs.FramePieces.{TakesEndRecord, IsBehindFrame, RepresentsWithin, ReadsTo, ReadsEnd, ReadsFault, Receives}
+use Rattle.net_client.specs.Inside.{GoesOnBy, IsBehindFrame, RepresentsWithin}
+use Rattle.net_client.specs.FramePieces.{TakesEndRecord, ReadsTo, ReadsEnd, ReadsFault, Receives}
 use Rattle.client_replies.proofs.Fitting.{within_is_unjoined, faulty_is_unjoined, ended_unjoined, fault_ends}
 use Rattle.net_client.proofs.Hearings.{between, settles_well, differs, running_is}
 

@@ -23,9 +23,10 @@ use Rattle.client_replies.specs.declared.progress.Notes.{Notes}
 use Rattle.client_replies.specs.declared.progress.Next.{Next}
 use Rattle.client_replies.specs.declared.progress.Next.TheVariants.{Wait, Finish, Stop}
 use Rattle.client_replies.specs.ReplyTurns.{Turn}
-use Rattle.net_client.specs.ClientStates.{ClientState, protocol_of, ClientRepresents, GoesOnBy, sent_by, after_out_of_memory}
+use Rattle.net_client.specs.ClientStates.{ClientState, protocol_of, ClientRepresents, sent_by}
 use Rattle.client_replies.specs.ProtocolStates.{ProtocolState, is_running, suits, FitsAt, HistoryFits, FitsEnded, NextFits, protocol_after_turn, next_outcome, next_progress, heard_at, after_reply, Answer, IsWait, after_params_reply, shaped_by}
-use Rattle.net_client.specs.ReplyPieces.{IsReply, HearsReplies, HearsReply, EndsOutOfMemoryHere, RepresentsOrOutOfMemory}
+use Rattle.net_client.specs.Inside.{GoesOnBy, after_out_of_memory, HearsReply, RepresentsOrOutOfMemory}
+use Rattle.net_client.specs.ReplyPieces.{IsReply, HearsReplies, EndsOutOfMemoryHere}
 use Rattle.client_replies.proofs.Fitting.{heard_fits, shaped_fits, may_end, ended_unjoined, faulty_is_unjoined}
 
 pub running_is : (o : Outcome) → is_running o ≡ true → o ≡ Running

@@ -22,7 +22,8 @@ use Rattle.client_replies.specs.declared.progress.Progress.{Progress}
 use Rattle.client_replies.specs.declared.progress.Progress.TheVariants as stages
 use Rattle.net_client.specs.ClientStates.{ClientState, protocol_of, ClientRepresents, sent_by, after_client_end}
 use Rattle.client_replies.specs.ProtocolStates.{ProtocolState, is_running, answer_to, after_reply}
-use Rattle.net_client.specs.ReplyPieces.{awaited_procedure, IsReply, HearsReplies, HearsReply, HasHeard, EndsOutOfMemoryHere, Heeds, Whole, Garbled, OutOfMemoryBehind, outcome_by, StopsReading}
+use Rattle.net_client.specs.Inside.{HearsReply, outcome_by, StopsReading}
+use Rattle.net_client.specs.ReplyPieces.{awaited_procedure, IsReply, HearsReplies, HasHeard, EndsOutOfMemoryHere, Heeds, Whole, Garbled, OutOfMemoryBehind}
 use Rattle.client_replies.proofs.Fitting.{may_end}
 use Rattle.net_client.proofs.Hearings.{fits_at, hears_none, hears_more}
 

@@ -1,8 +1,7 @@
 -- A client's value, and what it stands for.
-use Rattle.std.specs.Prelude.{ℕ, ◌≡◌, ◌≢◌, ◌++◌, true, false, Option, Some, None, List, []}
+use Rattle.std.specs.Prelude.{ℕ, ◌≡◌, ◌≢◌, ◌++◌, true, false, Option, Some, None, List}
 use Rattle.wire_format.specs.Writer.{behind}
 use Rattle.sane_fixed.specs.declared.status.Status.{Status}
-use Rattle.sane_fixed.specs.declared.status.Status.TheVariants as statuses
 use Rattle.netpbm.specs.Picture.{Picture}
 use Rattle.netpbm.specs.Pnm.{Denotes, IsWhole}
 use Rattle.page_picture.specs.Shows.{ShowsFrames}
@@ -16,7 +15,6 @@ use Rattle.scan_job.specs.declared.job.Job.{Job}
 use Rattle.scan_job.specs.declared.outcome.Outcome.{Outcome}
 use Rattle.scan_job.specs.declared.outcome.Outcome.TheVariants.{Running, Ended}
 use Rattle.scan_job.specs.declared.outcome.Why.{Why}
-use Rattle.scan_job.specs.declared.outcome.Why.TheVariants as whys
 use Rattle.client_replies.specs.declared.progress.JobTarget.{JobTarget}
 use Rattle.client_replies.specs.declared.progress.Progress.{Progress}
 use Rattle.client_replies.specs.declared.progress.Progress.TheVariants as stages
@@ -24,7 +22,7 @@ use Rattle.client_replies.specs.declared.progress.Notes.{Notes}
 use Rattle.client_replies.specs.declared.progress.Next.{Next}
 use Rattle.client_replies.specs.declared.progress.Next.TheVariants.{Wait, Finish, Stop}
 use Rattle.client_replies.specs.Asking.{request_for, goodbye}
-use Rattle.client_replies.specs.ProtocolStates.{ProtocolState, HistoryFits, answer_to, target_of, next_file, next_notes, next_outcome, next_progress}
+use Rattle.client_replies.specs.ProtocolStates.{ProtocolState, HistoryFits, answer_to, target_of, next_file}
 use Rattle.net_client.specs.Sending.{requests_text, optional_request_text}
 
 -- what a client is to its callers: the job and its outcome, what it waits for and has come to know, the bytes that are to go
@@ -64,17 +62,9 @@ pub record ClientRepresents (past : JoinHistory) (v : ClientState) : Type 0 wher
 abbrev pub protocol_of : ClientState → JoinHistory → ProtocolState
 protocol_of v past = record { outcome = v.outcome; progress = v.progress; notes = v.notes; history = past }
 
--- the job goes on so, and sends what it sends then
-pub record GoesOnBy (old : ClientState) (next : Next) (new : ClientState) : Type 0 where
-  pub rest : new ≡ record old { outcome = next_outcome old.target.task old.notes next; progress = next_progress next; notes = next_notes old.notes next; out = new.out }
-  pub text : behind old.out (sends old.target old.notes.word next) ≡ Some new.out
-
 -- the job ends so
 abbrev pub after_client_end : Status → Why → ClientState → ClientState
 after_client_end status why v = record v { outcome = Ended status why; progress = stages.Over }
-
-abbrev pub after_out_of_memory : ClientState → ClientState
-after_out_of_memory v = after_client_end statuses.NoMem whys.Memory v
 
 -- ---- the calls that hear nothing
 

@@ -1,5 +1,5 @@
 -- What a piece of a data connection's bytes makes of a client.
-use Rattle.std.specs.Prelude.{ℕ, ◌≡◌, ◌⊎◌, Bool, true, false, Some, None, List, ◌++◌}
+use Rattle.std.specs.Prelude.{ℕ, ◌≡◌, ◌⊎◌, Bool, Some, List, ◌++◌}
 use Rattle.wire_format.specs.Writer.{behind}
 use Rattle.page_picture.specs.Shows.{Frame}
 use Rattle.frame_join.specs.declared.join_stage.JoinFault.{JoinFault}
@@ -8,19 +8,10 @@ use Rattle.frame_join.specs.JoinStates.{JoinState, Represents}
 use Rattle.data_records.specs.declared.records.RecordPhase.{RecordPhase}
 use Rattle.data_records.specs.declared.records.RecordPhase.TheVariants as phases
 use Rattle.data_records.specs.Records.{CarriesRecords, HasEnded}
-use Rattle.client_replies.specs.declared.progress.Progress.{Progress}
 use Rattle.client_replies.specs.declared.progress.Progress.TheVariants as stages
-use Rattle.net_client.specs.declared.imaging.PieceResult.{PieceResult}
-use Rattle.net_client.specs.declared.imaging.PieceResult.TheVariants.{More, Fault, End}
 use Rattle.client_replies.specs.ReplyTurns.{turn, stop_unjoined, FrameEnd, frame_ended}
 use Rattle.net_client.specs.ClientStates.{ClientState, protocol_of, sends, ClientRepresents}
 use Rattle.client_replies.specs.ProtocolStates.{with_payload, next_outcome, protocol_after_turn}
-
--- the join stands for what was told to it, no fault does, and this frame is under way
-pub record RepresentsWithin (past : JoinHistory) (frame : Frame) (join : JoinState) : Type 0 where
-  pub stands : Represents past join
-  pub clear : past.fault ≡ None
-  pub under : past.under ≡ Some frame
 
 -- a reader used the bytes, and the join took what they gave
 pub record ReadsTo (old : RecordPhase) (past : JoinHistory) (frame : Frame) (used : List ℕ) (new : RecordPhase) (join : JoinState) : Type 0 where
@@ -47,44 +38,10 @@ pub record ReadsFault (old : RecordPhase) (past : JoinHistory) (frame : Frame) (
   pub stands : Represents (after_feed last starved (with_payload past frame before)) join
   pub fails : (after_feed last starved (with_payload past frame before)).fault ≡ Some fault
 
--- a reader, what was told to the join, and the frame that is under way
-pub record ReaderInFrame : Type 0 where
-  pub reader : RecordPhase
-  pub past : JoinHistory
-  pub frame : Frame
-
--- a reader, and the join
-pub record ReaderAndJoin : Type 0 where
-  pub reader : RecordPhase
-  pub join : JoinState
-
--- what a piece of the records brought, and what it left
-abbrev pub HasRead : ReaderInFrame → List ℕ → PieceResult → ReaderAndJoin → Type 0
-HasRead was piece More now = ReadsTo was.reader was.past was.frame piece now.reader now.join
-HasRead was piece (End status) now = ReadsEnd was.reader was.past was.frame piece status now.join
-HasRead was piece (Fault fault) now = ReadsFault was.reader was.past was.frame piece fault now.reader now.join
-
--- a reader that gave no end has not ended
-abbrev pub HasNotEnded : PieceResult → RecordPhase → Type 0
-HasNotEnded More phase = HasEnded phase → ⊥
-HasNotEnded (Fault fault) phase = HasEnded phase → ⊥
-HasNotEnded (End status) phase = Unit {0}
-
 -- ---- a piece of the data connection
 
 abbrev pub frame_end_of : ClientState → JoinHistory → ℕ → FrameEnd
 frame_end_of v past status = frame_ended v.target.task v.notes.file past status
-
--- a client waits so behind a frame: for the next one, or for the file of its page to be taken
-abbrev pub IsBehindFrame : Progress → Type 0
-IsBehindFrame (stages.Starting first) = Unit {0}
-IsBehindFrame stages.Turning = Unit {0}
-IsBehindFrame progress = ⊥
-
--- START is sent then
-abbrev pub is_starting : Progress → Bool
-is_starting (stages.Starting first) = true
-is_starting progress = false
 
 -- the end record: how the job goes on, and what is sent then
 pub record TakesEndRecord (old : ClientState) (past : JoinHistory) (status : ℕ) (new : ClientState) : Type 0 where

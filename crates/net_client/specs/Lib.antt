@@ -1,6 +1,6 @@
-pub mod Outboxes
 pub mod Sending
 pub mod ClientStates
 pub mod Taking
 pub mod ReplyPieces
 pub mod FramePieces
+pub mod Inside

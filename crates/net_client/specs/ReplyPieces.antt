@@ -1,25 +1,20 @@
 -- What a piece of the control connection's bytes makes of a client.
-use Rattle.std.specs.Prelude.{ℕ, ◌≡◌, ◌≢◌, ◌⊎◌, true, Option, Some, None, List, [], ◌∷◌, ◌++◌}
+use Rattle.std.specs.Prelude.{ℕ, ◌≡◌, true, Option, Some, None, List, ◌∷◌, ◌++◌}
 use Rattle.wire_format.specs.Limit.{limited_format, NeedsMore, IsNoStart}
-use Rattle.wire_format.specs.Writer.{behind}
 use Rattle.sane_fixed.specs.declared.status.Status.TheVariants as statuses
-use Rattle.wire_message.specs.declared.message_fault.WireFault.{WireFault}
-use Rattle.wire_message.specs.declared.message_fault.WireFault.TheVariants as wire
 use Rattle.wire_message.specs.declared.message.Procedure.{Procedure}
 use Rattle.wire_message.specs.declared.message.Procedure.TheVariants as procedures
 use Rattle.wire_message.specs.declared.message.Reply.{Reply}
 use Rattle.wire_message.specs.Message.{message_limit, reply}
-use Rattle.frame_join.specs.FrameHistory.{JoinHistory, with_fault}
-use Rattle.frame_join.specs.JoinStates.{JoinState, Represents}
+use Rattle.frame_join.specs.FrameHistory.{JoinHistory}
 use Rattle.frame_join.specs.declared.join_stage.JoinFault.TheVariants.{NoMem}
-use Rattle.scan_job.specs.declared.outcome.Outcome.{Outcome}
 use Rattle.scan_job.specs.declared.outcome.Outcome.TheVariants.{Ended}
 use Rattle.scan_job.specs.declared.outcome.Why.TheVariants as whys
 use Rattle.client_replies.specs.declared.progress.JobTarget.{JobTarget}
 use Rattle.client_replies.specs.declared.progress.Progress.{Progress}
 use Rattle.client_replies.specs.declared.progress.Progress.TheVariants as stages
 use Rattle.net_client.specs.ClientStates.{ClientState, protocol_of, ClientRepresents, sent_by, after_client_end}
-use Rattle.client_replies.specs.ProtocolStates.{ProtocolState, answer_to, after_reply, is_running}
+use Rattle.client_replies.specs.ProtocolStates.{ProtocolState, after_reply, is_running}
 
 -- the procedure whose reply is waited for
 abbrev pub awaited_procedure : Progress → Option Procedure
@@ -49,13 +44,6 @@ HearsReplies target t [] text sent u = (text ≡ []) × (sent ≡ []) × (u ≡ 
 HearsReplies target t (r ∷ rs) text sent u =
     (front : List ℕ) × (back : List ℕ) × (said : List ℕ) × (more : List ℕ) × (text ≡ front ++ back) × (sent ≡ said ++ more)
     × IsReply t.progress front r × (sent_by target t r ≡ Some said) × HearsReplies target (after_reply target t r) rs back more u
-
--- what a reply makes of a client: how the job goes on, and what is sent then
-pub record HearsReply (old : ClientState) (past : JoinHistory) (r : Reply) (new : ClientState) : Type 0 where
-  pub protocol : protocol_of new (answer_to old.target (protocol_of old past) r).history ≡ after_reply old.target (protocol_of old past) r
-  pub serves : ClientRepresents (answer_to old.target (protocol_of old past) r).history new
-  pub said : behind old.out (sent_by old.target (protocol_of old past) r) ≡ Some new.out
-  pub rest : new ≡ record old { outcome = new.outcome; progress = new.progress; notes = new.notes; out = new.out; join = new.join }
 
 -- memory ran out: the job has ended so, and what was given of the file stays
 pub record EndsOutOfMemory (old : ClientState) (past : JoinHistory) (new : ClientState) : Type 0 where
@@ -101,24 +89,3 @@ pub data Heeds (old : ClientState) (past : JoinHistory) (piece : List ℕ) (new 
   Garbled : (was : ClientState) → HasHeard old past piece was → is_running was.outcome ≡ true → IsGarbled was new → Heeds old past piece new
   OutOfMemoryBehind : (was : ClientState) → (h : HasHeard old past piece was) → is_running was.outcome ≡ true → EndsOutOfMemoryHere was h.history_then new → Heeds old past piece new
   OutOfMemoryAtOnce : EndsOutOfMemoryHere old past new → Heeds old past piece new
-
--- the join stands for what was told, or for that and out of memory
-abbrev pub RepresentsOrOutOfMemory : JoinHistory → JoinState → Type 0
-RepresentsOrOutOfMemory past join = Represents past join ⊎ Represents (with_fault NoMem past) join
-
--- how a job ends by a fault of the decoder
-abbrev pub outcome_by : WireFault → Outcome
-outcome_by wire.NoMem = Ended statuses.NoMem whys.Memory
-outcome_by wire.BadCode = Ended statuses.IoError whys.Malformed
-outcome_by wire.BadValue = Ended statuses.IoError whys.Malformed
-outcome_by wire.TooLong = Ended statuses.IoError whys.Malformed
-
--- reading failed, and the job has ended so
-pub record FailsReading (procedure : Procedure) (old new : ClientState) : Type 0 where
-  pub fault : WireFault
-  pub ends : new ≡ record old { outcome = outcome_by fault; progress = stages.Over; input = new.input }
-  pub no_start : fault ≢ wire.NoMem → IsNoStart message_limit (reply procedure) old.input.rest
-
--- reading a reply gave none: more is wanted, or it failed
-abbrev pub StopsReading : Procedure → ClientState → ClientState → Type 0
-StopsReading procedure old new = ((new ≡ old) × NeedsMore message_limit (reply procedure) old.input.rest) ⊎ FailsReading procedure old new

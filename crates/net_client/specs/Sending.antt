@@ -1,6 +1,5 @@
 -- The client's requests as bytes.
-use Rattle.std.specs.Prelude.{ℕ, Option, Some, None, List, [], ◌∷◌, ◌++◌}
-use Rattle.std.specs.Int.{w32, to_be_bytes}
+use Rattle.std.specs.Prelude.{ℕ, Option, Some, None, List, ◌∷◌}
 use Rattle.wire_format.specs.Writer.{append_text}
 use Rattle.wire_message.specs.declared.message.Request.{Request}
 use Rattle.wire_writing.specs.RequestWriting.{write_request}
@@ -13,7 +12,3 @@ requests_text (r ∷ rs) = append_text (write_request.text r) (requests_text rs)
 abbrev pub optional_request_text : Option Request → Option (List ℕ)
 optional_request_text None = Some []
 optional_request_text (Some r) = write_request.text r
-
--- the text of a request of a code and a word
-abbrev pub word_request : ℕ → ℕ → List ℕ
-word_request code word = to_be_bytes w32 code ++ to_be_bytes w32 word

@@ -1,17 +1,11 @@
 -- Bytes of a client's file that are taken.
-use Rattle.std.specs.Prelude.{ℕ, ◌≡◌, ◌<◌, true, false, List, [], ◌++◌}
+use Rattle.std.specs.Prelude.{ℕ, ◌≡◌, ◌<◌, true, false, List, ◌++◌}
 use Rattle.netpbm.specs.Picture.{Picture}
 use Rattle.netpbm.specs.Pnm.{Denotes, IsWhole}
 use Rattle.page_picture.specs.Shows.{ShowsFrames}
 use Rattle.frame_join.specs.FrameHistory.{JoinHistory, IsJoined, after_pull}
 use Rattle.client_replies.specs.ProtocolStates.{is_ended, turns}
 use Rattle.net_client.specs.ClientStates.{ClientState, ClientRepresents, TakesPage}
-
--- These bytes were taken, where there was room for so many. Where the picture is whole and nothing more comes, what was
--- given in all denotes it; before it is whole, what was given in all is not.
-pub record GivesPicture (past : JoinHistory) (room : ℕ) (bytes : List ℕ) : Type 0 where
-  pub denotes : IsJoined past → bytes ≡ [] → 0 < room → (p : Picture) → ShowsFrames past.ended p → Denotes past.given p
-  pub whole : (IsJoined past → ⊥) → IsWhole (past.given ++ bytes) → ⊥
 
 -- What a client gave so: one that waits for its page's file to be taken gave bytes of that, and any other serves on with them.
 -- It gives the picture as above; only a job that has ended otherwise need not have given all of it.

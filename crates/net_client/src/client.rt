@@ -1,8 +1,8 @@
 ghost use Rattle.std.specs.Prelude.{◌≡◌, ◌≢◌, true, false};
 ghost use Rattle.scan_job.specs.JobSize.{HasJobFault};
 ghost use Rattle.client_replies.specs.ProtocolStates.{is_imaging};
-ghost use Rattle.net_client.specs.ReplyPieces.{awaited_procedure, outcome_by};
-ghost use Rattle.net_client.specs.FramePieces.{is_starting};
+ghost use Rattle.net_client.specs.ReplyPieces.{awaited_procedure};
+ghost use Rattle.net_client.specs.Inside.{outcome_by, is_starting};
 
 use crate::imaging::{PieceResult, read_on};
 use crate::outbox::Outbox;
@@ -54,7 +54,7 @@ impl Client {
     ghost use Rattle.std.specs.Prelude.{OnOk, OnErr};
     ghost use Rattle.frame_join.specs.FrameHistory.{JoinHistory};
     ghost use Rattle.frame_join.specs.JoinStates.{Represents};
-    ghost use Rattle.net_client.specs.ReplyPieces.{HearsReply, EndsOutOfMemoryHere, EndsOutOfMemory, RepresentsOrOutOfMemory, StopsReading, Heeds};
+    ghost use Rattle.net_client.specs.ReplyPieces.{EndsOutOfMemoryHere, EndsOutOfMemory, Heeds};
     ghost use Rattle.client_replies.specs.declared.progress.Progress.TheVariants as stages;
     ghost use Rattle.client_replies.specs.ClearJoins.{RepresentsClear};
     ghost use Rattle.client_replies.specs.ReplyTurns.{stop_unjoined};
@@ -63,9 +63,9 @@ impl Client {
     ghost use Rattle.scan_job.specs.Outcomes.{IsOver};
     ghost use Rattle.client_replies.specs.ProtocolStates.{is_ended, turns};
     ghost use Rattle.net_client.specs.ClientStates.{TakesPage, TurnsPage};
-    ghost use Rattle.net_client.specs.Taking.{GivesPicture, TakesFile};
+    ghost use Rattle.net_client.specs.Taking.{TakesFile};
     ghost use Rattle.client_replies.specs.ProtocolStates.{is_receiving};
-    ghost use Rattle.net_client.specs.FramePieces.{TakesEndRecord, IsBehindFrame, Receives};
+    ghost use Rattle.net_client.specs.FramePieces.{TakesEndRecord, Receives};
     ghost use Rattle.std.specs.Prelude.{IfSome, IsNone};
     ghost use Rattle.wire_format.specs.Limit.{limited_format};
     ghost use Rattle.wire_format.specs.Lawful.{SpellsFront};
@@ -75,7 +75,8 @@ impl Client {
     ghost use Rattle.net_client.specs.Sending.{optional_request_text, requests_text};
     ghost use Rattle.client_replies.specs.Asking.{request_for, goodbye, farewell};
     ghost use Rattle.client_replies.specs.ProtocolStates.{is_running, reports_of, options_shown, IsWait, heard_at, is_lost_by, wanted_port, progress_connected};
-    ghost use Rattle.net_client.specs.ClientStates.{GoesOnBy, HasEarlyReply, after_client_end, after_out_of_memory, IsNewClient, ClientRepresents, phase_connected};
+    ghost use Rattle.net_client.specs.Inside.{HearsReply, RepresentsOrOutOfMemory, StopsReading, GivesPicture, IsBehindFrame, GoesOnBy, after_out_of_memory};
+    ghost use Rattle.net_client.specs.ClientStates.{HasEarlyReply, after_client_end, IsNewClient, ClientRepresents, phase_connected};
     ghost use Rattle.std.specs.Prelude.{IsTrue, ◌↔◌};
     ghost use Rattle.scan_job.specs.JobSize.{HasJobFault};
 

@@ -2,7 +2,7 @@ ghost use Rattle.std.specs.Prelude.{◌≡◌, ◌≤◌, ◌<◌, length};
 ghost use Rattle.page_picture.specs.Shows.{Frame};
 ghost use Rattle.frame_join.specs.FrameHistory.{JoinHistory};
 ghost use Rattle.data_records.specs.Records.{HasEnded};
-ghost use Rattle.net_client.specs.FramePieces.{HasRead, HasNotEnded, RepresentsWithin};
+ghost use Rattle.net_client.specs.Inside.{HasRead, HasNotEnded, RepresentsWithin};
 
 use data_records::{RecordReader, Step};
 use frame_join::{FrameJoin, JoinFault};

@@ -12,7 +12,7 @@ pub struct Outbox {
 
 impl Model for Outbox {
     ghost use Rattle.std.specs.Prelude.{◌≤◌, ◌-◌, length, drop, vec_len, vec_capacity};
-    ghost use Rattle.net_client.specs.Outboxes.{OutboxState};
+    ghost use Rattle.net_client.specs.Inside.{OutboxState};
 
     ghost Value = { OutboxState };
 

@@ -3,7 +3,8 @@ ghost use Rattle.std.specs.Int.{w32, to_be_bytes};
 ghost use Rattle.wire_format.specs.Writer.{behind};
 ghost use Rattle.wire_message.specs.declared.message.Request.TheVariants as requests;
 ghost use Rattle.client_replies.specs.Asking.{request_for, goodbye, farewell};
-ghost use Rattle.net_client.specs.Sending.{requests_text, optional_request_text, word_request};
+ghost use Rattle.net_client.specs.Inside.{word_request};
+ghost use Rattle.net_client.specs.Sending.{requests_text, optional_request_text};
 
 use crate::outbox::Outbox;
 use client_replies::{JobTarget, Progress, request_for};

@@ -11,7 +11,8 @@ use Rattle.netpbm.specs.Pnm.{sample_in, channels_of, number_in}
 use Rattle.netpbm.specs.HeaderReading.{header_at, format_of}
 use Rattle.netpbm.specs.Raster.{NoneAbove, sample_count, raster_size}
 use Rattle.page_picture.specs.PageFile.{BeginsPage, IsPageFormat, TellsPage, file_channel}
-use Rattle.page_picture.specs.PageReading.{ArePageSamples, source}
+use Rattle.page_picture.specs.Inside.{ArePageSamples}
+use Rattle.page_picture.specs.PageReading.{source}
 use Rattle.netpbm.proofs.HeaderLaws.{header_at-begins, begins_from_header_at, steps_found, not_none}
 
 pub page_found : (text : List ℕ) (h : Header) (raster : List ℕ) → header_at text ≡ Some (h, raster) → IsPageFormat (format_of text) → h.width ≤ 16384 → h.height ≤ 16384 → BeginsPage text h raster

@@ -16,7 +16,7 @@ use Rattle.netpbm.specs.Raster.{NoneAbove, SomeAbove, raster_size, sample_count}
 use Rattle.page_picture.specs.declared.sources.open_fault.OpenFault.{OpenFault}
 use Rattle.page_picture.specs.declared.sources.open_fault.OpenFault.TheVariants.{Device}
 use Rattle.page_picture.specs.PageFile.{IsPageFormat}
-use Rattle.page_picture.specs.PageRows.{file_row_size, row_count, GivesPartOf, GivesRowOf, HasRows, IsPageHeader, IsRaster, ReadsRaster, ShowsRow, unused_bytes}
+use Rattle.page_picture.specs.Inside.{file_row_size, row_count, GivesPartOf, GivesRowOf, HasRows, IsPageHeader, IsRaster, ReadsRaster, ShowsRow, unused_bytes}
 
 -- what holds wherever the fault is the reader's
 pub of_device : {A : Type 0} (r : Result A OpenFault) (X : Type 0) → X → IfErr r (λ fault. fault ≡ Device → X)

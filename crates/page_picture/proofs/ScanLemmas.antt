@@ -10,7 +10,7 @@ use Rattle.netpbm.specs.declared.format.PnmFormat.{PnmFormat}
 use Rattle.netpbm.specs.declared.format.PnmFormat.TheVariants.{Pbm, Pgm, Ppm}
 use Rattle.netpbm.specs.HeaderReading.{format_of, number_at, maxval_at, header_at}
 use Rattle.page_picture.specs.PageFile.{IsPageFormat}
-use Rattle.page_picture.specs.HeaderScan.{from_hand, digit_in, more_digits, number_end, header_from}
+use Rattle.page_picture.specs.Inside.{from_hand, digit_in, more_digits, number_end, header_from}
 
 -- one byte was taken from what is left
 pub byte_taken : (new old : Bool) (after text : List ℕ) (at b : ℕ) (front more : List ℕ) → new ≡ old → after ≡ text → (old ≡ true → drop at text ≡ front) → (hand : Option ℕ) → hand ≡ Some b → (old ≡ true → front ≡ from_hand hand more) → new ≡ true → drop (at + 1) after ≡ more

@@ -20,9 +20,9 @@ use Rattle.page_picture.specs.Source.{byte_place}
 use Rattle.page_picture.specs.declared.scene.Mode.{Mode}
 use Rattle.page_picture.specs.declared.scene.Mode.TheVariants.{Gray, Color}
 use Rattle.page_picture.specs.PageFile.{BeginsPage, IsDpi, IsPageFormat, TellsPage}
-use Rattle.page_picture.specs.PageReading.{ArePageSamples, page_number, source}
-use Rattle.page_picture.specs.PageRows.{HasSamplesOf, IsPageHeader, IsRaster, ShowsRow, page_shown, samples_shown, row_count, file_row_size}
-use Rattle.page_picture.specs.Opening.{HasHeaderFault, HasOpenFault, HasOpenFaultAfter}
+use Rattle.page_picture.specs.PageReading.{source}
+use Rattle.page_picture.specs.Inside.{ArePageSamples, page_number, HasSamplesOf, IsPageHeader, IsRaster, ShowsRow, page_shown, samples_shown, row_count, file_row_size, HasHeaderFault, HasOpenFaultAfter}
+use Rattle.page_picture.specs.Opening.{HasOpenFault}
 use Rattle.page_picture.proofs.PageLemmas.{tells_page}
 use Rattle.page_picture.proofs.RowLemmas.{drop-row, number_in_row, row_size-count}
 

@@ -2,7 +2,8 @@ ghost use Rattle.std.specs.Prelude.{◌≡◌, ◌≤◌, ◌<◌, ◌*◌, ◌/
 ghost use Rattle.netpbm.specs.Pnm.{sample_bytes};
 ghost use Rattle.netpbm.specs.Raster.{sample_count, NoneAbove};
 ghost use Rattle.page_picture.specs.PageFile.{HasPageFault, TellsPage, IsPageFormat, IsDpi, BeginsPage};
-ghost use Rattle.page_picture.specs.PageReading.{source, page_number, ArePageSamples};
+ghost use Rattle.page_picture.specs.Inside.{page_number, ArePageSamples};
+ghost use Rattle.page_picture.specs.PageReading.{source};
 
 use crate::page::Page;
 use netpbm::{

@@ -2,7 +2,8 @@ ghost use Rattle.std.specs.Prelude.{◌≡◌, Bool, List, ℕ, Some, [], OnOk, 
 ghost use Rattle.std.specs.Io.{ReadsAtMost};
 ghost use Rattle.std.specs.Io.KnownBytes.{ReadConsumes};
 ghost use Rattle.std.specs.Io.Cursor.{cursor_inner, cursor_position};
-ghost use Rattle.page_picture.specs.KnownBytes.{are_known, known_bytes, CountsFault};
+ghost use Rattle.page_picture.specs.Inside.{are_known, known_bytes};
+ghost use Rattle.page_picture.specs.KnownBytes.{CountsFault};
 
 use std::fs::File;
 use std::io;

@@ -23,10 +23,10 @@ use Rattle.scan_frames.specs.declared.setup.Setup.{Setup}
 use Rattle.scan_frames.specs.Line.{packing_of, line_of}
 use Rattle.scan_frames.specs.Frames.{width_of, channel_in, format_at, bytes_per_line, line_bytes}
 use Rattle.scan_frames.specs.Samples.{HasZeros}
-use Rattle.scan_frames.specs.Tables.{AreComposed, IsPlain}
+use Rattle.scan_frames.specs.Tables.{AreComposed}
 use Rattle.scan_frames.proofs.Lines.{line_from_samples, line_is, binary_same, tone_bytes}
 use Rattle.scan_frames.proofs.Grays.{tone_of_bits}
-use Rattle.scan_frames.specs.ByteLines.{PutsGrays, PutsColors, PutsGrayBits, MakesOfRow, black, black_in, blacks_in}
+use Rattle.scan_frames.specs.Inside.{IsPlain, PutsGrays, PutsColors, PutsGrayBits, MakesOfRow, black, black_in, blacks_in}
 use Rattle.scan_frames.proofs.Scans.{brightness-same, some_channels, three_channels}
 use Rattle.scan_frames.proofs.Seen.{on_page}
 use Rattle.scan_frames.proofs.Zeros.{bits_past}

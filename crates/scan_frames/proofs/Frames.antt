@@ -16,8 +16,8 @@ use Rattle.scan_frames.specs.declared.setup.Setup.{Setup}
 use Rattle.scan_frames.specs.Line.{packing_of, line_size}
 use Rattle.scan_frames.specs.Frames.{has_picture, height_of, width_of, format_at, bytes_per_line, pass_length}
 use Rattle.scan_frames.specs.Samples.{HasZeros, IsZeroFrom}
-use Rattle.scan_frames.specs.PassReading.{FrameProgress, IsFrame, IsLineCounted, HasBegunPass, given_in}
-use Rattle.scan_frames.specs.Buffers.{IsNewFrame, MakesLine, KeepsCount, HasLineBytes}
+use Rattle.scan_frames.specs.PassReading.{FrameProgress, IsFrame, HasBegunPass, given_in}
+use Rattle.scan_frames.specs.Inside.{IsLineCounted, IsNewFrame, MakesLine, KeepsCount, HasLineBytes}
 use Rattle.scan_frames.proofs.Scans.{mul-split, left_in_line, left_whole, made_not_given}
 
 -- ---- a picture has bytes

@@ -11,8 +11,8 @@ use Rattle.page_picture.specs.Source.{SourceState, CountsFailure}
 use Rattle.scan_frames.specs.declared.setup.Setup.{Setup}
 use Rattle.scan_frames.specs.Frames.{height_of, bytes_per_line, line_bytes, payload, pass_length}
 use Rattle.scan_frames.specs.Rows.{TakesRows, StopsFailing}
-use Rattle.scan_frames.specs.PassReading.{FrameProgress, IsFrame, IsLineCounted, GivesFrameBytes, given_in}
-use Rattle.scan_frames.specs.Buffers.{HasLineBytes, GivesLine, HasGivenOfFrame, GivesOfLine, is_frame_over}
+use Rattle.scan_frames.specs.PassReading.{FrameProgress, IsFrame, GivesFrameBytes, given_in}
+use Rattle.scan_frames.specs.Inside.{IsLineCounted, HasLineBytes, GivesLine, HasGivenOfFrame, GivesOfLine, is_frame_over}
 use Rattle.scan_frames.proofs.Scans.{length-line_bytes, joined_part, mul-split, lines_and_front}
 use Rattle.scan_frames.proofs.Frames.{more_left, ready_end}
 

@@ -10,8 +10,7 @@ use Rattle.page_picture.specs.declared.scene.Mode.{Mode}
 use Rattle.page_picture.specs.declared.scene.Mode.TheVariants.{Gray}
 use Rattle.scan_frames.specs.declared.setup.Packing.TheVariants.{Bits, Bytes, Words}
 use Rattle.scan_frames.specs.Line.{packing_of}
-use Rattle.scan_frames.specs.Tables.{IsSame}
-use Rattle.scan_frames.specs.Samples.{IsGrayDot, IsGrayRow, bit_in, bits_in, dark, gray_in, sample_in_row}
+use Rattle.scan_frames.specs.Inside.{IsSame, IsGrayDot, IsGrayRow, bit_in, bits_in, dark, gray_in, sample_in_row}
 use Rattle.scan_frames.proofs.Lines.{binary_same}
 
 -- the gray of a dot whose three samples are the same is that sample

@@ -22,7 +22,8 @@ use Rattle.page_picture.specs.declared.scene.DeviceKind.TheVariants.{Flatbed, Ha
 use Rattle.scan_frames.specs.declared.setup.Setup.{Setup}
 use Rattle.scan_frames.specs.Line.{packing_of, line_byte, numbers, line_of, half}
 use Rattle.scan_frames.specs.Frames.{channel_in, color_at, format_at, frame_format_of, takes_colors}
-use Rattle.scan_frames.specs.Samples.{HasSample, HasZeros, sample_in_row, value_at, gray_in, bit_in, bits_in}
+use Rattle.scan_frames.specs.Inside.{HasSample, sample_in_row, value_at, gray_in, bit_in, bits_in}
+use Rattle.scan_frames.specs.Samples.{HasZeros}
 
 pub length-numbers : (f : ℕ → ℕ) (n : ℕ) → length (numbers f n) ≡ n
 length-numbers f n = omega (arith, length-joined (λ i. f i ∷ []) 1 n (λ i. refl))

@@ -28,11 +28,11 @@ use Rattle.scan_frames.specs.declared.setup.Packing.TheVariants.{Bits, Bytes, Wo
 use Rattle.scan_frames.specs.declared.setup.Setup.{Setup}
 use Rattle.scan_frames.specs.Line.{packing_of, line_byte, numbers, line_of, half}
 use Rattle.scan_frames.specs.Frames.{width_of, channel_in, format_at, bytes_per_line, line_bytes}
-use Rattle.scan_frames.specs.Samples.{HasZeros, value_at}
-use Rattle.scan_frames.specs.Rows.{IsSeen, IsWhiteBehind, TakesRows}
+use Rattle.scan_frames.specs.Samples.{HasZeros}
+use Rattle.scan_frames.specs.Rows.{IsWhiteBehind, TakesRows}
 use Rattle.scan_frames.specs.Tables.{AreComposed}
-use Rattle.scan_frames.specs.PassReading.{FrameProgress, IsFrame, IsLineCounted, given_in, row_of}
-use Rattle.scan_frames.specs.Buffers.{MakesLine, left_of_line}
+use Rattle.scan_frames.specs.PassReading.{FrameProgress, IsFrame, given_in, row_of}
+use Rattle.scan_frames.specs.Inside.{value_at, IsSeen, IsLineCounted, MakesLine, left_of_line}
 use Rattle.scan_frames.proofs.Lines.{length-numbers, numbers_at, sample_place, binary_same}
 use Rattle.scan_frames.proofs.Seen.{off_page}
 

@@ -5,7 +5,8 @@ use Rattle.std.proofs.lemmas.Bool.{cases_lt}
 use Rattle.std.proofs.lemmas.Bool.Decides.{nat_tests}
 use Rattle.page_picture.specs.Page.{PageView, IsRow, page_sample_at}
 use Rattle.page_picture.specs.Seen.{dot_at}
-use Rattle.scan_frames.specs.Rows.{IsWhiteBehind, IsSeen}
+use Rattle.scan_frames.specs.Inside.{IsSeen}
+use Rattle.scan_frames.specs.Rows.{IsWhiteBehind}
 
 -- a dot of the page, or white
 pub on_page : (p : PageView) (c height k : ℕ) → c < p.width → height < p.height → dot_at p c height k ≡ page_sample_at p c height k

@@ -4,7 +4,6 @@ pub mod Filler
 pub mod Samples
 pub mod Tables
 pub mod Rows
-pub mod ByteLines
 pub mod PassReading
-pub mod Buffers
 pub mod StatusOf
+pub mod Inside

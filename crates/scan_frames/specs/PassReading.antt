@@ -36,11 +36,6 @@ pub record FrameProgress : Type 0 where
 abbrev pub given_in : FrameProgress → ℕ
 given_in f = f.made * length f.line - f.left
 
--- before the first line nothing is left, and of the last line made some byte was given
-pub record IsLineCounted (f : FrameProgress) : Type 0 where
-  pub none : f.made ≡ 0 → f.left ≡ 0
-  pub begun : 0 < f.made → f.left < length f.line
-
 -- the row of the page that line y shows, if the page has it
 abbrev pub row_of : Setup → PageView → ℕ → ℕ
 row_of setup page y = row_seen setup.scene page.dpi y

@@ -1,7 +1,5 @@
 -- The row of a page that a line shows.
-use Rattle.std.specs.Prelude.{ℕ, ◌+◌, ◌*◌, ◌<◌, ◌≤◌, ◌≡◌, true, false, List, length, slice_index}
-use Rattle.page_picture.specs.Page.{PageView}
-use Rattle.page_picture.specs.Seen.{dot_at}
+use Rattle.std.specs.Prelude.{ℕ, ◌+◌, ◌*◌, ◌<◌, ◌≤◌, ◌≡◌, false, List, length, slice_index}
 use Rattle.page_picture.specs.Source.{SourceState, CountsFailure}
 
 -- rows were taken from the source, and nothing else happened
@@ -20,10 +18,3 @@ pub record StopsFailing (old new : SourceState) : Type 0 where
 pub record IsWhiteBehind (width : ℕ) (row : List ℕ) : Type 0 where
   pub size : length row ≡ 3 * width + 3
   pub white : (k : ℕ) → k < 3 → slice_index row (3 * width + k) ≡ 65535
-
--- the row holds what is seen at that height, on the page or off it
-pub record IsSeen (page : PageView) (height : ℕ) (row : List ℕ) : Type 0 where
-  pub each : (c k : ℕ) → c ≤ page.width → k < 3 → slice_index row (3 * c + k) ≡ dot_at page c height k
-
-abbrev pub SeesRow : SourceState → ℕ → List ℕ → Type 0
-SeesRow s target row = s.steady ≡ true → IsSeen s.page target row

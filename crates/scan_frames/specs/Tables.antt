@@ -1,15 +1,7 @@
 -- The tables of the channels at depth 8.
-use Rattle.std.specs.Prelude.{ℕ, ◌<◌, ◌≡◌, List, [], get_or, slice_index}
+use Rattle.std.specs.Prelude.{ℕ, ◌<◌, ◌≡◌, List, get_or, slice_index}
 use Rattle.page_picture.specs.declared.scene.Scene.{Scene}
 
 -- each channel's table is the scene's table of that channel after its gamma table
 abbrev pub AreComposed : Scene → List (List ℕ) → Type 0
 AreComposed scene tables = (k v : ℕ) → k < 3 → v < 256 → slice_index (get_or tables k []) v ≡ slice_index (get_or scene.channel_gamma k []) (slice_index scene.gamma v)
-
--- each of the three tables gives each byte as it is
-abbrev pub IsPlain : List (List ℕ) → Type 0
-IsPlain tables = (k v : ℕ) → k < 3 → v < 256 → slice_index (get_or tables k []) v ≡ v
-
--- a table gives each byte as it is
-abbrev pub IsSame : List ℕ → Type 0
-IsSame table = (v : ℕ) → v < 256 → slice_index table v ≡ v

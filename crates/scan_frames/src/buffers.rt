@@ -4,8 +4,8 @@ ghost use Rattle.std.specs.Prelude.{◌≡◌, ◌==◌, ◌≤◌, ◌<◌, ◌
 ghost use Rattle.scan_frames.specs.Rows.{IsWhiteBehind, StopsFailing};
 ghost use Rattle.scan_frames.specs.Samples.{IsZeroFrom};
 ghost use Rattle.scan_frames.specs.Frames.{IsSetup};
-ghost use Rattle.scan_frames.specs.PassReading.{IsFrame, IsLineCounted, ReadsFrame, row_of};
-ghost use Rattle.scan_frames.specs.Buffers.{IsNewFrame, MakesLine, KeepsCount, HasLineBytes, GivesLine, GivesOfLine, is_frame_over, state_of};
+ghost use Rattle.scan_frames.specs.PassReading.{IsFrame, ReadsFrame, row_of};
+ghost use Rattle.scan_frames.specs.Inside.{IsLineCounted, IsNewFrame, MakesLine, KeepsCount, HasLineBytes, GivesLine, GivesOfLine, is_frame_over, state_of};
 
 use crate::byte_lines::byte_line;
 use crate::faults::ReadEnd;

@@ -1,7 +1,7 @@
 //! Bits of a row of bytes, sixteen dots at once.
 
 ghost use Rattle.std.specs.Prelude.{◌≡◌, ◌≤◌, ◌<◌, ◌+◌, ◌-◌, ◌*◌, ◌/◌, ◌%◌, ◌^◌, ℕ, length, slice_index};
-ghost use Rattle.scan_frames.specs.ByteLines.{black, black_in, blacks_in};
+ghost use Rattle.scan_frames.specs.Inside.{black, black_in, blacks_in};
 
 use std::simd::prelude::*;
 

@@ -4,10 +4,10 @@ ghost use Rattle.std.specs.Prelude.{◌≡◌, ◌≤◌, ◌<◌, ◌+◌, ◌*
 ghost use Rattle.page_picture.specs.Columns.{columns_of};
 ghost use Rattle.page_picture.specs.Shows.{channels_within};
 ghost use Rattle.page_picture.specs.Source.{Fails};
-ghost use Rattle.scan_frames.specs.ByteLines.{PutsGrays, PutsColors, PutsGrayBits, MakesOfRow};
 ghost use Rattle.scan_frames.specs.Line.{packing_of};
 ghost use Rattle.scan_frames.specs.Frames.{bytes_per_line, format_at};
-ghost use Rattle.scan_frames.specs.Samples.{HasZeros, sample_end};
+ghost use Rattle.scan_frames.specs.Inside.{PutsGrays, PutsColors, PutsGrayBits, MakesOfRow, sample_end};
+ghost use Rattle.scan_frames.specs.Samples.{HasZeros};
 ghost use Rattle.scan_frames.specs.Tables.{AreComposed};
 
 use crate::byte_bits::put_bits_of;

@@ -1,7 +1,7 @@
 //! Samples of two bytes in a line.
 
 ghost use Rattle.std.specs.Prelude.{◌≡◌, ◌≤◌, ◌<◌, ◌+◌, ◌*◌, ℕ, IfSome, length, slice_index};
-ghost use Rattle.scan_frames.specs.Samples.{HasSample};
+ghost use Rattle.scan_frames.specs.Inside.{HasSample};
 
 use crate::lanes::{eights, put_word_eights};
 use crate::setup::Packing;

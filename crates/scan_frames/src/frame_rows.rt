@@ -22,8 +22,7 @@ impl Model for FrameRows {
 
     ghost Value = { FrameProgress };
 
-    ghost use Rattle.scan_frames.specs.PassReading.{IsLineCounted};
-    ghost use Rattle.scan_frames.specs.Buffers.{state_of};
+    ghost use Rattle.scan_frames.specs.Inside.{IsLineCounted, state_of};
 
     ghost view = { λ f. state_of f.buffers };
 

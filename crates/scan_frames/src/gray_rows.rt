@@ -1,7 +1,7 @@
 //! Rows of gray: the three samples of each dot are the same, so that none is summed.
 
 ghost use Rattle.std.specs.Prelude.{◌≡◌, ◌≤◌, ◌<◌, ◌+◌, ◌*◌, ◌%◌, ℕ, true, false, length, slice_index};
-ghost use Rattle.scan_frames.specs.Samples.{IsGrayDot, IsGrayRow};
+ghost use Rattle.scan_frames.specs.Inside.{IsGrayDot, IsGrayRow};
 
 /// Whether a sample is as the one beside it, or the last of its dot.
 fn is_as_next(row: &[u16], dot: usize, i: usize) -> bool

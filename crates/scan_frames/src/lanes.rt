@@ -3,7 +3,7 @@
 ghost use Rattle.std.specs.Prelude.{◌≡◌, ◌≤◌, ◌<◌, ◌+◌, ◌*◌, ◌/◌, ◌%◌, ◌^◌, ℕ, length, slice_index};
 ghost use Rattle.netpbm.specs.FileText.{binary};
 ghost use Rattle.scan_frames.specs.Line.{half};
-ghost use Rattle.scan_frames.specs.Samples.{HasSample, dark, darks_from, sum_from};
+ghost use Rattle.scan_frames.specs.Inside.{HasSample, dark, darks_from, sum_from};
 
 use crate::setup::Packing;
 use sane_fixed::ByteOrder;

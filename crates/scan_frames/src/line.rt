@@ -6,8 +6,9 @@ ghost use Rattle.page_picture.specs.Shows.{channels_within};
 ghost use Rattle.page_picture.specs.Tone.{brightness};
 ghost use Rattle.scan_frames.specs.Line.{packing_of, line_of};
 ghost use Rattle.scan_frames.specs.Frames.{channel_in, format_at};
-ghost use Rattle.scan_frames.specs.Tables.{AreComposed, IsPlain, IsSame};
-ghost use Rattle.scan_frames.specs.Samples.{HasSample, HasZeros, IsGrayRow, bit_in, bits_in, sample_end, gray_in, value_at, sample_in_row};
+ghost use Rattle.scan_frames.specs.Tables.{AreComposed};
+ghost use Rattle.scan_frames.specs.Inside.{IsPlain, IsSame, HasSample, IsGrayRow, bit_in, bits_in, sample_end, gray_in, value_at, sample_in_row};
+ghost use Rattle.scan_frames.specs.Samples.{HasZeros};
 
 use crate::byte_words::{put_channel_words, put_samples, put_word};
 use crate::gray_rows::is_gray;

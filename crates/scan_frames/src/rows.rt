@@ -2,7 +2,8 @@
 
 ghost use Rattle.std.specs.Prelude.{◌≡◌, ◌≤◌, ◌<◌, ◌+◌, ◌*◌, ℕ, true, length, slice_index, OnOk, OnErr, IfOk};
 ghost use Rattle.page_picture.specs.Page.{IsRow};
-ghost use Rattle.scan_frames.specs.Rows.{StopsFailing, IsWhiteBehind, SeesRow};
+ghost use Rattle.scan_frames.specs.Inside.{SeesRow};
+ghost use Rattle.scan_frames.specs.Rows.{StopsFailing, IsWhiteBehind};
 
 use page_picture::{PageSource, SourceFault};
 

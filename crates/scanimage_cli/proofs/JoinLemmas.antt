@@ -3,7 +3,7 @@ use Rattle.std.proofs.Common.{◌≡◌, ◌∙◌, ◌≤◌, ℕ, ℤ, pos, Li
 use Rattle.std.specs.Prelude.{map}
 use Rattle.std.specs.List.{concat, join_with_byte}
 use Rattle.std.proofs.lemmas.List.{append-nil, append_assoc, take_all}
-use Rattle.scanimage_cli.specs.Joined.{behind_bars}
+use Rattle.scanimage_cli.specs.Inside.{behind_bars}
 
 -- joined texts are the first, and the others each behind a `|`
 pub joined_by_bars : (text : List ℕ) (more : List (List ℕ)) → join_with_byte 124 (text ∷ more) ≡ text ++ behind_bars more

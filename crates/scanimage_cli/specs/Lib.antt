@@ -8,10 +8,9 @@ pub mod Rounding
 pub mod CutOptions
 pub mod OptionTable
 pub mod RoundedLines
-pub mod Joined
 pub mod Doing
 pub mod NetDoing
 pub mod Printing
 pub mod Programs
-pub mod FileName
 pub mod Host
+pub mod Inside

@@ -1,5 +1,5 @@
 ghost use Rattle.std.specs.Prelude.{◌≡◌, IfOk};
-ghost use Rattle.scanimage_cli.specs.FileName.{file_name};
+ghost use Rattle.scanimage_cli.specs.Inside.{file_name};
 
 use crate::pieces::add_all;
 use itoa::Buffer;

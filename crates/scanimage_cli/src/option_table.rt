@@ -2,7 +2,7 @@ ghost use Rattle.std.specs.Prelude.{◌≡◌, ◌++◌, IfOk, OnOk, map, drop, 
 ghost use Rattle.std.specs.List.{concat, join_with_byte};
 ghost use Rattle.option_desc.specs.ShownText.{word_text};
 ghost use Rattle.scanimage_cli.specs.OptionTable.{unit_text, has_number_values, is_vector, steps_text, option_bounds_text, option_range_text, list_text, any_value, numbers_text, texts_text, bound_text, more_text, option_value_text, read_only_text, valued_line, option_line, table_text};
-ghost use Rattle.scanimage_cli.specs.Joined.{behind_bars};
+ghost use Rattle.scanimage_cli.specs.Inside.{behind_bars};
 
 use crate::pieces::add_all;
 use constraint::Range;

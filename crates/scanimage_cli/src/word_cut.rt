@@ -1,5 +1,6 @@
 ghost use Rattle.std.specs.Prelude.{◌≡◌, ◌<◌, ◌++◌, ◌∷◌, [], Err, Some, None, IfOk, IfErr, IfSome, length, drop, position};
-ghost use Rattle.scanimage_cli.specs.WordCut.{pair_part, long_part, other_part, option_part, part_of_word, item_with, with_cut_step, cut_step, cut};
+ghost use Rattle.scanimage_cli.specs.Inside.{with_cut_step};
+ghost use Rattle.scanimage_cli.specs.WordCut.{pair_part, long_part, other_part, option_part, part_of_word, item_with, cut_step, cut};
 ghost use Rattle.text_lines.specs.Words.{is_equals};
 
 use crate::geometry::{Geometry, geometry_named};

@@ -1,10 +1,8 @@
 ghost use Rattle.std.specs.Prelude.{◌≡◌, ◌≤◌, ◌<◌, ◌*◌, ◌^◌, ◌++◌, ◌+◌, [], length, drop, true, false, IfOk, IfSome, IfNone, IfErr, IsSome, OnOk, OnErr};
 ghost use Rattle.netpbm.specs.HeaderReading.{after_filler, number_at, field_at, format_of};
 ghost use Rattle.page_picture.specs.KnownBytes.{FailsByReader};
-ghost use Rattle.page_picture.specs.HeaderScan.{rest_of, from_hand, digit_in, Finds, FindsHeader, HasHeaderLimits, header_from};
 ghost use Rattle.page_picture.specs.PageFile.{BeginsPage};
-ghost use Rattle.page_picture.specs.PageRows.{IsPageHeader};
-ghost use Rattle.page_picture.specs.Opening.{HasHeaderFault, IsOfFile};
+ghost use Rattle.page_picture.specs.Inside.{rest_of, from_hand, digit_in, Finds, FindsHeader, HasHeaderLimits, header_from, IsPageHeader, HasHeaderFault, IsOfFile};
 
 use crate::page_file::{PageFault, is_page_format};
 use crate::rereadable::Rereadable;
@@ -86,7 +84,7 @@ pub struct HeaderScan<R: Rereadable> {
 
 impl<R: Rereadable> Model for HeaderScan<R> {
     ghost use Rattle.std.specs.Prelude.{◌≡◌, ◌≤◌, ◌<◌, ◌*◌, ◌^◌, ◌++◌, ◌+◌, true, drop, length};
-    ghost use Rattle.page_picture.specs.HeaderScan.{HeaderScanState};
+    ghost use Rattle.page_picture.specs.Inside.{HeaderScanState};
 
     ghost Value = { HeaderScanState };
 

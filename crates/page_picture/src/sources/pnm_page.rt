@@ -1,9 +1,8 @@
 ghost use Rattle.std.specs.Prelude.{◌≡◌, ◌≤◌, ◌<◌, ◌+◌, ◌*◌, ◌^◌, ◌↔◌, true, false, drop, length, IfOk, IfErr, OnErr};
-ghost use Rattle.page_picture.specs.KnownBytes.{FailsByReader, FailsWithin};
+ghost use Rattle.page_picture.specs.KnownBytes.{FailsByReader};
 ghost use Rattle.page_picture.specs.Source.{GivesRow, Rewinds};
 ghost use Rattle.page_picture.specs.PnmState.{LosesRows};
-ghost use Rattle.page_picture.specs.PageRows.{IsPageHeader, IsRaster, file_row_size};
-ghost use Rattle.page_picture.specs.Opening.{HasOpenFaultAfter, IsOfFile};
+ghost use Rattle.page_picture.specs.Inside.{FailsWithin, IsPageHeader, IsRaster, file_row_size, HasOpenFaultAfter, IsOfFile};
 
 mod byte_samples;
 
@@ -38,7 +37,7 @@ pub struct PnmPage<R: Rereadable> {
 impl<R: Rereadable> Model for PnmPage<R> {
     ghost use Rattle.std.specs.Prelude.{◌≡◌, ◌≤◌, ◌+◌, ◌*◌, true, false, drop, length};
     ghost use Rattle.page_picture.specs.PageFile.{IsDpi};
-    ghost use Rattle.page_picture.specs.PageRows.{IsPageHeader, IsRaster, page_shown, file_row_size, unused_bytes};
+    ghost use Rattle.page_picture.specs.Inside.{IsPageHeader, IsRaster, page_shown, file_row_size, unused_bytes};
     ghost use Rattle.page_picture.specs.PnmState.{PnmState};
 
     ghost Value = { PnmState };

@@ -1,8 +1,6 @@
 ghost use Rattle.std.specs.Prelude.{ℕ, ◌≡◌, ◌≤◌, ◌<◌, ◌+◌, ◌-◌, ◌*◌, ◌/◌, ◌^◌, ◌++◌, length, slice_index, slice_range, true, false, Ok, min, max, IfOk, IfErr, MatchBool, OnOk, OnErr};
 ghost use Rattle.netpbm.specs.Raster.{NoneAbove, SomeAbove, sample_count};
-ghost use Rattle.page_picture.specs.KnownBytes.{FailsWithin};
-ghost use Rattle.page_picture.specs.PageRows.{IsPageHeader, IsRaster, ReadsRaster, ShowsRow, GivesPartOf, GivesRowOf, HasRows, unused_bytes, row_count, row_header, file_row_size};
-ghost use Rattle.page_picture.specs.Opening.{HasOpenFaultAfter, IsOfFile};
+ghost use Rattle.page_picture.specs.Inside.{FailsWithin, IsPageHeader, IsRaster, ReadsRaster, ShowsRow, GivesPartOf, GivesRowOf, HasRows, unused_bytes, row_count, row_header, file_row_size, HasOpenFaultAfter, IsOfFile};
 
 use crate::page_file::PageFault;
 use crate::rereadable::Rereadable;

@@ -2,7 +2,8 @@ use Rattle.std.proofs.Common.{◌-◌, ◌≤◌, length, take}
 use Rattle.page_picture.specs.Shows.{Frame}
 use Rattle.frame_join.specs.FrameHistory.{JoinHistory}
 use Rattle.data_records.specs.Records.{HasEnded}
-use Rattle.net_client.specs.FramePieces.{ReadsTo, RepresentsWithin}
+use Rattle.net_client.specs.Inside.{RepresentsWithin}
+use Rattle.net_client.specs.FramePieces.{ReadsTo}
 use Rattle.net_client.proofs.imaging.read_on.Given as goal
 
 abbrev pub invariant-loop-at : goal.invariant-loop-at

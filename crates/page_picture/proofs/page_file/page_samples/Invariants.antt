@@ -1,5 +1,5 @@
 use Rattle.std.proofs.Common.{◌≡◌, ℕ, ◌<◌, length, slice_index}
-use Rattle.page_picture.specs.PageReading.{page_number}
+use Rattle.page_picture.specs.Inside.{page_number}
 use Rattle.page_picture.proofs.page_file.page_samples.Given as goal
 
 abbrev pub invariant-loop-j : goal.invariant-loop-j

@@ -3,7 +3,7 @@
 ghost use Rattle.std.specs.Prelude.{◌≡◌, ◌≤◌, ◌<◌, ◌+◌, true, false, length, OnErr};
 ghost use Rattle.page_picture.specs.Source.{GivesRowBytes, byte_place};
 ghost use Rattle.page_picture.specs.PnmState.{LosesRows};
-ghost use Rattle.page_picture.specs.PageRows.{HasSamplesOf};
+ghost use Rattle.page_picture.specs.Inside.{HasSamplesOf};
 
 use crate::rereadable::Rereadable;
 use crate::scene::Mode;

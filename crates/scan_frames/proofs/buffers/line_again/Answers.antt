@@ -1,5 +1,5 @@
 use Rattle.std.proofs.Common.{ℕ, ◌+◌, sym, ◌∙◌, subst}
-use Rattle.scan_frames.specs.Buffers.{MakesLine, state_of}
+use Rattle.scan_frames.specs.Inside.{MakesLine, state_of}
 use Rattle.scan_frames.proofs.Scans.{frame_again}
 use Rattle.scan_frames.proofs.buffers.line_again.Goals as goal
 

@@ -2,10 +2,8 @@ use Rattle.std.proofs.Common.{◌≡◌, ℕ, ◌+◌, ◌++◌, take, drop, Lis
 use Rattle.page_picture.specs.Shows.{channels_within}
 use Rattle.scan_frames.specs.Line.{packing_of, line_of}
 use Rattle.scan_frames.specs.Frames.{format_at}
-use Rattle.scan_frames.specs.Samples.{value_at}
-use Rattle.scan_frames.specs.Rows.{SeesRow}
 use Rattle.scan_frames.specs.PassReading.{FrameProgress}
-use Rattle.scan_frames.specs.Buffers.{MakesLine, state_of}
+use Rattle.scan_frames.specs.Inside.{value_at, SeesRow, MakesLine, state_of}
 use Rattle.scan_frames.proofs.Scans.{next_frame, put_back, seen_line}
 use Rattle.scan_frames.proofs.Frames.{short_line}
 use Rattle.scan_frames.proofs.buffers.line_of_samples.Goals as goal

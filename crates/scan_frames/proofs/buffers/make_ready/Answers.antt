@@ -1,7 +1,7 @@
 use Rattle.std.proofs.Common.{arith}
 use Rattle.std.specs.Prelude.{OnOk, Ok, Err}
 use Rattle.scan_frames.proofs.Frames.{ready_left, ready_made}
-use Rattle.scan_frames.specs.Buffers.{HasLineBytes, MakesLine, state_of}
+use Rattle.scan_frames.specs.Inside.{HasLineBytes, MakesLine, state_of}
 use Rattle.scan_frames.proofs.buffers.make_ready.Goals as goal
 
 pub returns-then-buffers-gt0-clause-ok : goal.returns-then-buffers-gt0-clause-ok

@@ -1,5 +1,5 @@
 use Rattle.std.proofs.Common.{arith}
-use Rattle.scan_frames.specs.Buffers.{state_of}
+use Rattle.scan_frames.specs.Inside.{state_of}
 use Rattle.scan_frames.proofs.Scans.{row_untaken}
 use Rattle.scan_frames.proofs.buffers.next_line.Goals.{else-made-gt0-via-then-made-gt0+else-row_of, else-made-gt0-via-else-made-gt0}
 use Rattle.scan_frames.proofs.buffers.next_line.Goals as goal

@@ -1,5 +1,5 @@
 use Rattle.std.proofs.Common.{◌≡◌, ◌≤◌, ◌-◌, length}
-use Rattle.scan_frames.specs.Buffers.{HasGivenOfFrame, state_of}
+use Rattle.scan_frames.specs.Inside.{HasGivenOfFrame, state_of}
 use Rattle.scan_frames.proofs.buffers.read_on.Given as goal
 
 abbrev pub invariant-loop-n : goal.invariant-loop-n

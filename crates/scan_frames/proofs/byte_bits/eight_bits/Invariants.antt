@@ -1,6 +1,6 @@
 use Rattle.std.proofs.Common.{◌≡◌, ◌+◌, ◌*◌, ◌<◌, ◌^◌}
 use Rattle.netpbm.specs.FileText.{binary}
-use Rattle.scan_frames.specs.ByteLines.{black_in}
+use Rattle.scan_frames.specs.Inside.{black_in}
 use Rattle.scan_frames.proofs.byte_bits.eight_bits.Given as goal
 
 abbrev pub invariant-loop-j : goal.invariant-loop-j

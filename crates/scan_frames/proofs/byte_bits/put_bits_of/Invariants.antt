@@ -1,6 +1,6 @@
 use Rattle.std.proofs.Common.{◌≡◌, ◌*◌, ℕ, ◌<◌}
 use Rattle.std.specs.Prelude.{slice_index}
-use Rattle.scan_frames.specs.ByteLines.{blacks_in}
+use Rattle.scan_frames.specs.Inside.{blacks_in}
 use Rattle.scan_frames.proofs.byte_bits.put_bits_of.Given as goal
 
 abbrev pub invariant-loop-n : goal.invariant-loop-n

@@ -1,6 +1,6 @@
 use Rattle.std.proofs.Common.{◌≡◌, ◌+◌, ◌-◌, ◌*◌, ◌/◌, ◌%◌, ◌^◌, ◌<◌, ◌∙◌, ap, arith}
 use Rattle.std.specs.Prelude.{slice_index}
-use Rattle.scan_frames.specs.ByteLines.{black}
+use Rattle.scan_frames.specs.Inside.{black}
 use Rattle.scan_frames.proofs.ByteRows.{blacks_of}
 use Rattle.scan_frames.proofs.Eights.{lower_bits, upper_bits}
 use Rattle.scan_frames.proofs.byte_bits.sixteen_bits.Goals as goal

@@ -1,6 +1,6 @@
 use Rattle.std.proofs.Common.{◌≡◌, ◌*◌, rules, refl, sym, ap, length, drop, ◌++◌, subst}
 use Rattle.sane_fixed.specs.declared.frame_format.FrameFormat.TheVariants.{Rgb as RgbFrame}
-use Rattle.scan_frames.specs.ByteLines.{MakesOfRow, PutsGrayBits}
+use Rattle.scan_frames.specs.Inside.{MakesOfRow, PutsGrayBits}
 use Rattle.scan_frames.specs.Frames.{format_at}
 use Rattle.scan_frames.proofs.ByteRows.{bits_made, color_made, gray_made}
 use Rattle.scan_frames.proofs.Lines.{gray_format}

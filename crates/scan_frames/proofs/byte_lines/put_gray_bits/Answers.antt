@@ -1,5 +1,5 @@
 use Rattle.std.proofs.Common.{rules, ◌≡◌, ◌<◌, ℕ, length, subst}
-use Rattle.scan_frames.specs.ByteLines.{PutsGrays, blacks_in}
+use Rattle.scan_frames.specs.Inside.{PutsGrays, blacks_in}
 use Rattle.std.specs.Prelude.{slice_index}
 use Rattle.scan_frames.proofs.ByteRows.{bits_put}
 use Rattle.scan_frames.proofs.byte_lines.put_gray_bits.Goals as goal

@@ -1,7 +1,7 @@
 use Rattle.std.proofs.Common.{◌≡◌, ℕ, ◌<◌, ◌≤◌, ◌+◌, ◌*◌}
 use Rattle.std.specs.Prelude.{slice_index}
 use Rattle.scan_frames.specs.declared.setup.Packing.TheVariants.{Words}
-use Rattle.scan_frames.specs.Samples.{HasSample}
+use Rattle.scan_frames.specs.Inside.{HasSample}
 use Rattle.scan_frames.proofs.byte_words.put_place_words.Given as goal
 
 abbrev pub invariant-loop-x : goal.invariant-loop-x

@@ -2,7 +2,7 @@ use Rattle.std.proofs.Common.{◌≡◌, ℕ, ◌<◌, ◌≤◌, ◌*◌}
 use Rattle.std.specs.Prelude.{slice_index}
 use Rattle.sane_fixed.specs.declared.byte_order.ByteOrder.TheVariants.{Little, Big}
 use Rattle.scan_frames.specs.declared.setup.Packing.TheVariants.{Words}
-use Rattle.scan_frames.specs.Samples.{HasSample}
+use Rattle.scan_frames.specs.Inside.{HasSample}
 use Rattle.scan_frames.proofs.byte_words.put_samples.Given as goal
 
 abbrev pub invariant-loop-i : goal.invariant-loop-i

@@ -1,6 +1,6 @@
 use Rattle.std.proofs.Common.{◌≡◌, ℕ, ◌<◌, ◌+◌, ◌*◌, ◌%◌, true, false}
 use Rattle.std.specs.Prelude.{slice_index}
-use Rattle.scan_frames.specs.Samples.{IsGrayRow}
+use Rattle.scan_frames.specs.Inside.{IsGrayRow}
 use Rattle.scan_frames.proofs.gray_rows.are_gray.Given as goal
 
 abbrev pub invariant-loop-i : goal.invariant-loop-i

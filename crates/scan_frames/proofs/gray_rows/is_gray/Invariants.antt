@@ -1,5 +1,5 @@
 use Rattle.std.proofs.Common.{ℕ, ◌<◌, ◌*◌}
-use Rattle.scan_frames.specs.Samples.{IsGrayDot}
+use Rattle.scan_frames.specs.Inside.{IsGrayDot}
 use Rattle.scan_frames.proofs.gray_rows.is_gray.Given as goal
 
 abbrev pub invariant-loop-n : goal.invariant-loop-n

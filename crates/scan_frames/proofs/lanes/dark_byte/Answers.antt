@@ -1,6 +1,6 @@
 use Rattle.std.proofs.Common.{◌≡◌, ◌+◌, ◌*◌, ◌/◌, ◌%◌, ◌^◌, ◌<◌, ◌∙◌, ap, arith}
 use Rattle.std.specs.Prelude.{slice_index}
-use Rattle.scan_frames.specs.Samples.{dark}
+use Rattle.scan_frames.specs.Inside.{dark}
 use Rattle.scan_frames.proofs.Lines.{binary_same}
 use Rattle.scan_frames.proofs.lanes.dark_byte.Goals as goal
 

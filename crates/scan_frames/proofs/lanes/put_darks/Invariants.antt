@@ -1,6 +1,6 @@
 use Rattle.std.proofs.Common.{◌≡◌, ℕ, ◌≤◌, ◌<◌, ◌+◌, ◌*◌}
 use Rattle.std.specs.Prelude.{slice_index}
-use Rattle.scan_frames.specs.Samples.{darks_from}
+use Rattle.scan_frames.specs.Inside.{darks_from}
 use Rattle.scan_frames.proofs.lanes.put_darks.Given as goal
 
 abbrev pub invariant-loop-b : goal.invariant-loop-b

@@ -1,6 +1,6 @@
 use Rattle.std.proofs.Common.{◌≡◌, ◌≤◌, ◌<◌, ◌+◌, ◌*◌, ◌/◌, ℕ, length}
 use Rattle.std.specs.Prelude.{slice_index}
-use Rattle.scan_frames.specs.Samples.{sum_from}
+use Rattle.scan_frames.specs.Inside.{sum_from}
 use Rattle.scan_frames.proofs.lanes.put_sum_eights.Given as goal
 
 abbrev pub invariant-loop-n : goal.invariant-loop-n

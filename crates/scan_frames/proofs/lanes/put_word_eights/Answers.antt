@@ -5,7 +5,7 @@ use Rattle.std.proofs.lemmas.Bool.{cases_lt}
 use Rattle.std.proofs.lemmas.Simd.{length-put_chunk, get_or-put_chunk_below, get_or-put_chunk_at, get_or-put_chunk_above}
 use Rattle.scan_frames.specs.Line.{half}
 use Rattle.scan_frames.specs.declared.setup.Packing.TheVariants.{Words}
-use Rattle.scan_frames.specs.Samples.{HasSample}
+use Rattle.scan_frames.specs.Inside.{HasSample}
 use Rattle.scan_frames.proofs.lanes.put_word_eights.Goals as goal
 
 pub loop-n-preserved : goal.loop-n-preserved

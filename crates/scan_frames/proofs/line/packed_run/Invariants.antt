@@ -1,6 +1,6 @@
 use Rattle.std.proofs.Common.{◌≡◌, ◌+◌, ◌*◌, ◌<◌, ◌^◌}
 use Rattle.netpbm.specs.FileText.{binary}
-use Rattle.scan_frames.specs.Samples.{bit_in}
+use Rattle.scan_frames.specs.Inside.{bit_in}
 use Rattle.scan_frames.proofs.line.packed_run.Given as goal
 
 abbrev pub invariant-loop-j : goal.invariant-loop-j

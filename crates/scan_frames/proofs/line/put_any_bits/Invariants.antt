@@ -1,6 +1,6 @@
 use Rattle.std.proofs.Common.{◌≡◌, ℕ, ◌<◌}
 use Rattle.std.specs.Prelude.{slice_index}
-use Rattle.scan_frames.specs.Samples.{bits_in}
+use Rattle.scan_frames.specs.Inside.{bits_in}
 use Rattle.scan_frames.proofs.line.put_any_bits.Given as goal
 
 abbrev pub invariant-loop-b : goal.invariant-loop-b

@@ -2,7 +2,7 @@ use Rattle.std.proofs.Common.{◌≡◌, ℕ, ◌<◌, ◌≤◌, ◌+◌, ◌*�
 use Rattle.std.specs.Prelude.{slice_index}
 use Rattle.page_picture.specs.Shows.{channels_within}
 use Rattle.scan_frames.specs.Frames.{channel_in}
-use Rattle.scan_frames.specs.Samples.{HasSample, sample_end, sample_in_row}
+use Rattle.scan_frames.specs.Inside.{HasSample, sample_end, sample_in_row}
 use Rattle.scan_frames.proofs.line.put_each.Given as goal
 
 abbrev pub invariant-loop-x : goal.invariant-loop-x

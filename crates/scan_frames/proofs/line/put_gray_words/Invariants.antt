@@ -1,7 +1,7 @@
 use Rattle.std.proofs.Common.{◌≡◌, ℕ, ◌<◌, ◌≤◌, ◌*◌}
 use Rattle.std.specs.Prelude.{slice_index}
 use Rattle.scan_frames.specs.declared.setup.Packing.TheVariants.{Words}
-use Rattle.scan_frames.specs.Samples.{HasSample, gray_in}
+use Rattle.scan_frames.specs.Inside.{HasSample, gray_in}
 use Rattle.scan_frames.proofs.line.put_gray_words.Given as goal
 
 abbrev pub invariant-loop-x : goal.invariant-loop-x

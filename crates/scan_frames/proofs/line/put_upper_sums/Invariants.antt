@@ -1,6 +1,6 @@
 use Rattle.std.proofs.Common.{◌≡◌, ℕ, ◌<◌, ◌≤◌, ◌/◌}
 use Rattle.std.specs.Prelude.{slice_index}
-use Rattle.scan_frames.specs.Samples.{gray_in}
+use Rattle.scan_frames.specs.Inside.{gray_in}
 use Rattle.scan_frames.proofs.line.put_upper_sums.Given as goal
 
 abbrev pub invariant-loop-x : goal.invariant-loop-x

@@ -3,7 +3,7 @@ use Rattle.std.specs.Prelude.{slice_index}
 use Rattle.std.proofs.lemmas.Bool.{cases_lt}
 use Rattle.scan_frames.specs.declared.setup.Packing.{Packing}
 use Rattle.scan_frames.specs.declared.setup.Packing.TheVariants.{Words}
-use Rattle.scan_frames.specs.Samples.{HasSample}
+use Rattle.scan_frames.specs.Inside.{HasSample}
 use Rattle.scan_frames.proofs.line.put_words.Goals as goal
 
 pub loop-x-preserved : goal.loop-x-preserved

@@ -1,5 +1,5 @@
 use Rattle.std.proofs.Common.{◌≡◌, ◌++◌, drop}
-use Rattle.scanimage_cli.specs.Joined.{behind_bars}
+use Rattle.scanimage_cli.specs.Inside.{behind_bars}
 use Rattle.scanimage_cli.proofs.option_table.add_more_texts.Given as goal
 
 abbrev pub invariant-loop-text : goal.invariant-loop-text

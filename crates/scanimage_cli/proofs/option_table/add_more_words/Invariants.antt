@@ -1,7 +1,7 @@
 use Rattle.std.proofs.Common.{◌≡◌, ◌++◌, drop}
 use Rattle.std.specs.Prelude.{map}
 use Rattle.option_desc.specs.ShownText.{word_text}
-use Rattle.scanimage_cli.specs.Joined.{behind_bars}
+use Rattle.scanimage_cli.specs.Inside.{behind_bars}
 use Rattle.scanimage_cli.proofs.option_table.add_more_words.Given as goal
 
 abbrev pub invariant-loop-word : goal.invariant-loop-word

@@ -3,7 +3,7 @@ use Rattle.std.specs.Prelude.{slice_set, slice_index}
 use Rattle.frame_join.specs.AloneFrame.{row_bytes}
 use Rattle.frame_join.specs.FrameHistory.{after_pull}
 use Rattle.frame_join.specs.PixelJoinStates.{PixelJoinState, PixelRepresents}
-use Rattle.frame_join.specs.JoinSteps.{after_samples, sample_at}
+use Rattle.frame_join.specs.Inside.{after_samples, sample_at}
 use Rattle.frame_join.proofs.PullLaws.{no_samples, row_step, step_take, step_drop}
 use Rattle.frame_join.proofs.pixel_join.PixelJoin.copy_row.Goals as goal
 

@@ -1,7 +1,7 @@
 use Rattle.std.proofs.Common.{◌≡◌, ◌-◌, take, drop, length}
 use Rattle.frame_join.specs.FrameHistory.{JoinHistory, after_pull}
 use Rattle.frame_join.specs.PixelJoinStates.{PixelRepresents}
-use Rattle.frame_join.specs.JoinSteps.{after_samples}
+use Rattle.frame_join.specs.Inside.{after_samples}
 use Rattle.frame_join.proofs.pixel_join.PixelJoin.copy_row.Given as goal
 
 abbrev pub invariant-loop-i : goal.invariant-loop-i

@@ -1,5 +1,5 @@
 use Rattle.std.proofs.Common.{◌≡◌, Ok, true, rules}
-use Rattle.frame_join.specs.JoinSteps.{answer_at}
+use Rattle.frame_join.specs.Inside.{answer_at}
 use Rattle.frame_join.proofs.GivenLaws.{given_exactly, given_shown, given_whole, never_whole}
 use Rattle.frame_join.proofs.pixel_join.PixelJoin.has_given_all.Goals as goal
 

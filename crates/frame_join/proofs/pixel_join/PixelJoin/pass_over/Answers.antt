@@ -3,7 +3,7 @@ use Rattle.std.proofs.lemmas.List.{length-drop}
 use Rattle.frame_join.specs.AloneFrame.{lines_in}
 use Rattle.frame_join.specs.JoinStages.{is_colors}
 use Rattle.frame_join.specs.PixelInside.{pixel_view}
-use Rattle.frame_join.specs.JoinSteps.{is_ready, can_give}
+use Rattle.frame_join.specs.Inside.{is_ready, can_give}
 use Rattle.frame_join.proofs.KeptLaws.{collecting_rests, ready_row, ready_line}
 use Rattle.frame_join.proofs.pixel_join.PixelJoin.pass_over.Goals as goal
 

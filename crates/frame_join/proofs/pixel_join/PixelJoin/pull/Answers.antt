@@ -1,7 +1,7 @@
 use Rattle.std.proofs.Common.{ℕ, ◌≡◌, ◌∙◌, arith, rules, sym, subst, take, false}
 use Rattle.frame_join.specs.FrameHistory.{after_pull}
 use Rattle.frame_join.specs.PixelJoinStates.{PixelRepresents, IsPixelDrained}
-use Rattle.frame_join.specs.JoinSteps.{may_go}
+use Rattle.frame_join.specs.Inside.{may_go}
 use Rattle.frame_join.proofs.PullLaws.{run_on, went_on, spent, drained}
 use Rattle.frame_join.proofs.EndLaws.{gone_denotes, joined_no_fault, not_whole}
 use Rattle.frame_join.proofs.pixel_join.PixelJoin.pull.Goals as goal

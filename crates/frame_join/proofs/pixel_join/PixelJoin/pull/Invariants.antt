@@ -1,7 +1,7 @@
 use Rattle.std.proofs.Common.{◌≡◌, ◌≤◌, ◌<◌, ◌-◌, take, drop, length, true}
 use Rattle.frame_join.specs.FrameHistory.{JoinHistory, after_pull}
 use Rattle.frame_join.specs.PixelJoinStates.{PixelRepresents}
-use Rattle.frame_join.specs.JoinSteps.{may_go}
+use Rattle.frame_join.specs.Inside.{may_go}
 use Rattle.frame_join.proofs.pixel_join.PixelJoin.pull.Given as goal
 
 abbrev pub invariant-loop-at : goal.invariant-loop-at

@@ -6,7 +6,7 @@ use Rattle.frame_join.specs.AloneFrame.{row_bytes}
 use Rattle.frame_join.specs.FrameFile.{trimmed_byte}
 use Rattle.frame_join.specs.FrameHistory.{after_pull}
 use Rattle.frame_join.specs.PixelJoinStates.{PixelJoinState, PixelRepresents}
-use Rattle.frame_join.specs.JoinSteps.{after_samples}
+use Rattle.frame_join.specs.Inside.{after_samples}
 use Rattle.frame_join.proofs.PullLaws.{row_steps, cut_off}
 use Rattle.frame_join.proofs.pixel_join.PixelJoin.trim_row.Goals as goal
 

@@ -7,7 +7,7 @@ use Rattle.frame_join.specs.AloneFrame.{row_bytes}
 use Rattle.frame_join.specs.FrameFile.{place_in}
 use Rattle.frame_join.specs.FrameHistory.{after_pull}
 use Rattle.frame_join.specs.PixelJoinStates.{PixelJoinState, PixelRepresents}
-use Rattle.frame_join.specs.JoinSteps.{after_samples}
+use Rattle.frame_join.specs.Inside.{after_samples}
 use Rattle.frame_join.proofs.StreamLaws.{place_below_at}
 use Rattle.frame_join.proofs.PullLaws.{row_steps, turned}
 use Rattle.frame_join.proofs.pixel_join.PixelJoin.turn_row.Goals as goal

@@ -6,7 +6,7 @@ use Rattle.frame_join.specs.ColorPlanes.{side_byte}
 use Rattle.frame_join.specs.FrameFile.{place_in}
 use Rattle.frame_join.specs.FrameHistory.{after_pull}
 use Rattle.frame_join.specs.PixelJoinStates.{PixelJoinState, PixelRepresents}
-use Rattle.frame_join.specs.JoinSteps.{after_samples}
+use Rattle.frame_join.specs.Inside.{after_samples}
 use Rattle.frame_join.proofs.PullLaws.{row_steps, woven_words}
 use Rattle.frame_join.proofs.pixel_join.PixelJoin.weave_words.Goals as goal
 

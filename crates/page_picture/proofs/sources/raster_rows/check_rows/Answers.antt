@@ -1,7 +1,7 @@
 use Rattle.std.proofs.Common.{◌≡◌, ◌≤◌, ◌<◌, ◌+◌, ◌-◌, ◌*◌, ◌++◌, true, rules, arith, ap, ◌∙◌, length, subst}
 use Rattle.std.specs.Prelude.{slice_range, MatchBool}
 use Rattle.netpbm.specs.Raster.{NoneAbove, SomeAbove}
-use Rattle.page_picture.specs.PageRows.{ReadsRaster, row_count, file_row_size, unused_bytes}
+use Rattle.page_picture.specs.Inside.{ReadsRaster, row_count, file_row_size, unused_bytes}
 use Rattle.page_picture.proofs.RowLemmas.{RowsRead, length-row_taken, none_step, row_taken, rows_all, rows_fit, rows_next, rows_short, some_step, unused_zero}
 use Rattle.page_picture.proofs.sources.raster_rows.check_rows.Goals as goal
 

@@ -1,6 +1,6 @@
 use Rattle.std.proofs.Common.{◌≡◌, ◌≤◌, ◌+◌, ◌*◌, length, drop, true, false}
 use Rattle.netpbm.specs.Raster.{NoneAbove, SomeAbove}
-use Rattle.page_picture.specs.PageRows.{file_row_size, row_count, unused_bytes}
+use Rattle.page_picture.specs.Inside.{file_row_size, row_count, unused_bytes}
 use Rattle.page_picture.proofs.sources.raster_rows.check_rows.Given as goal
 
 abbrev pub invariant-loop-y : goal.invariant-loop-y

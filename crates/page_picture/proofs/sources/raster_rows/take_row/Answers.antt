@@ -1,6 +1,6 @@
 use Rattle.std.proofs.Common.{◌≡◌, ◌≤◌, ◌+◌, ◌-◌, ◌*◌, ◌++◌, rules, arith, ◌∙◌, length, ap}
 use Rattle.std.specs.Prelude.{slice_range}
-use Rattle.page_picture.specs.PageRows.{file_row_size, unused_bytes}
+use Rattle.page_picture.specs.Inside.{file_row_size, unused_bytes}
 use Rattle.page_picture.proofs.RowLemmas.{length-row_taken, row_fits, row_taken}
 use Rattle.page_picture.proofs.sources.raster_rows.take_row.Goals as goal
 

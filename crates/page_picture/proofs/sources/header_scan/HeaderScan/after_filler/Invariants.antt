@@ -1,6 +1,6 @@
 use Rattle.std.proofs.Common.{◌≡◌, ◌≤◌, ◌<◌, ◌^◌, true, false}
 use Rattle.netpbm.specs.HeaderReading.{after_filler}
-use Rattle.page_picture.specs.HeaderScan.{rest_of}
+use Rattle.page_picture.specs.Inside.{rest_of}
 use Rattle.page_picture.proofs.sources.header_scan.HeaderScan.after_filler.Given as goal
 
 abbrev pub invariant-loop-used : goal.invariant-loop-used

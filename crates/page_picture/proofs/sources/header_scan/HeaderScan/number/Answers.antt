@@ -1,5 +1,5 @@
 use Rattle.std.proofs.Common.{rules, sym}
-use Rattle.page_picture.specs.HeaderScan.{rest_of, from_hand}
+use Rattle.page_picture.specs.Inside.{rest_of, from_hand}
 use Rattle.page_picture.proofs.ScanLemmas.{number_none, number_some, number_many}
 use Rattle.page_picture.proofs.sources.header_scan.HeaderScan.number.Goals as goal
 

@@ -1,5 +1,5 @@
 use Rattle.std.proofs.Common.{◌≡◌, ◌<◌, ◌^◌, true}
-use Rattle.page_picture.specs.HeaderScan.{rest_of, from_hand, more_digits}
+use Rattle.page_picture.specs.Inside.{rest_of, from_hand, more_digits}
 use Rattle.page_picture.proofs.sources.header_scan.HeaderScan.number.Given as goal
 
 abbrev pub invariant-loop-count : goal.invariant-loop-count

@@ -1,7 +1,7 @@
 use Rattle.std.specs.Prelude.{Some, None}
 use Rattle.std.proofs.Common.{◌≡◌, rules, arith, ◌∙◌}
 use Rattle.page_picture.specs.PageFile.{IsPageFormat}
-use Rattle.page_picture.specs.HeaderScan.{rest_of, header_from}
+use Rattle.page_picture.specs.Inside.{rest_of, header_from}
 use Rattle.page_picture.proofs.PageLemmas.{page_found, no_header, too_large}
 use Rattle.page_picture.proofs.ScanLemmas.{header_at-start, page_format}
 use Rattle.page_picture.proofs.sources.header_scan.HeaderScan.page_header.Goals as goal

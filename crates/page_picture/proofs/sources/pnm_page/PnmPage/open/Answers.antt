@@ -1,6 +1,5 @@
 use Rattle.std.proofs.Common.{rules, arith, drop, ◌∙◌}
-use Rattle.page_picture.specs.PageRows.{file_row_size}
-use Rattle.page_picture.specs.HeaderScan.{rest_of}
+use Rattle.page_picture.specs.Inside.{file_row_size, rest_of}
 use Rattle.page_picture.proofs.RowLemmas.{unused_none}
 use Rattle.page_picture.proofs.ShownLemmas.{header_fault, raster_fault, opened, from_first}
 use Rattle.page_picture.proofs.sources.pnm_page.PnmPage.open.Goals as goal

@@ -1,5 +1,5 @@
 use Rattle.std.proofs.Common.{◌≡◌, ◌≤◌, ◌++◌, ◌+◌, ◌-◌, ◌*◌, rules, arith, refl, sym, ap, ◌∙◌, subst, drop, take, length, length-take-le, take-append-drop}
-use Rattle.page_picture.specs.PageRows.{file_row_size, unused_bytes}
+use Rattle.page_picture.specs.Inside.{file_row_size, unused_bytes}
 use Rattle.page_picture.proofs.RowLemmas.{has_rows}
 use Rattle.page_picture.proofs.ShownLemmas.{put_back, rest_after_row, shown_row}
 use Rattle.page_picture.proofs.sources.pnm_page.PnmPagePageSource.next_row.Goals as goal

@@ -1,6 +1,6 @@
 use Rattle.std.proofs.Common.{◌≡◌, ◌+◌, ◌-◌, ◌*◌, ◌/◌, rules, arith, refl, sym, ap, ◌∙◌, drop, take, length-take-le, take-append-drop}
 use Rattle.netpbm.specs.Pnm.{number_in}
-use Rattle.page_picture.specs.PageRows.{file_row_size, unused_bytes}
+use Rattle.page_picture.specs.Inside.{file_row_size, unused_bytes}
 use Rattle.page_picture.proofs.RowLemmas.{has_rows}
 use Rattle.page_picture.proofs.ShownLemmas.{shown_bytes}
 use Rattle.page_picture.proofs.sources.pnm_page.byte_samples.PnmPageByteRows.next_bytes.Goals as goal

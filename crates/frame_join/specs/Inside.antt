@@ -1,19 +1,34 @@
--- What each call makes of the value of a join.
-use Rattle.std.specs.Prelude.{ℕ, ◌+◌, ◌-◌, ◌*◌, ◌/◌, ◌==◌, ◌&&◌, ◌||◌, nat_lt, nat_le, Bool, true, false, not, if◌then◌else◌, Result, Ok, Err, List, [], ◌++◌, length, slice_index, drop, Some}
-use Rattle.netpbm.specs.FileText.{header_text}
-use Rattle.sane_fixed.specs.declared.byte_order.ByteOrder.{ByteOrder}
-use Rattle.sane_fixed.specs.declared.params.Params.{Params}
+-- What private functions alone promise.
+use Rattle.std.specs.Prelude.{Bool, true, false, ℕ, ◌+◌, ◌-◌, ◌*◌, ◌/◌, ◌==◌, ◌&&◌, ◌||◌, nat_lt, nat_le, not, if◌then◌else◌, Result, Ok, Err, List, ◌++◌, length, slice_index, drop, Some}
+use Rattle.frame_join.specs.AloneFrame.{is_alone, lines_in, most_lines, row_bytes}
+use Rattle.frame_join.specs.ColorPlanes.{Planes, no_plane, Plane, nth_plane, side_byte, all_colors}
+use Rattle.frame_join.specs.FrameFile.{header_alone, place_in, trimmed_byte}
+use Rattle.frame_join.specs.FrameHistory.{is_full_at}
+use Rattle.frame_join.specs.JoinStages.{is_under, is_keeping, is_colors}
+use Rattle.frame_join.specs.KeptFrame.{is_unknown, is_open_ended, is_pass_that, is_alike, color_number}
+use Rattle.frame_join.specs.PixelJoinStates.{PixelJoinState}
 use Rattle.frame_join.specs.declared.join_stage.JoinFault.{JoinFault}
 use Rattle.frame_join.specs.declared.join_stage.JoinFault.TheVariants.{Shape, Long, Short, NoMem}
 use Rattle.frame_join.specs.declared.join_stage.Stage.{Stage}
 use Rattle.frame_join.specs.declared.join_stage.Stage.TheVariants.{Idle, Under, Keeping, Between, Whole, WholeColors, Failed}
-use Rattle.frame_join.specs.AloneFrame.{is_alone, lines_in, most_lines, row_bytes}
-use Rattle.frame_join.specs.KeptFrame.{is_unknown, is_open_ended, is_pass_that, is_alike, color_number}
-use Rattle.frame_join.specs.ColorPlanes.{Plane, Planes, no_planes, nth_plane, side_byte, all_colors}
-use Rattle.frame_join.specs.FrameHistory.{is_full_at}
-use Rattle.frame_join.specs.FrameFile.{header_alone, place_in, trimmed_byte}
-use Rattle.frame_join.specs.JoinStages.{is_under, is_keeping, is_whole, is_colors}
-use Rattle.frame_join.specs.PixelJoinStates.{PixelJoinState}
+use Rattle.netpbm.specs.FileText.{header_text}
+use Rattle.sane_fixed.specs.declared.byte_order.ByteOrder.{ByteOrder}
+use Rattle.sane_fixed.specs.declared.params.Params.{Params}
+
+abbrev pub no_planes : Planes
+no_planes = record { red = no_plane; green = no_plane; blue = no_plane }
+
+-- the picture of one frame is whole
+abbrev pub is_whole : Stage → Bool
+is_whole Idle = false
+is_whole Under = false
+is_whole Keeping = false
+is_whole Between = false
+is_whole Whole = true
+is_whole WholeColors = false
+is_whole (Failed _) = false
+
+-- What each call makes of the value of a join.
 
 -- ---- bytes go out
 
