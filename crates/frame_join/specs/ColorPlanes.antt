@@ -1,5 +1,5 @@
 -- What three frames of one color each hold, and the one frame that has the colors side by side.
-use Rattle.std.specs.Prelude.{ℕ, ◌+◌, ◌*◌, ◌/◌, ◌%◌, ◌==◌, true, if◌then◌else◌, List, ◌∷◌, slice_index}
+use Rattle.std.specs.Prelude.{ℕ, ◌+◌, ◌*◌, ◌/◌, ◌%◌, ◌==◌, true, if◌then◌else◌, List, ◌∷◌, slice_index, []}
 use Rattle.netpbm.specs.FileText.{concat_up_to}
 use Rattle.sane_fixed.specs.declared.frame_format.FrameFormat.TheVariants.{Rgb}
 use Rattle.sane_fixed.specs.declared.params.Params.{Params}

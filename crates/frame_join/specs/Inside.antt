@@ -1,5 +1,5 @@
 -- What private functions alone promise.
-use Rattle.std.specs.Prelude.{Bool, true, false, ℕ, ◌+◌, ◌-◌, ◌*◌, ◌/◌, ◌==◌, ◌&&◌, ◌||◌, nat_lt, nat_le, not, if◌then◌else◌, Result, Ok, Err, List, ◌++◌, length, slice_index, drop, Some}
+use Rattle.std.specs.Prelude.{Bool, true, false, ℕ, ◌+◌, ◌-◌, ◌*◌, ◌/◌, ◌==◌, ◌&&◌, ◌||◌, nat_lt, nat_le, not, if◌then◌else◌, Result, Ok, Err, List, ◌++◌, length, slice_index, drop, Some, []}
 use Rattle.frame_join.specs.AloneFrame.{is_alone, lines_in, most_lines, row_bytes}
 use Rattle.frame_join.specs.ColorPlanes.{Planes, no_plane, Plane, nth_plane, side_byte, all_colors}
 use Rattle.frame_join.specs.FrameFile.{header_alone, place_in, trimmed_byte}

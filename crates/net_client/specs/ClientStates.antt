@@ -1,5 +1,5 @@
 -- A client's value, and what it stands for.
-use Rattle.std.specs.Prelude.{ℕ, ◌≡◌, ◌≢◌, ◌++◌, true, false, Option, Some, None, List}
+use Rattle.std.specs.Prelude.{ℕ, ◌≡◌, ◌≢◌, ◌++◌, true, false, Option, Some, None, List, []}
 use Rattle.wire_format.specs.Writer.{behind}
 use Rattle.sane_fixed.specs.declared.status.Status.{Status}
 use Rattle.netpbm.specs.Picture.{Picture}

@@ -1,5 +1,5 @@
 -- What private functions alone promise.
-use Rattle.std.specs.Prelude.{ℕ, List, ◌++◌, ◌≡◌, Some, Bool, true, false, None, ◌≢◌, ◌⊎◌, ◌<◌}
+use Rattle.std.specs.Prelude.{ℕ, List, ◌++◌, ◌≡◌, Some, Bool, true, false, None, ◌≢◌, ◌⊎◌, ◌<◌, []}
 use Rattle.std.specs.Int.{w32, to_be_bytes}
 use Rattle.client_replies.specs.ProtocolStates.{next_notes, next_outcome, next_progress, answer_to, after_reply}
 use Rattle.client_replies.specs.declared.progress.Next.{Next}

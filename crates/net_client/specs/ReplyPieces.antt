@@ -1,5 +1,5 @@
 -- What a piece of the control connection's bytes makes of a client.
-use Rattle.std.specs.Prelude.{ℕ, ◌≡◌, true, Option, Some, None, List, ◌∷◌, ◌++◌}
+use Rattle.std.specs.Prelude.{ℕ, ◌≡◌, true, Option, Some, None, List, ◌∷◌, ◌++◌, []}
 use Rattle.wire_format.specs.Limit.{limited_format, NeedsMore, IsNoStart}
 use Rattle.sane_fixed.specs.declared.status.Status.TheVariants as statuses
 use Rattle.wire_message.specs.declared.message.Procedure.{Procedure}

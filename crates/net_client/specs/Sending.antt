@@ -1,5 +1,5 @@
 -- The client's requests as bytes.
-use Rattle.std.specs.Prelude.{ℕ, Option, Some, None, List, ◌∷◌}
+use Rattle.std.specs.Prelude.{ℕ, Option, Some, None, List, ◌∷◌, []}
 use Rattle.wire_format.specs.Writer.{append_text}
 use Rattle.wire_message.specs.declared.message.Request.{Request}
 use Rattle.wire_writing.specs.RequestWriting.{write_request}

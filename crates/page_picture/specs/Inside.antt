@@ -1,8 +1,8 @@
 -- What private functions alone promise.
-use Rattle.std.specs.Prelude.{ℕ, ◌+◌, ◌*◌, ◌≡◌, ◌≤◌, ◌&&◌, nat_le, if◌then◌else◌, Bool, List, ◌∷◌, Option, Some, None, drop, ◌^◌, ◌<◌, true, false, length, ◌/◌, slice_index, ◌-◌, ◌++◌, take}
+use Rattle.std.specs.Prelude.{ℕ, ◌+◌, ◌*◌, ◌≡◌, ◌≤◌, ◌&&◌, nat_le, if◌then◌else◌, Bool, List, ◌∷◌, Option, Some, None, drop, ◌^◌, ◌<◌, true, false, length, ◌/◌, slice_index, ◌-◌, ◌++◌, take, []}
 use Rattle.std.specs.Char.{is_ascii_digit, digit_value}
 use Rattle.netpbm.specs.FileText.{concat_up_to}
-use Rattle.netpbm.specs.HeaderReading.{field_at, end_at, format_of}
+use Rattle.netpbm.specs.HeaderReading.{field_at, end_at, format_of, ◌>>=◌}
 use Rattle.netpbm.specs.Pnm.{number_in}
 use Rattle.netpbm.specs.Raster.{raster_size, sample_count, NoneAbove, SomeAbove}
 use Rattle.netpbm.specs.declared.format.Header.{Header}

@@ -1,5 +1,5 @@
 -- What private functions alone promise.
-use Rattle.std.specs.Prelude.{ℕ, ◌+◌, ◌*◌, ◌/◌, ◌<◌, ◌≡◌, nat_lt, if◌then◌else◌, List, length, slice_index, get_or, ◌≤◌, true, ◌-◌, ◌%◌, ◌==◌, ◌&&◌, Bool, take, drop, min}
+use Rattle.std.specs.Prelude.{ℕ, ◌+◌, ◌*◌, ◌/◌, ◌<◌, ◌≡◌, nat_lt, if◌then◌else◌, List, length, slice_index, get_or, ◌≤◌, true, ◌-◌, ◌%◌, ◌==◌, ◌&&◌, Bool, take, drop, min, []}
 use Rattle.netpbm.specs.FileText.{binary, bits_byte}
 use Rattle.page_picture.specs.Columns.{Columns, place_at, columns_of}
 use Rattle.page_picture.specs.Page.{PageView, page_sample_at}

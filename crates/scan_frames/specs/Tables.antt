@@ -1,5 +1,5 @@
 -- The tables of the channels at depth 8.
-use Rattle.std.specs.Prelude.{ℕ, ◌<◌, ◌≡◌, List, get_or, slice_index}
+use Rattle.std.specs.Prelude.{ℕ, ◌<◌, ◌≡◌, List, get_or, slice_index, []}
 use Rattle.page_picture.specs.declared.scene.Scene.{Scene}
 
 -- each channel's table is the scene's table of that channel after its gamma table

@@ -1,10 +1,10 @@
 -- The words of scanimage's command line, and the one way to cut them from the left: into options of the program with
 -- their values, measures of the window with their values, and settings.
-use Rattle.std.specs.Prelude.{ℕ, ◌+◌, ◌^◌, ℤ, pos, negsuc, ◌+ℤ◌, nat_lt, Bool, true, false, ◌||◌, if◌then◌else◌, Option, Some, None, is_some, is_none, option_map, option_and_then, List, ◌∷◌, ◌++◌, take, drop, find, position, codes, nat_eq}
+use Rattle.std.specs.Prelude.{ℕ, ◌+◌, ◌^◌, ℤ, pos, negsuc, ◌+ℤ◌, nat_lt, Bool, true, false, ◌||◌, if◌then◌else◌, Option, Some, None, is_some, is_none, option_map, option_and_then, List, ◌∷◌, ◌++◌, take, drop, find, position, codes, nat_eq, []}
 use Rattle.std.specs.Option.{option_map_or}
 use Rattle.std.specs.List.{starts_with, filter_map}
 use Rattle.std.specs.Str.{bytes_eq}
-use Rattle.sane_fixed.specs.DecimalReading.{fixed_of}
+use Rattle.sane_fixed.specs.DecimalReading.{fixed_of, ◌>>=◌}
 use Rattle.sane_fixed.specs.ExactDecimal.{exact_decimal}
 use Rattle.scanimage_cli.specs.declared.program_option.ProgramOption.{ProgramOption}
 use Rattle.scanimage_cli.specs.declared.program_option.ProgramOption.TheVariants.{ListDevices, AllOptions, DontScan, DeviceName, OutputFile, Config, Net, Port, User, PasswordFile, Batch, BatchCount}
