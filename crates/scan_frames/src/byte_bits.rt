@@ -38,7 +38,7 @@ fn sixteen_bits(bytes: &[u8], n: usize) -> u64
 }
 
 /// The bit of a byte, zero behind the last.
-#[tactic(auto, unfolding(crate::specs::ByteLines::black_in))]
+#[tactic(auto, unfolding(crate::specs::Inside::black_in))]
 fn bit(bytes: &[u8], x: usize) -> u8
     ensures value { result ≡ black_in bytes.now x }
     ensures limit { result ≤ 1 }
@@ -51,7 +51,7 @@ fn bit(bytes: &[u8], x: usize) -> u8
 }
 
 /// The bits of eight bytes, zero behind the last.
-#[tactic(auto, using(crate::proofs::ByteRows::blacks_behind), unfolding(crate::specs::ByteLines::blacks_in))]
+#[tactic(auto, using(crate::proofs::ByteRows::blacks_behind), unfolding(crate::specs::Inside::blacks_in))]
 fn eight_bits(bytes: &[u8], b: usize) -> u8
     ensures { result ≡ blacks_in bytes.now b }
 {

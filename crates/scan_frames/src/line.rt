@@ -511,7 +511,7 @@ fn put_grays(table: &[u8; 256], first: Option<u32>, row: &[u16], places: &[u32],
 }
 
 /// The bit of a column, zero behind the last.
-#[tactic(auto, unfolding(crate::specs::Samples::bit_in))]
+#[tactic(auto, unfolding(crate::specs::Inside::bit_in))]
 fn bit(scene: &Scene, row: &[u16], places: &[u32], channel: u32, x: usize) -> u8
     requires depth { packing_of scene.now.depth ≡ Packing.Bits }
     requires channel { channel < 3 }
@@ -529,7 +529,7 @@ fn bit(scene: &Scene, row: &[u16], places: &[u32], channel: u32, x: usize) -> u8
 }
 
 /// The byte of eight columns, the leftmost as its most significant bit.
-#[tactic(auto, unfolding(crate::specs::Samples::bits_in))]
+#[tactic(auto, unfolding(crate::specs::Inside::bits_in))]
 fn packed(scene: &Scene, row: &[u16], places: &[u32], channel: u32, b: usize) -> u8
     requires depth { packing_of scene.now.depth ≡ Packing.Bits }
     requires channel { channel < 3 }
@@ -546,7 +546,7 @@ fn packed(scene: &Scene, row: &[u16], places: &[u32], channel: u32, b: usize) ->
 }
 
 /// The bit of a column in gray.
-#[tactic(auto, unfolding(crate::specs::Samples::bit_in))]
+#[tactic(auto, unfolding(crate::specs::Inside::bit_in))]
 fn gray_bit(scene: &Scene, row: &[u16], places: &[u32], channel: u32, x: usize) -> u8
     requires depth { packing_of scene.now.depth ≡ Packing.Bits }
     requires gray { scene.now.mode ≡ Mode.Gray }
@@ -561,7 +561,7 @@ fn gray_bit(scene: &Scene, row: &[u16], places: &[u32], channel: u32, x: usize) 
 }
 
 /// The byte of eight columns in gray, the leftmost as its most significant bit.
-#[tactic(auto, unfolding(crate::specs::Samples::bits_in))]
+#[tactic(auto, unfolding(crate::specs::Inside::bits_in))]
 fn packed_grays(scene: &Scene, row: &[u16], places: &[u32], channel: u32, b: usize) -> u8
     requires depth { packing_of scene.now.depth ≡ Packing.Bits }
     requires gray { scene.now.mode ≡ Mode.Gray }
@@ -602,7 +602,7 @@ fn put_any_bits(scene: &Scene, row: &[u16], places: &[u32], channel: u32, line: 
 }
 
 /// The bit of a column in gray, of a gray row whose places lie one beside the other from `first` on.
-#[tactic(auto, using(crate::proofs::Grays::gray_of_even), unfolding(crate::specs::Samples::bit_in))]
+#[tactic(auto, using(crate::proofs::Grays::gray_of_even), unfolding(crate::specs::Inside::bit_in))]
 fn run_bit(scene: &Scene, row: &[u16], first: usize, places: &[u32], channel: u32, x: usize) -> u8
     requires depth { packing_of scene.now.depth ≡ Packing.Bits }
     requires gray { scene.now.mode ≡ Mode.Gray }
@@ -619,7 +619,7 @@ fn run_bit(scene: &Scene, row: &[u16], first: usize, places: &[u32], channel: u3
 }
 
 /// The byte of eight such columns, the leftmost as its most significant bit.
-#[tactic(auto, unfolding(crate::specs::Samples::bits_in))]
+#[tactic(auto, unfolding(crate::specs::Inside::bits_in))]
 fn packed_run(
     scene: &Scene,
     row: &[u16],
